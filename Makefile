@@ -1,0 +1,28 @@
+# make            proves and builds the program, and leaves it as bin/fibs
+# make test       passes all tests: the gate, then the tests of the built program
+# make install    copies the program to $(PREFIX)/bin
+# make bench      measures the program beside others, in ratios
+# make clean      removes what the other targets made
+
+PREFIX ?= /usr/local
+BUILT := crates/fibs_cli/out/fibs_cli
+
+.PHONY: all test install bench clean
+
+all:
+	cd crates/fibs_cli && rt run -- --help > /dev/null
+	mkdir -p bin
+	install -m 755 $(BUILT) bin/fibs
+
+test:
+	tests/run
+
+install: all
+	install -d $(DESTDIR)$(PREFIX)/bin
+	install -m 755 bin/fibs $(DESTDIR)$(PREFIX)/bin/fibs
+
+bench: all
+	bench/run bin/fibs
+
+clean:
+	rm -rf bin bench/work crates/*/out

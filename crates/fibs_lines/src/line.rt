@@ -1,0 +1,42 @@
+ghost use Rattle.std.specs.Prelude.{◌≡◌};
+ghost use Rattle.std.specs.Str.Lines.{strip_carriage_return};
+
+use crate::LIMIT;
+use crate::prompts::prompts_len;
+
+/// A line without its end, and without the prompts at its start.
+#[derive(Clone, Copy, Debug)]
+pub struct Line<'a> {
+    /// What is kept of it: at most `LIMIT` bytes, with the prompts that were removed.
+    pub bytes: &'a [u8],
+    /// Whether it had more than `LIMIT` bytes, its prompts counted and its CR not.
+    pub cut: bool,
+}
+
+/// `bytes` without one CR at the end.
+fn without_return(bytes: &[u8]) -> &[u8]
+    ensures { result.now ≡ strip_carriage_return bytes.now }
+{
+    let len = bytes.len();
+    if len > 0 && bytes[len - 1] == b'\r' {
+        return &bytes[..len - 1];
+    }
+    bytes
+}
+
+impl<'a> Line<'a> {
+    ghost use Rattle.fibs_lines.specs.LineValue.{value_of};
+    ghost use Rattle.fibs_lines.specs.LinesView.{kept_line};
+
+    /// The line that begins with `front`, and goes on behind it where it is `over`.
+    pub(crate) fn from_front(front: &'a [u8], over: bool) -> Line<'a>
+        ensures { value_of result ≡ kept_line front.now over }
+    {
+        let line = without_return(front);
+        let kept = &line[..line.len().min(LIMIT)];
+        Line {
+            bytes: &kept[prompts_len(kept)..],
+            cut: over || line.len() > LIMIT,
+        }
+    }
+}

@@ -1,0 +1,142 @@
+ghost use Rattle.std.specs.Prelude.{true, false, IfNone, IfSome, ◌≡◌, ◌+◌, ◌-◌, ◌<◌, ◌≤◌, ℕ, ◌||◌, nat_lt, length, take, ◌++◌, ◌∷◌, [], slice_index, MatchOption, ◌≢◌, ◌↔◌, IsTrue};
+ghost use Rattle.fibs_lines.specs.Progress.{IsRun, ends_run};
+
+use crate::LIMIT;
+use crate::line::Line;
+use crate::telnet::Telnet;
+use arrayvec::ArrayVec;
+use memchr::memchr2;
+
+/// One byte more than a line's, since it may be the CR before a line end.
+pub(crate) const ROOM: usize = LIMIT + 1;
+
+/// What is kept of the stream since its last line end.
+///
+/// A CR, the limit and the prompts are looked at when the line ends, and not before.
+#[derive(Drop)]
+pub(crate) struct Unfinished {
+    pub(crate) telnet: Telnet,
+    /// The first bytes.
+    pub(crate) front: ArrayVec<u8, ROOM>,
+    /// Whether there are more.
+    pub(crate) over: bool,
+}
+
+/// How many bytes of `bytes` stand before the first line end or telnet command.
+pub(crate) fn run_len(bytes: &[u8]) -> usize
+    ensures in_range { result ≤ length bytes.now }
+    ensures run { IsRun (take result bytes.now) }
+    ensures stops { result < length bytes.now → ends_run (slice_index bytes.now result) ≡ true }
+{
+    match memchr2(b'\n', 255, bytes) {
+        Some(at) => at,
+        None => bytes.len(),
+    }
+}
+
+impl Unfinished {
+    ghost use Rattle.fibs_lines.specs.LineValue.{value_of};
+    ghost use Rattle.fibs_lines.specs.LinesView.{kept_line};
+    ghost use Rattle.fibs_lines.specs.Progress.{kept, Advances, AdvancesToEnd};
+
+    /// Nothing is kept.
+    pub(crate) fn new() -> Unfinished
+        ensures { kept result ≡ record { telnet = Telnet.Data; front = []; over = false } }
+    {
+        Unfinished {
+            telnet: Telnet::Data,
+            front: ArrayVec::new(),
+            over: false,
+        }
+    }
+
+    /// Forgets the line, and not the command.
+    pub(crate) fn clear(&mut self)
+        ensures { kept self.new ≡ record { telnet = self.old.telnet; front = []; over = false } }
+    {
+        self.front.clear();
+        self.over = false;
+    }
+
+    /// Forgets the line and the command.
+    pub(crate) fn reset(&mut self)
+        ensures { kept self.new ≡ record { telnet = Telnet.Data; front = []; over = false } }
+    {
+        self.clear();
+        self.telnet = Telnet::Data;
+    }
+
+    /// The line that has ended here.
+    pub(crate) fn line(&self) -> Line<'_>
+        ensures { value_of result ≡ kept_line self.now.front.items self.now.over }
+    {
+        Line::from_front(self.front.as_slice(), self.over)
+    }
+
+    /// Keeps what there is room for of `run`.
+    fn keep(&mut self, run: &[u8])
+        ensures telnet { self.new.telnet ≡ self.old.telnet }
+        ensures front { self.new.front.items ≡ self.old.front.items ++ take (ROOM - length self.old.front.items) run.now }
+        ensures over { self.new.over ≡ (self.old.over || nat_lt (ROOM - length self.old.front.items) (length run.now)) }
+    {
+        let room = self.front.remaining_capacity();
+        if run.len() > room {
+            let _ = self.front.try_extend_from_slice(&run[..room]);
+            self.over = true;
+        } else {
+            let _ = self.front.try_extend_from_slice(run);
+        }
+    }
+
+    /// Takes the run at the front of `bytes`, and answers its length.
+    fn take_run(&mut self, bytes: &[u8]) -> usize
+        requires { self.old.telnet ≡ Telnet.Data }
+        ensures telnet { self.new.telnet ≡ Telnet.Data }
+        ensures in_range { result ≤ length bytes.now }
+        ensures stops { result < length bytes.now → ends_run (slice_index bytes.now result) ≡ true }
+        ensures advances { Advances (kept self.old) (kept self.new) (take result bytes.now) }
+    {
+        let run = run_len(bytes);
+        self.keep(&bytes[..run]);
+        run
+    }
+
+    /// Takes a byte of a command.
+    fn take_command(&mut self, byte: u8)
+        requires { self.old.telnet ≢ Telnet.Data }
+        ensures { Advances (kept self.old) (kept self.new) (byte ∷ []) }
+    {
+        match self.telnet {
+            Telnet::Command if byte == 255 => {
+                self.keep(&[byte]);
+                self.telnet = Telnet::Data;
+            }
+            Telnet::Command if 251 <= byte && byte <= 254 => self.telnet = Telnet::Negotiation,
+            _ => self.telnet = Telnet::Data,
+        }
+    }
+
+    /// Takes `piece` up to its first line end, and answers where that stands.
+    pub(crate) fn take_up_to_end(&mut self, piece: &[u8]) -> Option<usize>
+        ensures all { IfNone result (Advances (kept self.old) (kept self.new) piece.now) }
+        ensures end { IfSome result (λ at. AdvancesToEnd (kept self.old) (kept self.new) piece.now at) }
+    {
+        let mut at = 0;
+        while at < piece.len() {
+            if self.telnet == Telnet::Data {
+                at += self.take_run(&piece[at..]);
+                if at == piece.len() {
+                    return None;
+                }
+                if piece[at] == b'\n' {
+                    return Some(at);
+                }
+                self.telnet = Telnet::Command;
+            } else {
+                self.take_command(piece[at]);
+            }
+            at += 1;
+        }
+        None
+    }
+}
