@@ -1,9 +1,8 @@
 -- The parts of a list between its line ends, one byte after the other. The definitions say the same of whole parts.
-use Rattle.std.proofs.Common.{◌≡◌, ℕ, zero, suc, ◌+◌, ◌-◌, ◌<◌, ◌≤◌, Bool, true, false, cond, eqb, not, List, [], ◌∷◌, ◌++◌, length, take, drop, reverse, map, refl, sym, ap, ◌∙◌, arith, length-append}
+use Rattle.std.proofs.Common.{◌≡◌, ℕ, ◌+◌, ◌-◌, ◌<◌, Bool, true, false, cond, eqb, not, List, [], ◌∷◌, ◌++◌, length, take, drop, reverse, map, refl, sym, ap, ◌∙◌, arith, length-append}
 use Rattle.std.specs.List.{slice_split, after_last, count_by, prefix_len, suffix_len}
 use Rattle.std.proofs.lemmas.List.{take_at, drop_at, length-reverse, reverse-append}
 use Rattle.std.proofs.lemmas.List.Splits.{length-slice_split}
-use Rattle.std.proofs.lemmas.List.Sums.{suffix_len-le-length, prefix_len-le-length}
 use Rattle.fibs_lines.specs.Lines.{plain, is_line_end, finished_parts, line_of, lines_of, rest_of}
 
 -- the lists with x put before the first, where there is one
@@ -72,7 +71,7 @@ slice_split-is (x ∷ p) = split_step x p (has_end p) refl (slice_split-is p)
 pub finished_parts-is : (p : List ℕ) → finished_parts p ≡ finished p
 finished_parts-is p =
     let as_many : length (finished p) ≡ count_by is_line_end p =
-        omega (arith, length-slice_split is_line_end p, ap length (slice_split-is p), length-append (finished p) (after_end p ∷ [])) in
+    omega (arith, length-slice_split is_line_end p, ap length (slice_split-is p), length-append (finished p) (after_end p ∷ [])) in
     ap (take (count_by is_line_end p)) (slice_split-is p) ∙ take_at (finished p) (after_end p ∷ []) (count_by is_line_end p) as_many
 
 -- what std's search from the end counts is as long as what follows the last line end

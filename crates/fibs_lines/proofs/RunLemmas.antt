@@ -1,5 +1,7 @@
 -- Data that nothing interrupts.
-use Rattle.std.proofs.Common.{◌≡◌, ℕ, zero, suc, ◌<◌, Bool, true, false, List, [], ◌∷◌, take, get_or, refl, arith}
+use Rattle.std.proofs.Common.{◌≡◌, ℕ, zero, suc, ◌<◌, Bool, true, false, ◌+◌, List, [], ◌∷◌, ◌++◌, ◌-◌, ◌≤◌, length, take, drop, get_or, refl, sym, ap, ◌∙◌, subst, arith}
+use Rattle.std.proofs.lemmas.List.{length-take, take-take, take_rest}
+use Rattle.std.proofs.Math.Seq.{take-add}
 use Rattle.fibs_lines.specs.Progress.{IsRun, ends_run}
 use Rattle.fibs_lines.proofs.Parts.{has_end}
 use Rattle.fibs_lines.specs.declared.telnet.Telnet.TheVariants.{Data}
@@ -27,3 +29,20 @@ data_along_run (x ∷ q) h = let ih = data_along_run q h.1 in let e = h.0 in gri
 pub telnet_along_run : (q : List ℕ) → IsRun q → telnet_along Data q ≡ Data
 telnet_along_run [] h = refl
 telnet_along_run (x ∷ q) h = let ih = telnet_along_run q h.1 in let e = h.0 in grind arith
+
+pub IsRun-append : (l q : List ℕ) → IsRun l → IsRun q → IsRun (l ++ q)
+IsRun-append [] q h i = i
+IsRun-append (x ∷ l) q h i = (h.0, IsRun-append l q h.1 i)
+
+-- a run at a front, and a run after it
+pub IsRun-further : (bytes : List ℕ) (at more : ℕ) → IsRun (take at bytes) → IsRun (take more (drop at bytes)) → IsRun (take (at + more) bytes)
+IsRun-further bytes at more h i = subst IsRun (sym (take-add at more bytes)) (IsRun-append (take at bytes) (take more (drop at bytes)) h i)
+
+-- a run at a front, and more of it in the window that was searched after it
+pub IsRun-window : (bytes : List ℕ) (at wide more : ℕ) → IsRun (take at bytes) → more ≤ length (take wide (take (length bytes - at) (drop at bytes)))
+    → ((j : ℕ) → j < more → ends_run (get_or (take wide (take (length bytes - at) (drop at bytes))) j 0) ≡ true → ⊥) → IsRun (take (at + more) bytes)
+IsRun-window bytes at wide more h within none =
+    let window = take wide (take (length bytes - at) (drop at bytes)) in
+    let narrow : more ≤ wide = omega (arith, within, length-take wide (take (length bytes - at) (drop at bytes))) in
+    let same : take more window ≡ take more (drop at bytes) = take-take more wide (take (length bytes - at) (drop at bytes)) narrow ∙ ap (take more) (take_rest bytes at) in
+    IsRun-further bytes at more h (subst IsRun same (IsRun_take more window none))

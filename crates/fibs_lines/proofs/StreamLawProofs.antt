@@ -1,21 +1,21 @@
 -- The laws of `specs/StreamLaws.antt`. The last lemmas have the names of the functions in `laws`, whose contracts they prove.
-use Rattle.std.proofs.Common.{◌≡◌, ℕ, ◌≤◌, Bool, true, false, cond, eqb, zero, suc, List, [], ◌∷◌, ◌++◌, length, take, drop, map, refl, sym, ap, subst, ◌∙◌, arith, append_assoc, length-drop, ne_eqb, ◌≢◌, inl, inr}
+use Rattle.std.proofs.Common.{◌≡◌, ℕ, ◌≤◌, Bool, true, false, cond, eqb, zero, suc, List, [], ◌∷◌, ◌++◌, length, take, drop, map, refl, sym, ap, ◌∙◌, arith, append_assoc, get_or, ◌+◌, length-drop, ne_eqb, ◌≢◌, inl, inr}
 use Rattle.std.specs.Prelude.{◌⊎◌, nat_lt, nat_eq, All}
 use Rattle.std.specs.List.{starts_with, concat}
-use Rattle.std.proofs.lemmas.List.{take_all, map-append, drop_at}
-use Rattle.std.proofs.lemmas.List.Elements.{All-nil, All-cons, All-head, All-tail}
+use Rattle.std.proofs.lemmas.List.{take_all, map-append, length-append, length-take}
+use Rattle.std.proofs.lemmas.List.Elements.{All-nil, All-cons, All-head, All-tail, All-map, All-same, All-from_get_or}
 use Rattle.std.proofs.lemmas.Slice.Eq.{starts_is}
 use Rattle.std.proofs.lemmas.Bool.Decides.{Decides-eqb}
 use Rattle.std.specs.Str.Lines.{strip_carriage_return}
-use Rattle.fibs_lines.specs.Lines.{kept_limit, plain, is_line_end, finished_parts, login_prompt, command_prompt, without_some_prompts, without_prompts, line_of, lines_of, rest_of}
+use Rattle.fibs_lines.specs.Lines.{kept_limit, ReadLine, plain, finished_parts, login_prompt, command_prompt, without_some_prompts, without_prompts, line_of, lines_of, rest_of}
 use Rattle.fibs_lines.specs.Standing.{telnet_of, AtLineStart}
-use Rattle.fibs_lines.specs.StreamLaws.{PartsAreLinesAndRest, EmptyStreamHasNoLine, LinesOnlyGrow, with_line_end, LineEndIsALineStart, ReadsAlone, LineStartReadsAlone, IsSendable, SendableTextIsItsLine, PromptsThen, PromptsAreRemoved}
+use Rattle.fibs_lines.specs.StreamLaws.{PartsAreLinesAndRest, EmptyStreamHasNoLine, LinesOnlyGrow, with_line_end, LineEndIsALineStart, LineStartReadsAlone, WhatFollowsALineEndReadsAlone, LinesFit, IsSendable, SendableTextIsItsLine, PromptsThen, PromptsAreRemoved}
 use Rattle.fibs_lines.specs.Progress.{IsRun, ends_run}
 use Rattle.fibs_lines.specs.declared.telnet.Telnet.{Telnet}
 use Rattle.fibs_lines.specs.declared.telnet.Telnet.TheVariants.{Data, Command, Negotiation}
 use Rattle.fibs_lines.proofs.Parts.{finished, has_end, after_end, after_end_none, finished_some, finished_none, slice_split-is, finished_parts-is, lines_of-is, rest_of-is}
-use Rattle.fibs_lines.proofs.Streams.{data_along, telnet_along, plain-along, plain-append, telnet_of-along, telnet_of-append, after_end-append_none, after_end-append_end, has_end-append, lines_of_end, rest_of_end, lines_of_grow, lines_of-nil}
-use Rattle.fibs_lines.proofs.RunLemmas.{has_end_run, data_along_run, telnet_along_run}
+use Rattle.fibs_lines.proofs.Streams.{data_along, telnet_along, plain-along, plain-append, telnet_of-along, telnet_of-append, after_end-append_none, after_end-append_end, has_end-append, lines_of_end, lines_of_grow, lines_of-nil}
+use Rattle.fibs_lines.proofs.RunLemmas.{IsRun-append, has_end_run, data_along_run, telnet_along_run}
 use Rattle.fibs_lines.proofs.ReturnLemmas.{same_read_line, strip-is, without_return_yes}
 use Rattle.fibs_lines.proofs.PromptLemmas.{without_prompts_login, without_prompts_command, without_prompts_none}
 
@@ -117,11 +117,10 @@ line_end_is_a_line_start t = record {
   no_rest = rest_of-is (with_line_end t) ∙ ap after_end (plain-append t (13 ∷ 10 ∷ [])) ∙ ended (plain t) (telnet_of t);
 }
 
--- a text that nothing interrupts
-IsRun-append : (l q : List ℕ) → IsRun l → IsRun q → IsRun (l ++ q)
-IsRun-append [] q h i = i
-IsRun-append (x ∷ l) q h i = (h.0, IsRun-append l q h.1 i)
+pub what_follows_a_line_end_reads_alone : WhatFollowsALineEndReadsAlone
+what_follows_a_line_end_reads_alone t s = line_start_reads_alone (with_line_end t) s (line_end_is_a_line_start t)
 
+-- a text that nothing interrupts
 goes_on : (x : ℕ) → x ≢ 10 → x ≢ 255 → ends_run x ≡ false
 goes_on x h i = let a = ne_eqb x 10 h in let b = ne_eqb x 255 i in grind arith
 
@@ -242,3 +241,18 @@ prompts_are_removed = (
   λ line. removed (length line) line (omega arith),
   λ line rest h. prompts_go h.prompts rest h.each h.no_login_prompt h.no_command_prompt ∙ sym (ap without_prompts h.joined),
 )
+
+line_fits : (part : List ℕ) → length (line_of part).bytes ≤ kept_limit
+unfolding line_of
+line_fits part =
+    let kept = take kept_limit (strip_carriage_return part) in
+    let h = prompts_are_removed.0 kept in
+    let long : length kept ≡ length (concat h.prompts) + length (without_prompts kept) = ap length h.joined ∙ length-append (concat h.prompts) (without_prompts kept) in
+    omega (arith, long, length-take kept_limit (strip_carriage_return part))
+
+pub lines_fit : LinesFit
+lines_fit s =
+    let Fits : ReadLine → Type 0 = λ l. length l.bytes ≤ kept_limit in
+    let parts = finished (plain s) in
+    All-same Fits (lines_of s) (map line_of parts) (lines_of-is s)
+    (All-map Fits line_of parts (All-from_get_or (λ part. Fits (line_of part)) parts [] (λ i _. line_fits (get_or parts i []))))

@@ -156,11 +156,10 @@ finished_grows (x ∷ p) q =
 -- a stream that goes on has no line less
 pub lines_of_grow : (s u : List ℕ) → (ls : List ReadLine) × (lines_of (s ++ u) ≡ lines_of s ++ ls)
 lines_of_grow s u =
-    let more = finished_grows (plain s) (data_along (telnet_of s) u) in
-    (
+    let more = finished_grows (plain s) (data_along (telnet_of s) u) in (
       map line_of more.0,
       lines_of-is (s ++ u) ∙ ap (λ p. map line_of (finished p)) (plain-append s u) ∙ ap (map line_of) more.1
-      ∙ map-append line_of (finished (plain s)) more.0 ∙ ap (λ ls. ls ++ map line_of more.0) (sym (lines_of-is s)),
+          ∙ map-append line_of (finished (plain s)) more.0 ∙ ap (λ ls. ls ++ map line_of more.0) (sym (lines_of-is s)),
     )
 
 -- where a longer front of more gives no line, a shorter one gives none

@@ -1,5 +1,5 @@
 -- Laws of the definitions, for the layers above: the contracts of the functions in `laws`.
-use Rattle.std.specs.Prelude.{◌≡◌, ℕ, ◌≤◌, ◌⊎◌, ◌↔◌, ◌≢◌, Bool, false, nat_eq, List, [], ◌∷◌, ◌++◌, length, All}
+use Rattle.std.specs.Prelude.{◌≡◌, ℕ, ◌≤◌, ◌⊎◌, ◌≢◌, false, nat_eq, List, [], ◌∷◌, ◌++◌, length, All}
 use Rattle.std.specs.List.{starts_with, slice_split, concat}
 use Rattle.fibs_lines.specs.Lines.{kept_limit, plain, is_line_end, finished_parts, login_prompt, command_prompt, without_prompts, ReadLine, lines_of, rest_of}
 use Rattle.fibs_lines.specs.Standing.{AtLineStart}
@@ -32,6 +32,14 @@ pub record ReadsAlone (s t : List ℕ) : Type 0 where
 
 abbrev pub LineStartReadsAlone : Type 0
 LineStartReadsAlone = (s t : List ℕ) → AtLineStart s → ReadsAlone s t
+
+-- so is what follows CR LF: the lines of `t CR LF s` are those of `t CR LF` and then those of s, for every t
+abbrev pub WhatFollowsALineEndReadsAlone : Type 0
+WhatFollowsALineEndReadsAlone = (t s : List ℕ) → ReadsAlone (with_line_end t) s
+
+-- no line is longer than the limit
+abbrev pub LinesFit : Type 0
+LinesFit = (s : List ℕ) → All (λ l. length l.bytes ≤ kept_limit) (lines_of s)
 
 -- a text that a reader gets as it was sent: it fits, begins with no prompt, and has no LF and no 255. It may end in CR, since only the CR that is sent after it goes
 pub record IsSendable (text : List ℕ) : Type 0 where

@@ -1,8 +1,9 @@
-use crate::{LIMIT, Lines};
+use crate::{LIMIT, Line, Lines};
+use std::alloc::{AllocError, Allocator};
 use std::test::Fail;
 
 /// Feeds a piece that has one line end, at its end, and gives the line.
-fn only_line<'a>(lines: &'a mut Lines, piece: &[u8]) -> Option<crate::Line<'a>> {
+fn only_line<'a>(lines: &'a mut Lines, piece: &[u8]) -> Option<Line<'a>> {
     lines.feed(piece).line
 }
 
@@ -17,7 +18,10 @@ fn a_board_line_in_pieces_of_one_byte(rt: HostRuntime) -> Result<(), Fail> {
     }
     assert_eq!(rt; lines.held(), 39);
     let line = only_line(&mut lines, b"\n").ok_or("no line")?;
-    assert_eq!(rt; line.bytes, b"board:You:opponent:5:0:0:1:0:-1:25:0:0".as_slice());
+    assert_eq!(rt;
+        line.bytes,
+        b"board:You:opponent:5:0:0:1:0:-1:25:0:0".as_slice()
+    );
     assert!(rt; !line.cut);
     assert_eq!(rt; lines.held(), 0);
     Ok(())
@@ -25,100 +29,201 @@ fn a_board_line_in_pieces_of_one_byte(rt: HostRuntime) -> Result<(), Fail> {
 
 /// A stream of one line, and what is read of it.
 #[derive(Clone, Copy)]
-struct Short {
+struct ShortCase {
     name: &'static str,
     stream: &'static [u8],
-    line: &'static [u8],
+    read: &'static [u8],
+}
+
+fn short(name: &'static str, stream: &'static [u8], read: &'static [u8]) -> ShortCase {
+    ShortCase { name, stream, read }
 }
 
 #[test]
 fn short_lines(rt: HostRuntime) -> Result<(), Fail> {
     let cases = [
-        Short { name: "an empty line", stream: b"\n", line: b"" },
-        Short { name: "an empty line with CR", stream: b"\r\n", line: b"" },
-        Short { name: "one CR goes", stream: b"a\r\r\n", line: b"a\r" },
-        Short { name: "a CR inside stays", stream: b"a\rb\n", line: b"a\rb" },
-        Short { name: "255 twice is 255", stream: b"a\xff\xffb\n", line: b"a\xffb" },
-        Short { name: "WILL ECHO", stream: b"a\xff\xfb\x01b\n", line: b"ab" },
-        Short { name: "the option 10 ends no line", stream: b"a\xff\xfb\nb\n", line: b"ab" },
-        Short { name: "the option 255 begins no command", stream: b"a\xff\xfe\xffb\n", line: b"ab" },
-        Short { name: "NOP", stream: b"a\xff\xf1b\n", line: b"ab" },
-        Short { name: "LF as a command ends no line", stream: b"a\xff\nb\n", line: b"ab" },
-        Short { name: "a subnegotiation is text", stream: b"\xff\xfax\xff\xf0y\n", line: b"xy" },
-        Short { name: "a command between CR and LF", stream: b"a\r\xff\xf1\n", line: b"a" },
-        Short { name: "both prompts", stream: b"> login: > 5 a\r\n", line: b"5 a" },
-        Short { name: "a prompt with a command inside", stream: b">\xff\xf1 a\n", line: b"a" },
-        Short { name: "no prompt without its space", stream: b"> >a\n", line: b">a" },
-        Short { name: "no prompt inside the line", stream: b"a> login: b\n", line: b"a> login: b" },
-        Short { name: "a prompt alone", stream: b"login: \r\n", line: b"" },
+        short("an empty line", b"\n", b""),
+        short("an empty line with CR", b"\r\n", b""),
+        short("one CR goes", b"a\r\r\n", b"a\r"),
+        short("a CR inside stays", b"a\rb\n", b"a\rb"),
+        short("255 twice is 255", b"a\xff\xffb\n", b"a\xffb"),
+        short("WILL ECHO", b"a\xff\xfb\x01b\n", b"ab"),
+        short("the option 10 ends no line", b"a\xff\xfb\nb\n", b"ab"),
+        short(
+            "the option 255 begins no command",
+            b"a\xff\xfe\xffb\n",
+            b"ab",
+        ),
+        short("NOP", b"a\xff\xf1b\n", b"ab"),
+        short("LF as a command ends no line", b"a\xff\nb\n", b"ab"),
+        short("a subnegotiation is text", b"\xff\xfax\xff\xf0y\n", b"xy"),
+        short("a command between CR and LF", b"a\r\xff\xf1\n", b"a"),
+        short("both prompts", b"> login: > 5 a\r\n", b"5 a"),
+        short("a prompt with a command inside", b">\xff\xf1 a\n", b"a"),
+        short("no prompt without its space", b"> >a\n", b">a"),
+        short(
+            "no prompt inside the line",
+            b"a> login: b\n",
+            b"a> login: b",
+        ),
+        short("a prompt alone", b"login: \r\n", b""),
     ];
     for case in &cases {
         let mut lines = Lines::new();
         let fed = lines.feed(case.stream);
         assert_eq!(rt; fed.used, case.stream.len(), "{}", case.name);
         let line = fed.line.ok_or(case.name)?;
-        assert_eq!(rt; line.bytes, case.line, "{}", case.name);
+        assert_eq!(rt; line.bytes, case.read, "{}", case.name);
         assert!(rt; !line.cut, "{}", case.name);
     }
     Ok(())
 }
 
-/// A stream of one line: `head` so many times, so many bytes `a`, and `tail`. What is read of it is so many bytes `a`
-/// and `rest`.
+/// `> ` so many times, the byte `a` so many times, and then these bytes.
 #[derive(Clone, Copy)]
-struct Long {
-    name: &'static str,
-    head: &'static [u8],
-    heads: usize,
-    fill: usize,
-    tail: &'static [u8],
-    read: usize,
+struct Repeated {
+    prompts: usize,
+    letters: usize,
     rest: &'static [u8],
+}
+
+fn text(prompts: usize, letters: usize, rest: &'static [u8]) -> Repeated {
+    Repeated {
+        prompts,
+        letters,
+        rest,
+    }
+}
+
+impl Repeated {
+    fn bytes<A: Allocator>(&self, alloc: A) -> Result<Vec<u8, A>, AllocError> {
+        let mut bytes = Vec::new(alloc);
+        for _ in 0..self.prompts {
+            bytes.extend_from_slice(b"> ")?;
+        }
+        for _ in 0..self.letters {
+            bytes.push(b'a')?;
+        }
+        bytes.extend_from_slice(self.rest)?;
+        Ok(bytes)
+    }
+}
+
+/// A stream of one line, and what is read of it.
+#[derive(Clone, Copy)]
+struct LongCase {
+    name: &'static str,
+    stream: Repeated,
+    read: Repeated,
     cut: bool,
+}
+
+fn whole(name: &'static str, stream: Repeated, read: Repeated) -> LongCase {
+    LongCase {
+        name,
+        stream,
+        read,
+        cut: false,
+    }
+}
+
+fn cut(name: &'static str, stream: Repeated, read: Repeated) -> LongCase {
+    LongCase {
+        name,
+        stream,
+        read,
+        cut: true,
+    }
+}
+
+/// Whether the stream, in two pieces, has just this one line, at its end.
+fn gives(stream: &[u8], read: &[u8], cut: bool) -> bool {
+    let (front, end) = stream.split_at(stream.len().min(1000));
+    let mut lines = Lines::new();
+    if lines.feed(front).line.is_some() {
+        return false;
+    }
+    match only_line(&mut lines, end) {
+        None => false,
+        Some(line) => line.bytes == read && line.cut == cut,
+    }
 }
 
 #[test]
 fn lines_about_the_limit(rt: HostRuntime) -> Result<(), Fail> {
+    let full = text(0, LIMIT, b"");
+    let none = text(0, 0, b"");
+    let half = LIMIT / 2;
     let cases = [
-        Long { name: "one less", head: b"", heads: 0, fill: LIMIT - 1, tail: b"\n", read: LIMIT - 1, rest: b"", cut: false },
-        Long { name: "one less, CR", head: b"", heads: 0, fill: LIMIT - 1, tail: b"\r\n", read: LIMIT - 1, rest: b"", cut: false },
-        Long { name: "just as many", head: b"", heads: 0, fill: LIMIT, tail: b"\n", read: LIMIT, rest: b"", cut: false },
-        Long { name: "just as many, CR", head: b"", heads: 0, fill: LIMIT, tail: b"\r\n", read: LIMIT, rest: b"", cut: false },
-        Long { name: "just as many, CR twice", head: b"", heads: 0, fill: LIMIT, tail: b"\r\r\n", read: LIMIT, rest: b"", cut: true },
-        Long { name: "one more", head: b"", heads: 0, fill: LIMIT + 1, tail: b"\n", read: LIMIT, rest: b"", cut: true },
-        Long { name: "one more, CR", head: b"", heads: 0, fill: LIMIT + 1, tail: b"\r\n", read: LIMIT, rest: b"", cut: true },
-        Long { name: "two more", head: b"", heads: 0, fill: LIMIT + 2, tail: b"\n", read: LIMIT, rest: b"", cut: true },
-        Long { name: "two more, CR", head: b"", heads: 0, fill: LIMIT + 2, tail: b"\r\n", read: LIMIT, rest: b"", cut: true },
-        Long { name: "a command at the limit", head: b"", heads: 0, fill: LIMIT - 1, tail: b"\xff\xfb\x01a\r\n", read: LIMIT, rest: b"", cut: false },
-        Long { name: "a command past the limit", head: b"", heads: 0, fill: LIMIT, tail: b"\xff\xfb\x01\r\n", read: LIMIT, rest: b"", cut: false },
-        Long { name: "a command between CR and LF", head: b"", heads: 0, fill: LIMIT, tail: b"\r\xff\xfb\x01\n", read: LIMIT, rest: b"", cut: false },
-        Long { name: "255 as the last byte", head: b"", heads: 0, fill: LIMIT - 1, tail: b"\xff\xff\r\n", read: LIMIT - 1, rest: b"\xff", cut: false },
-        Long { name: "255 as one byte more", head: b"", heads: 0, fill: LIMIT, tail: b"\xff\xff\r\n", read: LIMIT, rest: b"", cut: true },
-        Long { name: "a prompt counts", head: b"> ", heads: 1, fill: LIMIT - 2, tail: b"\r\n", read: LIMIT - 2, rest: b"", cut: false },
-        Long { name: "a prompt counts before the cut", head: b"> ", heads: 1, fill: LIMIT - 1, tail: b"\r\n", read: LIMIT - 2, rest: b"", cut: true },
-        Long { name: "prompts alone", head: b"> ", heads: LIMIT / 2, fill: 0, tail: b"\r\n", read: 0, rest: b"", cut: false },
-        Long { name: "prompts, and a byte past the limit", head: b"> ", heads: LIMIT / 2, fill: 1, tail: b"\r\n", read: 0, rest: b"", cut: true },
-        Long { name: "a prompt too many", head: b"> ", heads: LIMIT / 2 + 1, fill: 0, tail: b"\r\n", read: 0, rest: b"", cut: true },
-        Long { name: "a prompt that the limit cuts", head: b"> ", heads: LIMIT / 2 - 1, fill: 0, tail: b"login: b\r\n", read: 0, rest: b"lo", cut: true },
+        whole(
+            "one less",
+            text(0, LIMIT - 1, b"\n"),
+            text(0, LIMIT - 1, b""),
+        ),
+        whole(
+            "one less, CR",
+            text(0, LIMIT - 1, b"\r\n"),
+            text(0, LIMIT - 1, b""),
+        ),
+        whole("as many", text(0, LIMIT, b"\n"), full),
+        whole("as many, CR", text(0, LIMIT, b"\r\n"), full),
+        cut("as many, CR twice", text(0, LIMIT, b"\r\r\n"), full),
+        cut("one more", text(0, LIMIT + 1, b"\n"), full),
+        cut("one more, CR", text(0, LIMIT + 1, b"\r\n"), full),
+        cut("two more", text(0, LIMIT + 2, b"\n"), full),
+        cut("two more, CR", text(0, LIMIT + 2, b"\r\n"), full),
+        whole(
+            "a command before the last byte",
+            text(0, LIMIT - 1, b"\xff\xfb\x01a\r\n"),
+            full,
+        ),
+        whole(
+            "a command after the last byte",
+            text(0, LIMIT, b"\xff\xfb\x01\r\n"),
+            full,
+        ),
+        whole(
+            "a command between CR and LF",
+            text(0, LIMIT, b"\r\xff\xfb\x01\n"),
+            full,
+        ),
+        whole(
+            "255 as the last byte",
+            text(0, LIMIT - 1, b"\xff\xff\r\n"),
+            text(0, LIMIT - 1, b"\xff"),
+        ),
+        cut(
+            "255 as one byte more",
+            text(0, LIMIT, b"\xff\xff\r\n"),
+            full,
+        ),
+        whole(
+            "a prompt counts",
+            text(1, LIMIT - 2, b"\r\n"),
+            text(0, LIMIT - 2, b""),
+        ),
+        cut(
+            "prompts go after the cut",
+            text(1, LIMIT - 1, b"\r\n"),
+            text(0, LIMIT - 2, b""),
+        ),
+        whole("prompts alone", text(half, 0, b"\r\n"), none),
+        cut(
+            "prompts, and a byte that is cut",
+            text(half, 1, b"\r\n"),
+            none,
+        ),
+        cut("a prompt that is cut", text(half + 1, 0, b"\r\n"), none),
+        cut(
+            "half a prompt",
+            text(half - 1, 0, b"login: a\r\n"),
+            text(0, 0, b"lo"),
+        ),
     ];
     for case in &cases {
-        let mut stream = Vec::new(rt.alloc());
-        for _ in 0..case.heads {
-            stream.extend_from_slice(case.head)?;
-        }
-        for _ in 0..case.fill {
-            stream.push(b'a')?;
-        }
-        stream.extend_from_slice(case.tail)?;
-        let mut read = vec![in rt.alloc(); b'a'; case.read]?;
-        read.extend_from_slice(case.rest)?;
-        let mut lines = Lines::new();
-        let (front, end) = stream.split_at(1000);
-        assert!(rt; lines.feed(front).line.is_none(), "{}", case.name);
-        let line = lines.feed(end).line.ok_or(case.name)?;
-        assert_eq!(rt; line.bytes, read.as_slice(), "{}", case.name);
-        assert_eq!(rt; line.cut, case.cut, "{}", case.name);
-        assert_eq!(rt; lines.held(), 0, "{}", case.name);
+        let stream = case.stream.bytes(rt.alloc())?;
+        let read = case.read.bytes(rt.alloc())?;
+        assert!(rt; gives(&stream, &read, case.cut), "{}", case.name);
     }
     Ok(())
 }
@@ -137,7 +242,7 @@ fn held_and_reset(rt: HostRuntime) -> Result<(), Fail> {
     lines.reset();
     assert!(rt; lines.line().is_none());
     assert_eq!(rt; lines.held(), 0);
-    let line = only_line(&mut lines, b"\n").ok_or("the LF is no option byte any more")?;
+    let line = only_line(&mut lines, b"\n").ok_or("the LF is no option any more")?;
     assert_eq!(rt; line.bytes, b"".as_slice());
     lines.reset();
     assert!(rt; lines.line().is_none(), "reset after a line");

@@ -22,16 +22,25 @@ pub(crate) struct Unfinished {
     pub(crate) over: bool,
 }
 
+/// How many bytes are searched at once. Most lines are shorter, and the search is quickest in short slices.
+const WINDOW: usize = 128;
+
 /// How many bytes of `bytes` stand before the first line end or telnet command.
 pub(crate) fn run_len(bytes: &[u8]) -> usize
     ensures in_range { result ≤ length bytes.now }
     ensures run { IsRun (take result bytes.now) }
     ensures stops { result < length bytes.now → ends_run (slice_index bytes.now result) ≡ true }
 {
-    match memchr2(b'\n', 255, bytes) {
-        Some(at) => at,
-        None => bytes.len(),
+    let mut at = 0;
+    while at < bytes.len() {
+        let rest = &bytes[at..];
+        let window = &rest[..rest.len().min(WINDOW)];
+        match memchr2(b'\n', 255, window) {
+            Some(found) => return at + found,
+            None => at += window.len(),
+        }
     }
+    at
 }
 
 impl Unfinished {
@@ -62,8 +71,7 @@ impl Unfinished {
     pub(crate) fn reset(&mut self)
         ensures { kept self.new ≡ record { telnet = Telnet.Data; front = []; over = false } }
     {
-        self.clear();
-        self.telnet = Telnet::Data;
+        *self = Unfinished::new();
     }
 
     /// The line that has ended here.

@@ -1,4 +1,3 @@
-use Rattle.std.proofs.Common.{refl}
 use Rattle.fibs_lines.proofs.FeedLemmas.{KeptAfter_none, StandsAfter-from_kept}
 use Rattle.fibs_lines.proofs.lines.Lines.new.Goals as goal
 

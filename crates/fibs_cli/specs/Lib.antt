@@ -1,0 +1,4 @@
+pub mod Escape
+pub mod Show
+pub mod Shows
+pub mod Plays

@@ -1,0 +1,13 @@
+use Rattle.std.proofs.Common.{◌-◌, ◌≤◌, length, take}
+use Rattle.fibs_lines.specs.Progress.{IsRun}
+use Rattle.fibs_lines.proofs.unfinished.run_len.Given as goal
+
+-- nothing interrupts what was searched
+abbrev pub invariant-loop-at : goal.invariant-loop-at
+invariant-loop-at l = record {
+  in_range : l.at ≤ length l.bytes;
+  run : IsRun (take l.at l.bytes);
+}
+
+abbrev pub decreases-loop-at : goal.decreases-loop-at
+decreases-loop-at l = length l.bytes - l.at

@@ -1,0 +1,40 @@
+-- Digits and the numbers that they write.
+use Rattle.std.proofs.Common.{◌≡◌, ℕ, ◌<◌, List, true, length, get_or}
+use Rattle.std.specs.Char.{is_ascii_digit}
+use Rattle.std.specs.List.{list_all}
+use Rattle.std.proofs.lemmas.List.Sums.{AllPass-from_list_all}
+use Rattle.std.proofs.lemmas.List.Elements.{All-get_or}
+use Rattle.std.proofs.Common.{arith, ◌≤◌, ◌-◌, ◌+◌, ◌*◌, zero, suc, [], ◌∷◌, take}
+use Rattle.std.proofs.lemmas.Int.Digits.{digits_value_more}
+use Rattle.std.specs.Str.Parse.{digits_value, digits_value_after}
+use Rattle.std.specs.Char.{digit_value}
+use Rattle.std.proofs.lemmas.Bool.Decides.{nat_tests}
+
+pub digit_at : (ds : List ℕ) (i : ℕ) → list_all is_ascii_digit ds ≡ true → i < length ds → is_ascii_digit (get_or ds i 0) ≡ true
+digit_at ds i all within = All-get_or (λ d. is_ascii_digit d ≡ true) ds i 0 within (AllPass-from_list_all is_ascii_digit ds all)
+
+pub is_digit_range : (c : ℕ) → is_ascii_digit c ≡ true → (48 ≤ c) × (c < 58) × (digit_value c ≡ c - 48)
+is_digit_range c h = grind (arith, nat_tests)
+
+pub digit_low : (ds : List ℕ) (i : ℕ) → list_all is_ascii_digit ds ≡ true → i < length ds → 48 ≤ get_or ds i 0
+digit_low ds i all within = (is_digit_range (get_or ds i 0) (digit_at ds i all within)).0
+
+pub digit_value_is : (ds : List ℕ) (i : ℕ) → list_all is_ascii_digit ds ≡ true → i < length ds → digit_value (get_or ds i 0) ≡ get_or ds i 0 - 48
+digit_value_is ds i all within = (is_digit_range (get_or ds i 0) (digit_at ds i all within)).2
+
+worth_after-ge : (n : ℕ) (ds : List ℕ) → n ≤ digits_value_after 10 n ds
+worth_after-ge n [] = omega arith
+worth_after-ge n (d ∷ ds) = let more = worth_after-ge (n * 10 + digit_value d) ds in omega arith
+
+worth_after_front : (n k : ℕ) (ds : List ℕ) → digits_value_after 10 n (take k ds) ≤ digits_value_after 10 n ds
+worth_after_front n zero ds = worth_after-ge n ds
+worth_after_front n (suc k) [] = omega arith
+worth_after_front n (suc k) (d ∷ ds) = worth_after_front (n * 10 + digit_value d) k ds
+
+-- digits are worth no less than those at their front
+pub front_worth : (k : ℕ) (ds : List ℕ) → digits_value 10 (take k ds) ≤ digits_value 10 ds
+front_worth k ds = worth_after_front 0 k ds
+
+-- digits whose front and next one are worth too much are so too
+pub too_large : (limit i : ℕ) (ds : List ℕ) → list_all is_ascii_digit ds ≡ true → i < length ds → limit ≤ digits_value 10 (take i ds) * 10 + (get_or ds i 0 - 48) → limit ≤ digits_value 10 ds
+too_large limit i ds all within large = omega (arith, front_worth (i + 1) ds, digits_value_more 10 ds i within, digit_value_is ds i all within)

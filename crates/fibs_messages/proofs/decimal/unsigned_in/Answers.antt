@@ -1,0 +1,6 @@
+use Rattle.std.proofs.Common.{sym, ◌∙◌}
+use Rattle.fibs_messages.proofs.Naturals.{negative_refused}
+use Rattle.fibs_messages.proofs.decimal.unsigned_in.Goals as goal
+
+pub returns-then-is_negative : goal.returns-then-is_negative
+returns-then-is_negative c = negative_refused c.args.text.now (sym c.is_negative.ensures ∙ c.if-is_negative.true)

@@ -1,0 +1,121 @@
+-- The fields of a message: their kinds, how a value is spelled, and what is wrong with other texts.
+use Rattle.std.specs.Prelude.{◌≡◌, ℕ, ◌+◌, ◌/◌, ◌%◌, ◌<◌, Bool, true, false, cond, List, [], ◌∷◌, ◌++◌, Option, Some, None, decimal, pos, slice_get, if◌then◌else◌}
+use Rattle.std.specs.Result.{result_err}
+use Rattle.fibs_messages.specs.declared.decimal.Fault.{Fault}
+use Rattle.fibs_messages.specs.declared.decimal.Fault.TheVariants.{Missing, Extra, BadName}
+use Rattle.fibs_messages.specs.declared.decimal.Values.{Values}
+use Rattle.fibs_messages.specs.declared.decimal.Values.TheVariants.{Between}
+use Rattle.fibs_messages.specs.Decimal.{number_in}
+use Rattle.fibs_messages.specs.Name.{is_name}
+use Rattle.fibs_messages.specs.Rating.{RatingText, rating_in}
+use Rattle.fibs_messages.specs.Split.{before, after}
+use Rattle.fibs_messages.specs.Word.{is_word, is_tail}
+
+-- what a field has to be
+pub data Kind : Type 0 where
+  a_name : Kind
+  a_word : Kind
+  -- the rest of the line, which does not end in a space
+  a_tail : Kind
+  a_flag : Kind
+  -- a number of 64 bits
+  a_number : Kind
+  a_rating : Kind
+  -- the rest of the line, whatever it is
+  a_text : Kind
+
+-- the value of a field; a rating is counted in hundredths
+pub data FieldValue : Type 0 where
+  NameField : List ℕ → FieldValue
+  WordField : List ℕ → FieldValue
+  TailField : List ℕ → FieldValue
+  FlagField : Bool → FieldValue
+  NumberField : ℕ → FieldValue
+  RatingField : ℕ → FieldValue
+  TextField : List ℕ → FieldValue
+
+abbrev pub kind_of : FieldValue → Kind
+kind_of (NameField s) = a_name
+kind_of (WordField s) = a_word
+kind_of (TailField s) = a_tail
+kind_of (FlagField b) = a_flag
+kind_of (NumberField n) = a_number
+kind_of (RatingField n) = a_rating
+kind_of (TextField s) = a_text
+
+-- a tail and a text are all that is left of the line
+abbrev pub takes_rest : Kind → Bool
+takes_rest a_tail = true
+takes_rest a_text = true
+takes_rest k = false
+
+-- a text may be absent, which is an empty one
+abbrev pub may_be_absent : Kind → Bool
+may_be_absent a_text = true
+may_be_absent k = false
+
+-- a flag is 0 or 1
+abbrev pub flag_text : Bool → List ℕ
+flag_text b = (if b then 49 else 48) ∷ []
+
+-- the ways in which a value may be spelled
+abbrev pub Spells : FieldValue → List ℕ → Type 0
+Spells (NameField s) text = (is_name s ≡ true) × (text ≡ s)
+Spells (WordField s) text = (is_word s ≡ true) × (text ≡ s)
+Spells (TailField s) text = (is_tail s ≡ true) × (text ≡ s)
+Spells (FlagField b) text = text ≡ flag_text b
+Spells (NumberField n) text = (n < 18446744073709551616) × (text ≡ decimal n)
+Spells (RatingField r) text = (r < 4294967296) × RatingText r text
+Spells (TextField s) text = text ≡ s
+
+-- the one way in which it is printed; a rating always has two digits after its point
+abbrev pub canonical_text : FieldValue → List ℕ
+canonical_text (NameField s) = s
+canonical_text (WordField s) = s
+canonical_text (TailField s) = s
+canonical_text (FlagField b) = flag_text b
+canonical_text (NumberField n) = decimal n
+canonical_text (RatingField r) = decimal (r / 100) ++ (46 ∷ (48 + r % 100 / 10) ∷ (48 + r % 10) ∷ [])
+canonical_text (TextField s) = s
+
+-- the numbers of a flag, and those of 64 bits
+abbrev pub flag_values : Values
+flag_values = Between (pos 0) (pos 1)
+
+abbrev pub number_values : Values
+number_values = Between (pos 0) (pos 18446744073709551615)
+
+abbrev pub bad_name_unless : Bool → Option Fault
+bad_name_unless good = cond good None (Some BadName)
+
+-- what is wrong with a text that has to be of a kind, if anything
+abbrev pub fault_in : Kind → List ℕ → Option Fault
+fault_in a_name text = bad_name_unless (is_name text)
+fault_in a_word text = bad_name_unless (is_word text)
+fault_in a_tail text = bad_name_unless (is_tail text)
+fault_in a_flag text = result_err (number_in flag_values text)
+fault_in a_number text = result_err (number_in number_values text)
+fault_in a_rating text = result_err (rating_in text)
+fault_in a_text text = None
+
+-- the texts that stand where the fields are, each up to the next separator; a tail and a text are all that is left,
+-- and what is left after the last field is one text more
+abbrev pub texts_for : List Kind → ℕ → Option (List ℕ) → List (List ℕ)
+texts_for ks separator None = []
+texts_for [] separator (Some rest) = rest ∷ []
+texts_for (k ∷ ks) separator (Some rest) =
+    if takes_rest k then rest ∷ [] else before separator rest ∷ texts_for ks separator (after separator rest)
+
+-- why a place is wrong, where a kind or a text may be absent
+abbrev pub fault_between : Option Kind → Option (List ℕ) → Option Fault
+fault_between (Some k) (Some text) = fault_in k text
+fault_between (Some k) None = if may_be_absent k then None else Some Missing
+fault_between None (Some text) = Some Extra
+fault_between None None = None
+
+abbrev pub fault_at : List Kind → List (List ℕ) → ℕ → Option Fault
+fault_at ks texts i = fault_between (slice_get ks i) (slice_get texts i)
+
+-- field k, counted from 1, is wrong for the reason f, and no field before it is wrong
+abbrev pub IsFirstFault : List Kind → List (List ℕ) → ℕ → Fault → Type 0
+IsFirstFault ks texts k f = (i : ℕ) × (k ≡ i + 1) × (fault_at ks texts i ≡ Some f) × ((j : ℕ) → j < i → fault_at ks texts j ≡ None)

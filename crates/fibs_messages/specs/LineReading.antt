@@ -1,0 +1,28 @@
+-- How a line is read. No public contract rests on it.
+use Rattle.std.specs.Prelude.{◌≡◌, ℕ, ◌+◌, ◌-◌, ◌==◌, ◌&&◌, List, [], ◌∷◌, Option, Some, None, Result, Ok, Err, if◌then◌else◌}
+use Rattle.std.specs.Int.{is_in_range}
+use Rattle.fibs_messages.specs.declared.board.FieldFault.{FieldFault}
+use Rattle.fibs_messages.specs.Field.{FieldValue}
+use Rattle.fibs_messages.specs.FieldReading.{fields_at, left}
+use Rattle.fibs_messages.specs.Line.{ReadingValue, numbered_line, board_line, text_line, malformed_line}
+use Rattle.fibs_messages.specs.Message.{kinds_of, kept}
+use Rattle.fibs_messages.specs.Split.{before, after}
+
+-- the number from 1 to 19 that a word is
+abbrev pub number_word : List ℕ → Option ℕ
+number_word [] = None
+number_word (d ∷ []) = if is_in_range 49 57 d then Some (d - 48) else None
+number_word (d ∷ e ∷ []) = if d == 49 && is_in_range 48 57 e then Some (10 + (e - 48)) else None
+number_word (d ∷ e ∷ f ∷ s) = None
+
+-- a line of the number n whose fields are as read
+pub record ReadsAs (line : List ℕ) (n : ℕ) (read : Result (List FieldValue) FieldFault) : Type 0 where
+  pub number : number_word (before 32 line) ≡ Some n
+  pub fields : fields_at (kinds_of n) 1 (left 32 (after 32 (kept n line))) ≡ read
+
+-- what reading a line that is no board line gives
+abbrev pub IsAsRead : List ℕ → ReadingValue → Type 0
+IsAsRead line (numbered_line m) = ReadsAs line m.number (Ok m.fields)
+IsAsRead line (board_line b) = ⊥
+IsAsRead line (text_line text) = (number_word (before 32 line) ≡ None) × (text ≡ line)
+IsAsRead line (malformed_line n k f) = ReadsAs line n (Err (record { field = k; fault = f }))

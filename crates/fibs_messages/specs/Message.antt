@@ -1,0 +1,141 @@
+-- Messages 1 to 19 (FIBS CLIP specification 1008) and their lines.
+use Rattle.std.specs.Prelude.{◌≡◌, ℕ, ◌<◌, ◌≤◌, Bool, true, false, nat_le, ◌||◌, ◌==◌, List, [], ◌∷◌, ◌++◌, decimal, map, replicate, if◌then◌else◌}
+use Rattle.std.specs.List.{flat_map, AllByRecursion}
+use Rattle.fibs_messages.specs.declared.decimal.Fault.{Fault}
+use Rattle.fibs_messages.specs.Board.{without_spaces}
+use Rattle.fibs_messages.specs.Name.{is_name}
+use Rattle.fibs_messages.specs.Word.{is_word, is_tail}
+use Rattle.fibs_messages.specs.Field.{Kind, a_name, a_word, a_tail, a_flag, a_number, a_rating, a_text, FieldValue, NameField, WordField, TailField, FlagField, NumberField, RatingField, TextField, kind_of, Spells, canonical_text, texts_for, IsFirstFault}
+use Rattle.fibs_messages.specs.Split.{before, after}
+
+-- a row of the table: a message's number, and the kinds of its fields in their order
+pub record Row : Type 0 where
+  pub number : ℕ
+  pub kinds : List Kind
+
+abbrev pub row : ℕ → List Kind → Row
+row n ks = record { number = n; kinds = ks }
+
+-- the messages
+unfoldable pub table : List Row
+table =
+    -- welcome: name, last login in seconds since 1970, last host
+    row 1 (a_name ∷ a_number ∷ a_word ∷ [])
+    -- own info: name;
+    -- allowpip, autoboard, autodouble, automove, away, bell, crawford, double; experience;
+    -- greedy, moreboards, moves, notify; rating; ratings, ready; redoubles;
+    -- report, silent; timezone
+    ∷ row 2 (a_name
+    ∷ a_flag ∷ a_flag ∷ a_flag ∷ a_flag ∷ a_flag ∷ a_flag ∷ a_flag ∷ a_flag ∷ a_number
+    ∷ a_flag ∷ a_flag ∷ a_flag ∷ a_flag ∷ a_rating ∷ a_flag ∷ a_flag ∷ a_word
+    ∷ a_flag ∷ a_flag ∷ a_word ∷ [])
+    -- the message of the day begins, and ends
+    ∷ row 3 []
+    ∷ row 4 []
+    -- who info: name, opponent, watching; ready, away; rating; experience, idle, login; hostname, client; email
+    ∷ row 5 (a_name ∷ a_name ∷ a_name ∷ a_flag ∷ a_flag ∷ a_rating ∷ a_number ∷ a_number ∷ a_number ∷ a_word ∷ a_word ∷ a_tail ∷ [])
+    -- end of who info
+    ∷ row 6 []
+    -- login, logout: name, text
+    ∷ row 7 (a_name ∷ a_text ∷ [])
+    ∷ row 8 (a_name ∷ a_text ∷ [])
+    -- message: sender, time in seconds since 1970, text
+    ∷ row 9 (a_name ∷ a_number ∷ a_text ∷ [])
+    -- message delivered, message saved: name
+    ∷ row 10 (a_name ∷ [])
+    ∷ row 11 (a_name ∷ [])
+    -- says, shouts, whispers, kibitzes: name, text
+    ∷ row 12 (a_name ∷ a_text ∷ [])
+    ∷ row 13 (a_name ∷ a_text ∷ [])
+    ∷ row 14 (a_name ∷ a_text ∷ [])
+    ∷ row 15 (a_name ∷ a_text ∷ [])
+    -- you say: name, text
+    ∷ row 16 (a_name ∷ a_text ∷ [])
+    -- you shout, you whisper, you kibitz: text
+    ∷ row 17 (a_text ∷ [])
+    ∷ row 18 (a_text ∷ [])
+    ∷ row 19 (a_text ∷ [])
+    ∷ []
+
+abbrev pub IsNumber : ℕ → Type 0
+IsNumber n = (1 ≤ n) × (n ≤ 19)
+
+abbrev pub kinds_in : List Row → ℕ → List Kind
+kinds_in [] n = []
+kinds_in (r ∷ rows) n = if r.number == n then r.kinds else kinds_in rows n
+
+-- the kinds of the fields of the message with a number
+abbrev pub kinds_of : ℕ → List Kind
+kinds_of n = kinds_in table n
+
+-- the messages of which trailing spaces are dropped: those that end in no text
+abbrev pub drops_spaces : ℕ → Bool
+drops_spaces n = nat_le n 6 || n == 10 || n == 11
+
+-- a message: its number, and the values of its fields
+pub record MessageValue : Type 0 where
+  pub number : ℕ
+  pub fields : List FieldValue
+
+-- a field in a line: a space and a spelling; an empty text has its space or not
+pub data FieldText : FieldValue → List ℕ → Type 0 where
+  spelled : {v : FieldValue} {text : List ℕ} → Spells v text → FieldText v (32 ∷ text)
+  no_text : FieldText (TextField []) []
+
+pub data FieldsText : List FieldValue → List ℕ → Type 0 where
+  no_fields : FieldsText [] []
+  more_fields : {v : FieldValue} {vs : List FieldValue} {text texts : List ℕ} → FieldText v text → FieldsText vs texts → FieldsText (v ∷ vs) (text ++ texts)
+
+-- the line says this message: its number, its fields as the table has them, and spaces where they are dropped
+pub record MessageText (m : MessageValue) (line : List ℕ) : Type 0 where
+  pub number : IsNumber m.number
+  pub kinds : map kind_of m.fields ≡ kinds_of m.number
+  pub text : List ℕ
+  pub fields : FieldsText m.fields text
+  pub spaces : ℕ
+  pub no_spaces : drops_spaces m.number ≡ false → spaces ≡ 0
+  pub line_is : line ≡ decimal m.number ++ (text ++ replicate spaces 32)
+
+-- the line begins with this number, and then has a space or ends
+abbrev pub HasNumber : List ℕ → ℕ → Type 0
+HasNumber line n = IsNumber n × (before 32 line ≡ decimal n)
+
+abbrev pub IsNumbered : List ℕ → Type 0
+IsNumbered line = (n : ℕ) × HasNumber line n
+
+-- a line without the spaces that are dropped
+abbrev pub kept : ℕ → List ℕ → List ℕ
+kept n line = if drops_spaces n then without_spaces line else line
+
+-- the line has this number, and field k is the first that is wrong
+abbrev pub WrongMessage : List ℕ → ℕ → ℕ → Fault → Type 0
+WrongMessage line n k f = HasNumber line n × IsFirstFault (kinds_of n) (texts_for (kinds_of n) 32 (after 32 (kept n line))) k f
+
+abbrev pub space_before : List ℕ → List ℕ
+space_before [] = []
+space_before (b ∷ s) = 32 ∷ b ∷ s
+
+-- a field as it is printed: a space and the text; an empty text is nothing
+unfoldable pub canonical_field : FieldValue → List ℕ
+canonical_field (TextField s) = space_before s
+canonical_field v = 32 ∷ canonical_text v
+
+-- the one line that is printed
+abbrev pub canonical : MessageValue → List ℕ
+canonical m = decimal m.number ++ flat_map canonical_field m.fields
+
+-- what a value has to hold
+abbrev pub IsValue : FieldValue → Type 0
+IsValue (NameField s) = is_name s ≡ true
+IsValue (WordField s) = is_word s ≡ true
+IsValue (TailField s) = is_tail s ≡ true
+IsValue (FlagField b) = Unit {0}
+IsValue (NumberField n) = n < 18446744073709551616
+IsValue (RatingField n) = n < 4294967296
+IsValue (TextField s) = Unit {0}
+
+-- a message that is well formed: it has a number of the table, fields of the kinds of that row, and values of these kinds
+pub record IsMessage (m : MessageValue) : Type 0 where
+  pub number : IsNumber m.number
+  pub kinds : map kind_of m.fields ≡ kinds_of m.number
+  pub values : AllByRecursion IsValue m.fields

@@ -1,0 +1,23 @@
+-- How the fields are gone through, from the left. No public contract rests on this.
+use Rattle.std.specs.Prelude.{◌+◌, ℕ, List, [], ◌∷◌, Option, Some, None}
+use Rattle.std.specs.Borrow.{Bor}
+use Rattle.fibs_messages.specs.Board.{Kind, fault_in, pieces}
+use Rattle.fibs_messages.specs.declared.decimal.Fault.{Fault}
+use Rattle.fibs_messages.specs.declared.decimal.Fault.TheVariants.{Missing, Extra}
+use Rattle.fibs_messages.specs.declared.board.FieldFault.{FieldFault}
+
+-- the pieces that are left, where none is left after the last
+abbrev pub pieces_left : Option (Bor (List ℕ)) → List (List ℕ)
+pieces_left None = []
+pieces_left (Some rest) = pieces rest.now
+
+abbrev pub fault_or : ℕ → Option Fault → Option FieldFault → Option FieldFault
+fault_or n None later = later
+fault_or n (Some f) later = Some (record { field = n; fault = f })
+
+-- the first fault of the pieces against their kinds, where the first of them is field n
+abbrev pub first_fault : ℕ → List Kind → List (List ℕ) → Option FieldFault
+first_fault n [] [] = None
+first_fault n [] (p ∷ ps) = Some (record { field = n; fault = Extra })
+first_fault n (k ∷ ks) [] = Some (record { field = n; fault = Missing })
+first_fault n (k ∷ ks) (p ∷ ps) = fault_or n (fault_in k p) (first_fault (n + 1) ks ps)

@@ -1,0 +1,12 @@
+-- A text is split at the first byte of a kind.
+use Rattle.std.specs.Prelude.{ℕ, ◌==◌, List, [], ◌∷◌, Option, Some, None, if◌then◌else◌}
+
+-- what stands before the first c, or all where there is none
+abbrev pub before : ℕ → List ℕ → List ℕ
+before c [] = []
+before c (b ∷ s) = if b == c then [] else b ∷ before c s
+
+-- what stands after the first c, where there is one
+abbrev pub after : ℕ → List ℕ → Option (List ℕ)
+after c [] = None
+after c (b ∷ s) = if b == c then Some s else after c s

@@ -1,0 +1,159 @@
+//! Numbers of fields, as they are spelled.
+
+ghost use Rattle.std.specs.Prelude.{◌≡◌, ◌-◌, ◌^◌, ◌≤◌, ◌&&◌, ◌||◌, min, pos, true, drop, option_map, MatchOption, if◌then◌else◌};
+ghost use Rattle.std.specs.Char.{is_ascii_digit};
+ghost use Rattle.std.specs.List.{list_all};
+ghost use Rattle.std.specs.Str.Parse.{digits_value, starts_with_minus};
+ghost use Rattle.fibs_messages.specs.Field.{flag_values, number_values};
+ghost use Rattle.fibs_messages.specs.FieldReading.{Gives};
+ghost use Rattle.fibs_messages.specs.Decimal.{is_positive, is_zero, allows, IsNarrow, capped, decimal_value, number_in};
+
+/// Why a field is wrong.
+#[derive(Clone, Copy, Debug, PartialEq, Eq)]
+pub enum Fault {
+    /// The line ends before it.
+    Missing,
+    /// It follows the last field.
+    Extra,
+    /// It is no canonical decimal.
+    NotANumber,
+    /// It is a canonical decimal, and not one that the field may have.
+    OutOfRange,
+    /// It is no name, or not the word that has to stand there.
+    BadName,
+}
+
+/// The numbers that a field may have.
+#[derive(Clone, Copy, Debug)]
+pub enum Values {
+    /// From the first up to the second.
+    Between(i32, i32),
+    /// Just these two.
+    Either(i32, i32),
+}
+
+/// Whether a field may have the number.
+pub fn allows(values: Values, number: i64) -> bool
+    ensures test { result ≡ allows values number }
+    ensures narrow { IsNarrow values }
+{
+    match values {
+        Values::Between(low, high) => i64::from(low) <= number && number <= i64::from(high),
+        Values::Either(one, other) => number == i64::from(one) || number == i64::from(other),
+    }
+}
+
+/// Whether each byte is a digit.
+fn are_digits(text: &[u8]) -> bool
+    ensures { result ≡ list_all is_ascii_digit text.now }
+{
+    text.iter().all(u8::is_ascii_digit)
+}
+
+/// Whether the text is digits that begin with no 0.
+pub fn is_positive(text: &[u8]) -> bool
+    ensures { result ≡ is_positive text.now }
+{
+    !text.is_empty() && text[0] != b'0' && are_digits(text)
+}
+
+/// The number that the digits write, unless it takes more than 64 bits.
+pub fn magnitude(digits: &[u8]) -> Option<u64>
+    requires { list_all is_ascii_digit digits.now ≡ true }
+    ensures { MatchOption result (2 ^ 64 ≤ digits_value 10 digits.now) (λ n. n ≡ digits_value 10 digits.now) }
+{
+    let mut value = 0u64;
+    for digit in digits {
+        let tens = value.checked_mul(10)?;
+        value = tens.checked_add(u64::from(*digit - b'0'))?;
+    }
+    Some(value)
+}
+
+/// The number that the digits write, or the greatest of 32 bits where that is greater.
+fn capped(digits: &[u8]) -> u32
+    requires { list_all is_ascii_digit digits.now ≡ true }
+    ensures { result ≡ min (digits_value 10 digits.now) (2 ^ 32 - 1) }
+{
+    match magnitude(digits) {
+        Some(number) if number < 4_294_967_295 => number as u32,
+        _ => 4_294_967_295,
+    }
+}
+
+/// Whether the text is `0`.
+fn is_zero(text: &[u8]) -> bool
+    ensures { result ≡ is_zero text.now }
+{
+    text.len() == 1 && text[0] == b'0'
+}
+
+/// Whether the text is a canonical decimal without sign.
+pub fn is_unsigned(text: &[u8]) -> bool
+    ensures { result ≡ is_zero text.now || is_positive text.now }
+{
+    is_zero(text) || is_positive(text)
+}
+
+/// Whether the text is a canonical decimal with a sign.
+fn is_negative(text: &[u8]) -> bool
+    ensures { result ≡ starts_with_minus text.now && is_positive (drop 1 text.now) }
+{
+    !text.is_empty() && text[0] == b'-' && is_positive(&text[1..])
+}
+
+/// The number of a canonical decimal. One that is too large for any field is cut off at a number that is so too.
+fn capped_decimal(text: &[u8]) -> Option<i64>
+    ensures { result ≡ option_map capped (decimal_value text.now) }
+{
+    if !text.is_empty() && text[0] == b'-' {
+        if is_positive(&text[1..]) {
+            return Some(-i64::from(capped(&text[1..])));
+        }
+        return None;
+    }
+    if is_zero(text) {
+        return Some(0);
+    }
+    if is_positive(text) {
+        return Some(i64::from(capped(text)));
+    }
+    None
+}
+
+/// The number of a canonical decimal that a field may have.
+pub fn number_in(values: Values, text: &[u8]) -> Result<i32, Fault>
+    ensures { result ≡ number_in values text.now }
+{
+    match capped_decimal(text) {
+        None => Err(Fault::NotANumber),
+        Some(number) => {
+            if allows(values, number) {
+                Ok(number as i32)
+            } else {
+                Err(Fault::OutOfRange)
+            }
+        }
+    }
+}
+
+/// The number of a canonical decimal that has 64 bits and no sign.
+pub fn unsigned_in(text: &[u8]) -> Result<u64, Fault>
+    ensures { Gives (λ n. pos n) result (number_in number_values text.now) }
+{
+    if is_unsigned(text) {
+        magnitude(text).ok_or(Fault::OutOfRange)
+    } else if is_negative(text) {
+        Err(Fault::OutOfRange)
+    } else {
+        Err(Fault::NotANumber)
+    }
+}
+
+/// Whether a flag is 1.
+pub fn flag_in(text: &[u8]) -> Result<bool, Fault>
+    ensures { Gives (λ b. if b then pos 1 else pos 0) result (number_in flag_values text.now) }
+{
+    let number = number_in(Values::Between(0, 1), text)?;
+    Ok(number == 1)
+}

@@ -1,0 +1,88 @@
+//! Lines of the server.
+
+ghost use Rattle.std.specs.Prelude.{◌≡◌, ◌↔◌, ℕ, List};
+ghost use Rattle.fibs_messages.specs.Board.{BoardFields, BoardText};
+ghost use Rattle.fibs_messages.specs.Line.{IsBoardLine, IsMalformed, IsText, ReadingValue, numbered_line, board_line, text_line, malformed_line, IsReading};
+ghost use Rattle.fibs_messages.specs.LineReading.{IsAsRead};
+ghost use Rattle.fibs_messages.specs.Message.{MessageValue, MessageText};
+ghost use Rattle.fibs_messages.specs.ReadingOf.{reading_of};
+
+use crate::board::{Board, FieldFault};
+use crate::decimal::Fault;
+use crate::message::Message;
+use crate::number::{number_of, rest_of};
+use crate::read_message::read_message;
+use crate::split::split;
+
+/// What a line of the server is.
+#[derive(Clone, Copy, Debug)]
+pub enum Reading<'a> {
+    /// A numbered line, whose fields are right.
+    Numbered(Message<'a>),
+    /// A board line, whose 53 fields are right.
+    Board(Board),
+    /// A line that is neither a board line nor a numbered one: the whole line.
+    Text(&'a [u8]),
+    /// A board line or a numbered line with a wrong field.
+    Malformed {
+        /// The line's number, or 0 for a board line.
+        number: u8,
+        /// The leftmost wrong field, counted from 1; in a numbered line from 1 after the number.
+        field: usize,
+        /// What is wrong with it.
+        fault: Fault,
+    },
+}
+
+/// The reading of a line that is no board line.
+fn read_numbered(line: &[u8]) -> Reading<'_>
+    ensures { IsAsRead line.now (reading_of result) }
+{
+    match number_of(split(line, b' ').0) {
+        None => Reading::Text(line),
+        Some(number) => match read_message(number, rest_of(number, line)) {
+            Ok(message) => Reading::Numbered(message),
+            Err(FieldFault { field, fault }) => Reading::Malformed {
+                number,
+                field,
+                fault,
+            },
+        },
+    }
+}
+
+/// The reading of a line.
+fn classify(line: &[u8]) -> Reading<'_>
+    ensures { IsReading line.now (reading_of result) }
+{
+    if !line.starts_with(b"board:") {
+        return read_numbered(line);
+    }
+    match Board::read(line) {
+        Ok(board) => Reading::Board(board),
+        Err(FieldFault { field, fault }) => Reading::Malformed {
+            number: 0,
+            field,
+            fault,
+        },
+    }
+}
+
+/// Reads a line that was not cut, without its line end and its prompts.
+///
+/// A line that begins with `board:` is a board line (FIBS board style 3). A line that begins with a number from 1 to 19
+/// without leading zero, and then has a space or ends, is a numbered line (FIBS CLIP specification 1008). Such a line is
+/// `Board` or `Numbered` where its fields are right, else `Malformed` with the leftmost wrong one. Every other line is
+/// `Text`, also `board` alone, `05 x` and the empty line.
+pub fn read(line: &[u8]) -> Reading<'_>
+    // The answer is the line's reading, and a line has no other.
+    ensures found { IsReading line.now (reading_of result) }
+    ensures only { (value : ReadingValue) → IsReading line.now value → reading_of result ≡ value }
+    // Each answer is given exactly where the line is this.
+    ensures numbered { (m : MessageValue) → (reading_of result ≡ numbered_line m) ↔ MessageText m line.now }
+    ensures board { (b : BoardFields) → (reading_of result ≡ board_line b) ↔ BoardText b line.now }
+    ensures malformed { (number k : ℕ) → (f : Fault) → (reading_of result ≡ malformed_line number k f) ↔ IsMalformed line.now number k f }
+    ensures text { (t : List ℕ) → (reading_of result ≡ text_line t) ↔ (IsText line.now × (t ≡ line.now)) }
+{
+    classify(line)
+}

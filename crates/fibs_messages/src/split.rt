@@ -1,0 +1,18 @@
+//! A text is split at a byte.
+
+ghost use Rattle.std.specs.Prelude.{◌≡◌};
+ghost use Rattle.fibs_messages.specs.FieldReading.{seen};
+ghost use Rattle.fibs_messages.specs.Split.{before, after};
+
+use bstr::ByteSlice;
+
+/// What stands before the first `byte`, and what stands after it, where there is one.
+pub fn split(text: &[u8], byte: u8) -> (&[u8], Option<&[u8]>)
+    ensures before { result.0.now ≡ before byte text.now }
+    ensures after { seen result.1 ≡ after byte text.now }
+{
+    match text.find_byte(byte) {
+        Some(at) => (&text[..at], Some(&text[at + 1..])),
+        None => (text, None),
+    }
+}

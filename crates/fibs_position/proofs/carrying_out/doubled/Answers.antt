@@ -1,0 +1,7 @@
+use Rattle.std.proofs.Common.{arith}
+use Rattle.std.proofs.lemmas.Int.{ints}
+use Rattle.fibs_position.proofs.SetLemmas.{may_turn}
+use Rattle.fibs_position.proofs.carrying_out.doubled.Goals as goal
+
+pub set-requires : goal.set-requires
+set-requires c = let side = c.colour-turn.ensures.side in may_turn _ (omega (arith, ints)) (omega (arith, ints))

@@ -1,0 +1,10 @@
+use Rattle.std.proofs.Common.{sym, ◌∙◌}
+use Rattle.fibs_messages.specs.StoredBoard.{fields_of}
+use Rattle.fibs_position.specs.DecisionOf.{decision_of}
+use Rattle.fibs_position.proofs.TableLemmas.{effect_exact}
+use Rattle.fibs_position.proofs.carrying_out.effect.Goals as goal
+
+pub returns-clause-carried : goal.returns-clause-carried
+returns-clause-carried c = λ after.
+    let exact = effect_exact (fields_of c.args.board.now) (decision_of c.args.decision.now) c.args.dice after c.args.board.now.valid in
+    (λ e. exact.0 (sym c.by_table.ensures ∙ e), λ h. c.by_table.ensures ∙ exact.1 h)

@@ -1,0 +1,5 @@
+use Rattle.fibs_position.proofs.LawLemmas.{allowed_is}
+use Rattle.fibs_position.proofs.laws.allowed_is_exact.Goals as goal
+
+pub returns : goal.returns
+returns c = allowed_is

@@ -1,0 +1,5 @@
+use Rattle.fibs_position.proofs.LawLemmas.{allowed_users}
+use Rattle.fibs_position.proofs.laws.allowed_is_the_users.Goals as goal
+
+pub returns : goal.returns
+returns c = allowed_users

@@ -1,0 +1,28 @@
+-- What of a board the game is.
+use Rattle.std.specs.Prelude.{◌≡◌, ◌≢◌, ◌+◌, ◌-◌, ◌++◌, ℕ, ℤ, List, map}
+use Rattle.std.specs.List.{range_with_len}
+use Rattle.fibs_messages.specs.Board.{BoardFields, field_of}
+
+-- the numbers from the first to the last
+abbrev pub from_to : ℕ → ℕ → List ℕ
+from_to first last = range_with_len first (last + 1 - first)
+
+-- the opponent's name (field 3), and the fields that say what is played and how it stands: match length and scores,
+-- places 1 to 24, turn, dice, cube, who may double, colour, direction, and the checkers borne off
+unfoldable pub game_fields : List ℕ
+game_fields = from_to 4 6 ++ from_to 8 31 ++ from_to 33 43 ++ from_to 46 47
+
+pub record GamePart : Type 0 where
+  pub opponent : List ℕ
+  pub numbers : List ℤ
+
+abbrev pub game_part : BoardFields → GamePart
+game_part b = record { opponent = b.opponent; numbers = map (field_of b) game_fields }
+
+-- two boards differ where their game parts do
+abbrev pub Differ : BoardFields → BoardFields → Type 0
+Differ a b = game_part a ≢ game_part b
+
+-- two boards have the same numbers in the fields from the first to the last
+abbrev pub Agree : BoardFields → BoardFields → ℕ → ℕ → Type 0
+Agree a b first last = map (field_of a) (from_to first last) ≡ map (field_of b) (from_to first last)

@@ -1,0 +1,23 @@
+-- Boards that have a position.
+use Rattle.std.specs.Prelude.{◌≡◌, ◌≢◌, ◌<◌, ◌≤◌, List, [], ◌∷◌, codes}
+use Rattle.fibs_messages.specs.Board.{BoardFields, IsBoard}
+use Rattle.fibs_position.specs.OwnView.{own_placed, other_placed}
+use Rattle.fibs_position.specs.declared.position_fault.PositionFault.{PositionFault}
+use Rattle.fibs_position.specs.declared.position_fault.PositionFault.TheVariants.{NotYou, TooManyOwn, TooManyOther}
+
+-- a board of one who plays himself, on which neither side has more than fifteen checkers on places 1 to 24 and off
+pub record IsGood (b : BoardFields) : Type 0 where
+  pub board : IsBoard b
+  pub plays : b.player ≡ codes "You"
+  pub own : own_placed b ≤ 15
+  pub other : other_placed b ≤ 15
+
+-- what a board is not good for
+abbrev pub HasFault : BoardFields → PositionFault → Type 0
+HasFault b NotYou = b.player ≢ codes "You"
+HasFault b TooManyOwn = 15 < own_placed b
+HasFault b TooManyOther = 15 < other_placed b
+
+-- the faults, in the order in which they are told
+abbrev pub faults : List PositionFault
+faults = NotYou ∷ TooManyOwn ∷ TooManyOther ∷ []

@@ -1,0 +1,8 @@
+-- That a board is good has one proof.
+use Rattle.std.proofs.Props.{props}
+use Rattle.fibs_messages.specs.Board.{BoardFields}
+use Rattle.fibs_messages.specs.BoardProp.{IsBoard-prop}
+use Rattle.fibs_position.specs.GoodBoard.{IsGood}
+
+pub IsGood-prop : (b : BoardFields) → IsProp (IsGood b)
+IsGood-prop b = Prim.hlevel (props, IsBoard-prop)

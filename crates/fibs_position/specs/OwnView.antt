@@ -1,0 +1,94 @@
+-- A board as its player sees it (FIBS board style 3; the standard rules of backgammon).
+use Rattle.std.specs.Prelude.{◌≡◌, ◌==◌, ◌&&◌, ◌+◌, ◌-◌, ℕ, ℤ, pos, negsuc, neg_ℤ, Bool, List, [], ◌∷◌, ◌++◌, map, sum, if◌then◌else◌}
+use Rattle.std.specs.Ordering.{int_eq}
+use Rattle.std.specs.List.{range_with_len}
+use Rattle.fibs_messages.specs.Board.{BoardFields, field_of}
+use Rattle.fibs_position.specs.Checkers.{Checkers}
+use Rattle.fibs_position.specs.Runs.{Standing}
+
+-- whose turn it is: 1 for O, -1 for X, 0 where the game is over
+abbrev pub turn : BoardFields → ℤ
+turn b = field_of b 33
+
+-- the player's colour: 1 for O, -1 for X
+abbrev pub colour : BoardFields → ℤ
+colour b = field_of b 42
+
+-- the player goes from place 24 down to 1, and not from 1 up to 24
+abbrev pub goes_down : BoardFields → Bool
+goes_down b = int_eq (field_of b 43) (negsuc 0)
+
+-- the line's number of a place, which the player counts so as to go down
+abbrev pub line_place : BoardFields → ℕ → ℕ
+line_place b place = if goes_down b then place else 25 - place
+
+-- the field of a place
+abbrev pub place_field : BoardFields → ℕ → ℕ
+place_field b place = 7 + line_place b place
+
+-- a number, and 0 for one below 0
+abbrev pub natural : ℤ → ℕ
+natural (pos n) = n
+natural (negsuc n) = 0
+
+-- the checkers of a colour where a place has this value: O's are counted by positive numbers, X's by negative ones
+abbrev pub checkers_of : ℤ → ℤ → ℕ
+checkers_of side value = natural (if int_eq side (pos 1) then value else neg_ℤ value)
+
+-- the checkers of a colour on a place of the player's numbering
+abbrev pub stand_on : BoardFields → ℤ → ℕ → ℕ
+stand_on b side place = checkers_of side (field_of b (place_field b place))
+
+-- the 24 places
+unfoldable pub places : List ℕ
+places = range_with_len 1 24
+
+-- the checkers of a colour on places 1 to 24
+abbrev pub on_places : BoardFields → ℤ → List ℕ
+on_places b side = map (stand_on b side) places
+
+abbrev pub own_on_places : BoardFields → List ℕ
+own_on_places b = on_places b (colour b)
+
+abbrev pub other_on_places : BoardFields → List ℕ
+other_on_places b = on_places b (neg_ℤ (colour b))
+
+-- the checkers borne off
+abbrev pub own_off : BoardFields → ℕ
+own_off b = natural (field_of b 46)
+
+abbrev pub other_off : BoardFields → ℕ
+other_off b = natural (field_of b 47)
+
+-- the checkers on places 1 to 24 and off: those of fifteen that are not on the bar
+abbrev pub own_placed : BoardFields → ℕ
+own_placed b = sum (own_on_places b) + own_off b
+
+abbrev pub other_placed : BoardFields → ℕ
+other_placed b = sum (other_on_places b) + other_off b
+
+-- both sides' checkers in the player's numbering. Of the player's own, place 0 is off and 25 is the bar;
+-- of the other side's, place 0 is the bar and 25 is off
+unfoldable pub own_view : BoardFields → Checkers
+own_view b = record {
+  own = own_off b ∷ (own_on_places b ++ (15 - own_placed b) ∷ []);
+  other = (15 - other_placed b) ∷ (other_on_places b ++ other_off b ∷ []);
+}
+
+-- the player's two dice, 0 for none
+abbrev pub first_die : BoardFields → ℕ
+first_die b = natural (field_of b 34)
+
+abbrev pub second_die : BoardFields → ℕ
+second_die b = natural (field_of b 35)
+
+-- the player's dice are not shown
+abbrev pub NoDice : BoardFields → Type 0
+NoDice b = (first_die b ≡ 0) × (second_die b ≡ 0)
+
+abbrev pub no_dice : BoardFields → Bool
+no_dice b = (first_die b == 0) && (second_die b == 0)
+
+-- the arrangement and the dice shown
+abbrev pub standing_of : BoardFields → Standing
+standing_of b = record { checkers = own_view b; first = first_die b; second = second_die b }

@@ -1,0 +1,35 @@
+ghost use Rattle.std.specs.Prelude.{◌≡◌};
+
+use crate::phase::Phase;
+use crate::play::Play;
+
+/// What a player may decide.
+#[derive(Clone, Copy)]
+pub enum Decision {
+    /// To roll the dice.
+    Roll,
+    /// To offer a double.
+    Double,
+    /// To accept the opponent's double.
+    Accept,
+    /// To reject the opponent's double, which ends the game.
+    Reject,
+    /// To make these steps.
+    Move(Play),
+}
+
+impl Decision {
+    ghost use Rattle.fibs_position.specs.DecisionOf.{decision_of};
+    ghost use Rattle.fibs_position.specs.Allowed.{is_for};
+
+    /// Such a decision is made in this phase.
+    pub(crate) fn is_for(&self, phase: Phase) -> bool
+        ensures { result ≡ is_for (decision_of self.now) phase }
+    {
+        match self {
+            Decision::Roll | Decision::Double => matches!(phase, Phase::RollOrDouble),
+            Decision::Accept | Decision::Reject => matches!(phase, Phase::AnswerDouble),
+            Decision::Move(_) => matches!(phase, Phase::Move),
+        }
+    }
+}

@@ -1,0 +1,67 @@
+//! Laws of steps and plays, and of the rules. Each is a promise; the functions do nothing else.
+
+ghost use Rattle.std.specs.Prelude.{◌≡◌, ◌↔◌, IsTrue};
+ghost use Rattle.fibs_position.specs.StepValue.{hop_of};
+ghost use Rattle.fibs_position.specs.PlayValue.{hops_of};
+ghost use Rattle.fibs_position.specs.Laws.{StepsSwap, PhaseIsExact, AllowedIsExact, EffectIsExact, AllowedIsTheUsers, AllowedIsCarriedOut, EffectIsGood};
+ghost use Rattle.fibs_position.specs.Effect.{LegalIsCarriedOut};
+
+use crate::play::Play;
+use crate::step::Step;
+
+/// Steps are equal exactly where their places are.
+pub fn steps_are_their_places(a: &Step, b: &Step) -> bool
+    ensures test { IsTrue result ↔ (hop_of a.now ≡ hop_of b.now) }
+    ensures same { hop_of a.now ≡ hop_of b.now → a.now ≡ b.now }
+{
+    a == b
+}
+
+/// Plays are equal exactly where their steps are.
+pub fn plays_are_their_steps(a: &Play, b: &Play) -> bool
+    ensures test { IsTrue result ↔ (hops_of a.now ≡ hops_of b.now) }
+    ensures same { hops_of a.now ≡ hops_of b.now → a.now ≡ b.now }
+{
+    a == b
+}
+
+/// Where two steps by one die, the second from a higher place than the first, lead from one
+/// arrangement to another, the same two in the other order lead there too.
+pub fn steps_swap()
+    ensures { StepsSwap }
+{}
+
+/// Each legal play can be carried out by the model server.
+pub fn legal_is_carried_out()
+    ensures { LegalIsCarriedOut }
+{}
+
+/// The phase that the layers above compute with is that of the table.
+pub fn phase_is_exact()
+    ensures { PhaseIsExact }
+{}
+
+/// The answer that the layers above compute with is that of the rules.
+pub fn allowed_is_exact()
+    ensures { AllowedIsExact }
+{}
+
+/// The board that the layers above compute with is that of the table of decisions.
+pub fn effect_is_exact()
+    ensures { EffectIsExact }
+{}
+
+/// A decision that is allowed is made in a phase in which the user decides.
+pub fn allowed_is_the_users()
+    ensures { AllowedIsTheUsers }
+{}
+
+/// A decision that is allowed is carried out.
+pub fn allowed_is_carried_out()
+    ensures { AllowedIsCarriedOut }
+{}
+
+/// A decision that is carried out leaves a good board, which differs from the one before.
+pub fn effect_is_good()
+    ensures { EffectIsGood }
+{}

@@ -1,0 +1,144 @@
+//! A board as its player sees it.
+
+ghost use Rattle.std.specs.Prelude.{◌≡◌, ◌⊎◌, ◌+◌, ◌*◌, ◌≤◌, ◌∷◌, ◌++◌, [], ℕ, pos, negsuc, neg_ℤ, length, sum};
+ghost use Rattle.fibs_messages.specs.StoredBoard.{fields_of};
+ghost use Rattle.fibs_position.specs.OwnView.{colour, place_field, stand_on, on_places, own_off, other_off, own_placed, other_placed, own_view, first_die, second_die, no_dice};
+
+use crate::arrangement::Arrangement;
+use crate::fields::{COLOUR, DIRECTION, FIRST_DIE, FIRST_PLACE, OTHER_OFF, OWN_OFF, SECOND_DIE};
+use fibs_messages::Board;
+
+/// The player's colour: 1 for O, -1 for X.
+pub fn colour(board: &Board) -> i32
+    ensures value { result ≡ colour (fields_of board.now) }
+    ensures side { (result ≡ negsuc 0) ⊎ (result ≡ pos 1) }
+{
+    board.field(COLOUR)
+}
+
+/// The field of a place, which the player counts so as to go down.
+pub fn place_field(board: &Board, place: u8) -> usize
+    requires low { 1 ≤ place }
+    requires high { place ≤ 24 }
+    ensures value { result ≡ place_field (fields_of board.now) place }
+    ensures low { 8 ≤ result }
+    ensures high { result ≤ 31 }
+{
+    let line_place = if board.field(DIRECTION) == -1 {
+        place
+    } else {
+        25 - place
+    };
+    FIRST_PLACE + usize::from(line_place)
+}
+
+/// The checkers of a colour on a place.
+fn stand_on(board: &Board, side: i32, place: u8) -> u8
+    requires low { 1 ≤ place }
+    requires high { place ≤ 24 }
+    ensures value { result ≡ stand_on (fields_of board.now) side place }
+    ensures few { result ≤ 15 }
+{
+    let value = board.field(place_field(board, place));
+    let count = if side == 1 { value } else { -value };
+    if count > 0 { count as u8 } else { 0 }
+}
+
+/// The checkers of a colour on places 1 to 24.
+pub fn on_places(board: &Board, side: i32) -> [u8; 24]
+    ensures { result ≡ on_places (fields_of board.now) side }
+{
+    let mut counts = [0; 24];
+    for i in 0..24 {
+        counts[i] = stand_on(board, side, i as u8 + 1);
+    }
+    counts
+}
+
+/// How many checkers there are.
+pub fn total(counts: &[u8]) -> u32
+    requires { length counts.now ≤ 26 }
+    ensures value { result ≡ sum counts.now }
+    ensures small { result ≤ 255 * length counts.now }
+{
+    counts.iter().map(|count| u32::from(*count)).sum()
+}
+
+/// The player's checkers that are borne off.
+pub fn own_off(board: &Board) -> u8
+    ensures value { result ≡ own_off (fields_of board.now) }
+    ensures few { result ≤ 15 }
+{
+    board.field(OWN_OFF) as u8
+}
+
+/// The opponent's checkers that are borne off.
+pub fn other_off(board: &Board) -> u8
+    ensures value { result ≡ other_off (fields_of board.now) }
+    ensures few { result ≤ 15 }
+{
+    board.field(OTHER_OFF) as u8
+}
+
+/// The player's first die, 0 for none.
+pub fn first_die(board: &Board) -> u8
+    ensures value { result ≡ first_die (fields_of board.now) }
+    ensures high { result ≤ 6 }
+{
+    board.field(FIRST_DIE) as u8
+}
+
+/// The player's second die, 0 for none.
+pub fn second_die(board: &Board) -> u8
+    ensures value { result ≡ second_die (fields_of board.now) }
+    ensures high { result ≤ 6 }
+{
+    board.field(SECOND_DIE) as u8
+}
+
+/// The player's dice are not shown.
+pub fn no_dice(board: &Board) -> bool
+    ensures { result ≡ no_dice (fields_of board.now) }
+{
+    first_die(board) == 0 && second_die(board) == 0
+}
+
+/// The player's checkers that are not on the bar.
+pub fn own_placed(board: &Board) -> u32
+    ensures { result ≡ own_placed (fields_of board.now) }
+{
+    total(&on_places(board, colour(board))) + u32::from(own_off(board))
+}
+
+/// The opponent's checkers that are not on the bar.
+pub fn other_placed(board: &Board) -> u32
+    ensures { result ≡ other_placed (fields_of board.now) }
+{
+    total(&on_places(board, -colour(board))) + u32::from(other_off(board))
+}
+
+/// The counts of the 24 places between two others.
+pub fn lined_up(low: u8, places: [u8; 24], high: u8) -> [u8; 26]
+    ensures { result ≡ low ∷ (places ++ high ∷ []) }
+{
+    let mut line = [low; 26];
+    line[1..25].copy_from_slice(&places);
+    line[25] = high;
+    line
+}
+
+/// The checkers of both sides as the player sees them.
+pub fn arrangement_of(board: &Board) -> Arrangement
+    requires own { own_placed (fields_of board.now) ≤ 15 }
+    requires other { other_placed (fields_of board.now) ≤ 15 }
+    ensures { result ≡ own_view (fields_of board.now) }
+{
+    let own_bar = 15 - own_placed(board) as u8;
+    let other_bar = 15 - other_placed(board) as u8;
+    let own = on_places(board, colour(board));
+    let other = on_places(board, -colour(board));
+    Arrangement::of_counts(
+        lined_up(own_off(board), own, own_bar),
+        lined_up(other_bar, other, other_off(board)),
+    )
+}

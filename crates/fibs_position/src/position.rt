@@ -1,0 +1,261 @@
+ghost use Rattle.std.specs.Prelude.{◌≡◌, ◌≤◌, ◌↔◌, ◌&&◌, ℕ, IsOk, IfOk, IsTrue, Err, codes, map, slice_index};
+ghost use Rattle.fibs_messages.specs.StoredBoard.{fields_of};
+ghost use Rattle.fibs_position.specs.First.{IsFirst};
+ghost use Rattle.std.specs.Result.{result_err};
+ghost use Rattle.fibs_position.specs.OwnView.{own_view, standing_of};
+ghost use Rattle.fibs_position.specs.Runs.{IsMost};
+ghost use Rattle.fibs_position.specs.LegalPlays.{LegalPlay};
+ghost use Rattle.fibs_position.specs.PlayValue.{hops_of};
+ghost use Rattle.fibs_position.specs.PlaysOf.{ArePlays};
+ghost use Rattle.fibs_position.specs.DecisionOf.{decision_of};
+ghost use Rattle.fibs_position.specs.Allowed.{is_for, cube_allows, is_legal, allowed_of, IsAllowed, IsDisallowed};
+ghost use Rattle.fibs_position.specs.DirectionOf.{direction_of};
+ghost use Rattle.fibs_position.specs.Phases.{IsPhase, can_move, phase_of};
+ghost use Rattle.fibs_position.specs.GoodBoard.{IsGood, HasFault, faults};
+ghost use Rattle.fibs_position.specs.GoodBoardProp.{IsGood-prop};
+
+use crate::arrangement::Arrangement;
+use crate::decision::Decision;
+use crate::direction::Direction;
+use crate::disallowed::Disallowed;
+use crate::fields::{COLOUR, CUBE, DIRECTION, MAY_DOUBLE, MOST_DOUBLED, TURN, WAS_DOUBLED};
+use crate::own_view::{arrangement_of, first_die, no_dice, other_placed, own_placed, second_die};
+use crate::phase::Phase;
+use crate::play::Play;
+use crate::position_fault::PositionFault;
+use crate::turn::Turn;
+use fibs_messages::Board;
+use std::alloc::{AllocError, Global};
+
+/// A board of one who plays, seen from his own side.
+#[derive(Clone, Copy, Debug, PartialEq, Eq)]
+pub struct Position {
+    board: Board,
+    pub ghost good: { IsGood (fields_of board) } by { IsGood-prop (fields_of board) },
+}
+
+/// The board's player is one who plays himself.
+fn is_you(board: &Board) -> bool
+    ensures { IsTrue result ↔ ((fields_of board.now).player ≡ codes "You") }
+{
+    board.player().bytes() == b"You".as_slice()
+}
+
+impl Position {
+    ghost use Rattle.fibs_position.specs.PositionValue.{board_of};
+
+    /// The position of a board, or why it has none.
+    pub fn of(board: &Board) -> Result<Position, PositionFault>
+        ensures good { IsOk result ↔ IsGood (fields_of board.now) }
+        ensures same { IfOk result (λ p. board_of p ≡ fields_of board.now) }
+        ensures fault { (f : PositionFault) → (result ≡ Err f) ↔ IsFirst (HasFault (fields_of board.now)) faults f }
+    {
+        if !is_you(board) {
+            return Err(PositionFault::NotYou);
+        }
+        if own_placed(board) > 15 {
+            return Err(PositionFault::TooManyOwn);
+        }
+        if other_placed(board) > 15 {
+            return Err(PositionFault::TooManyOther);
+        }
+        Ok(Position { board: *board })
+    }
+
+    /// The checkers of both sides.
+    fn arrangement(&self) -> Arrangement
+        ensures { result ≡ own_view (board_of self.now) }
+    {
+        arrangement_of(&self.board)
+    }
+
+    /// The player's checkers on a place, counted so that he goes down: 1 to 24, or 25 for his bar, or 0 for those borne off.
+    pub fn own(&self, place: u8) -> u8
+        requires { place ≤ 25 }
+        ensures value { result ≡ slice_index (own_view (board_of self.now)).own place }
+        ensures few { result ≤ 15 }
+    {
+        self.arrangement().own(place)
+    }
+
+    /// The opponent's checkers on a place 1 to 24 of the player's numbering.
+    pub fn other(&self, place: u8) -> u8
+        requires low { 1 ≤ place }
+        requires high { place ≤ 24 }
+        ensures value { result ≡ slice_index (own_view (board_of self.now)).other place }
+        ensures few { result ≤ 15 }
+    {
+        self.arrangement().other(place)
+    }
+
+    /// The opponent's checkers on the bar.
+    pub fn other_bar(&self) -> u8
+        ensures value { result ≡ slice_index (own_view (board_of self.now)).other 0 }
+        ensures few { result ≤ 15 }
+    {
+        self.arrangement().other(0)
+    }
+
+    /// The opponent's checkers that are borne off.
+    pub fn other_off(&self) -> u8
+        ensures value { result ≡ slice_index (own_view (board_of self.now)).other 25 }
+        ensures few { result ≤ 15 }
+    {
+        self.arrangement().other(25)
+    }
+
+    /// Which way the player's checkers go by the numbers of the board line.
+    pub fn direction(&self) -> Direction
+        ensures { result ≡ direction_of (board_of self.now) }
+    {
+        if self.board.field(DIRECTION) == -1 {
+            Direction::Down
+        } else {
+            Direction::Up
+        }
+    }
+
+    /// The arrangement and the dice shown.
+    fn turn(&self) -> Turn
+        ensures { result ≡ standing_of (board_of self.now) }
+    {
+        Turn::new(
+            self.arrangement(),
+            first_die(&self.board),
+            second_die(&self.board),
+        )
+    }
+
+    /// Some die that is shown can be played.
+    fn can_move(&self) -> bool
+        ensures { result ≡ can_move (board_of self.now) }
+    {
+        self.turn().can_move()
+    }
+
+    /// The first line of the table of phases that fits.
+    fn phase_by_table(&self) -> Phase
+        ensures { result ≡ phase_of (board_of self.now) }
+    {
+        let turn = self.board.field(TURN);
+        if turn == 0 {
+            return Phase::Over;
+        }
+        if self.board.field(WAS_DOUBLED) == 1 {
+            return Phase::AnswerDouble;
+        }
+        if turn != self.board.field(COLOUR) {
+            return Phase::OpponentActs;
+        }
+        if no_dice(&self.board) {
+            return Phase::RollOrDouble;
+        }
+        if self.can_move() {
+            return Phase::Move;
+        }
+        Phase::Passing
+    }
+
+    /// Where the game stands, by the first line of this table that fits.
+    ///
+    /// | Phase | Condition | The player decides |
+    /// |---|---|---|
+    /// | `Over` | nobody has the turn | no |
+    /// | `AnswerDouble` | the opponent has just doubled | yes |
+    /// | `OpponentActs` | the turn is not the player's | no |
+    /// | `RollOrDouble` | the player's dice are not shown | yes |
+    /// | `Move` | a die shown can be played | yes |
+    /// | `Passing` | otherwise | no |
+    pub fn phase(&self) -> Phase
+        ensures value { result ≡ phase_of (board_of self.now) }
+        ensures first { IsPhase (board_of self.now) result }
+    {
+        self.phase_by_table()
+    }
+
+    /// The most dice that a run of steps can play: 0 to 4.
+    pub fn most_dice(&self) -> u8
+        ensures { IsMost (standing_of (board_of self.now)) result }
+    {
+        self.turn().most_dice()
+    }
+
+    /// The play is legal: a run of steps by the dice held than which no run is longer, and by the larger die where only
+    /// one of two different dice can be played, and the larger can. The empty play is legal where nothing can be played.
+    pub fn is_legal(&self, play: &Play) -> bool
+        ensures { IsTrue result ↔ LegalPlay (standing_of (board_of self.now)) (hops_of play.now) }
+    {
+        self.turn().is_legal(play)
+    }
+
+    /// In the phase `Move`, for each arrangement of checkers that some legal play reaches, the greatest such play (steps
+    /// compared by source, then by target), the greatest first. In every other phase none.
+    pub fn plays(&self, alloc: Global) -> Result<Vec<Play>, AllocError>
+        ensures { IfOk result (λ plays. ArePlays (board_of self.now) (map hops_of plays.items)) }
+    {
+        match self.phase() {
+            Phase::Move => self.turn().plays(alloc),
+            _ => Ok(Vec::new(alloc)),
+        }
+    }
+
+    /// The cube allows the decision: a double is offered only where the player may, and neither offered nor accepted
+    /// where the cube shows more than 524,288.
+    fn cube_allows(&self, decision: &Decision) -> bool
+        ensures { result ≡ cube_allows (board_of self.now) (decision_of decision.now) }
+    {
+        match decision {
+            Decision::Double => {
+                self.board.field(MAY_DOUBLE) != 0 && self.board.field(CUBE) <= MOST_DOUBLED
+            }
+            Decision::Accept => self.board.field(CUBE) <= MOST_DOUBLED,
+            Decision::Roll | Decision::Reject | Decision::Move(_) => true,
+        }
+    }
+
+    /// The decision is of the phase's kind, and the cube allows it.
+    fn is_right_kind(&self, phase: Phase, decision: &Decision) -> bool
+        ensures { result ≡ (is_for (decision_of decision.now) phase && cube_allows (board_of self.now) (decision_of decision.now)) }
+    {
+        decision.is_for(phase) && self.cube_allows(decision)
+    }
+
+    /// The decision is no move, or a legal one.
+    fn is_legal_move(&self, decision: &Decision) -> bool
+        ensures { result ≡ is_legal (board_of self.now) (decision_of decision.now) }
+    {
+        match decision {
+            Decision::Move(play) => self.is_legal(play),
+            Decision::Roll | Decision::Double | Decision::Accept | Decision::Reject => true,
+        }
+    }
+
+    /// The first reason against a decision.
+    fn refusal(&self, decision: &Decision) -> Option<Disallowed>
+        ensures { result ≡ allowed_of (board_of self.now) (decision_of decision.now) }
+    {
+        let phase = self.phase();
+        if !phase.is_deciding() {
+            return Some(Disallowed::NotYours);
+        }
+        if !self.is_right_kind(phase, decision) {
+            return Some(Disallowed::WrongKind);
+        }
+        if !self.is_legal_move(decision) {
+            return Some(Disallowed::IllegalPlay);
+        }
+        None
+    }
+
+    /// Whether the player may decide so, or the first reason why not.
+    pub fn allows(&self, decision: &Decision) -> Result<(), Disallowed>
+        ensures value { result_err result ≡ allowed_of (board_of self.now) (decision_of decision.now) }
+        ensures allowed { IsOk result ↔ IsAllowed (board_of self.now) (decision_of decision.now) }
+        ensures refused { (why : Disallowed) → (result ≡ Err why) ↔ IsDisallowed (board_of self.now) (decision_of decision.now) why }
+    {
+        match self.refusal(decision) {
+            None => Ok(()),
+            Some(why) => Err(why),
+        }
+    }
+}

@@ -1,0 +1,35 @@
+use crate::decision::Decision;
+use crate::play::Play;
+use crate::step::Step;
+use std::test::Fail;
+
+/// A decision of a test, a move by its steps.
+#[derive(Clone, Copy)]
+pub enum Choice {
+    Roll,
+    Double,
+    Accept,
+    Reject,
+    Move(&'static [(u8, u8)]),
+}
+
+/// The play of these steps.
+pub fn play(steps: &[(u8, u8)]) -> Result<Play, Fail> {
+    let mut play = Play::new();
+    for (source, target) in steps {
+        let _ = play.push(Step::new(*source, *target).ok_or("step")?);
+    }
+    Ok(play)
+}
+
+impl Choice {
+    pub fn decision(&self) -> Result<Decision, Fail> {
+        match self {
+            Choice::Roll => Ok(Decision::Roll),
+            Choice::Double => Ok(Decision::Double),
+            Choice::Accept => Ok(Decision::Accept),
+            Choice::Reject => Ok(Decision::Reject),
+            Choice::Move(steps) => Ok(Decision::Move(play(steps)?)),
+        }
+    }
+}

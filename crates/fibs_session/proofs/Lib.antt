@@ -1,0 +1,4 @@
+pub mod CutLemmas
+pub mod PlaceLemmas
+pub mod StepLemmas
+pub mod CommandLemmas
