@@ -71,5 +71,5 @@ escaped_unchanged text seen start (Some at) same first absent = cc
 escaped_unchanged text seen start None same first absent =
     let rest : take (length seen - start) (drop start seen) ≡ drop start seen = take_rest seen start in
     let none : position is_escaped (drop start text) ≡ None =
-        ap (λ l. position is_escaped (drop start l)) (sym same) ∙ ap (λ l. position is_escaped l) (sym rest) ∙ sym first in
+    ap (λ l. position is_escaped (drop start l)) (sym same) ∙ ap (λ l. position is_escaped l) (sym rest) ∙ sym first in
     sym (take-append-drop start text) ∙ ap (λ l. take start text ++ l) (sym (escaped_none (drop start text) none))

@@ -90,11 +90,7 @@ fn append_reading(
 }
 
 /// Appends what is printed for a line, and a line end.
-pub fn append_line(
-    alloc: Global,
-    line: &Line<'_>,
-    text: &mut Vec<u8>,
-) -> Result<(), AllocError>
+pub fn append_line(alloc: Global, line: &Line<'_>, text: &mut Vec<u8>) -> Result<(), AllocError>
     ensures { OnOk result ((shown : List ℕ) × ShownLine (value_of line.now) shown
         × (text.new.items ≡ text.old.items ++ (shown ++ (10 ∷ [])))) }
 {

@@ -156,9 +156,41 @@ fn stops_at_a_failed_write(rt: HostRuntime) {
     }
 }
 
+/// The messages of a session, and what is printed for them.
+static MESSAGES: [(&[u8], &[u8]); 9] = [
+    (
+        b"login: 1 myself 1041253132 192.168.1.308\r\n",
+        b"message 1 myself 1041253132 192.168.1.308\n",
+    ),
+    (
+        b"> 2 myself 1 1 0 0 0 0 1 1 2396 0 1 0 1 3457.85 0 0 0 0 0 Australia/Melbourne\r\n",
+        b"message 2 myself 1 1 0 0 0 0 1 1 2396 0 1 0 1 3457.85 0 0 0 0 0 Australia/Melbourne\n",
+    ),
+    (
+        b"> > 5 someplayer mgnu_advanced - 0 0 1912.15 827 8 1040515752 192.168.143.5 3DFiBs -\r\n",
+        b"message 5 someplayer mgnu_advanced - 0 0 1912.15 827 8 1040515752 192.168.143.5 3DFiBs -\n",
+    ),
+    (
+        b"5 bob - - 1 0 1500 0 3 1040515752 host - -\n",
+        b"message 5 bob - - 1 0 1500.00 0 3 1040515752 host - -\n",
+    ),
+    (b"12 bob\n", b"message 12 bob\n"),
+    (b"12 eve hi\r there\n", b"message 12 eve hi\\x0d there\n"),
+    (b"3 x\n", b"malformed 3 1 Extra\n"),
+    (b"5 bob\n", b"malformed 5 2 Missing\n"),
+    (b"20 x\n", b"text 20 x\n"),
+];
+
+#[test]
+fn shows_messages(rt: HostRuntime) {
+    for (input, wanted) in &MESSAGES {
+        assert_shown(&rt, input, wanted);
+    }
+}
+
 /// Where a growth is refused, what was written are whole lines, and another call succeeds.
 #[test]
-fn memory_may_be_refused(rt: HostRuntime) {
+fn shows_under_refused_memory(rt: HostRuntime) {
     let input = b"a\nboard:\nbcdefghijklmnopqrstuvwxyz\\\nd";
     let wanted: [&[u8]; 5] = [
         b"text a\nmalformed 0 2 BadName\ntext bcdefghijklmnopqrstuvwxyz\\x5c\nunfinished 1\n",

@@ -1,14 +1,19 @@
-//! Laws of boards and their lines.
+//! Laws of boards, messages and their lines.
 
-ghost use Rattle.std.specs.Prelude.{◌<◌, ◌≡◌, ◌↔◌, ◌⊎◌, ℕ, List, Ok, IsTrue};
+ghost use Rattle.std.specs.Prelude.{◌<◌, ◌≡◌, ◌↔◌, ◌⊎◌, ℕ, List, Ok, IsTrue, map};
 ghost use Rattle.fibs_messages.specs.Board.{BoardFields, IsBoard, BoardText, Wrong, spelling};
 ghost use Rattle.fibs_messages.specs.Bits.{HasBits};
-ghost use Rattle.fibs_messages.specs.Message.{IsMessage};
+ghost use Rattle.fibs_messages.specs.Field.{kind_of};
+ghost use Rattle.fibs_messages.specs.Line.{IsBoardLine, IsReading, ReadingValue, numbered_line};
+ghost use Rattle.fibs_messages.specs.Message.{HasNumber, IsMessage, IsNumber, IsNumbered, MessageText, MessageValue, WrongMessage, canonical, kinds_of};
+ghost use Rattle.fibs_messages.specs.ReadingOf.{reading_of};
+ghost use Rattle.fibs_messages.specs.declared.message.Message.{Message};
 ghost use Rattle.fibs_messages.specs.MessageOf.{message_of};
 ghost use Rattle.fibs_messages.specs.StoredBoard.{fields_of, read_fields};
 
 use crate::board::{Board, FieldFault};
 use crate::decimal::Fault;
+use crate::line::{Reading, read};
 use crate::message::{Message, OwnInfo, WhoInfo};
 
 /// What is printed is read again as the same board.
@@ -43,6 +48,43 @@ pub fn each_line_is_one_board_or_wrong()
     ensures not_both { (line : List ℕ) → (b : BoardFields) → (k : ℕ) → (f : Fault) → BoardText b line → Wrong line k f → ⊥ }
     ensures one_board { (line : List ℕ) → (a b : BoardFields) → BoardText a line → BoardText b line → a ≡ b }
     ensures one_fault { (line : List ℕ) → (k m : ℕ) → (f g : Fault) → Wrong line k f → Wrong line m g → (k ≡ m) × (f ≡ g) }
+{}
+
+/// A numbered line says a message or has a first wrong field, never both, and no second one of either.
+pub fn each_numbered_line_is_one_message_or_wrong()
+    ensures either { (line : List ℕ) → (n : ℕ) → HasNumber line n → ((m : MessageValue) × MessageText m line) ⊎ ((k : ℕ) × (f : Fault) × WrongMessage line n k f) }
+    ensures not_both { (line : List ℕ) → (m : MessageValue) → (n k : ℕ) → (f : Fault) → MessageText m line → WrongMessage line n k f → ⊥ }
+    ensures one_message { (line : List ℕ) → (l m : MessageValue) → MessageText l line → MessageText m line → l ≡ m }
+    ensures one_fault { (line : List ℕ) → (m n j k : ℕ) → (f g : Fault) → WrongMessage line m j f → WrongMessage line n k g → (m ≡ n) × (j ≡ k) × (f ≡ g) }
+{}
+
+/// A line that says a message is a numbered line, and no board line is one.
+pub fn board_lines_are_not_numbered()
+    ensures messages { (line : List ℕ) → (m : MessageValue) → MessageText m line → HasNumber line m.number }
+    ensures boards { (line : List ℕ) → IsBoardLine line → ¬ IsNumbered line }
+{}
+
+/// A line has one reading.
+pub fn each_line_has_one_reading()
+    ensures { (line : List ℕ) → (v w : ReadingValue) → IsReading line v → IsReading line w → v ≡ w }
+{}
+
+/// The canonical line of a message says it, and messages with one canonical line are one.
+pub fn canonical_lines_say_messages()
+    ensures says { (m : MessageValue) → IsMessage m → MessageText m (canonical m) }
+    ensures tells { (l m : MessageValue) → IsMessage l → IsMessage m → canonical l ≡ canonical m → l ≡ m }
+{}
+
+/// The canonical line of a message is read as that message.
+pub fn canonical_lines_read_back(line: &[u8]) -> Reading<'_>
+    ensures { (m : MessageValue) → IsMessage m → line.now ≡ canonical m → reading_of result ≡ numbered_line m }
+{
+    read(line)
+}
+
+/// The number and the fields of each message are those of one row of the table.
+pub fn messages_are_rows_of_the_table()
+    ensures { (m : Message) → IsNumber (message_of m).number × (map kind_of (message_of m).fields ≡ kinds_of (message_of m).number) }
 {}
 
 fn own_info_has_bits(info: &OwnInfo<'_>)

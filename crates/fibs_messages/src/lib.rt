@@ -7,6 +7,8 @@ mod fields;
 pub mod laws;
 mod line;
 mod message;
+#[cfg(test)]
+mod message_tests;
 mod name;
 mod number;
 mod numerals;

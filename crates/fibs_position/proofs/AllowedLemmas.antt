@@ -1,14 +1,12 @@
 -- The tests of a decision tell its rules.
-use Rattle.std.proofs.Common.{◌≡◌, ℕ, ◌⊎◌, inl, inr, Bool, true, false, Some, None, Option, cond, refl, sym, ap, ◌∙◌}
-use Rattle.std.specs.Prelude.{ℤ, pos, ◌↔◌, ◌&&◌, not, int_le, find, ◌∷◌, []}
+use Rattle.std.proofs.Common.{◌≡◌, ◌⊎◌, inl, inr, Bool, true, false, Some, None, cond, refl, ap, ◌∙◌}
+use Rattle.std.specs.Prelude.{pos, ◌↔◌, ◌&&◌, not, int_le}
 use Rattle.std.specs.Bool.{Decides}
 use Rattle.std.specs.Ordering.{int_eq}
 use Rattle.std.proofs.lemmas.Bool.{false≢true}
-use Rattle.std.proofs.lemmas.Bool.Decides.{Decides-and, Decides-not, Decides-int_eq, not_from_Decides}
+use Rattle.std.proofs.lemmas.Bool.Decides.{Decides-and, Decides-not, Decides-int_eq}
 use Rattle.fibs_messages.specs.Board.{BoardFields, IsBoard, field_of}
 use Rattle.fibs_position.specs.OwnView.{standing_of}
-use Rattle.fibs_position.specs.LegalPlays.{LegalPlay}
-use Rattle.fibs_position.specs.Search.{legal_of}
 use Rattle.fibs_position.specs.DecisionValue.{DecisionValue, roll, double, accept, reject, move}
 use Rattle.fibs_position.specs.Phases.{IsPhase, decides, phase_of}
 use Rattle.fibs_position.specs.Allowed.{UserDecides, phase_for, CubeAllows, IsRightKind, IsLegal, Forbids, reasons, IsDisallowed, IsAllowed, is_for, cube_allows, is_legal, forbids, allowed_of}

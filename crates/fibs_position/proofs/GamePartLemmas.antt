@@ -1,5 +1,5 @@
 -- The game part, group by group.
-use Rattle.std.proofs.Common.{◌≡◌, ℕ, ◌+◌, ◌++◌, List, take, drop, sym, ap, ◌∙◌}
+use Rattle.std.proofs.Common.{◌≡◌, ℕ, ◌++◌, List, take, drop, ap, ◌∙◌}
 use Rattle.std.specs.Prelude.{ℤ, map}
 use Rattle.fibs_messages.specs.Board.{BoardFields, field_of}
 use Rattle.fibs_position.specs.GamePart.{GamePart, Agree, from_to, game_fields, game_part}

@@ -1,6 +1,6 @@
 -- The laws over positions and their boards.
-use Rattle.std.proofs.Common.{◌≡◌, ◌≢◌, ℕ, ◌+◌, ◌-◌, ◌<◌, ◌≤◌, ◌⊎◌, inl, inr, Bool, true, false, cond, List, [], ◌∷◌, Some, None, refl, sym, ap, ◌∙◌, arith, lit≤}
-use Rattle.std.specs.Prelude.{ℤ, pos, negsuc, neg_ℤ, ◌+ℤ◌, ◌↔◌, ◌≤ℤ◌, ◌==◌, slice_index, if◌then◌else◌}
+use Rattle.std.proofs.Common.{◌≡◌, ◌≢◌, ℕ, ◌≤◌, ◌⊎◌, inl, inr, Bool, true, false, cond, List, [], ◌∷◌, refl, sym, ap, ◌∙◌, arith, lit≤}
+use Rattle.std.specs.Prelude.{ℤ, pos, neg_ℤ, ◌+ℤ◌, ◌≤ℤ◌, ◌==◌, slice_index}
 use Rattle.std.specs.Ordering.{int_eq}
 use Rattle.std.proofs.lemmas.Int.{ints}
 use Rattle.std.proofs.lemmas.Bool.Decides.{Decides-int_eq}
@@ -9,15 +9,11 @@ use Rattle.fibs_messages.proofs.Places.{flag_exact, can_have_by, cube_exact}
 use Rattle.fibs_messages.proofs.Steps.{fit_at}
 use Rattle.fibs_messages.proofs.Table.{table_long}
 use Rattle.fibs_position.specs.First.{IsFirst}
-use Rattle.fibs_position.specs.OwnView.{turn, colour, first_die, second_die, natural, NoDice, own_view, standing_of}
-use Rattle.fibs_position.specs.GoodBoard.{IsGood}
-use Rattle.fibs_position.specs.GamePart.{Differ, Agree, game_part}
-use Rattle.fibs_position.specs.Effect.{LaxRun}
-use Rattle.fibs_position.specs.Checkers.{Checkers}
-use Rattle.fibs_position.specs.DecisionValue.{DecisionValue, roll, double, accept, reject, move}
-use Rattle.fibs_position.specs.Phases.{PhaseFits, phases, IsPhase, decides, phase_of}
-use Rattle.fibs_position.specs.Allowed.{IsAllowed, IsDisallowed, allowed_of}
-use Rattle.fibs_position.specs.BoardEffect.{set_fields, AreThrown, HasTurn, BeforeRoll, BeforeMove, IsDoubled, rolled, doubled, accepted, rejected, after_move, Carries, Effect}
+use Rattle.fibs_position.specs.OwnView.{turn, colour, natural, standing_of}
+use Rattle.fibs_position.specs.GamePart.{Differ}
+use Rattle.fibs_position.specs.DecisionValue.{roll, double, accept, reject, move}
+use Rattle.fibs_position.specs.Phases.{PhaseFits, IsPhase}
+use Rattle.fibs_position.specs.BoardEffect.{HasTurn, BeforeRoll, BeforeMove, IsDoubled, rolled, doubled, accepted, rejected, after_move}
 use Rattle.fibs_position.specs.Laws.{PhaseIsExact, AllowedIsExact, EffectIsExact, AllowedIsTheUsers, AllowedIsCarriedOut, EffectIsGood}
 use Rattle.fibs_position.specs.declared.phase.Phase.{Phase}
 use Rattle.fibs_position.specs.declared.phase.Phase.TheVariants.{Over, AnswerDouble, OpponentActs, RollOrDouble, Move, Passing}
@@ -28,9 +24,9 @@ use Rattle.fibs_position.proofs.SetLemmas.{may_turn, may_show, may_cube}
 use Rattle.fibs_position.proofs.TableLemmas.{effect_exact}
 use Rattle.fibs_position.proofs.PhaseExact.{phase_exact}
 use Rattle.fibs_position.proofs.AllowedLemmas.{allowed_exact, disallowed_exact, user_decides}
-use Rattle.fibs_position.proofs.ChangeLemmas.{field_after, changed}
+use Rattle.fibs_position.proofs.ChangeLemmas.{field_after}
 use Rattle.fibs_position.proofs.ViewAfterLemmas.{good_after}
-use Rattle.fibs_position.proofs.MovedLemmas.{two_sides, last_says, moved_beside, good_moved}
+use Rattle.fibs_position.proofs.MovedLemmas.{two_sides, moved_beside, good_moved}
 
 pub phase_is : PhaseIsExact
 phase_is b phase good = phase_exact b phase good.board

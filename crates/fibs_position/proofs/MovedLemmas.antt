@@ -4,7 +4,7 @@ use Rattle.std.specs.Prelude.{ℤ, pos, negsuc, neg_ℤ, ◌≤ℤ◌, ◌-ℤ�
 use Rattle.std.specs.Ordering.{int_eq}
 use Rattle.std.specs.List.{range_with_len}
 use Rattle.std.proofs.lemmas.Int.{ints}
-use Rattle.std.proofs.lemmas.Bool.{cases_eq, cases_lt}
+use Rattle.std.proofs.lemmas.Bool.{cases_eq}
 use Rattle.std.proofs.lemmas.Bool.Decides.{nat_tests}
 use Rattle.std.proofs.lemmas.List.{get_or_append_left}
 use Rattle.std.proofs.lemmas.List.FromFn.{get_or-map-range_with_len, length-map-range_with_len}
@@ -13,15 +13,15 @@ use Rattle.fibs_messages.proofs.Places.{side_exact, can_have_by}
 use Rattle.fibs_messages.proofs.Steps.{fit_at}
 use Rattle.fibs_messages.proofs.Table.{table_long}
 use Rattle.fibs_position.specs.Hop.{Hop}
-use Rattle.fibs_position.specs.Checkers.{Checkers, moved, shifted, hit}
-use Rattle.fibs_position.specs.Effect.{LaxOne, LaxRun}
-use Rattle.fibs_position.specs.OwnView.{colour, goes_down, place_field, checkers_of, stand_on, places, on_places, own_on_places, other_on_places, own_placed, other_placed, own_off, other_off, own_view, natural}
+use Rattle.fibs_position.specs.Checkers.{Checkers, shifted, hit}
+use Rattle.fibs_position.specs.Effect.{LaxRun}
+use Rattle.fibs_position.specs.OwnView.{colour, goes_down, place_field, checkers_of, stand_on, on_places, own_on_places, other_on_places, own_placed, other_placed, own_off, other_off, own_view, natural}
 use Rattle.fibs_position.specs.GoodBoard.{IsGood}
-use Rattle.fibs_position.specs.BoardEffect.{set_fields, value_of, place_says, placed, after_move}
+use Rattle.fibs_position.specs.BoardEffect.{value_of, place_says, placed, after_move}
 use Rattle.fibs_position.proofs.CountLemmas.{count_le, shifted_le, hit_le, hit_place, range_le, places_le}
 use Rattle.fibs_position.proofs.SetLemmas.{may_turn, may_stand, may_off, places_are}
 use Rattle.fibs_position.proofs.ViewLemmas.{line_sum}
-use Rattle.fibs_position.proofs.ChangeLemmas.{AllMay, board_after, player_after, may_append, may_range, field_after, changed, changed_append, between, unchanged_below, unchanged_above}
+use Rattle.fibs_position.proofs.ChangeLemmas.{AllMay, board_after, player_after, may_append, may_range, field_after, changed, changed_append, unchanged_below}
 use Rattle.fibs_position.proofs.ViewAfterLemmas.{map_range_same, field_low, field_high, same_place_field}
 
 -- the player's colour is one of two

@@ -1,10 +1,9 @@
 -- The lines of the table of phases, one after another.
-use Rattle.std.proofs.Common.{◌≡◌, ◌≢◌, arith, Bool, true, false, refl, not}
-use Rattle.std.specs.Prelude.{ℤ, pos}
+use Rattle.std.proofs.Common.{◌≡◌, ◌≢◌, arith, true, false, refl}
+use Rattle.std.specs.Prelude.{ℤ}
 use Rattle.std.specs.Ordering.{int_eq}
 use Rattle.std.proofs.lemmas.Bool.Decides.{nat_tests}
-use Rattle.fibs_messages.specs.Board.{BoardFields, field_of}
-use Rattle.fibs_position.specs.OwnView.{turn, colour}
+use Rattle.fibs_messages.specs.Board.{BoardFields}
 use Rattle.fibs_position.specs.Phases.{phase_of, phase_fits}
 use Rattle.fibs_position.specs.declared.phase.Phase.TheVariants.{Over, AnswerDouble, OpponentActs, RollOrDouble, Move, Passing}
 

@@ -1,10 +1,9 @@
 -- Numbers that fields may have, and boards with several fields changed.
-use Rattle.std.proofs.Common.{◌≡◌, ℕ, ◌≤◌, ◌+◌, ◌-◌, List, [], ◌∷◌, ◌++◌, true, inl, inr, ◌⊎◌, lit≤, refl, sym, ap, ◌∙◌, arith}
+use Rattle.std.proofs.Common.{◌≡◌, ℕ, ◌≤◌, ◌+◌, ◌-◌, List, [], ◌∷◌, ◌++◌, true, lit≤, refl, sym, ap, ◌∙◌, arith}
 use Rattle.std.specs.Prelude.{ℤ, pos, negsuc, ◌≤ℤ◌, map}
 use Rattle.std.specs.List.{range_with_len}
-use Rattle.std.proofs.lemmas.Int.{ints}
 use Rattle.std.proofs.lemmas.List.FromFn.{map-range_with_len_more}
-use Rattle.fibs_messages.specs.Board.{BoardFields, can_have, field_values}
+use Rattle.fibs_messages.specs.Board.{BoardFields, can_have}
 use Rattle.fibs_messages.proofs.Places.{dice_exact, turn_exact, cube_exact, place_exact, off_exact}
 use Rattle.fibs_position.specs.OwnView.{places}
 use Rattle.fibs_position.specs.BoardEffect.{set_field, set_fields}

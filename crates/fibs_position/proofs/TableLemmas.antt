@@ -1,5 +1,5 @@
 -- The tests of the table of decisions tell its conditions.
-use Rattle.std.proofs.Common.{◌≡◌, ℕ, ◌≤◌, ◌<◌, Bool, true, false, cond, List, Option, Some, None, refl, sym, ap, ◌∙◌, arith}
+use Rattle.std.proofs.Common.{◌≡◌, ℕ, ◌≤◌, Bool, true, false, cond, List, Option, Some, None, refl, sym, ap, ◌∙◌, arith}
 use Rattle.std.specs.Prelude.{ℤ, pos, ◌↔◌, ◌&&◌, ◌≤ℤ◌, not, int_le, nat_le, nat_lt, codes, slice_index, option_map}
 use Rattle.std.specs.Bool.{Decides}
 use Rattle.std.specs.Str.{bytes_eq}
@@ -11,8 +11,6 @@ use Rattle.std.proofs.lemmas.Slice.Eq.{bytes_eq-Decides}
 use Rattle.fibs_messages.specs.Board.{BoardFields, IsBoard, field_of}
 use Rattle.fibs_position.specs.OwnView.{turn, colour, first_die, second_die, NoDice, no_dice, own_view, own_placed, other_placed}
 use Rattle.fibs_position.specs.GoodBoard.{IsGood}
-use Rattle.fibs_position.specs.Checkers.{Checkers}
-use Rattle.fibs_position.specs.Effect.{LaxRun}
 use Rattle.fibs_position.specs.Search.{lax_of}
 use Rattle.fibs_position.specs.DecisionValue.{DecisionValue, roll, double, accept, reject, move}
 use Rattle.fibs_position.specs.BoardEffect.{IsDie, AreThrown, HasTurn, BeforeRoll, BeforeMove, IsDoubled, rolled, doubled, accepted, rejected, after_move, Carries, Effect}

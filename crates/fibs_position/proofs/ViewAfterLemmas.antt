@@ -1,10 +1,10 @@
 -- The view of a board after changes.
-use Rattle.std.proofs.Common.{◌≡◌, ℕ, zero, suc, ◌+◌, ◌-◌, ◌<◌, ◌≤◌, ◌≢◌, Bool, true, false, cond, List, [], ◌∷◌, sum, refl, sym, ap, ◌∙◌, arith}
+use Rattle.std.proofs.Common.{◌≡◌, ℕ, zero, suc, ◌+◌, ◌-◌, ◌<◌, ◌≤◌, true, false, cond, List, sum, refl, sym, ap, ◌∙◌, arith}
 use Rattle.std.specs.Prelude.{ℤ, pos, neg_ℤ, map}
 use Rattle.std.specs.Ordering.{int_eq}
 use Rattle.std.specs.List.{range_with_len}
-use Rattle.fibs_messages.specs.Board.{BoardFields, IsBoard, field_of}
-use Rattle.fibs_position.specs.OwnView.{colour, goes_down, line_place, place_field, checkers_of, stand_on, places, on_places, own_placed, other_placed, own_off, other_off, natural}
+use Rattle.fibs_messages.specs.Board.{BoardFields, field_of}
+use Rattle.fibs_position.specs.OwnView.{colour, goes_down, place_field, checkers_of, stand_on, on_places, own_placed, other_placed, own_off, other_off, natural}
 use Rattle.fibs_position.specs.GoodBoard.{IsGood}
 use Rattle.fibs_position.specs.BoardEffect.{set_fields}
 use Rattle.fibs_position.proofs.SetLemmas.{places_are}

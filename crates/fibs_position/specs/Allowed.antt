@@ -1,5 +1,5 @@
 -- Which decisions a user may make (the standard rules of backgammon; FIBS board style 3).
-use Rattle.std.specs.Prelude.{◌≡◌, ◌≢◌, ◌⊎◌, ◌≤ℤ◌, ◌&&◌, ◌==◌, not, ℕ, pos, Bool, true, false, List, [], ◌∷◌, Option, find, int_le}
+use Rattle.std.specs.Prelude.{◌≢◌, ◌⊎◌, ◌≤ℤ◌, ◌&&◌, not, pos, Bool, true, false, List, [], ◌∷◌, Option, find, int_le}
 use Rattle.std.specs.Ordering.{int_eq}
 use Rattle.fibs_messages.specs.Board.{BoardFields, field_of}
 use Rattle.fibs_position.specs.First.{IsFirst}
@@ -9,7 +9,7 @@ use Rattle.fibs_position.specs.Search.{legal_of}
 use Rattle.fibs_position.specs.DecisionValue.{DecisionValue, roll, double, accept, reject, move}
 use Rattle.fibs_position.specs.Phases.{IsPhase, decides, phase_of}
 use Rattle.fibs_position.specs.declared.phase.Phase.{Phase}
-use Rattle.fibs_position.specs.declared.phase.Phase.TheVariants.{Over, AnswerDouble, OpponentActs, RollOrDouble, Move, Passing}
+use Rattle.fibs_position.specs.declared.phase.Phase.TheVariants.{AnswerDouble, RollOrDouble, Move}
 use Rattle.fibs_position.specs.declared.disallowed.Disallowed.{Disallowed}
 use Rattle.fibs_position.specs.declared.disallowed.Disallowed.TheVariants.{NotYours, WrongKind, IllegalPlay}
 

@@ -1,5 +1,5 @@
 -- The phases of a turn (the standard rules of backgammon; FIBS board style 3).
-use Rattle.std.specs.Prelude.{◌≡◌, ◌≢◌, ◌<◌, ◌&&◌, ◌||◌, not, ℕ, Bool, true, false, List, [], ◌∷◌, length, pos, nat_lt, ◌==◌, find, unwrap_or}
+use Rattle.std.specs.Prelude.{◌≡◌, ◌≢◌, ◌||◌, not, Bool, true, false, List, [], ◌∷◌, pos, find, unwrap_or}
 use Rattle.std.specs.Ordering.{int_eq}
 use Rattle.fibs_messages.specs.Board.{BoardFields, field_of}
 use Rattle.fibs_position.specs.First.{IsFirst}

@@ -89,8 +89,7 @@ fn rolled(board: Board, dice: [u8; 2]) -> Board
 fn doubled(board: Board) -> Board
     ensures { fields_of result ≡ doubled (fields_of board) }
 {
-    let turn = -colour(&board);
-    set(board, TURN, turn)
+    set(board, TURN, -colour(&board))
 }
 
 /// The cube shows twice as much, the player alone may double next, and the opponent goes on.

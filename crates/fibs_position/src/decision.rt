@@ -4,7 +4,7 @@ use crate::phase::Phase;
 use crate::play::Play;
 
 /// What a player may decide.
-#[derive(Clone, Copy)]
+#[derive(Clone, Copy, Debug, PartialEq, Eq)]
 pub enum Decision {
     /// To roll the dice.
     Roll,

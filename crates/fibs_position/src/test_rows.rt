@@ -383,3 +383,18 @@ fn boards_differ_in_the_opponent(rt: HostRuntime) -> Result<(), Fail> {
     assert!(rt; !differs(&first, &player), "the player");
     Ok(())
 }
+
+/// Where a growth is refused, the next call gives the list.
+#[test]
+fn lists_plays_under_refused_memory(rt: HostRuntime) -> Result<(), Fail> {
+    let board = board(
+        b"board:You:bob:5:0:0:0:0:0:0:1:0:0:0:1:0:0:0:0:0:0:0:0:0:0:0:0:0:0:0:-2:0:1:2:1:0:0:1:1:1:0:1:-1:0:25:13:13:0:0:2:0:0:0",
+    )?;
+    let position = Position::of(&board).ok().ok_or("no position")?;
+    let plays = match position.plays(rt.alloc()) {
+        Ok(plays) => plays,
+        Err(_) => position.plays(rt.alloc())?,
+    };
+    assert_eq!(rt; plays.len(), 4);
+    Ok(())
+}

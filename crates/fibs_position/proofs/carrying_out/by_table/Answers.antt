@@ -1,11 +1,9 @@
-use Rattle.std.proofs.Common.{◌≡◌, sym, ap, ◌∙◌}
-use Rattle.std.specs.Prelude.{List, ℕ}
+use Rattle.std.proofs.Common.{sym, ap, ◌∙◌}
 use Rattle.fibs_messages.specs.StoredBoard.{fields_of}
-use Rattle.fibs_messages.specs.Board.{BoardFields}
 use Rattle.fibs_position.specs.PlayValue.{hops_of}
-use Rattle.fibs_position.specs.DecisionValue.{DecisionValue, roll, double, accept, reject, move}
+use Rattle.fibs_position.specs.DecisionValue.{roll, double, accept, reject, move}
 use Rattle.fibs_position.specs.DecisionOf.{decision_of}
-use Rattle.fibs_position.specs.EffectOf.{effect_of, carried}
+use Rattle.fibs_position.specs.EffectOf.{effect_of}
 use Rattle.fibs_position.proofs.TableLemmas.{effect_good, effect_bad}
 use Rattle.fibs_position.proofs.carrying_out.by_table.Goals as goal
 

@@ -1,8 +1,7 @@
 use Rattle.std.proofs.Common.{◌≡◌, refl, sym, ap, ◌∙◌}
-use Rattle.std.specs.Prelude.{Err, Some, None}
+use Rattle.std.specs.Prelude.{Err, Some}
 use Rattle.fibs_position.specs.PositionValue.{board_of}
 use Rattle.fibs_position.specs.DecisionOf.{decision_of}
-use Rattle.fibs_position.specs.Allowed.{allowed_of}
 use Rattle.fibs_position.proofs.AllowedLemmas.{allowed_exact, disallowed_exact}
 use Rattle.fibs_position.proofs.position.Position.allows.Goals as goal
 

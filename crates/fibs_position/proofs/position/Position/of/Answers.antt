@@ -1,9 +1,7 @@
-use Rattle.std.proofs.Common.{arith, ◌≡◌, ◌<◌, ◌≤◌, [], ◌∷◌, sym, ◌∙◌}
-use Rattle.std.specs.Prelude.{IsTrue, codes}
+use Rattle.std.proofs.Common.{arith, ◌<◌, ◌≤◌, [], ◌∷◌, sym, ◌∙◌}
 use Rattle.fibs_messages.specs.StoredBoard.{fields_of}
 use Rattle.fibs_position.specs.GoodBoard.{HasFault}
 use Rattle.fibs_position.specs.OwnView.{own_placed, other_placed}
-use Rattle.fibs_position.specs.declared.position_fault.PositionFault.{PositionFault}
 use Rattle.fibs_position.specs.declared.position_fault.PositionFault.TheVariants.{NotYou, TooManyOwn, TooManyOther}
 use Rattle.fibs_position.proofs.FirstLemmas.{err_first, skip_first}
 use Rattle.fibs_position.proofs.position.Position.of.Goals as goal

@@ -1,12 +1,11 @@
-use Rattle.std.proofs.Common.{arith, sym, ◌∙◌, ◌≡◌, ◌≢◌, true, false, not, ap}
+use Rattle.std.proofs.Common.{arith, sym, ◌∙◌, ◌≡◌, ◌≢◌, false, not, ap}
 use Rattle.std.specs.Prelude.{pos}
-use Rattle.std.specs.Ordering.{int_eq}
 use Rattle.std.proofs.lemmas.Int.{ints}
 use Rattle.fibs_messages.specs.Board.{field_of}
 use Rattle.fibs_position.specs.PositionValue.{board_of}
 use Rattle.fibs_position.specs.OwnView.{turn, colour}
-use Rattle.fibs_position.specs.Phases.{phase_of, phase_fits}
-use Rattle.fibs_position.specs.declared.phase.Phase.TheVariants.{Over, AnswerDouble, OpponentActs, RollOrDouble, Move, Passing}
+use Rattle.fibs_position.specs.Phases.{phase_fits}
+use Rattle.fibs_position.specs.declared.phase.Phase.TheVariants.{Over, AnswerDouble, OpponentActs}
 use Rattle.fibs_position.proofs.PhaseLemmas.{same_int, other_int, phase_over, phase_answer, phase_opponent, phase_roll, phase_move, phase_passing}
 use Rattle.fibs_position.proofs.position.Position.phase_by_table.Goals as goal
 use Rattle.fibs_position.proofs.position.Position.phase_by_table.Goals.{Else-turn-eq0, Else-field-eq1, Else-turn-field}
