@@ -5,6 +5,9 @@
 # make clean      removes what the other targets made
 
 PREFIX ?= /usr/local
+MEGABYTES ?= 50
+ROUNDS ?= 5
+PEER ?=
 BUILT := crates/fibs_cli/out/fibs_cli
 
 .PHONY: all test install bench clean
@@ -22,7 +25,9 @@ install: all
 	install -m 755 bin/fibs $(DESTDIR)$(PREFIX)/bin/fibs
 
 bench: all
-	bench/run bin/fibs
+	cd crates/fibs_bench && rt run > /dev/null < /dev/null
+	PEER=$(PEER) bench/show bin/fibs $(MEGABYTES) $(ROUNDS)
+	bench/loops crates/fibs_bench/out/fibs_bench $(MEGABYTES) $(ROUNDS)
 
 clean:
-	rm -rf bin bench/work crates/*/out
+	rm -rf bin crates/*/out
