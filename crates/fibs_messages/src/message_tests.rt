@@ -24,77 +24,84 @@ fn fault_of(line: &[u8]) -> Option<(u8, usize, Fault)> {
     }
 }
 
+/// Lines of messages, and what is printed for them where that is another line.
+static PRINTED: [(&[u8], &[u8]); 30] = [
+    // Lines of the CLIP specification, which are printed as they came.
+    (b"1 myself 1041253132 192.168.1.308", b""),
+    (
+        b"2 myself 1 1 0 0 0 0 1 1 2396 0 1 0 1 3457.85 0 0 0 0 0 Australia/Melbourne",
+        b"",
+    ),
+    (b"3", b""),
+    (b"4", b""),
+    (
+        b"5 someplayer mgnu_advanced - 0 0 1912.15 827 8 1040515752 192.168.143.5 3DFiBs -",
+        b"",
+    ),
+    (b"6", b""),
+    (b"7 someplayer someplayer logs in.", b""),
+    (b"8 someplayer someplayer drops connection.", b""),
+    (
+        b"9 someplayer 1041253132 I'll log in at 10pm if you want to finish that game.",
+        b"",
+    ),
+    (b"10 someplayer", b""),
+    (b"11 someplayer", b""),
+    (b"12 someplayer Do you want to play a game?", b""),
+    (b"13 someplayer Anybody for a 5 point match?", b""),
+    (b"14 someplayer I think he is using loaded dice  :-)", b""),
+    (
+        b"15 someplayer G'Day and good luck from Hobart, Australia.",
+        b"",
+    ),
+    (
+        b"16 someplayer What's this \"G'Day\" stuff you hick?  :-)",
+        b"",
+    ),
+    (b"17 Watch out for someplayer.  He's a Tasmanian.", b""),
+    (b"18 Hello and hope you enjoy watching this game.", b""),
+    (b"19 Are you sure those dice aren't loaded?", b""),
+    // Other spellings.
+    (
+        b"5 bob - - 1 0 1500 0 3 1040515752 host - -",
+        b"5 bob - - 1 0 1500.00 0 3 1040515752 host - -",
+    ),
+    (
+        b"5 bob - - 1 0 0.5 0 3 1040515752 host -  a b  ",
+        b"5 bob - - 1 0 0.50 0 3 1040515752 host -  a b",
+    ),
+    (
+        b"5 bob - - 1 0 42949672.95 18446744073709551615 3 0 host - -",
+        b"",
+    ),
+    (b"1 bob 5 host  ", b"1 bob 5 host"),
+    (b"3   ", b"3"),
+    (b"12 bob", b""),
+    (b"12 bob ", b"12 bob"),
+    (b"12 bob  x ", b""),
+    (b"9 bob 0", b""),
+    (b"17", b""),
+    (b"17 ", b"17"),
+];
+
+/// Whether the line is a message that is printed so.
+fn is_printed_as(alloc: Global, line: &[u8], canonical: &[u8]) -> Result<bool, AllocError> {
+    let wanted = if canonical.is_empty() {
+        line
+    } else {
+        canonical
+    };
+    match printed(alloc, line)? {
+        Some(out) => Ok(out.as_slice() == wanted),
+        None => Ok(false),
+    }
+}
+
 #[test]
 fn reads_messages_and_prints_them(rt: HostRuntime) -> Result<(), Fail> {
-    let cases = [
-        // Lines of the CLIP specification, which are printed as they came.
-        ("1 myself 1041253132 192.168.1.308", ""),
-        (
-            "2 myself 1 1 0 0 0 0 1 1 2396 0 1 0 1 3457.85 0 0 0 0 0 Australia/Melbourne",
-            "",
-        ),
-        ("3", ""),
-        ("4", ""),
-        (
-            "5 someplayer mgnu_advanced - 0 0 1912.15 827 8 1040515752 192.168.143.5 3DFiBs -",
-            "",
-        ),
-        ("6", ""),
-        ("7 someplayer someplayer logs in.", ""),
-        ("8 someplayer someplayer drops connection.", ""),
-        (
-            "9 someplayer 1041253132 I'll log in at 10pm if you want to finish that game.",
-            "",
-        ),
-        ("10 someplayer", ""),
-        ("11 someplayer", ""),
-        ("12 someplayer Do you want to play a game?", ""),
-        ("13 someplayer Anybody for a 5 point match?", ""),
-        ("14 someplayer I think he is using loaded dice  :-)", ""),
-        (
-            "15 someplayer G'Day and good luck from Hobart, Australia.",
-            "",
-        ),
-        (
-            "16 someplayer What's this \"G'Day\" stuff you hick?  :-)",
-            "",
-        ),
-        ("17 Watch out for someplayer.  He's a Tasmanian.", ""),
-        ("18 Hello and hope you enjoy watching this game.", ""),
-        ("19 Are you sure those dice aren't loaded?", ""),
-        // Other spellings.
-        (
-            "5 bob - - 1 0 1500 0 3 1040515752 host - -",
-            "5 bob - - 1 0 1500.00 0 3 1040515752 host - -",
-        ),
-        (
-            "5 bob - - 1 0 0.5 0 3 1040515752 host -  a b  ",
-            "5 bob - - 1 0 0.50 0 3 1040515752 host -  a b",
-        ),
-        (
-            "5 bob - - 1 0 42949672.95 18446744073709551615 3 0 host - -",
-            "",
-        ),
-        ("1 bob 5 host  ", "1 bob 5 host"),
-        ("3   ", "3"),
-        ("12 bob", ""),
-        ("12 bob ", "12 bob"),
-        ("12 bob  x ", ""),
-        ("9 bob 0", ""),
-        ("17", ""),
-        ("17 ", "17"),
-    ];
-    for (line, canonical) in cases {
-        let wanted = if canonical.is_empty() {
-            line
-        } else {
-            canonical
-        };
-        let Some(out) = printed(rt.alloc(), line.as_bytes())? else {
-            assert!(rt; false, "{line} is a message");
-            return Ok(());
-        };
-        assert_eq!(rt; out.as_slice(), wanted.as_bytes(), "{line}");
+    for (line, canonical) in &PRINTED {
+        let is_right = is_printed_as(rt.alloc(), line, canonical)?;
+        assert!(rt; is_right, "{line:?}");
     }
     Ok(())
 }
@@ -112,100 +119,115 @@ fn ratings_are_hundredths(rt: HostRuntime) {
     }
 }
 
+/// Lines with a wrong field: the number, the field and what is wrong with it.
+static WRONG: [(&[u8], u8, usize, Fault); 26] = [
+    (b"5 bob", 5, 2, Fault::Missing),
+    (b"1 bob 5 ", 1, 3, Fault::Missing),
+    (
+        b"5 bob - - 1 0 1500 0 3 1040515752 host - ",
+        5,
+        12,
+        Fault::Missing,
+    ),
+    (b"9 bob", 9, 2, Fault::Missing),
+    (b"9 bob ", 9, 2, Fault::NotANumber),
+    (b"12", 12, 1, Fault::Missing),
+    (b"12 ", 12, 1, Fault::BadName),
+    (b"3 x", 3, 1, Fault::Extra),
+    (b"10 bob x y", 10, 2, Fault::Extra),
+    (b"1 bob 5 host x", 1, 4, Fault::Extra),
+    (b"1 bob  host", 1, 2, Fault::NotANumber),
+    (b"1 b:b x host", 1, 1, Fault::BadName),
+    (b"1 bob -5 host", 1, 2, Fault::OutOfRange),
+    (b"1 bob -0 host", 1, 2, Fault::NotANumber),
+    (b"1 bob 05 host", 1, 2, Fault::NotANumber),
+    (b"1 bob 18446744073709551616 host", 1, 2, Fault::OutOfRange),
+    (
+        b"1 bob 123456789012345678901234567890 x",
+        1,
+        2,
+        Fault::OutOfRange,
+    ),
+    (
+        b"5 bob - - 2 0 1500 0 3 0 host - -",
+        5,
+        4,
+        Fault::OutOfRange,
+    ),
+    (
+        b"5 bob - - -5 0 1500 0 3 0 host - -",
+        5,
+        4,
+        Fault::OutOfRange,
+    ),
+    (
+        b"5 bob - - x 0 1500 0 3 0 host - -",
+        5,
+        4,
+        Fault::NotANumber,
+    ),
+    (b"5 bob - - 1 0 -5 0 3 0 host - -", 5, 6, Fault::NotANumber),
+    (
+        b"5 bob - - 1 0 1500. 0 3 0 host - -",
+        5,
+        6,
+        Fault::NotANumber,
+    ),
+    (
+        b"5 bob - - 1 0 1500.123 0 3 0 host - -",
+        5,
+        6,
+        Fault::NotANumber,
+    ),
+    (
+        b"5 bob - - 1 0 42949672.96 0 3 0 host - -",
+        5,
+        6,
+        Fault::OutOfRange,
+    ),
+    (
+        b"5 bob - - 1 0 99999999999999999999.5 0 3 0 host - -",
+        5,
+        6,
+        Fault::OutOfRange,
+    ),
+    (b"5 bob - - 1 0 1500 0 3 0  - -", 5, 10, Fault::BadName),
+];
+
 #[test]
 fn names_the_leftmost_wrong_field(rt: HostRuntime) {
-    let cases = [
-        ("5 bob", 5, 2, Fault::Missing),
-        ("1 bob 5 ", 1, 3, Fault::Missing),
-        (
-            "5 bob - - 1 0 1500 0 3 1040515752 host - ",
-            5,
-            12,
-            Fault::Missing,
-        ),
-        ("9 bob", 9, 2, Fault::Missing),
-        ("9 bob ", 9, 2, Fault::NotANumber),
-        ("12", 12, 1, Fault::Missing),
-        ("12 ", 12, 1, Fault::BadName),
-        ("3 x", 3, 1, Fault::Extra),
-        ("10 bob x y", 10, 2, Fault::Extra),
-        ("1 bob 5 host x", 1, 4, Fault::Extra),
-        ("1 bob  host", 1, 2, Fault::NotANumber),
-        ("1 b:b x host", 1, 1, Fault::BadName),
-        ("1 bob -5 host", 1, 2, Fault::OutOfRange),
-        ("1 bob -0 host", 1, 2, Fault::NotANumber),
-        ("1 bob 05 host", 1, 2, Fault::NotANumber),
-        ("1 bob 18446744073709551616 host", 1, 2, Fault::OutOfRange),
-        (
-            "1 bob 123456789012345678901234567890 x",
-            1,
-            2,
-            Fault::OutOfRange,
-        ),
-        ("5 bob - - 2 0 1500 0 3 0 host - -", 5, 4, Fault::OutOfRange),
-        (
-            "5 bob - - -5 0 1500 0 3 0 host - -",
-            5,
-            4,
-            Fault::OutOfRange,
-        ),
-        ("5 bob - - x 0 1500 0 3 0 host - -", 5, 4, Fault::NotANumber),
-        ("5 bob - - 1 0 -5 0 3 0 host - -", 5, 6, Fault::NotANumber),
-        (
-            "5 bob - - 1 0 1500. 0 3 0 host - -",
-            5,
-            6,
-            Fault::NotANumber,
-        ),
-        (
-            "5 bob - - 1 0 1500.123 0 3 0 host - -",
-            5,
-            6,
-            Fault::NotANumber,
-        ),
-        (
-            "5 bob - - 1 0 42949672.96 0 3 0 host - -",
-            5,
-            6,
-            Fault::OutOfRange,
-        ),
-        (
-            "5 bob - - 1 0 99999999999999999999.5 0 3 0 host - -",
-            5,
-            6,
-            Fault::OutOfRange,
-        ),
-        ("5 bob - - 1 0 1500 0 3 0  - -", 5, 10, Fault::BadName),
-    ];
-    for (line, number, field, fault) in cases {
-        assert_eq!(rt;
-            fault_of(line.as_bytes()),
-            Some((number, field, fault)),
-            "{line}"
-        );
+    for (line, number, field, fault) in &WRONG {
+        let is_named = fault_of(line) == Some((*number, *field, *fault));
+        assert!(rt; is_named, "{line:?}");
+    }
+}
+
+/// Lines that are neither a board nor a message.
+static TEXTS: [&[u8]; 10] = [
+    b"",
+    b"05 x",
+    b"20 x",
+    b"0 x",
+    b"-1 x",
+    b"1x",
+    b" 1 x",
+    b"100",
+    b"board",
+    b"** Player 'zed' isn't logged in.",
+];
+
+/// Whether the line is text, all of it.
+fn is_text(line: &[u8]) -> bool {
+    match read(line) {
+        Reading::Text(text) => text == line,
+        _ => false,
     }
 }
 
 #[test]
 fn other_lines_are_text(rt: HostRuntime) {
-    let lines = [
-        "",
-        "05 x",
-        "20 x",
-        "0 x",
-        "-1 x",
-        "1x",
-        " 1 x",
-        "100",
-        "board",
-        "** Player 'zed' isn't logged in.",
-    ];
-    for line in lines {
-        let is_text = match read(line.as_bytes()) {
-            Reading::Text(text) => text == line.as_bytes(),
-            _ => false,
-        };
-        assert!(rt; is_text, "{line}");
+    for line in &TEXTS {
+        assert!(rt; is_text(line), "{line:?}");
     }
 }
 
