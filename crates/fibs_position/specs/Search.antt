@@ -1,4 +1,4 @@
--- What the code computes, as functions. No public contract rests on this file: proofs/ joins it to the rules.
+-- What the code computes, as functions. No definition of the rules rests on this file: laws join to them the functions that cite it.
 use Rattle.std.specs.Prelude.{ℕ, zero, suc, ◌+◌, ◌-◌, ◌<◌, ◌≤◌, ◌==◌, ◌&&◌, ◌||◌, not, nat_eq, nat_lt, nat_le, max, Bool, true, false, List, [], ◌∷◌, ◌++◌, length, take, drop, slice_index, Option, Some, None, if◌then◌else◌}
 use Rattle.std.specs.List.{list_all}
 use Rattle.std.specs.Ordering.{is_lt}
