@@ -11,7 +11,7 @@ use Rattle.std.proofs.lemmas.Slice.Eq.{bytes_eq-Decides}
 use Rattle.fibs_messages.specs.Board.{BoardFields, IsBoard, BoardText, Fit, Wrong, fault_unless, field_values, kinds, number, pieces, texts, without_spaces}
 use Rattle.fibs_messages.specs.Decimal.{IsNarrow, number_in}
 use Rattle.fibs_messages.specs.Name.{is_name}
-use Rattle.fibs_messages.specs.Reading.{first_fault, fault_or}
+use Rattle.fibs_messages.specs.BoardReading.{first_fault, fault_or}
 use Rattle.fibs_messages.specs.declared.board.FieldFault.{FieldFault}
 use Rattle.fibs_messages.specs.declared.decimal.Fault.{Fault}
 use Rattle.fibs_messages.specs.declared.decimal.Fault.TheVariants.{BadName}

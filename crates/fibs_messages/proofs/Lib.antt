@@ -1,4 +1,5 @@
 pub mod Backward
+pub mod BoardHeads
 pub mod BoardLaws
 pub mod CanonicalLines
 pub mod Digits
@@ -14,6 +15,7 @@ pub mod MessageLines
 pub mod MessageReadings
 pub mod MessageTable
 pub mod Naturals
+pub mod NextFields
 pub mod NumberWords
 pub mod Numbers
 pub mod Places

@@ -8,7 +8,7 @@ use Rattle.fibs_messages.specs.Message.{MessageValue, MessageText, IsNumbered}
 use Rattle.fibs_messages.specs.Split.{before}
 use Rattle.fibs_messages.proofs.MessageLines.{reads_line}
 use Rattle.fibs_messages.proofs.MessageReadings.{one_message, message_not_wrong, one_wrong, message_numbered, board_not_numbered, number_of, reads_wrong}
-use Rattle.fibs_messages.specs.Reading.{first_fault}
+use Rattle.fibs_messages.specs.BoardReading.{first_fault}
 use Rattle.fibs_messages.specs.declared.decimal.Fault.{Fault}
 use Rattle.fibs_messages.specs.declared.board.FieldFault.{FieldFault}
 use Rattle.fibs_messages.proofs.BoardLaws.{texts_same, pieces_of_board, texts_right, first_from_wrong}

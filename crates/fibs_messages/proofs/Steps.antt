@@ -9,7 +9,7 @@ use Rattle.std.proofs.lemmas.Option.{get_or_from_slice_get, slice_get_within}
 use Rattle.fibs_messages.specs.Board.{Fit, allowed_by, Kind, number, pieces}
 use Rattle.fibs_messages.specs.Numerals.{after_colons}
 use Rattle.fibs_messages.specs.Decimal.{allows}
-use Rattle.fibs_messages.specs.Reading.{first_fault}
+use Rattle.fibs_messages.specs.BoardReading.{first_fault}
 use Rattle.fibs_messages.specs.declared.decimal.Fault.TheVariants.{Extra}
 use Rattle.std.proofs.lemmas.List.Splits.{length-slice_split}
 use Rattle.fibs_messages.specs.declared.decimal.Values.{Values}

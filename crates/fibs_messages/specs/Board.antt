@@ -1,10 +1,11 @@
 -- Boards of FIBS board style 3: the 53 fields of a board line, its spelling, and its first wrong field.
-use Rattle.std.specs.Prelude.{◌≡◌, ◌==◌, ◌&&◌, ◌+◌, ◌-◌, ◌<◌, ◌++◌, ℕ, Bool, true, false, cond, List, [], ◌∷◌, Option, Some, None, ℤ, pos, negsuc, map, codes, replicate, length, take, nat_le, slice_get, slice_set, slice_index_or}
+use Rattle.std.specs.Prelude.{◌≡◌, ◌==◌, ◌&&◌, ◌-◌, ◌++◌, ℕ, Bool, true, false, cond, List, [], ◌∷◌, Option, Some, None, ℤ, pos, negsuc, map, codes, replicate, length, take, nat_le, slice_get, slice_set, slice_index_or}
 use Rattle.std.specs.Str.{bytes_eq}
 use Rattle.std.specs.Result.{result_err}
 use Rattle.std.specs.List.{AllZip, slice_split, suffix_len, join_with_byte}
 use Rattle.std.specs.Fmt.{signed_decimal}
 use Rattle.fibs_messages.specs.Decimal.{allows, number_in}
+use Rattle.fibs_messages.specs.FirstFault.{IsFirstFault}
 use Rattle.fibs_messages.specs.Name.{is_name}
 use Rattle.fibs_messages.specs.declared.decimal.Fault.{Fault}
 use Rattle.fibs_messages.specs.declared.decimal.Fault.TheVariants.{Missing, Extra, BadName}
@@ -150,7 +151,6 @@ fault_between None None = None
 abbrev pub fault_at : List Kind → List (List ℕ) → ℕ → Option Fault
 fault_at ks ps i = fault_between (slice_get ks i) (slice_get ps i)
 
--- field k of the line, counted from 1, is wrong for the reason f, and no field before it is wrong: without the spaces at its end the line is split at colons
+-- field k is the first that is wrong, for the reason f: without the spaces at its end the line is split at colons
 abbrev pub Wrong : List ℕ → ℕ → Fault → Type 0
-Wrong line k f = (i : ℕ) × (k ≡ i + 1) × (fault_at kinds (pieces (without_spaces line)) i ≡ Some f)
-    × ((j : ℕ) → j < i → fault_at kinds (pieces (without_spaces line)) j ≡ None)
+Wrong line k f = IsFirstFault (fault_at kinds (pieces (without_spaces line))) k f

@@ -115,7 +115,3 @@ fault_between None None = None
 
 abbrev pub fault_at : List Kind → List (List ℕ) → ℕ → Option Fault
 fault_at ks texts i = fault_between (slice_get ks i) (slice_get texts i)
-
--- field k, counted from 1, is wrong for the reason f, and no field before it is wrong
-abbrev pub IsFirstFault : List Kind → List (List ℕ) → ℕ → Fault → Type 0
-IsFirstFault ks texts k f = (i : ℕ) × (k ≡ i + 1) × (fault_at ks texts i ≡ Some f) × ((j : ℕ) → j < i → fault_at ks texts j ≡ None)

@@ -1,6 +1,7 @@
 -- How fields are read one after another. No public contract rests on it.
 use Rattle.std.specs.Prelude.{◌≡◌, ℕ, ◌+◌, ◌==◌, Bool, List, [], ◌∷◌, Option, Some, None, Result, Ok, Err, ℤ, pos, negsuc, cond, if◌then◌else◌}
 use Rattle.std.specs.Borrow.{Bor}
+use Rattle.std.specs.Str.{bytes_eq}
 use Rattle.fibs_messages.specs.declared.board.FieldFault.{FieldFault}
 use Rattle.fibs_messages.specs.declared.decimal.Fault.{Fault}
 use Rattle.fibs_messages.specs.declared.decimal.Fault.TheVariants.{Missing, Extra, BadName}
@@ -70,6 +71,17 @@ field_at k i l = do
   t ← text_at k i l
   v ← numbered i (value_in k t.0)
   Ok (v, t.1)
+
+-- a text that has to be this word
+abbrev pub this_word : List ℕ → List ℕ → Result (List ℕ) Fault
+this_word word text = good (bytes_eq text word) word
+
+-- what the text up to the next separator is read as, and what is left after it
+unfoldable pub next_at : {A : Type 0} → (List ℕ → Result A Fault) → ℕ → Left → Result (A × Left) FieldFault
+next_at read i l = do
+  t ← text_at a_word i l
+  x ← numbered i (read t.0)
+  Ok (x, t.1)
 
 abbrev pub end_in : ℕ → Option (List ℕ) → Result (List FieldValue) FieldFault
 end_in i None = Ok []

@@ -1,10 +1,12 @@
 pub mod Bits
 pub mod Board
 pub mod BoardProp
+pub mod BoardReading
 pub mod Decimal
 pub mod Field
 pub mod FieldOf
 pub mod FieldReading
+pub mod FirstFault
 pub mod Line
 pub mod LineReading
 pub mod Message
@@ -13,7 +15,6 @@ pub mod Name
 pub mod NameBytes
 pub mod Numerals
 pub mod Rating
-pub mod Reading
 pub mod ReadingOf
 pub mod Split
 pub mod Stored

@@ -5,7 +5,8 @@ use Rattle.fibs_messages.specs.declared.decimal.Fault.{Fault}
 use Rattle.fibs_messages.specs.Board.{without_spaces}
 use Rattle.fibs_messages.specs.Name.{is_name}
 use Rattle.fibs_messages.specs.Word.{is_word, is_tail}
-use Rattle.fibs_messages.specs.Field.{Kind, a_name, a_word, a_tail, a_flag, a_number, a_rating, a_text, FieldValue, NameField, WordField, TailField, FlagField, NumberField, RatingField, TextField, kind_of, Spells, canonical_text, texts_for, IsFirstFault}
+use Rattle.fibs_messages.specs.Field.{Kind, a_name, a_word, a_tail, a_flag, a_number, a_rating, a_text, FieldValue, NameField, WordField, TailField, FlagField, NumberField, RatingField, TextField, kind_of, Spells, canonical_text, texts_for, fault_at}
+use Rattle.fibs_messages.specs.FirstFault.{IsFirstFault}
 use Rattle.fibs_messages.specs.Split.{before, after}
 
 -- a row of the table: a message's number, and the kinds of its fields in their order
@@ -109,7 +110,7 @@ kept n line = if drops_spaces n then without_spaces line else line
 
 -- the line has this number, and field k is the first that is wrong
 abbrev pub WrongMessage : List ℕ → ℕ → ℕ → Fault → Type 0
-WrongMessage line n k f = HasNumber line n × IsFirstFault (kinds_of n) (texts_for (kinds_of n) 32 (after 32 (kept n line))) k f
+WrongMessage line n k f = HasNumber line n × IsFirstFault (fault_at (kinds_of n) (texts_for (kinds_of n) 32 (after 32 (kept n line)))) k f
 
 abbrev pub space_before : List ℕ → List ℕ
 space_before [] = []

@@ -6,14 +6,14 @@ ghost use Rattle.fibs_messages.specs.BoardProp.{IsBoard-prop};
 ghost use Rattle.fibs_messages.specs.Name.{is_name};
 ghost use Rattle.fibs_messages.specs.NameBytes.{name_bytes};
 ghost use Rattle.arrayvec.specs.ArrayVec.{array_vec_len};
-ghost use Rattle.fibs_messages.specs.Reading.{first_fault};
+ghost use Rattle.fibs_messages.specs.BoardReading.{first_fault};
 ghost use Rattle.fibs_messages.specs.Board.{BoardFields, IsBoard, Fit, field_values, spelling, BoardText, Wrong, kinds, pieces, texts, without_spaces, field_of, can_have, with_field};
 ghost use Rattle.fibs_messages.specs.Numerals.{after_colons};
 
 use crate::decimal::Fault;
 use crate::name::Name;
 use crate::numerals::{NUMBERS_LEN, write_numbers};
-use crate::parse::parse;
+use crate::read_board::read_board;
 use crate::stored_name::StoredName;
 use crate::values::can_have;
 use arrayvec::ArrayVec;
@@ -80,7 +80,7 @@ impl Board {
         // A line with a wrong field is not read.
         ensures least { (e : FieldFault) → Wrong line.now e.field e.fault → read_fields result ≡ Err e }
     {
-        parse(line)
+        read_board(line)
     }
 
     /// The line that says the board, without a line end: the 53 fields, joined by colons, in canonical decimals.

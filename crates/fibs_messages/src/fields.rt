@@ -2,12 +2,13 @@
 
 ghost use Rattle.std.specs.Prelude.{◌≡◌, []};
 ghost use Rattle.fibs_messages.specs.Field.{NameField, WordField, TailField, FlagField, NumberField, RatingField, TextField, a_name, a_word, a_tail, a_flag, a_number, a_rating, a_text};
-ghost use Rattle.fibs_messages.specs.FieldReading.{Gives, seen, left, left_of, text_at, field_at, end_at};
+ghost use Rattle.fibs_messages.specs.FieldReading.{Gives, seen, left, left_of, text_at, field_at, next_at, this_word, end_at};
+ghost use Rattle.fibs_messages.specs.Decimal.{number_in};
 ghost use Rattle.fibs_messages.specs.NameBytes.{name_bytes};
 ghost use Rattle.fibs_messages.specs.WordBytes.{word_bytes, tail_bytes};
 
 use crate::board::FieldFault;
-use crate::decimal::{Fault, flag_in, unsigned_in};
+use crate::decimal::{Fault, Values, flag_in, number_in, unsigned_in};
 use crate::name::Name;
 use crate::rating::rating_in;
 use crate::split::split;
@@ -28,6 +29,7 @@ impl<'a> Fields<'a> {
     }
 
     /// The text up to the next separator.
+    #[inline(always)]
     #[tactic(auto, unfolding(crate::specs::FieldReading::text_at))]
     fn piece(&mut self, field: usize) -> Result<&'a [u8], FieldFault>
         ensures { Gives (λ text. (text.now, left_of self.new)) result (text_at a_name field (left_of self.old)) }
@@ -42,6 +44,34 @@ impl<'a> Fields<'a> {
                 field,
                 fault: Fault::Missing,
             }),
+        }
+    }
+
+    /// The next field, which has to be this word.
+    #[tactic(auto, unfolding(crate::specs::FieldReading::next_at, crate::specs::FieldReading::text_at))]
+    pub fn this_word(&mut self, word: &[u8], field: usize) -> Result<(), FieldFault>
+        ensures { Gives (λ _. (word.now, left_of self.new)) result (next_at (this_word word.now) field (left_of self.old)) }
+    {
+        if self.piece(field)? == word {
+            Ok(())
+        } else {
+            Err(FieldFault {
+                field,
+                fault: Fault::BadName,
+            })
+        }
+    }
+
+    /// The next field as one of these numbers.
+    #[inline(always)]
+    #[tactic(auto, unfolding(crate::specs::FieldReading::next_at, crate::specs::FieldReading::text_at))]
+    pub fn number_of(&mut self, values: Values, field: usize) -> Result<i32, FieldFault>
+        ensures { Gives (λ number. (number, left_of self.new)) result (next_at (number_in values) field (left_of self.old)) }
+    {
+        let piece = self.piece(field)?;
+        match number_in(values, piece) {
+            Ok(number) => Ok(number),
+            Err(fault) => Err(FieldFault { field, fault }),
         }
     }
 

@@ -12,15 +12,15 @@ mod message_tests;
 mod name;
 mod number;
 mod numerals;
-mod parse;
 mod printing;
 mod rating;
+mod read_board;
 mod read_message;
-mod reading;
 mod split;
 mod stored_name;
 #[cfg(test)]
 mod tests;
+mod trailing_spaces;
 mod values;
 mod word;
 

@@ -1,11 +1,12 @@
 //! Lines of the server.
 
-ghost use Rattle.std.specs.Prelude.{◌≡◌, ◌↔◌, ℕ, List};
+ghost use Rattle.std.specs.Prelude.{◌≡◌, ◌↔◌, ℕ, List, Some};
 ghost use Rattle.fibs_messages.specs.Board.{BoardFields, BoardText};
 ghost use Rattle.fibs_messages.specs.Line.{IsBoardLine, IsMalformed, IsText, ReadingValue, numbered_line, board_line, text_line, malformed_line, IsReading};
-ghost use Rattle.fibs_messages.specs.LineReading.{IsAsRead};
-ghost use Rattle.fibs_messages.specs.Message.{MessageValue, MessageText};
+ghost use Rattle.fibs_messages.specs.LineReading.{BeginsAs, IsAsRead, number_word};
+ghost use Rattle.fibs_messages.specs.Message.{IsNumber, MessageValue, MessageText};
 ghost use Rattle.fibs_messages.specs.ReadingOf.{reading_of};
+ghost use Rattle.fibs_messages.specs.Split.{before};
 
 use crate::board::{Board, FieldFault};
 use crate::decimal::Fault;
@@ -34,30 +35,12 @@ pub enum Reading<'a> {
     },
 }
 
-/// The reading of a line that is no board line.
-fn read_numbered(line: &[u8]) -> Reading<'_>
-    ensures { IsAsRead line.now (reading_of result) }
-{
-    match number_of(split(line, b' ').0) {
-        None => Reading::Text(line),
-        Some(number) => match read_message(number, rest_of(number, line)) {
-            Ok(message) => Reading::Numbered(message),
-            Err(FieldFault { field, fault }) => Reading::Malformed {
-                number,
-                field,
-                fault,
-            },
-        },
-    }
-}
-
-/// The reading of a line.
-fn classify(line: &[u8]) -> Reading<'_>
+/// The reading of a board line.
+#[inline(never)]
+fn read_board_line(line: &[u8]) -> Reading<'_>
+    requires { IsBoardLine line.now }
     ensures { IsReading line.now (reading_of result) }
 {
-    if !line.starts_with(b"board:") {
-        return read_numbered(line);
-    }
     match Board::read(line) {
         Ok(board) => Reading::Board(board),
         Err(FieldFault { field, fault }) => Reading::Malformed {
@@ -65,6 +48,46 @@ fn classify(line: &[u8]) -> Reading<'_>
             field,
             fault,
         },
+    }
+}
+
+/// The reading of a line that begins with this number.
+#[inline(never)]
+fn read_numbered_line(number: u8, line: &[u8]) -> Reading<'_>
+    requires number { IsNumber number }
+    requires begins { number_word (before 32 line.now) ≡ Some number }
+    ensures { IsAsRead line.now (reading_of result) }
+{
+    match read_message(number, rest_of(number, line)) {
+        Ok(message) => Reading::Numbered(message),
+        Err(FieldFault { field, fault }) => Reading::Malformed {
+            number,
+            field,
+            fault,
+        },
+    }
+}
+
+/// How a line begins.
+enum Beginning {
+    /// With `board:`.
+    Board,
+    /// With the number of a message, and then a space or the end.
+    Number(u8),
+    /// With anything else.
+    Other,
+}
+
+/// How the line begins.
+fn beginning_of(line: &[u8]) -> Beginning
+    ensures { BeginsAs line.now result }
+{
+    if line.starts_with(b"board:") {
+        return Beginning::Board;
+    }
+    match number_of(split(line, b' ').0) {
+        Some(number) => Beginning::Number(number),
+        None => Beginning::Other,
     }
 }
 
@@ -84,5 +107,9 @@ pub fn read(line: &[u8]) -> Reading<'_>
     ensures malformed { (number k : ℕ) → (f : Fault) → (reading_of result ≡ malformed_line number k f) ↔ IsMalformed line.now number k f }
     ensures text { (t : List ℕ) → (reading_of result ≡ text_line t) ↔ (IsText line.now × (t ≡ line.now)) }
 {
-    classify(line)
+    match beginning_of(line) {
+        Beginning::Board => read_board_line(line),
+        Beginning::Number(number) => read_numbered_line(number, line),
+        Beginning::Other => Reading::Text(line),
+    }
 }

@@ -6,8 +6,8 @@ ghost use Rattle.fibs_messages.specs.LineReading.{number_word};
 ghost use Rattle.fibs_messages.specs.Message.{IsNumber, drops_spaces, kept};
 ghost use Rattle.fibs_messages.specs.Split.{after};
 
-use crate::reading::without_spaces;
 use crate::split::split;
+use crate::trailing_spaces::without_spaces;
 
 /// The number from 1 to 19 that the word is, if it is one.
 pub fn number_of(word: &[u8]) -> Option<u8>

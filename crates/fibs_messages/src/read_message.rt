@@ -13,6 +13,7 @@ use crate::fields::Fields;
 use crate::message::{Message, OwnInfo, WhoInfo};
 use crate::name::Name;
 
+#[inline(never)]
 fn welcome(rest: Option<&[u8]>) -> Result<Message<'_>, FieldFault>
     ensures number { IfOk result (λ m. (message_of m).number ≡ 1) }
     ensures fields { Gives (λ m. (message_of m).fields) result (fields_at (kinds_of 1) 1 (left 32 (seen rest.entry))) }
@@ -29,6 +30,7 @@ fn welcome(rest: Option<&[u8]>) -> Result<Message<'_>, FieldFault>
     })
 }
 
+#[inline(never)]
 fn own_info(rest: Option<&[u8]>) -> Result<OwnInfo<'_>, FieldFault>
     ensures { Gives own_info_fields result (fields_at (kinds_of 2) 1 (left 32 (seen rest.entry))) }
 {
@@ -60,6 +62,7 @@ fn own_info(rest: Option<&[u8]>) -> Result<OwnInfo<'_>, FieldFault>
     Ok(info)
 }
 
+#[inline(never)]
 fn who_info(rest: Option<&[u8]>) -> Result<WhoInfo<'_>, FieldFault>
     ensures { Gives who_info_fields result (fields_at (kinds_of 5) 1 (left 32 (seen rest.entry))) }
 {

@@ -7,10 +7,15 @@ ghost use Rattle.fibs_messages.specs.Split.{before, after};
 use bstr::ByteSlice;
 
 /// What stands before the first `byte`, and what stands after it, where there is one.
+#[inline(always)]
 pub fn split(text: &[u8], byte: u8) -> (&[u8], Option<&[u8]>)
     ensures before { result.0.now ≡ before byte text.now }
     ensures after { seen result.1 ≡ after byte text.now }
 {
+    // Most fields are one byte.
+    if text.len() > 1 && text[0] != byte && text[1] == byte {
+        return (&text[..1], Some(&text[2..]));
+    }
     match text.find_byte(byte) {
         Some(at) => (&text[..at], Some(&text[at + 1..])),
         None => (text, None),

@@ -18,9 +18,13 @@ colour b = field_of b 42
 abbrev pub goes_down : BoardFields → Bool
 goes_down b = int_eq (field_of b 43) (negsuc 0)
 
--- the line's number of a place, which the player counts so as to go down
+-- the line's number of a place, which the player counts so as to go down: one who goes down counts as the line does, one
+-- who goes up from the other end
+abbrev pub line_number : Bool → ℕ → ℕ
+line_number down place = if down then place else 25 - place
+
 abbrev pub line_place : BoardFields → ℕ → ℕ
-line_place b place = if goes_down b then place else 25 - place
+line_place b place = line_number (goes_down b) place
 
 -- the field of a place
 abbrev pub place_field : BoardFields → ℕ → ℕ

@@ -18,7 +18,11 @@ mod position_fault;
 mod search;
 mod step;
 #[cfg(test)]
+mod test_board_moves;
+#[cfg(test)]
 mod test_boards;
+#[cfg(test)]
+mod test_cases;
 #[cfg(test)]
 mod test_choices;
 #[cfg(test)]

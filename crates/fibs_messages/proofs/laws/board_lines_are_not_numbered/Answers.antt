@@ -1,4 +1,3 @@
-use Rattle.fibs_messages.specs.Message.{HasNumber}
 use Rattle.fibs_messages.proofs.MessageLines.{line_reads}
 use Rattle.fibs_messages.proofs.MessageReadings.{board_not_numbered, has_number}
 use Rattle.fibs_messages.proofs.laws.board_lines_are_not_numbered.Goals as goal

@@ -1,15 +1,18 @@
 -- How the fields are gone through, from the left. No public contract rests on this.
 use Rattle.std.specs.Prelude.{◌+◌, ℕ, List, [], ◌∷◌, Option, Some, None}
-use Rattle.std.specs.Borrow.{Bor}
 use Rattle.fibs_messages.specs.Board.{Kind, fault_in, pieces}
+use Rattle.fibs_messages.specs.FieldReading.{Left}
 use Rattle.fibs_messages.specs.declared.decimal.Fault.{Fault}
 use Rattle.fibs_messages.specs.declared.decimal.Fault.TheVariants.{Missing, Extra}
 use Rattle.fibs_messages.specs.declared.board.FieldFault.{FieldFault}
 
 -- the pieces that are left, where none is left after the last
-abbrev pub pieces_left : Option (Bor (List ℕ)) → List (List ℕ)
-pieces_left None = []
-pieces_left (Some rest) = pieces rest.now
+abbrev pub pieces_of : Option (List ℕ) → List (List ℕ)
+pieces_of None = []
+pieces_of (Some rest) = pieces rest
+
+abbrev pub pieces_left : Left → List (List ℕ)
+pieces_left l = pieces_of l.rest
 
 abbrev pub fault_or : ℕ → Option Fault → Option FieldFault → Option FieldFault
 fault_or n None later = later
