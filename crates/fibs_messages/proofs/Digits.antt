@@ -1,7 +1,10 @@
 -- Digits and the numbers that they write.
-use Rattle.std.proofs.Common.{◌≡◌, ℕ, ◌<◌, List, true, length, get_or}
+use Rattle.std.proofs.Common.{◌≡◌, ℕ, ◌<◌, ◌^◌, ◌∙◌, refl, rules, List, true, length, get_or}
 use Rattle.std.specs.Char.{is_ascii_digit}
 use Rattle.std.specs.List.{list_all}
+use Rattle.std.proofs.lemmas.List.{length-take-le}
+use Rattle.std.proofs.lemmas.List.Folds.{list_all_more}
+use Rattle.std.proofs.lemmas.Str.Parse.{numerals_by_value, digits_value_short}
 use Rattle.std.proofs.lemmas.List.Sums.{AllPass-from_list_all}
 use Rattle.std.proofs.lemmas.List.Elements.{All-get_or}
 use Rattle.std.proofs.Common.{arith, ◌≤◌, ◌-◌, ◌+◌, ◌*◌, zero, suc, [], ◌∷◌, take}
@@ -38,3 +41,11 @@ front_worth k ds = worth_after_front 0 k ds
 -- digits whose front and next one are worth too much are so too
 pub too_large : (limit i : ℕ) (ds : List ℕ) → list_all is_ascii_digit ds ≡ true → i < length ds → limit ≤ digits_value 10 (take i ds) * 10 + (get_or ds i 0 - 48) → limit ≤ digits_value 10 ds
 too_large limit i ds all within large = omega (arith, front_worth (i + 1) ds, digits_value_more 10 ds i within, digit_value_is ds i all within)
+
+-- 18 digits leave room for one more in 64 bits
+pub front_room : (ds : List ℕ) (i : ℕ) → list_all is_ascii_digit (take i ds) ≡ true → length ds ≤ 19 → i < length ds → digits_value 10 (take i ds) < 10 ^ 18
+front_room ds i all short within = digits_value_short (numerals_by_value (λ cs. list_all is_ascii_digit cs ≡ true) (search rules)) (take i ds) 18 all (omega (arith, length-take-le i ds (search arith)))
+
+-- digits and one more are digits
+pub front_more : (ds : List ℕ) (i : ℕ) → list_all is_ascii_digit (take i ds) ≡ true → i < length ds → is_ascii_digit (get_or ds i 0) ≡ true → list_all is_ascii_digit (take (i + 1) ds) ≡ true
+front_more ds i all within digit = list_all_more is_ascii_digit ds i 0 within ∙ rw (all, digit) refl

@@ -1,6 +1,6 @@
 //! The fields of a line, read from left to right.
 
-ghost use Rattle.std.specs.Prelude.{◌≡◌, []};
+ghost use Rattle.std.specs.Prelude.{◌≡◌, ℕ, [], Ok};
 ghost use Rattle.fibs_messages.specs.Field.{NameField, WordField, TailField, FlagField, NumberField, RatingField, TextField, a_name, a_word, a_tail, a_flag, a_number, a_rating, a_text};
 ghost use Rattle.fibs_messages.specs.FieldReading.{Gives, seen, left, left_of, text_at, field_at, next_at, this_word, end_at};
 ghost use Rattle.fibs_messages.specs.Decimal.{number_in};
@@ -162,17 +162,17 @@ impl<'a> Fields<'a> {
         }
     }
 
-    /// All that is left, which may be nothing.
+    /// All that is left, which may be nothing. A text is never wrong, whichever field it is.
     #[tactic(auto, unfolding(crate::specs::FieldReading::field_at, crate::specs::FieldReading::text_at, crate::specs::FieldReading::value_in))]
-    pub fn text(&mut self, field: usize) -> Result<&'a [u8], FieldFault>
-        ensures { Gives (λ text. (TextField text.now, left_of self.new)) result (field_at a_text field (left_of self.old)) }
+    pub fn text(&mut self) -> &'a [u8]
+        ensures { (field : ℕ) → field_at a_text field (left_of self.old) ≡ Ok (TextField result.now, left_of self.new) }
     {
         match self.rest {
             Some(rest) => {
                 self.rest = None;
-                Ok(rest)
+                rest
             }
-            None => Ok(&[]),
+            None => &[],
         }
     }
 

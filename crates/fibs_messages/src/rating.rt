@@ -5,7 +5,7 @@ ghost use Rattle.std.specs.Char.{is_ascii_digit};
 ghost use Rattle.fibs_messages.specs.FieldReading.{seen};
 ghost use Rattle.fibs_messages.specs.Rating.{is_fraction, hundredths_of, rating_in};
 
-use crate::decimal::{Fault, is_unsigned, magnitude};
+use crate::decimal::{Fault, unsigned_number};
 use crate::split::split;
 
 fn is_digit(byte: u8) -> bool
@@ -33,21 +33,13 @@ pub fn rating_in(text: &[u8]) -> Result<u32, Fault>
     ensures { result ≡ rating_in text.now }
 {
     let (whole, fraction) = split(text, b'.');
-    if !is_unsigned(whole) {
-        return Err(Fault::NotANumber);
-    }
     let Some(fraction) = hundredths(fraction) else {
         return Err(Fault::NotANumber);
     };
-    match magnitude(whole) {
-        Some(whole) if whole <= 42_949_672 => {
-            let rating = 100 * whole + fraction;
-            if rating <= 4_294_967_295 {
-                Ok(rating as u32)
-            } else {
-                Err(Fault::OutOfRange)
-            }
-        }
-        _ => Err(Fault::OutOfRange),
+    let whole = unsigned_number(whole)?;
+    if whole <= 42_949_672 && 100 * whole + fraction <= 4_294_967_295 {
+        Ok((100 * whole + fraction) as u32)
+    } else {
+        Err(Fault::OutOfRange)
     }
 }

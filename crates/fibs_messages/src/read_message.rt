@@ -90,7 +90,7 @@ fn name_and_text(rest: Option<&[u8]>) -> Result<(Name<'_>, &[u8]), FieldFault>
 {
     let mut fields = Fields::new(rest, b' ');
     let name = fields.name(1)?;
-    let text = fields.text(2)?;
+    let text = fields.text();
     fields.end(3)?;
     Ok((name, text))
 }
@@ -102,7 +102,7 @@ fn message_received(rest: Option<&[u8]>) -> Result<Message<'_>, FieldFault>
     let mut fields = Fields::new(rest, b' ');
     let sender = fields.name(1)?;
     let time = fields.number(2)?;
-    let text = fields.text(3)?;
+    let text = fields.text();
     fields.end(4)?;
     Ok(Message::MessageReceived { sender, time, text })
 }
@@ -126,7 +126,7 @@ fn text_alone(rest: Option<&[u8]>) -> Result<&[u8], FieldFault>
     ensures { Gives (λ text. TextField text.now ∷ []) result (fields_at (a_text ∷ []) 1 (left 32 (seen rest.entry))) }
 {
     let mut fields = Fields::new(rest, b' ');
-    let text = fields.text(1)?;
+    let text = fields.text();
     fields.end(2)?;
     Ok(text)
 }
