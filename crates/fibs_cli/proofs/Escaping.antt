@@ -1,13 +1,12 @@
 -- Bytes up to the first that is escaped.
-use Rattle.std.proofs.Common.{◌≡◌, ℕ, zero, suc, ◌+◌, ◌<◌, ◌≤◌, Bool, true, false, cond, Option, Some, None, List, [], ◌∷◌, ◌++◌, length, get_or, take, drop, refl, sym, ap, ◌∙◌, arith, append_assoc, append-nil, take-append-drop, slice_index, add-one, nat_lt, not, ◌-◌}
-use Rattle.std.specs.List.{position, position_or_len, flat_map}
+use Rattle.std.proofs.Common.{◌≡◌, ℕ, zero, suc, ◌+◌, ◌<◌, ◌≤◌, Bool, false, cond, Some, None, List, [], ◌∷◌, ◌++◌, length, get_or, take, drop, refl, sym, ap, ◌∙◌, arith, append_assoc, take-append-drop, add-one, nat_lt, not, ◌-◌}
+use Rattle.std.specs.List.{list_any, position, position_or_len, flat_map}
 use Rattle.std.proofs.Math.Seq.{drop-cons}
 use Rattle.std.proofs.lemmas.List.Quantifiers.{position-Some}
 use Rattle.std.proofs.lemmas.List.Sums.{prefix_len_passes}
-use Rattle.std.proofs.lemmas.Bool.{not-true}
+use Rattle.std.proofs.lemmas.Bool.{not-true, or_parts}
 use Rattle.std.proofs.lemmas.Bool.Decides.{nat_tests}
 use Rattle.std.proofs.lemmas.List.{take_all, take_rest}
-use Rattle.std.specs.Option.{is_some}
 use Rattle.fibs_cli.specs.Escape.{is_escaped, hex_escape, escaped}
 
 pub flat_map-append : {X A : Type 0} (f : X → List A) (xs ys : List X) → flat_map f (xs ++ ys) ≡ flat_map f xs ++ flat_map f ys
@@ -64,12 +63,17 @@ escaped_more before run after xs whole at found kept first then =
     ∙ ap (λ l. before ++ l) (sym (escaped_some xs at found ∙ append_assoc (take at xs) (hex_escape (get_or xs at 0)) rest))
     ∙ kept
 
+-- a text of which no byte is escaped is its own text
+pub escaped_plain : (xs : List ℕ) → list_any is_escaped xs ≡ false → escaped xs ≡ xs
+escaped_plain [] e = refl
+escaped_plain (x ∷ xs) e =
+    let parts = or_parts (is_escaped x) (list_any is_escaped xs) e in
+    ap (λ b. cond b (hex_escape x) (x ∷ []) ++ escaped xs) parts.0 ∙ ap (λ l. x ∷ l) (escaped_plain xs parts.1)
+
 -- a text that has none from a place on is its own front and the escapes of the rest
-pub escaped_unchanged : (text seen : List ℕ) (start : ℕ) (found : Option ℕ) → seen ≡ text
-    → found ≡ position is_escaped (take (length seen - start) (drop start seen)) → is_some found ≡ false → text ≡ take start text ++ escaped (drop start text)
-escaped_unchanged text seen start (Some at) same first absent = cc
-escaped_unchanged text seen start None same first absent =
-    let rest : take (length seen - start) (drop start seen) ≡ drop start seen = take_rest seen start in
-    let none : position is_escaped (drop start text) ≡ None =
-    ap (λ l. position is_escaped (drop start l)) (sym same) ∙ ap (λ l. position is_escaped l) (sym rest) ∙ sym first in
-    sym (take-append-drop start text) ∙ ap (λ l. take start text ++ l) (sym (escaped_none (drop start text) none))
+pub escaped_unchanged : (text seen : List ℕ) (start : ℕ) (found : Bool) → seen ≡ text
+    → found ≡ list_any is_escaped (take (length seen - start) (drop start seen)) → found ≡ false → text ≡ take start text ++ escaped (drop start text)
+escaped_unchanged text seen start found same whole absent =
+    let rest : take (length seen - start) (drop start seen) ≡ drop start text = take_rest seen start ∙ ap (drop start) same in
+    let none : list_any is_escaped (drop start text) ≡ false = ap (list_any is_escaped) (sym rest) ∙ sym whole ∙ absent in
+    sym (take-append-drop start text) ∙ ap (λ l. take start text ++ l) (sym (escaped_plain (drop start text) none))

@@ -1,6 +1,6 @@
 //! Bytes of any kind on one line of text.
 ghost use Rattle.std.specs.Prelude.{◌≡◌, ◌≤◌, ◌++◌, take, drop, length, OnOk};
-ghost use Rattle.std.specs.List.{position};
+ghost use Rattle.std.specs.List.{list_any, position};
 ghost use Rattle.fibs_cli.specs.Escape.{is_escaped, hex_escape, escaped};
 
 use std::alloc::{AllocError, Global};
@@ -21,6 +21,17 @@ fn first_escaped(bytes: &[u8]) -> Option<usize>
     bytes.iter().position(|byte| is_escaped(*byte))
 }
 
+/// Whether some byte is not shown as it is. It looks at each byte, so that the compiler can test many at once.
+fn has_escaped(bytes: &[u8]) -> bool
+    ensures { result ≡ list_any is_escaped bytes.now }
+{
+    let mut found = false;
+    for byte in bytes {
+        found |= is_escaped(*byte);
+    }
+    found
+}
+
 /// Appends the escape of a byte: `\x` and two hexadecimal digits.
 fn append_hex(byte: u8, text: &mut Vec<u8>) -> Result<(), AllocError>
     ensures { OnOk result (text.new.items ≡ text.old.items ++ hex_escape byte) }
@@ -31,7 +42,7 @@ fn append_hex(byte: u8, text: &mut Vec<u8>) -> Result<(), AllocError>
 }
 
 /// Appends the bytes, each run of printable ones at once and every other byte by its escape.
-pub fn append_escaped(bytes: &[u8], text: &mut Vec<u8>) -> Result<(), AllocError>
+fn append_runs(bytes: &[u8], text: &mut Vec<u8>) -> Result<(), AllocError>
     ensures { OnOk result (text.new.items ≡ text.old.items ++ escaped bytes.now) }
 {
     let mut rest = bytes;
@@ -43,15 +54,26 @@ pub fn append_escaped(bytes: &[u8], text: &mut Vec<u8>) -> Result<(), AllocError
     text.extend_from_slice(rest)
 }
 
+/// Appends the bytes, each that is not shown as it is by its escape. Where none is, which is the rule, it appends all at once.
+pub fn append_escaped(bytes: &[u8], text: &mut Vec<u8>) -> Result<(), AllocError>
+    ensures { OnOk result (text.new.items ≡ text.old.items ++ escaped bytes.now) }
+{
+    if has_escaped(bytes) {
+        append_runs(bytes, text)
+    } else {
+        text.extend_from_slice(bytes)
+    }
+}
+
 /// Escapes the bytes of the text from `start` on. Where none needs it, which is the rule, the text stays as it is.
 pub fn escape_from(alloc: Global, start: usize, text: &mut Vec<u8>) -> Result<(), AllocError>
     requires { start ≤ length text.old.items }
     ensures { OnOk result (text.new.items ≡ take start text.old.items ++ escaped (drop start text.old.items)) }
 {
-    if first_escaped(&text[start..]).is_none() {
+    if !has_escaped(&text[start..]) {
         return Ok(());
     }
     let bytes = text[start..].to_vec(alloc)?;
     text.truncate(start);
-    append_escaped(&bytes, text)
+    append_runs(&bytes, text)
 }

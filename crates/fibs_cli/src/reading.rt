@@ -2,15 +2,17 @@
 ghost use Rattle.std.specs.Prelude.{◌≡◌, ◌++◌, ◌∷◌, [], ℕ, List, codes, OnOk};
 ghost use Rattle.std.specs.Fmt.{decimal};
 ghost use Rattle.fibs_lines.specs.LineValue.{value_of};
+ghost use Rattle.fibs_messages.specs.Board.{spelling};
+ghost use Rattle.fibs_messages.specs.Line.{IsReading, ReadingValue};
 ghost use Rattle.fibs_messages.specs.Message.{canonical};
 ghost use Rattle.fibs_messages.specs.MessageOf.{message_of};
-ghost use Rattle.fibs_messages.specs.ReadingOf.{reading_of};
+ghost use Rattle.fibs_messages.specs.StoredBoard.{fields_of};
 ghost use Rattle.fibs_cli.specs.Escape.{escaped};
 ghost use Rattle.fibs_cli.specs.Show.{fault_name, reading_text, ShownLine};
 
 use crate::escape::{append_escaped, escape_from};
 use fibs_lines::Line;
-use fibs_messages::{Fault, Message, Reading, print_message, read};
+use fibs_messages::{Board, Fault, Message, Reading, print_message, read};
 use itoa::{Buffer, Integer};
 use std::alloc::{AllocError, Global};
 
@@ -52,7 +54,8 @@ fn append_malformed(
     text.extend_from_slice(fault_name(fault))
 }
 
-/// Appends what is printed for a message.
+/// Appends what is printed for a message. It is not inlined, since room for its largest values is cleared at each call.
+#[inline(never)]
 fn append_message(
     alloc: Global,
     message: &Message<'_>,
@@ -66,26 +69,38 @@ fn append_message(
     escape_from(alloc, start, text)
 }
 
-/// Appends what is printed for what a line says.
-fn append_reading(
-    alloc: Global,
-    reading: &Reading<'_>,
-    text: &mut Vec<u8>,
-) -> Result<(), AllocError>
-    ensures { OnOk result (text.new.items ≡ text.old.items ++ reading_text (reading_of reading.now)) }
+/// Appends what is printed for a board. It is not inlined, since room for its largest values is cleared at each call.
+#[inline(never)]
+fn append_board(board: &Board, text: &mut Vec<u8>) -> Result<(), AllocError>
+    ensures { OnOk result (text.new.items ≡ text.old.items ++ spelling (fields_of board.now)) }
 {
-    match reading {
-        Reading::Numbered(message) => append_message(alloc, message, text),
-        Reading::Board(board) => text.extend_from_slice(board.print().as_slice()),
-        Reading::Text(bytes) => {
-            text.extend_from_slice(b"text ")?;
-            append_escaped(bytes, text)
-        }
+    text.extend_from_slice(board.print().as_slice())
+}
+
+/// Appends what is printed for a text.
+fn append_text(bytes: &[u8], text: &mut Vec<u8>) -> Result<(), AllocError>
+    ensures { OnOk result (text.new.items ≡ text.old.items ++ (codes "text " ++ escaped bytes.now)) }
+{
+    text.extend_from_slice(b"text ")?;
+    append_escaped(bytes, text)
+}
+
+/// Appends what is printed for a line that was not cut.
+///
+/// What `read` answers is matched where it stands: a name for it would be a copy of its hundreds of bytes.
+fn append_reading(alloc: Global, line: &[u8], text: &mut Vec<u8>) -> Result<(), AllocError>
+    ensures { OnOk result ((reading : ReadingValue) × IsReading line.now reading
+        × (text.new.items ≡ text.old.items ++ reading_text reading)) }
+{
+    match read(line) {
+        Reading::Numbered(message) => append_message(alloc, &message, text),
+        Reading::Board(board) => append_board(&board, text),
+        Reading::Text(bytes) => append_text(bytes, text),
         Reading::Malformed {
             number,
             field,
             fault,
-        } => append_malformed(*number, *field, *fault, text),
+        } => append_malformed(number, field, fault, text),
     }
 }
 
@@ -98,7 +113,7 @@ pub fn append_line(alloc: Global, line: &Line<'_>, text: &mut Vec<u8>) -> Result
         text.extend_from_slice(b"cut ")?;
         append_escaped(line.bytes, text)?;
     } else {
-        append_reading(alloc, &read(line.bytes), text)?;
+        append_reading(alloc, line.bytes, text)?;
     }
     text.push(b'\n')?;
     Ok(())

@@ -1,8 +1,7 @@
 -- One more number is written before the others.
-use Rattle.std.proofs.Common.{◌≡◌, ◌≤◌, ◌+◌, ◌-◌, ◌++◌, ◌∷◌, List, ℕ, sym, ap, ◌∙◌, arith, get_or, length, take, drop}
-use Rattle.std.specs.Prelude.{ℤ, pos, slice_set}
+use Rattle.std.proofs.Common.{◌≡◌, ◌≤◌, ◌+◌, ◌++◌, ◌∷◌, List, ℕ, sym, ap, ◌∙◌, arith, get_or, length, take, drop}
+use Rattle.std.specs.Prelude.{ℤ, pos}
 use Rattle.std.specs.Fmt.{signed_decimal}
-use Rattle.std.proofs.lemmas.List.{drop-set}
 use Rattle.fibs_messages.specs.Board.{Fit, field_values}
 use Rattle.fibs_messages.specs.Numerals.{after_colons}
 use Rattle.fibs_messages.proofs.Lengths.{total, room_before}
@@ -18,10 +17,7 @@ room_left zs i left start y fit there high room is =
 
 -- with its colon it stands before the others
 pub text_left : (zs : List ℤ) (i left start s : ℕ) (y : ℤ) (old new : List ℕ) → Fit field_values zs → i + 1 ≡ left → left ≤ 50 → y ≡ get_or zs i (pos 0)
-    → drop start old ≡ after_colons (drop left zs) → drop s new ≡ signed_decimal y ++ drop start old → 1 ≤ s → s ≤ length new
-    → drop (s - 1) (slice_set new (s - 1) 58) ≡ after_colons (drop i zs)
-text_left zs i left start s y old new fit there high is others written some within =
-    let back : s - 1 + 1 ≡ s = omega arith in
-    drop-set new (s - 1) 58 (omega arith) ∙ ap (λ n. 58 ∷ drop n new) back
-    ∙ ap (λ l. 58 ∷ l) (written ∙ ap (λ x. signed_decimal x ++ drop start old) is ∙ ap (λ l. signed_decimal (get_or zs i (pos 0)) ++ l) (others ∙ ap (λ n. after_colons (drop n zs)) (sym there)))
+    → drop start old ≡ after_colons (drop left zs) → drop s new ≡ 58 ∷ signed_decimal y ++ drop start old → drop s new ≡ after_colons (drop i zs)
+text_left zs i left start s y old new fit there high is others written =
+    written ∙ ap (λ l. 58 ∷ l) (ap (λ x. signed_decimal x ++ drop start old) is ∙ ap (λ l. signed_decimal (get_or zs i (pos 0)) ++ l) (others ∙ ap (λ n. after_colons (drop n zs)) (sym there)))
     ∙ sym (colons_before zs i (pos 0) (omega (arith, fit_long field_values zs fit, table_long)))

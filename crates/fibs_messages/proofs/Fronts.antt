@@ -1,5 +1,7 @@
--- A text that was only added to.
+-- Texts that are only added to.
 use Rattle.std.proofs.Common.{◌≡◌, ◌∙◌, ℕ, List, ◌++◌, length, take, drop, sym, ap, append_assoc}
+use Rattle.std.specs.List.{flat_map}
+use Rattle.std.proofs.lemmas.List.Concat.{flat_map-append}
 use Rattle.std.proofs.lemmas.List.{take-append-drop}
 use Rattle.std.proofs.Math.Seq.{take-append_seam}
 
@@ -11,3 +13,8 @@ front_kept old more begun added now new first then kept =
     ∙ (ap (λ (x : List ℕ). x ++ rest) (kept ∙ (then ∙ ap (λ (x : List ℕ). x ++ added) first))
     ∙ (append_assoc (old ++ more) added rest ∙ append_assoc old more (added ++ rest))) in
     ap (take (length old)) whole ∙ take-append_seam old (more ++ (added ++ rest))
+
+-- three runs of fields are one
+pub runs_joined : {A : Type 0} (f : A → List ℕ) (old head : List ℕ) (xs ys zs : List A) → (((old ++ head) ++ flat_map f xs) ++ flat_map f ys) ++ flat_map f zs ≡ old ++ (head ++ flat_map f (xs ++ (ys ++ zs)))
+runs_joined f old head xs ys zs =
+    rw (flat_map-append f xs (ys ++ zs), flat_map-append f ys zs, append_assoc ((old ++ head) ++ flat_map f xs) (flat_map f ys) (flat_map f zs), append_assoc (old ++ head) (flat_map f xs) (flat_map f ys ++ flat_map f zs), append_assoc old head (flat_map f xs ++ (flat_map f ys ++ flat_map f zs)))

@@ -1,15 +1,14 @@
 -- The fields of a message as they are printed, as values. No public contract rests on it.
 use Rattle.std.specs.Prelude.{List, map}
 use Rattle.fibs_messages.specs.declared.printing.Field.{Field}
-use Rattle.fibs_messages.specs.declared.printing.Field.TheVariants.{Name, Word, Tail, Flag, Number, Rating, Text}
-use Rattle.fibs_messages.specs.Field.{FieldValue, NameField, WordField, TailField, FlagField, NumberField, RatingField, TextField}
+use Rattle.fibs_messages.specs.declared.printing.Field.TheVariants.{Name, Word, Flag, Number, Rating, Text}
+use Rattle.fibs_messages.specs.Field.{FieldValue, NameField, WordField, FlagField, NumberField, RatingField, TextField}
 use Rattle.fibs_messages.specs.NameBytes.{name_bytes}
-use Rattle.fibs_messages.specs.WordBytes.{word_bytes, tail_bytes}
+use Rattle.fibs_messages.specs.WordBytes.{word_bytes}
 
 abbrev pub value_of : Field → FieldValue
 value_of (Name name) = NameField (name_bytes name)
 value_of (Word word) = WordField (word_bytes word)
-value_of (Tail tail) = TailField (tail_bytes tail)
 value_of (Flag flag) = FlagField flag
 value_of (Number number) = NumberField number
 value_of (Rating rating) = RatingField rating

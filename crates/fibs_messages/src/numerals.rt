@@ -1,6 +1,6 @@
 //! The text of the numbers of a board line, written from the last to the first.
 
-ghost use Rattle.std.specs.Prelude.{◌≡◌, ◌≤◌, ◌+◌, ◌++◌, drop, length};
+ghost use Rattle.std.specs.Prelude.{◌≡◌, ◌≤◌, ◌+◌, ◌∷◌, ◌++◌, decimal, drop, length};
 ghost use Rattle.std.specs.Fmt.{signed_decimal};
 ghost use Rattle.fibs_messages.specs.Board.{Fit, field_values};
 ghost use Rattle.fibs_messages.specs.Numerals.{after_colons};
@@ -10,20 +10,36 @@ use itoa::write_digits;
 /// The most bytes that fields 4 to 53 take, each after a colon.
 pub const NUMBERS_LEN: usize = 194;
 
-/// Writes the number so that it ends before `end`, and gives where it starts.
+/// Writes the digits of the number so that they end before `end`, and gives where they start. Most have one digit.
+#[inline(always)]
+fn write_magnitude(text: &mut [u8; NUMBERS_LEN], end: usize, magnitude: u32) -> usize
+    requires room { length (decimal magnitude) ≤ end }
+    requires within { end ≤ 194 }
+    ensures start { result + length (decimal magnitude) ≡ end }
+    ensures written { drop result text.new ≡ decimal magnitude ++ drop end text.old }
+{
+    if magnitude > 9 {
+        return write_digits(u64::from(magnitude), text, end);
+    }
+    text[end - 1] = b'0' + magnitude as u8;
+    end - 1
+}
+
+/// Writes a colon and the number so that they end before `end`, and gives where they start.
+///
+/// The minus sign is always written: where the number has none, the colon takes its place.
 #[inline(always)]
 fn write_number(text: &mut [u8; NUMBERS_LEN], end: usize, number: i32) -> usize
-    requires room { length (signed_decimal number) ≤ end }
+    requires room { 1 + length (signed_decimal number) ≤ end }
     requires within { end ≤ 194 }
-    ensures start { result + length (signed_decimal number) ≡ end }
-    ensures written { drop result text.new ≡ signed_decimal number ++ drop end text.old }
+    ensures start { result + (1 + length (signed_decimal number)) ≡ end }
+    ensures written { drop result text.new ≡ 58 ∷ signed_decimal number ++ drop end text.old }
 {
-    let start = write_digits(u64::from(number.unsigned_abs()), text, end);
-    if number >= 0 {
-        return start;
-    }
-    text[start - 1] = b'-';
-    start - 1
+    let digits = write_magnitude(text, end, number.unsigned_abs());
+    text[digits - 1] = b'-';
+    let start = digits - 1 - usize::from(number < 0);
+    text[start] = b':';
+    start
 }
 
 /// Writes the numbers of fields 4 to 53, each after a colon, so that they end the text, and gives where they start.
@@ -36,8 +52,7 @@ pub fn write_numbers(text: &mut [u8; NUMBERS_LEN], numbers: &[i32; 50]) -> usize
     let mut left = numbers.len();
     while left > 0 {
         left -= 1;
-        start = write_number(text, start, numbers[left]) - 1;
-        text[start] = b':';
+        start = write_number(text, start, numbers[left]);
     }
     start
 }

@@ -1,17 +1,18 @@
 //! Prints numbered messages.
 
-ghost use Rattle.std.specs.Prelude.{◌≡◌, ◌∷◌, [], ◌++◌, decimal, length, take, OnOk, OnErr};
+ghost use Rattle.std.specs.Prelude.{◌≡◌, ◌≤◌, ◌<◌, ◌+◌, ◌∷◌, [], ◌++◌, decimal, length, take, drop, OnOk, OnErr};
 ghost use Rattle.std.specs.List.{flat_map};
-ghost use Rattle.fibs_messages.specs.Field.{RatingField, TextField};
+ghost use Rattle.fibs_messages.specs.Field.{NameField, FlagField, NumberField, RatingField, TextField};
 ghost use Rattle.fibs_messages.specs.FieldOf.{value_of, values_of};
 ghost use Rattle.fibs_messages.specs.Message.{MessageText, canonical, canonical_field};
-ghost use Rattle.fibs_messages.specs.MessageOf.{message_of, own_info_fields, who_info_fields};
+ghost use Rattle.fibs_messages.specs.MessageOf.{message_of, own_info_fields};
+ghost use Rattle.fibs_messages.specs.NameBytes.{name_bytes};
 
 use crate::laws::messages_are_well_formed;
 use crate::message::{Message, OwnInfo, WhoInfo};
 use crate::name::Name;
-use crate::word::{Tail, Word};
-use itoa::Buffer;
+use crate::word::Word;
+use itoa::{Buffer, write_digits};
 use std::alloc::{AllocError, Global};
 
 /// A field of a message.
@@ -19,11 +20,58 @@ use std::alloc::{AllocError, Global};
 pub enum Field<'a> {
     Name(Name<'a>),
     Word(Word<'a>),
-    Tail(Tail<'a>),
     Flag(bool),
     Number(u64),
     Rating(u32),
     Text(&'a [u8]),
+}
+
+/// The most bytes that the two flags, the rating and the three numbers of message 5 take, each with the space before it.
+const WHO_NUMBERS_LEN: usize = 91;
+
+/// Writes a space and the number so that they end before `end`, and gives where they start.
+#[inline(always)]
+#[tactic(auto, unfolding(crate::specs::Message::canonical_field))]
+fn write_number(text: &mut [u8; WHO_NUMBERS_LEN], end: usize, number: u64) -> usize
+    requires room { 21 ≤ end }
+    requires within { end ≤ 91 }
+    ensures start { end ≤ result + 21 }
+    ensures before { result ≤ end }
+    ensures written { drop result text.new ≡ canonical_field (NumberField number) ++ drop end text.old }
+{
+    let start = write_digits(number, text, end) - 1;
+    text[start] = b' ';
+    start
+}
+
+/// Writes a space and the rating, with two digits after its point, so that they end before `end`, and gives where they start.
+#[inline(always)]
+#[tactic(auto, unfolding(crate::specs::Message::canonical_field))]
+fn write_rating(text: &mut [u8; WHO_NUMBERS_LEN], end: usize, rating: u32) -> usize
+    requires room { 24 ≤ end }
+    requires within { end ≤ 91 }
+    ensures start { end ≤ result + 24 }
+    ensures before { result ≤ end }
+    ensures written { drop result text.new ≡ canonical_field (RatingField rating) ++ drop end text.old }
+{
+    text[end - 1] = b'0' + (rating % 10) as u8;
+    text[end - 2] = b'0' + (rating % 100 / 10) as u8;
+    text[end - 3] = b'.';
+    write_number(text, end - 3, u64::from(rating / 100))
+}
+
+/// Writes a space and the flag so that they end before `end`, and gives where they start.
+#[inline(always)]
+#[tactic(auto, unfolding(crate::specs::Message::canonical_field))]
+fn write_flag(text: &mut [u8; WHO_NUMBERS_LEN], end: usize, flag: bool) -> usize
+    requires room { 2 ≤ end }
+    requires within { end ≤ 91 }
+    ensures start { result + 2 ≡ end }
+    ensures written { drop result text.new ≡ canonical_field (FlagField flag) ++ drop end text.old }
+{
+    text[end - 1] = b'0' + u8::from(flag);
+    text[end - 2] = b' ';
+    end - 2
 }
 
 /// Appends a space and the bytes.
@@ -68,7 +116,6 @@ fn append_field(out: &mut Vec<u8>, field: &Field<'_>) -> Result<(), AllocError>
     match field {
         Field::Name(name) => append_piece(out, name.bytes()),
         Field::Word(word) => append_piece(out, word.bytes()),
-        Field::Tail(tail) => append_piece(out, tail.bytes()),
         Field::Flag(flag) => append_piece(out, if *flag { b"1" } else { b"0" }),
         Field::Number(number) => append_piece(out, Buffer::new().format(*number).as_bytes()),
         Field::Rating(rating) => append_rating(out, *rating),
@@ -76,29 +123,30 @@ fn append_field(out: &mut Vec<u8>, field: &Field<'_>) -> Result<(), AllocError>
     }
 }
 
-/// Appends a number and the fields.
-fn append_all(out: &mut Vec<u8>, number: u8, fields: &[Field<'_>]) -> Result<(), AllocError>
+/// Appends the number of a message, which has one digit or two.
+#[inline(always)]
+fn append_number(out: &mut Vec<u8>, number: u8) -> Result<(), AllocError>
+    requires { number < 100 }
+    ensures put { OnOk result (out.new.items ≡ out.old.items ++ decimal number) }
+    ensures front { take (length out.old.items) out.new.items ≡ out.old.items }
+{
+    if number > 9 {
+        return out.extend_from_slice(&[b'0' + number / 10, b'0' + number % 10]);
+    }
+    out.extend_from_slice(&[b'0' + number])
+}
+
+/// Appends the number of a message and its fields.
+fn append_fields(out: &mut Vec<u8>, number: u8, fields: &[Field<'_>]) -> Result<(), AllocError>
+    requires { number < 100 }
     ensures put { OnOk result (out.new.items ≡ out.old.items ++ (decimal number ++ flat_map canonical_field (values_of fields.now))) }
     ensures front { take (length out.old.items) out.new.items ≡ out.old.items }
 {
-    out.extend_from_slice(Buffer::new().format(number).as_bytes())?;
+    append_number(out, number)?;
     for field in fields {
         append_field(out, field)?;
     }
     Ok(())
-}
-
-/// Appends a line, or nothing where memory is refused.
-fn append_line(out: &mut Vec<u8>, number: u8, fields: &[Field<'_>]) -> Result<(), AllocError>
-    ensures put { OnOk result (out.new.items ≡ out.old.items ++ (decimal number ++ flat_map canonical_field (values_of fields.now))) }
-    ensures refused { OnErr result (out.new.items ≡ out.old.items) }
-{
-    let start = out.len();
-    let appended = append_all(out, number, fields);
-    if appended.is_err() {
-        out.truncate(start);
-    }
-    appended
 }
 
 fn own_info_fields<'a>(info: &OwnInfo<'a>) -> [Field<'a>; 21]
@@ -129,101 +177,196 @@ fn own_info_fields<'a>(info: &OwnInfo<'a>) -> [Field<'a>; 21]
     ]
 }
 
-fn who_info_fields<'a>(info: &WhoInfo<'a>) -> [Field<'a>; 12]
-    ensures { values_of result ≡ who_info_fields info.now }
+/// Appends three pieces.
+#[inline(always)]
+fn append_three(out: &mut Vec<u8>, one: &[u8], two: &[u8], three: &[u8]) -> Result<(), AllocError>
+    ensures put { OnOk result (out.new.items ≡ out.old.items ++ flat_map (λ piece. 32 ∷ piece) (one.now ∷ two.now ∷ three.now ∷ [])) }
+    ensures front { take (length out.old.items) out.new.items ≡ out.old.items }
 {
-    [
-        Field::Name(info.name),
-        Field::Name(info.opponent),
-        Field::Name(info.watching),
-        Field::Flag(info.ready),
-        Field::Flag(info.away),
-        Field::Rating(info.rating),
-        Field::Number(info.experience),
-        Field::Number(info.idle),
-        Field::Number(info.login),
-        Field::Word(info.hostname),
-        Field::Word(info.client),
-        Field::Tail(info.email),
-    ]
+    append_piece(out, one)?;
+    append_piece(out, two)?;
+    append_piece(out, three)
+}
+
+/// Writes the flags, the rating and the numbers of message 5 so that they end the text, and gives where they start.
+#[inline(always)]
+fn write_who_numbers(text: &mut [u8; WHO_NUMBERS_LEN], info: &WhoInfo<'_>) -> usize
+    ensures within { result ≤ 91 }
+    ensures written { drop result text.new ≡ flat_map canonical_field (FlagField info.now.ready ∷ FlagField info.now.away ∷ RatingField info.now.rating ∷ NumberField info.now.experience ∷ NumberField info.now.idle ∷ NumberField info.now.login ∷ []) }
+{
+    let mut start = write_number(text, WHO_NUMBERS_LEN, info.login);
+    start = write_number(text, start, info.idle);
+    start = write_number(text, start, info.experience);
+    start = write_rating(text, start, info.rating);
+    start = write_flag(text, start, info.away);
+    write_flag(text, start, info.ready)
+}
+
+/// Appends the flags, the rating and the numbers of message 5.
+#[inline(always)]
+fn append_who_numbers(out: &mut Vec<u8>, info: &WhoInfo<'_>) -> Result<(), AllocError>
+    ensures put { OnOk result (out.new.items ≡ out.old.items ++ flat_map canonical_field (FlagField info.now.ready ∷ FlagField info.now.away ∷ RatingField info.now.rating ∷ NumberField info.now.experience ∷ NumberField info.now.idle ∷ NumberField info.now.login ∷ [])) }
+    ensures front { take (length out.old.items) out.new.items ≡ out.old.items }
+{
+    let mut text = [0; WHO_NUMBERS_LEN];
+    let start = write_who_numbers(&mut text, info);
+    out.extend_from_slice(&text[start..])
+}
+
+// The functions with rows of fields stay out of line, so that no other message pays for clearing those rows.
+
+/// Appends the line of message 1.
+#[inline(never)]
+fn append_welcome<'a>(
+    out: &mut Vec<u8>,
+    name: Name<'a>,
+    last_login: u64,
+    last_host: Word<'a>,
+) -> Result<(), AllocError>
+    ensures put { OnOk result (out.new.items ≡ out.old.items ++ canonical (message_of (Message.Welcome name.entry last_login last_host.entry))) }
+    ensures front { take (length out.old.items) out.new.items ≡ out.old.items }
+{
+    append_fields(
+        out,
+        1,
+        &[
+            Field::Name(name),
+            Field::Number(last_login),
+            Field::Word(last_host),
+        ],
+    )
 }
 
 /// Appends the line of message 2.
+#[inline(never)]
 fn append_own_info(out: &mut Vec<u8>, info: &OwnInfo<'_>) -> Result<(), AllocError>
     ensures put { OnOk result (out.new.items ≡ out.old.items ++ canonical (message_of (Message.OwnInfo info.now))) }
-    ensures refused { OnErr result (out.new.items ≡ out.old.items) }
+    ensures front { take (length out.old.items) out.new.items ≡ out.old.items }
 {
-    append_line(out, 2, &own_info_fields(info))
+    append_fields(out, 2, &own_info_fields(info))
 }
 
 /// Appends the line of message 5.
+#[inline(never)]
 fn append_who_info(out: &mut Vec<u8>, info: &WhoInfo<'_>) -> Result<(), AllocError>
     ensures put { OnOk result (out.new.items ≡ out.old.items ++ canonical (message_of (Message.WhoInfo info.now))) }
-    ensures refused { OnErr result (out.new.items ≡ out.old.items) }
+    ensures front { take (length out.old.items) out.new.items ≡ out.old.items }
 {
-    append_line(out, 5, &who_info_fields(info))
+    append_number(out, 5)?;
+    append_three(
+        out,
+        info.name.bytes(),
+        info.opponent.bytes(),
+        info.watching.bytes(),
+    )?;
+    append_who_numbers(out, info)?;
+    append_three(
+        out,
+        info.hostname.bytes(),
+        info.client.bytes(),
+        info.email.bytes(),
+    )
+}
+
+/// Appends the line of message 9.
+#[inline(never)]
+fn append_received<'a>(
+    out: &mut Vec<u8>,
+    sender: Name<'a>,
+    time: u64,
+    text: &'a [u8],
+) -> Result<(), AllocError>
+    ensures put { OnOk result (out.new.items ≡ out.old.items ++ (decimal 9 ++ flat_map canonical_field (NameField (name_bytes sender.entry) ∷ NumberField time ∷ TextField text.now ∷ []))) }
+    ensures front { take (length out.old.items) out.new.items ≡ out.old.items }
+{
+    append_fields(
+        out,
+        9,
+        &[Field::Name(sender), Field::Number(time), Field::Text(text)],
+    )
+}
+
+/// Appends the line of a message that has a name alone.
+#[tactic(auto, unfolding(crate::specs::Message::canonical_field))]
+fn append_name_alone(out: &mut Vec<u8>, number: u8, name: Name<'_>) -> Result<(), AllocError>
+    requires { number < 100 }
+    ensures put { OnOk result (out.new.items ≡ out.old.items ++ (decimal number ++ canonical_field (NameField (name_bytes name.entry)))) }
+    ensures front { take (length out.old.items) out.new.items ≡ out.old.items }
+{
+    append_number(out, number)?;
+    append_piece(out, name.bytes())
+}
+
+/// Appends the line of a message that has a text alone.
+fn append_text_alone(out: &mut Vec<u8>, number: u8, text: &[u8]) -> Result<(), AllocError>
+    requires { number < 100 }
+    ensures put { OnOk result (out.new.items ≡ out.old.items ++ (decimal number ++ canonical_field (TextField text.now))) }
+    ensures front { take (length out.old.items) out.new.items ≡ out.old.items }
+{
+    append_number(out, number)?;
+    append_text(out, text)
+}
+
+/// Appends the line of a message that has a name and a text.
+fn append_name_and_text(
+    out: &mut Vec<u8>,
+    number: u8,
+    name: Name<'_>,
+    text: &[u8],
+) -> Result<(), AllocError>
+    requires { number < 100 }
+    ensures put { OnOk result (out.new.items ≡ out.old.items ++ (decimal number ++ (canonical_field (NameField (name_bytes name.entry)) ++ canonical_field (TextField text.now)))) }
+    ensures front { take (length out.old.items) out.new.items ≡ out.old.items }
+{
+    append_name_alone(out, number, name)?;
+    append_text(out, text)
 }
 
 /// Appends the line of a message.
 fn append_message(out: &mut Vec<u8>, message: &Message<'_>) -> Result<(), AllocError>
     ensures put { OnOk result (out.new.items ≡ out.old.items ++ canonical (message_of message.now)) }
-    ensures refused { OnErr result (out.new.items ≡ out.old.items) }
+    ensures front { take (length out.old.items) out.new.items ≡ out.old.items }
 {
     match message {
         Message::Welcome {
             name,
             last_login,
             last_host,
-        } => append_line(
-            out,
-            1,
-            &[
-                Field::Name(*name),
-                Field::Number(*last_login),
-                Field::Word(*last_host),
-            ],
-        ),
+        } => append_welcome(out, *name, *last_login, *last_host),
         Message::OwnInfo(info) => append_own_info(out, info),
-        Message::MotdBegin => append_line(out, 3, &[]),
-        Message::MotdEnd => append_line(out, 4, &[]),
+        Message::MotdBegin => append_number(out, 3),
+        Message::MotdEnd => append_number(out, 4),
         Message::WhoInfo(info) => append_who_info(out, info),
-        Message::WhoInfoEnd => append_line(out, 6, &[]),
-        Message::Login { name, text } => {
-            append_line(out, 7, &[Field::Name(*name), Field::Text(text)])
+        Message::WhoInfoEnd => append_number(out, 6),
+        Message::Login { name, text } => append_name_and_text(out, 7, *name, text),
+        Message::Logout { name, text } => append_name_and_text(out, 8, *name, text),
+        Message::MessageReceived { sender, time, text } => {
+            append_received(out, *sender, *time, text)
         }
-        Message::Logout { name, text } => {
-            append_line(out, 8, &[Field::Name(*name), Field::Text(text)])
-        }
-        Message::MessageReceived { sender, time, text } => append_line(
-            out,
-            9,
-            &[
-                Field::Name(*sender),
-                Field::Number(*time),
-                Field::Text(text),
-            ],
-        ),
-        Message::MessageDelivered { name } => append_line(out, 10, &[Field::Name(*name)]),
-        Message::MessageSaved { name } => append_line(out, 11, &[Field::Name(*name)]),
-        Message::Says { name, text } => {
-            append_line(out, 12, &[Field::Name(*name), Field::Text(text)])
-        }
-        Message::Shouts { name, text } => {
-            append_line(out, 13, &[Field::Name(*name), Field::Text(text)])
-        }
-        Message::Whispers { name, text } => {
-            append_line(out, 14, &[Field::Name(*name), Field::Text(text)])
-        }
-        Message::Kibitzes { name, text } => {
-            append_line(out, 15, &[Field::Name(*name), Field::Text(text)])
-        }
-        Message::YouSay { name, text } => {
-            append_line(out, 16, &[Field::Name(*name), Field::Text(text)])
-        }
-        Message::YouShout { text } => append_line(out, 17, &[Field::Text(text)]),
-        Message::YouWhisper { text } => append_line(out, 18, &[Field::Text(text)]),
-        Message::YouKibitz { text } => append_line(out, 19, &[Field::Text(text)]),
+        Message::MessageDelivered { name } => append_name_alone(out, 10, *name),
+        Message::MessageSaved { name } => append_name_alone(out, 11, *name),
+        Message::Says { name, text } => append_name_and_text(out, 12, *name, text),
+        Message::Shouts { name, text } => append_name_and_text(out, 13, *name, text),
+        Message::Whispers { name, text } => append_name_and_text(out, 14, *name, text),
+        Message::Kibitzes { name, text } => append_name_and_text(out, 15, *name, text),
+        Message::YouSay { name, text } => append_name_and_text(out, 16, *name, text),
+        Message::YouShout { text } => append_text_alone(out, 17, text),
+        Message::YouWhisper { text } => append_text_alone(out, 18, text),
+        Message::YouKibitz { text } => append_text_alone(out, 19, text),
     }
+}
+
+/// Appends the line of a message, or nothing where memory is refused.
+fn append_whole(out: &mut Vec<u8>, message: &Message<'_>) -> Result<(), AllocError>
+    ensures put { OnOk result (out.new.items ≡ out.old.items ++ canonical (message_of message.now)) }
+    ensures refused { OnErr result (out.new.items ≡ out.old.items) }
+{
+    let start = out.len();
+    let appended = append_message(out, message);
+    if appended.is_err() {
+        out.truncate(start);
+    }
+    appended
 }
 
 /// Appends the canonical line of a message, without a line end: its number, and each field after one space. A rating has two
@@ -243,5 +386,5 @@ pub fn print_message(
 {
     // A law, which costs nothing when it runs.
     messages_are_well_formed(message);
-    append_message(out, message)
+    append_whole(out, message)
 }

@@ -1,14 +1,9 @@
-use Rattle.std.proofs.Common.{◌≡◌, ◌++◌, sym, ap, ◌∙◌}
-use Rattle.fibs_cli.proofs.Escaping.{escaped_more, escaped_none}
+use Rattle.std.proofs.Common.{◌++◌, sym, ap, ◌∙◌}
+use Rattle.fibs_cli.proofs.Escaping.{escaped_plain}
 use Rattle.fibs_cli.proofs.Shown.{on_ok_grown}
 use Rattle.fibs_cli.proofs.escape.append_escaped.Goals as goal
 
-pub loop-at-preserved : goal.loop-at-preserved
-loop-at-preserved c =
-    escaped_more c.loop-at.text.items c.extend_from_slice.new.self.items _ c.loop-at.rest.now _ c.in-Some.at
-    (sym c.first_escaped.ensures ∙ c.in-Some.is) c.loop-at.invariant c.in_ok-extend_from_slice.ensures.items c.in_ok-append_hex.ensures
-
-pub returns : goal.returns
-returns c =
-    let plain = escaped_none c.loop-at.rest.now (sym c.first_escaped.ensures ∙ c.in_default.is) in
-    on_ok_grown c.extend_from_slice-2.result _ _ _ _ c.extend_from_slice-2.ensures.items (ap (λ l. c.loop-at.text.items ++ l) (sym plain) ∙ c.loop-at.invariant)
+pub returns-else-has_escaped : goal.returns-else-has_escaped
+returns-else-has_escaped c =
+    let plain = escaped_plain c.args.bytes.now (sym c.has_escaped.ensures ∙ c.if-has_escaped.false) in
+    on_ok_grown c.extend_from_slice.result _ _ _ _ c.extend_from_slice.ensures.items (ap (λ l. c.args.text.now.items ++ l) (sym plain))

@@ -1,6 +1,5 @@
-use Rattle.std.proofs.Common.{◌≡◌, ◌++◌, ◌∷◌, [], codes, ap, ◌∙◌, append_assoc}
+use Rattle.std.proofs.Common.{◌++◌, codes, ap, ◌∙◌, append_assoc}
 use Rattle.fibs_lines.specs.LineValue.{value_of}
-use Rattle.fibs_messages.specs.ReadingOf.{reading_of}
 use Rattle.fibs_cli.specs.Escape.{escaped}
 use Rattle.fibs_cli.specs.Show.{reading_text}
 use Rattle.fibs_cli.proofs.Shown.{cut_line, read_line, line_more}
@@ -21,8 +20,8 @@ returns c =
             c.in_ok-push.ensures.items,
       )
       | else-line+in_ok-append_reading w ↦ (
-        reading_text (reading_of w.read.result),
-        read_line line (reading_of w.read.result) w.if-line.false w.read.ensures.found,
-        line_more before c.if-line.text.items _ (reading_text (reading_of w.read.result)) (rw w.text-is w.in_ok-append_reading.ensures) c.in_ok-push.ensures.items,
+        reading_text w.in_ok-append_reading.ensures.0,
+        read_line line w.in_ok-append_reading.ensures.0 w.if-line.false w.in_ok-append_reading.ensures.1,
+        line_more before c.if-line.text.items _ (reading_text w.in_ok-append_reading.ensures.0) (rw w.text-is w.in_ok-append_reading.ensures.2) c.in_ok-push.ensures.items,
       )
     ]

@@ -31,14 +31,6 @@ write_number-start-requires-clause-room c =
     let room = room_left c.args.numbers.now i c.loop-left.left c.loop-left.start _ c.requires (omega arith) c.loop-left.invariant.count c.loop-left.invariant.room (to_z-of_z w32 z fits) in
     omega (arith, room)
 
-pub overflow_sub-start : goal.overflow_sub-start
-overflow_sub-start c =
-    let i = c.loop-left.left - 1 in
-    let z = get_or c.args.numbers.now i (pos 0) in
-    let fits : FitsSigned w32 z = search rules in
-    let room = room_left c.args.numbers.now i c.loop-left.left c.loop-left.start _ c.requires (omega arith) c.loop-left.invariant.count c.loop-left.invariant.room (to_z-of_z w32 z fits) in
-    omega (arith, room, c.write_number-start.ensures.start)
-
 pub loop-left-preserved : goal.loop-left-preserved
 loop-left-preserved c =
     let i = c.loop-left.left - 1 in
@@ -51,5 +43,5 @@ loop-left-preserved c =
       count = omega arith;
       within = omega (arith, c.write_number-start.ensures.start);
       room = omega (arith, room, c.write_number-start.ensures.start);
-      text = text_left c.args.numbers.now i c.loop-left.left c.loop-left.start c.write_number-start.result _ c.loop-left.text c.write_number-start.new.text c.requires there c.loop-left.invariant.count same c.loop-left.invariant.text c.write_number-start.ensures.written (omega (arith, room, c.write_number-start.ensures.start)) (omega (arith, c.write_number-start.array_long, c.write_number-start.ensures.start));
+      text = text_left c.args.numbers.now i c.loop-left.left c.loop-left.start c.write_number-start.result _ c.loop-left.text c.write_number-start.new.text c.requires there c.loop-left.invariant.count same c.loop-left.invariant.text c.write_number-start.ensures.written;
     }
