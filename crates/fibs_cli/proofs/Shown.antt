@@ -1,9 +1,8 @@
 -- The lines that are printed, one after the other.
-use Rattle.std.proofs.Common.{◌≡◌, ℕ, ◌-◌, ◌≤◌, List, [], ◌∷◌, ◌++◌, Bool, true, false, Option, None, Some, Result, Ok, Err, IfErr, OnOk, refl, sym, ap, subst, ◌∙◌, append_assoc, append-nil, take, drop, take-append-drop, min, length, codes, is_ok, if◌then◌else◌}
+use Rattle.std.proofs.Common.{◌≡◌, ℕ, ◌≤◌, List, [], ◌∷◌, ◌++◌, Bool, true, false, Option, None, Some, Result, Ok, Err, OnOk, refl, sym, ap, subst, ◌∙◌, append_assoc, append-nil, take, drop, take-append-drop, length, codes, is_ok, if◌then◌else◌}
 use Rattle.std.specs.Io.KnownBytes.{Appends, Consumes, Keeps}
 use Rattle.std.proofs.KnownBytes.{Consumes-nil, Appends-nil, Consumes-trans, Appends-trans}
-use Rattle.std.proofs.lemmas.List.{take_rest}
-use Rattle.fibs_lines.specs.Lines.{ReadLine, lines_of, rest_of, kept_limit}
+use Rattle.fibs_lines.specs.Lines.{ReadLine, lines_of}
 use Rattle.fibs_lines.proofs.StreamLawProofs.{empty_stream_has_no_line}
 use Rattle.fibs_lines.specs.LinesValue.{LinesValue, StandsAfter}
 use Rattle.fibs_lines.specs.LineValue.{value_of}
@@ -12,7 +11,7 @@ use Rattle.fibs_lines.specs.declared.lines.Fed.{Fed}
 use Rattle.fibs_lines.specs.declared.line.Line.{Line}
 use Rattle.fibs_messages.specs.Line.{ReadingValue, IsReading}
 use Rattle.fibs_cli.specs.Escape.{escaped}
-use Rattle.fibs_cli.specs.Show.{reading_text, ShownAs, ShownLine, ShownLines, ShowText, WroteLines, WroteAll, unfinished_text}
+use Rattle.fibs_cli.specs.Show.{reading_text, ShownAs, ShownLine, ShownLines, WroteLines, WroteAll, unfinished_text}
 use Rattle.fibs_cli.specs.Shows.{Shows, EndsText}
 
 -- a line that was cut

@@ -2,7 +2,7 @@
 use Rattle.std.specs.Prelude.{◌≡◌, ℕ, zero, List, [], ◌∷◌, ◌++◌, codes}
 use Rattle.std.specs.List.{flat_map}
 use Rattle.fibs_messages.specs.Board.{BoardFields}
-use Rattle.fibs_messages.specs.Line.{ReadingValue, board_line, text_line, malformed_line}
+use Rattle.fibs_messages.specs.Line.{ReadingValue, board_line, malformed_line}
 use Rattle.fibs_position.specs.DecisionValue.{move}
 use Rattle.fibs_position.specs.DirectionOf.{direction_of}
 use Rattle.fibs_position.specs.First.{IsFirst}

@@ -14,7 +14,7 @@ use std::io::{Read, Write};
 const MAX_READS: u32 = 1_000_000_000;
 
 /// How many bytes are asked for at once.
-const PORTION: usize = 1024;
+const PORTION: usize = 4096;
 
 /// Why a stream was not shown to its end.
 #[derive(Clone, Copy, Debug, PartialEq, Eq)]

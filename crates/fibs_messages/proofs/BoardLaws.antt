@@ -10,7 +10,8 @@ use Rattle.std.proofs.lemmas.List.{append-nil}
 use Rattle.std.proofs.lemmas.List.Splits.{join_with_byte-slice_split}
 use Rattle.fibs_messages.specs.Board.{BoardFields, IsBoard, BoardText, Fit, number, field_values, kinds, texts, spelling, pieces, without_spaces, Wrong}
 use Rattle.fibs_messages.specs.Numerals.{after_colons}
-use Rattle.fibs_messages.specs.Decimal.{allows, IsNarrow}
+use Rattle.fibs_messages.specs.Decimal.{allows}
+use Rattle.fibs_messages.specs.DecimalReading.{IsNarrow}
 use Rattle.fibs_messages.specs.BoardReading.{first_fault}
 use Rattle.fibs_messages.specs.declared.decimal.Values.{Values}
 use Rattle.fibs_messages.specs.declared.board.FieldFault.{FieldFault}

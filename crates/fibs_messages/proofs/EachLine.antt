@@ -9,7 +9,8 @@ use Rattle.std.proofs.lemmas.Bool.{cases_Bool}
 use Rattle.std.proofs.lemmas.List.Elements.{All-head, All-tail}
 use Rattle.std.proofs.lemmas.Slice.Eq.{bytes_eq-Decides}
 use Rattle.fibs_messages.specs.Board.{BoardFields, IsBoard, BoardText, Fit, Wrong, fault_unless, field_values, kinds, number, pieces, texts, without_spaces}
-use Rattle.fibs_messages.specs.Decimal.{IsNarrow, number_in}
+use Rattle.fibs_messages.specs.Decimal.{number_in}
+use Rattle.fibs_messages.specs.DecimalReading.{IsNarrow}
 use Rattle.fibs_messages.specs.Name.{is_name}
 use Rattle.fibs_messages.specs.BoardReading.{first_fault, fault_or}
 use Rattle.fibs_messages.specs.declared.board.FieldFault.{FieldFault}

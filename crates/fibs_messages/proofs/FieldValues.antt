@@ -9,7 +9,8 @@ use Rattle.std.proofs.lemmas.Bool.{cases_Bool, ne_eqb, and_parts, and_from, leb-
 use Rattle.std.proofs.lemmas.Bool.Decides.{nat_tests}
 use Rattle.std.proofs.lemmas.Int.{ints}
 use Rattle.std.proofs.lemmas.Fmt.{digits_decimal, decimal_digit, digits_value-decimal}
-use Rattle.fibs_messages.specs.Decimal.{is_positive, is_zero, allows, number_in, IsNarrow}
+use Rattle.fibs_messages.specs.Decimal.{is_positive, is_zero, allows, number_in}
+use Rattle.fibs_messages.specs.DecimalReading.{IsNarrow}
 use Rattle.fibs_messages.specs.Field.{Kind, a_name, a_word, a_tail, a_flag, a_number, a_rating, a_text, FieldValue, NameField, WordField, TailField, FlagField, NumberField, RatingField, TextField, kind_of, Spells, flag_text, flag_values, number_values}
 use Rattle.fibs_messages.specs.FieldReading.{◌>>=◌, good, natural, value_in}
 use Rattle.fibs_messages.specs.Name.{is_name}

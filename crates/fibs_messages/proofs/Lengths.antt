@@ -9,7 +9,8 @@ use Rattle.std.proofs.lemmas.Bool.Decides.{nat_tests}
 use Rattle.std.proofs.lemmas.Fmt.{length-decimal-le}
 use Rattle.std.proofs.lemmas.List.Elements.{All-head, All-tail}
 use Rattle.fibs_messages.specs.Board.{Fit, field_values}
-use Rattle.fibs_messages.specs.Decimal.{allows, IsNarrow}
+use Rattle.fibs_messages.specs.Decimal.{allows}
+use Rattle.fibs_messages.specs.DecimalReading.{IsNarrow}
 use Rattle.fibs_messages.proofs.Numbers.{allowed_narrow}
 use Rattle.std.specs.Int.{w32}
 use Rattle.fibs_messages.specs.declared.decimal.Values.{Values}

@@ -9,7 +9,8 @@ use Rattle.std.proofs.lemmas.Bool.{cases_eq, eq-eqb, ne_eqb}
 use Rattle.std.proofs.lemmas.Slice.Eq.{bytes_eq-Decides}
 use Rattle.fibs_messages.specs.Board.{Kind, board_word, player_name, number, fault_in, fault_unless, pieces}
 use Rattle.fibs_messages.specs.BoardReading.{first_fault, fault_or, pieces_of, pieces_left}
-use Rattle.fibs_messages.specs.Decimal.{IsNarrow, allows, number_in}
+use Rattle.fibs_messages.specs.Decimal.{allows, number_in}
+use Rattle.fibs_messages.specs.DecimalReading.{IsNarrow}
 use Rattle.fibs_messages.specs.Field.{a_name, FieldValue, NameField}
 use Rattle.fibs_messages.specs.FieldReading.{Left, left, numbered, next_at, field_at, text_at, end_at, value_in, good, this_word, ◌>>=◌}
 use Rattle.fibs_messages.specs.Name.{is_name}

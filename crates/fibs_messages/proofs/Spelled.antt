@@ -13,7 +13,8 @@ use Rattle.std.proofs.lemmas.Bool.Decides.{nat_tests}
 use Rattle.std.proofs.lemmas.Option.{cond_some}
 use Rattle.std.proofs.lemmas.Fmt.{decimal-digits_value, decimal_digit, decimal_nonempty, first_decimal, digits_decimal, digits_value-decimal}
 use Rattle.std.proofs.lemmas.Str.Parse.{IsNumeralModel, numerals_by_value}
-use Rattle.fibs_messages.specs.Decimal.{is_positive, is_zero, decimal_value, allows, IsNarrow, number_in, number_if_allowed}
+use Rattle.fibs_messages.specs.Decimal.{is_positive, is_zero, decimal_value, allows, number_in, number_if_allowed}
+use Rattle.fibs_messages.specs.DecimalReading.{IsNarrow}
 use Rattle.fibs_messages.specs.declared.decimal.Values.{Values}
 use Rattle.fibs_messages.specs.declared.decimal.Fault.TheVariants.{OutOfRange}
 use Rattle.fibs_messages.specs.declared.decimal.Fault.{Fault}

@@ -3,6 +3,7 @@ pub mod Board
 pub mod BoardProp
 pub mod BoardReading
 pub mod Decimal
+pub mod DecimalReading
 pub mod Field
 pub mod FieldOf
 pub mod FieldReading

@@ -6,7 +6,8 @@ ghost use Rattle.std.specs.List.{list_all};
 ghost use Rattle.std.specs.Str.Parse.{digits_value, starts_with_minus};
 ghost use Rattle.fibs_messages.specs.Field.{flag_values, number_values};
 ghost use Rattle.fibs_messages.specs.FieldReading.{Gives};
-ghost use Rattle.fibs_messages.specs.Decimal.{is_positive, is_zero, allows, IsNarrow, capped, decimal_value, number_if_allowed, number_in, unsigned_value};
+ghost use Rattle.fibs_messages.specs.Decimal.{is_positive, is_zero, allows, decimal_value, number_if_allowed, number_in};
+ghost use Rattle.fibs_messages.specs.DecimalReading.{IsNarrow, capped, unsigned_value};
 
 /// Why a field is wrong.
 #[derive(Clone, Copy, Debug, PartialEq, Eq)]

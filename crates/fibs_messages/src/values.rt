@@ -2,7 +2,7 @@
 
 ghost use Rattle.std.specs.Prelude.{◌≡◌, ◌<◌, ◌≤◌, true, slice_get, Some};
 ghost use Rattle.fibs_messages.specs.Board.{field_values, can_have};
-ghost use Rattle.fibs_messages.specs.Decimal.{IsNarrow};
+ghost use Rattle.fibs_messages.specs.DecimalReading.{IsNarrow};
 
 use crate::decimal::{Values, allows};
 

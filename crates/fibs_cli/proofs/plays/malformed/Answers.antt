@@ -1,4 +1,4 @@
-use Rattle.std.proofs.Common.{ap, ◌∙◌, ◌++◌, ◌∷◌, [], refl}
+use Rattle.std.proofs.Common.{ap, ◌∙◌, ◌++◌, ◌∷◌, []}
 use Rattle.std.specs.Fmt.{decimal}
 use Rattle.fibs_cli.specs.Show.{fault_name}
 use Rattle.fibs_cli.proofs.PlaysLemmas.{malformed_parts}

@@ -1,5 +1,5 @@
 use Rattle.std.proofs.Common.{◌≡◌, ◌++◌, ◌∷◌, [], ap, sym, subst, ◌∙◌}
-use Rattle.std.specs.Prelude.{codes, Err}
+use Rattle.std.specs.Prelude.{codes}
 use Rattle.fibs_messages.specs.Line.{board_line}
 use Rattle.fibs_messages.specs.StoredBoard.{fields_of}
 use Rattle.fibs_cli.specs.Plays.{position_fault_name, Refusal}

@@ -1,7 +1,7 @@
-use Rattle.std.proofs.Common.{rules, ◌≡◌, ◌++◌, ◌<◌, ℕ, List, [], arith, subst, ap, ◌∙◌, take, length}
+use Rattle.std.proofs.Common.{rules, ◌≡◌, ◌++◌, [], arith, subst, ap, ◌∙◌, take, length}
 use Rattle.std.specs.Io.KnownBytes.{Appends, Consumes}
 use Rattle.std.proofs.lemmas.List.{length-take}
-use Rattle.fibs_cli.proofs.Shown.{Passed, passed_nothing, passed_more, passed_part, passed_whole, kept_consumes, on_ok_weaker}
+use Rattle.fibs_cli.proofs.Shown.{passed_nothing, passed_more, passed_part, passed_whole, kept_consumes, on_ok_weaker}
 use Rattle.fibs_cli.proofs.show.show_stream.Goals as goal
 
 pub loop-init : goal.loop-init
@@ -29,6 +29,6 @@ returns-in-Err-clause-reader g c = λ _. passed_part _ _ _ _ _ _ _ [] 0 c.loop.i
 
 pub returns-in_err-append_portion-clause-memory : goal.returns-in_err-append_portion-clause-memory
 returns-in_err-append_portion-clause-memory g c = λ _.
-    let whole : length c.read.new.buf ≡ 1024 = search rules in
+    let whole : length c.read.new.buf ≡ 4096 = search rules in
     let piece = take c.in-Ok.count c.read.new.buf in
-    passed_part _ _ _ _ _ _ _ piece 1024 c.loop.invariant c.in-Ok.ensures.bytes.0 (omega (arith, length-take c.in-Ok.count c.read.new.buf, whole))
+    passed_part _ _ _ _ _ _ _ piece 4096 c.loop.invariant c.in-Ok.ensures.bytes.0 (omega (arith, length-take c.in-Ok.count c.read.new.buf, whole))
