@@ -28,12 +28,6 @@ grown-over : (room : ℕ) (old new : Bool) (front r q : List ℕ) → front ≡ 
     → new ≡ (old || nat_lt (room - length front) (length q)) → new ≡ nat_lt room (length (r ++ q))
 grown-over room old new front r q e f h = h ∙ ap (λ b. b || nat_lt (room - length front) (length q)) f ∙ ap (λ l. nat_lt room (length r) || nat_lt (room - length l) (length q)) e ∙ over-grown room r q
 
-pub Advances-nil : (v : Kept) → Advances v v []
-Advances-nil v = record {
-  stands = λ s h. subst (KeptAfter v) (sym (append-nil s)) h;
-  same_lines = λ s h. ap lines_of (append-nil s);
-}
-
 pub Advances-then : (u v w : Kept) (t t' : List ℕ) → Advances u v t → Advances v w t' → Advances u w (t ++ t')
 Advances-then u v w t t' a b = record {
   stands = λ s h. subst (KeptAfter w) (append_assoc s t t') (b.stands (s ++ t) (a.stands s h));

@@ -25,10 +25,6 @@ unfoldable pub after_end : List ℕ → List ℕ
 after_end [] = []
 after_end (x ∷ p) = cond (has_end p) (after_end p) (cond (is_line_end x) p (x ∷ p))
 
-pub has_end-cons : (x : ℕ) (p : List ℕ) → has_end (x ∷ p) ≡ cond (eqb x 10) true (has_end p)
-unfolding has_end
-has_end-cons x p = refl
-
 pub after_end_none : (q : List ℕ) → has_end q ≡ false → after_end q ≡ q
 unfolding after_end has_end
 after_end_none [] h = refl

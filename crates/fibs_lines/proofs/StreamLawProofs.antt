@@ -185,9 +185,6 @@ IsPrompt p = (p ≡ login_prompt) ⊎ (p ≡ command_prompt)
 begins : (l p : List ℕ) → starts_with nat_eq l p ≡ true → l ≡ p ++ drop (length p) l
 begins l p h = (starts_is Decides-eqb l p (starts_with nat_eq l p) refl).0 h
 
-begins_with : (l p rest : List ℕ) → l ≡ p ++ rest → starts_with nat_eq l p ≡ true
-begins_with l p rest e = (starts_is Decides-eqb l p (starts_with nat_eq l p) refl).1 rest e
-
 -- one prompt more in front
 PromptsThen-more : (l p q rest : List ℕ) → IsPrompt p → l ≡ p ++ q → PromptsThen q rest → PromptsThen l rest
 PromptsThen-more l p q rest is e h = record {

@@ -8,9 +8,10 @@ use Rattle.std.specs.Str.{bytes_eq}
 use Rattle.std.proofs.lemmas.Bool.{cases_Bool}
 use Rattle.std.proofs.lemmas.List.Elements.{All-head, All-tail}
 use Rattle.std.proofs.lemmas.Slice.Eq.{bytes_eq-Decides}
-use Rattle.fibs_messages.specs.Board.{BoardFields, IsBoard, BoardText, Fit, Wrong, fault_unless, field_values, kinds, number, pieces, texts, without_spaces}
+use Rattle.fibs_messages.specs.Board.{BoardFields, IsBoard, BoardText, Fit, Wrong, field_values, kinds, number, pieces, texts, without_spaces}
 use Rattle.fibs_messages.specs.Decimal.{number_in}
 use Rattle.fibs_messages.specs.DecimalReading.{IsNarrow}
+use Rattle.fibs_messages.specs.FirstFault.{bad_name_unless}
 use Rattle.fibs_messages.specs.Name.{is_name}
 use Rattle.fibs_messages.specs.BoardReading.{first_fault, fault_or}
 use Rattle.fibs_messages.specs.declared.board.FieldFault.{FieldFault}
@@ -56,7 +57,7 @@ no_fault : (n : ℕ) (o : Option Fault) (later : Option FieldFault) → fault_or
 no_fault n None later h = (refl, h)
 no_fault n (Some f) later h = absurd (some_none (record { field = n; fault = f }) h)
 
-good_unless : (good : Bool) → fault_unless good ≡ None → good ≡ true
+good_unless : (good : Bool) → bad_name_unless good ≡ None → good ≡ true
 good_unless true h = refl
 good_unless false h = absurd (some_none BadName h)
 

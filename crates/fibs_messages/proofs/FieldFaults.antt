@@ -6,8 +6,9 @@ use Rattle.fibs_messages.specs.declared.board.FieldFault.{FieldFault}
 use Rattle.fibs_messages.specs.declared.decimal.Fault.{Fault}
 use Rattle.fibs_messages.specs.declared.decimal.Fault.TheVariants.{Missing}
 use Rattle.fibs_messages.specs.Decimal.{number_in}
-use Rattle.fibs_messages.specs.Field.{Kind, a_name, a_word, a_tail, a_flag, a_number, a_rating, a_text, FieldValue, FlagField, NumberField, RatingField, TextField, takes_rest, may_be_absent, flag_values, number_values, bad_name_unless, fault_in, texts_for, fault_at}
+use Rattle.fibs_messages.specs.Field.{Kind, a_name, a_word, a_tail, a_flag, a_number, a_rating, a_text, FieldValue, FlagField, NumberField, RatingField, TextField, takes_rest, may_be_absent, flag_values, number_values, fault_in, texts_for, fault_at}
 use Rattle.fibs_messages.specs.FieldReading.{Left, left, ◌>>=◌, good, natural, numbered, fault_of_field, value_in, text_at, field_at, end_at, fields_at}
+use Rattle.fibs_messages.specs.FirstFault.{bad_name_unless}
 use Rattle.fibs_messages.specs.Name.{is_name}
 use Rattle.fibs_messages.specs.Rating.{rating_in}
 use Rattle.fibs_messages.specs.Split.{before, after}
@@ -16,7 +17,7 @@ use Rattle.fibs_messages.proofs.Faults.{option_same, some_none}
 
 -- ---- the fault of a text is that of reading it
 
-err_of_good : {A : Type 0} (test : Bool) (x : A) → result_err (good test x) ≡ bad_name_unless test
+pub err_of_good : {A : Type 0} (test : Bool) (x : A) → result_err (good test x) ≡ bad_name_unless test
 err_of_good true x = refl
 err_of_good false x = refl
 

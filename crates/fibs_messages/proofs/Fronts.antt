@@ -14,7 +14,20 @@ front_kept old more begun added now new first then kept =
     ∙ (append_assoc (old ++ more) added rest ∙ append_assoc old more (added ++ rest))) in
     ap (take (length old)) whole ∙ take-append_seam old (more ++ (added ++ rest))
 
--- three runs of fields are one
-pub runs_joined : {A : Type 0} (f : A → List ℕ) (old head : List ℕ) (xs ys zs : List A) → (((old ++ head) ++ flat_map f xs) ++ flat_map f ys) ++ flat_map f zs ≡ old ++ (head ++ flat_map f (xs ++ (ys ++ zs)))
-runs_joined f old head xs ys zs =
-    rw (flat_map-append f xs (ys ++ zs), flat_map-append f ys zs, append_assoc ((old ++ head) ++ flat_map f xs) (flat_map f ys) (flat_map f zs), append_assoc (old ++ head) (flat_map f xs) (flat_map f ys ++ flat_map f zs), append_assoc old head (flat_map f xs ++ (flat_map f ys ++ flat_map f zs)))
+-- four runs of fields are one
+pub runs_joined : {A : Type 0} (f : A → List ℕ) (old head : List ℕ) (ws xs ys zs : List A)
+    → ((((old ++ head) ++ flat_map f ws) ++ flat_map f xs) ++ flat_map f ys) ++ flat_map f zs ≡ old ++ (head ++ flat_map f (ws ++ (xs ++ (ys ++ zs))))
+runs_joined f old head ws xs ys zs =
+    let w = flat_map f ws in
+    let x = flat_map f xs in
+    let y = flat_map f ys in
+    let z = flat_map f zs in
+    rw (
+      flat_map-append f ws (xs ++ (ys ++ zs)),
+      flat_map-append f xs (ys ++ zs),
+      flat_map-append f ys zs,
+      append_assoc (((old ++ head) ++ w) ++ x) y z,
+      append_assoc ((old ++ head) ++ w) x (y ++ z),
+      append_assoc (old ++ head) w (x ++ (y ++ z)),
+      append_assoc old head (w ++ (x ++ (y ++ z))),
+    )

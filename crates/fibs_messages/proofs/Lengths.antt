@@ -42,10 +42,6 @@ decimal_short n limit =
     let ten : length (decimal n) ≤ 10 = length-decimal-le 10 n (omega arith) limit (omega arith) in
     by_count n (length (decimal n)) one two four seven eight ten
 
--- a number of 64 bits
-pub decimal_of_64_bits : (n : ℕ) → n < 2 ^ 64 → length (decimal n) ≤ 20
-decimal_of_64_bits n limit = length-decimal-le 20 n (omega arith) (omega (arith, limit)) limit
-
 digit_count-le : (m n : ℕ) → m ≤ n → digit_count m ≤ digit_count n
 digit_count-le m n le = grind (arith, nat_tests)
 

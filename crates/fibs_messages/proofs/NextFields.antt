@@ -7,7 +7,7 @@ use Rattle.std.specs.Str.{bytes_eq}
 use Rattle.std.specs.List.{onto_first}
 use Rattle.std.proofs.lemmas.Bool.{cases_eq, eq-eqb, ne_eqb}
 use Rattle.std.proofs.lemmas.Slice.Eq.{bytes_eq-Decides}
-use Rattle.fibs_messages.specs.Board.{Kind, board_word, player_name, number, fault_in, fault_unless, pieces}
+use Rattle.fibs_messages.specs.Board.{Kind, board_word, player_name, number, fault_in, pieces}
 use Rattle.fibs_messages.specs.BoardReading.{first_fault, fault_or, pieces_of, pieces_left}
 use Rattle.fibs_messages.specs.Decimal.{allows, number_in}
 use Rattle.fibs_messages.specs.DecimalReading.{IsNarrow}
@@ -19,7 +19,7 @@ use Rattle.fibs_messages.specs.declared.board.FieldFault.{FieldFault}
 use Rattle.fibs_messages.specs.declared.decimal.Fault.{Fault}
 use Rattle.fibs_messages.specs.declared.decimal.Fault.TheVariants.{Missing, Extra}
 use Rattle.fibs_messages.specs.declared.decimal.Values.{Values}
-use Rattle.fibs_messages.proofs.FieldFaults.{fault_of_value}
+use Rattle.fibs_messages.proofs.FieldFaults.{err_of_good, fault_of_value}
 use Rattle.fibs_messages.proofs.Spelled.{number_in_spelled}
 use Rattle.fibs_messages.proofs.Steps.{extra_piece}
 
@@ -126,12 +126,8 @@ reads_name text = fault_of_value a_name text
 pub reads_number : (values : Values) → Reads (number_in values) (number values)
 reads_number values text = refl
 
-unless_good : {A : Type 0} (test : Bool) (x : A) → result_err (good test x) ≡ fault_unless test
-unless_good true x = refl
-unless_good false x = refl
-
 pub reads_board : Reads (this_word (codes "board")) board_word
-reads_board text = unless_good (bytes_eq text (codes "board")) (codes "board")
+reads_board text = err_of_good (bytes_eq text (codes "board")) (codes "board")
 
 if_good : {A : Type 0} (test : Bool) (x y : A) → good test x ≡ Ok y → (test ≡ true) × (x ≡ y)
 if_good true x y h = (refl, cc)

@@ -2,7 +2,6 @@
 use Rattle.std.proofs.Common.{◌≡◌, ◌==◌, ℕ, zero, suc, ◌<◌, ◌+◌, true, List, [], ◌∷◌, ◌++◌, Some, length, get_or, take, drop, map, arith, refl, sym, ap, ◌∙◌, append_assoc, add-one, drop-cons}
 use Rattle.std.specs.Prelude.{ℤ, slice_get, slice_set}
 use Rattle.std.specs.List.{join_with_byte}
-use Rattle.std.proofs.lemmas.List.Concat.{flat_map-append}
 use Rattle.std.specs.Fmt.{signed_decimal}
 use Rattle.std.proofs.lemmas.List.{append-nil, take_more_set, take_more, map-append}
 use Rattle.std.proofs.lemmas.Option.{get_or_from_slice_get, slice_get_within}
@@ -61,11 +60,6 @@ fit_set [] (y ∷ ys) i z h good = absurd h
 fit_set (v ∷ vs) [] i z h good = absurd h
 fit_set (v ∷ vs) (y ∷ ys) zero z h good = (good, h.1)
 fit_set (v ∷ vs) (y ∷ ys) (suc i) z h good = (h.0, fit_set vs ys i z h.1 good)
-
-pub colons_more : (zs : List ℤ) (i : ℕ) (d : ℤ) → i < length zs → after_colons (take (i + 1) zs) ≡ after_colons (take i zs) ++ 58 ∷ signed_decimal (get_or zs i d)
-colons_more zs i d within =
-    ap after_colons (take_more zs i d within) ∙ flat_map-append (λ z. 58 ∷ signed_decimal z) (take i zs) (get_or zs i d ∷ [])
-    ∙ ap (λ l. after_colons (take i zs) ++ (58 ∷ l)) (append-nil (signed_decimal (get_or zs i d)))
 
 -- fields joined by colons, where all but the first are written after colons
 pub join_is_after : (x : List ℕ) (zs : List ℤ) → join_with_byte 58 (x ∷ map signed_decimal zs) ≡ x ++ after_colons zs

@@ -5,10 +5,10 @@ use Rattle.std.specs.Result.{result_err}
 use Rattle.std.specs.List.{AllZip, slice_split, suffix_len, join_with_byte}
 use Rattle.std.specs.Fmt.{signed_decimal}
 use Rattle.fibs_messages.specs.Decimal.{allows, number_in}
-use Rattle.fibs_messages.specs.FirstFault.{IsFirstFault}
+use Rattle.fibs_messages.specs.FirstFault.{IsFirstFault, bad_name_unless}
 use Rattle.fibs_messages.specs.Name.{is_name}
 use Rattle.fibs_messages.specs.declared.decimal.Fault.{Fault}
-use Rattle.fibs_messages.specs.declared.decimal.Fault.TheVariants.{Missing, Extra, BadName}
+use Rattle.fibs_messages.specs.declared.decimal.Fault.TheVariants.{Missing, Extra}
 use Rattle.fibs_messages.specs.declared.decimal.Values.{Values}
 use Rattle.fibs_messages.specs.declared.decimal.Values.TheVariants.{Between, Either}
 
@@ -130,14 +130,10 @@ pub data Kind : Type 0 where
 abbrev pub kinds : List Kind
 kinds = board_word ∷ player_name ∷ player_name ∷ map number field_values
 
--- a wrong word or name is a BadName
-abbrev pub fault_unless : Bool → Option Fault
-fault_unless good = cond good None (Some BadName)
-
 -- why a piece is not of its kind
 abbrev pub fault_in : Kind → List ℕ → Option Fault
-fault_in board_word text = fault_unless (bytes_eq text (codes "board"))
-fault_in player_name text = fault_unless (is_name text)
+fault_in board_word text = bad_name_unless (bytes_eq text (codes "board"))
+fault_in player_name text = bad_name_unless (is_name text)
 fault_in (number values) text = result_err (number_in values text)
 
 -- why a field is wrong: it is absent, surplus, or not of its kind

@@ -1,11 +1,12 @@
 -- The fields of a message: their kinds, how a value is spelled, and what is wrong with other texts.
-use Rattle.std.specs.Prelude.{◌≡◌, ℕ, ◌+◌, ◌/◌, ◌%◌, ◌<◌, Bool, true, false, cond, List, [], ◌∷◌, ◌++◌, Option, Some, None, decimal, pos, slice_get, if◌then◌else◌}
+use Rattle.std.specs.Prelude.{◌≡◌, ℕ, ◌+◌, ◌/◌, ◌%◌, ◌<◌, Bool, true, false, List, [], ◌∷◌, ◌++◌, Option, Some, None, decimal, pos, slice_get, if◌then◌else◌}
 use Rattle.std.specs.Result.{result_err}
 use Rattle.fibs_messages.specs.declared.decimal.Fault.{Fault}
-use Rattle.fibs_messages.specs.declared.decimal.Fault.TheVariants.{Missing, Extra, BadName}
+use Rattle.fibs_messages.specs.declared.decimal.Fault.TheVariants.{Missing, Extra}
 use Rattle.fibs_messages.specs.declared.decimal.Values.{Values}
 use Rattle.fibs_messages.specs.declared.decimal.Values.TheVariants.{Between}
 use Rattle.fibs_messages.specs.Decimal.{number_in}
+use Rattle.fibs_messages.specs.FirstFault.{bad_name_unless}
 use Rattle.fibs_messages.specs.Name.{is_name}
 use Rattle.fibs_messages.specs.Rating.{RatingText, rating_in}
 use Rattle.fibs_messages.specs.Split.{before, after}
@@ -84,9 +85,6 @@ flag_values = Between (pos 0) (pos 1)
 
 abbrev pub number_values : Values
 number_values = Between (pos 0) (pos 18446744073709551615)
-
-abbrev pub bad_name_unless : Bool → Option Fault
-bad_name_unless good = cond good None (Some BadName)
 
 -- what is wrong with a text that has to be of a kind, if anything
 abbrev pub fault_in : Kind → List ℕ → Option Fault

@@ -1,6 +1,6 @@
 //! Prints numbered messages.
 
-ghost use Rattle.std.specs.Prelude.{◌≡◌, ◌≤◌, ◌<◌, ◌+◌, ◌∷◌, [], ◌++◌, decimal, length, take, drop, OnOk, OnErr};
+ghost use Rattle.std.specs.Prelude.{◌≡◌, ◌<◌, ◌∷◌, [], ◌++◌, decimal, length, take, OnOk, OnErr};
 ghost use Rattle.std.specs.List.{flat_map};
 ghost use Rattle.fibs_messages.specs.Field.{NameField, FlagField, NumberField, RatingField, TextField};
 ghost use Rattle.fibs_messages.specs.FieldOf.{value_of, values_of};
@@ -12,7 +12,7 @@ use crate::laws::messages_are_well_formed;
 use crate::message::{Message, OwnInfo, WhoInfo};
 use crate::name::Name;
 use crate::word::Word;
-use itoa::{Buffer, write_digits};
+use itoa::Buffer;
 use std::alloc::{AllocError, Global};
 
 /// A field of a message.
@@ -24,54 +24,6 @@ pub enum Field<'a> {
     Number(u64),
     Rating(u32),
     Text(&'a [u8]),
-}
-
-/// The most bytes that the two flags, the rating and the three numbers of message 5 take, each with the space before it.
-const WHO_NUMBERS_LEN: usize = 91;
-
-/// Writes a space and the number so that they end before `end`, and gives where they start.
-#[inline(always)]
-#[tactic(auto, unfolding(crate::specs::Message::canonical_field))]
-fn write_number(text: &mut [u8; WHO_NUMBERS_LEN], end: usize, number: u64) -> usize
-    requires room { 21 ≤ end }
-    requires within { end ≤ 91 }
-    ensures start { end ≤ result + 21 }
-    ensures before { result ≤ end }
-    ensures written { drop result text.new ≡ canonical_field (NumberField number) ++ drop end text.old }
-{
-    let start = write_digits(number, text, end) - 1;
-    text[start] = b' ';
-    start
-}
-
-/// Writes a space and the rating, with two digits after its point, so that they end before `end`, and gives where they start.
-#[inline(always)]
-#[tactic(auto, unfolding(crate::specs::Message::canonical_field))]
-fn write_rating(text: &mut [u8; WHO_NUMBERS_LEN], end: usize, rating: u32) -> usize
-    requires room { 24 ≤ end }
-    requires within { end ≤ 91 }
-    ensures start { end ≤ result + 24 }
-    ensures before { result ≤ end }
-    ensures written { drop result text.new ≡ canonical_field (RatingField rating) ++ drop end text.old }
-{
-    text[end - 1] = b'0' + (rating % 10) as u8;
-    text[end - 2] = b'0' + (rating % 100 / 10) as u8;
-    text[end - 3] = b'.';
-    write_number(text, end - 3, u64::from(rating / 100))
-}
-
-/// Writes a space and the flag so that they end before `end`, and gives where they start.
-#[inline(always)]
-#[tactic(auto, unfolding(crate::specs::Message::canonical_field))]
-fn write_flag(text: &mut [u8; WHO_NUMBERS_LEN], end: usize, flag: bool) -> usize
-    requires room { 2 ≤ end }
-    requires within { end ≤ 91 }
-    ensures start { result + 2 ≡ end }
-    ensures written { drop result text.new ≡ canonical_field (FlagField flag) ++ drop end text.old }
-{
-    text[end - 1] = b'0' + u8::from(flag);
-    text[end - 2] = b' ';
-    end - 2
 }
 
 /// Appends a space and the bytes.
@@ -95,6 +47,26 @@ fn append_rating(out: &mut Vec<u8>, rating: u32) -> Result<(), AllocError>
     out.extend_from_slice(&[b'.', tenths, hundredths])
 }
 
+/// Appends a space and the flag, as 0 or 1.
+#[tactic(auto, unfolding(crate::specs::Message::canonical_field))]
+fn append_flag(out: &mut Vec<u8>, flag: bool) -> Result<(), AllocError>
+    ensures put { OnOk result (out.new.items ≡ out.old.items ++ canonical_field (FlagField flag)) }
+    ensures front { take (length out.old.items) out.new.items ≡ out.old.items }
+{
+    out.push(b' ')?;
+    out.push(b'0' + u8::from(flag))?;
+    Ok(())
+}
+
+/// Appends a space and the number.
+#[tactic(auto, unfolding(crate::specs::Message::canonical_field))]
+fn append_count(out: &mut Vec<u8>, count: u64) -> Result<(), AllocError>
+    ensures put { OnOk result (out.new.items ≡ out.old.items ++ canonical_field (NumberField count)) }
+    ensures front { take (length out.old.items) out.new.items ≡ out.old.items }
+{
+    append_piece(out, Buffer::new().format(count).as_bytes())
+}
+
 /// Appends a space and the text, or nothing where it is empty.
 #[tactic(auto, unfolding(crate::specs::Message::canonical_field))]
 fn append_text(out: &mut Vec<u8>, text: &[u8]) -> Result<(), AllocError>
@@ -116,8 +88,8 @@ fn append_field(out: &mut Vec<u8>, field: &Field<'_>) -> Result<(), AllocError>
     match field {
         Field::Name(name) => append_piece(out, name.bytes()),
         Field::Word(word) => append_piece(out, word.bytes()),
-        Field::Flag(flag) => append_piece(out, if *flag { b"1" } else { b"0" }),
-        Field::Number(number) => append_piece(out, Buffer::new().format(*number).as_bytes()),
+        Field::Flag(flag) => append_flag(out, *flag),
+        Field::Number(number) => append_count(out, *number),
         Field::Rating(rating) => append_rating(out, *rating),
         Field::Text(text) => append_text(out, text),
     }
@@ -177,7 +149,7 @@ fn own_info_fields<'a>(info: &OwnInfo<'a>) -> [Field<'a>; 21]
     ]
 }
 
-/// Appends three pieces.
+/// Appends three pieces, each behind a space.
 #[inline(always)]
 fn append_three(out: &mut Vec<u8>, one: &[u8], two: &[u8], three: &[u8]) -> Result<(), AllocError>
     ensures put { OnOk result (out.new.items ≡ out.old.items ++ flat_map (λ piece. 32 ∷ piece) (one.now ∷ two.now ∷ three.now ∷ [])) }
@@ -188,29 +160,24 @@ fn append_three(out: &mut Vec<u8>, one: &[u8], two: &[u8], three: &[u8]) -> Resu
     append_piece(out, three)
 }
 
-/// Writes the flags, the rating and the numbers of message 5 so that they end the text, and gives where they start.
-#[inline(always)]
-fn write_who_numbers(text: &mut [u8; WHO_NUMBERS_LEN], info: &WhoInfo<'_>) -> usize
-    ensures within { result ≤ 91 }
-    ensures written { drop result text.new ≡ flat_map canonical_field (FlagField info.now.ready ∷ FlagField info.now.away ∷ RatingField info.now.rating ∷ NumberField info.now.experience ∷ NumberField info.now.idle ∷ NumberField info.now.login ∷ []) }
-{
-    let mut start = write_number(text, WHO_NUMBERS_LEN, info.login);
-    start = write_number(text, start, info.idle);
-    start = write_number(text, start, info.experience);
-    start = write_rating(text, start, info.rating);
-    start = write_flag(text, start, info.away);
-    write_flag(text, start, info.ready)
-}
-
-/// Appends the flags, the rating and the numbers of message 5.
-#[inline(always)]
-fn append_who_numbers(out: &mut Vec<u8>, info: &WhoInfo<'_>) -> Result<(), AllocError>
-    ensures put { OnOk result (out.new.items ≡ out.old.items ++ flat_map canonical_field (FlagField info.now.ready ∷ FlagField info.now.away ∷ RatingField info.now.rating ∷ NumberField info.now.experience ∷ NumberField info.now.idle ∷ NumberField info.now.login ∷ [])) }
+/// Appends the flags and the rating of message 5.
+fn append_readiness(out: &mut Vec<u8>, info: &WhoInfo<'_>) -> Result<(), AllocError>
+    ensures put { OnOk result (out.new.items ≡ out.old.items ++ flat_map canonical_field (FlagField info.now.ready ∷ FlagField info.now.away ∷ RatingField info.now.rating ∷ [])) }
     ensures front { take (length out.old.items) out.new.items ≡ out.old.items }
 {
-    let mut text = [0; WHO_NUMBERS_LEN];
-    let start = write_who_numbers(&mut text, info);
-    out.extend_from_slice(&text[start..])
+    append_flag(out, info.ready)?;
+    append_flag(out, info.away)?;
+    append_rating(out, info.rating)
+}
+
+/// Appends the three numbers of message 5.
+fn append_counts(out: &mut Vec<u8>, info: &WhoInfo<'_>) -> Result<(), AllocError>
+    ensures put { OnOk result (out.new.items ≡ out.old.items ++ flat_map canonical_field (NumberField info.now.experience ∷ NumberField info.now.idle ∷ NumberField info.now.login ∷ [])) }
+    ensures front { take (length out.old.items) out.new.items ≡ out.old.items }
+{
+    append_count(out, info.experience)?;
+    append_count(out, info.idle)?;
+    append_count(out, info.login)
 }
 
 // The functions with rows of fields stay out of line, so that no other message pays for clearing those rows.
@@ -259,7 +226,8 @@ fn append_who_info(out: &mut Vec<u8>, info: &WhoInfo<'_>) -> Result<(), AllocErr
         info.opponent.bytes(),
         info.watching.bytes(),
     )?;
-    append_who_numbers(out, info)?;
+    append_readiness(out, info)?;
+    append_counts(out, info)?;
     append_three(
         out,
         info.hostname.bytes(),

@@ -1,5 +1,5 @@
 -- The test of a play is the rule.
-use Rattle.std.proofs.Common.{◌≡◌, ◌≢◌, ℕ, ◌-◌, ◌<◌, ◌≤◌, inl, inr, max, List, [], ◌∷◌, ◌++◌, length, Option, Some, None, Bool, true, false, refl, sym, ap, subst, ◌∙◌, arith, cond, eq-eqb}
+use Rattle.std.proofs.Common.{◌≡◌, ◌≢◌, ℕ, ◌-◌, ◌<◌, ◌≤◌, inl, inr, max, List, [], ◌∷◌, ◌++◌, length, Option, Some, None, Bool, true, refl, sym, ap, subst, ◌∙◌, arith, cond, eq-eqb}
 use Rattle.std.specs.Prelude.{◌&&◌, ◌||◌, ◌==◌, not, nat_lt}
 use Rattle.std.proofs.lemmas.Bool.{cases_lt, and_parts, and_from, or_cases, or_left, or_right, both_ways, eqb-true, eqb-false, ltb-true, lt-ltb, ne_eqb, cond-true, cond-false, cases_Bool, not-true, not_from_false, false≢true}
 use Rattle.fibs_position.specs.Hop.{Hop}
@@ -10,7 +10,7 @@ use Rattle.fibs_position.specs.LegalPlays.{IsLarger, LegalPlay}
 use Rattle.fibs_position.specs.Search.{one_of, AreDice, longest, most_of, follows, passes, can_play, are_two, larger_first, legal_of}
 use Rattle.fibs_position.proofs.OneLemmas.{one_sound, one_complete, chosen_true}
 use Rattle.fibs_position.proofs.RunLemmas.{longest-most, longest-reached}
-use Rattle.fibs_position.proofs.PartLemmas.{IsFront, front_from_part, part_from_held, part_from_swapped, dice_held, two_held, alike}
+use Rattle.fibs_position.proofs.PartLemmas.{IsFront, front_from_part, part_from_held, part_from_swapped, dice_held, two_held}
 use Rattle.fibs_position.proofs.MostLemmas.{most_is}
 
 -- a run of these steps by a front of these dice
@@ -77,13 +77,6 @@ two_from a b e =
 
 pub two_is : (a b : ℕ) → 0 < a → 0 < b → a ≢ b → are_two a b ≡ true
 two_is a b l r apart = and_from _ _ (lt-ltb 0 a l) (and_from _ _ (lt-ltb 0 b r) (not_from_false _ (ne_eqb a b apart)))
-
--- one order of the dice is enough where no two different ones are held
-pub most_alike : (p : Standing) → are_two p.first p.second ≡ false → longest p.checkers (held_of p.first p.second) ≡ most_of p
-most_alike p one =
-    let (die, n, pos, e, f) = alike p.first p.second (λ l r apart. both_ways _ one (two_is p.first p.second l r apart)) in
-    let same : longest p.checkers (held_of p.second p.first) ≡ longest p.checkers (held_of p.first p.second) = ap (longest p.checkers) (f ∙ sym e) in
-    omega (arith, same)
 
 pub larger_from : (p : Standing) → larger_first p ≡ true → IsLarger p (max p.first p.second) × (0 < longest p.checkers (max p.first p.second ∷ []))
 larger_from p e =

@@ -15,9 +15,10 @@ returns-clause-put c =
     let w = c.args.info.now in
     let P : List ℕ → Type 0 = λ l. OnOk c.append_three-2.result (c.append_three-2.new.out.items ≡ l) in
     let names = NameField (name_bytes w.name) ∷ NameField (name_bytes w.opponent) ∷ NameField (name_bytes w.watching) ∷ [] in
-    let numbers = FlagField w.ready ∷ FlagField w.away ∷ RatingField w.rating ∷ NumberField w.experience ∷ NumberField w.idle ∷ NumberField w.login ∷ [] in
+    let readiness = FlagField w.ready ∷ FlagField w.away ∷ RatingField w.rating ∷ [] in
+    let counts = NumberField w.experience ∷ NumberField w.idle ∷ NumberField w.login ∷ [] in
     let words = WordField (word_bytes w.hostname) ∷ WordField (word_bytes w.client) ∷ TailField (tail_bytes w.email) ∷ [] in
-    let joined : c.append_who_numbers.new.out.items ++ flat_map (λ piece. 32 ∷ piece) (c.bytes-4.result.now ∷ c.bytes-5.result.now ∷ c.bytes-6.result.now ∷ []) ≡ c.args.out.now.items ++ (decimal 5 ++ flat_map canonical_field (who_info_fields w)) =
-    rw (c.in_ok-append_who_numbers.ensures.put, c.in_ok-append_three.ensures.put, c.in_ok-append_number.ensures.put, c.bytes.ensures.value, c.bytes-2.ensures.value, c.bytes-3.ensures.value, c.bytes-4.ensures.value, c.bytes-5.ensures.value, c.bytes-6.ensures.value)
-    (runs_joined canonical_field c.args.out.now.items (decimal 5) names numbers words) in
+    let joined : c.append_counts.new.out.items ++ flat_map (λ piece. 32 ∷ piece) (c.bytes-4.result.now ∷ c.bytes-5.result.now ∷ c.bytes-6.result.now ∷ []) ≡ c.args.out.now.items ++ (decimal 5 ++ flat_map canonical_field (who_info_fields w)) =
+    rw (c.in_ok-append_counts.ensures.put, c.in_ok-append_readiness.ensures.put, c.in_ok-append_three.ensures.put, c.in_ok-append_number.ensures.put, c.bytes.ensures.value, c.bytes-2.ensures.value, c.bytes-3.ensures.value, c.bytes-4.ensures.value, c.bytes-5.ensures.value, c.bytes-6.ensures.value)
+    (runs_joined canonical_field c.args.out.now.items (decimal 5) names readiness counts words) in
     subst P joined c.append_three-2.ensures.put
