@@ -25,8 +25,8 @@ Reads the server's bytes from standard input, and prints for each line one of
   message N ...           a numbered message of CLIP, its fields right
   text TEXT               any other line
   cut TEXT                a line of more than 4096 bytes, of which these are the first
-  malformed N FIELD WHY   a board (N is 0) with a wrong field: WHY is Missing, Extra,
-                          NotANumber, OutOfRange or BadName
+  malformed N FIELD WHY   a board (N is 0) or message N whose field FIELD is the first that is
+                          wrong: WHY is Missing, Extra, NotANumber, OutOfRange or BadName
 
 and at the end, where bytes stand after the last line end,
 

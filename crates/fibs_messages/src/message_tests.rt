@@ -117,6 +117,12 @@ fn ratings_are_hundredths(rt: HostRuntime) {
         }
         _ => assert!(rt; false, "own info"),
     }
+    match read(
+        b"5 someplayer mgnu_advanced - 0 0 1912.15 827 8 1040515752 192.168.143.5 3DFiBs -",
+    ) {
+        Reading::Numbered(Message::WhoInfo(info)) => assert_eq!(rt; info.rating, 191_215),
+        _ => assert!(rt; false, "who info"),
+    }
 }
 
 /// Lines with a wrong field: the number, the field and what is wrong with it.

@@ -1,6 +1,6 @@
 //! Prints numbered messages.
 
-ghost use Rattle.std.specs.Prelude.{◌≡◌, ◌<◌, ◌∷◌, [], ◌++◌, decimal, length, take, OnOk, OnErr};
+ghost use Rattle.std.specs.Prelude.{◌≡◌, ◌∷◌, [], ◌++◌, decimal, length, take, OnOk, OnErr};
 ghost use Rattle.std.specs.List.{flat_map};
 ghost use Rattle.fibs_messages.specs.Field.{NameField, FlagField, NumberField, RatingField, TextField};
 ghost use Rattle.fibs_messages.specs.FieldOf.{value_of, values_of};
@@ -95,22 +95,16 @@ fn append_field(out: &mut Vec<u8>, field: &Field<'_>) -> Result<(), AllocError>
     }
 }
 
-/// Appends the number of a message, which has one digit or two.
-#[inline(always)]
+/// Appends the number of a message.
 fn append_number(out: &mut Vec<u8>, number: u8) -> Result<(), AllocError>
-    requires { number < 100 }
     ensures put { OnOk result (out.new.items ≡ out.old.items ++ decimal number) }
     ensures front { take (length out.old.items) out.new.items ≡ out.old.items }
 {
-    if number > 9 {
-        return out.extend_from_slice(&[b'0' + number / 10, b'0' + number % 10]);
-    }
-    out.extend_from_slice(&[b'0' + number])
+    out.extend_from_slice(Buffer::new().format(number).as_bytes())
 }
 
 /// Appends the number of a message and its fields.
 fn append_fields(out: &mut Vec<u8>, number: u8, fields: &[Field<'_>]) -> Result<(), AllocError>
-    requires { number < 100 }
     ensures put { OnOk result (out.new.items ≡ out.old.items ++ (decimal number ++ flat_map canonical_field (values_of fields.now))) }
     ensures front { take (length out.old.items) out.new.items ≡ out.old.items }
 {
@@ -257,7 +251,6 @@ fn append_received<'a>(
 /// Appends the line of a message that has a name alone.
 #[tactic(auto, unfolding(crate::specs::Message::canonical_field))]
 fn append_name_alone(out: &mut Vec<u8>, number: u8, name: Name<'_>) -> Result<(), AllocError>
-    requires { number < 100 }
     ensures put { OnOk result (out.new.items ≡ out.old.items ++ (decimal number ++ canonical_field (NameField (name_bytes name.entry)))) }
     ensures front { take (length out.old.items) out.new.items ≡ out.old.items }
 {
@@ -267,7 +260,6 @@ fn append_name_alone(out: &mut Vec<u8>, number: u8, name: Name<'_>) -> Result<()
 
 /// Appends the line of a message that has a text alone.
 fn append_text_alone(out: &mut Vec<u8>, number: u8, text: &[u8]) -> Result<(), AllocError>
-    requires { number < 100 }
     ensures put { OnOk result (out.new.items ≡ out.old.items ++ (decimal number ++ canonical_field (TextField text.now))) }
     ensures front { take (length out.old.items) out.new.items ≡ out.old.items }
 {
@@ -282,7 +274,6 @@ fn append_name_and_text(
     name: Name<'_>,
     text: &[u8],
 ) -> Result<(), AllocError>
-    requires { number < 100 }
     ensures put { OnOk result (out.new.items ≡ out.old.items ++ (decimal number ++ (canonical_field (NameField (name_bytes name.entry)) ++ canonical_field (TextField text.now)))) }
     ensures front { take (length out.old.items) out.new.items ≡ out.old.items }
 {

@@ -26,6 +26,8 @@ mod test_cases;
 #[cfg(test)]
 mod test_choices;
 #[cfg(test)]
+mod test_known_boards;
+#[cfg(test)]
 mod test_rows;
 #[cfg(test)]
 mod test_turns;
