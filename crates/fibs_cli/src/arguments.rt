@@ -82,6 +82,7 @@ pub fn read<'a>(alloc: Global, words: &'a [String]) -> Answer<'a> {
     match matches_of(alloc, words) {
         Ok(matches) => match request_of(&matches) {
             Some(request) => Answer::Request(request),
+            // The command line needs a subcommand and a line, so this does not come.
             None => Answer::Memory,
         },
         Err(error) if error.kind() == ErrorKind::OutOfMemory => Answer::Memory,

@@ -8,7 +8,7 @@ use thiserror::Error;
 /// Why an engine stopped before its end.
 #[derive(Clone, Copy, Debug, PartialEq, Eq, Error)]
 pub enum EngineFault {
-    /// A reader or a writer failed, or a reader never ended.
+    /// A reader or a writer failed, or a reader did not end within 1,000,000,000 reads.
     #[error("device")]
     Device,
     /// Memory ran out.

@@ -10,7 +10,7 @@ use fibs_lines::Lines;
 use std::alloc::{AllocError, Global};
 use std::io::{Read, Write};
 
-/// How often a reader is asked for bytes.
+/// The most times that a reader is asked for bytes.
 const MAX_READS: u32 = 1_000_000_000;
 
 /// How many bytes are asked for at once.

@@ -1,4 +1,4 @@
--- The fields of a `Lines` as its value. No public contract rests on more of this file than that it says what a `Lines` keeps.
+-- The fields of a `Lines` as its value: the abstraction that its `Model` names.
 use Rattle.std.specs.Prelude.{ℕ, Bool, false, ◌||◌, nat_lt, List, [], length, take, None, Some, if◌then◌else◌}
 use Rattle.std.specs.Str.Lines.{strip_carriage_return}
 use Rattle.fibs_lines.specs.Lines.{kept_limit, without_prompts, ReadLine}

@@ -1,4 +1,4 @@
--- Laws of the definitions, for the layers above: the contracts of the functions in `laws`.
+-- Laws of the definitions: the contracts of the functions in `laws`.
 use Rattle.std.specs.Prelude.{◌≡◌, ℕ, ◌≤◌, ◌⊎◌, ◌≢◌, false, nat_eq, List, [], ◌∷◌, ◌++◌, length, All}
 use Rattle.std.specs.List.{starts_with, slice_split, concat}
 use Rattle.fibs_lines.specs.Lines.{kept_limit, plain, is_line_end, finished_parts, login_prompt, command_prompt, without_prompts, ReadLine, lines_of, rest_of}

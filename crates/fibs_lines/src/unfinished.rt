@@ -1,4 +1,4 @@
-ghost use Rattle.std.specs.Prelude.{true, false, IfNone, IfSome, ◌≡◌, ◌+◌, ◌-◌, ◌<◌, ◌≤◌, ℕ, ◌||◌, nat_lt, length, take, ◌++◌, ◌∷◌, [], slice_index, MatchOption, ◌≢◌, ◌↔◌, IsTrue};
+ghost use Rattle.std.specs.Prelude.{true, false, IfNone, IfSome, ◌≡◌, ◌+◌, ◌-◌, ◌<◌, ◌≤◌, ◌||◌, nat_lt, length, take, ◌++◌, ◌∷◌, [], slice_index, ◌≢◌};
 ghost use Rattle.fibs_lines.specs.Progress.{IsRun, ends_run};
 
 use crate::LIMIT;

@@ -1,14 +1,12 @@
 //! Boards of FIBS board style 3.
 
-ghost use Rattle.std.specs.Prelude.{◌≡◌, ◌≢◌, ◌≤◌, IfSome, IsSome, ◌↔◌, ◌≤ℤ◌, ◌⊎◌, pos, negsuc, ◌++◌, ◌+◌, ℕ, true, length, replicate, IfOk, IfErr, option_map, Ok, Err};
+ghost use Rattle.std.specs.Prelude.{◌≡◌, ◌≢◌, ◌≤◌, IfSome, IsSome, ◌↔◌, ◌≤ℤ◌, ◌⊎◌, pos, negsuc, ◌++◌, ◌+◌, ℕ, true, length, IfOk, IfErr, option_map, Ok, Err};
 ghost use Rattle.fibs_messages.specs.Stored.{name_of};
 ghost use Rattle.fibs_messages.specs.BoardProp.{IsBoard-prop};
 ghost use Rattle.fibs_messages.specs.Name.{is_name};
 ghost use Rattle.fibs_messages.specs.NameBytes.{name_bytes};
 ghost use Rattle.arrayvec.specs.ArrayVec.{array_vec_len};
-ghost use Rattle.fibs_messages.specs.BoardReading.{first_fault};
-ghost use Rattle.fibs_messages.specs.Board.{BoardFields, IsBoard, Fit, field_values, spelling, BoardText, Wrong, kinds, pieces, texts, without_spaces, field_of, can_have, with_field};
-ghost use Rattle.fibs_messages.specs.Numerals.{after_colons};
+ghost use Rattle.fibs_messages.specs.Board.{BoardFields, IsBoard, Fit, field_values, spelling, BoardText, Wrong, field_of, can_have, with_field};
 
 use crate::decimal::Fault;
 use crate::name::Name;

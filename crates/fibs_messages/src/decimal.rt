@@ -16,11 +16,11 @@ pub enum Fault {
     Missing,
     /// It follows the last field.
     Extra,
-    /// It is no canonical decimal.
+    /// It is not spelled as a number of its kind.
     NotANumber,
-    /// It is a canonical decimal, and not one that the field may have.
+    /// It is spelled as a number, and not one that the field may have.
     OutOfRange,
-    /// It is no name, or not the word that has to stand there.
+    /// It is no name, word or tail where one has to stand, or not the word `board`.
     BadName,
 }
 

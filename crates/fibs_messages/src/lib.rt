@@ -2,6 +2,7 @@
 #![tactic(auto)]
 
 mod board;
+mod dash;
 mod decimal;
 mod fields;
 pub mod laws;

@@ -1,8 +1,10 @@
 //! Names of players.
 
-ghost use Rattle.std.specs.Prelude.{◌≡◌, ◌≤◌, ◌==◌, true, IsSome, IsTrue, ◌↔◌, IfSome, [], ◌∷◌};
+ghost use Rattle.std.specs.Prelude.{◌≡◌, ◌==◌, true, IsSome, IsTrue, ◌↔◌, IfSome, [], ◌∷◌};
 ghost use Rattle.std.specs.List.{list_all};
 ghost use Rattle.fibs_messages.specs.Name.{is_name, is_name_byte};
+
+use crate::dash::is_dash;
 
 /// The name of a player, borrowed: 1 to 64 printable bytes of ASCII (33 to 126) without a colon.
 #[derive(Clone, Copy, Debug, PartialEq, Eq)]
@@ -60,6 +62,6 @@ impl<'a> Name<'a> {
     pub fn is_dash(&self) -> bool
         ensures { IsTrue result ↔ (name_bytes self.now ≡ 45 ∷ []) }
     {
-        self.bytes.len() == 1 && self.bytes[0] == b'-'
+        is_dash(self.bytes)
     }
 }

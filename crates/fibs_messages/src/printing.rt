@@ -174,7 +174,7 @@ fn append_counts(out: &mut Vec<u8>, info: &WhoInfo<'_>) -> Result<(), AllocError
     append_count(out, info.login)
 }
 
-// The functions with rows of fields stay out of line, so that no other message pays for clearing those rows.
+// The longer messages stay out of line, so that no other pays for clearing their room.
 
 /// Appends the line of message 1.
 #[inline(never)]

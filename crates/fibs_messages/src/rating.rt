@@ -1,6 +1,6 @@
 //! Ratings, in hundredths.
 
-ghost use Rattle.std.specs.Prelude.{◌≡◌, ◌+◌, ◌*◌, ◌<◌, ◌||◌, true, false, MatchOption};
+ghost use Rattle.std.specs.Prelude.{◌≡◌, ◌+◌, ◌*◌, ◌<◌, true, false, MatchOption};
 ghost use Rattle.std.specs.Char.{is_ascii_digit};
 ghost use Rattle.fibs_messages.specs.FieldReading.{seen};
 ghost use Rattle.fibs_messages.specs.Rating.{is_fraction, hundredths_of, rating_in};

@@ -4,6 +4,8 @@ ghost use Rattle.std.specs.Prelude.{◌≡◌, ◌==◌, ◌↔◌, [], ◌∷�
 ghost use Rattle.std.specs.List.{list_all};
 ghost use Rattle.fibs_messages.specs.Word.{is_word, is_tail};
 
+use crate::dash::is_dash;
+
 /// A word of a message: 1 or more bytes, none of them a space. It borrows them.
 #[derive(Clone, Copy, Debug, PartialEq, Eq)]
 pub struct Word<'a> {
@@ -51,7 +53,7 @@ impl<'a> Word<'a> {
     pub fn is_dash(&self) -> bool
         ensures { IsTrue result ↔ (word_bytes self.now ≡ 45 ∷ []) }
     {
-        self.bytes.len() == 1 && self.bytes[0] == b'-'
+        is_dash(self.bytes)
     }
 }
 
@@ -82,6 +84,6 @@ impl<'a> Tail<'a> {
     pub fn is_dash(&self) -> bool
         ensures { IsTrue result ↔ (tail_bytes self.now ≡ 45 ∷ []) }
     {
-        self.bytes.len() == 1 && self.bytes[0] == b'-'
+        is_dash(self.bytes)
     }
 }

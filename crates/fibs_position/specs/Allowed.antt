@@ -65,7 +65,7 @@ pub record IsAllowed (b : BoardFields) (decision : DecisionValue) : Type 0 where
   pub right : IsRightKind b decision
   pub legal : IsLegal b decision
 
--- the same as functions, for the layers above
+-- the same as functions
 
 abbrev pub is_for : DecisionValue → Phase → Bool
 is_for roll RollOrDouble = true

@@ -1,6 +1,6 @@
 -- What becomes of a board when a decision is carried out.
 --
--- The model server asks for less than the rules do: of a move it asks that at each step a checker stands at the source and
+-- The effect asks for less than the rules do: of a move it asks that at each step a checker stands at the source and
 -- no two of the opponent's at the target, and nothing of dice lengths, of the bar, of bearing off or of the fullest use of the dice.
 use Rattle.std.specs.Prelude.{◌≡◌, ◌≢◌, ◌≤ℤ◌, ◌<◌, ◌≤◌, ◌==◌, ◌+ℤ◌, ◌-ℤ◌, ◌-◌, ◌++◌, ℕ, ℤ, pos, neg_ℤ, List, [], ◌∷◌, map, slice_set, slice_index, if◌then◌else◌}
 use Rattle.std.specs.Ordering.{int_eq}

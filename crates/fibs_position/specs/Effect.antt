@@ -1,4 +1,4 @@
--- A play as the model server carries it out.
+-- A play as `effect` carries it out.
 use Rattle.std.specs.Prelude.{◌≡◌, ◌<◌, List, [], ◌∷◌, slice_index}
 use Rattle.fibs_position.specs.Hop.{Hop}
 use Rattle.fibs_position.specs.Checkers.{Checkers, IsOpen, moved}

@@ -1,4 +1,4 @@
--- What a decision leads to, as a function: for the layers above.
+-- What a decision leads to, as a function.
 use Rattle.std.specs.Prelude.{◌&&◌, not, ℕ, pos, Bool, List, Option, Some, None, option_map, slice_index, if◌then◌else◌, int_le, nat_lt, nat_le, codes}
 use Rattle.std.specs.Str.{bytes_eq}
 use Rattle.std.specs.Ordering.{int_eq}

@@ -1,4 +1,4 @@
--- That a board is good has one proof.
+-- That a board is good has one proof. No public contract rests on this.
 use Rattle.std.proofs.Props.{props}
 use Rattle.fibs_messages.specs.Board.{BoardFields}
 use Rattle.fibs_messages.specs.BoardProp.{IsBoard-prop}

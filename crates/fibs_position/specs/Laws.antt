@@ -20,17 +20,17 @@ StepsSwap =
     (p r q : Checkers) (low low_to high high_to die : ℕ) → 0 < die → low < high → One p low low_to die r → One r high high_to die q
     → (other : Checkers) × One p high high_to die other × One other low low_to die q
 
--- each phase is the first line of the table that fits, and the function of the layers above tells it
+-- the function `phase_of` tells each phase, which is the first line of the table that fits
 abbrev pub PhaseIsExact : Type 0
 PhaseIsExact = (b : BoardFields) (phase : Phase) → IsGood b → (phase_of b ≡ phase) ↔ IsPhase b phase
 
--- so does that for the decisions allowed
+-- the function `allowed_of` tells exactly the decisions that are allowed, and the first reason against each other one
 abbrev pub AllowedIsExact : Type 0
 AllowedIsExact =
     (b : BoardFields) (decision : DecisionValue) → IsGood b
     → ((allowed_of b decision ≡ None) ↔ IsAllowed b decision) × ((why : Disallowed) → (allowed_of b decision ≡ Some why) ↔ IsDisallowed b decision why)
 
--- and that for what is carried out
+-- the function `effect_of` tells exactly the boards that decisions lead to
 abbrev pub EffectIsExact : Type 0
 EffectIsExact =
     (b : BoardFields) (decision : DecisionValue) (dice : List ℕ) (after : BoardFields) → IsBoard b

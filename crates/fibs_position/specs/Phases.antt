@@ -35,7 +35,7 @@ decides RollOrDouble = true
 decides Move = true
 decides Passing = false
 
--- the same as functions, for the layers above
+-- the same as functions
 
 abbrev pub can_move : BoardFields → Bool
 can_move b = can_play (own_view b) (first_die b) || can_play (own_view b) (second_die b)

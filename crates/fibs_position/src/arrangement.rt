@@ -1,6 +1,6 @@
 //! The checkers of both sides.
 
-ghost use Rattle.std.specs.Prelude.{◌≡◌, ℕ, ◌+◌, ◌-◌, ◌<◌, ◌≤◌, ◌==◌, sum, length, map, slice_index, ◌↔◌, IsSome};
+ghost use Rattle.std.specs.Prelude.{◌≡◌, ◌+◌, ◌-◌, ◌<◌, ◌≤◌, ◌==◌, sum, map, slice_index, ◌↔◌, IsSome};
 ghost use Rattle.std.specs.List.{list_all};
 ghost use Rattle.fibs_position.specs.StepValue.{hop_of};
 ghost use Rattle.fibs_position.specs.Checkers.{Checkers, moved};
@@ -140,7 +140,7 @@ impl Arrangement {
         }
     }
 
-    /// One step as the model server carries it out.
+    /// One step as `effect` carries it out.
     fn lax_one(&self, step: Step) -> Option<Self>
         ensures { result ≡ lax_one self.now (hop_of step) }
     {
@@ -153,7 +153,7 @@ impl Arrangement {
         }
     }
 
-    /// The arrangement after the model server carried out these steps. None where it does not.
+    /// The arrangement after these steps, as `effect` carries them out. None where it does not.
     pub(crate) fn carried_out(&self, steps: &[Step]) -> Option<Self>
         ensures { result ≡ lax_of self.now (map hop_of steps.now) }
     {

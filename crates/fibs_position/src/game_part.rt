@@ -1,9 +1,7 @@
 //! Whether the game has gone on from one board to another.
 
-ghost use Rattle.std.specs.Prelude.{◌≡◌, ◌≤◌, ◌↔◌, ◌-◌, ◌+◌, map, IsTrue};
-ghost use Rattle.std.specs.List.{range_with_len};
+ghost use Rattle.std.specs.Prelude.{◌≡◌, ◌≤◌, ◌↔◌, ◌-◌, ◌+◌, IsTrue};
 ghost use Rattle.fibs_messages.specs.StoredBoard.{fields_of};
-ghost use Rattle.fibs_messages.specs.Board.{field_of};
 ghost use Rattle.fibs_position.specs.GamePart.{Differ, Agree, game_part};
 
 use fibs_messages::Board;

@@ -31,22 +31,22 @@ pub fn steps_swap()
     ensures { StepsSwap }
 {}
 
-/// Each legal play can be carried out by the model server.
+/// Each legal play is carried out by `effect`.
 pub fn legal_is_carried_out()
     ensures { LegalIsCarriedOut }
 {}
 
-/// The phase that the layers above compute with is that of the table.
+/// The function `phase_of` is the table of phases.
 pub fn phase_is_exact()
     ensures { PhaseIsExact }
 {}
 
-/// The answer that the layers above compute with is that of the rules.
+/// The function `allowed_of` is the table of decisions allowed.
 pub fn allowed_is_exact()
     ensures { AllowedIsExact }
 {}
 
-/// The board that the layers above compute with is that of the table of decisions.
+/// The function `effect_of` is the table of what decisions lead to.
 pub fn effect_is_exact()
     ensures { EffectIsExact }
 {}

@@ -1,6 +1,6 @@
 //! The search through runs of steps.
 
-ghost use Rattle.std.specs.Prelude.{◌≡◌, ℕ, ◌+◌, ◌-◌, ◌<◌, ◌≤◌, ◌==◌, length, map};
+ghost use Rattle.std.specs.Prelude.{◌≡◌, ◌+◌, ◌-◌, ◌≤◌, length, map};
 ghost use Rattle.fibs_position.specs.StepValue.{hop_of};
 ghost use Rattle.fibs_position.specs.Search.{AreDice, longest, follows};
 

@@ -17,7 +17,9 @@ pub enum Choice {
 pub fn play(steps: &[(u8, u8)]) -> Result<Play, Fail> {
     let mut play = Play::new();
     for (source, target) in steps {
-        let _ = play.push(Step::new(*source, *target).ok_or("step")?);
+        let step = Step::new(*source, *target).ok_or("step")?;
+        let pushed = if play.push(step) { Some(()) } else { None };
+        pushed.ok_or("a fifth step")?;
     }
     Ok(play)
 }

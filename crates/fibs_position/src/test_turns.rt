@@ -377,7 +377,7 @@ fn a_play_has_four_steps(rt: HostRuntime) -> Result<(), Fail> {
     Ok(())
 }
 
-/// What the model server makes of a step, which asks for no dice.
+/// What `effect` makes of a step, which asks for no dice.
 #[test]
 fn carried_out(rt: HostRuntime) -> Result<(), Fail> {
     let start = arrangement(&[(24, 2)], &[(18, 1), (12, 2)])?;

@@ -1,6 +1,6 @@
 //! Turns: an arrangement to be played by the two dice shown.
 
-ghost use Rattle.std.specs.Prelude.{◌≡◌, ℕ, ◌+◌, ◌-◌, ◌<◌, ◌≤◌, ◌↔◌, ◌||◌, [], map, IsTrue, take, max, OnOk, IfOk};
+ghost use Rattle.std.specs.Prelude.{◌≡◌, ◌-◌, ◌<◌, ◌≤◌, ◌↔◌, ◌||◌, [], map, IsTrue, take, max, OnOk, IfOk};
 ghost use Rattle.std.specs.List.{fold};
 ghost use Rattle.fibs_position.specs.StepValue.{hop_of};
 ghost use Rattle.fibs_position.specs.PlayValue.{hops_of};
