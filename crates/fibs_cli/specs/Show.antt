@@ -48,6 +48,9 @@ abbrev pub ShowText : List ℕ → List ℕ → Type 0
 ShowText s text = (shown : List ℕ) × ShownLines (lines_of s) shown
     × (text ≡ shown ++ unfinished_text (min kept_limit (length (rest_of s))))
 
+-- What a reader has left, and what a writer holds, is Some list where it tells its bytes, and None where it tells nothing:
+-- of the latter the next two say nothing.
+
 -- a reader lost some bytes, and a writer gained just what is printed for the lines of all but the last of them, which are no more than `unshown`
 abbrev pub WroteLines : ℕ → Option (List ℕ) → Option (List ℕ) → Option (List ℕ) → Option (List ℕ) → Type 0
 WroteLines unshown left still_left held now = (s more text : List ℕ) × (length more ≤ unshown) × Consumes left still_left (s ++ more)
