@@ -21,13 +21,16 @@ take-grown (suc room) (x ∷ r) q = ap (λ l. x ∷ l) (ap (λ n. take room r ++
 pub over-grown : (room : ℕ) (r q : List ℕ) → (nat_lt room (length r) || nat_lt (room - length (take room r)) (length q)) ≡ nat_lt room (length (r ++ q))
 over-grown room r q = let a = length-take room r in let b = length-append r q in grind arith
 
+-- what is kept at the front, when a stream goes on
 grown-front : (room : ℕ) (old new r q : List ℕ) → old ≡ take room r → new ≡ old ++ take (room - length old) q → new ≡ take room (r ++ q)
 grown-front room old new r q e h = h ∙ ap (λ l. l ++ take (room - length l) q) e ∙ take-grown room r q
 
+-- whether there is more than is kept, when a stream goes on
 grown-over : (room : ℕ) (old new : Bool) (front r q : List ℕ) → front ≡ take room r → old ≡ nat_lt room (length r)
     → new ≡ (old || nat_lt (room - length front) (length q)) → new ≡ nat_lt room (length (r ++ q))
 grown-over room old new front r q e f h = h ∙ ap (λ b. b || nat_lt (room - length front) (length q)) f ∙ ap (λ l. nat_lt room (length r) || nat_lt (room - length l) (length q)) e ∙ over-grown room r q
 
+-- two advances in a row are one
 pub Advances-then : (u v w : Kept) (t t' : List ℕ) → Advances u v t → Advances v w t' → Advances u w (t ++ t')
 Advances-then u v w t t' a b = record {
   stands = λ s h. subst (KeptAfter w) (append_assoc s t t') (b.stands (s ++ t) (a.stands s h));
@@ -41,6 +44,7 @@ pub record Grows (old new : Kept) (t : List ℕ) : Type 0 where
   pub front : new.front ≡ old.front ++ take (kept_limit + 1 - length old.front) (data_along old.telnet t)
   pub over : new.over ≡ (old.over || nat_lt (kept_limit + 1 - length old.front) (length (data_along old.telnet t)))
 
+-- what is kept of t after old is an advance over t
 pub Advances-grown : (old new : Kept) (t : List ℕ) → Grows old new t → Advances old new t
 Advances-grown old new t g = record {
   stands = λ s h.
@@ -68,10 +72,12 @@ Advances-run old new q run was is front over =
       over = rw gives over;
     })
 
+-- the byte 255 ends no line
 unended_255 : has_end (255 ∷ []) ≡ false
 unfolding has_end
 unended_255 = refl
 
+-- no data ends no line
 unended_nil : has_end [] ≡ false
 unfolding has_end
 unended_nil = refl

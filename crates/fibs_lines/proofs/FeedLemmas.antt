@@ -19,10 +19,12 @@ use Rattle.fibs_lines.proofs.ReturnLemmas.{kept_line_is}
 abbrev pub kept_of : LinesValue → Kept
 kept_of v = record { telnet = v.telnet; front = v.front; over = v.over }
 
+-- what is kept after a stream stands after it
 pub StandsAfter-from_kept : (v : LinesValue) (s : List ℕ) → KeptAfter (kept_of v) s → StandsAfter v s
 unfolding StandsAfter
 StandsAfter-from_kept v s h = (h.telnet, h.front, h.over)
 
+-- what stands after a stream is kept after it
 pub KeptAfter-from_stands : (v : LinesValue) (s : List ℕ) → StandsAfter v s → KeptAfter (kept_of v) s
 unfolding StandsAfter
 KeptAfter-from_stands v s h = record { telnet = h.0; front = h.1; over = h.2 }
@@ -46,15 +48,19 @@ Feeds_whole old new s piece a h =
     }
 
 module _ (old new : Kept) (s piece : List ℕ) (at : ℕ) (a : AdvancesToEnd old new piece at) (h : KeptAfter old s) where
+  -- the stream up to the line end
   before : List ℕ
   before = s ++ take at piece
 
+  -- what is kept there
   stood : KeptAfter new (s ++ take at piece)
   stood = a.advances.stands s h
 
+  -- the stream with the line end
   split : s ++ take (at + 1) piece ≡ s ++ take at piece ++ 10 ∷ []
   split = ap (λ l. s ++ l) (take_more piece at 0 a.in_range ∙ ap (λ b. take at piece ++ b ∷ []) a.end) ∙ sym (append_assoc s (take at piece) (10 ∷ []))
 
+  -- its data: the line end is one
   gives : plain (s ++ take at piece ++ 10 ∷ []) ≡ plain (s ++ take at piece) ++ 10 ∷ []
   gives = plain-append (s ++ take at piece) (10 ∷ []) ∙ ap (λ k. plain (s ++ take at piece) ++ data_along k (10 ∷ [])) (sym stood.telnet ∙ a.no_command)
 
@@ -85,9 +91,11 @@ module _ (old new : Kept) (s piece : List ℕ) (at : ℕ) (a : AdvancesToEnd old
     over = ap (λ r. nat_lt (kept_limit + 1) (length r)) (sym starts_line.no_rest);
   }
 
+-- the value of a reader that has lent its line
 pub value_where_lent : (u : Unfinished) (lent : Bool) → lent ≡ true → lines_value u lent ≡ lines_value u true
 value_where_lent u lent e = ap (lines_value u) e
 
+-- the value of a reader that has lent none
 pub value_where_not_lent : (u : Unfinished) (lent : Bool) → lent ≡ false → lines_value u lent ≡ lines_value u false
 value_where_not_lent u lent e = ap (lines_value u) e
 

@@ -6,3 +6,4 @@ pub mod Advancing
 pub mod ReturnLemmas
 pub mod FeedLemmas
 pub mod StreamLawProofs
+pub mod EndsCounted

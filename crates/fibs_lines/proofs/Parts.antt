@@ -25,16 +25,19 @@ unfoldable pub after_end : List ℕ → List ℕ
 after_end [] = []
 after_end (x ∷ p) = cond (has_end p) (after_end p) (cond (is_line_end x) p (x ∷ p))
 
+-- without a line end, all follows the last one
 pub after_end_none : (q : List ℕ) → has_end q ≡ false → after_end q ≡ q
 unfolding after_end has_end
 after_end_none [] h = refl
 after_end_none (x ∷ q) h = let ih = after_end_none q in grind arith
 
+-- without a line end, no part is closed
 pub finished_none : (p : List ℕ) → has_end p ≡ false → finished p ≡ []
 unfolding finished has_end
 finished_none [] h = refl
 finished_none (x ∷ p) h = let ih = finished_none p in grind arith
 
+-- with a line end, a part is closed
 pub finished_some : (p : List ℕ) → has_end p ≡ true → (q : List ℕ) × (qs : List (List ℕ)) × (finished p ≡ q ∷ qs)
 unfolding finished has_end
 finished_some [] h = absurd (cc)
@@ -59,11 +62,13 @@ split_step x p false h ih =
     let all = after_end_none p h in
     grind arith
 
+-- std's split gives the closed parts and what follows the last line end
 pub slice_split-is : (p : List ℕ) → slice_split is_line_end p ≡ finished p ++ after_end p ∷ []
 unfolding finished after_end
 slice_split-is [] = refl
 slice_split-is (x ∷ p) = split_step x p (has_end p) refl (slice_split-is p)
 
+-- the finished parts of the definitions are the closed ones
 pub finished_parts-is : (p : List ℕ) → finished_parts p ≡ finished p
 finished_parts-is p =
     let as_many : length (finished p) ≡ count_by is_line_end p =
@@ -74,6 +79,7 @@ finished_parts-is p =
 abbrev pub goes_on : ℕ → Bool
 goes_on b = not (is_line_end b)
 
+-- a search that passed all passes one byte more, unless that is a line end
 prefix_len_past : (ys : List ℕ) (x : ℕ) → prefix_len goes_on ys ≡ length ys → prefix_len goes_on (ys ++ x ∷ []) ≡ cond (goes_on x) (1 + length ys) (length ys)
 prefix_len_past [] x h = refl
 prefix_len_past (y ∷ ys) x h =
@@ -82,6 +88,7 @@ prefix_len_past (y ∷ ys) x h =
       | false ↦ λ e. let ih = prefix_len_past ys x (omega (arith, e)) in grind arith
     ] h
 
+-- a search that stopped stops there with one byte more
 prefix_len_within : (ys : List ℕ) (x : ℕ) → prefix_len goes_on ys < length ys → prefix_len goes_on (ys ++ x ∷ []) ≡ prefix_len goes_on ys
 prefix_len_within [] x h = absurd (omega arith)
 prefix_len_within (y ∷ ys) x h =
@@ -90,14 +97,17 @@ prefix_len_within (y ∷ ys) x h =
       | false ↦ λ e. ap (λ n. 1 + n) (prefix_len_within ys x (omega (arith, e)))
     ] h
 
+-- with a line end, less than all follows the last one
 shorter_after_end : (p : List ℕ) → has_end p ≡ true → length (after_end p) < length p
 unfolding after_end has_end
 shorter_after_end [] h = absurd (cc)
 shorter_after_end (x ∷ p) h = let ih = shorter_after_end p in grind arith
 
+-- the search from the end with one byte more in front
 suffix_len-cons : (x : ℕ) (p : List ℕ) → suffix_len goes_on (x ∷ p) ≡ prefix_len goes_on (reverse p ++ x ∷ [])
 suffix_len-cons x p = ap (prefix_len goes_on) (reverse-append (x ∷ []) p)
 
+-- what the search from the end counts, with one byte more in front
 suffix_len_step : (x : ℕ) (p : List ℕ) (b : Bool) → has_end p ≡ b → suffix_len goes_on p ≡ length (after_end p) → suffix_len goes_on (x ∷ p) ≡ length (after_end (x ∷ p))
 unfolding after_end
 suffix_len_step x p true h ih =
@@ -111,11 +121,13 @@ suffix_len_step x p false h ih =
     here : cond (goes_on x) (1 + length p) (length p) ≡ length (cond (is_line_end x) p (x ∷ p))
     here = elim (eqb x 10) as (λ v. cond (not v) (1 + length p) (length p) ≡ length (cond v p (x ∷ p))) [ true ↦ refl | false ↦ omega arith ]
 
+-- the search from the end counts what follows the last line end
 suffix_len-is : (p : List ℕ) → suffix_len goes_on p ≡ length (after_end p)
 unfolding after_end
 suffix_len-is [] = refl
 suffix_len-is (x ∷ p) = suffix_len_step x p (has_end p) refl (suffix_len-is p)
 
+-- with one byte more in front, what follows the last line end still stands at the end
 before_end_step : (x : ℕ) (p : List ℕ) (b : Bool) → has_end p ≡ b → ((front : List ℕ) × (p ≡ front ++ after_end p)) → (front : List ℕ) × (x ∷ p ≡ front ++ after_end (x ∷ p))
 unfolding after_end
 before_end_step x p true h ih = (x ∷ ih.0, ap (λ l. x ∷ l) ih.1 ∙ ap (λ b. x ∷ ih.0 ++ cond b (after_end p) (cond (is_line_end x) p (x ∷ p))) (sym h))
@@ -125,11 +137,13 @@ before_end_step x p false h ih =
       | false ↦ ([], ap (λ b. cond b (after_end p) (x ∷ p)) (sym h))
     ]
 
+-- what follows the last line end stands at the end
 before_end : (p : List ℕ) → (front : List ℕ) × (p ≡ front ++ after_end p)
 unfolding after_end
 before_end [] = ([], refl)
 before_end (x ∷ p) = before_end_step x p (has_end p) refl (before_end p)
 
+-- std's `after_last` gives what follows the last line end
 pub after_last-is : (p : List ℕ) → after_last is_line_end p ≡ after_end p
 after_last-is p =
     let split = before_end p in
@@ -137,10 +151,12 @@ after_last-is p =
     let place : length p - suffix_len goes_on p ≡ length split.0 = omega (arith, suffix_len-is p, long) in
     ap (λ n. drop n p) place ∙ ap (drop (length split.0)) split.1 ∙ drop_at split.0 (after_end p) (length split.0) refl
 
+-- the lines of a stream, by its closed parts
 pub lines_of-is : (s : List ℕ) → lines_of s ≡ map line_of (finished (plain s))
 unfolding lines_of
 lines_of-is s = ap (map line_of) (finished_parts-is (plain s))
 
+-- the rest of a stream, by what follows the last line end
 pub rest_of-is : (s : List ℕ) → rest_of s ≡ after_end (plain s)
 unfolding rest_of
 rest_of-is s = after_last-is (plain s)

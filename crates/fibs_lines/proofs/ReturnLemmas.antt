@@ -12,6 +12,7 @@ without_return [] = []
 without_return (x ∷ []) = cond (eqb x 13) [] (x ∷ [])
 without_return (x ∷ y ∷ p) = x ∷ without_return (y ∷ p)
 
+-- one byte more than the limit is enough to know what is kept
 take-without_return : (limit : ℕ) (r : List ℕ) → take limit (without_return (take (suc limit) r)) ≡ take limit (without_return r)
 unfolding without_return
 take-without_return zero r = refl
@@ -26,6 +27,7 @@ length-without_return [] = omega arith
 length-without_return (x ∷ []) = grind arith
 length-without_return (x ∷ y ∷ r) = let ih = length-without_return (y ∷ r) in omega arith
 
+-- one byte more than the limit is enough to know whether a line is cut
 over-without_return : (limit room : ℕ) (r : List ℕ) → room ≡ suc limit → (nat_lt room (length r) || nat_lt limit (length (without_return (take room r)))) ≡ nat_lt limit (length (without_return r))
 over-without_return limit room r e = let less = length-without_return r in cases (nat_lt room (length r)) refl
   where
@@ -33,9 +35,11 @@ over-without_return limit room r e = let less = length-without_return r in cases
     cases true h = let less = length-without_return r in grind arith
     cases false h = let all : take room r ≡ r = take_all room r (grind arith) in ap (λ l. nat_lt limit (length (without_return l))) all
 
+-- a line of these bytes
 made : List ℕ → Bool → ReadLine
 made b c = record { bytes = b; cut = c }
 
+-- lines are equal where their bytes are, and where both are cut or neither is
 pub same_read_line : (a b : ReadLine) → a.bytes ≡ b.bytes → a.cut ≡ b.cut → a ≡ b
 unfolding made
 same_read_line a b e f = ap (λ x. made x a.cut) e ∙ ap (made b.bytes) f
@@ -44,6 +48,7 @@ same_read_line a b e f = ap (λ x. made x a.cut) e ∙ ap (made b.bytes) f
 abbrev pub read_line : ℕ → List ℕ → Bool → ReadLine
 read_line limit line over = record { bytes = without_prompts (take limit line); cut = over || nat_lt limit (length line) }
 
+-- the line that is read from what is kept is that of the whole rest
 read_line_is : (limit room : ℕ) (front r : List ℕ) (over : Bool) → room ≡ suc limit → front ≡ take room r → over ≡ nat_lt room (length r)
     → read_line limit (without_return front) over ≡ read_line limit (without_return r) false
 read_line_is limit room front r over e f o =
@@ -58,20 +63,24 @@ without_return_yes [] = refl
 without_return_yes (x ∷ []) = refl
 without_return_yes (x ∷ y ∷ p) = ap (λ l. x ∷ l) (without_return_yes (y ∷ p))
 
+-- a list that ends in another byte stays
 without_return_no : (p : List ℕ) (y : ℕ) → eqb y 13 ≡ false → without_return (p ++ y ∷ []) ≡ p ++ y ∷ []
 unfolding without_return
 without_return_no [] y h = grind arith
 without_return_no (x ∷ []) y h = ap (λ l. x ∷ l) (without_return_no [] y h)
 without_return_no (x ∷ z ∷ p) y h = ap (λ l. x ∷ l) (without_return_no (z ∷ p) y h)
 
+-- a list is its front and its last byte
 last_split : (l : List ℕ) (n : ℕ) → n + 1 ≡ length l → l ≡ take n l ++ get_or l n 0 ∷ []
 last_split l n h = sym (take_all (n + 1) l (omega arith)) ∙ take_more l n 0 (omega arith)
 
+-- a list whose last byte is 13 loses it
 pub without_return_at : (l : List ℕ) → 0 < length l → get_or l (length l - 1) 0 ≡ 13 → without_return l ≡ take (length l - 1) l
 without_return_at l some e =
     let n = length l - 1 in
     ap without_return (last_split l n (omega arith) ∙ ap (λ x. take n l ++ x ∷ []) e) ∙ without_return_yes (take n l)
 
+-- a list whose last byte is not 13 stays
 pub without_return_none : (l : List ℕ) → (0 < length l → get_or l (length l - 1) 0 ≢ 13) → without_return l ≡ l
 unfolding without_return
 without_return_none [] h = refl
@@ -80,11 +89,13 @@ without_return_none (x ∷ l) h =
     let split = last_split (x ∷ l) n (omega arith) in
     ap without_return split ∙ without_return_no (take n (x ∷ l)) (get_or (x ∷ l) n 0) (ne_eqb _ _ (h (omega arith))) ∙ sym split
 
+-- both cases of the last byte
 strip_cases : (l : List ℕ) (b : Bool) → eqb (get_or l (length l - 1) 0) 13 ≡ b → cond b (take (length l - 1) l) l ≡ without_return l
 strip_cases [] true h = absurd (cc)
 strip_cases (x ∷ l) true h = sym (without_return_at (x ∷ l) (omega arith) (grind arith))
 strip_cases l false h = sym (without_return_none l (λ _ e. grind arith))
 
+-- std's `strip_carriage_return` is this
 pub strip-is : (l : List ℕ) → strip_carriage_return l ≡ without_return l
 strip-is l = strip_cases l (eqb (get_or l (length l - 1) 0) 13) refl
 

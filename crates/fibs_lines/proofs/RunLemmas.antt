@@ -12,24 +12,29 @@ false_unless : (b : Bool) → (b ≡ true → ⊥) → b ≡ false
 false_unless true = λ no. absurd (no refl)
 false_unless false = λ _. refl
 
+-- a front in which no byte ends a run is one
 pub IsRun_take : (k : ℕ) (bytes : List ℕ) → ((j : ℕ) → j < k → ends_run (get_or bytes j 0) ≡ true → ⊥) → IsRun (take k bytes)
 IsRun_take zero bytes h = tt
 IsRun_take (suc k) [] h = tt
 IsRun_take (suc k) (x ∷ bytes) h = (false_unless (ends_run x) (h 0 (omega arith)), IsRun_take k bytes (λ j l. h (suc j) (omega arith)))
 
+-- a run has no line end
 pub has_end_run : (q : List ℕ) → IsRun q → has_end q ≡ false
 unfolding has_end
 has_end_run [] h = refl
 has_end_run (x ∷ q) h = let ih = has_end_run q h.1 in let e = h.0 in grind arith
 
+-- a run is its own data
 pub data_along_run : (q : List ℕ) → IsRun q → data_along Data q ≡ q
 data_along_run [] h = refl
 data_along_run (x ∷ q) h = let ih = data_along_run q h.1 in let e = h.0 in grind arith
 
+-- no command is open after a run
 pub telnet_along_run : (q : List ℕ) → IsRun q → telnet_along Data q ≡ Data
 telnet_along_run [] h = refl
 telnet_along_run (x ∷ q) h = let ih = telnet_along_run q h.1 in let e = h.0 in grind arith
 
+-- two runs in a row are one
 pub IsRun-append : (l q : List ℕ) → IsRun l → IsRun q → IsRun (l ++ q)
 IsRun-append [] q h i = i
 IsRun-append (x ∷ l) q h i = (h.0, IsRun-append l q h.1 i)

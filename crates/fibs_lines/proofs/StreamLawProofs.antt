@@ -19,6 +19,7 @@ use Rattle.fibs_lines.proofs.RunLemmas.{IsRun-append, has_end_run, data_along_ru
 use Rattle.fibs_lines.proofs.ReturnLemmas.{same_read_line, strip-is, without_return_yes}
 use Rattle.fibs_lines.proofs.PromptLemmas.{without_prompts_login, without_prompts_command, without_prompts_none}
 
+-- what follows the last line end, where the second list has one
 after_end-append_some : (p q : List ℕ) → has_end q ≡ true → after_end (p ++ q) ≡ after_end q
 unfolding after_end
 after_end-append_some [] q h = refl
@@ -26,10 +27,12 @@ after_end-append_some (x ∷ p) q h =
     let e : has_end (p ++ q) ≡ true = grind (arith, has_end-append p q, h) in
     ap (λ b. cond b (after_end (p ++ q)) (cond (eqb x 10) (p ++ q) (x ∷ p ++ q))) e ∙ after_end-append_some p q h
 
+-- what follows the last line end, where the first list ends with one
 after_end-boundary : (p q : List ℕ) (b : Bool) → has_end q ≡ b → after_end p ≡ [] → after_end (p ++ q) ≡ after_end q
 after_end-boundary p q true h e = after_end-append_some p q h
 after_end-boundary p q false h e = after_end-append_none p q h ∙ ap (λ l. l ++ q) e ∙ sym (after_end_none q h)
 
+-- the closed parts of two lists, with one byte more in front
 finished-boundary_step : (x : ℕ) (p q : List ℕ) (b c : Bool) → has_end p ≡ b → eqb x 10 ≡ c → after_end (x ∷ p) ≡ [] → (after_end p ≡ [] → finished (p ++ q) ≡ finished p ++ finished q)
     → finished (x ∷ p ++ q) ≡ finished (x ∷ p) ++ finished q
 unfolding finished after_end
@@ -49,12 +52,14 @@ finished-boundary_step x p q false false h i e ih =
     let wrong : x ∷ p ≡ [] = sym (ap (λ b. cond b (after_end p) (cond (eqb x 10) p (x ∷ p))) h ∙ ap (λ b. cond b p (x ∷ p)) i) ∙ e in
     absurd (cc)
 
+-- the closed parts of two lists, where the first ends with a line end
 finished-boundary : (p q : List ℕ) → after_end p ≡ [] → finished (p ++ q) ≡ finished p ++ finished q
 unfolding finished
 finished-boundary [] q e = refl
 finished-boundary (x ∷ p) q e = finished-boundary_step x p q (has_end p) (eqb x 10) refl refl e (finished-boundary p q)
 
 module _ (s t : List ℕ) (a : AtLineStart s) where
+  -- the data is that of the one and then that of the other
   plain_goes_on : plain (s ++ t) ≡ plain s ++ plain t
   plain_goes_on = plain-append s t ∙ ap (λ k. plain s ++ data_along k t) a.no_command ∙ ap (λ l. plain s ++ l) (sym (plain-along t))
 
@@ -66,14 +71,17 @@ module _ (s t : List ℕ) (a : AtLineStart s) where
       ∙ map-append line_of (finished (plain s)) (finished (plain t))
       ∙ ap (λ ls. ls ++ map line_of (finished (plain t))) (sym (lines_of-is s)) ∙ ap (λ ls. lines_of s ++ ls) (sym (lines_of-is t))
 
+  -- the rest is that of what came after
   pub rest_of-append : rest_of (s ++ t) ≡ rest_of t
   rest_of-append =
       rest_of-is (s ++ t) ∙ ap after_end plain_goes_on
       ∙ after_end-boundary (plain s) (plain t) (has_end (plain t)) refl (sym (rest_of-is s) ∙ a.no_rest) ∙ sym (rest_of-is t)
 
+  -- how much of a command stands at the end is that of what came after
   pub telnet_of-append_start : telnet_of (s ++ t) ≡ telnet_of t
   telnet_of-append_start = telnet_of-append s t ∙ ap (λ k. telnet_along k t) a.no_command ∙ sym (telnet_of-along t)
 
+-- what follows a line's start is read as if it stood alone
 pub line_start_reads_alone : LineStartReadsAlone
 line_start_reads_alone s t a = record {
   lines = lines_of-append s t a;
@@ -81,22 +89,27 @@ line_start_reads_alone s t a = record {
   start = λ b. record { no_command = telnet_of-append_start s t a ∙ b.no_command; no_rest = rest_of-append s t a ∙ b.no_rest };
 }
 
+-- the parts between the line ends are the finished ones, and then the rest
 pub parts_are_lines_and_rest : PartsAreLinesAndRest
 parts_are_lines_and_rest s =
     slice_split-is (plain s) ∙ ap (λ ps. ps ++ after_end (plain s) ∷ []) (sym (finished_parts-is (plain s)))
     ∙ ap (λ r. finished_parts (plain s) ++ r ∷ []) (sym (rest_of-is s))
 
+-- no command is open in the empty stream
 telnet_of-nil : telnet_of [] ≡ Data
 unfolding telnet_of
 telnet_of-nil = refl
 
+-- the empty stream has no rest
 rest_of-nil : rest_of [] ≡ []
 unfolding rest_of plain
 rest_of-nil = refl
 
+-- the empty stream has no line, and stands at a line's start
 pub empty_stream_has_no_line : EmptyStreamHasNoLine
 empty_stream_has_no_line = (lines_of-nil, record { no_command = telnet_of-nil; no_rest = rest_of-nil })
 
+-- what comes later takes no line back and changes none
 pub lines_only_grow : LinesOnlyGrow
 lines_only_grow s t = lines_of_grow s t
 
@@ -106,17 +119,20 @@ closed Data = refl
 closed Command = refl
 closed Negotiation = refl
 
+-- after CR LF nothing follows the last line end
 ended : (p : List ℕ) (k : Telnet) → after_end (p ++ data_along k (13 ∷ 10 ∷ [])) ≡ []
 ended p Data = ap after_end (sym (append_assoc p (13 ∷ []) (10 ∷ []))) ∙ after_end-append_end (p ++ 13 ∷ [])
 ended p Command = after_end-append_end p
 ended p Negotiation = after_end-append_end p
 
+-- after CR LF a stream stands at a line's start
 pub line_end_is_a_line_start : LineEndIsALineStart
 line_end_is_a_line_start t = record {
   no_command = telnet_of-append t (13 ∷ 10 ∷ []) ∙ closed (telnet_of t);
   no_rest = rest_of-is (with_line_end t) ∙ ap after_end (plain-append t (13 ∷ 10 ∷ [])) ∙ ended (plain t) (telnet_of t);
 }
 
+-- what follows CR LF is read as if it stood alone
 pub what_follows_a_line_end_reads_alone : WhatFollowsALineEndReadsAlone
 what_follows_a_line_end_reads_alone t s = line_start_reads_alone (with_line_end t) s (line_end_is_a_line_start t)
 
@@ -124,6 +140,7 @@ what_follows_a_line_end_reads_alone t s = line_start_reads_alone (with_line_end 
 goes_on : (x : ℕ) → x ≢ 10 → x ≢ 255 → ends_run x ≡ false
 goes_on x h i = let a = ne_eqb x 10 h in let b = ne_eqb x 255 i in grind arith
 
+-- a text without LF and 255 is a run
 IsRun-from_all : (l : List ℕ) → All (λ b. b ≢ 10) l → All (λ b. b ≢ 255) l → IsRun l
 IsRun-from_all [] h i = tt
 IsRun-from_all (x ∷ l) h i =
@@ -131,33 +148,42 @@ IsRun-from_all (x ∷ l) h i =
     let Q : ℕ → Type 0 = λ b. b ≢ 255 in
     (goes_on x (All-head P x l h) (All-head Q x l i), IsRun-from_all l (All-tail P x l h) (All-tail Q x l i))
 
+-- what fits is not longer than the limit
 not_over : (n : ℕ) → n ≤ kept_limit → nat_lt kept_limit n ≡ false
 not_over n i = grind arith
 
 module _ (l : List ℕ) (h : IsSendable l) where
+  -- the text and CR are a run
   begun : IsRun (l ++ 13 ∷ [])
   begun = IsRun-append l (13 ∷ []) (IsRun-from_all l h.no_line_end h.no_command) (refl, tt)
 
+  -- they are their own data
   gives : plain (l ++ 13 ∷ []) ≡ l ++ 13 ∷ []
   gives = plain-along (l ++ 13 ∷ []) ∙ data_along_run (l ++ 13 ∷ []) begun
 
+  -- no command is open after them
   open_line : telnet_of (l ++ 13 ∷ []) ≡ Data
   open_line = telnet_of-along (l ++ 13 ∷ []) ∙ telnet_along_run (l ++ 13 ∷ []) begun
 
+  -- the LF after them is a line end
   ends : plain (l ++ 13 ∷ [] ++ 10 ∷ []) ≡ plain (l ++ 13 ∷ []) ++ 10 ∷ []
   ends = plain-append (l ++ 13 ∷ []) (10 ∷ []) ∙ ap (λ k. plain (l ++ 13 ∷ []) ++ data_along k (10 ∷ [])) open_line
 
+  -- the text as it is sent
   split : with_line_end l ≡ l ++ 13 ∷ [] ++ 10 ∷ []
   split = sym (append_assoc l (13 ∷ []) (10 ∷ []))
 
+  -- the text and CR are the rest before the LF
   rest_before : rest_of (l ++ 13 ∷ []) ≡ l ++ 13 ∷ []
   rest_before = rest_of-is (l ++ 13 ∷ []) ∙ ap after_end gives ∙ after_end_none (l ++ 13 ∷ []) (has_end_run (l ++ 13 ∷ []) begun)
 
+  -- there is no line before the LF
   none_before : lines_of (l ++ 13 ∷ []) ≡ []
   none_before =
       lines_of-is (l ++ 13 ∷ []) ∙ ap (λ p. map line_of (finished p)) gives
       ∙ ap (map line_of) (finished_none (l ++ 13 ∷ []) (has_end_run (l ++ 13 ∷ []) begun))
 
+  -- the line of that rest is the text
   line_of_sent : line_of (l ++ 13 ∷ []) ≡ record { bytes = l; cut = false }
   unfolding line_of
   line_of_sent =
@@ -173,6 +199,7 @@ module _ (l : List ℕ) (h : IsSendable l) where
       ∙ ap (λ ls. ls ++ line_of (rest_of (l ++ 13 ∷ [])) ∷ []) none_before
       ∙ ap (λ r. line_of r ∷ []) rest_before ∙ ap (λ x. x ∷ []) line_of_sent
 
+-- sent at a line's start, a sendable text is one uncut line that equals it
 pub sendable_text_is_its_line : SendableTextIsItsLine
 sendable_text_is_its_line s text a h =
     lines_of-append s (with_line_end text) a ∙ ap (λ ls. lines_of s ++ ls) (lines_of_sent text h)
@@ -195,6 +222,7 @@ PromptsThen-more l p q rest is e h = record {
   no_command_prompt = h.no_command_prompt;
 }
 
+-- a line that begins with no prompt
 PromptsThen-none : (l : List ℕ) → starts_with nat_eq l login_prompt ≡ false → starts_with nat_eq l command_prompt ≡ false → PromptsThen l l
 PromptsThen-none l h i = record { prompts = []; each = All-nil IsPrompt; joined = refl; no_login_prompt = h; no_command_prompt = i }
 
@@ -210,6 +238,7 @@ removed_step n l false true h i ih small =
     PromptsThen-more l command_prompt (drop 2 l) _ (inr refl) e (ih (drop 2 l) (omega (arith, length-drop 2 l)))
 removed_step n l false false h i ih small = PromptsThen-none l h i
 
+-- what is removed are prompts, and none is left
 removed : (n : ℕ) (l : List ℕ) → length l ≤ n → PromptsThen l (without_some_prompts n l)
 unfolding without_some_prompts
 removed zero [] small = PromptsThen-none [] refl refl
@@ -233,12 +262,14 @@ prompts_go (p ∷ ps) rest is h i =
         later ∙ sym (without_prompts_command (command_prompt ++ (concat ps ++ rest)) refl refl)
         ∙ ap (λ q. without_prompts (q ++ (concat ps ++ rest))) (sym e)
 
+-- the prompts are removed, all of them and nothing else
 pub prompts_are_removed : PromptsAreRemoved
 prompts_are_removed = (
   λ line. removed (length line) line (omega arith),
   λ line rest h. prompts_go h.prompts rest h.each h.no_login_prompt h.no_command_prompt ∙ sym (ap without_prompts h.joined),
 )
 
+-- a line of a part fits
 line_fits : (part : List ℕ) → length (line_of part).bytes ≤ kept_limit
 unfolding line_of
 line_fits part =
@@ -247,6 +278,7 @@ line_fits part =
     let long : length kept ≡ length (concat h.prompts) + length (without_prompts kept) = ap length h.joined ∙ length-append (concat h.prompts) (without_prompts kept) in
     omega (arith, long, length-take kept_limit (strip_carriage_return part))
 
+-- no line is longer than the limit
 pub lines_fit : LinesFit
 lines_fit s =
     let Fits : ReadLine → Type 0 = λ l. length l.bytes ≤ kept_limit in

@@ -20,10 +20,12 @@ data_of Data b = cond (eqb b 255) [] (b ∷ [])
 data_of Command b = cond (eqb b 255) (255 ∷ []) []
 data_of Negotiation b = []
 
+-- how far a command has come after more bytes
 abbrev pub telnet_along : Telnet → List ℕ → Telnet
 telnet_along t [] = t
 telnet_along t (b ∷ s) = telnet_along (telnet_after t b) s
 
+-- the data that more bytes give
 abbrev pub data_along : Telnet → List ℕ → List ℕ
 data_along t [] = []
 data_along t (b ∷ s) = data_of t b ++ data_along (telnet_after t b) s
@@ -40,6 +42,7 @@ plain-along (b ∷ c ∷ d ∷ s) =
     let two = plain-along (c ∷ d ∷ s) in
     grind arith
 
+-- how far a command has come in a stream, byte by byte
 pub telnet_of-along : (s : List ℕ) → telnet_of s ≡ telnet_along Data s
 unfolding telnet_of
 telnet_of-along [] = refl
@@ -57,11 +60,13 @@ telnet_of-along (b ∷ c ∷ d ∷ s) =
       | false ↦ two
     ]
 
+-- the data of two lists in a row
 data_along-append : (t : Telnet) (s u : List ℕ) → data_along t (s ++ u) ≡ data_along t s ++ data_along (telnet_along t s) u
 data_along-append t [] u = refl
 data_along-append t (b ∷ s) u =
     ap (λ l. data_of t b ++ l) (data_along-append (telnet_after t b) s u) ∙ sym (append_assoc (data_of t b) (data_along (telnet_after t b) s) (data_along (telnet_along t (b ∷ s)) u))
 
+-- how far a command has come after two lists in a row
 telnet_along-append : (t : Telnet) (s u : List ℕ) → telnet_along t (s ++ u) ≡ telnet_along (telnet_along t s) u
 telnet_along-append t [] u = refl
 telnet_along-append t (b ∷ s) u = telnet_along-append (telnet_after t b) s u
@@ -71,6 +76,7 @@ pub plain-append : (s u : List ℕ) → plain (s ++ u) ≡ plain s ++ data_along
 plain-append s u =
     rw (plain-along, telnet_of-along s, plain-along s) (data_along-append Data s u)
 
+-- so does how far a command has come
 pub telnet_of-append : (s u : List ℕ) → telnet_of (s ++ u) ≡ telnet_along (telnet_of s) u
 telnet_of-append s u =
     rw (telnet_of-along (s ++ u), telnet_of-along s) (telnet_along-append Data s u)
@@ -81,6 +87,7 @@ unfolding has_end
 has_end-append [] q = refl
 has_end-append (x ∷ p) q = let ih = has_end-append p q in grind arith
 
+-- what follows the last line end, when more comes without one
 pub after_end-append_none : (p q : List ℕ) → has_end q ≡ false → after_end (p ++ q) ≡ after_end p ++ q
 unfolding after_end
 after_end-append_none [] q h = after_end_none q h
@@ -89,17 +96,20 @@ after_end-append_none (x ∷ p) q h =
     let e = has_end-append p q in
     grind arith
 
+-- no further part is closed without a line end
 pub finished-append_none : (p q : List ℕ) → has_end q ≡ false → finished (p ++ q) ≡ finished p
 unfolding finished has_end
 finished-append_none [] [] h = refl
 finished-append_none [] (x ∷ q) h = let ih = finished-append_none [] q in grind arith
 finished-append_none (x ∷ p) q h = let ih = finished-append_none p q h in grind arith
 
+-- nothing follows a line end that has just come
 pub after_end-append_end : (p : List ℕ) → after_end (p ++ 10 ∷ []) ≡ []
 unfolding after_end has_end
 after_end-append_end [] = refl
 after_end-append_end (x ∷ p) = let ih = after_end-append_end p in let e = has_end-append p (10 ∷ []) in grind arith
 
+-- the closed parts when a line end comes, with one byte more in front
 finished-append_end_step : (x : ℕ) (p : List ℕ) (b : Bool) → has_end p ≡ b → finished (p ++ 10 ∷ []) ≡ finished p ++ after_end p ∷ []
     → finished (x ∷ p ++ 10 ∷ []) ≡ finished (x ∷ p) ++ after_end (x ∷ p) ∷ []
 unfolding finished after_end
@@ -114,6 +124,7 @@ finished-append_end_step x p false h ih =
     let all = after_end_none p h in
     grind arith
 
+-- a line end closes what followed the last one
 pub finished-append_end : (p : List ℕ) → finished (p ++ 10 ∷ []) ≡ finished p ++ after_end p ∷ []
 unfolding finished after_end has_end
 finished-append_end [] = refl
@@ -124,6 +135,7 @@ pub lines_of_more : (s u q : List ℕ) → plain (s ++ u) ≡ plain s ++ q → h
 lines_of_more s u q e h =
     lines_of-is (s ++ u) ∙ ap (λ p. map line_of (finished p)) e ∙ ap (map line_of) (finished-append_none (plain s) q h) ∙ sym (lines_of-is s)
 
+-- the rest then grows by that data
 pub rest_of_more : (s u q : List ℕ) → plain (s ++ u) ≡ plain s ++ q → has_end q ≡ false → rest_of (s ++ u) ≡ rest_of s ++ q
 rest_of_more s u q e h =
     rest_of-is (s ++ u) ∙ ap after_end e ∙ after_end-append_none (plain s) q h ∙ ap (λ r. r ++ q) (sym (rest_of-is s))
@@ -136,9 +148,11 @@ lines_of_end s u e =
     ∙ ap (λ r. map line_of (finished (plain s)) ++ line_of r ∷ []) (sym (rest_of-is s))
     ∙ ap (λ ls. ls ++ line_of (rest_of s) ∷ []) (sym (lines_of-is s))
 
+-- after it nothing is left over
 pub rest_of_end : (s u : List ℕ) → plain (s ++ u) ≡ plain s ++ 10 ∷ [] → rest_of (s ++ u) ≡ []
 rest_of_end s u e = rest_of-is (s ++ u) ∙ ap after_end e ∙ after_end-append_end (plain s)
 
+-- more data takes no closed part back
 finished_grows : (p q : List ℕ) → (ps : List (List ℕ)) × (finished (p ++ q) ≡ finished p ++ ps)
 unfolding finished
 finished_grows [] q = (finished q, refl)

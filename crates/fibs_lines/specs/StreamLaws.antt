@@ -1,5 +1,5 @@
 -- Laws of the definitions: the contracts of the functions in `laws`.
-use Rattle.std.specs.Prelude.{◌≡◌, ℕ, ◌≤◌, ◌⊎◌, ◌≢◌, false, nat_eq, List, [], ◌∷◌, ◌++◌, length, All}
+use Rattle.std.specs.Prelude.{◌≡◌, ℕ, ◌+◌, ◌≤◌, ◌⊎◌, ◌≢◌, false, nat_eq, List, [], ◌∷◌, ◌++◌, length, count_by, All}
 use Rattle.std.specs.List.{starts_with, slice_split, concat}
 use Rattle.fibs_lines.specs.Lines.{kept_limit, plain, is_line_end, finished_parts, login_prompt, command_prompt, without_prompts, ReadLine, lines_of, rest_of}
 use Rattle.fibs_lines.specs.Standing.{AtLineStart}
@@ -15,6 +15,10 @@ EmptyStreamHasNoLine = (lines_of [] ≡ []) × AtLineStart []
 -- what comes later takes no line back and changes none
 abbrev pub LinesOnlyGrow : Type 0
 LinesOnlyGrow = (s t : List ℕ) → (more : List ReadLine) × (lines_of (s ++ t) ≡ lines_of s ++ more)
+
+-- a piece gives at most as many lines as it has bytes LF: no telnet command that is open before it turns another byte into a line end
+abbrev pub LinesAreAtMostTheLineEnds : Type 0
+LinesAreAtMostTheLineEnds = (s t : List ℕ) → length (lines_of (s ++ t)) ≤ length (lines_of s) + count_by is_line_end t
 
 -- a text as it is sent: with CR LF
 abbrev pub with_line_end : List ℕ → List ℕ

@@ -1,17 +1,32 @@
-//! Laws of the definitions, for proofs in the crates above.
+//! Laws of lines and of the definitions, for proofs in the crates above.
 //!
-//! Each function does nothing: its contract is the law, stated in `specs/StreamLaws.antt`.
+//! The functions without parameters do nothing: the contract is the law, stated in `specs/StreamLaws.antt`.
 
-ghost use Rattle.std.specs.Prelude.{◌≡◌};
+ghost use Rattle.std.specs.Prelude.{◌≡◌, ◌↔◌, IsTrue};
+ghost use Rattle.fibs_lines.specs.LineValue.{value_of, line_value};
 ghost use Rattle.fibs_lines.specs.Lines.{kept_limit};
-ghost use Rattle.fibs_lines.specs.StreamLaws.{PartsAreLinesAndRest, EmptyStreamHasNoLine, LinesOnlyGrow, LineEndIsALineStart, LineStartReadsAlone, WhatFollowsALineEndReadsAlone, LinesFit, SendableTextIsItsLine, PromptsAreRemoved};
+ghost use Rattle.fibs_lines.specs.StreamLaws.{PartsAreLinesAndRest, EmptyStreamHasNoLine, LinesOnlyGrow, LinesAreAtMostTheLineEnds, LineEndIsALineStart, LineStartReadsAlone, WhatFollowsALineEndReadsAlone, LinesFit, SendableTextIsItsLine, PromptsAreRemoved};
 
-use crate::LIMIT;
+use crate::{Fed, LIMIT, Line};
 
 /// The code keeps as many bytes of a line as the definitions say.
 pub fn limit_is_that_of_the_definitions()
     ensures { LIMIT ≡ kept_limit }
 {}
+
+/// Two lines are equal exactly where their bytes are, and where both are cut or neither is.
+pub fn lines_are_their_bytes(a: &Line<'_>, b: &Line<'_>) -> bool
+    ensures { IsTrue result ↔ (value_of a.now ≡ value_of b.now) }
+{
+    a == b
+}
+
+/// Two answers of `Lines::feed` are equal exactly where as many bytes were read and the same line was lent, or none.
+pub fn answers_are_their_lines(a: &Fed<'_>, b: &Fed<'_>) -> bool
+    ensures { IsTrue result ↔ ((a.now.used ≡ b.now.used) × (line_value a.now.line ≡ line_value b.now.line)) }
+{
+    a == b
+}
 
 /// The finished lines and the rest are all the parts between the line ends.
 pub fn parts_are_lines_and_rest()
@@ -26,6 +41,11 @@ pub fn empty_stream_has_no_line()
 /// What comes later takes no line back and changes none.
 pub fn lines_only_grow()
     ensures { LinesOnlyGrow }
+{}
+
+/// A piece gives at most as many lines as it has bytes LF.
+pub fn lines_are_at_most_the_line_ends()
+    ensures { LinesAreAtMostTheLineEnds }
 {}
 
 /// After CR LF a stream stands at a line's start, whatever came before.

@@ -12,8 +12,8 @@
 #![tactic(auto)]
 
 pub mod laws;
-pub mod line;
-pub mod lines;
+mod line;
+mod lines;
 mod prompts;
 mod telnet;
 #[cfg(test)]
@@ -23,5 +23,5 @@ mod unfinished;
 pub use line::Line;
 pub use lines::{Fed, Lines};
 
-/// How many bytes of a line are kept. The definitions have the same number once more.
+/// How many bytes of a line are kept. The definitions have the same number once more, as `kept_limit`.
 pub const LIMIT: usize = 4096;

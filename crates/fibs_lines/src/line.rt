@@ -5,7 +5,7 @@ use crate::LIMIT;
 use crate::prompts::prompts_len;
 
 /// A line without its end, and without the prompts at its start.
-#[derive(Clone, Copy, Debug)]
+#[derive(Clone, Copy, Debug, PartialEq, Eq)]
 pub struct Line<'a> {
     /// What is kept of it: at most `LIMIT` bytes, with the prompts that were removed.
     pub bytes: &'a [u8],

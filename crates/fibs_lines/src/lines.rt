@@ -20,7 +20,7 @@ pub struct Lines {
 }
 
 /// What `Lines::feed` has read.
-#[derive(Clone, Copy, Debug)]
+#[derive(Clone, Copy, Debug, PartialEq, Eq)]
 pub struct Fed<'a> {
     /// How many bytes of the piece were read: those up to and with a line end, or all.
     pub used: usize,
@@ -36,6 +36,16 @@ impl Model for Lines {
     ghost use Rattle.fibs_lines.specs.LinesView.{lines_value};
 
     ghost view = { λ l. lines_value l.unfinished l.lent };
+}
+
+impl Default for Lines {
+    /// The same as `Lines::new`.
+    fn default() -> Lines
+        ensures stands { StandsAfter result [] }
+        ensures no_line { result.line ≡ None }
+    {
+        Lines::new()
+    }
 }
 
 impl Lines {

@@ -9,20 +9,27 @@ fn only_line<'a>(lines: &'a mut Lines, piece: &[u8]) -> Option<Line<'a>> {
 
 #[test]
 fn a_board_line_in_pieces_of_one_byte(rt: HostRuntime) -> Result<(), Fail> {
-    let stream = b"board:You:opponent:5:0:0:1:0:-1:2\xff\xfb\x015:0:0\r\n";
-    let mut lines = Lines::new();
+    let board =
+        b"board:You:someplayer:3:0:1:0:-2:0:0:0:0:5:0:3:0:0:0:-5:5:0:0:0:-3:0:-5:0:0:0:0:2:0:\
+        1:6:2:0:0:1:1:1:0:1:-1:0:25:0:0:0:0:2:0:0:0";
+    let stream =
+        b"board:You:someplayer:3:0:1:0:-2:0:0:0:0:5:0:3:0:0:0:-5:5:0:0:0:-3:0:-5:0:0:0:0:2:0:\
+        1:6:2:0:0:1:1:1:0:1:-1:0:2\xff\xfb\x015:0:0:0:0:2:0:0:0\r\n";
+    let mut lines = Lines::default();
     for at in 0..stream.len() - 1 {
         let fed = lines.feed(&stream[at..at + 1]);
         assert_eq!(rt; fed.used, 1, "at {at}");
         assert!(rt; fed.line.is_none(), "at {at}");
     }
-    assert_eq!(rt; lines.held(), 39);
+    assert_eq!(rt; lines.held(), board.len() + 1, "the CR is held");
     let line = only_line(&mut lines, b"\n").ok_or("no line")?;
     assert_eq!(rt;
-        line.bytes,
-        b"board:You:opponent:5:0:0:1:0:-1:25:0:0".as_slice()
+        line,
+        Line {
+            bytes: board.as_slice(),
+            cut: false
+        }
     );
-    assert!(rt; !line.cut);
     assert_eq!(rt; lines.held(), 0);
     Ok(())
 }
