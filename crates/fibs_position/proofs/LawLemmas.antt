@@ -35,7 +35,7 @@ pub allowed_is : AllowedIsExact
 allowed_is b d good = (allowed_exact b d good.board, λ why. disallowed_exact b d why good.board)
 
 pub effect_is : EffectIsExact
-effect_is b d dice after board = effect_exact b d dice after board
+effect_is b d dice after = effect_exact b d dice after
 
 pub allowed_users : AllowedIsTheUsers
 allowed_users b d good h = (user_decides b good.board).1 h.yours

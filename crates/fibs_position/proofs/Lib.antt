@@ -23,6 +23,8 @@ pub mod RangeLemmas
 pub mod GamePartLemmas
 pub mod ViewLemmas
 pub mod SetLemmas
+pub mod GoodLemmas
+pub mod SameGameLemmas
 pub mod TableLemmas
 pub mod PhaseLemmas
 pub mod ChangeLemmas
@@ -31,3 +33,4 @@ pub mod MovedLemmas
 pub mod PhaseExact
 pub mod AllowedLemmas
 pub mod LawLemmas
+pub mod DecisionLemmas

@@ -15,7 +15,9 @@ use Rattle.fibs_messages.proofs.Table.{table_long}
 use Rattle.fibs_position.specs.Hop.{Hop}
 use Rattle.fibs_position.specs.Checkers.{Checkers, shifted, hit}
 use Rattle.fibs_position.specs.Effect.{LaxRun}
-use Rattle.fibs_position.specs.OwnView.{colour, goes_down, place_field, checkers_of, stand_on, on_places, own_on_places, other_on_places, own_placed, other_placed, own_off, other_off, own_view, natural}
+use Rattle.fibs_position.specs.declared.direction.Direction.TheVariants.{Down, Up}
+use Rattle.fibs_position.specs.DirectionOf.{direction_of, line_place}
+use Rattle.fibs_position.specs.OwnView.{colour, place_field, checkers_of, stand_on, on_places, own_on_places, other_on_places, own_placed, other_placed, own_off, other_off, own_view, natural}
 use Rattle.fibs_position.specs.GoodBoard.{IsGood}
 use Rattle.fibs_position.specs.BoardEffect.{value_of, place_says, placed, after_move}
 use Rattle.fibs_position.proofs.CountLemmas.{count_le, shifted_le, hit_le, hit_place, range_le, places_le}
@@ -108,7 +110,7 @@ view_place b place low high =
 
 -- the places are changed one by one
 place_apart : (b : BoardFields) (i j : ℕ) → i ≤ 24 → j ≤ 24 → i ≢ j → place_field b i - 4 ≢ place_field b j - 4
-place_apart b i j a c apart = elim (goes_down b) as (λ t. (7 + cond t i (25 - i)) - 4 ≢ (7 + cond t j (25 - j)) - 4) [ true ↦ omega arith | false ↦ omega arith ]
+place_apart b i j a c apart = elim (direction_of b) as (λ d. (7 + line_place d i) - 4 ≢ (7 + line_place d j) - 4) [ Down ↦ omega arith | Up ↦ omega arith ]
 
 not_here : (t : Bool) (y z : ℤ) → t ≡ false → cond t y z ≡ z
 not_here t y z e = rw e refl

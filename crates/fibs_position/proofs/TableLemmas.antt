@@ -10,12 +10,13 @@ use Rattle.std.proofs.lemmas.Bool.Decides.{Decides-and, Decides-not, Decides-ltb
 use Rattle.std.proofs.lemmas.Slice.Eq.{bytes_eq-Decides}
 use Rattle.fibs_messages.specs.Board.{BoardFields, IsBoard, field_of}
 use Rattle.fibs_position.specs.OwnView.{turn, colour, first_die, second_die, NoDice, no_dice, own_view, own_placed, other_placed}
-use Rattle.fibs_position.specs.GoodBoard.{IsGood}
+use Rattle.fibs_position.specs.GoodBoard.{good}
 use Rattle.fibs_position.specs.Search.{lax_of}
 use Rattle.fibs_position.specs.DecisionValue.{DecisionValue, roll, double, accept, reject, move}
 use Rattle.fibs_position.specs.BoardEffect.{IsDie, AreThrown, HasTurn, BeforeRoll, BeforeMove, IsDoubled, rolled, doubled, accepted, rejected, after_move, Carries, Effect}
-use Rattle.fibs_position.specs.EffectOf.{is_good, is_die, are_thrown, has_turn, is_doubled, carried, effect_of}
+use Rattle.fibs_position.specs.EffectOf.{is_die, are_thrown, has_turn, is_doubled, carried, effect_of}
 use Rattle.fibs_position.proofs.EffectLemmas.{lax_sound, lax_complete}
+use Rattle.fibs_position.proofs.GoodLemmas.{good_tells, good_from}
 
 le_decides : (a b : ℕ) → Decides (nat_le a b) (a ≤ b)
 le_decides a b = (leb-true a b, le-leb a b)
@@ -43,14 +44,6 @@ before_move_decides b = Decides-and (has_turn b) (not (no_dice b)) (turn_decides
 
 doubled_decides : (b : BoardFields) → Decides (is_doubled b) (IsDoubled b)
 doubled_decides b = Decides-and (not (int_eq (turn b) (pos 0))) (int_eq (field_of b 41) (pos 1)) (Decides-not (int_eq (turn b) (pos 0)) (Decides-int_eq (turn b) (pos 0))) (Decides-int_eq (field_of b 41) (pos 1))
-
-pub good_decides : (b : BoardFields) → IsBoard b → Decides (is_good b) (IsGood b)
-good_decides b board =
-    let parts = Decides-and (bytes_eq b.player (codes "You")) (nat_le (own_placed b) 15 && nat_le (other_placed b) 15) (bytes_eq-Decides b.player (codes "You"))
-    (Decides-and (nat_le (own_placed b) 15) (nat_le (other_placed b) 15) (le_decides (own_placed b) 15) (le_decides (other_placed b) 15)) in (
-      λ e. let h = parts.0 e in record { board = board; plays = h.0; own = h.1.0; other = h.1.1 },
-      λ g. parts.1 (g.plays, (g.own, g.other)),
-    )
 
 -- what stands under a test
 kept : {X : Type 0} (t : Bool) (o : Option X) (x : X) → cond t o None ≡ Some x → (t ≡ true) × (o ≡ Some x)
@@ -95,17 +88,19 @@ carried_complete b (move steps) dice after (before, (q, run, is)) =
     ∙ ap (option_map (after_move b)) (lax_complete (own_view b) q steps run) ∙ ap Some (sym is)
 
 -- the function is the relation
-pub effect_exact : (b : BoardFields) (d : DecisionValue) (dice : List ℕ) (after : BoardFields) → IsBoard b → (effect_of b d dice ≡ Some after) ↔ Effect b d dice after
+pub effect_exact : (b : BoardFields) (d : DecisionValue) (dice : List ℕ) (after : BoardFields) → (effect_of b d dice ≡ Some after) ↔ Effect b d dice after
 unfolding effect_of
-effect_exact b d dice after board = (
-  λ e. let (test, is) = kept (is_good b) (carried b d dice) after e in ((good_decides b board).0 test, carried_sound b d dice after is),
-  λ h. under (is_good b) (carried b d dice) ((good_decides b board).1 h.0) ∙ carried_complete b d dice after h.1,
+effect_exact b d dice after = (
+  λ e. let (test, is) = kept (good b) (carried b d dice) after e in (good_tells b test, carried_sound b d dice after is),
+  λ h. under (good b) (carried b d dice) (good_from b h.0) ∙ carried_complete b d dice after h.1,
 )
 
-pub effect_good : (b : BoardFields) (d : DecisionValue) (dice : List ℕ) → is_good b ≡ true → effect_of b d dice ≡ carried b d dice
+-- on a good board the table tells
+pub effect_good : (b : BoardFields) (d : DecisionValue) (dice : List ℕ) → good b ≡ true → effect_of b d dice ≡ carried b d dice
 unfolding effect_of
-effect_good b d dice e = under (is_good b) (carried b d dice) e
+effect_good b d dice e = under (good b) (carried b d dice) e
 
-pub effect_bad : (b : BoardFields) (d : DecisionValue) (dice : List ℕ) → is_good b ≡ false → effect_of b d dice ≡ None
+-- on every other one nothing is carried out
+pub effect_bad : (b : BoardFields) (d : DecisionValue) (dice : List ℕ) → good b ≡ false → effect_of b d dice ≡ None
 unfolding effect_of
 effect_bad b d dice e = rw e refl

@@ -1,10 +1,12 @@
 -- The view of a board after changes.
 use Rattle.std.proofs.Common.{◌≡◌, ℕ, zero, suc, ◌+◌, ◌-◌, ◌<◌, ◌≤◌, true, false, cond, List, sum, refl, sym, ap, ◌∙◌, arith}
-use Rattle.std.specs.Prelude.{ℤ, pos, neg_ℤ, map}
+use Rattle.std.specs.Prelude.{ℤ, pos, negsuc, neg_ℤ, map}
 use Rattle.std.specs.Ordering.{int_eq}
 use Rattle.std.specs.List.{range_with_len}
 use Rattle.fibs_messages.specs.Board.{BoardFields, field_of}
-use Rattle.fibs_position.specs.OwnView.{colour, goes_down, place_field, checkers_of, stand_on, on_places, own_placed, other_placed, own_off, other_off, natural}
+use Rattle.fibs_position.specs.declared.direction.Direction.TheVariants.{Down, Up}
+use Rattle.fibs_position.specs.DirectionOf.{direction_of, line_place}
+use Rattle.fibs_position.specs.OwnView.{colour, place_field, checkers_of, stand_on, on_places, own_placed, other_placed, own_off, other_off, natural}
 use Rattle.fibs_position.specs.GoodBoard.{IsGood}
 use Rattle.fibs_position.specs.BoardEffect.{set_fields}
 use Rattle.fibs_position.proofs.SetLemmas.{places_are}
@@ -19,13 +21,13 @@ map_range_same f g first (suc long) h =
 
 -- the fields that the view rests on are 8 to 31, 42, 43, 46 and 47
 pub field_low : (b : BoardFields) (place : ℕ) → 1 ≤ place → place ≤ 24 → 8 ≤ place_field b place
-field_low b place low high = elim (goes_down b) as (λ t. 8 ≤ 7 + cond t place (25 - place)) [ true ↦ omega arith | false ↦ omega arith ]
+field_low b place low high = elim (direction_of b) as (λ d. 8 ≤ 7 + line_place d place) [ Down ↦ omega arith | Up ↦ omega arith ]
 
 pub field_high : (b : BoardFields) (place : ℕ) → 1 ≤ place → place ≤ 24 → place_field b place ≤ 31
-field_high b place low high = elim (goes_down b) as (λ t. 7 + cond t place (25 - place) ≤ 31) [ true ↦ omega arith | false ↦ omega arith ]
+field_high b place low high = elim (direction_of b) as (λ d. 7 + line_place d place ≤ 31) [ Down ↦ omega arith | Up ↦ omega arith ]
 
 pub same_place_field : (a b : BoardFields) (place : ℕ) → field_of a 43 ≡ field_of b 43 → place_field a place ≡ place_field b place
-same_place_field a b place way = ap (λ z. 7 + cond (int_eq z (Rattle.std.specs.Prelude.negsuc 0)) place (25 - place)) way
+same_place_field a b place way = ap (λ z. 7 + line_place (cond (int_eq z (negsuc 0)) Down Up) place) way
 
 same_places : (a b : BoardFields) (side : ℤ) → field_of a 43 ≡ field_of b 43 → ((n : ℕ) → 8 ≤ n → n ≤ 31 → field_of a n ≡ field_of b n) → on_places a side ≡ on_places b side
 same_places a b side way same =

@@ -1,6 +1,6 @@
 -- What a user may decide, as values.
-use Rattle.std.specs.Prelude.{List}
-use Rattle.fibs_position.specs.Hop.{Hop}
+use Rattle.std.specs.Prelude.{◌≤◌, List, All, length}
+use Rattle.fibs_position.specs.Hop.{Hop, IsStep}
 
 pub data DecisionValue : Type 0 where
   roll : DecisionValue
@@ -8,3 +8,15 @@ pub data DecisionValue : Type 0 where
   accept : DecisionValue
   reject : DecisionValue
   move : List Hop → DecisionValue
+
+-- at most four steps, as many as one roll of the dice can give
+abbrev pub IsPlay : List Hop → Type 0
+IsPlay steps = All IsStep steps × (length steps ≤ 4)
+
+-- what a player can decide: a play has at most four steps, each from a place or the bar to a place or off
+abbrev pub IsDecision : DecisionValue → Type 0
+IsDecision roll = Unit {0}
+IsDecision double = Unit {0}
+IsDecision accept = Unit {0}
+IsDecision reject = Unit {0}
+IsDecision (move steps) = IsPlay steps

@@ -1,15 +1,12 @@
 -- What a decision leads to, as a function.
-use Rattle.std.specs.Prelude.{◌&&◌, not, ℕ, pos, Bool, List, Option, Some, None, option_map, slice_index, if◌then◌else◌, int_le, nat_lt, nat_le, codes}
-use Rattle.std.specs.Str.{bytes_eq}
+use Rattle.std.specs.Prelude.{◌&&◌, not, ℕ, pos, Bool, List, Option, Some, None, option_map, slice_index, if◌then◌else◌, int_le, nat_lt, nat_le}
 use Rattle.std.specs.Ordering.{int_eq}
 use Rattle.fibs_messages.specs.Board.{BoardFields, field_of}
-use Rattle.fibs_position.specs.OwnView.{turn, colour, no_dice, own_view, own_placed, other_placed}
+use Rattle.fibs_position.specs.OwnView.{turn, colour, no_dice, own_view}
+use Rattle.fibs_position.specs.GoodBoard.{good}
 use Rattle.fibs_position.specs.Search.{lax_of}
 use Rattle.fibs_position.specs.DecisionValue.{DecisionValue, roll, double, accept, reject, move}
 use Rattle.fibs_position.specs.BoardEffect.{rolled, doubled, accepted, rejected, after_move}
-
-abbrev pub is_good : BoardFields → Bool
-is_good b = bytes_eq b.player (codes "You") && (nat_le (own_placed b) 15 && nat_le (other_placed b) 15)
 
 abbrev pub is_die : ℕ → Bool
 is_die die = nat_lt 0 die && nat_le die 6
@@ -31,4 +28,4 @@ carried b reject dice = if is_doubled b then Some (rejected b) else None
 carried b (move steps) dice = if has_turn b && not (no_dice b) then option_map (after_move b) (lax_of (own_view b) steps) else None
 
 unfoldable pub effect_of : BoardFields → DecisionValue → List ℕ → Option BoardFields
-effect_of b decision dice = if is_good b then carried b decision dice else None
+effect_of b decision dice = if good b then carried b decision dice else None

@@ -1,5 +1,7 @@
 -- What of a board the game is.
-use Rattle.std.specs.Prelude.{◌≡◌, ◌≢◌, ◌+◌, ◌-◌, ◌++◌, ℕ, ℤ, List, map}
+use Rattle.std.specs.Prelude.{◌≡◌, ◌≢◌, ◌+◌, ◌-◌, ◌++◌, ◌&&◌, ℕ, ℤ, Bool, true, false, List, [], ◌∷◌, map}
+use Rattle.std.specs.Ordering.{int_eq}
+use Rattle.std.specs.Str.{bytes_eq}
 use Rattle.std.specs.List.{range_with_len}
 use Rattle.fibs_messages.specs.Board.{BoardFields, field_of}
 
@@ -26,3 +28,18 @@ Differ a b = game_part a ≢ game_part b
 -- two boards have the same numbers in the fields from the first to the last
 abbrev pub Agree : BoardFields → BoardFields → ℕ → ℕ → Type 0
 Agree a b first last = map (field_of a) (from_to first last) ≡ map (field_of b) (from_to first last)
+
+-- the same as a test
+
+abbrev pub ints_eq : List ℤ → List ℤ → Bool
+ints_eq [] [] = true
+ints_eq [] (y ∷ ys) = false
+ints_eq (x ∷ xs) [] = false
+ints_eq (x ∷ xs) (y ∷ ys) = int_eq x y && ints_eq xs ys
+
+abbrev pub same_part : GamePart → GamePart → Bool
+same_part p q = bytes_eq p.opponent q.opponent && ints_eq p.numbers q.numbers
+
+-- two boards have one game part: they do not differ
+unfoldable pub same_game : BoardFields → BoardFields → Bool
+same_game a b = same_part (game_part a) (game_part b)

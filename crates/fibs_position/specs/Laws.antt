@@ -1,15 +1,20 @@
 -- Laws of the rules.
-use Rattle.std.specs.Prelude.{◌≡◌, ◌↔◌, ℕ, ◌<◌, true, List, Some, None}
-use Rattle.fibs_messages.specs.Board.{BoardFields, IsBoard}
+use Rattle.std.specs.Prelude.{◌≡◌, ◌↔◌, ℕ, ◌<◌, ◌≤◌, true, false, List, [], ◌∷◌, Some, None}
+use Rattle.fibs_messages.specs.Board.{BoardFields}
 use Rattle.fibs_position.specs.Checkers.{Checkers}
 use Rattle.fibs_position.specs.OneChecker.{One}
-use Rattle.fibs_position.specs.GoodBoard.{IsGood}
-use Rattle.fibs_position.specs.GamePart.{Differ}
+use Rattle.fibs_position.specs.Hop.{Hop}
+use Rattle.fibs_position.specs.Runs.{Standing}
+use Rattle.fibs_position.specs.LegalPlays.{LegalPlay}
+use Rattle.fibs_position.specs.GoodBoard.{IsGood, good}
+use Rattle.fibs_position.specs.GamePart.{Differ, same_game}
 use Rattle.fibs_position.specs.Phases.{IsPhase, decides, phase_of}
-use Rattle.fibs_position.specs.DecisionValue.{DecisionValue}
+use Rattle.fibs_position.specs.DecisionValue.{DecisionValue, IsPlay, IsDecision}
+use Rattle.fibs_position.specs.DecisionOf.{decision_of}
 use Rattle.fibs_position.specs.Allowed.{IsAllowed, IsDisallowed, allowed_of}
 use Rattle.fibs_position.specs.BoardEffect.{AreThrown, Effect}
 use Rattle.fibs_position.specs.EffectOf.{effect_of}
+use Rattle.fibs_position.specs.declared.decision.Decision.{Decision}
 use Rattle.fibs_position.specs.declared.phase.Phase.{Phase}
 use Rattle.fibs_position.specs.declared.disallowed.Disallowed.{Disallowed}
 
@@ -33,7 +38,7 @@ AllowedIsExact =
 -- the function `effect_of` tells exactly the boards that decisions lead to
 abbrev pub EffectIsExact : Type 0
 EffectIsExact =
-    (b : BoardFields) (decision : DecisionValue) (dice : List ℕ) (after : BoardFields) → IsBoard b
+    (b : BoardFields) (decision : DecisionValue) (dice : List ℕ) (after : BoardFields)
     → (effect_of b decision dice ≡ Some after) ↔ Effect b decision dice after
 
 -- a decision that is allowed is the user's
@@ -51,3 +56,40 @@ abbrev pub EffectIsGood : Type 0
 EffectIsGood =
     (b : BoardFields) (decision : DecisionValue) (dice : List ℕ) (after : BoardFields) → Effect b decision dice after
     → IsGood after × Differ b after
+
+-- the test `good` tells exactly the good boards, of all values of fields
+abbrev pub GoodIsExact : Type 0
+GoodIsExact = (b : BoardFields) → (good b ≡ true) ↔ IsGood b
+
+-- the test `same_game` fails exactly for boards that differ
+abbrev pub SameGameIsExact : Type 0
+SameGameIsExact = (a b : BoardFields) → (same_game a b ≡ false) ↔ Differ a b
+
+-- that boards do not differ is an equivalence
+pub record SameGameIsALikeness : Type 0 where
+  pub itself : (a : BoardFields) → same_game a a ≡ true
+  pub back : (a b : BoardFields) → same_game a b ≡ true → same_game b a ≡ true
+  pub on : (a b c : BoardFields) → same_game a b ≡ true → same_game b c ≡ true → same_game a c ≡ true
+
+-- a decision that `allowed_of` allows is the user's, whatever the fields are
+abbrev pub AllowedDecides : Type 0
+AllowedDecides = (b : BoardFields) (d : DecisionValue) → allowed_of b d ≡ None → decides (phase_of b) ≡ true
+
+-- a legal play is at most four steps, each one that a checker can make
+abbrev pub LegalPlaysAreSteps : Type 0
+LegalPlaysAreSteps = (p : Standing) (steps : List Hop) → LegalPlay p steps → IsPlay steps
+
+-- what is allowed on a good board is a decision that a player can make
+abbrev pub AllowedIsADecision : Type 0
+AllowedIsADecision = (b : BoardFields) (d : DecisionValue) → good b ≡ true → allowed_of b d ≡ None → IsDecision d
+
+-- every value of the type is a decision that a player can make
+abbrev pub DecisionsAreValid : Type 0
+DecisionsAreValid = (decision : Decision) → IsDecision (decision_of decision)
+
+-- what is allowed on a good board is carried out, with dice of 1 to 6, and leaves a good board, which differs
+abbrev pub AllowedActs : Type 0
+AllowedActs =
+    (b : BoardFields) (d : DecisionValue) (d1 d2 : ℕ) → good b ≡ true → allowed_of b d ≡ None
+    → 0 < d1 → d1 ≤ 6 → 0 < d2 → d2 ≤ 6
+    → (b' : BoardFields) × (effect_of b d (d1 ∷ d2 ∷ []) ≡ Some b') × (good b' ≡ true) × (same_game b b' ≡ false)

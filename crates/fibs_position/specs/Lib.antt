@@ -9,8 +9,8 @@ pub mod LegalPlays
 pub mod Effect
 pub mod Search
 pub mod ReachedValue
-pub mod OwnView
 pub mod DirectionOf
+pub mod OwnView
 pub mod GoodBoard
 pub mod GoodBoardProp
 pub mod GamePart

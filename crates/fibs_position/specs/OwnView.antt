@@ -5,6 +5,7 @@ use Rattle.std.specs.List.{range_with_len}
 use Rattle.fibs_messages.specs.Board.{BoardFields, field_of}
 use Rattle.fibs_position.specs.Checkers.{Checkers}
 use Rattle.fibs_position.specs.Runs.{Standing}
+use Rattle.fibs_position.specs.DirectionOf.{direction_of, line_place}
 
 -- whose turn it is: 1 for O, -1 for X, 0 where the game is over
 abbrev pub turn : BoardFields → ℤ
@@ -14,21 +15,9 @@ turn b = field_of b 33
 abbrev pub colour : BoardFields → ℤ
 colour b = field_of b 42
 
--- the player goes from place 24 down to 1, and not from 1 up to 24
-abbrev pub goes_down : BoardFields → Bool
-goes_down b = int_eq (field_of b 43) (negsuc 0)
-
--- the line's number of a place, which the player counts so as to go down: one who goes down counts as the line does, one
--- who goes up from the other end
-abbrev pub line_number : Bool → ℕ → ℕ
-line_number down place = if down then place else 25 - place
-
-abbrev pub line_place : BoardFields → ℕ → ℕ
-line_place b place = line_number (goes_down b) place
-
 -- the field of a place
 abbrev pub place_field : BoardFields → ℕ → ℕ
-place_field b place = 7 + line_place b place
+place_field b place = 7 + line_place (direction_of b) place
 
 -- a number, and 0 for one below 0
 abbrev pub natural : ℤ → ℕ

@@ -4,12 +4,12 @@ ghost use Rattle.std.specs.Prelude.{◌≡◌, ◌↔◌, ◌≤◌, ◌≤ℤ�
 ghost use Rattle.fibs_messages.specs.Board.{BoardFields, can_have, field_of};
 ghost use Rattle.fibs_messages.specs.StoredBoard.{fields_of};
 ghost use Rattle.fibs_position.specs.BoardEffect.{set_field, set_fields, rolled, doubled, accepted, rejected, value_of, placed, after_move, Effect};
-ghost use Rattle.fibs_position.specs.EffectOf.{is_die, are_thrown, has_turn, is_doubled, is_good, carried, effect_of};
+ghost use Rattle.fibs_position.specs.EffectOf.{is_die, are_thrown, has_turn, is_doubled, carried, effect_of};
 ghost use Rattle.fibs_position.specs.DecisionValue.{roll, double, accept, reject, move};
 ghost use Rattle.fibs_position.specs.DecisionOf.{decision_of};
 ghost use Rattle.fibs_position.specs.PlayValue.{hops_of};
 ghost use Rattle.fibs_position.specs.OwnView.{colour, no_dice, own_placed, other_placed};
-ghost use Rattle.fibs_position.specs.GoodBoard.{IsGood};
+ghost use Rattle.fibs_position.specs.GoodBoard.{IsGood, good};
 
 use crate::arrangement::Arrangement;
 use crate::decision::Decision;
@@ -218,7 +218,7 @@ fn make_steps(board: &Board, play: &Play) -> Option<Board>
 
 /// The board has a position.
 fn is_good(board: &Board) -> bool
-    ensures value { result ≡ is_good (fields_of board.now) }
+    ensures value { result ≡ good (fields_of board.now) }
     ensures good { IsTrue result ↔ IsGood (fields_of board.now) }
 {
     Position::of(board).is_ok()

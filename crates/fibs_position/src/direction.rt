@@ -1,3 +1,5 @@
+ghost use Rattle.std.specs.Prelude.{◌≡◌, ◌≤◌};
+
 /// Which way a player's checkers go by the numbers of the board line.
 #[derive(Clone, Copy, Debug, PartialEq, Eq)]
 pub enum Direction {
@@ -5,4 +7,19 @@ pub enum Direction {
     Down,
     /// From place 1 up to place 24.
     Up,
+}
+
+impl Direction {
+    ghost use Rattle.fibs_position.specs.DirectionOf.{line_place};
+
+    /// The line's number of a place 0 to 25, which the player counts so that his checkers go down.
+    pub fn line_place(self, place: u8) -> u8
+        requires { place ≤ 25 }
+        ensures { result ≡ line_place self place }
+    {
+        match self {
+            Direction::Down => place,
+            Direction::Up => 25 - place,
+        }
+    }
 }

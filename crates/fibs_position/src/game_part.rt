@@ -1,8 +1,8 @@
 //! Whether the game has gone on from one board to another.
 
-ghost use Rattle.std.specs.Prelude.{◌≡◌, ◌≤◌, ◌↔◌, ◌-◌, ◌+◌, IsTrue};
+ghost use Rattle.std.specs.Prelude.{◌≡◌, ◌≤◌, ◌↔◌, ◌-◌, ◌+◌, IsTrue, not};
 ghost use Rattle.fibs_messages.specs.StoredBoard.{fields_of};
-ghost use Rattle.fibs_position.specs.GamePart.{Differ, Agree, game_part};
+ghost use Rattle.fibs_position.specs.GamePart.{Differ, Agree, game_part, same_game};
 
 use fibs_messages::Board;
 
@@ -38,7 +38,8 @@ fn is_same_game(a: &Board, b: &Board) -> bool
 /// places 1 to 24 (8 to 31), turn, dice, cube, who may double, colour and direction (33 to 43), and the checkers
 /// borne off (46, 47). The other fields decide nothing.
 pub fn differs(a: &Board, b: &Board) -> bool
-    ensures { IsTrue result ↔ Differ (fields_of a.now) (fields_of b.now) }
+    ensures differ { IsTrue result ↔ Differ (fields_of a.now) (fields_of b.now) }
+    ensures test { result ≡ not (same_game (fields_of a.now) (fields_of b.now)) }
 {
     !is_same_game(a, b)
 }

@@ -3,7 +3,7 @@
 ghost use Rattle.std.specs.Prelude.{◌≡◌, ◌↔◌, IsTrue};
 ghost use Rattle.fibs_position.specs.StepValue.{hop_of};
 ghost use Rattle.fibs_position.specs.PlayValue.{hops_of};
-ghost use Rattle.fibs_position.specs.Laws.{StepsSwap, PhaseIsExact, AllowedIsExact, EffectIsExact, AllowedIsTheUsers, AllowedIsCarriedOut, EffectIsGood};
+ghost use Rattle.fibs_position.specs.Laws.{StepsSwap, PhaseIsExact, AllowedIsExact, EffectIsExact, AllowedIsTheUsers, AllowedIsCarriedOut, EffectIsGood, GoodIsExact, SameGameIsExact, SameGameIsALikeness, AllowedDecides, LegalPlaysAreSteps, AllowedIsADecision, DecisionsAreValid, AllowedActs};
 ghost use Rattle.fibs_position.specs.Effect.{LegalIsCarriedOut};
 
 use crate::play::Play;
@@ -64,4 +64,44 @@ pub fn allowed_is_carried_out()
 /// A decision that is carried out leaves a good board, which differs from the one before.
 pub fn effect_is_good()
     ensures { EffectIsGood }
+{}
+
+/// The test `good` tells exactly the good boards, of all values of fields.
+pub fn good_is_exact()
+    ensures { GoodIsExact }
+{}
+
+/// The test `same_game` fails exactly for boards that differ.
+pub fn same_game_is_exact()
+    ensures { SameGameIsExact }
+{}
+
+/// That boards do not differ is an equivalence.
+pub fn same_game_is_a_likeness()
+    ensures { SameGameIsALikeness }
+{}
+
+/// A decision that the function `allowed_of` allows is the user's, whatever the fields are.
+pub fn allowed_decides()
+    ensures { AllowedDecides }
+{}
+
+/// A legal play has at most four steps, each from a place or the bar to a place or off.
+pub fn legal_plays_are_steps()
+    ensures { LegalPlaysAreSteps }
+{}
+
+/// What is allowed on a good board is a decision that a player can make.
+pub fn allowed_is_a_decision()
+    ensures { AllowedIsADecision }
+{}
+
+/// Every decision has at most four steps, each from a place or the bar to a place or off.
+pub fn decisions_are_valid()
+    ensures { DecisionsAreValid }
+{}
+
+/// What is allowed on a good board is carried out with dice of 1 to 6, and leaves a good board, which differs.
+pub fn allowed_acts()
+    ensures { AllowedActs }
 {}

@@ -2,9 +2,11 @@
 
 ghost use Rattle.std.specs.Prelude.{◌≡◌, ◌⊎◌, ◌+◌, ◌*◌, ◌≤◌, ◌∷◌, ◌++◌, [], pos, negsuc, length, sum};
 ghost use Rattle.fibs_messages.specs.StoredBoard.{fields_of};
+ghost use Rattle.fibs_position.specs.DirectionOf.{direction_of};
 ghost use Rattle.fibs_position.specs.OwnView.{colour, place_field, stand_on, on_places, own_off, other_off, own_placed, other_placed, own_view, first_die, second_die, no_dice};
 
 use crate::arrangement::Arrangement;
+use crate::direction::Direction;
 use crate::fields::{COLOUR, DIRECTION, FIRST_DIE, FIRST_PLACE, OTHER_OFF, OWN_OFF, SECOND_DIE};
 use fibs_messages::Board;
 
@@ -16,6 +18,17 @@ pub fn colour(board: &Board) -> i32
     board.field(COLOUR)
 }
 
+/// Which way the player's checkers go by the numbers of the board line.
+pub fn direction(board: &Board) -> Direction
+    ensures { result ≡ direction_of (fields_of board.now) }
+{
+    if board.field(DIRECTION) == -1 {
+        Direction::Down
+    } else {
+        Direction::Up
+    }
+}
+
 /// The field of a place, which the player counts so as to go down.
 pub fn place_field(board: &Board, place: u8) -> usize
     requires low { 1 ≤ place }
@@ -24,12 +37,7 @@ pub fn place_field(board: &Board, place: u8) -> usize
     ensures low { 8 ≤ result }
     ensures high { result ≤ 31 }
 {
-    let line_place = if board.field(DIRECTION) == -1 {
-        place
-    } else {
-        25 - place
-    };
-    FIRST_PLACE + usize::from(line_place)
+    FIRST_PLACE + usize::from(direction(board).line_place(place))
 }
 
 /// The checkers of a colour on a place.

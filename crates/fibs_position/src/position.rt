@@ -1,4 +1,4 @@
-ghost use Rattle.std.specs.Prelude.{◌≡◌, ◌≤◌, ◌↔◌, ◌&&◌, IsOk, IfOk, IsTrue, Err, codes, map, slice_index};
+ghost use Rattle.std.specs.Prelude.{◌≡◌, ◌≤◌, ◌↔◌, ◌&&◌, IsOk, is_ok, IfOk, IsTrue, Err, codes, map, slice_index};
 ghost use Rattle.fibs_messages.specs.StoredBoard.{fields_of};
 ghost use Rattle.fibs_position.specs.First.{IsFirst};
 ghost use Rattle.std.specs.Result.{result_err};
@@ -11,15 +11,17 @@ ghost use Rattle.fibs_position.specs.DecisionOf.{decision_of};
 ghost use Rattle.fibs_position.specs.Allowed.{is_for, cube_allows, is_legal, allowed_of, IsAllowed, IsDisallowed};
 ghost use Rattle.fibs_position.specs.DirectionOf.{direction_of};
 ghost use Rattle.fibs_position.specs.Phases.{IsPhase, can_move, phase_of};
-ghost use Rattle.fibs_position.specs.GoodBoard.{IsGood, HasFault, faults};
+ghost use Rattle.fibs_position.specs.GoodBoard.{IsGood, HasFault, faults, good};
 ghost use Rattle.fibs_position.specs.GoodBoardProp.{IsGood-prop};
 
 use crate::arrangement::Arrangement;
 use crate::decision::Decision;
 use crate::direction::Direction;
 use crate::disallowed::Disallowed;
-use crate::fields::{COLOUR, CUBE, DIRECTION, MAY_DOUBLE, MOST_DOUBLED, TURN, WAS_DOUBLED};
-use crate::own_view::{arrangement_of, first_die, no_dice, other_placed, own_placed, second_die};
+use crate::fields::{COLOUR, CUBE, MAY_DOUBLE, MOST_DOUBLED, TURN, WAS_DOUBLED};
+use crate::own_view::{
+    arrangement_of, direction, first_die, no_dice, other_placed, own_placed, second_die,
+};
 use crate::phase::Phase;
 use crate::play::Play;
 use crate::position_fault::PositionFault;
@@ -47,6 +49,7 @@ impl Position {
     /// The position of a board, or why it has none.
     pub fn of(board: &Board) -> Result<Position, PositionFault>
         ensures good { IsOk result ↔ IsGood (fields_of board.now) }
+        ensures test { is_ok result ≡ good (fields_of board.now) }
         ensures same { IfOk result (λ p. board_of p ≡ fields_of board.now) }
         ensures fault { (f : PositionFault) → (result ≡ Err f) ↔ IsFirst (HasFault (fields_of board.now)) faults f }
     {
@@ -108,11 +111,7 @@ impl Position {
     pub fn direction(&self) -> Direction
         ensures { result ≡ direction_of (board_of self.now) }
     {
-        if self.board.field(DIRECTION) == -1 {
-            Direction::Down
-        } else {
-            Direction::Up
-        }
+        direction(&self.board)
     }
 
     /// The arrangement and the dice shown.

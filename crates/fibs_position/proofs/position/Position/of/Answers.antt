@@ -3,7 +3,9 @@ use Rattle.fibs_messages.specs.StoredBoard.{fields_of}
 use Rattle.fibs_position.specs.GoodBoard.{HasFault}
 use Rattle.fibs_position.specs.OwnView.{own_placed, other_placed}
 use Rattle.fibs_position.specs.declared.position_fault.PositionFault.TheVariants.{NotYou, TooManyOwn, TooManyOther}
+use Rattle.fibs_position.specs.GoodBoard.{IsGood}
 use Rattle.fibs_position.proofs.FirstLemmas.{err_first, skip_first}
+use Rattle.fibs_position.proofs.GoodLemmas.{good_from, good_fails}
 use Rattle.fibs_position.proofs.position.Position.of.Goals as goal
 
 pub returns-then-not-is_you-clause-good : goal.returns-then-not-is_you-clause-good
@@ -31,3 +33,29 @@ returns-then-other_placed-gt15-clause-fault c =
 
 pub invariant_of-result : goal.invariant_of-result
 invariant_of-result c = record { good = record { board = c.args.board.now.valid; plays = c.is_you.ensures.0 c.if-not-is_you.false; own = omega arith; other = omega arith } }
+
+pub returns-then-not-is_you-clause-test : goal.returns-then-not-is_you-clause-test
+returns-then-not-is_you-clause-test c =
+    sym (good_fails (fields_of c.args.board.now) (λ g. let e = c.is_you.ensures.1 g.plays in absurd cc))
+
+pub returns-then-own_placed-gt15-clause-test : goal.returns-then-own_placed-gt15-clause-test
+returns-then-own_placed-gt15-clause-test c =
+    let b = fields_of c.args.board.now in
+    let many : 15 < own_placed b = omega arith in
+    sym (good_fails b (λ g. absurd (omega (arith, g.own))))
+
+pub returns-then-other_placed-gt15-clause-test : goal.returns-then-other_placed-gt15-clause-test
+returns-then-other_placed-gt15-clause-test c =
+    let b = fields_of c.args.board.now in
+    let many : 15 < other_placed b = omega arith in
+    sym (good_fails b (λ g. absurd (omega (arith, g.other))))
+
+pub returns-clause-test : goal.returns-clause-test
+returns-clause-test c =
+    let b = fields_of c.args.board.now in
+    let is : IsGood b = record {
+      board = c.args.board.now.valid;
+      plays = c.is_you.ensures.0 c.if-not-is_you.false;
+      own = omega arith;
+      other = omega arith;
+    } in sym (good_from b is)

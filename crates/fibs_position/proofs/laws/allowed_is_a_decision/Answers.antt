@@ -1,0 +1,5 @@
+use Rattle.fibs_position.proofs.DecisionLemmas.{allowed_is_a_decision}
+use Rattle.fibs_position.proofs.laws.allowed_is_a_decision.Goals as goal
+
+pub returns : goal.returns
+returns c = allowed_is_a_decision
