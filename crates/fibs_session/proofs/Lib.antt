@@ -2,3 +2,4 @@ pub mod CutLemmas
 pub mod PlaceLemmas
 pub mod StepLemmas
 pub mod CommandLemmas
+mod PrintedLemmas
