@@ -23,7 +23,8 @@ use Rattle.fibs_messages.proofs.Table.{all_narrow}
 use Rattle.fibs_messages.proofs.Faults.{option_same, some_none, least_from_first, first_from_least}
 use lib.Signed.{mag}
 
-small_number : (values : Values) (z : ℤ) → IsNarrow values → allows values z ≡ true → mag z < 2 ^ 63
+-- a number that a field may have is small
+pub small_number : (values : Values) (z : ℤ) → IsNarrow values → allows values z ≡ true → mag z < 2 ^ 63
 small_number values z fits good = let narrow : FitsSigned w32 z = allowed_narrow values z fits good in omega (arith, narrow.sfits)
 
 numbers_bytes : (vs : List Values) (zs : List ℤ) → All IsNarrow vs → Fit vs zs → AllByRecursion (All IsFieldByte) (map signed_decimal zs)

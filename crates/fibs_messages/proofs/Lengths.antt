@@ -1,5 +1,5 @@
 -- How long numbers are that fit their fields.
-use Rattle.std.proofs.Common.{◌≡◌, ℕ, zero, suc, ◌<◌, ◌≤◌, ◌+◌, ◌^◌, max, true, false, cond, ⊎_elim, List, [], ◌∷◌, length, get_or, take, arith, refl, sym, ap, ◌∙◌, nat_lt, add-one}
+use Rattle.std.proofs.Common.{◌≡◌, ℕ, zero, suc, ◌<◌, ◌≤◌, ◌+◌, ◌^◌, max, true, false, cond, ⊎_elim, List, [], ◌∷◌, length, get_or, take, arith, refl, sym, ap, ◌∙◌, nat_lt, add-one, length-append}
 use Rattle.std.specs.Prelude.{ℤ, pos, negsuc, int_le, FitsSigned}
 use Rattle.std.specs.Fmt.{decimal, signed_decimal}
 use Rattle.std.specs.List.{All}
@@ -11,6 +11,7 @@ use Rattle.std.proofs.lemmas.List.Elements.{All-head, All-tail}
 use Rattle.fibs_messages.specs.Board.{Fit, field_values}
 use Rattle.fibs_messages.specs.Decimal.{allows}
 use Rattle.fibs_messages.specs.DecimalReading.{IsNarrow}
+use Rattle.fibs_messages.specs.Numerals.{after_colons}
 use Rattle.fibs_messages.proofs.Numbers.{allowed_narrow}
 use Rattle.std.specs.Int.{w32}
 use Rattle.fibs_messages.specs.declared.decimal.Values.{Values}
@@ -88,6 +89,17 @@ total (v ∷ vs) = 1 + most_bytes v + total vs
 pub total_table : total field_values ≡ 194
 unfolding field_values total
 total_table = refl
+
+-- the numbers of a board take no more bytes, with their colons, than their fields allow
+pub numbers_short : (vs : List Values) (zs : List ℤ) → All IsNarrow vs → Fit vs zs → length (after_colons zs) ≤ total vs
+unfolding total
+numbers_short [] [] narrow h = omega arith
+numbers_short [] (z ∷ zs) narrow h = absurd h
+numbers_short (v ∷ vs) [] narrow h = absurd h
+numbers_short (v ∷ vs) (z ∷ zs) narrow h =
+    let first = number_short v z (All-head IsNarrow v vs narrow) h.0 in
+    let rest = numbers_short vs zs (All-tail IsNarrow v vs narrow) h.1 in
+    omega (arith, first, rest, length-append (58 ∷ signed_decimal z) (after_colons zs))
 
 -- a number and its colon fit beside what is before them
 pub room_before : (vs : List Values) (zs : List ℤ) (i : ℕ) (d : ℤ) → All IsNarrow vs → Fit vs zs → i < length zs → 1 + length (signed_decimal (get_or zs i d)) + total (take i vs) ≤ total (take (i + 1) vs)

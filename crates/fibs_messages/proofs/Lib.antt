@@ -1,11 +1,13 @@
 pub mod Backward
 pub mod BoardHeads
 pub mod BoardLaws
+pub mod BoardTests
 pub mod CanonicalLines
 pub mod Digits
 pub mod EachLine
 pub mod Faults
 pub mod FieldFaults
+pub mod FieldRangeLaws
 pub mod FieldTexts
 pub mod FieldValues
 pub mod Fronts
@@ -19,10 +21,13 @@ pub mod NextFields
 pub mod NumberWords
 pub mod Numbers
 pub mod Places
+pub mod ReadingValues
 pub mod Readings
 pub mod Rows
 pub mod Spaces
 pub mod Spelled
+pub mod SpelledBoards
 pub mod Splits
 pub mod Steps
 pub mod Table
+pub mod UpToLimit

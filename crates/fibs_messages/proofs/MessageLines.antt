@@ -9,8 +9,8 @@ use Rattle.std.proofs.lemmas.List.Elements.{All-get_or}
 use Rattle.std.proofs.lemmas.List.Sums.{AllPass-from_list_all}
 use Rattle.fibs_messages.specs.Field.{Kind, FieldValue, NameField, WordField, TailField, FlagField, NumberField, RatingField, TextField, kind_of, may_be_absent, Spells}
 use Rattle.fibs_messages.specs.FieldReading.{left, fields_at}
-use Rattle.fibs_messages.specs.LineReading.{number_word, ReadsAs}
-use Rattle.fibs_messages.specs.Message.{MessageValue, FieldText, spelled, no_text, FieldsText, no_fields, more_fields, MessageText, kinds_of, drops_spaces, kept}
+use Rattle.fibs_messages.specs.LineReading.{ReadsAs}
+use Rattle.fibs_messages.specs.Message.{number_word, MessageValue, FieldText, spelled, no_text, FieldsText, no_fields, more_fields, MessageText, kinds_of, drops_spaces, kept}
 use Rattle.fibs_messages.specs.Board.{without_spaces}
 use Rattle.fibs_messages.specs.Name.{is_name_byte}
 use Rattle.fibs_messages.specs.Split.{before, after}

@@ -8,8 +8,8 @@ use Rattle.fibs_messages.specs.declared.decimal.Fault.{Fault}
 use Rattle.fibs_messages.specs.Field.{Kind, FieldValue, fault_at, texts_for}
 use Rattle.fibs_messages.specs.FieldReading.{fields_at, left}
 use Rattle.fibs_messages.specs.Line.{IsBoardLine}
-use Rattle.fibs_messages.specs.LineReading.{number_word, ReadsAs}
-use Rattle.fibs_messages.specs.Message.{MessageValue, MessageText, HasNumber, IsNumbered, WrongMessage, kinds_of, kept}
+use Rattle.fibs_messages.specs.LineReading.{ReadsAs}
+use Rattle.fibs_messages.specs.Message.{number_word, MessageValue, MessageText, HasNumber, IsNumbered, WrongMessage, kinds_of, kept}
 use Rattle.fibs_messages.specs.Split.{before, after}
 use Rattle.fibs_messages.proofs.FieldFaults.{Tells, tells, one_first}
 use Rattle.fibs_messages.proofs.Faults.{option_same, some_none}

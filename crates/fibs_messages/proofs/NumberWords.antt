@@ -4,8 +4,7 @@ use Rattle.std.specs.Prelude.{◌&&◌}
 use Rattle.std.specs.Int.{is_in_range}
 use Rattle.std.proofs.lemmas.Bool.{and_parts, and_from, leb-true, le-leb, eqb-true, cases_lt}
 use Rattle.std.proofs.lemmas.Fmt.{decimal_digit, decimal_step}
-use Rattle.fibs_messages.specs.LineReading.{number_word}
-use Rattle.fibs_messages.specs.Message.{IsNumber}
+use Rattle.fibs_messages.specs.Message.{number_word, IsNumber}
 
 pub record IsNumberWord (text : List ℕ) (n : ℕ) : Type 0 where
   pub number : IsNumber n

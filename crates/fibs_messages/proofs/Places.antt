@@ -10,6 +10,7 @@ use Rattle.std.proofs.lemmas.Option.{slice_get_past}
 use Rattle.std.proofs.Math.Bool.{or-true}
 use Rattle.fibs_messages.specs.Board.{can_have, allowed_by, field_values, place, flag, side, checkers}
 use Rattle.fibs_messages.specs.Decimal.{allows}
+use Rattle.fibs_messages.specs.FieldRanges.{Exactly}
 use Rattle.fibs_messages.specs.declared.decimal.Values.{Values}
 use Rattle.fibs_messages.specs.declared.decimal.Values.TheVariants.{Between, Either}
 use Rattle.fibs_messages.proofs.Table.{table_long}
@@ -91,10 +92,6 @@ either_exact one other z = (
   (λ h. ⊎_elim (λ (is : z ≡ one). let e : int_eq z one ≡ true = grind (arith, nat_tests) in rw e refl)
       (λ (is : z ≡ other). let e : int_eq z other ≡ true = grind (arith, nat_tests) in rw (e, or-true (int_eq z one)) refl) h),
 )
-
--- field n may have z exactly where P holds
-abbrev pub Exactly : ℕ → ℤ → Type 0 → Type 0
-Exactly n z P = (can_have n z ≡ true) ↔ P
 
 between_at : (n : ℕ) (z low high : ℤ) → 4 ≤ n → slice_get field_values (n - 4) ≡ Some (Between low high) → Exactly n z ((low ≤ℤ z) × (z ≤ℤ high))
 between_at n z low high from here =

@@ -3,8 +3,8 @@ use Rattle.std.proofs.Common.{inl, inr, None, ◌≡◌, ℕ, List, sym, ap, ◌
 use Rattle.std.specs.Prelude.{◌↔◌}
 use Rattle.fibs_messages.specs.Board.{BoardFields, BoardText, Wrong, kinds}
 use Rattle.fibs_messages.specs.Line.{IsBoardLine, IsMalformed, IsText, ReadingValue, numbered_line, board_line, text_line, malformed_line, IsReading}
-use Rattle.fibs_messages.specs.LineReading.{number_word, IsAsRead}
-use Rattle.fibs_messages.specs.Message.{MessageValue, MessageText, IsNumbered}
+use Rattle.fibs_messages.specs.LineReading.{IsAsRead}
+use Rattle.fibs_messages.specs.Message.{number_word, MessageValue, MessageText, IsNumbered}
 use Rattle.fibs_messages.specs.Split.{before}
 use Rattle.fibs_messages.proofs.MessageLines.{reads_line}
 use Rattle.fibs_messages.proofs.MessageReadings.{one_message, message_not_wrong, one_wrong, message_numbered, board_not_numbered, number_of, reads_wrong}

@@ -83,6 +83,16 @@ Fit = AllZip (λ values z. allows values z ≡ true)
 abbrev pub IsBoard : BoardFields → Type 0
 IsBoard b = (is_name b.player ≡ true) × (is_name b.opponent ≡ true) × Fit field_values b.numbers
 
+-- the same as tests
+abbrev pub fit : List Values → List ℤ → Bool
+fit [] [] = true
+fit [] (z ∷ zs) = false
+fit (v ∷ vs) [] = false
+fit (v ∷ vs) (z ∷ zs) = allows v z && fit vs zs
+
+unfoldable pub is_board : BoardFields → Bool
+is_board b = is_name b.player && (is_name b.opponent && fit field_values b.numbers)
+
 -- the number of field n
 abbrev pub field_of : BoardFields → ℕ → ℤ
 field_of b n = slice_index_or b.numbers (n - 4) (pos 0)

@@ -6,8 +6,10 @@ pub mod Decimal
 pub mod DecimalReading
 pub mod Field
 pub mod FieldOf
+pub mod FieldRanges
 pub mod FieldReading
 pub mod FirstFault
+pub mod Flags
 pub mod Line
 pub mod LineReading
 pub mod Message
@@ -15,6 +17,7 @@ pub mod MessageOf
 pub mod Name
 pub mod NameBytes
 pub mod Numerals
+pub mod Printed
 pub mod Rating
 pub mod ReadingOf
 pub mod Split

@@ -1,9 +1,16 @@
 -- What a line of the server is, and what a reading says of it (FIBS CLIP specification 1008; FIBS board style 3).
-use Rattle.std.specs.Prelude.{◌≡◌, ◌==◌, ◌⊎◌, List, ℕ, codes, true}
+use Rattle.std.specs.Prelude.{◌≡◌, ◌==◌, ◌⊎◌, List, [], ◌∷◌, ℕ, ℤ, pos, Option, Some, None, Result, Ok, Err, codes, true, if◌then◌else◌}
 use Rattle.std.specs.List.{starts_with}
-use Rattle.fibs_messages.specs.Board.{BoardFields, BoardText, Wrong}
-use Rattle.fibs_messages.specs.Message.{MessageValue, MessageText, IsNumbered, WrongMessage}
+use Rattle.fibs_messages.specs.Board.{BoardFields, BoardText, Wrong, field_values, kinds, pieces, without_spaces}
+use Rattle.fibs_messages.specs.BoardReading.{first_fault}
+use Rattle.fibs_messages.specs.Decimal.{number_in}
+use Rattle.fibs_messages.specs.Field.{FieldValue}
+use Rattle.fibs_messages.specs.FieldReading.{fields_at, left}
+use Rattle.fibs_messages.specs.Message.{MessageValue, MessageText, IsNumbered, WrongMessage, kinds_of, kept, number_word}
+use Rattle.fibs_messages.specs.Split.{before, after}
+use Rattle.fibs_messages.specs.declared.board.FieldFault.{FieldFault}
 use Rattle.fibs_messages.specs.declared.decimal.Fault.{Fault}
+use Rattle.fibs_messages.specs.declared.decimal.Values.{Values}
 
 -- a board line begins with `board:`
 abbrev pub IsBoardLine : List ℕ → Type 0
@@ -31,3 +38,46 @@ IsReading line (numbered_line m) = MessageText m line
 IsReading line (board_line b) = IsBoardLine line × BoardText b line
 IsReading line (text_line text) = IsText line × (text ≡ line)
 IsReading line (malformed_line number k f) = IsMalformed line number k f
+
+-- ---- the same as a function
+
+-- the numbers that the texts spell, each one that its field may have
+abbrev pub number_or_0 : Result ℤ Fault → ℤ
+number_or_0 (Ok z) = z
+number_or_0 (Err f) = pos 0
+
+abbrev pub numbers_in : List Values → List (List ℕ) → List ℤ
+numbers_in (v ∷ vs) (p ∷ ps) = number_or_0 (number_in v p) ∷ numbers_in vs ps
+numbers_in vs ps = []
+
+-- the board of pieces that are right
+abbrev pub board_in : List (List ℕ) → BoardFields
+board_in (word ∷ player ∷ opponent ∷ ps) =
+    record { player = player; opponent = opponent; numbers = numbers_in field_values ps }
+board_in ps = record { player = []; opponent = []; numbers = [] }
+
+-- what a board line is, from its first wrong field, if any, and its pieces
+abbrev pub board_reading : Option FieldFault → List (List ℕ) → ReadingValue
+board_reading None ps = board_line (board_in ps)
+board_reading (Some e) ps = malformed_line 0 e.field e.fault
+
+-- what a numbered line is, from the values of its fields or the first that is wrong
+abbrev pub message_reading : ℕ → Result (List FieldValue) FieldFault → ReadingValue
+message_reading n (Ok fields) = numbered_line (record { number = n; fields = fields })
+message_reading n (Err e) = malformed_line n e.field e.fault
+
+-- what a line is that is no board line, from the number with which it begins, if any
+abbrev pub other_reading : Option ℕ → List ℕ → ReadingValue
+other_reading None line = text_line line
+other_reading (Some n) line = message_reading n (fields_at (kinds_of n) 1 (left 32 (after 32 (kept n line))))
+
+-- the reading of a line
+unfoldable pub reading_value : List ℕ → ReadingValue
+reading_value line =
+    if starts_with (λ a b. a == b) line (codes "board:")
+    then board_reading (first_fault 1 kinds (pieces (without_spaces line))) (pieces (without_spaces line))
+    else other_reading (number_word (before 32 line)) line
+
+-- it is the line's reading
+abbrev pub ReadingIsExact : Type 0
+ReadingIsExact = (line : List ℕ) → IsReading line (reading_value line)

@@ -1,21 +1,13 @@
 -- How a line is read. No public contract rests on it.
-use Rattle.std.specs.Prelude.{◌≡◌, ℕ, ◌+◌, ◌-◌, ◌==◌, ◌&&◌, List, [], ◌∷◌, Option, Some, None, Result, Ok, Err, if◌then◌else◌}
-use Rattle.std.specs.Int.{is_in_range}
+use Rattle.std.specs.Prelude.{◌≡◌, ℕ, List, Some, None, Result, Ok, Err}
 use Rattle.fibs_messages.specs.declared.board.FieldFault.{FieldFault}
 use Rattle.fibs_messages.specs.declared.line.Beginning.{Beginning}
 use Rattle.fibs_messages.specs.declared.line.Beginning.TheVariants.{Board, Number, Other}
 use Rattle.fibs_messages.specs.Field.{FieldValue}
 use Rattle.fibs_messages.specs.FieldReading.{fields_at, left}
 use Rattle.fibs_messages.specs.Line.{IsBoardLine, ReadingValue, numbered_line, board_line, text_line, malformed_line}
-use Rattle.fibs_messages.specs.Message.{IsNumber, kinds_of, kept}
+use Rattle.fibs_messages.specs.Message.{IsNumber, kinds_of, kept, number_word}
 use Rattle.fibs_messages.specs.Split.{before, after}
-
--- the number from 1 to 19 that a word is
-abbrev pub number_word : List ℕ → Option ℕ
-number_word [] = None
-number_word (d ∷ []) = if is_in_range 49 57 d then Some (d - 48) else None
-number_word (d ∷ e ∷ []) = if d == 49 && is_in_range 48 57 e then Some (10 + (e - 48)) else None
-number_word (d ∷ e ∷ f ∷ s) = None
 
 -- how a line begins: with `board:`, else with a number from 1 to 19 before a space or the end, else with neither
 abbrev pub BeginsAs : List ℕ → Beginning → Type 0

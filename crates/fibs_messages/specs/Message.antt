@@ -1,5 +1,6 @@
 -- Messages 1 to 19 (FIBS CLIP specification 1008) and their lines.
-use Rattle.std.specs.Prelude.{◌≡◌, ℕ, ◌<◌, ◌≤◌, Bool, true, false, nat_le, ◌||◌, ◌==◌, List, [], ◌∷◌, ◌++◌, decimal, map, replicate, if◌then◌else◌}
+use Rattle.std.specs.Prelude.{◌≡◌, ℕ, ◌<◌, ◌≤◌, ◌+◌, ◌-◌, Bool, true, false, nat_le, ◌&&◌, ◌||◌, ◌==◌, List, [], ◌∷◌, ◌++◌, Option, Some, None, decimal, map, replicate, if◌then◌else◌}
+use Rattle.std.specs.Int.{is_in_range}
 use Rattle.std.specs.List.{flat_map, AllByRecursion}
 use Rattle.fibs_messages.specs.declared.decimal.Fault.{Fault}
 use Rattle.fibs_messages.specs.Board.{without_spaces}
@@ -100,6 +101,13 @@ pub record MessageText (m : MessageValue) (line : List ℕ) : Type 0 where
 -- the line begins with this number, and then has a space or ends
 abbrev pub HasNumber : List ℕ → ℕ → Type 0
 HasNumber line n = IsNumber n × (before 32 line ≡ decimal n)
+
+-- the number from 1 to 19 that a word is
+abbrev pub number_word : List ℕ → Option ℕ
+number_word [] = None
+number_word (d ∷ []) = if is_in_range 49 57 d then Some (d - 48) else None
+number_word (d ∷ e ∷ []) = if d == 49 && is_in_range 48 57 e then Some (10 + (e - 48)) else None
+number_word (d ∷ e ∷ f ∷ s) = None
 
 abbrev pub IsNumbered : List ℕ → Type 0
 IsNumbered line = (n : ℕ) × HasNumber line n

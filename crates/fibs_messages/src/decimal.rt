@@ -1,12 +1,12 @@
 //! Numbers of fields, as they are spelled.
 
-ghost use Rattle.std.specs.Prelude.{◌≡◌, ◌-◌, ◌^◌, ◌≤◌, ◌&&◌, ◌||◌, cond, length, min, nat_le, pos, true, drop, [], ◌∷◌, option_map, Some, None, MatchOption, if◌then◌else◌};
+ghost use Rattle.std.specs.Prelude.{◌≡◌, ◌↔◌, ◌-◌, ◌^◌, ◌≤◌, ◌&&◌, ◌||◌, ℕ, cond, decimal, length, min, nat_le, pos, true, drop, [], ◌∷◌, option_map, Some, None, MatchOption, if◌then◌else◌};
 ghost use Rattle.std.specs.Char.{is_ascii_digit};
 ghost use Rattle.std.specs.List.{list_all};
 ghost use Rattle.std.specs.Str.Parse.{digits_value, starts_with_minus};
 ghost use Rattle.fibs_messages.specs.Field.{flag_values, number_values};
 ghost use Rattle.fibs_messages.specs.FieldReading.{Gives};
-ghost use Rattle.fibs_messages.specs.Decimal.{is_positive, is_zero, allows, decimal_value, number_if_allowed, number_in};
+ghost use Rattle.fibs_messages.specs.Decimal.{is_positive, is_zero, allows, decimal_up_to, decimal_value, number_if_allowed, number_in};
 ghost use Rattle.fibs_messages.specs.DecimalReading.{IsNarrow, capped, unsigned_value};
 
 /// Why a field is wrong.
@@ -130,6 +130,18 @@ pub fn unsigned_number(text: &[u8]) -> Result<u64, Fault>
     match short_unsigned(text) {
         Some(number) => Ok(number),
         None => long_unsigned(text),
+    }
+}
+
+/// The number of a canonical decimal without sign, which is `0` or digits that begin with no 0, where it is at most `limit`.
+/// None for every other text, also for one with a sign, and for a number of any length that is above it.
+pub fn read_decimal(text: &[u8], limit: u64) -> Option<u64>
+    ensures value { result ≡ decimal_up_to limit text.now }
+    ensures exact { (n : ℕ) → (result ≡ Some n) ↔ ((text.now ≡ decimal n) × (n ≤ limit)) }
+{
+    match unsigned_number(text) {
+        Ok(number) if number <= limit => Some(number),
+        _ => None,
     }
 }
 

@@ -1,15 +1,21 @@
 //! Laws of boards, messages and their lines.
 
-ghost use Rattle.std.specs.Prelude.{◌<◌, ◌≡◌, ◌↔◌, ◌⊎◌, ℕ, List, Ok, IsTrue, map};
-ghost use Rattle.fibs_messages.specs.Board.{BoardFields, IsBoard, BoardText, Wrong, spelling};
+ghost use Rattle.std.specs.Prelude.{◌<◌, ◌≤◌, ◌^◌, ◌≡◌, ◌↔◌, ◌⊎◌, ℕ, List, Ok, Some, IsTrue, All, decimal, length, map, true};
+ghost use Rattle.fibs_messages.specs.Board.{BoardFields, IsBoard, BoardText, Wrong, is_board, spelling};
 ghost use Rattle.fibs_messages.specs.Bits.{HasBits};
+ghost use Rattle.fibs_messages.specs.Decimal.{decimal_up_to};
 ghost use Rattle.fibs_messages.specs.Field.{kind_of};
-ghost use Rattle.fibs_messages.specs.Line.{IsBoardLine, IsReading, ReadingValue, numbered_line};
+ghost use Rattle.fibs_messages.specs.FieldRanges.{FieldRanges};
+ghost use Rattle.fibs_messages.specs.Flags.{FlagsAreTheFields};
+ghost use Rattle.fibs_messages.specs.Line.{IsBoardLine, IsReading, ReadingIsExact, ReadingValue, numbered_line};
 ghost use Rattle.fibs_messages.specs.Message.{HasNumber, IsMessage, IsNumber, IsNumbered, MessageText, MessageValue, WrongMessage, canonical, kinds_of};
 ghost use Rattle.fibs_messages.specs.ReadingOf.{reading_of};
 ghost use Rattle.fibs_messages.specs.declared.message.Message.{Message};
 ghost use Rattle.fibs_messages.specs.MessageOf.{message_of};
+ghost use Rattle.fibs_messages.specs.Printed.{IsPrinted};
 ghost use Rattle.fibs_messages.specs.StoredBoard.{fields_of, read_fields};
+ghost use Rattle.fibs_messages.specs.declared.board.Board.{Board};
+ghost use Rattle.fibs_messages.specs.declared.message.OwnInfo.{OwnInfo};
 
 use crate::board::{Board, FieldFault};
 use crate::decimal::Fault;
@@ -67,6 +73,43 @@ pub fn board_lines_are_not_numbered()
 /// A line has one reading.
 pub fn each_line_has_one_reading()
     ensures { (line : List ℕ) → (v w : ReadingValue) → IsReading line v → IsReading line w → v ≡ w }
+{}
+
+/// The function `reading_value` gives each line its reading.
+pub fn reading_is_exact()
+    ensures { ReadingIsExact }
+{}
+
+/// What is printed of a board is printed text of at most 329 bytes, and begins with `board:`.
+pub fn spellings_are_lines()
+    ensures printed { (b : BoardFields) → IsBoard b → All IsPrinted (spelling b) }
+    ensures short { (b : BoardFields) → IsBoard b → length (spelling b) ≤ 329 }
+    ensures begins { (b : BoardFields) → IsBoard b → IsBoardLine (spelling b) }
+{}
+
+/// The fields of each board are a board.
+pub fn boards_are_valid()
+    ensures { (board : Board) → IsBoard (fields_of board) }
+{}
+
+/// The test of boards says yes of boards, and of nothing else.
+pub fn is_board_is_exact()
+    ensures { (b : BoardFields) → (is_board b ≡ true) ↔ IsBoard b }
+{}
+
+/// Which numbers each group of fields may have, and that each board keeps to it.
+pub fn fields_have_their_ranges()
+    ensures { FieldRanges }
+{}
+
+/// The flags of message 2 are its fields of these names.
+pub fn flags_are_the_fields()
+    ensures { (info : OwnInfo) → FlagsAreTheFields info }
+{}
+
+/// A text is read as a number up to a limit exactly where it is what is written of that number.
+pub fn decimals_are_exact()
+    ensures { (limit n : ℕ) → (text : List ℕ) → limit < 2 ^ 64 → (decimal_up_to limit text ≡ Some n) ↔ ((text ≡ decimal n) × (n ≤ limit)) }
 {}
 
 /// The canonical line of a message says it, and messages with one canonical line are one.

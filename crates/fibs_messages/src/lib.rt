@@ -26,7 +26,7 @@ mod values;
 mod word;
 
 pub use board::{Board, FieldFault};
-pub use decimal::Fault;
+pub use decimal::{Fault, read_decimal};
 pub use line::{Reading, read};
 pub use message::{Message, OwnInfo, WhoInfo};
 pub use name::Name;

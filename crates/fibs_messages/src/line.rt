@@ -2,9 +2,9 @@
 
 ghost use Rattle.std.specs.Prelude.{◌≡◌, ◌↔◌, ℕ, List, Some};
 ghost use Rattle.fibs_messages.specs.Board.{BoardFields, BoardText};
-ghost use Rattle.fibs_messages.specs.Line.{IsBoardLine, IsMalformed, IsText, ReadingValue, numbered_line, board_line, text_line, malformed_line, IsReading};
-ghost use Rattle.fibs_messages.specs.LineReading.{BeginsAs, IsAsRead, number_word};
-ghost use Rattle.fibs_messages.specs.Message.{IsNumber, MessageValue, MessageText};
+ghost use Rattle.fibs_messages.specs.Line.{IsBoardLine, IsMalformed, IsText, ReadingValue, numbered_line, board_line, text_line, malformed_line, IsReading, reading_value};
+ghost use Rattle.fibs_messages.specs.LineReading.{BeginsAs, IsAsRead};
+ghost use Rattle.fibs_messages.specs.Message.{number_word, IsNumber, MessageValue, MessageText};
 ghost use Rattle.fibs_messages.specs.ReadingOf.{reading_of};
 ghost use Rattle.fibs_messages.specs.Split.{before};
 
@@ -101,6 +101,8 @@ pub fn read(line: &[u8]) -> Reading<'_>
     // The answer is the line's reading, and a line has no other.
     ensures found { IsReading line.now (reading_of result) }
     ensures only { (value : ReadingValue) → IsReading line.now value → reading_of result ≡ value }
+    // The reading is also a function of the line.
+    ensures value { reading_of result ≡ reading_value line.now }
     // Each answer is given exactly where the line is this.
     ensures numbered { (m : MessageValue) → (reading_of result ≡ numbered_line m) ↔ MessageText m line.now }
     ensures board { (b : BoardFields) → (reading_of result ≡ board_line b) ↔ BoardText b line.now }

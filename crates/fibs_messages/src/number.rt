@@ -2,8 +2,7 @@
 
 ghost use Rattle.std.specs.Prelude.{◌≡◌, IfSome};
 ghost use Rattle.fibs_messages.specs.FieldReading.{seen};
-ghost use Rattle.fibs_messages.specs.LineReading.{number_word};
-ghost use Rattle.fibs_messages.specs.Message.{IsNumber, drops_spaces, kept};
+ghost use Rattle.fibs_messages.specs.Message.{number_word, IsNumber, drops_spaces, kept};
 ghost use Rattle.fibs_messages.specs.Split.{after};
 
 use crate::split::split;

@@ -1,5 +1,5 @@
 use crate::laws::{print_reads_back, prints_tell_boards};
-use crate::{Board, Fault, FieldFault, Name, Reading, read};
+use crate::{Board, Fault, FieldFault, Name, Reading, read, read_decimal};
 use arrayvec::ArrayVec;
 
 /// A board line as the server sends it.
@@ -239,4 +239,31 @@ fn names_have_1_to_64_bytes(rt: HostRuntime) {
     assert!(rt; Name::new(&[b'a'; 65]).is_none());
     assert!(rt; Name::new(b"a:b").is_none());
     assert!(rt; Name::new(b"a b").is_none());
+}
+
+#[test]
+fn a_decimal_up_to_a_limit_is_read(rt: HostRuntime) {
+    let cases: [(&str, u64, Option<u64>); 14] = [
+        ("0", 0, Some(0)),
+        ("1", 0, None),
+        ("5", 65_535, Some(5)),
+        ("65535", 65_535, Some(65_535)),
+        ("65536", 65_535, None),
+        ("007", 65_535, None),
+        ("00", 65_535, None),
+        ("", 65_535, None),
+        ("-0", 65_535, None),
+        ("-5", 65_535, None),
+        ("+5", 65_535, None),
+        ("5 ", 65_535, None),
+        ("18446744073709551615", u64::MAX, Some(u64::MAX)),
+        ("18446744073709551616", u64::MAX, None),
+    ];
+    for (text, limit, number) in cases {
+        assert_eq!(rt;
+            read_decimal(text.as_bytes(), limit),
+            number,
+            "{text} up to {limit}"
+        );
+    }
 }

@@ -1,6 +1,7 @@
 use Rattle.std.proofs.Common.{refl}
-use Rattle.fibs_messages.specs.Line.{text_line}
+use Rattle.fibs_messages.specs.Line.{text_line, reading_value}
 use Rattle.fibs_messages.specs.ReadingOf.{reading_of}
+use Rattle.fibs_messages.proofs.ReadingValues.{reading_is_exact}
 use Rattle.fibs_messages.proofs.Readings.{exactly, is_reading}
 use Rattle.fibs_messages.proofs.line.read.Goals as goal
 
@@ -45,3 +46,12 @@ returns-in-Other-clause-malformed c = (exactly c.args.line.now (text_line c.args
 
 pub returns-in-Other-clause-text : goal.returns-in-Other-clause-text
 returns-in-Other-clause-text c = (exactly c.args.line.now (text_line c.args.line.now) (is_reading c.args.line.now (text_line c.args.line.now) c.in-Other.ensures.0 (c.in-Other.ensures.1, refl))).text
+
+pub returns-in-Board-clause-value : goal.returns-in-Board-clause-value
+returns-in-Board-clause-value c = (exactly c.args.line.now (reading_of c.read_board_line.result) (c.read_board_line.ensures)).only (reading_value c.args.line.now) (reading_is_exact c.args.line.now)
+
+pub returns-in-Number-clause-value : goal.returns-in-Number-clause-value
+returns-in-Number-clause-value c = (exactly c.args.line.now (reading_of c.read_numbered_line.result) (is_reading c.args.line.now (reading_of c.read_numbered_line.result) c.in-Number.ensures.0 c.read_numbered_line.ensures)).only (reading_value c.args.line.now) (reading_is_exact c.args.line.now)
+
+pub returns-in-Other-clause-value : goal.returns-in-Other-clause-value
+returns-in-Other-clause-value c = (exactly c.args.line.now (text_line c.args.line.now) (is_reading c.args.line.now (text_line c.args.line.now) c.in-Other.ensures.0 (c.in-Other.ensures.1, refl))).only (reading_value c.args.line.now) (reading_is_exact c.args.line.now)

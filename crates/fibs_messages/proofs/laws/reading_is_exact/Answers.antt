@@ -1,0 +1,5 @@
+use Rattle.fibs_messages.proofs.ReadingValues.{reading_is_exact}
+use Rattle.fibs_messages.proofs.laws.reading_is_exact.Goals as goal
+
+pub returns : goal.returns
+returns c = reading_is_exact
