@@ -3,3 +3,5 @@ pub mod PlaceLemmas
 pub mod StepLemmas
 pub mod CommandLemmas
 mod PrintedLemmas
+mod History
+mod Calls

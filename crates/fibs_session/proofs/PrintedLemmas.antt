@@ -1,5 +1,5 @@
 -- Printed bytes: those of names, texts and passwords, and that they are a text.
-use Rattle.std.proofs.Common.{◌≡◌, sym, ◌∙◌, ℕ, ◌<◌, ◌≤◌, ◌==◌, ◌&&◌, Bool, true, false, not, List, [], ◌∷◌, length, nat_le, nat_lt, refl, arith}
+use Rattle.std.proofs.Common.{◌≡◌, sym, ◌∙◌, ℕ, ◌<◌, ◌==◌, ◌&&◌, Bool, true, false, not, List, [], ◌∷◌, length, nat_le, nat_lt, refl, arith}
 use Rattle.std.specs.Prelude.{All}
 use Rattle.std.specs.List.{list_all}
 use Rattle.std.specs.Prelude.{Result, Ok, Err, MatchResult, IsOk}
@@ -10,9 +10,9 @@ use Rattle.std.proofs.lemmas.List.Elements.{All-cons, All-nil, All-weaker}
 use Rattle.std.proofs.lemmas.Str.{IsUtf8-from_ascii}
 use Rattle.std.proofs.lemmas.Str.Ascii.{IsAscii-from_all}
 use Rattle.fibs_messages.specs.Name.{is_name, is_name_byte}
-use Rattle.fibs_session.specs.Logins.{is_password, is_password_byte}
-use Rattle.fibs_session.specs.PlainCommands.{is_text_byte, is_printed}
-use Rattle.fibs_session.specs.CommandLaws.{IsPrinted}
+use Rattle.fibs_session.specs.Logins.{is_password_byte}
+use Rattle.fibs_session.specs.PlainCommands.{is_text_byte}
+use Rattle.fibs_messages.specs.Printed.{IsPrinted}
 
 byte_from_text : (b : ℕ) → is_text_byte b ≡ true → IsPrinted b
 byte_from_text b h =

@@ -8,3 +8,5 @@ pub mod LoginOf
 pub mod FirstCommands
 pub mod CommandReading
 pub mod CommandLaws
+pub mod History
+pub mod Calls

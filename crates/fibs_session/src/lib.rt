@@ -1,12 +1,18 @@
 //! A player's session with a backgammon server: the commands that a player sends.
 #![tactic(auto)]
 
+pub mod client;
 mod commands;
 pub mod laws;
+mod refusal;
+mod session;
 #[cfg(test)]
 mod tests;
 
+pub use client::{Client, Got, HeardLine, Input, run_client};
 pub use commands::{
     CommandText, Login, Plain, PlainFault, autoboard_text, board_text, decision_text,
     moreboards_text, plain_text, style_text,
 };
+pub use refusal::{PlainRefusal, Refusal};
+pub use session::{Outstanding, Session, Taken};

@@ -1,0 +1,95 @@
+-- From the session to the client, for each call.
+use Rattle.std.proofs.Common.{◌≡◌, ℕ, Bool, true, false, List, [], ◌∷◌, Option, Some, None, if◌then◌else◌, refl, sym, ap, subst}
+use Rattle.fibs_lines.specs.LinesValue.{StandsAfter as LinesStandAfter}
+use Rattle.fibs_messages.specs.Board.{BoardFields}
+use Rattle.fibs_position.specs.DecisionValue.{DecisionValue}
+use Rattle.fibs_session.specs.PlainCommands.{PlainValue}
+use Rattle.fibs_session.specs.declared.refusal.Refusal.{Refusal}
+use Rattle.fibs_session.specs.declared.refusal.Refusal.TheVariants.{AlreadyOpen}
+use Rattle.fibs_session.specs.declared.refusal.PlainRefusal.{PlainRefusal}
+use Rattle.fibs_session.specs.History.Log.{Lost}
+use Rattle.fibs_session.specs.History.Words.{last, open_now, shown}
+use Rattle.fibs_session.specs.History.Machine.{Talk, InputValue, Open, Lose, Click, PlainInput, step, stays, does, is_online, opened, opens, open_refusal, unconfirmed_now, clicks_by, decides_on, answer_now, sends_plain, plain_refusal}
+use Rattle.fibs_session.specs.Calls.Standing.{SessionStandsAfter, ClientValue, StandsAfter}
+use Rattle.fibs_session.specs.Calls.Doing.{SessionDoes, Does}
+
+pub session_at : (c : ClientValue) (t : Talk) → StandsAfter c t → SessionStandsAfter c.session t
+unfolding StandsAfter SessionStandsAfter
+session_at c t at = at.1
+
+pub lines_at : (c : ClientValue) (t : Talk) → StandsAfter c t → LinesStandAfter c.lines t.stream
+unfolding StandsAfter
+lines_at c t at = at.0
+
+pub both_at : (c : ClientValue) (t : Talk) → LinesStandAfter c.lines t.stream → SessionStandsAfter c.session t → StandsAfter c t
+unfolding StandsAfter SessionStandsAfter
+both_at c t l s = (l, s)
+
+-- the calls that read no byte
+pub KeepsBytes : InputValue → Type 0
+KeepsBytes i = (t : Talk) → (step t i).talk.stream ≡ t.stream
+
+pub lose_keeps : KeepsBytes Lose
+unfolding KeepsBytes
+lose_keeps t = go (is_online t)
+  where
+    go : (b : Bool) → (if b then does t (Lost (open_now t.log) (unconfirmed_now t) ∷ []) [] else stays t).talk.stream ≡ t.stream
+    go true = refl
+    go false = refl
+
+pub click_keeps : (d : DecisionValue) → KeepsBytes (Click d)
+unfolding KeepsBytes
+click_keeps d t = go (answer_now t d)
+  where
+    board : (o : Option BoardFields) → (decides_on t d o).talk.stream ≡ t.stream
+    board None = refl
+    board (Some b) = refl
+
+    go : (a : Option Refusal) → (clicks_by t d a).talk.stream ≡ t.stream
+    go (Some why) = refl
+    go None = board (last (shown (open_now t.log) t.log))
+
+pub plain_keeps : (p : PlainValue) → KeepsBytes (PlainInput p)
+unfolding KeepsBytes
+plain_keeps p t = go (plain_refusal t p)
+  where
+    go : (a : Option PlainRefusal) → (sends_plain t p a).talk.stream ≡ t.stream
+    go (Some why) = refl
+    go None = refl
+
+pub client_does : (i : InputValue) (old new : ClientValue) (send : List (List ℕ)) → KeepsBytes i → new.lines ≡ old.lines → SessionDoes old.session new.session i send → Does old new i send
+unfolding KeepsBytes
+client_does i old new send keeps same d = record {
+  stands = λ t at. both_at new _ (subst (λ l. LinesStandAfter l (step t i).talk.stream) (sym same) (subst (LinesStandAfter old.lines) (sym (keeps t)) (lines_at old t at))) (d.stands t (session_at old t at));
+  hands = λ t at. d.hands t (session_at old t at);
+}
+
+-- Open
+
+if_open : (t : Talk) (b : Bool) → (if b then Some AlreadyOpen else None) ≡ None → b ≡ false
+if_open t true h = absurd cc
+if_open t false h = refl
+
+if_not_open : (t : Talk) (b : Bool) (why : Refusal) → (if b then Some AlreadyOpen else None) ≡ Some why → b ≡ true
+if_not_open t true why h = refl
+if_not_open t false why h = absurd cc
+
+pub opens_new : (old new : ClientValue) (send : List (List ℕ)) → LinesStandAfter new.lines [] → ((t : Talk) → SessionStandsAfter old.session t → None ≡ open_refusal t) → SessionDoes old.session new.session Open send → Does old new Open send
+opens_new old new send empty fits d = record {
+  stands = λ t at.
+      let s = session_at old t at in
+      let off : is_online t ≡ false = if_open t (is_online t) (sym (fits t s)) in
+      let e : (opens t).talk.stream ≡ [] = ap (λ b. (if b then stays t else record { talk = opened t; send = t.login ∷ [] }).talk.stream) off in
+      both_at new _ (subst (LinesStandAfter new.lines) (sym e) empty) (d.stands t s);
+  hands = λ t at. d.hands t (session_at old t at);
+}
+
+pub opens_not : (old new : ClientValue) (send : List (List ℕ)) (why : Refusal) → new.lines ≡ old.lines → ((t : Talk) → SessionStandsAfter old.session t → Some why ≡ open_refusal t) → SessionDoes old.session new.session Open send → Does old new Open send
+opens_not old new send why same refuses d = record {
+  stands = λ t at.
+      let s = session_at old t at in
+      let on : is_online t ≡ true = if_not_open t (is_online t) why (sym (refuses t s)) in
+      let e : (opens t).talk.stream ≡ t.stream = ap (λ b. (if b then stays t else record { talk = opened t; send = t.login ∷ [] }).talk.stream) on in
+      both_at new _ (subst (λ l. LinesStandAfter l (opens t).talk.stream) (sym same) (subst (LinesStandAfter old.lines) (sym e) (lines_at old t at))) (d.stands t s);
+  hands = λ t at. d.hands t (session_at old t at);
+}

@@ -1,0 +1,7 @@
+-- What a history says after more entries, and what the fields of a session say of it.
+pub mod Lists
+pub mod Past
+pub mod Words
+pub mod Texts
+pub mod Fields
+pub mod Joins

@@ -1,0 +1,5 @@
+use Rattle.fibs_session.proofs.History.Joins.{servers_silent}
+use Rattle.fibs_session.proofs.client.laws.servers_entries_are_silent.Goals as goal
+
+pub returns : goal.returns
+returns c = servers_silent

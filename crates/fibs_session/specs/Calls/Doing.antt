@@ -1,0 +1,23 @@
+-- What a call does: an input of the machine.
+use Rattle.std.specs.Prelude.{◌≡◌, ℕ, List, Option}
+use Rattle.fibs_lines.specs.Lines.{ReadLine}
+use Rattle.fibs_session.specs.History.Words.{Ask}
+use Rattle.fibs_session.specs.History.Machine.{Talk, InputValue, step, line_heard, hears}
+use Rattle.fibs_session.specs.Calls.SessionValue.{SessionValue}
+use Rattle.fibs_session.specs.Calls.Standing.{SessionStandsAfter, ClientValue, StandsAfter}
+
+-- after each history that it stood after, it stands after that history with the input, and these commands are handed out
+pub record SessionDoes (old new : SessionValue) (i : InputValue) (send : List (List ℕ)) : Type 0 where
+  pub stands : (t : Talk) → SessionStandsAfter old t → SessionStandsAfter new (step t i).talk
+  pub hands : (t : Talk) → SessionStandsAfter old t → send ≡ (step t i).send
+
+-- the same of a whole line
+pub record SessionHears (old new : SessionValue) (l : ReadLine) (send : List (List ℕ)) (confirmed : Option Ask) : Type 0 where
+  pub stands : (t : Talk) → SessionStandsAfter old t → SessionStandsAfter new (hears t (line_heard t l)).talk
+  pub hands : (t : Talk) → SessionStandsAfter old t → send ≡ (line_heard t l).send
+  pub confirms : (t : Talk) → SessionStandsAfter old t → confirmed ≡ (line_heard t l).confirmed
+
+-- the same of a client
+pub record Does (old new : ClientValue) (i : InputValue) (send : List (List ℕ)) : Type 0 where
+  pub stands : (t : Talk) → StandsAfter old t → StandsAfter new (step t i).talk
+  pub hands : (t : Talk) → StandsAfter old t → send ≡ (step t i).send

@@ -1,0 +1,96 @@
+-- What the two halves of `feed` do.
+use Rattle.std.specs.Prelude.{◌≡◌, ℕ, ◌<◌, true, false, List, [], ◌∷◌, ◌++◌, length, take, Option, None, Some, option_map, IsNone}
+use Rattle.fibs_lines.specs.Lines.{ReadLine, lines_of}
+use Rattle.fibs_lines.specs.LinesValue.{StandsAfter as LinesStandAfter}
+use Rattle.fibs_session.specs.History.Words.{Ask}
+use Rattle.fibs_session.specs.History.Hearing.{line_reading}
+use Rattle.fibs_session.specs.History.Machine.{Talk, Piece, step, is_online, line_heard}
+use Rattle.fibs_session.specs.Calls.SessionValue.{SessionValue}
+use Rattle.fibs_session.specs.Calls.SessionOf.{TakenValue, texts_of, ask_of}
+use Rattle.fibs_session.specs.Calls.ClientOf.{kept_reading}
+use Rattle.fibs_session.specs.Calls.Standing.{ClientValue, StandsAfter}
+use Rattle.fibs_session.specs.Calls.Doing.{SessionHears}
+use Rattle.fibs_session.specs.declared.client.heard_line.Answer.{Answer}
+use Rattle.fibs_session.specs.declared.client.heard_line.HeardLine.{HeardLine}
+
+-- a line that may be there, as a list
+abbrev pub in_list : Option ReadLine → List ReadLine
+in_list None = []
+in_list (Some line) = line ∷ []
+
+-- the shortest front of the piece with which the stream s has one line more, and that line; or the whole piece
+pub record Gains (s piece : List ℕ) (used : ℕ) (line : Option ReadLine) : Type 0 where
+  pub gains : lines_of (s ++ take used piece) ≡ lines_of s ++ in_list line
+  pub shortest : (n : ℕ) → n < used → lines_of (s ++ take n piece) ≡ lines_of s
+  pub whole : IsNone line → used ≡ length piece
+
+-- the session has heard the line
+abbrev pub AnswersLine : SessionValue → Option ReadLine → Option Answer → SessionValue → Type 0
+AnswersLine v None None v' = v' ≡ v
+AnswersLine v None (Some a) v' = ⊥
+AnswersLine v (Some line) None v' = ⊥
+AnswersLine v (Some line) (Some a) v' = SessionHears v v' line (texts_of a.send.items) (option_map ask_of a.confirmed) × (kept_reading a.kept line ≡ line_reading line)
+
+pub record ReadsOnline (old new : ClientValue) (piece : List ℕ) (h : HeardLine) : Type 0 where
+  pub gains : (s : List ℕ) → LinesStandAfter old.lines s → Gains s piece h.used new.lines.line
+  pub stands : (s : List ℕ) → LinesStandAfter old.lines s → LinesStandAfter new.lines (s ++ take h.used piece)
+  pub answers : AnswersLine old.session new.lines.line h.answer new.session
+
+pub record ReadsOffline (old new : ClientValue) (piece : List ℕ) (h : HeardLine) : Type 0 where
+  pub used : h.used ≡ length piece
+  pub answer : h.answer ≡ None
+  pub same : new ≡ old
+
+pub record ReadsPiece (old new : ClientValue) (piece : List ℕ) (h : HeardLine) : Type 0 where
+  pub online : old.session.online ≡ true → ReadsOnline old new piece h
+  pub offline : old.session.online ≡ false → ReadsOffline old new piece h
+
+-- what the line confirms
+abbrev pub line_confirms : Talk → Option ReadLine → Option Ask
+line_confirms t None = None
+line_confirms t (Some l) = (line_heard t l).confirmed
+
+-- what was kept is of the line
+abbrev pub KeepsLine : Option ReadLine → Option Answer → Type 0
+KeepsLine line None = Unit {0}
+KeepsLine None (Some a) = ⊥
+KeepsLine (Some l) (Some a) = kept_reading a.kept l ≡ line_reading l
+
+-- the client still has the line that was heard
+unfoldable pub Keeps : ClientValue → HeardLine → Type 0
+Keeps c h = KeepsLine c.lines.line h.answer
+
+-- the answer with its line
+abbrev pub ShowsLine : Option ReadLine → Option Answer → Option TakenValue → Type 0
+ShowsLine line None t = t ≡ None
+ShowsLine None (Some a) t = ⊥
+ShowsLine (Some line) (Some a) t = t ≡ Some (record { line = line; reading = line_reading line; send = texts_of a.send.items; confirmed = option_map ask_of a.confirmed })
+
+-- what is taken is what was heard, with its line
+unfoldable pub Shows : ClientValue → HeardLine → Option TakenValue → Type 0
+Shows c h t = ShowsLine c.lines.line h.answer t
+
+-- what `feed` answers and does, from its two halves
+abbrev pub commands_of : Option TakenValue → List (List ℕ)
+commands_of None = []
+commands_of (Some t) = t.send
+
+abbrev pub confirmed_of_taken : Option TakenValue → Option Ask
+confirmed_of_taken None = None
+confirmed_of_taken (Some t) = t.confirmed
+
+abbrev pub line_of_taken : Option TakenValue → Option ReadLine
+line_of_taken None = None
+line_of_taken (Some t) = Some t.line
+
+abbrev pub ReadsItself : Option TakenValue → Type 0
+ReadsItself None = Unit {0}
+ReadsItself (Some t) = t.reading ≡ line_reading t.line
+
+-- what `feed` answers
+pub record FeedAnswers (old : ClientValue) (piece : List ℕ) (used : ℕ) (taken : Option TakenValue) : Type 0 where
+  pub hands : (t : Talk) → StandsAfter old t → commands_of taken ≡ (step t (Piece (take used piece))).send
+  pub uses : (t : Talk) → StandsAfter old t → is_online t ≡ true → Gains t.stream piece used (line_of_taken taken)
+  pub offline : (t : Talk) → StandsAfter old t → is_online t ≡ false → (used ≡ length piece) × (taken ≡ None)
+  pub reading : ReadsItself taken
+  pub confirms : (t : Talk) → StandsAfter old t → is_online t ≡ true → confirmed_of_taken taken ≡ line_confirms t (line_of_taken taken)

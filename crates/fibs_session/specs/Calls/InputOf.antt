@@ -1,0 +1,13 @@
+-- Inputs as values.
+use Rattle.fibs_position.specs.DecisionOf.{decision_of}
+use Rattle.fibs_session.specs.History.Machine.{InputValue, Open, Lose, Piece, Click, PlainInput}
+use Rattle.fibs_session.specs.PlainOf.{plain_value}
+use Rattle.fibs_session.specs.declared.client.input.Input.{Input}
+use Rattle.fibs_session.specs.declared.client.input.Input.TheVariants as I
+
+abbrev pub input_of : Input → InputValue
+input_of I.Open = Open
+input_of I.Lose = Lose
+input_of (I.Piece piece) = Piece piece.now
+input_of (I.Click d) = Click (decision_of d)
+input_of (I.Plain p) = PlainInput (plain_value p)

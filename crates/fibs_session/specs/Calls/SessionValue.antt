@@ -1,0 +1,52 @@
+-- A session's fields as values, and what a history says of each.
+use Rattle.std.specs.Prelude.{◌≡◌, ◌≤◌, ◌<◌, ℕ, Bool, false, not, List, [], Option, nat_eq}
+use Rattle.std.specs.Str.{bytes_eq}
+use Rattle.fibs_messages.specs.Board.{BoardFields}
+use Rattle.fibs_position.specs.GamePart.{same_game}
+use Rattle.fibs_session.specs.PlainCommands.{automove_off, greedy_off, plain_of}
+use Rattle.fibs_session.specs.History.Log.{Entry, Flags}
+use Rattle.fibs_session.specs.History.Words.{Ask, is_empty, last, open_now, connections, shown, sent, welcomed, informed, unconfirmed}
+use Rattle.fibs_session.specs.History.Machine.{Talk, was_sent}
+
+pub record SessionValue : Type 0 where
+  pub login : List ℕ
+  pub online : Bool
+  pub welcomed : Bool
+  pub flags : Option Flags  -- of the latest message 2
+  pub automove_sent : Bool
+  pub greedy_sent : Bool
+  pub shown : Option BoardFields
+  pub waiting : Option Ask
+
+-- a command that turns nothing off
+pub record IsNoToggle (text : List ℕ) : Type 0 where
+  pub no_automove : bytes_eq (plain_of automove_off) text ≡ false
+  pub no_greedy : bytes_eq (plain_of greedy_off) text ≡ false
+
+-- nothing is noted of the connection
+pub record Quiet (c : ℕ) (log : List Entry) : Type 0 where
+  pub no_welcome : welcomed c log ≡ []
+  pub no_flags : informed c log ≡ []
+  pub no_board : shown c log ≡ []
+  pub no_sent : sent c log ≡ []
+
+-- what is noted is of connections that were opened
+pub record Numbered (log : List Entry) : Type 0 where
+  pub below : open_now log ≤ connections log
+  pub none : Quiet 0 log
+  pub fresh : (c : ℕ) → connections log < c → Quiet c log
+
+-- the fields are what the history says of the open connection, which is 0 offline
+pub record At (v : SessionValue) (t : Talk) : Type 0 where
+  pub conn : ℕ
+  pub is_open : open_now t.log ≡ conn
+  pub logs_in : v.login ≡ t.login
+  pub no_toggle : IsNoToggle v.login
+  pub has_connection : v.online ≡ not (nat_eq conn 0)
+  pub has_welcome : v.welcomed ≡ not (is_empty (welcomed conn t.log))
+  pub has_flags : v.flags ≡ last (informed conn t.log)
+  pub automove_gone : v.automove_sent ≡ was_sent (plain_of automove_off) t.commands
+  pub greedy_gone : v.greedy_sent ≡ was_sent (plain_of greedy_off) t.commands
+  pub on_board : v.shown ≡ last (shown conn t.log)
+  pub not_confirmed : v.waiting ≡ unconfirmed same_game conn t.log
+  pub numbered : Numbered t.log

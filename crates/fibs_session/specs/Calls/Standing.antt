@@ -1,0 +1,20 @@
+-- A client stands after what has happened.
+use Rattle.std.specs.Prelude.{ℕ, List}
+use Rattle.fibs_lines.specs.LinesValue.{LinesValue, StandsAfter as LinesStandAfter}
+use Rattle.fibs_session.specs.History.Machine.{Talk, InputValue, start, run}
+use Rattle.fibs_session.specs.Calls.SessionValue.{SessionValue, At}
+
+-- Callers name what has happened by this word, and never open it
+unfoldable pub SessionStandsAfter : SessionValue → Talk → Type 0
+SessionStandsAfter v t = At v t
+
+pub record ClientValue : Type 0 where
+  pub lines : LinesValue
+  pub session : SessionValue
+
+unfoldable pub StandsAfter : ClientValue → Talk → Type 0
+StandsAfter v t = LinesStandAfter v.lines t.stream × At v.session t
+
+-- the same after a list of inputs
+abbrev pub StandsAfterInputs : ClientValue → List ℕ → List InputValue → Type 0
+StandsAfterInputs v login inputs = StandsAfter v (run (start login) inputs).talk

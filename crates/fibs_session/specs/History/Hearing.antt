@@ -1,0 +1,57 @@
+-- What a line says to a client: the one place where it stands.
+use Rattle.std.specs.Prelude.{ℕ, List, [], ◌∷◌, ◌++◌, Option, None, if◌then◌else◌, nat_eq}
+use Rattle.fibs_lines.specs.Lines.{ReadLine}
+use Rattle.fibs_messages.specs.Board.{BoardFields}
+use Rattle.fibs_messages.specs.Message.{MessageValue}
+use Rattle.fibs_messages.specs.Line.{ReadingValue, numbered_line, board_line, text_line, malformed_line}
+use Rattle.fibs_messages.specs.Line.{reading_value}
+use Rattle.fibs_position.specs.GoodBoard.{good}
+use Rattle.fibs_position.specs.GamePart.{same_game}
+use Rattle.fibs_session.specs.FirstCommands.{style_text, autoboard_text, moreboards_text, board_text}
+use Rattle.fibs_messages.specs.Flags.{autoboard, automove, greedy, moreboards}
+use Rattle.fibs_session.specs.History.Log.{Entry, Flags, Welcomed, Informed, Shown}
+use Rattle.fibs_session.specs.History.Words.{Ask, is_empty, welcomed, informed, is_spent, unconfirmed}
+
+-- what a line gives on a connection: the entries that are noted, the commands that are handed out, and the decision that is confirmed
+pub record Heard : Type 0 where
+  pub entries : List Entry
+  pub send : List (List ℕ)
+  pub confirmed : Option Ask
+
+abbrev pub nothing_heard : Heard
+nothing_heard = record { entries = []; send = []; confirmed = None }
+
+abbrev pub flags_of : MessageValue → Flags
+flags_of m = record { automove = automove m; greedy = greedy m }
+
+-- what the first message 2 of a connection is answered by: the toggles of what is off, and then `board`
+abbrev pub initial_commands : MessageValue → List (List ℕ)
+initial_commands m =
+    (if autoboard m then [] else autoboard_text ∷ [])
+    ++ (if moreboards m then [] else moreboards_text ∷ [])
+    ++ board_text ∷ []
+
+-- message 1, at the connection's first with the style; message 2, at its first with the toggles and `board`
+abbrev pub heard_message : ℕ → List Entry → MessageValue → Heard
+heard_message c log m =
+    if nat_eq m.number 1 then record { entries = Welcomed c ∷ []; send = if is_empty (welcomed c log) then style_text ∷ [] else []; confirmed = None }
+    else (if nat_eq m.number 2 then record { entries = Informed c (flags_of m) ∷ []; send = if is_empty (informed c log) then initial_commands m else []; confirmed = None }
+    else nothing_heard)
+
+-- what a board confirms: what was unconfirmed before it, where the stretch after it is not spent
+abbrev pub confirmed_by_board : ℕ → List Entry → BoardFields → Option Ask
+confirmed_by_board c log b = if is_spent same_game c (log ++ Shown c b ∷ []) then None else unconfirmed same_game c log
+
+abbrev pub heard_board : ℕ → List Entry → BoardFields → Heard
+heard_board c log b = if good b then record { entries = Shown c b ∷ []; send = []; confirmed = confirmed_by_board c log b } else nothing_heard
+
+-- the connection, its log before the line, and the line's reading
+abbrev pub heard : ℕ → List Entry → ReadingValue → Heard
+heard c log (numbered_line m) = heard_message c log m
+heard c log (board_line b) = heard_board c log b
+heard c log (text_line text) = nothing_heard
+heard c log (malformed_line number k f) = nothing_heard
+
+-- the reading of a line. One that was cut is a text
+abbrev pub line_reading : ReadLine → ReadingValue
+line_reading line = if line.cut then text_line line.bytes else reading_value line.bytes

@@ -1,0 +1,188 @@
+-- The client as a machine over its inputs: its history, the bytes of the open connection, and the commands handed out on it.
+use Rattle.std.specs.Prelude.{ℕ, suc, Bool, true, false, not, ◌&&◌, ◌||◌, List, [], ◌∷◌, ◌++◌, length, drop, Option, Some, None, option_map, if◌then◌else◌, nat_eq, flat_map}
+use Rattle.std.specs.Str.{bytes_eq}
+use Rattle.fibs_lines.specs.Lines.{ReadLine, lines_of}
+use Rattle.fibs_messages.specs.Board.{BoardFields}
+use Rattle.fibs_messages.specs.Line.{ReadingValue}
+use Rattle.fibs_position.specs.DecisionValue.{DecisionValue}
+use Rattle.fibs_position.specs.Allowed.{allowed_of}
+use Rattle.fibs_position.specs.DirectionOf.{direction_of}
+use Rattle.fibs_position.specs.declared.disallowed.Disallowed.{Disallowed}
+use Rattle.fibs_position.specs.declared.disallowed.Disallowed.TheVariants as D
+use Rattle.fibs_session.specs.Commands.{command_of}
+use Rattle.fibs_position.specs.GamePart.{same_game}
+use Rattle.fibs_session.specs.PlainCommands.{PlainValue, automove_off, greedy_off, plain_of, plain_fault_of}
+use Rattle.fibs_session.specs.declared.refusal.Refusal.{Refusal}
+use Rattle.fibs_session.specs.declared.refusal.Refusal.TheVariants as R
+use Rattle.fibs_session.specs.declared.refusal.PlainRefusal.{PlainRefusal}
+use Rattle.fibs_session.specs.declared.refusal.PlainRefusal.TheVariants as P
+use Rattle.fibs_session.specs.History.Log.{Entry, Flags, Opened, Clicked, Sent, Lost}
+use Rattle.fibs_session.specs.History.Words.{Ask, last, open_now, connections, shown, informed, unconfirmed, answer}
+use Rattle.fibs_session.specs.History.Hearing.{Heard, heard, nothing_heard, line_reading}
+
+pub record Talk : Type 0 where
+  pub login : List ℕ  -- the command that logs the user in
+  pub log : List Entry
+  pub stream : List ℕ  -- the bytes of the open connection
+  pub commands : List (List ℕ)  -- those handed out on it
+
+-- a step's outcome: the machine after it, and the commands that it hands out
+pub record Step : Type 0 where
+  pub talk : Talk
+  pub send : List (List ℕ)
+
+pub data InputValue : Type 0 where
+  Open : InputValue
+  Lose : InputValue
+  Piece : List ℕ → InputValue
+  Click : DecisionValue → InputValue
+  PlainInput : PlainValue → InputValue
+
+abbrev pub start : List ℕ → Talk
+start login = record { login = login; log = []; stream = []; commands = [] }
+
+abbrev pub open_connection : Talk → ℕ
+open_connection t = open_now t.log
+
+abbrev pub is_online : Talk → Bool
+is_online t = not (nat_eq (open_now t.log) 0)
+
+-- entries are noted, and commands handed out
+abbrev pub noted : Talk → List Entry → List (List ℕ) → Talk
+noted t entries texts = record { login = t.login; log = t.log ++ entries; stream = t.stream; commands = t.commands ++ texts }
+
+abbrev pub does : Talk → List Entry → List (List ℕ) → Step
+does t entries texts = record { talk = noted t entries texts; send = texts }
+
+abbrev pub stays : Talk → Step
+stays t = record { talk = t; send = [] }
+
+-- Open
+
+abbrev pub open_refusal : Talk → Option Refusal
+open_refusal t = if is_online t then Some R.AlreadyOpen else None
+
+abbrev pub opened : Talk → Talk
+opened t = record { login = t.login; log = t.log ++ Opened (suc (connections t.log)) ∷ []; stream = []; commands = t.login ∷ [] }
+
+abbrev pub opens : Talk → Step
+opens t = if is_online t then stays t else record { talk = opened t; send = t.login ∷ [] }
+
+-- Lose
+
+abbrev pub unconfirmed_now : Talk → Option Ask
+unconfirmed_now t = unconfirmed same_game (open_now t.log) t.log
+
+abbrev pub loses : Talk → Step
+loses t = if is_online t then does t (Lost (open_now t.log) (unconfirmed_now t) ∷ []) [] else stays t
+
+-- Piece
+
+abbrev pub heard_by : Talk → ReadingValue → Heard
+heard_by t r = heard (open_now t.log) t.log r
+
+abbrev pub hears : Talk → Heard → Step
+hears t h = does t h.entries h.send
+
+abbrev pub then_also : List (List ℕ) → Step → Step
+then_also texts later = record { talk = later.talk; send = texts ++ later.send }
+
+unfoldable pub hears_all : Talk → List ReadLine → Step
+hears_all t [] = stays t
+hears_all t (l ∷ ls) = then_also (heard_by t (line_reading l)).send (hears_all (hears t (heard_by t (line_reading l))).talk ls)
+
+abbrev pub with_bytes : Talk → List ℕ → Talk
+with_bytes t bytes = record { login = t.login; log = t.log; stream = t.stream ++ bytes; commands = t.commands }
+
+-- the lines that more bytes give
+abbrev pub gained : List ℕ → List ℕ → List ReadLine
+gained before more = drop (length (lines_of before)) (lines_of (before ++ more))
+
+abbrev pub reads : Talk → List ℕ → Step
+reads t bytes = if is_online t then hears_all (with_bytes t bytes) (gained t.stream bytes) else stays t
+
+-- a whole line, with its line end
+abbrev pub line_heard : Talk → ReadLine → Heard
+line_heard t l = if is_online t then heard_by t (line_reading l) else nothing_heard
+
+abbrev pub shown_now : Talk → Option BoardFields
+shown_now t = last (shown (open_now t.log) t.log)
+
+-- Click
+
+abbrev pub refusal_of : Disallowed → Refusal
+refusal_of D.NotYours = R.NotYours
+refusal_of D.WrongKind = R.WrongKind
+refusal_of D.IllegalPlay = R.IllegalPlay
+
+abbrev pub allows : BoardFields → DecisionValue → Option Refusal
+allows b d = option_map refusal_of (allowed_of b d)
+
+abbrev pub answer_now : Talk → DecisionValue → Option Refusal
+answer_now t d = answer same_game allows t.log d
+
+abbrev pub decides_on : Talk → DecisionValue → Option BoardFields → Step
+decides_on t d None = stays t
+decides_on t d (Some b) = does t (Clicked (open_now t.log) d None ∷ Sent (open_now t.log) b d ∷ []) (command_of (direction_of b) d ∷ [])
+
+abbrev pub clicks_by : Talk → DecisionValue → Option Refusal → Step
+clicks_by t d (Some why) = does t (Clicked (open_now t.log) d (Some why) ∷ []) []
+clicks_by t d None = decides_on t d (last (shown (open_now t.log) t.log))
+
+abbrev pub clicks : Talk → DecisionValue → Step
+clicks t d = clicks_by t d (answer_now t d)
+
+-- Plain
+
+abbrev pub was_sent : List ℕ → List (List ℕ) → Bool
+was_sent text [] = false
+was_sent text (t ∷ ts) = bytes_eq text t || was_sent text ts
+
+abbrev pub says : (Flags → Bool) → Option Flags → Bool
+says flag None = false
+says flag (Some f) = flag f
+
+-- that the latest message 2 says 1 for it, and that it was not sent on this connection
+abbrev pub is_on : Talk → (Flags → Bool) → PlainValue → Bool
+is_on t flag p = says flag (last (informed (open_now t.log) t.log)) && not (was_sent (plain_of p) t.commands)
+
+abbrev pub may_send : Talk → PlainValue → Bool
+may_send t automove_off = is_on t (λ f. f.automove) automove_off
+may_send t greedy_off = is_on t (λ f. f.greedy) greedy_off
+may_send t p = true
+
+abbrev pub plain_refusal : Talk → PlainValue → Option PlainRefusal
+plain_refusal t p =
+    if not (is_online t) then Some P.Offline
+    else (if not (may_send t p) then Some P.NotOn
+    else option_map P.Fault (plain_fault_of p))
+
+abbrev pub sends_plain : Talk → PlainValue → Option PlainRefusal → Step
+sends_plain t p (Some why) = stays t
+sends_plain t p None = does t [] (plain_of p ∷ [])
+
+abbrev pub plains : Talk → PlainValue → Step
+plains t p = sends_plain t p (plain_refusal t p)
+
+-- all inputs
+
+abbrev pub step : Talk → InputValue → Step
+step t Open = opens t
+step t Lose = loses t
+step t (Piece bytes) = reads t bytes
+step t (Click d) = clicks t d
+step t (PlainInput p) = plains t p
+
+unfoldable pub run : Talk → List InputValue → Step
+run t [] = stays t
+run t (i ∷ is) = then_also (step t i).send (run (step t i).talk is)
+
+abbrev pub on_wire : List ℕ → List ℕ
+on_wire text = text ++ 13 ∷ 10 ∷ []
+
+abbrev pub wire_of : List (List ℕ) → List ℕ
+wire_of = flat_map on_wire
+
+-- the bytes that a client hands out
+abbrev pub Out : List ℕ → List InputValue → List ℕ
+Out login inputs = wire_of (run (start login) inputs).send

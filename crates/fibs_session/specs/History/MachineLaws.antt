@@ -1,0 +1,31 @@
+-- Laws of the machine, for callers.
+use Rattle.std.specs.Prelude.{◌≡◌, ℕ, List, [], ◌∷◌, ◌++◌}
+use Rattle.fibs_messages.specs.Board.{BoardFields}
+use Rattle.fibs_position.specs.DecisionValue.{DecisionValue}
+use Rattle.fibs_session.specs.History.Log.{Entry, LoggedIn, Took, Undone}
+use Rattle.fibs_session.specs.History.Machine.{Talk, InputValue, Piece, step, stays, noted, then_also}
+use Rattle.fibs_session.specs.Calls.Standing.{ClientValue, StandsAfter, StandsAfterInputs}
+use Rattle.fibs_session.specs.Calls.Doing.{Does}
+
+-- bytes may come in any pieces
+abbrev pub PiecesJoin : Type 0
+PiecesJoin = (t : Talk) (p q : List ℕ) → step t (Piece (p ++ q)) ≡ then_also (step t (Piece p)).send (step (step t (Piece p)).talk (Piece q))
+
+abbrev pub EmptyPieceIsNothing : Type 0
+EmptyPieceIsNothing = (t : Talk) → step t (Piece []) ≡ stays t
+
+-- what a server notes
+pub data IsServers : Entry → Type 0 where
+  logs_in : (c : ℕ) → IsServers (LoggedIn c)
+  takes : (c : ℕ) (b : BoardFields) (d : DecisionValue) → IsServers (Took c b d)
+  undoes : (c : ℕ) (b : BoardFields) (d : DecisionValue) → IsServers (Undone c b d)
+
+-- it says nothing to a client
+abbrev pub ServersEntriesAreSilent : Type 0
+ServersEntriesAreSilent = (c : ClientValue) (t : Talk) (e : Entry) → IsServers e → StandsAfter c t → StandsAfter c (noted t (e ∷ []) [])
+
+-- a call leaves a client after its list of inputs with the call's
+abbrev pub InputsGoOn : Type 0
+InputsGoOn =
+    (old new : ClientValue) (i : InputValue) (send : List (List ℕ)) → Does old new i send
+    → (login : List ℕ) (inputs : List InputValue) → StandsAfterInputs old login inputs → StandsAfterInputs new login (inputs ++ i ∷ [])

@@ -1,0 +1,225 @@
+//! Lines and session together: a client, from bytes to bytes.
+
+ghost use Rattle.std.specs.Borrow.{sem};
+ghost use Rattle.std.specs.Io.BufRead.{Rests};
+ghost use Rattle.std.specs.Option.{option_copied};
+ghost use Rattle.std.specs.Prelude.{◌≡◌, ◌<◌, ◌≤◌, Option, [], length, take, option_map};
+ghost use Rattle.fibs_messages.specs.StoredBoard.{fields_of};
+ghost use Rattle.fibs_position.specs.DecisionOf.{decision_of};
+ghost use Rattle.fibs_session.specs.Calls.Doing.{Does};
+ghost use Rattle.fibs_session.specs.Calls.Standing.{StandsAfter};
+ghost use Rattle.fibs_session.specs.History.Machine.{Talk, start, Open, Lose, Piece, Click, PlainInput, open_refusal, unconfirmed_now, answer_now, plain_refusal, shown_now};
+ghost use Rattle.fibs_session.specs.LoginOf.{login_of};
+ghost use Rattle.fibs_session.specs.PlainOf.{plain_value};
+
+mod got;
+mod heard_line;
+mod input;
+mod kept;
+pub mod laws;
+mod run;
+
+use crate::commands::{CommandText, Login, Plain};
+use crate::refusal::{PlainRefusal, Refusal};
+use crate::session::{Outstanding, Session, Taken};
+use fibs_lines::Lines;
+use fibs_messages::Board;
+use fibs_position::Decision;
+pub use got::Got;
+use heard_line::Answer;
+pub use heard_line::HeardLine;
+pub use input::Input;
+use kept::Kept;
+pub use run::run_client;
+use std::marker::Model;
+
+/// A client of the server: it is given the bytes that come, in any pieces, and hands out the commands that are to be sent.
+///
+/// It opens and loses connections with `open` and `lose`; `feed` takes what the server sends, `decide` and `plain` what
+/// the user says. What it answers is a function of what has happened alone. No call takes memory.
+///
+/// A proof of a caller learns nothing of the client after `feed`, whose answer borrows it: such a caller takes the two
+/// halves of `feed`, `read` and then `got`.
+#[derive(Drop)]
+pub struct Client {
+    lines: Lines,
+    session: Session,
+}
+
+impl Model for Client {
+    ghost use Rattle.fibs_session.specs.Calls.SessionOf.{session_of};
+    ghost use Rattle.fibs_session.specs.Calls.Standing.{ClientValue};
+
+    ghost Value = { ClientValue };
+
+    ghost view = { λ c. record { lines = c.lines; session = session_of c.session } };
+}
+
+impl Client {
+    ghost use Rattle.fibs_session.specs.Calls.ClientOf.{commands_in};
+    ghost use Rattle.fibs_session.specs.Calls.Feeding.{ReadsPiece, Keeps, Shows, FeedAnswers, commands_of};
+    ghost use Rattle.fibs_session.specs.Calls.SessionOf.{TakenValue, ask_of, taken_of, handed, refusal_in};
+    ghost use Rattle.fibs_session.specs.contracts.client.Client.{the_row};
+
+    /// A client that never had a connection.
+    pub fn new(login: Login) -> Client
+        ensures { StandsAfter result (start (login_of login)) }
+    {
+        Client {
+            lines: Lines::new(),
+            session: Session::new(login),
+        }
+    }
+
+    /// Opens a connection, and hands out the login command. Bytes of an earlier connection are forgotten. `AlreadyOpen`
+    /// where one is open.
+    pub fn open(&mut self) -> Result<CommandText, Refusal>
+        ensures does { Does self.old self.new Open (handed result) }
+        ensures refusal { (t : Talk) → StandsAfter self.old t → refusal_in result ≡ open_refusal t }
+    {
+        match self.session.open() {
+            Err(why) => Err(why),
+            Ok(command) => {
+                self.lines.reset();
+                Ok(command)
+            }
+        }
+    }
+
+    /// The connection is lost: nothing of it is kept. Gives the decision that waited, with the board on which it was made.
+    /// None where none waited, or where no connection was open.
+    pub fn lose(&mut self) -> Option<Outstanding>
+        ensures does { Does self.old self.new Lose [] }
+        ensures unconfirmed { (t : Talk) → StandsAfter self.old t → option_map ask_of result ≡ unconfirmed_now t }
+    {
+        self.session.lose()
+    }
+
+    /// Decides on the board shown, and hands out the command. The decision then waits. Refused as by `Session::decide`.
+    pub fn decide(&mut self, decision: &Decision) -> Result<CommandText, Refusal>
+        ensures does { Does self.old self.new (Click (decision_of decision.now)) (handed result) }
+        ensures refusal { (t : Talk) → StandsAfter self.old t →
+            refusal_in result ≡ answer_now t (decision_of decision.now) }
+    {
+        self.session.decide(decision)
+    }
+
+    /// Hands out a command that decides nothing in the game. Refused as by `Session::plain`.
+    pub fn plain(&mut self, plain: &Plain<'_>) -> Result<CommandText, PlainRefusal>
+        ensures does { Does self.old self.new (PlainInput (plain_value plain.now)) (handed result) }
+        ensures refusal { (t : Talk) → StandsAfter self.old t →
+            refusal_in result ≡ plain_refusal t (plain_value plain.now) }
+    {
+        self.session.plain(plain)
+    }
+
+    /// The board that was shown last on this connection.
+    pub fn shown(&self) -> Option<&Board>
+        ensures { (t : Talk) → StandsAfter self.now t → option_map fields_of (option_copied result) ≡ shown_now t }
+    {
+        self.session.shown()
+    }
+
+    /// The decision that waits, with the board on which it was made.
+    pub fn waiting(&self) -> Option<&Outstanding>
+        ensures { (t : Talk) → StandsAfter self.now t → option_map ask_of (option_copied result) ≡ unconfirmed_now t }
+    {
+        self.session.waiting()
+    }
+
+    /// Reads `piece` up to and with the next line end, and hears the line, by lines and session.
+    fn take_piece(&mut self, piece: &[u8]) -> HeardLine
+        ensures in_range { result.used ≤ length piece.now }
+        ensures progress { 0 < length piece.now → 0 < result.used }
+        ensures reads { ReadsPiece self.old self.new piece.now result }
+    {
+        if !self.session.is_online() {
+            return HeardLine {
+                used: piece.len(),
+                answer: None,
+            };
+        }
+        let used = self.lines.feed(piece).used;
+        match self.lines.line() {
+            None => HeardLine { used, answer: None },
+            Some(line) => {
+                let Taken {
+                    line: _,
+                    reading,
+                    send,
+                    confirmed,
+                } = self.session.line(&line);
+                let kept = Kept::of(&reading);
+                HeardLine {
+                    used,
+                    answer: Some(Answer {
+                        kept,
+                        send,
+                        confirmed,
+                    }),
+                }
+            }
+        }
+    }
+
+    /// The first half of `feed`: reads `piece` up to and with the next line end, and hears the line that ends there. `got`
+    /// lends it.
+    pub fn read(&mut self, piece: &[u8]) -> HeardLine
+        ensures in_range { result.used ≤ length piece.now }
+        ensures progress { 0 < length piece.now → 0 < result.used }
+        ensures does { Does self.old self.new (Piece (take result.used piece.now)) (commands_in result) }
+        ensures keeps { Keeps self.new result }
+        // what `got` then shows is what `feed` answers
+        ensures answers { (taken : Option TakenValue) → Shows self.new result taken →
+            FeedAnswers self.old piece.now result.used taken }
+        ensures hands { (taken : Option TakenValue) → Shows self.new result taken →
+            Does self.old self.new (Piece (take result.used piece.now)) (commands_of taken) }
+    {
+        self.take_piece(piece)
+    }
+
+    /// The second half of `feed`: what `read` has heard, with its line. To be called before anything else is done with the
+    /// client.
+    #[tactic(auto, unfolding(crate::specs::Calls::Feeding::Keeps, crate::specs::Calls::Feeding::Shows))]
+    pub fn got(&self, heard: HeardLine) -> Got<'_>
+        ensures used { result.used ≡ heard.used }
+        ensures shows { Keeps self.now heard → Shows self.now heard (option_map taken_of result.taken) }
+    {
+        let HeardLine { used, answer } = heard;
+        match answer {
+            None => Got { used, taken: None },
+            Some(
+                Answer {
+                    kept,
+                    send,
+                    confirmed,
+                },
+            ) => match self.lines.line() {
+                None => Got { used, taken: None },
+                Some(line) => Got {
+                    used,
+                    taken: Some(Taken {
+                        line,
+                        reading: kept.reading(&line),
+                        send,
+                        confirmed,
+                    }),
+                },
+            },
+        }
+    }
+
+    /// Reads `piece` up to and with the next line end, and lends the line that ends there, with the answer to it. Without
+    /// a line end it reads all of it, and lends none. Call it again with what is left of the piece, until nothing is.
+    /// Offline all bytes are dropped.
+    pub fn feed(&mut self, piece: &[u8]) -> Got<'_>
+        ensures in_range { result.used ≤ length piece.now }
+        ensures progress { 0 < length piece.now → 0 < result.used }
+        ensures answers { FeedAnswers self.old piece.now result.used (option_map taken_of result.taken) }
+        ensures* does { sem 𝓛 (Rests the_row self.entry (λ new.
+            Does self.old new (Piece (take result.used piece.now)) (commands_of (option_map taken_of result.taken)))) }
+    {
+        let heard = self.take_piece(piece);
+        self.got(heard)
+    }
+}

@@ -1,0 +1,19 @@
+//! What comes to a client.
+
+use crate::commands::Plain;
+use fibs_position::Decision;
+
+/// What comes to a client.
+#[derive(Clone, Copy)]
+pub enum Input<'a> {
+    /// A connection is opened.
+    Open,
+    /// The connection is lost.
+    Lose,
+    /// Bytes of the server.
+    Piece(&'a [u8]),
+    /// The user decides.
+    Click(Decision),
+    /// The user says something else.
+    Plain(Plain<'a>),
+}

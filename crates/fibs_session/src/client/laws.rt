@@ -1,0 +1,26 @@
+//! Laws of the client as a machine over its inputs, for proofs in the crates above. Each function does nothing: its
+//! contract is the law, stated in `specs/History/MachineLaws.antt`.
+
+ghost use Rattle.fibs_session.specs.History.MachineLaws.{PiecesJoin, EmptyPieceIsNothing, InputsGoOn, ServersEntriesAreSilent};
+
+/// Bytes may come in any pieces: two pieces after each other are one.
+pub fn pieces_join()
+    ensures { PiecesJoin }
+{
+    fibs_lines::laws::lines_only_grow();
+}
+
+/// No bytes are no input.
+pub fn empty_piece_is_nothing()
+    ensures { EmptyPieceIsNothing }
+{}
+
+/// What a server notes says nothing to a client.
+pub fn servers_entries_are_silent()
+    ensures { ServersEntriesAreSilent }
+{}
+
+/// A call leaves a client after its list of inputs with the call's.
+pub fn inputs_go_on()
+    ensures { InputsGoOn }
+{}

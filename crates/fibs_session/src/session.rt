@@ -1,0 +1,159 @@
+//! What a client has heard on a connection, and the decision that it waits for.
+
+ghost use Rattle.std.specs.Option.{option_copied};
+ghost use Rattle.std.specs.Prelude.{◌≡◌, [], true, option_map};
+ghost use Rattle.fibs_lines.specs.LineValue.{value_of};
+ghost use Rattle.fibs_messages.specs.ReadingOf.{reading_of};
+ghost use Rattle.fibs_messages.specs.StoredBoard.{fields_of};
+ghost use Rattle.fibs_position.specs.DecisionOf.{decision_of};
+ghost use Rattle.fibs_session.specs.Calls.FieldSteps.{shown_good};
+ghost use Rattle.fibs_session.specs.Calls.Doing.{SessionDoes, SessionHears};
+ghost use Rattle.fibs_session.specs.Calls.Standing.{SessionStandsAfter};
+ghost use Rattle.fibs_session.specs.History.Hearing.{line_reading};
+ghost use Rattle.fibs_session.specs.History.Machine.{Talk, start, Open, Lose, Click, PlainInput, open_refusal, unconfirmed_now, answer_now, plain_refusal, shown_now, is_online};
+ghost use Rattle.fibs_session.specs.LoginOf.{login_of};
+ghost use Rattle.fibs_session.specs.PlainOf.{plain_value};
+
+mod connection;
+mod hearing;
+mod saying;
+mod taken;
+
+use crate::commands::{CommandText, Login, Plain};
+use crate::refusal::{PlainRefusal, Refusal};
+use fibs_lines::Line;
+use fibs_messages::Board;
+use fibs_position::{Decision, laws};
+pub(crate) use hearing::read_line;
+pub use taken::{Outstanding, Taken};
+
+/// What the server does by itself, as a message 2 says.
+#[derive(Clone, Copy, Debug, PartialEq, Eq)]
+pub(crate) struct ServerFlags {
+    automove: bool,
+    greedy: bool,
+}
+
+/// A session with the server: one connection after another, each from `open` to `lose`.
+///
+/// It is told the lines that come (`line`), the user's decisions (`decide`) and his other commands (`plain`), and hands
+/// out the commands that are to be sent. A decision waits until a board comes whose game part differs. Nothing is known
+/// of an earlier connection. No call takes memory.
+#[derive(Clone, Copy)]
+pub struct Session {
+    login: Login,
+    online: bool,
+    /// A message 1 came on this connection.
+    welcomed: bool,
+    /// Of the latest message 2 of this connection.
+    flags: Option<ServerFlags>,
+    automove_sent: bool,
+    greedy_sent: bool,
+    shown: Option<Board>,
+    waiting: Option<Outstanding>,
+    pub ghost shown_is_good: { shown_good shown ≡ true },
+}
+
+impl Session {
+    ghost use Rattle.fibs_session.specs.Calls.SessionOf.{session_of, ask_of, texts_of, handed, refusal_in};
+
+    /// A session that never had a connection.
+    pub fn new(login: Login) -> Session
+        ensures { SessionStandsAfter (session_of result) (start (login_of login)) }
+    {
+        Session::fresh(login, false)
+    }
+
+    /// Opens a connection, and hands out the login command. `AlreadyOpen` where one is open.
+    pub fn open(&mut self) -> Result<CommandText, Refusal>
+        ensures does { SessionDoes (session_of self.old) (session_of self.new) Open (handed result) }
+        ensures refusal { (t : Talk) → SessionStandsAfter (session_of self.old) t → refusal_in result ≡ open_refusal t }
+    {
+        self.note_open()
+    }
+
+    /// The connection is lost: nothing of it is kept. Gives the decision that waited, with the board on which it was made.
+    /// None where none waited, or where no connection was open.
+    pub fn lose(&mut self) -> Option<Outstanding>
+        ensures does { SessionDoes (session_of self.old) (session_of self.new) Lose [] }
+        ensures unconfirmed { (t : Talk) → SessionStandsAfter (session_of self.old) t →
+            option_map ask_of result ≡ unconfirmed_now t }
+    {
+        self.note_lose()
+    }
+
+    /// Takes a line of the server, without its line end. Offline it changes nothing, and nothing is to be sent.
+    ///
+    /// The first message 1 of a connection is answered by `set boardstyle 3`; the first message 2 by `toggle autoboard`
+    /// and `toggle moreboards`, each where that setting is 0, and then by `board`. A board that has a position is shown
+    /// from now on; where its game part differs from that of the board shown before, a decision that waits is confirmed.
+    pub fn line<'a>(&mut self, line: &Line<'a>) -> Taken<'a>
+        ensures line { value_of result.line ≡ value_of line.now }
+        ensures reading { reading_of result.reading ≡ line_reading (value_of line.now) }
+        ensures hears { SessionHears (session_of self.old) (session_of self.new) (value_of line.now)
+            (texts_of result.send.items) (option_map ask_of result.confirmed) }
+    {
+        laws::same_game_is_a_likeness();
+        let reading = read_line(line);
+        let heard = self.note_line(&reading);
+        let (send, confirmed) = heard;
+        Taken {
+            line: *line,
+            reading,
+            send,
+            confirmed,
+        }
+    }
+
+    /// Decides on the board shown, and hands out the command. The decision then waits.
+    ///
+    /// The first refusal of: `Offline`; `NotReady`, where message 1 or message 2 is still to come on this connection;
+    /// `ServerPlays`, where automove or greedy is 1 in the latest message 2; `NoBoard`; `Waiting`; and what the board's
+    /// position does not allow: `NotYours`, `WrongKind`, `IllegalPlay`. After a refusal the session is as before.
+    pub fn decide(&mut self, decision: &Decision) -> Result<CommandText, Refusal>
+        ensures does { SessionDoes (session_of self.old) (session_of self.new) (Click (decision_of decision.now))
+            (handed result) }
+        ensures refusal { (t : Talk) → SessionStandsAfter (session_of self.old) t →
+            refusal_in result ≡ answer_now t (decision_of decision.now) }
+    {
+        self.note_decision(decision)
+    }
+
+    /// Hands out a command that decides nothing in the game.
+    ///
+    /// The first refusal of: `Offline`; `NotOn`, where `AutomoveOff` or `GreedyOff` would turn off what is 0 in the latest
+    /// message 2 of this connection, or was sent on it before; the command's fault. After a refusal the session is as
+    /// before.
+    pub fn plain(&mut self, plain: &Plain<'_>) -> Result<CommandText, PlainRefusal>
+        ensures does { SessionDoes (session_of self.old) (session_of self.new) (PlainInput (plain_value plain.now))
+            (handed result) }
+        ensures refusal { (t : Talk) → SessionStandsAfter (session_of self.old) t →
+            refusal_in result ≡ plain_refusal t (plain_value plain.now) }
+    {
+        self.note_plain(plain)
+    }
+
+    /// The board that was shown last on this connection.
+    pub fn shown(&self) -> Option<&Board>
+        ensures { (t : Talk) → SessionStandsAfter (session_of self.now) t →
+            option_map fields_of (option_copied result) ≡ shown_now t }
+    {
+        self.shown.as_ref()
+    }
+
+    /// The decision that waits, with the board on which it was made.
+    pub fn waiting(&self) -> Option<&Outstanding>
+        ensures { (t : Talk) → SessionStandsAfter (session_of self.now) t →
+            option_map ask_of (option_copied result) ≡ unconfirmed_now t }
+    {
+        self.waiting.as_ref()
+    }
+
+    /// Whether a connection is open.
+    pub(crate) fn is_online(&self) -> bool
+        ensures online { result ≡ (session_of self.now).online }
+        ensures after { (t : Talk) → SessionStandsAfter (session_of self.now) t → result ≡ is_online t }
+    {
+        self.online
+    }
+}

@@ -1,0 +1,138 @@
+//! What a line says, by the session's fields.
+
+ghost use Rattle.std.specs.Prelude.{◌≡◌, true, map, option_map};
+ghost use Rattle.fibs_lines.specs.LineValue.{value_of};
+ghost use Rattle.fibs_messages.specs.MessageOf.{message_of};
+ghost use Rattle.fibs_messages.specs.ReadingOf.{reading_of};
+ghost use Rattle.fibs_messages.specs.StoredBoard.{fields_of};
+ghost use Rattle.fibs_messages.specs.declared.message.Message.TheVariants.{OwnInfo as TheOwnInfo};
+ghost use Rattle.fibs_session.specs.Calls.FieldSteps.{message_fields, heard_fields, with_board, confirmed_of, line_fields};
+ghost use Rattle.fibs_session.specs.History.Hearing.{initial_commands, line_reading};
+ghost use Rattle.fibs_position.specs.GoodBoard.{good};
+ghost use Rattle.fibs_session.specs.TextOf.{text_of};
+
+use super::{Outstanding, ServerFlags, Session};
+use crate::commands::{CommandText, autoboard_text, board_text, moreboards_text, style_text};
+use arrayvec::ArrayVec;
+use fibs_lines::Line;
+use fibs_messages::{Board, Message, OwnInfo, Reading, read};
+use fibs_position::{Position, differs};
+
+/// The reading of a line. One that was cut is a text.
+pub(crate) fn read_line<'a>(line: &Line<'a>) -> Reading<'a>
+    ensures { reading_of result ≡ line_reading (value_of line.now) }
+{
+    if line.cut {
+        return Reading::Text(line.bytes);
+    }
+    read(line.bytes)
+}
+
+/// The commands that answer the first message 2.
+fn first_commands(info: &OwnInfo<'_>) -> ArrayVec<CommandText, 3>
+    ensures { map text_of result.items ≡ initial_commands (message_of (TheOwnInfo info.now)) }
+{
+    let mut send = ArrayVec::new();
+    if !info.autoboard {
+        send.push(autoboard_text());
+    }
+    if !info.moreboards {
+        send.push(moreboards_text());
+    }
+    send.push(board_text());
+    send
+}
+
+/// Whether a board has a position.
+fn is_good(board: &Board) -> bool
+    ensures { result ≡ good (fields_of board.now) }
+{
+    Position::of(board).is_ok()
+}
+
+impl Session {
+    ghost use Rattle.fibs_session.specs.Calls.SessionOf.{session_of, ask_of, texts_of};
+
+    /// A good board was heard.
+    fn note_board(&mut self, board: Board) -> Option<Outstanding>
+        requires { good (fields_of board) ≡ true }
+        ensures fields { session_of self.new ≡ with_board (session_of self.old) (fields_of board) }
+        ensures result { option_map ask_of result ≡ confirmed_of (session_of self.old) (fields_of board) }
+    {
+        let mut confirmed = None;
+        if let Some(shown) = self.shown {
+            if differs(&shown, &board) {
+                confirmed = self.waiting;
+                self.waiting = None;
+            }
+        }
+        self.shown = Some(board);
+        confirmed
+    }
+
+    /// A message was heard.
+    fn note_message(&mut self, message: &Message<'_>) -> ArrayVec<CommandText, 3>
+        ensures fields { session_of self.new ≡ (message_fields (session_of self.old) (message_of message.now)).session }
+        ensures send { texts_of result.items ≡ (message_fields (session_of self.old) (message_of message.now)).send }
+    {
+        let mut send = ArrayVec::new();
+        match message {
+            Message::Welcome { .. } => {
+                if !self.welcomed {
+                    send.push(style_text());
+                }
+                self.welcomed = true;
+            }
+            Message::OwnInfo(info) => {
+                if self.flags.is_none() {
+                    send = first_commands(info);
+                }
+                self.flags = Some(ServerFlags {
+                    automove: info.automove,
+                    greedy: info.greedy,
+                });
+            }
+            _ => {}
+        }
+        send
+    }
+
+    /// What a reading says, online.
+    fn note(&mut self, reading: &Reading<'_>) -> (ArrayVec<CommandText, 3>, Option<Outstanding>)
+        ensures fields { session_of self.new ≡ (heard_fields (session_of self.old) (reading_of reading.now)).session }
+        ensures send { texts_of result.0.items ≡ (heard_fields (session_of self.old) (reading_of reading.now)).send }
+        ensures confirmed { option_map ask_of result.1 ≡
+            (heard_fields (session_of self.old) (reading_of reading.now)).confirmed }
+    {
+        match reading {
+            Reading::Numbered(message) => {
+                let send = self.note_message(message);
+                (send, None)
+            }
+            Reading::Board(board) => {
+                if !is_good(board) {
+                    return (ArrayVec::new(), None);
+                }
+                let confirmed = self.note_board(*board);
+                (ArrayVec::new(), confirmed)
+            }
+            Reading::Text(_) | Reading::Malformed { .. } => (ArrayVec::new(), None),
+        }
+    }
+
+    /// What a reading says. Offline it says nothing.
+    pub(super) fn note_line(
+        &mut self,
+        reading: &Reading<'_>,
+    ) -> (ArrayVec<CommandText, 3>, Option<Outstanding>)
+        ensures fields { session_of self.new ≡ (line_fields (session_of self.old) (reading_of reading.now)).session }
+        ensures send { texts_of result.0.items ≡ (line_fields (session_of self.old) (reading_of reading.now)).send }
+        ensures confirmed { option_map ask_of result.1 ≡
+            (line_fields (session_of self.old) (reading_of reading.now)).confirmed }
+    {
+        if !self.online {
+            return (ArrayVec::new(), None);
+        }
+        self.note(reading)
+    }
+}

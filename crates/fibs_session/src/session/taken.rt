@@ -1,0 +1,29 @@
+//! What a session answers.
+
+use crate::commands::CommandText;
+use arrayvec::ArrayVec;
+use fibs_lines::Line;
+use fibs_messages::{Board, Reading};
+use fibs_position::Decision;
+
+/// A decision that was sent, and the board on which it was made.
+#[derive(Clone, Copy, Debug, PartialEq, Eq)]
+pub struct Outstanding {
+    /// The board that was shown.
+    pub board: Board,
+    /// What was decided on it.
+    pub decision: Decision,
+}
+
+/// The answer to a line.
+#[derive(Drop)]
+pub struct Taken<'a> {
+    /// The line itself.
+    pub line: Line<'a>,
+    /// What it is. A line that was cut is a text.
+    pub reading: Reading<'a>,
+    /// The commands that are to be sent, each followed by CR LF.
+    pub send: ArrayVec<CommandText, 3>,
+    /// The decision that waited, where the line is a board that confirms it.
+    pub confirmed: Option<Outstanding>,
+}
