@@ -6,8 +6,8 @@ use Rattle.fibs_lines.specs.Lines.{ReadLine, lines_of, rest_of, kept_limit}
 use Rattle.fibs_messages.specs.Board.{spelling}
 use Rattle.fibs_messages.specs.Line.{ReadingValue, numbered_line, board_line, text_line, malformed_line, IsReading}
 use Rattle.fibs_messages.specs.Message.{canonical}
-use Rattle.fibs_messages.specs.declared.decimal.Fault.{Fault}
-use Rattle.fibs_messages.specs.declared.decimal.Fault.TheVariants.{Missing, Extra, NotANumber, OutOfRange, BadName}
+use Rattle.fibs_messages.specs.declared.fields.fault.Fault.{Fault}
+use Rattle.fibs_messages.specs.declared.fields.fault.Fault.TheVariants.{Missing, Extra, NotANumber, OutOfRange, BadName}
 use Rattle.fibs_cli.specs.Escape.{escaped}
 
 -- the name of a fault

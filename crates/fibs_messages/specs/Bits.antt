@@ -1,7 +1,7 @@
 -- The numbers in a message of the program. No public contract rests on it.
 use Rattle.std.specs.Prelude.{◌<◌}
-use Rattle.fibs_messages.specs.declared.message.Message.{Message}
-use Rattle.fibs_messages.specs.declared.message.Message.TheVariants.{Welcome, OwnInfo, WhoInfo, MessageReceived}
+use Rattle.fibs_messages.specs.declared.messages.message.Message.{Message}
+use Rattle.fibs_messages.specs.declared.messages.message.Message.TheVariants.{Welcome, OwnInfo, WhoInfo, MessageReceived}
 
 -- the numbers in a message have the bits of their types
 abbrev pub HasBits : Message → Type 0

@@ -7,10 +7,10 @@ use Rattle.std.specs.Fmt.{signed_decimal}
 use Rattle.fibs_messages.specs.Decimal.{allows, number_in}
 use Rattle.fibs_messages.specs.FirstFault.{IsFirstFault, bad_name_unless}
 use Rattle.fibs_messages.specs.Name.{is_name}
-use Rattle.fibs_messages.specs.declared.decimal.Fault.{Fault}
-use Rattle.fibs_messages.specs.declared.decimal.Fault.TheVariants.{Missing, Extra}
-use Rattle.fibs_messages.specs.declared.decimal.Values.{Values}
-use Rattle.fibs_messages.specs.declared.decimal.Values.TheVariants.{Between, Either}
+use Rattle.fibs_messages.specs.declared.fields.fault.Fault.{Fault}
+use Rattle.fibs_messages.specs.declared.fields.fault.Fault.TheVariants.{Missing, Extra}
+use Rattle.fibs_messages.specs.declared.fields.values.Values.{Values}
+use Rattle.fibs_messages.specs.declared.fields.values.Values.TheVariants.{Between, Either}
 
 -- a board: the names of the player and of the opponent (fields 2 and 3), and the numbers of fields 4 to 53
 pub record BoardFields : Type 0 where

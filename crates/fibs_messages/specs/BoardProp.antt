@@ -3,7 +3,7 @@ use Rattle.std.specs.Prelude.{◌≡◌, List, [], ◌∷◌, ℤ, true, Bool}
 use Rattle.std.proofs.Props.{props}
 use Rattle.std.specs.Coded.{×_prop, Unit-prop, Coded-set, coded_bool}
 use Rattle.fibs_messages.specs.Decimal.{allows}
-use Rattle.fibs_messages.specs.declared.decimal.Values.{Values}
+use Rattle.fibs_messages.specs.declared.fields.values.Values.{Values}
 use Rattle.fibs_messages.specs.Board.{BoardFields, Fit, IsBoard}
 
 true-prop : (b : Bool) → IsProp (b ≡ true)

@@ -1,10 +1,10 @@
--- How the fields are gone through, from the left. No public contract rests on this.
+-- How the fields of a board line are gone through, from the left. Of what is public only the function `reading_value` rests on it.
 use Rattle.std.specs.Prelude.{◌+◌, ℕ, List, [], ◌∷◌, Option, Some, None}
 use Rattle.fibs_messages.specs.Board.{Kind, fault_in, pieces}
 use Rattle.fibs_messages.specs.FieldReading.{Left}
-use Rattle.fibs_messages.specs.declared.decimal.Fault.{Fault}
-use Rattle.fibs_messages.specs.declared.decimal.Fault.TheVariants.{Missing, Extra}
-use Rattle.fibs_messages.specs.declared.board.FieldFault.{FieldFault}
+use Rattle.fibs_messages.specs.declared.fields.fault.Fault.{Fault}
+use Rattle.fibs_messages.specs.declared.fields.fault.Fault.TheVariants.{Missing, Extra}
+use Rattle.fibs_messages.specs.declared.fields.fault.FieldFault.{FieldFault}
 
 -- the pieces that are left, where none is left after the last
 abbrev pub pieces_of : Option (List ℕ) → List (List ℕ)

@@ -3,10 +3,10 @@ use Rattle.std.specs.Prelude.{◌||◌, ℕ, cond, List, Result, Ok, Err, ℤ, p
 use Rattle.std.specs.Int.{w32}
 use Rattle.std.specs.Str.Parse.{digits_value}
 use Rattle.fibs_messages.specs.Decimal.{is_positive, is_zero}
-use Rattle.fibs_messages.specs.declared.decimal.Fault.{Fault}
-use Rattle.fibs_messages.specs.declared.decimal.Fault.TheVariants.{NotANumber, OutOfRange}
-use Rattle.fibs_messages.specs.declared.decimal.Values.{Values}
-use Rattle.fibs_messages.specs.declared.decimal.Values.TheVariants.{Between, Either}
+use Rattle.fibs_messages.specs.declared.fields.fault.Fault.{Fault}
+use Rattle.fibs_messages.specs.declared.fields.fault.Fault.TheVariants.{NotANumber, OutOfRange}
+use Rattle.fibs_messages.specs.declared.fields.values.Values.{Values}
+use Rattle.fibs_messages.specs.declared.fields.values.Values.TheVariants.{Between, Either}
 
 -- the number of a canonical decimal without sign that has 64 bits, or what is wrong with it
 abbrev pub unsigned_value : List ℕ → Result ℕ Fault

@@ -1,10 +1,10 @@
 -- The fields of a message: their kinds, how a value is spelled, and what is wrong with other texts.
 use Rattle.std.specs.Prelude.{◌≡◌, ℕ, ◌+◌, ◌/◌, ◌%◌, ◌<◌, Bool, true, false, List, [], ◌∷◌, ◌++◌, Option, Some, None, decimal, pos, slice_get, if◌then◌else◌}
 use Rattle.std.specs.Result.{result_err}
-use Rattle.fibs_messages.specs.declared.decimal.Fault.{Fault}
-use Rattle.fibs_messages.specs.declared.decimal.Fault.TheVariants.{Missing, Extra}
-use Rattle.fibs_messages.specs.declared.decimal.Values.{Values}
-use Rattle.fibs_messages.specs.declared.decimal.Values.TheVariants.{Between}
+use Rattle.fibs_messages.specs.declared.fields.fault.Fault.{Fault}
+use Rattle.fibs_messages.specs.declared.fields.fault.Fault.TheVariants.{Missing, Extra}
+use Rattle.fibs_messages.specs.declared.fields.values.Values.{Values}
+use Rattle.fibs_messages.specs.declared.fields.values.Values.TheVariants.{Between}
 use Rattle.fibs_messages.specs.Decimal.{number_in}
 use Rattle.fibs_messages.specs.FirstFault.{bad_name_unless}
 use Rattle.fibs_messages.specs.Name.{is_name}

@@ -1,7 +1,7 @@
 -- The fields of a message as they are printed, as values. No public contract rests on it.
 use Rattle.std.specs.Prelude.{List, map}
-use Rattle.fibs_messages.specs.declared.printing.Field.{Field}
-use Rattle.fibs_messages.specs.declared.printing.Field.TheVariants.{Name, Word, Flag, Number, Rating, Text}
+use Rattle.fibs_messages.specs.declared.messages.print.Field.{Field}
+use Rattle.fibs_messages.specs.declared.messages.print.Field.TheVariants.{Name, Word, Flag, Number, Rating, Text}
 use Rattle.fibs_messages.specs.Field.{FieldValue, NameField, WordField, FlagField, NumberField, RatingField, TextField}
 use Rattle.fibs_messages.specs.NameBytes.{name_bytes}
 use Rattle.fibs_messages.specs.WordBytes.{word_bytes}

@@ -1,26 +1,21 @@
--- How fields are read one after another. No public contract rests on it.
+-- How fields are read one after another. Of what is public only the function `reading_value` rests on it.
 use Rattle.std.specs.Prelude.{◌≡◌, ℕ, ◌+◌, ◌==◌, Bool, List, [], ◌∷◌, Option, Some, None, Result, Ok, Err, ℤ, pos, negsuc, cond, if◌then◌else◌}
-use Rattle.std.specs.Borrow.{Bor}
 use Rattle.std.specs.Str.{bytes_eq}
-use Rattle.fibs_messages.specs.declared.board.FieldFault.{FieldFault}
-use Rattle.fibs_messages.specs.declared.decimal.Fault.{Fault}
-use Rattle.fibs_messages.specs.declared.decimal.Fault.TheVariants.{Missing, Extra, BadName}
-use Rattle.fibs_messages.specs.declared.fields.Fields.{Fields}
+use Rattle.fibs_messages.specs.declared.fields.fault.FieldFault.{FieldFault}
+use Rattle.fibs_messages.specs.declared.fields.fault.Fault.{Fault}
+use Rattle.fibs_messages.specs.declared.fields.fault.Fault.TheVariants.{Missing, Extra, BadName}
+use Rattle.fibs_messages.specs.declared.fields.reader.Fields.{Fields}
 use Rattle.fibs_messages.specs.Decimal.{number_in}
 use Rattle.fibs_messages.specs.Field.{Kind, a_name, a_word, a_tail, a_flag, a_number, a_rating, a_text, FieldValue, NameField, WordField, TailField, FlagField, NumberField, RatingField, TextField, takes_rest, may_be_absent, flag_values, number_values}
 use Rattle.fibs_messages.specs.Name.{is_name}
 use Rattle.fibs_messages.specs.Rating.{rating_in}
-use Rattle.fibs_messages.specs.Split.{before, after}
+use Rattle.fibs_messages.specs.Split.{before, after, seen}
 use Rattle.fibs_messages.specs.Word.{is_word, is_tail}
 
 -- what is left of a line, and what parts its fields
 pub record Left : Type 0 where
   pub separator : ℕ
   pub rest : Option (List ℕ)
-
-abbrev pub seen : Option (Bor (List ℕ)) → Option (List ℕ)
-seen None = None
-seen (Some rest) = Some rest.now
 
 abbrev pub left_of : Fields → Left
 left_of f = record { separator = f.separator; rest = seen f.rest }

@@ -1,7 +1,7 @@
 -- What is wrong with a field, and the leftmost wrong field of a line.
 use Rattle.std.specs.Prelude.{◌≡◌, ◌+◌, ◌<◌, ℕ, Bool, cond, Option, Some, None}
-use Rattle.fibs_messages.specs.declared.decimal.Fault.{Fault}
-use Rattle.fibs_messages.specs.declared.decimal.Fault.TheVariants.{BadName}
+use Rattle.fibs_messages.specs.declared.fields.fault.Fault.{Fault}
+use Rattle.fibs_messages.specs.declared.fields.fault.Fault.TheVariants.{BadName}
 
 -- a text that is no name, or not the word that has to stand there
 abbrev pub bad_name_unless : Bool → Option Fault

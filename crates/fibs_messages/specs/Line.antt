@@ -8,9 +8,9 @@ use Rattle.fibs_messages.specs.Field.{FieldValue}
 use Rattle.fibs_messages.specs.FieldReading.{fields_at, left}
 use Rattle.fibs_messages.specs.Message.{MessageValue, MessageText, IsNumbered, WrongMessage, kinds_of, kept, number_word}
 use Rattle.fibs_messages.specs.Split.{before, after}
-use Rattle.fibs_messages.specs.declared.board.FieldFault.{FieldFault}
-use Rattle.fibs_messages.specs.declared.decimal.Fault.{Fault}
-use Rattle.fibs_messages.specs.declared.decimal.Values.{Values}
+use Rattle.fibs_messages.specs.declared.fields.fault.FieldFault.{FieldFault}
+use Rattle.fibs_messages.specs.declared.fields.fault.Fault.{Fault}
+use Rattle.fibs_messages.specs.declared.fields.values.Values.{Values}
 
 -- a board line begins with `board:`
 abbrev pub IsBoardLine : List ℕ → Type 0

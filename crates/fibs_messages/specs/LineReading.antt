@@ -1,6 +1,6 @@
 -- How a line is read. No public contract rests on it.
 use Rattle.std.specs.Prelude.{◌≡◌, ℕ, List, Some, None, Result, Ok, Err}
-use Rattle.fibs_messages.specs.declared.board.FieldFault.{FieldFault}
+use Rattle.fibs_messages.specs.declared.fields.fault.FieldFault.{FieldFault}
 use Rattle.fibs_messages.specs.declared.line.Beginning.{Beginning}
 use Rattle.fibs_messages.specs.declared.line.Beginning.TheVariants.{Board, Number, Other}
 use Rattle.fibs_messages.specs.Field.{FieldValue}

@@ -1,9 +1,9 @@
 -- Messages of the program as values: the number and the fields of each.
 use Rattle.std.specs.Prelude.{ℕ, List, [], ◌∷◌}
-use Rattle.fibs_messages.specs.declared.message.Message.{Message}
-use Rattle.fibs_messages.specs.declared.message.Message.TheVariants.{Welcome, OwnInfo as TheOwnInfo, MotdBegin, MotdEnd, WhoInfo as TheWhoInfo, WhoInfoEnd, Login, Logout, MessageReceived, MessageDelivered, MessageSaved, Says, Shouts, Whispers, Kibitzes, YouSay, YouShout, YouWhisper, YouKibitz}
-use Rattle.fibs_messages.specs.declared.message.OwnInfo.{OwnInfo}
-use Rattle.fibs_messages.specs.declared.message.WhoInfo.{WhoInfo}
+use Rattle.fibs_messages.specs.declared.messages.message.Message.{Message}
+use Rattle.fibs_messages.specs.declared.messages.message.Message.TheVariants.{Welcome, OwnInfo as TheOwnInfo, MotdBegin, MotdEnd, WhoInfo as TheWhoInfo, WhoInfoEnd, Login, Logout, MessageReceived, MessageDelivered, MessageSaved, Says, Shouts, Whispers, Kibitzes, YouSay, YouShout, YouWhisper, YouKibitz}
+use Rattle.fibs_messages.specs.declared.messages.message.OwnInfo.{OwnInfo}
+use Rattle.fibs_messages.specs.declared.messages.message.WhoInfo.{WhoInfo}
 use Rattle.fibs_messages.specs.Field.{FieldValue, NameField, WordField, TailField, FlagField, NumberField, RatingField, TextField}
 use Rattle.fibs_messages.specs.Message.{MessageValue}
 use Rattle.fibs_messages.specs.NameBytes.{name_bytes}

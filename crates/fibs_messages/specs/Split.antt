@@ -1,5 +1,6 @@
 -- A text is split at the first byte of a kind.
 use Rattle.std.specs.Prelude.{ℕ, ◌==◌, List, [], ◌∷◌, Option, Some, None, if◌then◌else◌}
+use Rattle.std.specs.Borrow.{Bor}
 
 -- what stands before the first c, or all where there is none
 abbrev pub before : ℕ → List ℕ → List ℕ
@@ -10,3 +11,8 @@ before c (b ∷ s) = if b == c then [] else b ∷ before c s
 abbrev pub after : ℕ → List ℕ → Option (List ℕ)
 after c [] = None
 after c (b ∷ s) = if b == c then Some s else after c s
+
+-- a text that is borrowed, where there is one
+abbrev pub seen : Option (Bor (List ℕ)) → Option (List ℕ)
+seen None = None
+seen (Some text) = Some text.now

@@ -1,6 +1,6 @@
 -- Stored names as values.
 use Rattle.std.specs.Prelude.{ℕ, List, take}
-use Rattle.fibs_messages.specs.declared.stored_name.StoredName.{StoredName}
+use Rattle.fibs_messages.specs.declared.boards.stored_name.StoredName.{StoredName}
 
 -- the bytes of a stored name
 abbrev pub name_of : StoredName → List ℕ

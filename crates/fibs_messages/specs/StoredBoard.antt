@@ -2,8 +2,8 @@
 use Rattle.std.specs.Prelude.{Result, Ok, Err}
 use Rattle.fibs_messages.specs.Stored.{name_of}
 use Rattle.fibs_messages.specs.Board.{BoardFields}
-use Rattle.fibs_messages.specs.declared.board.Board.{Board}
-use Rattle.fibs_messages.specs.declared.board.FieldFault.{FieldFault}
+use Rattle.fibs_messages.specs.declared.boards.board.Board.{Board}
+use Rattle.fibs_messages.specs.declared.fields.fault.FieldFault.{FieldFault}
 
 -- the 53 fields of a board
 abbrev pub fields_of : Board → BoardFields

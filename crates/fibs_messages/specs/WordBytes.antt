@@ -1,7 +1,7 @@
 -- The bytes of words and tails.
 use Rattle.std.specs.Prelude.{ℕ, List}
-use Rattle.fibs_messages.specs.declared.word.Tail.{Tail}
-use Rattle.fibs_messages.specs.declared.word.Word.{Word}
+use Rattle.fibs_messages.specs.declared.fields.word.Tail.{Tail}
+use Rattle.fibs_messages.specs.declared.fields.word.Word.{Word}
 
 abbrev pub word_bytes : Word → List ℕ
 word_bytes word = word.bytes.now

@@ -10,17 +10,17 @@ ghost use Rattle.fibs_messages.specs.Flags.{FlagsAreTheFields};
 ghost use Rattle.fibs_messages.specs.Line.{IsBoardLine, IsReading, ReadingIsExact, ReadingValue, numbered_line};
 ghost use Rattle.fibs_messages.specs.Message.{HasNumber, IsMessage, IsNumber, IsNumbered, MessageText, MessageValue, WrongMessage, canonical, kinds_of};
 ghost use Rattle.fibs_messages.specs.ReadingOf.{reading_of};
-ghost use Rattle.fibs_messages.specs.declared.message.Message.{Message};
+ghost use Rattle.fibs_messages.specs.declared.messages.message.Message.{Message};
 ghost use Rattle.fibs_messages.specs.MessageOf.{message_of};
 ghost use Rattle.fibs_messages.specs.Printed.{IsPrinted};
 ghost use Rattle.fibs_messages.specs.StoredBoard.{fields_of, read_fields};
-ghost use Rattle.fibs_messages.specs.declared.board.Board.{Board};
-ghost use Rattle.fibs_messages.specs.declared.message.OwnInfo.{OwnInfo};
+ghost use Rattle.fibs_messages.specs.declared.boards.board.Board.{Board};
+ghost use Rattle.fibs_messages.specs.declared.messages.message.OwnInfo.{OwnInfo};
 
-use crate::board::{Board, FieldFault};
-use crate::decimal::Fault;
+use crate::boards::board::Board;
+use crate::fields::fault::{Fault, FieldFault};
 use crate::line::{Reading, read};
-use crate::message::{Message, OwnInfo, WhoInfo};
+use crate::messages::message::{Message, OwnInfo, WhoInfo};
 
 /// What is printed is read again as the same board.
 pub fn print_reads_back(board: &Board) -> Result<Board, FieldFault>

@@ -8,12 +8,12 @@ ghost use Rattle.fibs_messages.specs.Message.{number_word, IsNumber, MessageValu
 ghost use Rattle.fibs_messages.specs.ReadingOf.{reading_of};
 ghost use Rattle.fibs_messages.specs.Split.{before};
 
-use crate::board::{Board, FieldFault};
-use crate::decimal::Fault;
-use crate::message::Message;
-use crate::number::{number_of, rest_of};
-use crate::read_message::read_message;
-use crate::split::split;
+use crate::boards::board::Board;
+use crate::fields::fault::{Fault, FieldFault};
+use crate::fields::split::split;
+use crate::messages::message::Message;
+use crate::messages::number::{number_of, rest_of};
+use crate::messages::read::read_message;
 
 /// What a line of the server is.
 #[derive(Clone, Copy, Debug)]

@@ -7,9 +7,9 @@ use Rattle.std.proofs.lemmas.Bool.Decides.{nat_tests}
 use Rattle.std.proofs.lemmas.List.{get_or-set_same, get_or-set_other}
 use Rattle.std.proofs.Math.ListN.{length-set}
 use Rattle.fibs_messages.specs.Board.{BoardFields, IsBoard, Fit, field_of, can_have, field_values, allowed_by}
-use Rattle.fibs_messages.specs.declared.decimal.Values.{Values}
-use Rattle.fibs_messages.proofs.Steps.{fit_set}
-use Rattle.fibs_messages.proofs.Table.{table_long}
+use Rattle.fibs_messages.specs.declared.fields.values.Values.{Values}
+use Rattle.fibs_messages.proofs.BoardLemmas.OneNumberMore.{fit_set}
+use Rattle.fibs_messages.proofs.BoardLemmas.FieldTable.{table_long}
 use Rattle.fibs_position.specs.BoardEffect.{set_field, set_fields}
 
 fit_long : (vs : List Values) (zs : List ℤ) → Fit vs zs → length zs ≡ length vs

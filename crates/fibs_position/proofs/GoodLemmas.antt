@@ -5,7 +5,7 @@ use Rattle.std.specs.Str.{bytes_eq}
 use Rattle.std.proofs.lemmas.Bool.{and_parts, and_from, cases_Bool}
 use Rattle.std.proofs.lemmas.Bool.Decides.{nat_tests}
 use Rattle.std.proofs.lemmas.Slice.Eq.{bytes_eq-Decides}
-use Rattle.fibs_messages.specs.declared.decimal.Values.{Values}
+use Rattle.fibs_messages.specs.declared.fields.values.Values.{Values}
 use Rattle.fibs_messages.specs.Decimal.{allows}
 use Rattle.fibs_messages.specs.Name.{is_name}
 use Rattle.fibs_messages.specs.Board.{BoardFields, IsBoard, Fit, field_values}

@@ -5,9 +5,9 @@ use Rattle.std.specs.Ordering.{int_eq}
 use Rattle.std.proofs.lemmas.Int.{ints}
 use Rattle.std.proofs.lemmas.Bool.Decides.{Decides-int_eq}
 use Rattle.fibs_messages.specs.Board.{BoardFields, IsBoard, field_of, can_have, field_values}
-use Rattle.fibs_messages.proofs.Places.{flag_exact, can_have_by, cube_exact}
-use Rattle.fibs_messages.proofs.Steps.{fit_at}
-use Rattle.fibs_messages.proofs.Table.{table_long}
+use Rattle.fibs_messages.proofs.BoardLemmas.FieldGroups.{flag_exact, can_have_by, cube_exact}
+use Rattle.fibs_messages.proofs.BoardLemmas.OneNumberMore.{fit_at}
+use Rattle.fibs_messages.proofs.BoardLemmas.FieldTable.{table_long}
 use Rattle.fibs_position.specs.First.{IsFirst}
 use Rattle.fibs_position.specs.OwnView.{turn, colour, natural, standing_of}
 use Rattle.fibs_position.specs.GamePart.{Differ}

@@ -9,9 +9,9 @@ use Rattle.std.proofs.lemmas.Bool.Decides.{nat_tests}
 use Rattle.std.proofs.lemmas.List.{get_or_append_left}
 use Rattle.std.proofs.lemmas.List.FromFn.{get_or-map-range_with_len, length-map-range_with_len}
 use Rattle.fibs_messages.specs.Board.{BoardFields, IsBoard, field_of, can_have, field_values}
-use Rattle.fibs_messages.proofs.Places.{side_exact, can_have_by}
-use Rattle.fibs_messages.proofs.Steps.{fit_at}
-use Rattle.fibs_messages.proofs.Table.{table_long}
+use Rattle.fibs_messages.proofs.BoardLemmas.FieldGroups.{side_exact, can_have_by}
+use Rattle.fibs_messages.proofs.BoardLemmas.OneNumberMore.{fit_at}
+use Rattle.fibs_messages.proofs.BoardLemmas.FieldTable.{table_long}
 use Rattle.fibs_position.specs.Hop.{Hop}
 use Rattle.fibs_position.specs.Checkers.{Checkers, shifted, hit}
 use Rattle.fibs_position.specs.Effect.{LaxRun}

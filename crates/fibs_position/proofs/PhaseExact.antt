@@ -6,9 +6,9 @@ use Rattle.std.specs.Ordering.{int_eq}
 use Rattle.std.proofs.lemmas.Int.{ints}
 use Rattle.std.proofs.lemmas.Bool.Decides.{Decides-not, Decides-int_eq}
 use Rattle.fibs_messages.specs.Board.{BoardFields, IsBoard, field_of, field_values}
-use Rattle.fibs_messages.proofs.Places.{dice_exact, can_have_by}
-use Rattle.fibs_messages.proofs.Steps.{fit_at}
-use Rattle.fibs_messages.proofs.Table.{table_long}
+use Rattle.fibs_messages.proofs.BoardLemmas.FieldGroups.{dice_exact, can_have_by}
+use Rattle.fibs_messages.proofs.BoardLemmas.OneNumberMore.{fit_at}
+use Rattle.fibs_messages.proofs.BoardLemmas.FieldTable.{table_long}
 use Rattle.fibs_position.specs.OwnView.{turn, colour, natural, first_die, second_die, standing_of}
 use Rattle.fibs_position.specs.Runs.{CanMove}
 use Rattle.fibs_position.specs.Phases.{PhaseFits, phases, IsPhase, can_move, phase_fits, phase_of}

@@ -4,7 +4,7 @@ use Rattle.std.specs.Prelude.{ℤ, pos, negsuc, ◌≤ℤ◌, map}
 use Rattle.std.specs.List.{range_with_len}
 use Rattle.std.proofs.lemmas.List.FromFn.{map-range_with_len_more}
 use Rattle.fibs_messages.specs.Board.{BoardFields, can_have}
-use Rattle.fibs_messages.proofs.Places.{dice_exact, turn_exact, cube_exact, place_exact, off_exact}
+use Rattle.fibs_messages.proofs.BoardLemmas.FieldGroups.{dice_exact, turn_exact, cube_exact, place_exact, off_exact}
 use Rattle.fibs_position.specs.OwnView.{places}
 use Rattle.fibs_position.specs.BoardEffect.{set_field, set_fields}
 

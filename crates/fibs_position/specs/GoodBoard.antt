@@ -1,7 +1,7 @@
 -- Boards that have a position.
 use Rattle.std.specs.Prelude.{◌≡◌, ◌≢◌, ◌<◌, ◌≤◌, ◌&&◌, ℤ, Bool, true, false, List, [], ◌∷◌, codes, nat_le}
 use Rattle.std.specs.Str.{bytes_eq}
-use Rattle.fibs_messages.specs.declared.decimal.Values.{Values}
+use Rattle.fibs_messages.specs.declared.fields.values.Values.{Values}
 use Rattle.fibs_messages.specs.Decimal.{allows}
 use Rattle.fibs_messages.specs.Name.{is_name}
 use Rattle.fibs_messages.specs.Board.{BoardFields, IsBoard, field_values}

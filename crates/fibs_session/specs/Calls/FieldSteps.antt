@@ -4,7 +4,7 @@ use Rattle.fibs_messages.specs.Board.{BoardFields}
 use Rattle.fibs_messages.specs.Message.{MessageValue}
 use Rattle.fibs_messages.specs.Line.{ReadingValue, numbered_line, board_line, text_line, malformed_line}
 use Rattle.fibs_messages.specs.StoredBoard.{fields_of}
-use Rattle.fibs_messages.specs.declared.board.Board.{Board}
+use Rattle.fibs_messages.specs.declared.boards.board.Board.{Board}
 use Rattle.fibs_position.specs.DecisionValue.{DecisionValue}
 use Rattle.fibs_position.specs.DirectionOf.{direction_of}
 use Rattle.fibs_session.specs.Commands.{command_of}

@@ -5,7 +5,7 @@ ghost use Rattle.fibs_lines.specs.LineValue.{value_of};
 ghost use Rattle.fibs_messages.specs.MessageOf.{message_of};
 ghost use Rattle.fibs_messages.specs.ReadingOf.{reading_of};
 ghost use Rattle.fibs_messages.specs.StoredBoard.{fields_of};
-ghost use Rattle.fibs_messages.specs.declared.message.Message.TheVariants.{OwnInfo as TheOwnInfo};
+ghost use Rattle.fibs_messages.specs.declared.messages.message.Message.TheVariants.{OwnInfo as TheOwnInfo};
 ghost use Rattle.fibs_session.specs.Calls.FieldSteps.{message_fields, heard_fields, with_board, confirmed_of, line_fields};
 ghost use Rattle.fibs_session.specs.History.Hearing.{initial_commands, line_reading};
 ghost use Rattle.fibs_position.specs.GoodBoard.{good};

@@ -1,5 +1,5 @@
-use Rattle.fibs_messages.proofs.MessageLines.{line_reads}
-use Rattle.fibs_messages.proofs.MessageReadings.{board_not_numbered, has_number}
+use Rattle.fibs_messages.proofs.MessageLemmas.MessageLines.{line_reads}
+use Rattle.fibs_messages.proofs.MessageLemmas.MessageReadings.{board_not_numbered, has_number}
 use Rattle.fibs_messages.proofs.laws.board_lines_are_not_numbered.Goals as goal
 
 pub returns-clause-messages : goal.returns-clause-messages

@@ -1,6 +1,6 @@
 use Rattle.std.proofs.Common.{sym, subst}
 use Rattle.fibs_messages.specs.Message.{MessageText}
-use Rattle.fibs_messages.proofs.CanonicalLines.{canonical_said}
+use Rattle.fibs_messages.proofs.MessageLemmas.CanonicalLines.{canonical_said}
 use Rattle.fibs_messages.proofs.laws.canonical_lines_read_back.Goals as goal
 
 pub returns : goal.returns

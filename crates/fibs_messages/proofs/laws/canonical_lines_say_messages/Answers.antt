@@ -1,7 +1,7 @@
 use Rattle.std.proofs.Common.{sym, subst}
 use Rattle.fibs_messages.specs.Message.{MessageText, canonical}
-use Rattle.fibs_messages.proofs.CanonicalLines.{canonical_said}
-use Rattle.fibs_messages.proofs.MessageReadings.{one_message}
+use Rattle.fibs_messages.proofs.MessageLemmas.CanonicalLines.{canonical_said}
+use Rattle.fibs_messages.proofs.MessageLemmas.MessageReadings.{one_message}
 use Rattle.fibs_messages.proofs.laws.canonical_lines_say_messages.Goals as goal
 
 pub returns-clause-says : goal.returns-clause-says

@@ -1,5 +1,5 @@
-use Rattle.fibs_messages.proofs.EachLine.{board_or_wrong}
-use Rattle.fibs_messages.proofs.Readings.{one_board, not_both}
+use Rattle.fibs_messages.proofs.BoardLemmas.EachLine.{board_or_wrong}
+use Rattle.fibs_messages.proofs.LineLemmas.Readings.{one_board, not_both}
 use Rattle.fibs_messages.proofs.laws.each_line_is_one_board_or_wrong.Goals as goal
 
 pub returns-clause-either : goal.returns-clause-either

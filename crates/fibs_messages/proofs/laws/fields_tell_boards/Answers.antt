@@ -9,8 +9,8 @@ use Rattle.fibs_messages.specs.Board.{BoardFields}
 use Rattle.fibs_messages.specs.Stored.{name_of}
 use Rattle.fibs_messages.specs.StoredBoard.{fields_of}
 use Rattle.fibs_messages.specs.StoredBytes.{IsStored, padded}
-use Rattle.fibs_messages.specs.declared.board.Board.{Board}
-use Rattle.fibs_messages.specs.declared.stored_name.StoredName.{StoredName}
+use Rattle.fibs_messages.specs.declared.boards.board.Board.{Board}
+use Rattle.fibs_messages.specs.declared.boards.stored_name.StoredName.{StoredName}
 use Rattle.fibs_messages.proofs.laws.fields_tell_boards.Goals as goal
 
 stored_same : (x y : List ℕ) (m n : ℕ) → IsStored x m → IsStored y n → take m x ≡ take n y → (x ≡ y) × (m ≡ n)

@@ -1,4 +1,4 @@
-use Rattle.fibs_messages.proofs.BoardTests.{is_board_exact}
+use Rattle.fibs_messages.proofs.BoardLemmas.BoardTests.{is_board_exact}
 use Rattle.fibs_messages.proofs.laws.is_board_is_exact.Goals as goal
 
 pub returns : goal.returns

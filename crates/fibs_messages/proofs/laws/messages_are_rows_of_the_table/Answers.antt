@@ -1,4 +1,4 @@
-use Rattle.fibs_messages.proofs.Rows.{number_is, kinds_are}
+use Rattle.fibs_messages.proofs.MessageLemmas.Rows.{number_is, kinds_are}
 use Rattle.fibs_messages.proofs.laws.messages_are_rows_of_the_table.Goals as goal
 
 pub returns : goal.returns

@@ -1,4 +1,4 @@
-use Rattle.fibs_messages.proofs.Rows.{is_message}
+use Rattle.fibs_messages.proofs.MessageLemmas.Rows.{is_message}
 use Rattle.fibs_messages.proofs.laws.messages_are_well_formed.Goals as goal
 
 pub returns : goal.returns

@@ -4,7 +4,7 @@ use Rattle.std.specs.Str.{bytes_eq}
 use Rattle.std.proofs.lemmas.Slice.Eq.{bytes_eq-Decides}
 use Rattle.fibs_messages.specs.Board.{BoardFields, IsBoard, spelling}
 use Rattle.fibs_messages.specs.StoredBoard.{fields_of}
-use Rattle.fibs_messages.proofs.BoardLaws.{spelling_same}
+use Rattle.fibs_messages.proofs.BoardLemmas.BoardTexts.{spelling_same}
 use Rattle.fibs_messages.proofs.laws.prints_tell_boards.Goals as goal
 
 -- a comparison of two spellings

@@ -1,0 +1,12 @@
+pub mod Backward
+pub mod BoardTests
+pub mod BoardTexts
+pub mod EachLine
+pub mod FieldGroups
+pub mod FieldRangeLaws
+pub mod FieldTable
+pub mod FirstFaults
+pub mod Lengths
+pub mod OneNumberMore
+pub mod Pieces
+pub mod SpelledBoards

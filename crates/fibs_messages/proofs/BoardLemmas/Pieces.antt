@@ -1,0 +1,95 @@
+-- Pieces between colons, and spaces at the end of a line.
+use Rattle.std.proofs.Common.{◌≡◌, ℕ, suc, ◌<◌, ◌≤◌, ◌+◌, ◌-◌, ◌^◌, ◌==◌, ◌&&◌, true, false, List, [], ◌∷◌, ◌++◌, length, get_or, take, drop, replicate, arith, nat_lt, nat_le, refl, sym, ap, ◌∙◌, length-append, length-drop}
+use Rattle.std.specs.Prelude.{ℤ, pos, negsuc}
+use Rattle.std.specs.Char.{is_ascii_digit}
+use Rattle.std.specs.List.{list_all, All, AllByRecursion, join_with_byte}
+use Rattle.std.specs.Fmt.{decimal, signed_decimal}
+use Rattle.std.proofs.lemmas.Bool.{and_parts, true_from_ne_false, false_from_ne_true, false≢true}
+use Rattle.bstr.specs.Bytes.{not_in, is_in}
+use Rattle.std.proofs.lemmas.Bool.Decides.{nat_tests}
+use Rattle.std.proofs.lemmas.Fmt.{digits_decimal}
+use Rattle.std.proofs.lemmas.List.{get_or_append_left, get_or-replicate, length-replicate, take-append-drop, get_or-drop}
+use Rattle.std.proofs.lemmas.List.Elements.{All-append, All-weaker, All-cons}
+use Rattle.std.proofs.lemmas.List.Splits.{slice_split_none, slice_split_at}
+use Rattle.std.proofs.lemmas.List.Sums.{AllPass-from_list_all, suffix_len_is}
+use Rattle.fibs_messages.specs.Board.{without_spaces, pieces}
+use Rattle.fibs_messages.specs.Name.{is_name, is_name_byte}
+use Rattle.fibs_messages.proofs.NumberLemmas.Spelled.{own}
+use Rattle.std.proofs.Math.Seq.{take-append_seam, get_or-append_right}
+use lib.Signed.{mag}
+
+-- neither a colon nor a space
+pub record IsFieldByte (c : ℕ) : Type 0 where
+  pub no_colon : (c == 58) ≡ false
+  pub no_space : (c == 32) ≡ false
+
+pub name_bytes : (name : List ℕ) → is_name name ≡ true → All IsFieldByte name
+name_bytes name h =
+    All-weaker (λ c. is_name_byte c ≡ true) IsFieldByte (λ c (each : is_name_byte c ≡ true). record { no_colon = grind (arith, nat_tests); no_space = grind (arith, nat_tests) })
+    name (AllPass-from_list_all is_name_byte name (and_parts (nat_lt 0 (length name) && nat_le (length name) 64) (list_all is_name_byte name) h).1)
+
+digit_bytes : (ds : List ℕ) → list_all is_ascii_digit ds ≡ true → All IsFieldByte ds
+digit_bytes ds h =
+    All-weaker (λ c. is_ascii_digit c ≡ true) IsFieldByte (λ c (each : is_ascii_digit c ≡ true). record { no_colon = grind (arith, nat_tests); no_space = grind (arith, nat_tests) })
+    ds (AllPass-from_list_all is_ascii_digit ds h)
+
+pub number_bytes : (z : ℤ) → mag z < 2 ^ 63 → All IsFieldByte (signed_decimal z)
+number_bytes (pos n) limit = digit_bytes (decimal n) (digits_decimal own n (omega arith))
+number_bytes (negsuc n) limit = All-cons IsFieldByte 45 (decimal (suc n)) (record { no_colon = refl; no_space = refl }) (digit_bytes (decimal (suc n)) (digits_decimal own (suc n) (omega arith)))
+
+pub no_colons : (text : List ℕ) → All IsFieldByte text → All (λ c. (c == 58) ≡ false) text
+no_colons = All-weaker IsFieldByte (λ c. (c == 58) ≡ false) (λ c h. h.no_colon)
+
+-- the pieces of fields that are joined by colons are the fields
+pub pieces-join : (x : List ℕ) (xs : List (List ℕ)) → All IsFieldByte x → AllByRecursion (All IsFieldByte) xs → pieces (join_with_byte 58 (x ∷ xs)) ≡ x ∷ xs
+pieces-join x [] h hs = slice_split_none (λ c. c == 58) x (no_colons x h)
+pieces-join x (y ∷ ys) h hs = slice_split_at (λ c. c == 58) x 58 (join_with_byte 58 (y ∷ ys)) (no_colons x h) refl ∙ ap (λ l. x ∷ l) (pieces-join y ys hs.0 hs.1)
+
+-- no space is among them
+pub join_no_space : (x : List ℕ) (xs : List (List ℕ)) → All IsFieldByte x → AllByRecursion (All IsFieldByte) xs → All (λ c. (c == 32) ≡ false) (join_with_byte 58 (x ∷ xs))
+join_no_space x [] h hs = All-weaker IsFieldByte (λ c. (c == 32) ≡ false) (λ c each. each.no_space) x h
+join_no_space x (y ∷ ys) h hs =
+    All-append (λ c. (c == 32) ≡ false) x (58 ∷ join_with_byte 58 (y ∷ ys)) (All-weaker IsFieldByte (λ c. (c == 32) ≡ false) (λ c each. each.no_space) x h)
+    (All-cons (λ c. (c == 32) ≡ false) 58 (join_with_byte 58 (y ∷ ys)) refl (join_no_space y ys hs.0 hs.1))
+
+-- where the spaces at the end begin
+pub without_spaces_at : (line : List ℕ) (n : ℕ) → n ≤ length line → ((k : ℕ) → n ≤ k → k < length line → (get_or line k 0 == 32) ≡ true) → (0 < n → (get_or line (n - 1) 0 == 32) ≡ false) → without_spaces line ≡ take n line
+without_spaces_at line n within after before =
+    let is = suffix_len_is (λ c. c == 32) line n 0 within after before in
+    ap (λ m. take m line) (omega (arith, is))
+
+pub all_spaces : (xs : List ℕ) → ((k : ℕ) → k < length xs → (get_or xs k 0 == 32) ≡ true) → xs ≡ replicate (length xs) 32
+all_spaces [] h = refl
+all_spaces (x ∷ xs) h =
+    let first : x ≡ 32 = (let here : (x == 32) ≡ true = h 0 (omega arith) in grind (arith, nat_tests)) in
+    let rest : xs ≡ replicate (length xs) 32 = all_spaces xs (λ k within. h (suc k) (omega arith)) in
+    (λ i. first i ∷ rest i)
+
+-- what is before the spaces
+pub without_spaces-append : (text : List ℕ) (n : ℕ) → All (λ c. (c == 32) ≡ false) text → without_spaces (text ++ replicate n 32) ≡ text
+without_spaces-append text n h =
+    without_spaces_at (text ++ replicate n 32) (length text) (omega (arith, length-append text (replicate n 32)))
+    (λ k after within.
+    let inside : k - length text < n = omega (arith, length-append text (replicate n 32), length-replicate {A = ℕ} n 32) in
+    ap (λ c. c == 32) (get_or-append_right text (replicate n 32) k 0 after ∙ get_or-replicate n (k - length text) 32 0 inside))
+    (λ some.
+    let last : length text - 1 < length text = omega arith in
+    ap (λ c. c == 32) (get_or_append_left text (replicate n 32) 0 (length text - 1) last) ∙ h (length text - 1) 0 last)
+    ∙ take-append_seam text (replicate n 32)
+
+-- what is after the place where the spaces at the end begin
+pub spaces_at : (line : List ℕ) (n : ℕ) → n ≤ length line → ((k : ℕ) → n ≤ k → k < length line → (get_or line k 0 == 32) ≡ true) → line ≡ take n line ++ replicate (length line - n) 32
+spaces_at line n within after =
+    let rest : drop n line ≡ replicate (length (drop n line)) 32 =
+    all_spaces (drop n line) (λ k inside. ap (λ c. c == 32) (get_or-drop n line k 0) ∙ after (n + k) (omega arith) (omega (arith, length-drop n line))) in
+    let long : length (drop n line) ≡ length line - n = length-drop n line in
+    sym (take-append-drop n line) ∙ ap (λ l. take n line ++ l) (rest ∙ ap (λ m. replicate m 32) long)
+
+-- the test by which the last byte that is no space is found
+pub space_from_not_in : (c : ℕ) → (not_in (32 ∷ []) c ≡ true → ⊥) → (c == 32) ≡ true
+unfolding is_in
+space_from_not_in c h = true_from_ne_false (c == 32) (λ other. h (rw other refl))
+
+pub no_space_from_not_in : (c : ℕ) → not_in (32 ∷ []) c ≡ true → (c == 32) ≡ false
+unfolding is_in
+no_space_from_not_in c h = false_from_ne_true (c == 32) (λ space. false≢true (rw space at h))

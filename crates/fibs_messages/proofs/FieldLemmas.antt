@@ -1,0 +1,5 @@
+pub mod FieldTexts
+pub mod FieldValues
+pub mod Fronts
+pub mod Spaces
+pub mod Splits

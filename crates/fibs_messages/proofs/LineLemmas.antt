@@ -1,0 +1,2 @@
+pub mod ReadingValues
+pub mod Readings

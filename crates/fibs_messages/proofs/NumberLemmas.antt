@@ -1,0 +1,5 @@
+pub mod CappedNumbers
+pub mod Digits
+pub mod Naturals
+pub mod Spelled
+pub mod UpToLimit

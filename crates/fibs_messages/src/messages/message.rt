@@ -1,0 +1,164 @@
+//! The numbered messages of the server (FIBS CLIP specification 1008).
+
+use crate::fields::name::Name;
+use crate::fields::word::{Tail, Word};
+
+/// The contents of message 2: the settings of the user who logged in.
+#[derive(Clone, Copy, Debug, PartialEq, Eq)]
+pub struct OwnInfo<'a> {
+    /// The user's name.
+    pub name: Name<'a>,
+    /// Whether the opponent may use the command `pip`.
+    pub allowpip: bool,
+    /// Whether a board is sent after every move.
+    pub autoboard: bool,
+    /// Whether a doublet in the opening doubles the cube.
+    pub autodouble: bool,
+    /// Whether the server makes a move where there is but one.
+    pub automove: bool,
+    /// Whether the user is away.
+    pub away: bool,
+    /// Whether the bell rings at certain events.
+    pub bell: bool,
+    /// Whether matches are played with the Crawford rule.
+    pub crawford: bool,
+    /// Whether the user is asked before the roll whether to double.
+    pub double: bool,
+    /// Points of the matches played.
+    pub experience: u64,
+    /// Whether the server bears off where it can.
+    pub greedy: bool,
+    /// Whether a board is sent after every roll too.
+    pub moreboards: bool,
+    /// Whether the moves are listed after a game.
+    pub moves: bool,
+    /// Whether the user is told who logs in and out.
+    pub notify: bool,
+    /// In hundredths.
+    pub rating: u32,
+    /// Whether it is told how a rating was calculated.
+    pub ratings: bool,
+    /// Whether the user is ready to play.
+    pub ready: bool,
+    /// How many immediate redoubles: a number, `none` or `unlimited`.
+    pub redoubles: Word<'a>,
+    /// Whether the start and the end of matches are told.
+    pub report: bool,
+    /// Whether shouts are kept from the user.
+    pub silent: bool,
+    /// The user's time zone.
+    pub timezone: Word<'a>,
+}
+
+/// The contents of message 5: what the server tells of a player.
+#[derive(Clone, Copy, Debug, PartialEq, Eq)]
+pub struct WhoInfo<'a> {
+    /// The player's name.
+    pub name: Name<'a>,
+    /// Whom the player plays, `-` for no one.
+    pub opponent: Name<'a>,
+    /// Whom the player watches, `-` for no one.
+    pub watching: Name<'a>,
+    /// Whether the player is ready to play.
+    pub ready: bool,
+    /// Whether the player is away.
+    pub away: bool,
+    /// In hundredths.
+    pub rating: u32,
+    /// Points of the matches played.
+    pub experience: u64,
+    /// Seconds since the player last typed.
+    pub idle: u64,
+    /// When the player logged in, in seconds since 1970.
+    pub login: u64,
+    /// Where the player logged in from.
+    pub hostname: Word<'a>,
+    /// The program that the player uses, `-` where it is not known.
+    pub client: Word<'a>,
+    /// The address of mail, `-` for none.
+    pub email: Tail<'a>,
+}
+
+/// A numbered message. Its names, words and texts borrow from its line; a text may be empty.
+#[derive(Clone, Copy, Debug, PartialEq, Eq)]
+pub enum Message<'a> {
+    /// 1: the user is logged in.
+    Welcome {
+        name: Name<'a>,
+        /// In seconds since 1970.
+        last_login: u64,
+        last_host: Word<'a>,
+    },
+    /// 2: the user's settings.
+    OwnInfo(OwnInfo<'a>),
+    /// 3: the message of the day begins.
+    MotdBegin,
+    /// 4: the message of the day has ended.
+    MotdEnd,
+    /// 5: a player.
+    WhoInfo(WhoInfo<'a>),
+    /// 6: a list of players has ended.
+    WhoInfoEnd,
+    /// 7: a player logged in.
+    Login {
+        name: Name<'a>,
+        text: &'a [u8],
+    },
+    /// 8: a player logged out.
+    Logout {
+        name: Name<'a>,
+        text: &'a [u8],
+    },
+    /// 9: a message that was left for the user.
+    MessageReceived {
+        sender: Name<'a>,
+        /// In seconds since 1970.
+        time: u64,
+        text: &'a [u8],
+    },
+    /// 10: the user's message reached a player.
+    MessageDelivered {
+        name: Name<'a>,
+    },
+    /// 11: the user's message is kept for a player.
+    MessageSaved {
+        name: Name<'a>,
+    },
+    /// 12: a player says something to the user.
+    Says {
+        name: Name<'a>,
+        text: &'a [u8],
+    },
+    /// 13: a player shouts to all.
+    Shouts {
+        name: Name<'a>,
+        text: &'a [u8],
+    },
+    /// 14: a player whispers to those who watch.
+    Whispers {
+        name: Name<'a>,
+        text: &'a [u8],
+    },
+    /// 15: a player kibitzes to those who play and watch.
+    Kibitzes {
+        name: Name<'a>,
+        text: &'a [u8],
+    },
+    /// 16: what the user said to a player.
+    YouSay {
+        name: Name<'a>,
+        text: &'a [u8],
+    },
+    /// 17: what the user shouted.
+    YouShout {
+        text: &'a [u8],
+    },
+    /// 18: what the user whispered.
+    YouWhisper {
+        text: &'a [u8],
+    },
+    /// 19: what the user kibitzed.
+    YouKibitz {
+        text: &'a [u8],
+    },
+}

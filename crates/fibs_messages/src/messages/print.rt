@@ -1,0 +1,349 @@
+//! Prints numbered messages.
+
+ghost use Rattle.std.specs.Prelude.{◌≡◌, ◌∷◌, [], ◌++◌, decimal, length, take, OnOk, OnErr};
+ghost use Rattle.std.specs.List.{flat_map};
+ghost use Rattle.fibs_messages.specs.Field.{NameField, FlagField, NumberField, RatingField, TextField};
+ghost use Rattle.fibs_messages.specs.FieldOf.{value_of, values_of};
+ghost use Rattle.fibs_messages.specs.Message.{MessageText, canonical, canonical_field};
+ghost use Rattle.fibs_messages.specs.MessageOf.{message_of, own_info_fields};
+ghost use Rattle.fibs_messages.specs.NameBytes.{name_bytes};
+
+use crate::fields::name::Name;
+use crate::fields::word::Word;
+use crate::laws::messages_are_well_formed;
+use crate::messages::message::{Message, OwnInfo, WhoInfo};
+use itoa::Buffer;
+use std::alloc::{AllocError, Global};
+
+/// A field of a message.
+#[derive(Clone, Copy)]
+pub enum Field<'a> {
+    Name(Name<'a>),
+    Word(Word<'a>),
+    Flag(bool),
+    Number(u64),
+    Rating(u32),
+    Text(&'a [u8]),
+}
+
+/// Appends a space and the bytes.
+fn append_piece(out: &mut Vec<u8>, bytes: &[u8]) -> Result<(), AllocError>
+    ensures put { OnOk result (out.new.items ≡ out.old.items ++ (32 ∷ bytes.now)) }
+    ensures front { take (length out.old.items) out.new.items ≡ out.old.items }
+{
+    out.push(b' ')?;
+    out.extend_from_slice(bytes)
+}
+
+/// Appends a space and the rating with two digits after its point.
+#[tactic(auto, unfolding(crate::specs::Message::canonical_field))]
+fn append_rating(out: &mut Vec<u8>, rating: u32) -> Result<(), AllocError>
+    ensures put { OnOk result (out.new.items ≡ out.old.items ++ canonical_field (RatingField rating)) }
+    ensures front { take (length out.old.items) out.new.items ≡ out.old.items }
+{
+    append_piece(out, Buffer::new().format(rating / 100).as_bytes())?;
+    let tenths = b'0' + (rating % 100 / 10) as u8;
+    let hundredths = b'0' + (rating % 10) as u8;
+    out.extend_from_slice(&[b'.', tenths, hundredths])
+}
+
+/// Appends a space and the flag, as 0 or 1.
+#[tactic(auto, unfolding(crate::specs::Message::canonical_field))]
+fn append_flag(out: &mut Vec<u8>, flag: bool) -> Result<(), AllocError>
+    ensures put { OnOk result (out.new.items ≡ out.old.items ++ canonical_field (FlagField flag)) }
+    ensures front { take (length out.old.items) out.new.items ≡ out.old.items }
+{
+    out.push(b' ')?;
+    out.push(b'0' + u8::from(flag))?;
+    Ok(())
+}
+
+/// Appends a space and the number.
+#[tactic(auto, unfolding(crate::specs::Message::canonical_field))]
+fn append_count(out: &mut Vec<u8>, count: u64) -> Result<(), AllocError>
+    ensures put { OnOk result (out.new.items ≡ out.old.items ++ canonical_field (NumberField count)) }
+    ensures front { take (length out.old.items) out.new.items ≡ out.old.items }
+{
+    append_piece(out, Buffer::new().format(count).as_bytes())
+}
+
+/// Appends a space and the text, or nothing where it is empty.
+#[tactic(auto, unfolding(crate::specs::Message::canonical_field))]
+fn append_text(out: &mut Vec<u8>, text: &[u8]) -> Result<(), AllocError>
+    ensures put { OnOk result (out.new.items ≡ out.old.items ++ canonical_field (TextField text.now)) }
+    ensures front { take (length out.old.items) out.new.items ≡ out.old.items }
+{
+    match text {
+        [] => Ok(()),
+        _ => append_piece(out, text),
+    }
+}
+
+/// Appends a field behind its space; an empty text is nothing.
+#[tactic(auto, unfolding(crate::specs::Message::canonical_field))]
+fn append_field(out: &mut Vec<u8>, field: &Field<'_>) -> Result<(), AllocError>
+    ensures put { OnOk result (out.new.items ≡ out.old.items ++ canonical_field (value_of field.now)) }
+    ensures front { take (length out.old.items) out.new.items ≡ out.old.items }
+{
+    match field {
+        Field::Name(name) => append_piece(out, name.bytes()),
+        Field::Word(word) => append_piece(out, word.bytes()),
+        Field::Flag(flag) => append_flag(out, *flag),
+        Field::Number(number) => append_count(out, *number),
+        Field::Rating(rating) => append_rating(out, *rating),
+        Field::Text(text) => append_text(out, text),
+    }
+}
+
+/// Appends the number of a message.
+fn append_number(out: &mut Vec<u8>, number: u8) -> Result<(), AllocError>
+    ensures put { OnOk result (out.new.items ≡ out.old.items ++ decimal number) }
+    ensures front { take (length out.old.items) out.new.items ≡ out.old.items }
+{
+    out.extend_from_slice(Buffer::new().format(number).as_bytes())
+}
+
+/// Appends the number of a message and its fields.
+fn append_fields(out: &mut Vec<u8>, number: u8, fields: &[Field<'_>]) -> Result<(), AllocError>
+    ensures put { OnOk result (out.new.items ≡ out.old.items ++ (decimal number ++ flat_map canonical_field (values_of fields.now))) }
+    ensures front { take (length out.old.items) out.new.items ≡ out.old.items }
+{
+    append_number(out, number)?;
+    for field in fields {
+        append_field(out, field)?;
+    }
+    Ok(())
+}
+
+fn own_info_fields<'a>(info: &OwnInfo<'a>) -> [Field<'a>; 21]
+    ensures { values_of result ≡ own_info_fields info.now }
+{
+    [
+        Field::Name(info.name),
+        Field::Flag(info.allowpip),
+        Field::Flag(info.autoboard),
+        Field::Flag(info.autodouble),
+        Field::Flag(info.automove),
+        Field::Flag(info.away),
+        Field::Flag(info.bell),
+        Field::Flag(info.crawford),
+        Field::Flag(info.double),
+        Field::Number(info.experience),
+        Field::Flag(info.greedy),
+        Field::Flag(info.moreboards),
+        Field::Flag(info.moves),
+        Field::Flag(info.notify),
+        Field::Rating(info.rating),
+        Field::Flag(info.ratings),
+        Field::Flag(info.ready),
+        Field::Word(info.redoubles),
+        Field::Flag(info.report),
+        Field::Flag(info.silent),
+        Field::Word(info.timezone),
+    ]
+}
+
+/// Appends three pieces, each behind a space.
+#[inline(always)]
+fn append_three(out: &mut Vec<u8>, one: &[u8], two: &[u8], three: &[u8]) -> Result<(), AllocError>
+    ensures put { OnOk result (out.new.items ≡ out.old.items ++ flat_map (λ piece. 32 ∷ piece) (one.now ∷ two.now ∷ three.now ∷ [])) }
+    ensures front { take (length out.old.items) out.new.items ≡ out.old.items }
+{
+    append_piece(out, one)?;
+    append_piece(out, two)?;
+    append_piece(out, three)
+}
+
+/// Appends the flags and the rating of message 5.
+fn append_readiness(out: &mut Vec<u8>, info: &WhoInfo<'_>) -> Result<(), AllocError>
+    ensures put { OnOk result (out.new.items ≡ out.old.items ++ flat_map canonical_field (FlagField info.now.ready ∷ FlagField info.now.away ∷ RatingField info.now.rating ∷ [])) }
+    ensures front { take (length out.old.items) out.new.items ≡ out.old.items }
+{
+    append_flag(out, info.ready)?;
+    append_flag(out, info.away)?;
+    append_rating(out, info.rating)
+}
+
+/// Appends the three numbers of message 5.
+fn append_counts(out: &mut Vec<u8>, info: &WhoInfo<'_>) -> Result<(), AllocError>
+    ensures put { OnOk result (out.new.items ≡ out.old.items ++ flat_map canonical_field (NumberField info.now.experience ∷ NumberField info.now.idle ∷ NumberField info.now.login ∷ [])) }
+    ensures front { take (length out.old.items) out.new.items ≡ out.old.items }
+{
+    append_count(out, info.experience)?;
+    append_count(out, info.idle)?;
+    append_count(out, info.login)
+}
+
+// The longer messages stay out of line, so that no other pays for clearing their room.
+
+/// Appends the line of message 1.
+#[inline(never)]
+fn append_welcome<'a>(
+    out: &mut Vec<u8>,
+    name: Name<'a>,
+    last_login: u64,
+    last_host: Word<'a>,
+) -> Result<(), AllocError>
+    ensures put { OnOk result (out.new.items ≡ out.old.items ++ canonical (message_of (Message.Welcome name.entry last_login last_host.entry))) }
+    ensures front { take (length out.old.items) out.new.items ≡ out.old.items }
+{
+    append_fields(
+        out,
+        1,
+        &[
+            Field::Name(name),
+            Field::Number(last_login),
+            Field::Word(last_host),
+        ],
+    )
+}
+
+/// Appends the line of message 2.
+#[inline(never)]
+fn append_own_info(out: &mut Vec<u8>, info: &OwnInfo<'_>) -> Result<(), AllocError>
+    ensures put { OnOk result (out.new.items ≡ out.old.items ++ canonical (message_of (Message.OwnInfo info.now))) }
+    ensures front { take (length out.old.items) out.new.items ≡ out.old.items }
+{
+    append_fields(out, 2, &own_info_fields(info))
+}
+
+/// Appends the line of message 5.
+#[inline(never)]
+fn append_who_info(out: &mut Vec<u8>, info: &WhoInfo<'_>) -> Result<(), AllocError>
+    ensures put { OnOk result (out.new.items ≡ out.old.items ++ canonical (message_of (Message.WhoInfo info.now))) }
+    ensures front { take (length out.old.items) out.new.items ≡ out.old.items }
+{
+    append_number(out, 5)?;
+    append_three(
+        out,
+        info.name.bytes(),
+        info.opponent.bytes(),
+        info.watching.bytes(),
+    )?;
+    append_readiness(out, info)?;
+    append_counts(out, info)?;
+    append_three(
+        out,
+        info.hostname.bytes(),
+        info.client.bytes(),
+        info.email.bytes(),
+    )
+}
+
+/// Appends the line of message 9.
+#[inline(never)]
+fn append_received<'a>(
+    out: &mut Vec<u8>,
+    sender: Name<'a>,
+    time: u64,
+    text: &'a [u8],
+) -> Result<(), AllocError>
+    ensures put { OnOk result (out.new.items ≡ out.old.items ++ (decimal 9 ++ flat_map canonical_field (NameField (name_bytes sender.entry) ∷ NumberField time ∷ TextField text.now ∷ []))) }
+    ensures front { take (length out.old.items) out.new.items ≡ out.old.items }
+{
+    append_fields(
+        out,
+        9,
+        &[Field::Name(sender), Field::Number(time), Field::Text(text)],
+    )
+}
+
+/// Appends the line of a message that has a name alone.
+#[tactic(auto, unfolding(crate::specs::Message::canonical_field))]
+fn append_name_alone(out: &mut Vec<u8>, number: u8, name: Name<'_>) -> Result<(), AllocError>
+    ensures put { OnOk result (out.new.items ≡ out.old.items ++ (decimal number ++ canonical_field (NameField (name_bytes name.entry)))) }
+    ensures front { take (length out.old.items) out.new.items ≡ out.old.items }
+{
+    append_number(out, number)?;
+    append_piece(out, name.bytes())
+}
+
+/// Appends the line of a message that has a text alone.
+fn append_text_alone(out: &mut Vec<u8>, number: u8, text: &[u8]) -> Result<(), AllocError>
+    ensures put { OnOk result (out.new.items ≡ out.old.items ++ (decimal number ++ canonical_field (TextField text.now))) }
+    ensures front { take (length out.old.items) out.new.items ≡ out.old.items }
+{
+    append_number(out, number)?;
+    append_text(out, text)
+}
+
+/// Appends the line of a message that has a name and a text.
+fn append_name_and_text(
+    out: &mut Vec<u8>,
+    number: u8,
+    name: Name<'_>,
+    text: &[u8],
+) -> Result<(), AllocError>
+    ensures put { OnOk result (out.new.items ≡ out.old.items ++ (decimal number ++ (canonical_field (NameField (name_bytes name.entry)) ++ canonical_field (TextField text.now)))) }
+    ensures front { take (length out.old.items) out.new.items ≡ out.old.items }
+{
+    append_name_alone(out, number, name)?;
+    append_text(out, text)
+}
+
+/// Appends the line of a message.
+fn append_message(out: &mut Vec<u8>, message: &Message<'_>) -> Result<(), AllocError>
+    ensures put { OnOk result (out.new.items ≡ out.old.items ++ canonical (message_of message.now)) }
+    ensures front { take (length out.old.items) out.new.items ≡ out.old.items }
+{
+    match message {
+        Message::Welcome {
+            name,
+            last_login,
+            last_host,
+        } => append_welcome(out, *name, *last_login, *last_host),
+        Message::OwnInfo(info) => append_own_info(out, info),
+        Message::MotdBegin => append_number(out, 3),
+        Message::MotdEnd => append_number(out, 4),
+        Message::WhoInfo(info) => append_who_info(out, info),
+        Message::WhoInfoEnd => append_number(out, 6),
+        Message::Login { name, text } => append_name_and_text(out, 7, *name, text),
+        Message::Logout { name, text } => append_name_and_text(out, 8, *name, text),
+        Message::MessageReceived { sender, time, text } => {
+            append_received(out, *sender, *time, text)
+        }
+        Message::MessageDelivered { name } => append_name_alone(out, 10, *name),
+        Message::MessageSaved { name } => append_name_alone(out, 11, *name),
+        Message::Says { name, text } => append_name_and_text(out, 12, *name, text),
+        Message::Shouts { name, text } => append_name_and_text(out, 13, *name, text),
+        Message::Whispers { name, text } => append_name_and_text(out, 14, *name, text),
+        Message::Kibitzes { name, text } => append_name_and_text(out, 15, *name, text),
+        Message::YouSay { name, text } => append_name_and_text(out, 16, *name, text),
+        Message::YouShout { text } => append_text_alone(out, 17, text),
+        Message::YouWhisper { text } => append_text_alone(out, 18, text),
+        Message::YouKibitz { text } => append_text_alone(out, 19, text),
+    }
+}
+
+/// Appends the line of a message, or nothing where memory is refused.
+fn append_whole(out: &mut Vec<u8>, message: &Message<'_>) -> Result<(), AllocError>
+    ensures put { OnOk result (out.new.items ≡ out.old.items ++ canonical (message_of message.now)) }
+    ensures refused { OnErr result (out.new.items ≡ out.old.items) }
+{
+    let start = out.len();
+    let appended = append_message(out, message);
+    if appended.is_err() {
+        out.truncate(start);
+    }
+    appended
+}
+
+/// Appends the canonical line of a message, without a line end: its number, and each field after one space. A rating has two
+/// digits after its point; an empty text is written as nothing, without its space.
+///
+/// A refusal of memory leaves `out` as it was.
+pub fn print_message(
+    _alloc: Global,
+    message: &Message<'_>,
+    out: &mut Vec<u8>,
+) -> Result<(), AllocError>
+    // What is appended is the canonical line, and a line that says the message.
+    ensures appended { OnOk result (out.new.items ≡ out.old.items ++ canonical (message_of message.now)) }
+    ensures spelled { MessageText (message_of message.now) (canonical (message_of message.now)) }
+    // A refusal changes nothing.
+    ensures refused { OnErr result (out.new.items ≡ out.old.items) }
+{
+    // A law, which costs nothing when it runs.
+    messages_are_well_formed(message);
+    append_whole(out, message)
+}

@@ -1,0 +1,4 @@
+//! Tests of what no clause says: real lines, and lines that a person wrote.
+
+mod boards;
+mod messages;
