@@ -4,12 +4,12 @@ use Rattle.std.specs.List.{flat_map}
 use Rattle.fibs_messages.specs.Board.{BoardFields}
 use Rattle.fibs_messages.specs.Line.{ReadingValue, board_line, malformed_line}
 use Rattle.fibs_position.specs.DecisionValue.{move}
-use Rattle.fibs_position.specs.DirectionOf.{direction_of}
 use Rattle.fibs_position.specs.First.{IsFirst}
 use Rattle.fibs_position.specs.GoodBoard.{HasFault, faults}
 use Rattle.fibs_position.specs.Hop.{Hop}
-use Rattle.fibs_position.specs.Phases.{IsPhase}
-use Rattle.fibs_position.specs.PlaysOf.{ArePlays}
+use Rattle.fibs_position.specs.Phases.{InPhase}
+use Rattle.fibs_position.specs.PlaysOf.{PlaysIn}
+use Rattle.fibs_position.specs.PositionValue.{PositionValue, position_of}
 use Rattle.fibs_position.specs.declared.direction.Direction.{Direction}
 use Rattle.fibs_position.specs.declared.phase.Phase.{Phase}
 use Rattle.fibs_position.specs.declared.phase.Phase.TheVariants.{Over, AnswerDouble, OpponentActs, RollOrDouble, Move, Passing}
@@ -41,10 +41,14 @@ play_line direction play = command_of direction (move play) ++ (10 ∷ [])
 abbrev pub listing : Phase → Direction → List (List Hop) → List ℕ
 listing phase direction plays = codes "phase " ++ (phase_name phase ++ (10 ∷ flat_map (play_line direction) plays))
 
--- what is printed for a good board: its phase and its plays, of which only the phase Move has some
+-- what is printed for a position: its phase and its plays, of which only the phase Move has some
+abbrev pub PositionText : PositionValue → List ℕ → Type 0
+PositionText p text = (phase : Phase) × (plays : List (List Hop)) × InPhase p phase × PlaysIn p plays
+    × (text ≡ listing phase p.direction plays)
+
+-- what is printed for a good board is that for its position
 abbrev pub PlaysText : BoardFields → List ℕ → Type 0
-PlaysText b text = (phase : Phase) × (plays : List (List Hop)) × IsPhase b phase × ArePlays b plays
-    × (text ≡ listing phase (direction_of b) plays)
+PlaysText b text = PositionText (position_of b) text
 
 -- the line that says why a word gives no position: the board's first fault; the first wrong field of a board line;
 -- or that it is no board line

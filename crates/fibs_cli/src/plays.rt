@@ -1,13 +1,14 @@
 //! `fibs plays`: prints the phase of a board and its plays.
-ghost use Rattle.std.specs.Prelude.{◌≡◌, ◌≤◌, ◌+◌, ◌++◌, ◌∷◌, [], ℕ, List, length, map, codes, IfOk, IfErr, OnErr, MatchResult};
+ghost use Rattle.std.specs.Prelude.{◌≡◌, ◌≤◌, ◌+◌, ◌++◌, ◌∷◌, [], ℕ, List, length, map, codes, IfOk, IfErr, OnOk, OnErr, MatchResult};
 ghost use Rattle.std.specs.Io.KnownBytes.{Appends, Keeps};
 ghost use Rattle.arrayvec.specs.ArrayVec.{array_vec_len};
 ghost use Rattle.fibs_messages.specs.Board.{BoardFields};
 ghost use Rattle.fibs_messages.specs.Line.{ReadingValue, board_line, malformed_line, IsReading};
 ghost use Rattle.fibs_position.specs.GoodBoard.{IsGood};
 ghost use Rattle.fibs_position.specs.PlayValue.{hops_of};
-ghost use Rattle.fibs_position.specs.PositionValue.{board_of};
-ghost use Rattle.fibs_cli.specs.Plays.{phase_name, position_fault_name, listing, PlaysText, Refusal};
+ghost use Rattle.fibs_position.specs.PositionValue.{position_of};
+ghost use Rattle.fibs_position.specs.StoredPosition.{position_value};
+ghost use Rattle.fibs_cli.specs.Plays.{phase_name, position_fault_name, listing, PositionText, PlaysText, Refusal};
 ghost use Rattle.fibs_cli.specs.Show.{reading_text};
 
 use crate::fault::EngineFault;
@@ -52,7 +53,8 @@ pub fn plays<W: Write, E: Write>(
 
 /// The position of a board line, or the line that says why there is none.
 fn position_of(line: &[u8]) -> Result<Position, RefusalLine>
-    ensures good { IfOk result (λ position. (reading : ReadingValue) → IsReading line.now reading → reading ≡ board_line (board_of position)) }
+    ensures good { IfOk result (λ position. (b : BoardFields) → IsReading line.now (board_line b) → position_value position ≡ position_of b) }
+    ensures kept { OnOk result ((reading : ReadingValue) → (why : List ℕ) → IsReading line.now reading → Refusal reading why → ⊥) }
     ensures refused { IfErr result (λ text. (reading : ReadingValue) → (why : List ℕ) → IsReading line.now reading → Refusal reading why
         → text.items ≡ why ++ (10 ∷ [])) }
     ensures bad { OnErr result ((b : BoardFields) → IsReading line.now (board_line b) → IsGood b → ⊥) }
@@ -151,7 +153,7 @@ fn print_refusal<E: Write>(line: &[u8], err: &mut E) -> Result<u8, EngineFault>
 /// Prints the phase of a position and its plays.
 fn print_plays<W: Write>(alloc: Global, position: &Position, out: &mut W) -> Result<u8, EngineFault>
     ensures { IfOk result (λ status. (status ≡ 0)
-        × ((text : List ℕ) × PlaysText (board_of position.now) text × Appends (W.contents out.old) (W.contents out.new) text)) }
+        × ((text : List ℕ) × PositionText (position_value position.now) text × Appends (W.contents out.old) (W.contents out.new) text)) }
 {
     let plays = position.plays(alloc)?;
     let text = listing(

@@ -5,18 +5,17 @@ use Rattle.std.specs.Bool.{Decides}
 use Rattle.std.specs.Ordering.{int_eq}
 use Rattle.std.proofs.lemmas.Bool.{false≢true}
 use Rattle.std.proofs.lemmas.Bool.Decides.{Decides-and, Decides-not, Decides-int_eq}
-use Rattle.fibs_messages.specs.Board.{BoardFields, IsBoard, field_of}
-use Rattle.fibs_position.specs.OwnView.{standing_of}
+use Rattle.fibs_position.specs.PositionValue.{PositionValue}
 use Rattle.fibs_position.specs.DecisionValue.{DecisionValue, roll, double, accept, reject, move}
-use Rattle.fibs_position.specs.Phases.{IsPhase, decides, phase_of}
-use Rattle.fibs_position.specs.Allowed.{UserDecides, phase_for, CubeAllows, IsRightKind, IsLegal, Forbids, reasons, IsDisallowed, IsAllowed, is_for, cube_allows, is_legal, forbids, allowed_of}
+use Rattle.fibs_position.specs.Phases.{InPhase, decides, phase_in}
+use Rattle.fibs_position.specs.Allowed.{UserDecides, phase_for, CubeAllows, IsRightKind, IsLegal, Forbids, reasons, IsRefused, MayDecide, is_for, cube_allows, is_legal, forbids, refusal_of}
 use Rattle.fibs_position.specs.declared.phase.Phase.{Phase}
 use Rattle.fibs_position.specs.declared.phase.Phase.TheVariants.{Over, AnswerDouble, OpponentActs, RollOrDouble, Move, Passing}
 use Rattle.fibs_position.specs.declared.disallowed.Disallowed.{Disallowed}
 use Rattle.fibs_position.specs.declared.disallowed.Disallowed.TheVariants.{NotYours, WrongKind, IllegalPlay}
 use Rattle.fibs_position.proofs.FirstLemmas.{find_first}
 use Rattle.fibs_position.proofs.LegalLemmas.{legal_sound, legal_complete}
-use Rattle.fibs_position.proofs.PhaseExact.{phase_exact, first_small, second_small}
+use Rattle.fibs_position.proofs.PhaseExact.{SmallDice, phase_exact}
 use Rattle.fibs_position.proofs.TableLemmas.{int_le_decides}
 
 -- the phases in which the user decides
@@ -28,18 +27,18 @@ deciding RollOrDouble = (λ e. inr (inl refl), λ h. refl)
 deciding Move = (λ e. inr (inr refl), λ h. refl)
 deciding Passing = (λ e. absurd cc, λ h. elim h [ inl e ↦ absurd cc | inr (inl e) ↦ absurd cc | inr (inr e) ↦ absurd cc ])
 
-user_from : (b : BoardFields) → IsBoard b → (phase_of b ≡ AnswerDouble) ⊎ (phase_of b ≡ RollOrDouble) ⊎ (phase_of b ≡ Move) → UserDecides b
-user_from b board (inl e) = inl ((phase_exact b AnswerDouble board).0 e)
-user_from b board (inr (inl e)) = inr (inl ((phase_exact b RollOrDouble board).0 e))
-user_from b board (inr (inr e)) = inr (inr ((phase_exact b Move board).0 e))
+user_from : (p : PositionValue) → SmallDice p.standing → (phase_in p ≡ AnswerDouble) ⊎ (phase_in p ≡ RollOrDouble) ⊎ (phase_in p ≡ Move) → UserDecides p
+user_from p small (inl e) = inl ((phase_exact p AnswerDouble small).0 e)
+user_from p small (inr (inl e)) = inr (inl ((phase_exact p RollOrDouble small).0 e))
+user_from p small (inr (inr e)) = inr (inr ((phase_exact p Move small).0 e))
 
-user_to : (b : BoardFields) → IsBoard b → UserDecides b → (phase_of b ≡ AnswerDouble) ⊎ (phase_of b ≡ RollOrDouble) ⊎ (phase_of b ≡ Move)
-user_to b board (inl h) = inl ((phase_exact b AnswerDouble board).1 h)
-user_to b board (inr (inl h)) = inr (inl ((phase_exact b RollOrDouble board).1 h))
-user_to b board (inr (inr h)) = inr (inr ((phase_exact b Move board).1 h))
+user_to : (p : PositionValue) → SmallDice p.standing → UserDecides p → (phase_in p ≡ AnswerDouble) ⊎ (phase_in p ≡ RollOrDouble) ⊎ (phase_in p ≡ Move)
+user_to p small (inl h) = inl ((phase_exact p AnswerDouble small).1 h)
+user_to p small (inr (inl h)) = inr (inl ((phase_exact p RollOrDouble small).1 h))
+user_to p small (inr (inr h)) = inr (inr ((phase_exact p Move small).1 h))
 
-pub user_decides : (b : BoardFields) → IsBoard b → Decides (decides (phase_of b)) (UserDecides b)
-user_decides b board = let d = deciding (phase_of b) in (λ e. user_from b board (d.0 e), λ h. d.1 (user_to b board h))
+pub user_decides : (p : PositionValue) → SmallDice p.standing → Decides (decides (phase_in p)) (UserDecides p)
+user_decides p small = let d = deciding (phase_in p) in (λ e. user_from p small (d.0 e), λ h. d.1 (user_to p small h))
 
 -- each kind of decision has one phase
 for_sound : (d : DecisionValue) (phase : Phase) → is_for d phase ≡ true → phase ≡ phase_for d
@@ -57,41 +56,39 @@ for_own accept = refl
 for_own reject = refl
 for_own (move steps) = refl
 
-phase_decides : (b : BoardFields) (d : DecisionValue) → IsBoard b → Decides (is_for d (phase_of b)) (IsPhase b (phase_for d))
-phase_decides b d board =
-    let exact = phase_exact b (phase_for d) board in
-    (λ e. exact.0 (for_sound d (phase_of b) e), λ h. ap (is_for d) (exact.1 h) ∙ for_own d)
+phase_decides : (p : PositionValue) (d : DecisionValue) → SmallDice p.standing → Decides (is_for d (phase_in p)) (InPhase p (phase_for d))
+phase_decides p d small =
+    let exact = phase_exact p (phase_for d) small in
+    (λ e. exact.0 (for_sound d (phase_in p) e), λ h. ap (is_for d) (exact.1 h) ∙ for_own d)
 
-cube_decides : (b : BoardFields) (d : DecisionValue) → Decides (cube_allows b d) (CubeAllows b d)
-cube_decides b roll = (λ _. tt, λ _. refl)
-cube_decides b double =
-    Decides-and (not (int_eq (field_of b 39) (pos 0))) (int_le (field_of b 38) (pos 524288)) (Decides-not (int_eq (field_of b 39) (pos 0)) (Decides-int_eq (field_of b 39) (pos 0))) (int_le_decides (field_of b 38) (pos 524288))
-cube_decides b accept = int_le_decides (field_of b 38) (pos 524288)
-cube_decides b reject = (λ _. tt, λ _. refl)
-cube_decides b (move steps) = (λ _. tt, λ _. refl)
+cube_decides : (p : PositionValue) (d : DecisionValue) → Decides (cube_allows p d) (CubeAllows p d)
+cube_decides p roll = (λ _. tt, λ _. refl)
+cube_decides p double =
+    Decides-and (not (int_eq p.may_double (pos 0))) (int_le p.cube (pos 524288)) (Decides-not (int_eq p.may_double (pos 0)) (Decides-int_eq p.may_double (pos 0))) (int_le_decides p.cube (pos 524288))
+cube_decides p accept = int_le_decides p.cube (pos 524288)
+cube_decides p reject = (λ _. tt, λ _. refl)
+cube_decides p (move steps) = (λ _. tt, λ _. refl)
 
-kind_decides : (b : BoardFields) (d : DecisionValue) → IsBoard b → Decides (is_for d (phase_of b) && cube_allows b d) (IsRightKind b d)
-kind_decides b d board = Decides-and (is_for d (phase_of b)) (cube_allows b d) (phase_decides b d board) (cube_decides b d)
+kind_decides : (p : PositionValue) (d : DecisionValue) → SmallDice p.standing → Decides (is_for d (phase_in p) && cube_allows p d) (IsRightKind p d)
+kind_decides p d small = Decides-and (is_for d (phase_in p)) (cube_allows p d) (phase_decides p d small) (cube_decides p d)
 
-pub legal_decides : (b : BoardFields) (d : DecisionValue) → IsBoard b → Decides (is_legal b d) (IsLegal b d)
-legal_decides b roll board = (λ _. tt, λ _. refl)
-legal_decides b double board = (λ _. tt, λ _. refl)
-legal_decides b accept board = (λ _. tt, λ _. refl)
-legal_decides b reject board = (λ _. tt, λ _. refl)
-legal_decides b (move steps) board =
-    let first = first_small b board in
-    let second = second_small b board in
-    (legal_sound (standing_of b) steps first second, legal_complete (standing_of b) steps first second)
+pub legal_decides : (p : PositionValue) (d : DecisionValue) → SmallDice p.standing → Decides (is_legal p d) (IsLegal p d)
+legal_decides p roll small = (λ _. tt, λ _. refl)
+legal_decides p double small = (λ _. tt, λ _. refl)
+legal_decides p accept small = (λ _. tt, λ _. refl)
+legal_decides p reject small = (λ _. tt, λ _. refl)
+legal_decides p (move steps) small =
+    (legal_sound p.standing steps small.first small.second, legal_complete p.standing steps small.first small.second)
 
-forbids_decides : (b : BoardFields) (d : DecisionValue) → IsBoard b → (why : Disallowed) → Decides (forbids b d why) (Forbids b d why)
-forbids_decides b d board NotYours = Decides-not (decides (phase_of b)) (user_decides b board)
-forbids_decides b d board WrongKind = Decides-not (is_for d (phase_of b) && cube_allows b d) (kind_decides b d board)
-forbids_decides b d board IllegalPlay = Decides-not (is_legal b d) (legal_decides b d board)
+forbids_decides : (p : PositionValue) (d : DecisionValue) → SmallDice p.standing → (why : Disallowed) → Decides (forbids p d why) (Forbids p d why)
+forbids_decides p d small NotYours = Decides-not (decides (phase_in p)) (user_decides p small)
+forbids_decides p d small WrongKind = Decides-not (is_for d (phase_in p) && cube_allows p d) (kind_decides p d small)
+forbids_decides p d small IllegalPlay = Decides-not (is_legal p d) (legal_decides p d small)
 
 -- the function is the relation
-pub disallowed_exact : (b : BoardFields) (d : DecisionValue) (why : Disallowed) → IsBoard b → (allowed_of b d ≡ Some why) ↔ IsDisallowed b d why
-unfolding allowed_of
-disallowed_exact b d why board = find_first (forbids b d) (Forbids b d) (forbids_decides b d board) reasons why
+pub disallowed_exact : (p : PositionValue) (d : DecisionValue) (why : Disallowed) → SmallDice p.standing → (refusal_of p d ≡ Some why) ↔ IsRefused p d why
+unfolding refusal_of
+disallowed_exact p d why small = find_first (forbids p d) (Forbids p d) (forbids_decides p d small) reasons why
 
 none_of : (a b c : Bool) (x y z : Disallowed) → cond (not a) (Some x) (cond (not b) (Some y) (cond (not c) (Some z) None)) ≡ None → (a ≡ true) × (b ≡ true) × (c ≡ true)
 none_of true true true x y z e = (refl, refl, refl)
@@ -99,27 +96,27 @@ none_of true true false x y z e = absurd cc
 none_of true false c x y z e = absurd cc
 none_of false b c x y z e = absurd cc
 
-pub allowed_exact : (b : BoardFields) (d : DecisionValue) → IsBoard b → (allowed_of b d ≡ None) ↔ IsAllowed b d
-unfolding allowed_of
-allowed_exact b d board = (
-  λ e. let (yours, right, legal) = none_of (decides (phase_of b)) (is_for d (phase_of b) && cube_allows b d) (is_legal b d) NotYours WrongKind IllegalPlay e in
-      record { yours = (user_decides b board).0 yours; right = (kind_decides b d board).0 right; legal = (legal_decides b d board).0 legal },
-  λ h. rw ((user_decides b board).1 h.yours, (kind_decides b d board).1 h.right, (legal_decides b d board).1 h.legal) refl,
+pub allowed_exact : (p : PositionValue) (d : DecisionValue) → SmallDice p.standing → (refusal_of p d ≡ None) ↔ MayDecide p d
+unfolding refusal_of
+allowed_exact p d small = (
+  λ e. let (yours, right, legal) = none_of (decides (phase_in p)) (is_for d (phase_in p) && cube_allows p d) (is_legal p d) NotYours WrongKind IllegalPlay e in
+      record { yours = (user_decides p small).0 yours; right = (kind_decides p d small).0 right; legal = (legal_decides p d small).0 legal },
+  λ h. rw ((user_decides p small).1 h.yours, (kind_decides p d small).1 h.right, (legal_decides p d small).1 h.legal) refl,
 )
 
 -- the reasons, one after another
-pub refuses_other : (b : BoardFields) (d : DecisionValue) → decides (phase_of b) ≡ false → allowed_of b d ≡ Some NotYours
-unfolding allowed_of
-refuses_other b d yours = rw yours refl
+pub refuses_other : (p : PositionValue) (d : DecisionValue) → decides (phase_in p) ≡ false → refusal_of p d ≡ Some NotYours
+unfolding refusal_of
+refuses_other p d yours = rw yours refl
 
-pub refuses_kind : (b : BoardFields) (d : DecisionValue) → decides (phase_of b) ≡ true → (is_for d (phase_of b) && cube_allows b d) ≡ false → allowed_of b d ≡ Some WrongKind
-unfolding allowed_of
-refuses_kind b d yours right = rw (yours, right) refl
+pub refuses_kind : (p : PositionValue) (d : DecisionValue) → decides (phase_in p) ≡ true → (is_for d (phase_in p) && cube_allows p d) ≡ false → refusal_of p d ≡ Some WrongKind
+unfolding refusal_of
+refuses_kind p d yours right = rw (yours, right) refl
 
-pub refuses_move : (b : BoardFields) (d : DecisionValue) → decides (phase_of b) ≡ true → (is_for d (phase_of b) && cube_allows b d) ≡ true → is_legal b d ≡ false → allowed_of b d ≡ Some IllegalPlay
-unfolding allowed_of
-refuses_move b d yours right legal = rw (yours, right, legal) refl
+pub refuses_move : (p : PositionValue) (d : DecisionValue) → decides (phase_in p) ≡ true → (is_for d (phase_in p) && cube_allows p d) ≡ true → is_legal p d ≡ false → refusal_of p d ≡ Some IllegalPlay
+unfolding refusal_of
+refuses_move p d yours right legal = rw (yours, right, legal) refl
 
-pub refuses_none : (b : BoardFields) (d : DecisionValue) → decides (phase_of b) ≡ true → (is_for d (phase_of b) && cube_allows b d) ≡ true → is_legal b d ≡ true → allowed_of b d ≡ None
-unfolding allowed_of
-refuses_none b d yours right legal = rw (yours, right, legal) refl
+pub refuses_none : (p : PositionValue) (d : DecisionValue) → decides (phase_in p) ≡ true → (is_for d (phase_in p) && cube_allows p d) ≡ true → is_legal p d ≡ true → refusal_of p d ≡ None
+unfolding refusal_of
+refuses_none p d yours right legal = rw (yours, right, legal) refl

@@ -7,31 +7,17 @@ use Rattle.std.proofs.lemmas.Bool.Decides.{nat_tests}
 use Rattle.std.proofs.lemmas.List.{get_or-set_same, get_or-set_other}
 use Rattle.std.proofs.Math.ListN.{length-set}
 use Rattle.fibs_messages.specs.Board.{BoardFields, IsBoard, Fit, field_of, can_have, field_values, allowed_by}
-use Rattle.fibs_messages.specs.declared.fields.values.Values.{Values}
-use Rattle.fibs_messages.proofs.BoardLemmas.OneNumberMore.{fit_set}
-use Rattle.fibs_messages.proofs.BoardLemmas.FieldTable.{table_long}
+use Rattle.fibs_messages.specs.FieldRanges.{FieldRanges}
 use Rattle.fibs_position.specs.BoardEffect.{set_field, set_fields}
-
-fit_long : (vs : List Values) (zs : List ℤ) → Fit vs zs → length zs ≡ length vs
-fit_long [] [] h = refl
-fit_long [] (z ∷ zs) h = absurd h
-fit_long (v ∷ vs) [] h = absurd h
-fit_long (v ∷ vs) (z ∷ zs) h = ap suc (fit_long vs zs h.1)
-
-pub board_long : (b : BoardFields) → IsBoard b → length b.numbers ≡ 50
-board_long b board = fit_long field_values b.numbers board.2 ∙ table_long
 
 -- changes that their fields may have leave a board
 abbrev pub AllMay : List (ℕ × ℤ) → Type 0
 AllMay [] = Unit {0}
 AllMay (c ∷ cs) = (can_have c.0 c.1 ≡ true) × AllMay cs
 
-set_board : (b : BoardFields) (n : ℕ) (z : ℤ) → IsBoard b → can_have n z ≡ true → IsBoard (set_field b n z)
-set_board b n z board may = (board.0, board.1, fit_set field_values b.numbers (n - 4) z board.2 (and_parts (nat_le 4 n) (allowed_by (Rattle.std.specs.Prelude.slice_get field_values (n - 4)) z) may).1)
-
-pub board_after : (changes : List (ℕ × ℤ)) (b : BoardFields) → IsBoard b → AllMay changes → IsBoard (set_fields b changes)
-board_after [] b board may = board
-board_after (c ∷ cs) b board may = board_after cs (set_field b c.0 c.1) (set_board b c.0 c.1 board may.0) may.1
+pub board_after : FieldRanges → (changes : List (ℕ × ℤ)) (b : BoardFields) → IsBoard b → AllMay changes → IsBoard (set_fields b changes)
+board_after ranges [] b board may = board
+board_after ranges (c ∷ cs) b board may = board_after ranges cs (set_field b c.0 c.1) (ranges.set b c.0 c.1 board may.0) may.1
 
 pub may_append : (xs ys : List (ℕ × ℤ)) → AllMay xs → AllMay ys → AllMay (xs ++ ys)
 may_append [] ys a b = b
@@ -64,8 +50,8 @@ field_after_all [] b m within = refl
 field_after_all (c ∷ cs) b m within =
     field_after_all cs (set_field b c.0 c.1) m (omega (arith, length-set b.numbers (c.0 - 4) c.1)) ∙ ap (changed cs m) (set_at b.numbers (c.0 - 4) (m - 4) c.1 within)
 
-pub field_after : (changes : List (ℕ × ℤ)) (b : BoardFields) (m : ℕ) → IsBoard b → m ≤ 53 → field_of (set_fields b changes) m ≡ changed changes m (field_of b m)
-field_after changes b m board high = field_after_all changes b m (omega (arith, board_long b board))
+pub field_after : FieldRanges → (changes : List (ℕ × ℤ)) (b : BoardFields) (m : ℕ) → IsBoard b → m ≤ 53 → field_of (set_fields b changes) m ≡ changed changes m (field_of b m)
+field_after ranges changes b m board high = field_after_all changes b m (omega (arith, ranges.fifty b board))
 
 pub changed_append : (xs ys : List (ℕ × ℤ)) (m : ℕ) (z : ℤ) → changed (xs ++ ys) m z ≡ changed ys m (changed xs m z)
 changed_append [] ys m z = refl

@@ -6,6 +6,7 @@ use Rattle.std.proofs.lemmas.Bool.Decides.{nat_tests}
 use Rattle.std.proofs.lemmas.List.{length-map}
 use Rattle.std.proofs.lemmas.List.Elements.{All-from_recursion, All-map}
 use Rattle.fibs_messages.specs.Board.{BoardFields}
+use Rattle.fibs_messages.specs.FieldRanges.{FieldRanges}
 use Rattle.fibs_position.specs.Hop.{Hop, IsStep}
 use Rattle.fibs_position.specs.StepValue.{hop_of}
 use Rattle.fibs_position.specs.Checkers.{Checkers}
@@ -13,15 +14,16 @@ use Rattle.fibs_position.specs.OneChecker.{One}
 use Rattle.fibs_position.specs.Runs.{Run, RunOf, IsPart, held_of, held, Standing}
 use Rattle.fibs_position.specs.LegalPlays.{LegalPlay}
 use Rattle.fibs_position.specs.OwnView.{standing_of}
+use Rattle.fibs_position.specs.PositionValue.{position_of}
 use Rattle.fibs_position.specs.DecisionValue.{DecisionValue, roll, double, accept, reject, move, IsPlay, IsDecision}
-use Rattle.fibs_position.specs.Phases.{phase_of, decides}
-use Rattle.fibs_position.specs.Allowed.{IsAllowed, allowed_of, forbids}
+use Rattle.fibs_position.specs.Phases.{phase_in, decides}
+use Rattle.fibs_position.specs.Allowed.{IsAllowed, refusal_of, forbids}
 use Rattle.fibs_position.specs.Laws.{LegalPlaysAreSteps, AllowedDecides, AllowedIsADecision, DecisionsAreValid, AllowedActs}
 use Rattle.fibs_position.specs.declared.step.Step.{Step}
 use Rattle.fibs_position.specs.declared.decision.Decision.TheVariants.{Roll, Double, Accept, Reject, Move}
 use Rattle.fibs_position.specs.declared.disallowed.Disallowed.{Disallowed}
 use Rattle.fibs_position.specs.declared.disallowed.Disallowed.TheVariants as D
-use Rattle.fibs_position.proofs.GoodLemmas.{good_tells, good_from}
+use Rattle.fibs_position.proofs.GoodLemmas.{BoardTest, good_tells, good_from}
 use Rattle.fibs_position.proofs.SameGameLemmas.{same_game_is_exact}
 use Rattle.fibs_position.proofs.LawLemmas.{allowed_is, allowed_carried, effect_is, effect_good_differs}
 
@@ -31,8 +33,9 @@ first_test true x o h = refl
 first_test false x o h = absurd cc
 
 pub allowed_decides : AllowedDecides
-unfolding allowed_of
-allowed_decides b d h = first_test (decides (phase_of b)) D.NotYours (find (forbids b d) (D.WrongKind ∷ D.IllegalPlay ∷ [])) h
+unfolding refusal_of
+allowed_decides b d h =
+    let p = position_of b in first_test (decides (phase_in p)) D.NotYours (find (forbids p d) (D.WrongKind ∷ D.IllegalPlay ∷ [])) h
 
 -- no die is 0
 abbrev AllDice : List ℕ → Type 0
@@ -124,8 +127,8 @@ decision_valid b accept h = tt
 decision_valid b reject h = tt
 decision_valid b (move steps) h = legal_plays_are_steps (standing_of b) steps h.legal
 
-pub allowed_is_a_decision : AllowedIsADecision
-allowed_is_a_decision b d g h = decision_valid b d ((allowed_is b d (good_tells b g)).0.0 h)
+pub allowed_is_a_decision : BoardTest → FieldRanges → AllowedIsADecision
+allowed_is_a_decision test ranges b d g h = decision_valid b d ((allowed_is ranges b d (good_tells test b g)).0.0 h)
 
 -- a play's steps are steps
 steps_are_steps : (steps : List Step) → All IsStep (map hop_of steps)
@@ -140,9 +143,11 @@ decisions_are_valid (Move play) =
     let steps : List Step = take play.len play.steps in
     (steps_are_steps steps, omega (arith, play.short, length-map steps hop_of, length-take play.len play.steps))
 
-pub allowed_acts : AllowedActs
-allowed_acts b d d1 d2 g h l1 m1 l2 m2 =
-    let is = good_tells b g in
-    let acts = allowed_carried b d (d1 ∷ d2 ∷ []) is ((allowed_is b d is).0.0 h) ((l1, m1), (l2, m2)) in
-    let after = effect_good_differs b d (d1 ∷ d2 ∷ []) acts.0 acts.1 in
-    (acts.0, (effect_is b d (d1 ∷ d2 ∷ []) acts.0).1 acts.1, good_from acts.0 after.0, (same_game_is_exact b acts.0).1 after.1)
+pub allowed_acts : BoardTest → FieldRanges → AllowedActs
+allowed_acts test ranges b d d1 d2 g h l1 m1 l2 m2 =
+    let is = good_tells test b g in
+    let dice = d1 ∷ d2 ∷ [] in
+    let acts = allowed_carried ranges b d dice is ((allowed_is ranges b d is).0.0 h) ((l1, m1), (l2, m2)) in
+    let after = effect_good_differs ranges b d dice acts.0 acts.1 in
+    let gives = (effect_is test b d dice acts.0).1 acts.1 in
+    (acts.0, gives, good_from test acts.0 after.0, (same_game_is_exact b acts.0).1 after.1)

@@ -9,9 +9,7 @@ use Rattle.std.proofs.lemmas.Bool.Decides.{nat_tests}
 use Rattle.std.proofs.lemmas.List.{get_or_append_left}
 use Rattle.std.proofs.lemmas.List.FromFn.{get_or-map-range_with_len, length-map-range_with_len}
 use Rattle.fibs_messages.specs.Board.{BoardFields, IsBoard, field_of, can_have, field_values}
-use Rattle.fibs_messages.proofs.BoardLemmas.FieldGroups.{side_exact, can_have_by}
-use Rattle.fibs_messages.proofs.BoardLemmas.OneNumberMore.{fit_at}
-use Rattle.fibs_messages.proofs.BoardLemmas.FieldTable.{table_long}
+use Rattle.fibs_messages.specs.FieldRanges.{FieldRanges}
 use Rattle.fibs_position.specs.Hop.{Hop}
 use Rattle.fibs_position.specs.Checkers.{Checkers, shifted, hit}
 use Rattle.fibs_position.specs.Effect.{LaxRun}
@@ -27,13 +25,13 @@ use Rattle.fibs_position.proofs.ChangeLemmas.{AllMay, board_after, player_after,
 use Rattle.fibs_position.proofs.ViewAfterLemmas.{map_range_same, field_low, field_high, same_place_field}
 
 -- the player's colour is one of two
-pub two_sides : (b : BoardFields) → IsBoard b → (colour b ≡ negsuc 0) ⊎ (colour b ≡ pos 1)
-two_sides b board =
-    (side_exact 42 (colour b) (lit≤ tt) (lit≤ tt)).0 (can_have_by 42 (colour b) (lit≤ tt) (fit_at field_values b.numbers 38 (pos 0) board.2 (omega (arith, table_long))))
+pub two_sides : FieldRanges → (b : BoardFields) → IsBoard b → (colour b ≡ negsuc 0) ⊎ (colour b ≡ pos 1)
+two_sides ranges b board =
+    (ranges.side 42 (colour b) (lit≤ tt) (lit≤ tt)).0 (ranges.held b 42 board (lit≤ tt) (lit≤ tt))
 
-turn_may : (b : BoardFields) (t : Bool) → IsBoard b → can_have 33 (cond t (pos 0) (neg_ℤ (colour b))) ≡ true
-turn_may b true board = may_turn (pos 0) (omega (arith, ints)) (omega (arith, ints))
-turn_may b false board = let two = two_sides b board in may_turn (neg_ℤ (colour b)) (omega (arith, ints)) (omega (arith, ints))
+turn_may : FieldRanges → (b : BoardFields) (t : Bool) → IsBoard b → can_have 33 (cond t (pos 0) (neg_ℤ (colour b))) ≡ true
+turn_may ranges b true board = may_turn ranges (pos 0) (omega (arith, ints)) (omega (arith, ints))
+turn_may ranges b false board = let two = two_sides ranges b board in may_turn ranges (neg_ℤ (colour b)) (omega (arith, ints)) (omega (arith, ints))
 
 -- the value of a place is one that it may have, and shows no checker more
 value_low : (t : Bool) (own other : ℕ) → own ≤ 15 → other ≤ 15 → negsuc 14 ≤ℤ cond t (pos own -ℤ pos other) (pos other -ℤ pos own)
@@ -143,8 +141,8 @@ abbrev pub last_says : BoardFields → Checkers → List (ℕ × ℤ)
 last_says b q = (46, pos (slice_index q.own 0)) ∷ (34, pos 0) ∷ (35, pos 0) ∷ (33, if slice_index q.own 0 == 15 then pos 0 else neg_ℤ (colour b)) ∷ []
 
 -- the number of a field after a move
-moved_field : (b : BoardFields) (q : Checkers) (n : ℕ) → IsBoard b → n ≤ 53 → field_of (after_move b q) n ≡ changed (last_says b q) n (changed (placed b q) n (field_of b n))
-moved_field b q n board high = field_after (placed b q ++ last_says b q) b n board high ∙ changed_append (placed b q) (last_says b q) n (field_of b n)
+moved_field : FieldRanges → (b : BoardFields) (q : Checkers) (n : ℕ) → IsBoard b → n ≤ 53 → field_of (after_move b q) n ≡ changed (last_says b q) n (changed (placed b q) n (field_of b n))
+moved_field ranges b q n board high = field_after ranges (placed b q ++ last_says b q) b n board high ∙ changed_append (placed b q) (last_says b q) n (field_of b n)
 
 placed_is : (b : BoardFields) (q : Checkers) → placed b q ≡ map (place_says b q) (range_with_len 1 24)
 placed_is b q = ap (map (place_says b q)) places_are
@@ -158,54 +156,54 @@ beside b q first (suc long) n z low top above =
     let apart : eqb (place_field b first - 4) (n - 4) ≡ false = grind (arith, nat_tests) in
     ap (changed (map (place_says b q) (range_with_len (first + 1) long)) n) (not_here _ (place_says b q first).1 z apart) ∙ beside b q (first + 1) long n z (omega arith) (omega arith) above
 
-pub moved_beside : (b : BoardFields) (q : Checkers) (n : ℕ) → IsBoard b → 32 ≤ n → n ≤ 53 → field_of (after_move b q) n ≡ changed (last_says b q) n (field_of b n)
-moved_beside b q n board low high =
-    moved_field b q n board high ∙ ap (changed (last_says b q) n) (ap (λ l. changed l n (field_of b n)) (placed_is b q) ∙ beside b q 1 24 n (field_of b n) (omega arith) (omega arith) low)
+pub moved_beside : FieldRanges → (b : BoardFields) (q : Checkers) (n : ℕ) → IsBoard b → 32 ≤ n → n ≤ 53 → field_of (after_move b q) n ≡ changed (last_says b q) n (field_of b n)
+moved_beside ranges b q n board low high =
+    moved_field ranges b q n board high ∙ ap (changed (last_says b q) n) (ap (λ l. changed l n (field_of b n)) (placed_is b q) ∙ beside b q 1 24 n (field_of b n) (omega arith) (omega arith) low)
 
-pub moved_place : (b : BoardFields) (q : Checkers) (place : ℕ) → IsBoard b → 1 ≤ place → place ≤ 24
+pub moved_place : FieldRanges → (b : BoardFields) (q : Checkers) (place : ℕ) → IsBoard b → 1 ≤ place → place ≤ 24
     → field_of (after_move b q) (place_field b place) ≡ value_of (colour b) (slice_index q.own place) (slice_index q.other place)
-moved_place b q place board low high =
+moved_place ranges b q place board low high =
     let n = place_field b place in
     let from = field_low b place low high in
     let to = field_high b place low high in
-    moved_field b q n board (omega arith)
+    moved_field ranges b q n board (omega arith)
     ∙ unchanged_below (last_says b q) 33 46 n (changed (placed b q) n (field_of b n)) refl (omega arith) (omega arith)
     ∙ ap (λ l. changed l n (field_of b n)) (placed_is b q)
     ∙ found b q 1 24 place (field_of b n) low (omega arith) (omega arith)
 
 -- the places that a board then shows
-shown_places : (b : BoardFields) (q : Checkers) (side : ℤ) → IsBoard b
+shown_places : FieldRanges → (b : BoardFields) (q : Checkers) (side : ℤ) → IsBoard b
     → on_places (after_move b q) side ≡ map (λ place. checkers_of side (value_of (colour b) (slice_index q.own place) (slice_index q.other place))) (range_with_len 1 24)
-shown_places b q side board =
+shown_places ranges b q side board =
     let a = after_move b q in
-    let way : field_of a 43 ≡ field_of b 43 = moved_beside b q 43 board (omega arith) (omega arith) in
+    let way : field_of a 43 ≡ field_of b 43 = moved_beside ranges b q 43 board (omega arith) (omega arith) in
     ap (map (stand_on a side)) places_are
     ∙ map_range_same (stand_on a side) (λ place. checkers_of side (value_of (colour b) (slice_index q.own place) (slice_index q.other place))) 1 24 (λ k low high.
-    ap (λ n. checkers_of side (field_of a n)) (same_place_field a b k way) ∙ ap (checkers_of side) (moved_place b q k board low (omega arith)))
+    ap (λ n. checkers_of side (field_of a n)) (same_place_field a b k way) ∙ ap (checkers_of side) (moved_place ranges b q k board low (omega arith)))
 
 -- a move leaves a good board
-may_last : (b : BoardFields) (q : Checkers) → IsBoard b → slice_index q.own 0 ≤ 15 → AllMay (last_says b q)
+may_last : FieldRanges → (b : BoardFields) (q : Checkers) → IsBoard b → slice_index q.own 0 ≤ 15 → AllMay (last_says b q)
 unfolding field_values
-may_last b q board few = (may_off (pos (slice_index q.own 0)) (omega (arith, ints)) (omega (arith, ints)), (refl, (refl, (turn_may b (slice_index q.own 0 == 15) board, tt))))
+may_last ranges b q board few = (may_off ranges (pos (slice_index q.own 0)) (omega (arith, ints)) (omega (arith, ints)), (refl, (refl, (turn_may ranges b (slice_index q.own 0 == 15) board, tt))))
 
-pub good_moved : (b : BoardFields) (q : Checkers) (steps : List Hop) → IsGood b → LaxRun (own_view b) steps q → IsGood (after_move b q)
-good_moved b q steps good run =
+pub good_moved : FieldRanges → (b : BoardFields) (q : Checkers) (steps : List Hop) → IsGood b → LaxRun (own_view b) steps q → IsGood (after_move b q)
+good_moved ranges b q steps good run =
     let board = good.board in
     let a = after_move b q in
     let own_few : sum q.own ≤ 15 = omega (arith, run_own (own_view b) q steps run, view_own b good) in
     let other_few : sum q.other ≤ 15 = omega (arith, run_other (own_view b) q steps run, view_other b good) in
-    let side : colour a ≡ colour b = moved_beside b q 42 board (omega arith) (omega arith) in
-    let off : field_of a 46 ≡ pos (slice_index q.own 0) = moved_beside b q 46 board (omega arith) (omega arith) in
-    let off_other : field_of a 47 ≡ field_of b 47 = moved_beside b q 47 board (omega arith) (omega arith) in
-    let two = two_sides b board in
+    let side : colour a ≡ colour b = moved_beside ranges b q 42 board (omega arith) (omega arith) in
+    let off : field_of a 46 ≡ pos (slice_index q.own 0) = moved_beside ranges b q 46 board (omega arith) (omega arith) in
+    let off_other : field_of a 47 ≡ field_of b 47 = moved_beside ranges b q 47 board (omega arith) (omega arith) in
+    let two = two_sides ranges b board in
     let own : own_placed a ≡ sum (map (λ place. checkers_of (colour b) (value_of (colour b) (slice_index q.own place) (slice_index q.other place))) (range_with_len 1 24)) + slice_index q.own 0 =
-    ap (λ s. sum (on_places a s) + own_off a) side ∙ ap (λ l. sum l + own_off a) (shown_places b q (colour b) board)
+    ap (λ s. sum (on_places a s) + own_off a) side ∙ ap (λ l. sum l + own_off a) (shown_places ranges b q (colour b) board)
     ∙ ap (λ z. sum (map (λ place. checkers_of (colour b) (value_of (colour b) (slice_index q.own place) (slice_index q.other place))) (range_with_len 1 24)) + natural z) off in
     let own_most = range_le (λ place. checkers_of (colour b) (value_of (colour b) (slice_index q.own place) (slice_index q.other place))) (slice_index q.own) 1 24
     (λ k low high. own_shown (colour b) (slice_index q.own k) (slice_index q.other k) two) in
     let own_all = places_le q.own 24 in
     let other : other_placed a ≡ sum (map (λ place. checkers_of (neg_ℤ (colour b)) (value_of (colour b) (slice_index q.own place) (slice_index q.other place))) (range_with_len 1 24)) + other_off b =
-    ap (λ s. sum (on_places a (neg_ℤ s)) + other_off a) side ∙ ap (λ l. sum l + other_off a) (shown_places b q (neg_ℤ (colour b)) board)
+    ap (λ s. sum (on_places a (neg_ℤ s)) + other_off a) side ∙ ap (λ l. sum l + other_off a) (shown_places ranges b q (neg_ℤ (colour b)) board)
     ∙ ap (λ z. sum (map (λ place. checkers_of (neg_ℤ (colour b)) (value_of (colour b) (slice_index q.own place) (slice_index q.other place))) (range_with_len 1 24)) + natural z) off_other in
     let other_most = range_le (λ place. checkers_of (neg_ℤ (colour b)) (value_of (colour b) (slice_index q.own place) (slice_index q.other place))) (stand_on b (neg_ℤ (colour b))) 1 24
     (λ k low high.
@@ -215,14 +213,14 @@ good_moved b q steps good run =
     let before : sum (other_on_places b) ≡ sum (map (stand_on b (neg_ℤ (colour b))) (range_with_len 1 24)) = ap (λ l. sum (map (stand_on b (neg_ℤ (colour b))) l)) places_are in
     let few_before = good.other in
     record {
-      board = board_after (placed b q ++ last_says b q) b board (may_append (placed b q) (last_says b q)
+      board = board_after ranges (placed b q ++ last_says b q) b board (may_append (placed b q) (last_says b q)
           (subst AllMay (sym (placed_is b q)) (may_range (place_says b q) 1 24 (λ k low high.
           let own_k = count_le q.own k in
           let other_k = count_le q.other k in
-          may_stand (place_field b k) (place_says b q k).1 (omega (arith, field_low b k low (omega arith))) (omega (arith, field_high b k low (omega arith)))
+          may_stand ranges (place_field b k) (place_says b q k).1 (omega (arith, field_low b k low (omega arith))) (omega (arith, field_high b k low (omega arith)))
           (value_low (int_eq (colour b) (pos 1)) (slice_index q.own k) (slice_index q.other k) (omega arith) (omega arith))
           (value_high (int_eq (colour b) (pos 1)) (slice_index q.own k) (slice_index q.other k) (omega arith) (omega arith)))))
-          (may_last b q board (omega (arith, count_le q.own 0))));
+          (may_last ranges b q board (omega (arith, count_le q.own 0))));
       plays = player_after (placed b q ++ last_says b q) b ∙ good.plays;
       own = omega (arith, own, own_most);
       other = omega (arith, other, other_most, before);

@@ -1,59 +1,63 @@
--- The phase of a board is the first line of the table that fits.
+-- The function of phases is the table: the phase of a position is the first line that fits.
 use Rattle.std.proofs.Common.{◌≡◌, ℕ, ◌≤◌, ◌-◌, [], ◌∷◌, Some, lit≤, refl, sym, ap, ◌∙◌, arith}
-use Rattle.std.specs.Prelude.{ℤ, pos, negsuc, ◌↔◌, ◌≤ℤ◌, find, unwrap_or}
+use Rattle.std.specs.Prelude.{ℤ, pos, negsuc, nat_eq, ◌↔◌, ◌≤ℤ◌, find, unwrap_or}
 use Rattle.std.specs.Bool.{Decides}
 use Rattle.std.specs.Ordering.{int_eq}
 use Rattle.std.proofs.lemmas.Int.{ints}
-use Rattle.std.proofs.lemmas.Bool.Decides.{Decides-not, Decides-int_eq}
-use Rattle.fibs_messages.specs.Board.{BoardFields, IsBoard, field_of, field_values}
-use Rattle.fibs_messages.proofs.BoardLemmas.FieldGroups.{dice_exact, can_have_by}
-use Rattle.fibs_messages.proofs.BoardLemmas.OneNumberMore.{fit_at}
-use Rattle.fibs_messages.proofs.BoardLemmas.FieldTable.{table_long}
-use Rattle.fibs_position.specs.OwnView.{turn, colour, natural, first_die, second_die, standing_of}
-use Rattle.fibs_position.specs.Runs.{CanMove}
-use Rattle.fibs_position.specs.Phases.{PhaseFits, phases, IsPhase, can_move, phase_fits, phase_of}
+use Rattle.std.proofs.lemmas.Bool.Decides.{Decides-and, Decides-not, Decides-eqb, Decides-int_eq}
+use Rattle.fibs_messages.specs.Board.{BoardFields, IsBoard, field_of}
+use Rattle.fibs_messages.specs.FieldRanges.{FieldRanges}
+use Rattle.fibs_position.specs.OwnView.{natural}
+use Rattle.fibs_position.specs.PositionValue.{PositionValue, position_of}
+use Rattle.fibs_position.specs.Runs.{Standing, CanMove}
+use Rattle.fibs_position.specs.Phases.{PhaseFits, phases, InPhase, can_move, phase_fits, phase_in}
 use Rattle.fibs_position.specs.declared.phase.Phase.{Phase}
 use Rattle.fibs_position.specs.declared.phase.Phase.TheVariants.{Over, AnswerDouble, OpponentActs, RollOrDouble, Move, Passing}
 use Rattle.fibs_position.proofs.FirstLemmas.{find_first, find_some}
 use Rattle.fibs_position.proofs.MoveLemmas.{can_sound, can_complete}
-use Rattle.fibs_position.proofs.TableLemmas.{no_dice_decides}
 
--- the dice of a board are at most 6
+-- no die shows more than 6
+pub record SmallDice (p : Standing) : Type 0 where
+  pub first : p.first ≤ 6
+  pub second : p.second ≤ 6
+
+-- a number of 6 at most is so as a natural number
 natural_small : (z : ℤ) → z ≤ℤ pos 6 → natural z ≤ 6
 natural_small (pos n) h = omega (arith, ints)
 natural_small (negsuc n) h = omega arith
 
-die_small : (b : BoardFields) → IsBoard b → (n : ℕ) → 34 ≤ n → n ≤ 37 → natural (field_of b n) ≤ 6
-die_small b board n low high =
-    let allowed = fit_at field_values b.numbers (n - 4) (pos 0) board.2 (omega (arith, table_long)) in
-    natural_small (field_of b n) ((dice_exact n (field_of b n) low high).0 (can_have_by n (field_of b n) (omega arith) allowed)).1
+-- no field of a die is above 6
+die_small : FieldRanges → (b : BoardFields) → IsBoard b → (n : ℕ) → 34 ≤ n → n ≤ 37 → natural (field_of b n) ≤ 6
+die_small ranges b board n low high =
+    natural_small (field_of b n) ((ranges.dice n (field_of b n) low high).0 (ranges.held b n board (omega arith) (omega arith))).1
 
-pub first_small : (b : BoardFields) → IsBoard b → first_die b ≤ 6
-first_small b board = die_small b board 34 (lit≤ tt) (lit≤ tt)
+-- so are the dice of a board
+pub board_dice : FieldRanges → (b : BoardFields) → IsBoard b → SmallDice (position_of b).standing
+board_dice ranges b board = record { first = die_small ranges b board 34 (lit≤ tt) (lit≤ tt); second = die_small ranges b board 35 (lit≤ tt) (lit≤ tt) }
 
-pub second_small : (b : BoardFields) → IsBoard b → second_die b ≤ 6
-second_small b board = die_small b board 35 (lit≤ tt) (lit≤ tt)
+-- some die can be played exactly where a run has a step
+pub can_move_decides : (p : Standing) → SmallDice p → Decides (can_move p) (CanMove p)
+can_move_decides p small = (can_sound p small.first small.second, can_complete p)
 
--- a run has a step
-pub can_move_decides : (b : BoardFields) → IsBoard b → Decides (can_move b) (CanMove (standing_of b))
-can_move_decides b board = (can_sound (standing_of b) (first_small b board) (second_small b board), can_complete (standing_of b))
+-- each line's test tells whether the line fits
+fits_decides : (p : PositionValue) → SmallDice p.standing → (phase : Phase) → Decides (phase_fits p phase) (PhaseFits p phase)
+fits_decides p small Over = Decides-int_eq p.turn (pos 0)
+fits_decides p small AnswerDouble = Decides-int_eq p.was_doubled (pos 1)
+fits_decides p small OpponentActs = Decides-not (int_eq p.turn p.colour) (Decides-int_eq p.turn p.colour)
+fits_decides p small RollOrDouble =
+    Decides-and (nat_eq p.standing.first 0) (nat_eq p.standing.second 0) (Decides-eqb p.standing.first 0) (Decides-eqb p.standing.second 0)
+fits_decides p small Move = can_move_decides p.standing small
+fits_decides p small Passing = (λ _. tt, λ _. refl)
 
-fits_decides : (b : BoardFields) → IsBoard b → (phase : Phase) → Decides (phase_fits b phase) (PhaseFits b phase)
-fits_decides b board Over = Decides-int_eq (turn b) (pos 0)
-fits_decides b board AnswerDouble = Decides-int_eq (field_of b 41) (pos 1)
-fits_decides b board OpponentActs = Decides-not (int_eq (turn b) (colour b)) (Decides-int_eq (turn b) (colour b))
-fits_decides b board RollOrDouble = no_dice_decides b
-fits_decides b board Move = can_move_decides b board
-fits_decides b board Passing = (λ _. tt, λ _. refl)
-
-phase_found : (b : BoardFields) → find (phase_fits b) phases ≡ Some (phase_of b)
-unfolding phase_of
-phase_found b =
-    let (x, e) = find_some (phase_fits b) (Over ∷ AnswerDouble ∷ OpponentActs ∷ RollOrDouble ∷ Move ∷ []) Passing refl in
+-- some line fits, and the function gives it
+phase_found : (p : PositionValue) → find (phase_fits p) phases ≡ Some (phase_in p)
+unfolding phase_in
+phase_found p =
+    let (x, e) = find_some (phase_fits p) (Over ∷ AnswerDouble ∷ OpponentActs ∷ RollOrDouble ∷ Move ∷ []) Passing refl in
     e ∙ ap Some (sym (ap (λ o. unwrap_or o Passing) e))
 
 -- the function is the relation
-pub phase_exact : (b : BoardFields) (phase : Phase) → IsBoard b → (phase_of b ≡ phase) ↔ IsPhase b phase
-phase_exact b phase board =
-    let exact = find_first (phase_fits b) (PhaseFits b) (fits_decides b board) phases phase in
-    (λ e. exact.0 (phase_found b ∙ ap Some e), λ h. let same = sym (phase_found b) ∙ exact.1 h in cc)
+pub phase_exact : (p : PositionValue) (phase : Phase) → SmallDice p.standing → (phase_in p ≡ phase) ↔ InPhase p phase
+phase_exact p phase small =
+    let exact = find_first (phase_fits p) (PhaseFits p) (fits_decides p small) phases phase in
+    (λ e. exact.0 (phase_found p ∙ ap Some e), λ h. let same = sym (phase_found p) ∙ exact.1 h in cc)

@@ -3,7 +3,7 @@ use mathlib.Core.HLevel.{is_prop→PathP}
 use Rattle.std.proofs.Common.{◌≡◌, ℕ, ◌<◌, ◌≤◌, List, [], ◌∷◌, ◌++◌, length, map, take, drop, Bool, true, refl, sym, ap, ap₂, ◌∙◌, arith, eq-eqb, take-append-drop, length-take-le, length-drop}
 use Rattle.std.specs.Prelude.{◌==◌, ◌&&◌}
 use Rattle.std.specs.Bool.{Decides}
-use Rattle.std.specs.Coded.{le_prop, Coded-set, coded_bool}
+use Rattle.std.specs.Coded.{le_prop, Coded-set, coded_bool, coded_ℕ}
 use Rattle.std.specs.List.{list_all}
 use Rattle.std.specs.Cmp.Lexicographic.{pointwise}
 use Rattle.std.proofs.lemmas.Bool.{and_parts, and_from, eqb-true}
@@ -11,6 +11,10 @@ use Rattle.std.proofs.lemmas.Slice.Eq.{slice_eq-Decides}
 use Rattle.fibs_position.specs.Hop.{Hop}
 use Rattle.fibs_position.specs.StepValue.{hop_of, is_blank}
 use Rattle.fibs_position.specs.PlayValue.{hops_of}
+use Rattle.fibs_position.specs.DecisionValue.{DecisionValue, roll, double, accept, reject, move}
+use Rattle.fibs_position.specs.DecisionOf.{decision_of}
+use Rattle.fibs_position.specs.declared.decision.Decision.{Decision}
+use Rattle.fibs_position.specs.declared.decision.Decision.TheVariants.{Roll, Double, Accept, Reject, Move}
 use Rattle.fibs_position.specs.declared.step.Step.{Step}
 use Rattle.fibs_position.specs.declared.play.Play.{Play}
 
@@ -31,6 +35,7 @@ pub same_fields : (a b : Play) → a.steps ≡ b.steps → a.len ≡ b.len → a
 same_fields a b s l = λ i. record {
   steps = s i;
   len = l i;
+  full = is_prop→PathP (λ j. length (s j) ≡ 4) (λ j. Coded-set coded_ℕ (length (s j)) 4) a.full b.full i;
   short = is_prop→PathP (λ j. l j ≤ 4) (λ j. le_prop) a.short b.short i;
   rest = is_prop→PathP (λ j. BlankFrom (l j) (s j)) (λ j. Coded-set coded_bool (list_all is_blank (drop (l j) (s j))) true) a.rest b.rest i;
 }
@@ -59,8 +64,10 @@ same_hops (x ∷ xs) (y ∷ ys) e =
     let others : map hop_of xs ≡ map hop_of ys = cc in
     ap₂ (λ z zs. z ∷ zs) (same_step x y (ap (λ (h : Hop). h.source) first) (ap (λ (h : Hop). h.target) first)) (same_hops xs ys others)
 
-pub same_play : (a b : Play) → length a.steps ≡ 4 → length b.steps ≡ 4 → hops_of a ≡ hops_of b → a ≡ b
-same_play a b full whole e =
+-- a play is given by its steps
+pub same_play : (a b : Play) → hops_of a ≡ hops_of b → a ≡ b
+same_play a b e =
+    let full = a.full in let whole = b.full in
     let front = same_hops (take a.len a.steps) (take b.len b.steps) e in
     let s = a.short in let t = b.short in
     let l = length-take-le a.len a.steps (omega arith) in
@@ -78,15 +85,37 @@ step_eq a b = (
 )
 
 -- what `==` says
-pub play_eq : (a b : Play) (r : Bool) → length a.steps ≡ 4 → length b.steps ≡ 4
+pub play_eq : (a b : Play) (r : Bool)
     → r ≡ (pointwise (λ (s t : Step). (s.source == t.source) && (s.target == t.target)) a.steps b.steps && (a.len == b.len)) → Decides r (hops_of a ≡ hops_of b)
-play_eq a b r full whole e =
+play_eq a b r e =
     let E : Step → Step → Bool = λ s t. (s.source == t.source) && (s.target == t.target) in
     let steps = slice_eq-Decides {E = E} step_eq a.steps b.steps (pointwise E a.steps b.steps) refl in (
       λ h.
           let (s, l) = and_parts (pointwise E a.steps b.steps) (a.len == b.len) (sym e ∙ h) in
           ap₂ (λ n xs. map hop_of (take n xs)) (eqb-true a.len b.len l) (steps.0 s),
       λ h.
-          let same = same_play a b full whole h in
+          let same = same_play a b h in
           e ∙ and_from _ _ (steps.1 (ap (λ (p : Play). p.steps) same)) (eq-eqb a.len b.len (ap (λ (p : Play). p.len) same)),
     )
+
+-- a number by which the kinds of decisions differ
+abbrev kind : DecisionValue → ℕ
+kind roll = 0
+kind double = 1
+kind accept = 2
+kind reject = 3
+kind (move steps) = 4
+
+-- the steps of a decision
+abbrev moves : DecisionValue → List Hop
+moves (move steps) = steps
+moves other = []
+
+-- decisions with one value are one
+pub same_decision : (a b : Decision) → decision_of a ≡ decision_of b → a ≡ b
+same_decision Roll Roll e = refl
+same_decision Double Double e = refl
+same_decision Accept Accept e = refl
+same_decision Reject Reject e = refl
+same_decision (Move p) (Move q) e = ap (λ play. Move play) (same_play p q (ap moves e))
+same_decision a b e = absurd (omega (arith, ap kind e))

@@ -4,24 +4,24 @@ use Rattle.std.specs.Prelude.{ℤ, pos, negsuc, ◌≤ℤ◌, map}
 use Rattle.std.specs.List.{range_with_len}
 use Rattle.std.proofs.lemmas.List.FromFn.{map-range_with_len_more}
 use Rattle.fibs_messages.specs.Board.{BoardFields, can_have}
-use Rattle.fibs_messages.proofs.BoardLemmas.FieldGroups.{dice_exact, turn_exact, cube_exact, place_exact, off_exact}
+use Rattle.fibs_messages.specs.FieldRanges.{FieldRanges}
 use Rattle.fibs_position.specs.OwnView.{places}
 use Rattle.fibs_position.specs.BoardEffect.{set_field, set_fields}
 
-pub may_turn : (z : ℤ) → negsuc 0 ≤ℤ z → z ≤ℤ pos 1 → can_have 33 z ≡ true
-may_turn z low high = (turn_exact 33 z refl).1 (low, high)
+pub may_turn : FieldRanges → (z : ℤ) → negsuc 0 ≤ℤ z → z ≤ℤ pos 1 → can_have 33 z ≡ true
+may_turn ranges z low high = (ranges.turn 33 z refl).1 (low, high)
 
-pub may_show : (n : ℕ) (z : ℤ) → 34 ≤ n → n ≤ 37 → pos 0 ≤ℤ z → z ≤ℤ pos 6 → can_have n z ≡ true
-may_show n z from to low high = (dice_exact n z from to).1 (low, high)
+pub may_show : FieldRanges → (n : ℕ) (z : ℤ) → 34 ≤ n → n ≤ 37 → pos 0 ≤ℤ z → z ≤ℤ pos 6 → can_have n z ≡ true
+may_show ranges n z from to low high = (ranges.dice n z from to).1 (low, high)
 
-pub may_cube : (z : ℤ) → pos 1 ≤ℤ z → z ≤ℤ pos 1048576 → can_have 38 z ≡ true
-may_cube z low high = (cube_exact 38 z refl).1 (low, high)
+pub may_cube : FieldRanges → (z : ℤ) → pos 1 ≤ℤ z → z ≤ℤ pos 1048576 → can_have 38 z ≡ true
+may_cube ranges z low high = (ranges.cube 38 z refl).1 (low, high)
 
-pub may_stand : (n : ℕ) (z : ℤ) → 7 ≤ n → n ≤ 32 → negsuc 14 ≤ℤ z → z ≤ℤ pos 15 → can_have n z ≡ true
-may_stand n z from to low high = (place_exact n z from to).1 (low, high)
+pub may_stand : FieldRanges → (n : ℕ) (z : ℤ) → 7 ≤ n → n ≤ 32 → negsuc 14 ≤ℤ z → z ≤ℤ pos 15 → can_have n z ≡ true
+may_stand ranges n z from to low high = (ranges.place n z from to).1 (low, high)
 
-pub may_off : (z : ℤ) → pos 0 ≤ℤ z → z ≤ℤ pos 15 → can_have 46 z ≡ true
-may_off z low high = (off_exact 46 z (lit≤ tt) (lit≤ tt)).1 (low, high)
+pub may_off : FieldRanges → (z : ℤ) → pos 0 ≤ℤ z → z ≤ℤ pos 15 → can_have 46 z ≡ true
+may_off ranges z low high = (ranges.off 46 z (lit≤ tt) (lit≤ tt)).1 (low, high)
 
 -- changes one after another
 pub set_fields_append : (b : BoardFields) (xs ys : List (ℕ × ℤ)) → set_fields b (xs ++ ys) ≡ set_fields (set_fields b xs) ys

@@ -16,7 +16,7 @@ use Rattle.fibs_position.specs.DecisionValue.{DecisionValue, roll, double, accep
 use Rattle.fibs_position.specs.BoardEffect.{IsDie, AreThrown, HasTurn, BeforeRoll, BeforeMove, IsDoubled, rolled, doubled, accepted, rejected, after_move, Carries, Effect}
 use Rattle.fibs_position.specs.EffectOf.{is_die, are_thrown, has_turn, is_doubled, carried, effect_of}
 use Rattle.fibs_position.proofs.EffectLemmas.{lax_sound, lax_complete}
-use Rattle.fibs_position.proofs.GoodLemmas.{good_tells, good_from}
+use Rattle.fibs_position.proofs.GoodLemmas.{BoardTest, good_tells, good_from}
 
 le_decides : (a b : ℕ) → Decides (nat_le a b) (a ≤ b)
 le_decides a b = (leb-true a b, le-leb a b)
@@ -88,11 +88,11 @@ carried_complete b (move steps) dice after (before, (q, run, is)) =
     ∙ ap (option_map (after_move b)) (lax_complete (own_view b) q steps run) ∙ ap Some (sym is)
 
 -- the function is the relation
-pub effect_exact : (b : BoardFields) (d : DecisionValue) (dice : List ℕ) (after : BoardFields) → (effect_of b d dice ≡ Some after) ↔ Effect b d dice after
+pub effect_exact : BoardTest → (b : BoardFields) (d : DecisionValue) (dice : List ℕ) (after : BoardFields) → (effect_of b d dice ≡ Some after) ↔ Effect b d dice after
 unfolding effect_of
-effect_exact b d dice after = (
-  λ e. let (test, is) = kept (good b) (carried b d dice) after e in (good_tells b test, carried_sound b d dice after is),
-  λ h. under (good b) (carried b d dice) (good_from b h.0) ∙ carried_complete b d dice after h.1,
+effect_exact exact b d dice after = (
+  λ e. let (test, is) = kept (good b) (carried b d dice) after e in (good_tells exact b test, carried_sound b d dice after is),
+  λ h. under (good b) (carried b d dice) (good_from exact b h.0) ∙ carried_complete b d dice after h.1,
 )
 
 -- on a good board the table tells

@@ -4,6 +4,7 @@ use Rattle.std.specs.Prelude.{ℤ, pos, negsuc, neg_ℤ, map}
 use Rattle.std.specs.Ordering.{int_eq}
 use Rattle.std.specs.List.{range_with_len}
 use Rattle.fibs_messages.specs.Board.{BoardFields, field_of}
+use Rattle.fibs_messages.specs.FieldRanges.{FieldRanges}
 use Rattle.fibs_position.specs.declared.direction.Direction.TheVariants.{Down, Up}
 use Rattle.fibs_position.specs.DirectionOf.{direction_of, line_place}
 use Rattle.fibs_position.specs.OwnView.{colour, place_field, checkers_of, stand_on, on_places, own_placed, other_placed, own_off, other_off, natural}
@@ -36,11 +37,11 @@ same_places a b side way same =
     ap (map (stand_on a side)) places_are ∙ each ∙ ap (map (stand_on b side)) (sym places_are)
 
 -- changes of the turn, the dice and the cube leave the checkers
-pub good_after : (b : BoardFields) (changes : List (ℕ × ℤ)) → IsGood b → between 33 41 changes ≡ true → AllMay changes → IsGood (set_fields b changes)
-good_after b changes good turns may =
+pub good_after : FieldRanges → (b : BoardFields) (changes : List (ℕ × ℤ)) → IsGood b → between 33 41 changes ≡ true → AllMay changes → IsGood (set_fields b changes)
+good_after ranges b changes good turns may =
     let a = set_fields b changes in
-    let below = λ (n : ℕ) (low : 8 ≤ n) (high : n ≤ 31). field_after changes b n good.board (omega arith) ∙ unchanged_below changes 33 41 n (field_of b n) turns (omega arith) (omega arith) in
-    let above = λ (n : ℕ) (low : 42 ≤ n) (high : n ≤ 53). field_after changes b n good.board high ∙ unchanged_above changes 33 41 n (field_of b n) turns (omega arith) (omega arith) in
+    let below = λ (n : ℕ) (low : 8 ≤ n) (high : n ≤ 31). field_after ranges changes b n good.board (omega arith) ∙ unchanged_below changes 33 41 n (field_of b n) turns (omega arith) (omega arith) in
+    let above = λ (n : ℕ) (low : 42 ≤ n) (high : n ≤ 53). field_after ranges changes b n good.board high ∙ unchanged_above changes 33 41 n (field_of b n) turns (omega arith) (omega arith) in
     let side : colour a ≡ colour b = above 42 (omega arith) (omega arith) in
     let way = above 43 (omega arith) (omega arith) in
     let own : own_placed a ≡ own_placed b =
@@ -49,4 +50,4 @@ good_after b changes good turns may =
     ap (λ s. sum (on_places a (neg_ℤ s)) + other_off a) side ∙ ap (λ l. sum l + other_off a) (same_places a b (neg_ℤ (colour b)) way below) ∙ ap (λ z. sum (on_places b (neg_ℤ (colour b))) + natural z) (above 47 (omega arith) (omega arith)) in
     let few = good.own in
     let few_other = good.other in
-    record { board = board_after changes b good.board may; plays = player_after changes b ∙ good.plays; own = omega (arith, own); other = omega (arith, other) }
+    record { board = board_after ranges changes b good.board may; plays = player_after changes b ∙ good.plays; own = omega (arith, own); other = omega (arith, other) }

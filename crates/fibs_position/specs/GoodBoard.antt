@@ -1,10 +1,7 @@
 -- Boards that have a position.
-use Rattle.std.specs.Prelude.{◌≡◌, ◌≢◌, ◌<◌, ◌≤◌, ◌&&◌, ℤ, Bool, true, false, List, [], ◌∷◌, codes, nat_le}
+use Rattle.std.specs.Prelude.{◌≡◌, ◌≢◌, ◌<◌, ◌≤◌, ◌&&◌, Bool, List, [], ◌∷◌, codes, nat_le}
 use Rattle.std.specs.Str.{bytes_eq}
-use Rattle.fibs_messages.specs.declared.fields.values.Values.{Values}
-use Rattle.fibs_messages.specs.Decimal.{allows}
-use Rattle.fibs_messages.specs.Name.{is_name}
-use Rattle.fibs_messages.specs.Board.{BoardFields, IsBoard, field_values}
+use Rattle.fibs_messages.specs.Board.{BoardFields, IsBoard, is_board}
 use Rattle.fibs_position.specs.OwnView.{own_placed, other_placed}
 use Rattle.fibs_position.specs.declared.position_fault.PositionFault.{PositionFault}
 use Rattle.fibs_position.specs.declared.position_fault.PositionFault.TheVariants.{NotYou, TooManyOwn, TooManyOther}
@@ -25,17 +22,6 @@ HasFault b TooManyOther = 15 < other_placed b
 -- the faults, in the order in which they are told
 abbrev pub faults : List PositionFault
 faults = NotYou ∷ TooManyOwn ∷ TooManyOther ∷ []
-
--- each number is one that its field may have
-abbrev pub fit : List Values → List ℤ → Bool
-fit [] [] = true
-fit [] (z ∷ zs) = false
-fit (v ∷ vs) [] = false
-fit (v ∷ vs) (z ∷ zs) = allows v z && fit vs zs
-
--- the values are those of a board
-unfoldable pub is_board : BoardFields → Bool
-is_board b = is_name b.player && (is_name b.opponent && fit field_values b.numbers)
 
 -- the same as a test, of all values of fields: also of numbers that no field may have
 unfoldable pub good : BoardFields → Bool

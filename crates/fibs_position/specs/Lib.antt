@@ -15,6 +15,7 @@ pub mod GoodBoard
 pub mod GoodBoardProp
 pub mod GamePart
 pub mod PositionValue
+pub mod StoredPosition
 pub mod Phases
 pub mod DecisionValue
 pub mod DecisionOf
@@ -22,4 +23,5 @@ pub mod BoardEffect
 pub mod EffectOf
 pub mod Allowed
 pub mod PlaysOf
+pub mod Names
 pub mod Laws

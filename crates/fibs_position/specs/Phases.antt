@@ -1,30 +1,34 @@
 -- The phases of a turn (the standard rules of backgammon; FIBS board style 3).
-use Rattle.std.specs.Prelude.{◌≡◌, ◌≢◌, ◌||◌, not, Bool, true, false, List, [], ◌∷◌, pos, find, unwrap_or}
+use Rattle.std.specs.Prelude.{◌≡◌, ◌≢◌, ◌||◌, ◌&&◌, ◌==◌, not, Bool, true, false, List, [], ◌∷◌, pos, find, unwrap_or}
 use Rattle.std.specs.Ordering.{int_eq}
-use Rattle.fibs_messages.specs.Board.{BoardFields, field_of}
+use Rattle.fibs_messages.specs.Board.{BoardFields}
 use Rattle.fibs_position.specs.First.{IsFirst}
-use Rattle.fibs_position.specs.OwnView.{turn, colour, first_die, second_die, NoDice, no_dice, own_view, standing_of}
-use Rattle.fibs_position.specs.Runs.{CanMove}
+use Rattle.fibs_position.specs.PositionValue.{PositionValue, position_of}
+use Rattle.fibs_position.specs.Runs.{Standing, CanMove}
 use Rattle.fibs_position.specs.Search.{can_play}
 use Rattle.fibs_position.specs.declared.phase.Phase.{Phase}
 use Rattle.fibs_position.specs.declared.phase.Phase.TheVariants.{Over, AnswerDouble, OpponentActs, RollOrDouble, Move, Passing}
 
 -- the line of the table: when a phase may be
-abbrev pub PhaseFits : BoardFields → Phase → Type 0
-PhaseFits b Over = turn b ≡ pos 0
-PhaseFits b AnswerDouble = field_of b 41 ≡ pos 1
-PhaseFits b OpponentActs = turn b ≢ colour b
-PhaseFits b RollOrDouble = NoDice b
-PhaseFits b Move = CanMove (standing_of b)
-PhaseFits b Passing = Unit {0}
+abbrev pub PhaseFits : PositionValue → Phase → Type 0
+PhaseFits p Over = p.turn ≡ pos 0
+PhaseFits p AnswerDouble = p.was_doubled ≡ pos 1
+PhaseFits p OpponentActs = p.turn ≢ p.colour
+PhaseFits p RollOrDouble = (p.standing.first ≡ 0) × (p.standing.second ≡ 0)
+PhaseFits p Move = CanMove p.standing
+PhaseFits p Passing = Unit {0}
 
 -- the table's lines, in their order
 abbrev pub phases : List Phase
 phases = Over ∷ AnswerDouble ∷ OpponentActs ∷ RollOrDouble ∷ Move ∷ Passing ∷ []
 
--- the phase of a board: the first line that fits
+-- the phase of a position: the first line that fits
+abbrev pub InPhase : PositionValue → Phase → Type 0
+InPhase p phase = IsFirst (PhaseFits p) phases phase
+
+-- the phase of a board is that of its position
 abbrev pub IsPhase : BoardFields → Phase → Type 0
-IsPhase b phase = IsFirst (PhaseFits b) phases phase
+IsPhase b phase = InPhase (position_of b) phase
 
 -- the user decides
 abbrev pub decides : Phase → Bool
@@ -37,16 +41,19 @@ decides Passing = false
 
 -- the same as functions
 
-abbrev pub can_move : BoardFields → Bool
-can_move b = can_play (own_view b) (first_die b) || can_play (own_view b) (second_die b)
+abbrev pub can_move : Standing → Bool
+can_move p = can_play p.checkers p.first || can_play p.checkers p.second
 
-abbrev pub phase_fits : BoardFields → Phase → Bool
-phase_fits b Over = int_eq (turn b) (pos 0)
-phase_fits b AnswerDouble = int_eq (field_of b 41) (pos 1)
-phase_fits b OpponentActs = not (int_eq (turn b) (colour b))
-phase_fits b RollOrDouble = no_dice b
-phase_fits b Move = can_move b
-phase_fits b Passing = true
+abbrev pub phase_fits : PositionValue → Phase → Bool
+phase_fits p Over = int_eq p.turn (pos 0)
+phase_fits p AnswerDouble = int_eq p.was_doubled (pos 1)
+phase_fits p OpponentActs = not (int_eq p.turn p.colour)
+phase_fits p RollOrDouble = (p.standing.first == 0) && (p.standing.second == 0)
+phase_fits p Move = can_move p.standing
+phase_fits p Passing = true
 
-unfoldable pub phase_of : BoardFields → Phase
-phase_of b = unwrap_or (find (phase_fits b) phases) Passing
+unfoldable pub phase_in : PositionValue → Phase
+phase_in p = unwrap_or (find (phase_fits p) phases) Passing
+
+abbrev pub phase_of : BoardFields → Phase
+phase_of b = phase_in (position_of b)

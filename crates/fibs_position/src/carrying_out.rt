@@ -21,6 +21,7 @@ use crate::own_view::{arrangement_of, colour, no_dice, place_field};
 use crate::play::Play;
 use crate::position::Position;
 use fibs_messages::Board;
+use fibs_messages::laws::{fields_have_their_ranges, is_board_is_exact};
 
 /// The board with a number of a field changed that it may have.
 fn set(board: Board, field: usize, value: i32) -> Board
@@ -79,6 +80,7 @@ fn rolled(board: Board, dice: [u8; 2]) -> Board
     requires second { slice_index dice 1 ≤ 6 }
     ensures { fields_of result ≡ rolled (fields_of board) dice }
 {
+    fields_have_their_ranges();
     let board = set(board, FIRST_DIE, i32::from(dice[0]));
     let board = set(board, SECOND_DIE, i32::from(dice[1]));
     let board = set(board, OPPONENTS_FIRST_DIE, 0);
@@ -89,6 +91,7 @@ fn rolled(board: Board, dice: [u8; 2]) -> Board
 fn doubled(board: Board) -> Board
     ensures { fields_of result ≡ doubled (fields_of board) }
 {
+    fields_have_their_ranges();
     set(board, TURN, -colour(&board))
 }
 
@@ -97,6 +100,7 @@ fn accepted(board: Board) -> Board
     requires { field_of (fields_of board) 38 ≤ℤ pos 524288 }
     ensures { fields_of result ≡ accepted (fields_of board) }
 {
+    fields_have_their_ranges();
     let cube = board.field(CUBE);
     let turn = -colour(&board);
     let board = set(board, WAS_DOUBLED, 0);
@@ -131,6 +135,7 @@ fn value_of(side: i32, own: u8, other: u8) -> i32
 fn placed(board: &Board, reached: &Arrangement) -> Board
     ensures { fields_of result ≡ set_fields (fields_of board.now) (placed (fields_of board.now) reached.now) }
 {
+    fields_have_their_ranges();
     let side = colour(board);
     let mut after = *board;
     for place in 1..25 {
@@ -153,6 +158,7 @@ fn turn_after(board: &Board, off: u8) -> i32
 fn after_move(board: &Board, reached: &Arrangement) -> Board
     ensures { fields_of result ≡ after_move (fields_of board.now) reached.now }
 {
+    fields_have_their_ranges();
     let off = reached.own(0);
     let turn = turn_after(board, off);
     let after = placed(board, reached);
@@ -257,5 +263,6 @@ pub fn effect(board: &Board, decision: &Decision, dice: [u8; 2]) -> Option<Board
     ensures value { option_map fields_of result ≡ effect_of (fields_of board.now) (decision_of decision.now) dice }
     ensures carried { (after : BoardFields) → (option_map fields_of result ≡ Some after) ↔ Effect (fields_of board.now) (decision_of decision.now) dice after }
 {
+    is_board_is_exact();
     by_table(board, decision, dice)
 }

@@ -1,4 +1,8 @@
-ghost use Rattle.std.specs.Prelude.{◌≡◌};
+//! Phases of a game.
+
+ghost use Rattle.std.specs.Prelude.{◌≡◌, ◌≤◌, Some, length};
+
+use std::fmt;
 
 /// Where a game stands, for the player of a board.
 #[derive(Clone, Copy, Debug, PartialEq, Eq)]
@@ -19,6 +23,7 @@ pub enum Phase {
 
 impl Phase {
     ghost use Rattle.fibs_position.specs.Phases.{decides};
+    ghost use Rattle.fibs_position.specs.Names.{phase_name};
 
     /// The player decides in this phase.
     pub(crate) fn is_deciding(self) -> bool
@@ -28,5 +33,30 @@ impl Phase {
             Phase::AnswerDouble | Phase::RollOrDouble | Phase::Move => true,
             Phase::Over | Phase::OpponentActs | Phase::Passing => false,
         }
+    }
+
+    /// The phase's name, which `Display` prints.
+    pub fn name(self) -> &'static str
+        ensures name { result.now ≡ phase_name self }
+        ensures short { length result.now ≤ 12 }
+    {
+        match self {
+            Phase::Over => "Over",
+            Phase::AnswerDouble => "AnswerDouble",
+            Phase::OpponentActs => "OpponentActs",
+            Phase::RollOrDouble => "RollOrDouble",
+            Phase::Move => "Move",
+            Phase::Passing => "Passing",
+        }
+    }
+}
+
+impl fmt::Display for Phase {
+    ghost use Rattle.fibs_position.specs.Names.{phase_name};
+
+    ghost output = { λ phase. Some (phase_name phase) };
+
+    fn fmt<W: fmt::Write>(&self, f: &mut fmt::Formatter<W>) -> fmt::Result {
+        f.pad(self.name())
     }
 }

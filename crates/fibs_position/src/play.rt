@@ -6,14 +6,16 @@ ghost use Rattle.std.specs.List.{list_all};
 ghost use Rattle.fibs_position.specs.StepValue.{hop_of, is_blank};
 
 use crate::step::Step;
+use std::fmt;
 
 /// A list of 0 to 4 steps, as many as one roll of the dice can give.
 ///
 /// Plays are equal where their steps are.
-#[derive(Clone, Copy, Debug, PartialEq, Eq)]
+#[derive(Clone, Copy, PartialEq, Eq)]
 pub struct Play {
     steps: [Step; 4],
     len: usize,
+    pub ghost full: { length steps ≡ 4 },
     pub ghost short: { len ≤ 4 },
     pub ghost rest: { list_all is_blank (drop len steps) ≡ true },
 }
@@ -64,5 +66,23 @@ impl Play {
             steps,
             len: self.len + 1,
         }
+    }
+}
+
+impl Default for Play {
+    ghost use Rattle.fibs_position.specs.PlayValue.{hops_of};
+
+    /// The play of no step.
+    fn default() -> Play
+        ensures { hops_of result ≡ [] }
+    {
+        Play::new()
+    }
+}
+
+/// The steps alone.
+impl fmt::Debug for Play {
+    fn fmt<W: fmt::Write>(&self, f: &mut fmt::Formatter<W>) -> fmt::Result {
+        write!(f, "{:?}", self.steps())
     }
 }

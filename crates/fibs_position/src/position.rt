@@ -1,16 +1,19 @@
+//! Positions: boards seen from their players' side.
+#![tactic(auto, unfolding(crate::specs::StoredPosition::position_value))]
+
 ghost use Rattle.std.specs.Prelude.{◌≡◌, ◌≤◌, ◌↔◌, ◌&&◌, IsOk, is_ok, IfOk, IsTrue, Err, codes, map, slice_index};
+ghost use Rattle.std.specs.Result.{result_err};
 ghost use Rattle.fibs_messages.specs.StoredBoard.{fields_of};
 ghost use Rattle.fibs_position.specs.First.{IsFirst};
-ghost use Rattle.std.specs.Result.{result_err};
-ghost use Rattle.fibs_position.specs.OwnView.{own_view, standing_of};
 ghost use Rattle.fibs_position.specs.Runs.{IsMost};
 ghost use Rattle.fibs_position.specs.LegalPlays.{LegalPlay};
 ghost use Rattle.fibs_position.specs.PlayValue.{hops_of};
-ghost use Rattle.fibs_position.specs.PlaysOf.{ArePlays};
+ghost use Rattle.fibs_position.specs.PlaysOf.{PlaysIn};
 ghost use Rattle.fibs_position.specs.DecisionOf.{decision_of};
-ghost use Rattle.fibs_position.specs.Allowed.{is_for, cube_allows, is_legal, allowed_of, IsAllowed, IsDisallowed};
-ghost use Rattle.fibs_position.specs.DirectionOf.{direction_of};
-ghost use Rattle.fibs_position.specs.Phases.{IsPhase, can_move, phase_of};
+ghost use Rattle.fibs_position.specs.Allowed.{is_for, cube_allows, is_legal, refusal_of, MayDecide, IsRefused};
+ghost use Rattle.fibs_position.specs.OwnView.{first_die, second_die};
+ghost use Rattle.fibs_position.specs.Phases.{InPhase, can_move, phase_in};
+ghost use Rattle.fibs_position.specs.PositionValue.{position_of};
 ghost use Rattle.fibs_position.specs.GoodBoard.{IsGood, HasFault, faults, good};
 ghost use Rattle.fibs_position.specs.GoodBoardProp.{IsGood-prop};
 
@@ -27,13 +30,16 @@ use crate::play::Play;
 use crate::position_fault::PositionFault;
 use crate::turn::Turn;
 use fibs_messages::Board;
+use fibs_messages::laws::{fields_have_their_ranges, is_board_is_exact};
 use std::alloc::{AllocError, Global};
 
 /// A board of one who plays, seen from his own side.
-#[derive(Clone, Copy, Debug, PartialEq, Eq)]
+#[derive(Clone, Copy, Debug)]
 pub struct Position {
     board: Board,
-    pub ghost good: { IsGood (fields_of board) } by { IsGood-prop (fields_of board) },
+    ghost good: { IsGood (fields_of board) } by { IsGood-prop (fields_of board) },
+    ghost first: { first_die (fields_of board) ≤ 6 },
+    ghost second: { second_die (fields_of board) ≤ 6 },
 }
 
 /// The board's player is one who plays himself.
@@ -44,15 +50,17 @@ fn is_you(board: &Board) -> bool
 }
 
 impl Position {
-    ghost use Rattle.fibs_position.specs.PositionValue.{board_of};
+    ghost use Rattle.fibs_position.specs.StoredPosition.{position_value};
 
     /// The position of a board, or why it has none.
     pub fn of(board: &Board) -> Result<Position, PositionFault>
         ensures good { IsOk result ↔ IsGood (fields_of board.now) }
         ensures test { is_ok result ≡ good (fields_of board.now) }
-        ensures same { IfOk result (λ p. board_of p ≡ fields_of board.now) }
+        ensures same { IfOk result (λ p. position_value p ≡ position_of (fields_of board.now)) }
         ensures fault { (f : PositionFault) → (result ≡ Err f) ↔ IsFirst (HasFault (fields_of board.now)) faults f }
     {
+        is_board_is_exact();
+        fields_have_their_ranges();
         if !is_you(board) {
             return Err(PositionFault::NotYou);
         }
@@ -67,7 +75,7 @@ impl Position {
 
     /// The checkers of both sides.
     fn arrangement(&self) -> Arrangement
-        ensures { result ≡ own_view (board_of self.now) }
+        ensures { let p = position_value self.now in result ≡ p.standing.checkers }
     {
         arrangement_of(&self.board)
     }
@@ -75,7 +83,7 @@ impl Position {
     /// The player's checkers on a place, counted so that he goes down: 1 to 24, or 25 for his bar, or 0 for those borne off.
     pub fn own(&self, place: u8) -> u8
         requires { place ≤ 25 }
-        ensures value { result ≡ slice_index (own_view (board_of self.now)).own place }
+        ensures value { result ≡ slice_index (position_value self.now).standing.checkers.own place }
         ensures few { result ≤ 15 }
     {
         self.arrangement().own(place)
@@ -85,7 +93,7 @@ impl Position {
     pub fn other(&self, place: u8) -> u8
         requires low { 1 ≤ place }
         requires high { place ≤ 24 }
-        ensures value { result ≡ slice_index (own_view (board_of self.now)).other place }
+        ensures value { result ≡ slice_index (position_value self.now).standing.checkers.other place }
         ensures few { result ≤ 15 }
     {
         self.arrangement().other(place)
@@ -93,7 +101,7 @@ impl Position {
 
     /// The opponent's checkers on the bar.
     pub fn other_bar(&self) -> u8
-        ensures value { result ≡ slice_index (own_view (board_of self.now)).other 0 }
+        ensures value { result ≡ slice_index (position_value self.now).standing.checkers.other 0 }
         ensures few { result ≤ 15 }
     {
         self.arrangement().other(0)
@@ -101,7 +109,7 @@ impl Position {
 
     /// The opponent's checkers that are borne off.
     pub fn other_off(&self) -> u8
-        ensures value { result ≡ slice_index (own_view (board_of self.now)).other 25 }
+        ensures value { result ≡ slice_index (position_value self.now).standing.checkers.other 25 }
         ensures few { result ≤ 15 }
     {
         self.arrangement().other(25)
@@ -109,14 +117,14 @@ impl Position {
 
     /// Which way the player's checkers go by the numbers of the board line.
     pub fn direction(&self) -> Direction
-        ensures { result ≡ direction_of (board_of self.now) }
+        ensures { let p = position_value self.now in result ≡ p.direction }
     {
         direction(&self.board)
     }
 
     /// The arrangement and the dice shown.
     fn turn(&self) -> Turn
-        ensures { result ≡ standing_of (board_of self.now) }
+        ensures { let p = position_value self.now in result ≡ p.standing }
     {
         Turn::new(
             self.arrangement(),
@@ -127,14 +135,14 @@ impl Position {
 
     /// Some die that is shown can be played.
     fn can_move(&self) -> bool
-        ensures { result ≡ can_move (board_of self.now) }
+        ensures { result ≡ can_move (position_value self.now).standing }
     {
         self.turn().can_move()
     }
 
     /// The first line of the table of phases that fits.
     fn phase_by_table(&self) -> Phase
-        ensures { result ≡ phase_of (board_of self.now) }
+        ensures { result ≡ phase_in (position_value self.now) }
     {
         let turn = self.board.field(TURN);
         if turn == 0 {
@@ -166,15 +174,15 @@ impl Position {
     /// | `Move` | a die shown can be played | yes |
     /// | `Passing` | otherwise | no |
     pub fn phase(&self) -> Phase
-        ensures value { result ≡ phase_of (board_of self.now) }
-        ensures first { IsPhase (board_of self.now) result }
+        ensures value { result ≡ phase_in (position_value self.now) }
+        ensures first { InPhase (position_value self.now) result }
     {
         self.phase_by_table()
     }
 
     /// The most dice that a run of steps can play: 0 to 4.
     pub fn most_dice(&self) -> u8
-        ensures { IsMost (standing_of (board_of self.now)) result }
+        ensures { IsMost (position_value self.now).standing result }
     {
         self.turn().most_dice()
     }
@@ -182,7 +190,7 @@ impl Position {
     /// The play is legal: a run of steps by the dice held than which no run is longer, and by the larger die where only
     /// one of two different dice can be played, and the larger can. The empty play is legal where nothing can be played.
     pub fn is_legal(&self, play: &Play) -> bool
-        ensures { IsTrue result ↔ LegalPlay (standing_of (board_of self.now)) (hops_of play.now) }
+        ensures { IsTrue result ↔ LegalPlay (position_value self.now).standing (hops_of play.now) }
     {
         self.turn().is_legal(play)
     }
@@ -190,7 +198,7 @@ impl Position {
     /// In the phase `Move`, for each arrangement of checkers that some legal play reaches, the greatest such play (steps
     /// compared by source, then by target), the greatest first. In every other phase none.
     pub fn plays(&self, alloc: Global) -> Result<Vec<Play>, AllocError>
-        ensures { IfOk result (λ plays. ArePlays (board_of self.now) (map hops_of plays.items)) }
+        ensures { IfOk result (λ plays. PlaysIn (position_value self.now) (map hops_of plays.items)) }
     {
         match self.phase() {
             Phase::Move => self.turn().plays(alloc),
@@ -201,7 +209,7 @@ impl Position {
     /// The cube allows the decision: a double is offered only where the player may, and neither offered nor accepted
     /// where the cube shows more than 524,288.
     fn cube_allows(&self, decision: &Decision) -> bool
-        ensures { result ≡ cube_allows (board_of self.now) (decision_of decision.now) }
+        ensures { result ≡ cube_allows (position_value self.now) (decision_of decision.now) }
     {
         match decision {
             Decision::Double => {
@@ -214,14 +222,14 @@ impl Position {
 
     /// The decision is of the phase's kind, and the cube allows it.
     fn is_right_kind(&self, phase: Phase, decision: &Decision) -> bool
-        ensures { result ≡ (is_for (decision_of decision.now) phase && cube_allows (board_of self.now) (decision_of decision.now)) }
+        ensures { result ≡ (is_for (decision_of decision.now) phase && cube_allows (position_value self.now) (decision_of decision.now)) }
     {
         decision.is_for(phase) && self.cube_allows(decision)
     }
 
     /// The decision is no move, or a legal one.
     fn is_legal_move(&self, decision: &Decision) -> bool
-        ensures { result ≡ is_legal (board_of self.now) (decision_of decision.now) }
+        ensures { result ≡ is_legal (position_value self.now) (decision_of decision.now) }
     {
         match decision {
             Decision::Move(play) => self.is_legal(play),
@@ -231,7 +239,7 @@ impl Position {
 
     /// The first reason against a decision.
     fn refusal(&self, decision: &Decision) -> Option<Disallowed>
-        ensures { result ≡ allowed_of (board_of self.now) (decision_of decision.now) }
+        ensures { result ≡ refusal_of (position_value self.now) (decision_of decision.now) }
     {
         let phase = self.phase();
         if !phase.is_deciding() {
@@ -248,9 +256,9 @@ impl Position {
 
     /// Whether the player may decide so, or the first reason why not.
     pub fn allows(&self, decision: &Decision) -> Result<(), Disallowed>
-        ensures value { result_err result ≡ allowed_of (board_of self.now) (decision_of decision.now) }
-        ensures allowed { IsOk result ↔ IsAllowed (board_of self.now) (decision_of decision.now) }
-        ensures refused { (why : Disallowed) → (result ≡ Err why) ↔ IsDisallowed (board_of self.now) (decision_of decision.now) why }
+        ensures value { result_err result ≡ refusal_of (position_value self.now) (decision_of decision.now) }
+        ensures allowed { IsOk result ↔ MayDecide (position_value self.now) (decision_of decision.now) }
+        ensures refused { (why : Disallowed) → (result ≡ Err why) ↔ IsRefused (position_value self.now) (decision_of decision.now) why }
     {
         match self.refusal(decision) {
             None => Ok(()),

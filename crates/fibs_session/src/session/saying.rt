@@ -4,7 +4,8 @@ ghost use Rattle.std.specs.Prelude.{◌≡◌, true};
 ghost use Rattle.fibs_messages.specs.StoredBoard.{fields_of};
 ghost use Rattle.fibs_position.specs.DecisionOf.{decision_of};
 ghost use Rattle.fibs_position.specs.DirectionOf.{direction_of};
-ghost use Rattle.fibs_position.specs.PositionValue.{board_of};
+ghost use Rattle.fibs_position.specs.PositionValue.{position_of};
+ghost use Rattle.fibs_position.specs.StoredPosition.{position_value};
 ghost use Rattle.fibs_session.specs.Calls.FieldSteps.{answer_of, decide_fields, decide_send, may_send_of, plain_refusal_of, plain_fields, plain_send, with_plain};
 ghost use Rattle.fibs_session.specs.Commands.{command_of};
 ghost use Rattle.fibs_session.specs.History.Machine.{allows, refusal_of};
@@ -21,7 +22,7 @@ use fibs_position::{Decision, Disallowed, Position};
 /// The position of a board that has one.
 fn position_of(board: &Board) -> Position
     requires { good (fields_of board.now) ≡ true }
-    ensures { board_of result ≡ fields_of board.now }
+    ensures { position_value result ≡ position_of (fields_of board.now) }
 {
     Position::of(board).unwrap()
 }

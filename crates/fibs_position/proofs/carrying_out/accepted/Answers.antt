@@ -16,7 +16,7 @@ pub set-board-requires-2 : goal.set-board-requires-2
 set-board-requires-2 c =
     let cube = c.field-cube.ensures.cube refl in
     let is = c.field-cube.ensures.value in
-    may_cube _ (omega (arith, ints)) (omega (arith, ints))
+    may_cube c.fields_have_their_ranges.ensures _ (omega (arith, ints)) (omega (arith, ints))
 
 pub set-board-requires-3 : goal.set-board-requires-3
 unfolding field_values
@@ -27,7 +27,7 @@ unfolding field_values
 set-board-requires-4 c = refl
 
 pub set-requires : goal.set-requires
-set-requires c = let side = c.colour-turn.ensures.side in may_turn _ (omega (arith, ints)) (omega (arith, ints))
+set-requires c = let side = c.colour-turn.ensures.side in may_turn c.fields_have_their_ranges.ensures _ (omega (arith, ints)) (omega (arith, ints))
 
 pub returns : goal.returns
 returns c =

@@ -10,7 +10,7 @@ use Rattle.fibs_position.proofs.SetLemmas.{may_turn, may_off, set_last}
 use Rattle.fibs_position.proofs.carrying_out.after_move.Goals as goal
 
 pub set-after-requires : goal.set-after-requires
-set-after-requires c = let is = c.from.ensures in may_off _ (omega (arith, ints)) (omega (arith, ints))
+set-after-requires c = let is = c.from.ensures in may_off c.fields_have_their_ranges.ensures _ (omega (arith, ints)) (omega (arith, ints))
 
 pub set-after-requires-2 : goal.set-after-requires-2
 unfolding field_values
@@ -24,7 +24,7 @@ pub set-requires : goal.set-requires
 set-requires c =
     let low = c.turn_after-turn.ensures.low in
     let high = c.turn_after-turn.ensures.high in
-    may_turn _ (omega (arith, ints)) (omega (arith, ints))
+    may_turn c.fields_have_their_ranges.ensures _ (omega (arith, ints)) (omega (arith, ints))
 
 pub returns : goal.returns
 returns c =

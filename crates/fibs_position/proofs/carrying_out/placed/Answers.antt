@@ -13,7 +13,7 @@ pub set-after-requires : goal.set-after-requires
 set-after-requires c =
     let low = c.value_of-value.ensures.low in
     let high = c.value_of-value.ensures.high in
-    may_stand _ _ (omega arith) (omega arith) (omega (arith, ints)) (omega (arith, ints))
+    may_stand c.fields_have_their_ranges.ensures _ _ (omega arith) (omega arith) (omega (arith, ints)) (omega (arith, ints))
 
 pub loop-place-preserved : goal.loop-place-preserved
 loop-place-preserved c =

@@ -1,8 +1,12 @@
 use Rattle.std.proofs.lemmas.Bool.Decides.{same_from_decides}
-use Rattle.fibs_position.specs.PositionValue.{board_of}
+use Rattle.fibs_position.specs.StoredPosition.{position_value}
 use Rattle.fibs_position.specs.Phases.{can_move}
-use Rattle.fibs_position.proofs.PhaseExact.{can_move_decides}
+use Rattle.fibs_position.proofs.PhaseExact.{SmallDice, can_move_decides}
 use Rattle.fibs_position.proofs.position.Position.can_move.Goals as goal
 
 pub returns : goal.returns
-returns c = same_from_decides c.can_move.result (can_move (board_of c.args.self.now)) (rw c.turn.ensures at c.can_move.ensures) (can_move_decides (board_of c.args.self.now) c.args.self.now.good.board)
+unfolding position_value
+returns c =
+    let p = (position_value c.args.self.now).standing in
+    let small : SmallDice p = record { first = c.args.self.now.first; second = c.args.self.now.second } in
+    same_from_decides c.can_move.result (can_move p) (rw c.turn.ensures at c.can_move.ensures) (can_move_decides p small)

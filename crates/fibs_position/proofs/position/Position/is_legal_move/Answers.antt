@@ -1,6 +1,7 @@
 use Rattle.std.proofs.Common.{sym, ap, ◌∙◌}
 use Rattle.std.proofs.lemmas.Bool.Decides.{same_from_decides}
-use Rattle.fibs_position.specs.PositionValue.{board_of}
+use Rattle.fibs_position.specs.StoredPosition.{position_value}
+use Rattle.fibs_position.proofs.PhaseExact.{SmallDice}
 use Rattle.fibs_position.specs.PlayValue.{hops_of}
 use Rattle.fibs_position.specs.DecisionValue.{move}
 use Rattle.fibs_position.specs.DecisionOf.{decision_of}
@@ -9,8 +10,10 @@ use Rattle.fibs_position.proofs.AllowedLemmas.{legal_decides}
 use Rattle.fibs_position.proofs.position.Position.is_legal_move.Goals as goal
 
 pub returns-in-Move : goal.returns-in-Move
+unfolding position_value
 returns-in-Move c =
-    let b = board_of c.args.self.now in
+    let p = position_value c.args.self.now in
+    let small : SmallDice (position_value c.args.self.now).standing = record { first = c.args.self.now.first; second = c.args.self.now.second } in
     let steps = hops_of c.in-Move.play in
-    same_from_decides c.is_legal.result (is_legal b (move steps)) c.is_legal.ensures (legal_decides b (move steps) c.args.self.now.good.board)
-    ∙ ap (λ d. is_legal b (decision_of d)) (sym c.in-Move.is)
+    same_from_decides c.is_legal.result (is_legal p (move steps)) c.is_legal.ensures (legal_decides p (move steps) small)
+    ∙ ap (λ d. is_legal p (decision_of d)) (sym c.in-Move.is)
