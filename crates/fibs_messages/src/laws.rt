@@ -12,6 +12,8 @@ ghost use Rattle.fibs_messages.specs.Message.{HasNumber, IsMessage, IsNumber, Is
 ghost use Rattle.fibs_messages.specs.ReadingOf.{reading_of};
 ghost use Rattle.fibs_messages.specs.declared.messages.message.Message.{Message};
 ghost use Rattle.fibs_messages.specs.MessageOf.{message_of};
+ghost use Rattle.fibs_messages.specs.NameBytes.{name_bytes};
+ghost use Rattle.fibs_messages.specs.WordBytes.{tail_bytes, word_bytes};
 ghost use Rattle.fibs_messages.specs.Printed.{IsPrinted};
 ghost use Rattle.fibs_messages.specs.StoredBoard.{fields_of, read_fields};
 ghost use Rattle.fibs_messages.specs.declared.boards.board.Board.{Board};
@@ -19,6 +21,8 @@ ghost use Rattle.fibs_messages.specs.declared.messages.message.OwnInfo.{OwnInfo}
 
 use crate::boards::board::Board;
 use crate::fields::fault::{Fault, FieldFault};
+use crate::fields::name::Name;
+use crate::fields::word::{Tail, Word};
 use crate::line::{Reading, read};
 use crate::messages::message::{Message, OwnInfo, WhoInfo};
 
@@ -37,6 +41,41 @@ pub fn spellings_tell_boards()
 /// Two boards are equal exactly if their 53 fields are.
 pub fn fields_tell_boards(a: &Board, b: &Board) -> bool
     ensures { IsTrue result ↔ (fields_of a.now ≡ fields_of b.now) }
+{
+    *a == *b
+}
+
+/// Two faults are equal exactly where they are one.
+pub fn faults_are_themselves(a: Fault, b: Fault) -> bool
+    ensures { IsTrue result ↔ (a ≡ b) }
+{
+    a == b
+}
+
+/// Two wrong fields are equal exactly where they have one number and one fault.
+pub fn field_faults_are_their_parts(a: &FieldFault, b: &FieldFault) -> bool
+    ensures { IsTrue result ↔ (a.now ≡ b.now) }
+{
+    *a == *b
+}
+
+/// Two names are equal exactly where their bytes are.
+pub fn names_are_their_bytes(a: &Name<'_>, b: &Name<'_>) -> bool
+    ensures { IsTrue result ↔ (name_bytes a.now ≡ name_bytes b.now) }
+{
+    *a == *b
+}
+
+/// Two words are equal exactly where their bytes are.
+pub fn words_are_their_bytes(a: &Word<'_>, b: &Word<'_>) -> bool
+    ensures { IsTrue result ↔ (word_bytes a.now ≡ word_bytes b.now) }
+{
+    *a == *b
+}
+
+/// Two tails are equal exactly where their bytes are.
+pub fn tails_are_their_bytes(a: &Tail<'_>, b: &Tail<'_>) -> bool
+    ensures { IsTrue result ↔ (tail_bytes a.now ≡ tail_bytes b.now) }
 {
     *a == *b
 }

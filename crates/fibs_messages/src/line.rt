@@ -16,7 +16,7 @@ use crate::messages::number::{number_of, rest_of};
 use crate::messages::read::read_message;
 
 /// What a line of the server is.
-#[derive(Clone, Copy, Debug)]
+#[derive(Clone, Copy, Debug, PartialEq, Eq)]
 pub enum Reading<'a> {
     /// A numbered line, whose fields are right.
     Numbered(Message<'a>),

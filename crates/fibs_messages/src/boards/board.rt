@@ -1,6 +1,6 @@
 //! Boards of FIBS board style 3.
 
-ghost use Rattle.std.specs.Prelude.{◌≡◌, ◌≢◌, ◌≤◌, IfSome, IsSome, ◌↔◌, ◌≤ℤ◌, ◌⊎◌, pos, negsuc, ◌++◌, ◌+◌, ℕ, true, length, IfOk, IfErr, option_map, Ok, Err};
+ghost use Rattle.std.specs.Prelude.{◌≡◌, ◌≢◌, ◌≤◌, IfSome, IsSome, ◌↔◌, ◌≤ℤ◌, ◌⊎◌, pos, negsuc, ◌++◌, ◌+◌, ℕ, true, length, IfOk, IfErr, OnOk, OnErr, drop, option_map, Ok, Err};
 ghost use Rattle.fibs_messages.specs.Stored.{name_of};
 ghost use Rattle.fibs_messages.specs.BoardProp.{IsBoard-prop};
 ghost use Rattle.fibs_messages.specs.Name.{is_name};
@@ -9,12 +9,13 @@ ghost use Rattle.arrayvec.specs.ArrayVec.{array_vec_len};
 ghost use Rattle.fibs_messages.specs.Board.{BoardFields, IsBoard, Fit, field_values, spelling, BoardText, Wrong, field_of, can_have, with_field};
 
 use crate::boards::field_ranges::can_have;
-use crate::boards::print::{NUMBERS_LEN, write_numbers};
+use crate::boards::print::{LINE_LEN, write_board};
 use crate::boards::read::read_board;
 use crate::boards::stored_name::StoredName;
 use crate::fields::fault::FieldFault;
 use crate::fields::name::Name;
 use arrayvec::ArrayVec;
+use std::alloc::AllocError;
 
 /// A board as the server shows it in board style 3: two names, and 50 numbers of which each is one that its field may have.
 ///
@@ -78,15 +79,37 @@ impl Board {
         ensures says { BoardText (fields_of self.now) result.items }
         ensures short { array_vec_len result ≤ 329 }
     {
+        let mut text = [0; LINE_LEN];
+        let start = self.write_line(&mut text);
         let mut out = ArrayVec::new();
-        append(&mut out, b"board:");
-        append(&mut out, self.player.as_slice());
-        out.push(b':');
-        append(&mut out, self.opponent.as_slice());
-        let mut numbers = [0; NUMBERS_LEN];
-        let start = write_numbers(&mut numbers, &self.numbers);
-        append(&mut out, &numbers[start..]);
+        append(&mut out, &text[start..]);
         out
+    }
+
+    /// Appends the line that says the board, without a line end. Where `print` gives a text by value, this makes no copy of
+    /// one.
+    ///
+    /// A refusal of memory leaves `out` as it was.
+    pub fn print_into(&self, out: &mut Vec<u8>) -> Result<(), AllocError>
+        ensures appended { OnOk result (out.new.items ≡ out.old.items ++ spelling (fields_of self.now)) }
+        ensures refused { OnErr result (out.new.items ≡ out.old.items) }
+    {
+        let mut text = [0; LINE_LEN];
+        let start = self.write_line(&mut text);
+        out.extend_from_slice(&text[start..])
+    }
+
+    /// Writes the line that says the board so that it ends the text, and gives where it starts.
+    fn write_line(&self, text: &mut [u8; LINE_LEN]) -> usize
+        ensures within { result ≤ 329 }
+        ensures written { drop result text.new ≡ spelling (fields_of self.now) }
+    {
+        write_board(
+            text,
+            self.player.as_slice(),
+            self.opponent.as_slice(),
+            &self.numbers,
+        )
     }
 
     /// The player's name, `You` where one plays oneself.

@@ -1,4 +1,4 @@
-use Rattle.std.proofs.Common.{◌≡◌, ◌≤◌, take, drop}
+use Rattle.std.proofs.Common.{◌≡◌, ◌≤◌, ◌+◌, take, drop}
 use Rattle.fibs_messages.specs.Board.{field_values}
 use Rattle.fibs_messages.specs.Numerals.{after_colons}
 use Rattle.fibs_messages.proofs.BoardLemmas.Lengths.{total}
@@ -7,8 +7,8 @@ use Rattle.fibs_messages.proofs.boards.print.write_numbers.Given as goal
 abbrev pub invariant-loop-left : goal.invariant-loop-left
 invariant-loop-left l = record {
   count : l.left ≤ 50;
-  within : l.start ≤ 194;
-  room : total (take l.left field_values) ≤ l.start;
+  within : l.start ≤ 329;
+  room : total (take l.left field_values) + 135 ≤ l.start;
   text : drop l.start l.text ≡ after_colons (drop l.left l.numbers);
 }
 
