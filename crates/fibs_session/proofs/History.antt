@@ -5,3 +5,4 @@ pub mod Words
 pub mod Texts
 pub mod Fields
 pub mod Joins
+pub mod Owing

@@ -5,3 +5,4 @@ pub mod Hearing
 pub mod Refusals
 pub mod Machine
 pub mod MachineLaws
+pub mod Owing

@@ -28,7 +28,7 @@ heard_open c log (board_line b) o = if_open (good b) _ _ o refl refl
 heard_open c log (text_line text) o = refl
 heard_open c log (malformed_line number k f) o = refl
 
-hears_open : (t : Talk) (r : ReadingValue) → open_now (t.log ++ (heard_by t r).entries) ≡ open_now t.log
+pub hears_open : (t : Talk) (r : ReadingValue) → open_now (t.log ++ (heard_by t r).entries) ≡ open_now t.log
 hears_open t r = open_append 0 t.log (heard_by t r).entries ∙ heard_open (open_now t.log) t.log r (open_now t.log)
 
 all_open : (t : Talk) (ls : List ReadLine) → open_now (hears_all t ls).talk.log ≡ open_now t.log

@@ -31,16 +31,19 @@ AnswersLine v None (Some a) v' = ⊥
 AnswersLine v (Some line) None v' = ⊥
 AnswersLine v (Some line) (Some a) v' = SessionHears v v' line (texts_of a.send.items) (option_map ask_of a.confirmed) × (kept_reading a.kept line ≡ line_reading line)
 
+-- by lines and session, while a connection is open
 pub record ReadsOnline (old new : ClientValue) (piece : List ℕ) (h : HeardLine) : Type 0 where
   pub gains : (s : List ℕ) → LinesStandAfter old.lines s → Gains s piece h.used new.lines.line
   pub stands : (s : List ℕ) → LinesStandAfter old.lines s → LinesStandAfter new.lines (s ++ take h.used piece)
   pub answers : AnswersLine old.session new.lines.line h.answer new.session
 
+-- and while none is
 pub record ReadsOffline (old new : ClientValue) (piece : List ℕ) (h : HeardLine) : Type 0 where
   pub used : h.used ≡ length piece
   pub answer : h.answer ≡ None
   pub same : new ≡ old
 
+-- a piece was read
 pub record ReadsPiece (old new : ClientValue) (piece : List ℕ) (h : HeardLine) : Type 0 where
   pub online : old.session.online ≡ true → ReadsOnline old new piece h
   pub offline : old.session.online ≡ false → ReadsOffline old new piece h
@@ -70,24 +73,29 @@ ShowsLine (Some line) (Some a) t = t ≡ Some (record { line = line; reading = l
 unfoldable pub Shows : ClientValue → HeardLine → Option TakenValue → Type 0
 Shows c h t = ShowsLine c.lines.line h.answer t
 
--- what `feed` answers and does, from its two halves
+-- the commands that answer a line
 abbrev pub commands_of : Option TakenValue → List (List ℕ)
 commands_of None = []
 commands_of (Some t) = t.send
 
+-- what a line confirmed
 abbrev pub confirmed_of_taken : Option TakenValue → Option Ask
 confirmed_of_taken None = None
 confirmed_of_taken (Some t) = t.confirmed
 
+-- the line
 abbrev pub line_of_taken : Option TakenValue → Option ReadLine
 line_of_taken None = None
 line_of_taken (Some t) = Some t.line
 
+-- the reading is the line's
 abbrev pub ReadsItself : Option TakenValue → Type 0
 ReadsItself None = Unit {0}
 ReadsItself (Some t) = t.reading ≡ line_reading t.line
 
--- what `feed` answers
+-- what `feed` answers after each history that the client stood after: the commands that the machine hands out; while a connection is
+-- open, the shortest front with which the stream has one line more, and that line, its reading and what it confirms; else the whole
+-- piece, and no line
 pub record FeedAnswers (old : ClientValue) (piece : List ℕ) (used : ℕ) (taken : Option TakenValue) : Type 0 where
   pub hands : (t : Talk) → StandsAfter old t → commands_of taken ≡ (step t (Piece (take used piece))).send
   pub uses : (t : Talk) → StandsAfter old t → is_online t ≡ true → Gains t.stream piece used (line_of_taken taken)

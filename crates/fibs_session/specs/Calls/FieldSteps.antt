@@ -1,4 +1,4 @@
--- What each call does to the fields. No public contract rests on it.
+-- What each call does to the fields of a session. No public contract rests on it: those speak of the history.
 use Rattle.std.specs.Prelude.{ℕ, Bool, true, false, not, ◌&&◌, ◌||◌, List, [], ◌∷◌, Option, Some, None, option_map, if◌then◌else◌, is_some, nat_eq}
 use Rattle.fibs_messages.specs.Board.{BoardFields}
 use Rattle.fibs_messages.specs.Message.{MessageValue}

@@ -1,4 +1,4 @@
--- A session's fields as values, and what a history says of each.
+-- A session's fields as values, and what a history says of each. No public contract opens it.
 use Rattle.std.specs.Prelude.{◌≡◌, ◌≤◌, ◌<◌, ℕ, Bool, false, not, List, [], Option, nat_eq}
 use Rattle.std.specs.Str.{bytes_eq}
 use Rattle.fibs_messages.specs.Board.{BoardFields}
@@ -8,6 +8,7 @@ use Rattle.fibs_session.specs.History.Log.{Entry, Flags}
 use Rattle.fibs_session.specs.History.Words.{Ask, is_empty, last, open_now, connections, shown, sent, welcomed, informed, unconfirmed}
 use Rattle.fibs_session.specs.History.Machine.{Talk, was_sent}
 
+-- what a session keeps
 pub record SessionValue : Type 0 where
   pub login : List ℕ
   pub online : Bool
@@ -36,7 +37,7 @@ pub record Numbered (log : List Entry) : Type 0 where
   pub none : Quiet 0 log
   pub fresh : (c : ℕ) → connections log < c → Quiet c log
 
--- the fields are what the history says of the open connection, which is 0 offline
+-- the fields are what the history says of the open connection, which is 0 offline: then nothing was noted of it
 pub record At (v : SessionValue) (t : Talk) : Type 0 where
   pub conn : ℕ
   pub is_open : open_now t.log ≡ conn

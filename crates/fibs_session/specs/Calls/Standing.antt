@@ -4,14 +4,16 @@ use Rattle.fibs_lines.specs.LinesValue.{LinesValue, StandsAfter as LinesStandAft
 use Rattle.fibs_session.specs.History.Machine.{Talk, InputValue, start, run}
 use Rattle.fibs_session.specs.Calls.SessionValue.{SessionValue, At}
 
--- Callers name what has happened by this word, and never open it
+-- a session stands after what has happened. Callers name what has happened by this word, and never open it
 unfoldable pub SessionStandsAfter : SessionValue → Talk → Type 0
 SessionStandsAfter v t = At v t
 
+-- what a client keeps
 pub record ClientValue : Type 0 where
   pub lines : LinesValue
   pub session : SessionValue
 
+-- a client stands after what has happened: its lines after the bytes, its session after the rest. Never opened either
 unfoldable pub StandsAfter : ClientValue → Talk → Type 0
 StandsAfter v t = LinesStandAfter v.lines t.stream × At v.session t
 

@@ -1,4 +1,4 @@
--- What a line says to a client: the one place where it stands.
+-- What a line says to a client (FIBS CLIP specification 1008; FIBS board style 3): the one place where it stands.
 use Rattle.std.specs.Prelude.{ℕ, List, [], ◌∷◌, ◌++◌, Option, None, if◌then◌else◌, nat_eq}
 use Rattle.fibs_lines.specs.Lines.{ReadLine}
 use Rattle.fibs_messages.specs.Board.{BoardFields}
@@ -18,9 +18,11 @@ pub record Heard : Type 0 where
   pub send : List (List ℕ)
   pub confirmed : Option Ask
 
+-- every other line
 abbrev pub nothing_heard : Heard
 nothing_heard = record { entries = []; send = []; confirmed = None }
 
+-- what a message 2 says of the server
 abbrev pub flags_of : MessageValue → Flags
 flags_of m = record { automove = automove m; greedy = greedy m }
 
@@ -42,10 +44,11 @@ heard_message c log m =
 abbrev pub confirmed_by_board : ℕ → List Entry → BoardFields → Option Ask
 confirmed_by_board c log b = if is_spent same_game c (log ++ Shown c b ∷ []) then None else unconfirmed same_game c log
 
+-- a board that has a position is shown
 abbrev pub heard_board : ℕ → List Entry → BoardFields → Heard
 heard_board c log b = if good b then record { entries = Shown c b ∷ []; send = []; confirmed = confirmed_by_board c log b } else nothing_heard
 
--- the connection, its log before the line, and the line's reading
+-- of the connection, its log before the line, and the line's reading
 abbrev pub heard : ℕ → List Entry → ReadingValue → Heard
 heard c log (numbered_line m) = heard_message c log m
 heard c log (board_line b) = heard_board c log b

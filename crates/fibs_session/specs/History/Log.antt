@@ -1,23 +1,23 @@
--- What is noted as it happens.
+-- What is noted as it happens, by a client and by the model server (the project's own). Connections are numbered from 1.
 use Rattle.std.specs.Prelude.{ℕ, Bool, Option}
 use Rattle.fibs_messages.specs.Board.{BoardFields}
 use Rattle.fibs_position.specs.DecisionValue.{DecisionValue}
 use Rattle.fibs_session.specs.declared.refusal.Refusal.{Refusal}
 
--- what a message 2 says of the server: whether it moves and bears off by itself
+-- what a message 2 says of the server (FIBS CLIP specification 1008): whether it moves and bears off by itself
 pub record Flags : Type 0 where
   pub automove : Bool
   pub greedy : Bool
 
--- an entry of the log
+-- an entry of the log; its first part is the connection
 pub data Entry : Type 0 where
-  Opened : ℕ → Entry
-  LoggedIn : ℕ → Entry
-  Welcomed : ℕ → Entry
-  Informed : ℕ → Flags → Entry
-  Shown : ℕ → BoardFields → Entry
-  Clicked : ℕ → DecisionValue → Option Refusal → Entry
-  Sent : ℕ → BoardFields → DecisionValue → Entry
-  Took : ℕ → BoardFields → DecisionValue → Entry
-  Undone : ℕ → BoardFields → DecisionValue → Entry
-  Lost : ℕ → Option (BoardFields × DecisionValue) → Entry
+  Opened : ℕ → Entry  -- the client opened it
+  LoggedIn : ℕ → Entry  -- the server served its login
+  Welcomed : ℕ → Entry  -- the client read a message 1
+  Informed : ℕ → Flags → Entry  -- it read a message 2
+  Shown : ℕ → BoardFields → Entry  -- it read a board that has a position
+  Clicked : ℕ → DecisionValue → Option Refusal → Entry  -- the user decided; no refusal is the yes. Offline the connection is 0
+  Sent : ℕ → BoardFields → DecisionValue → Entry  -- directly after a click with a yes: the decision, on the board shown
+  Took : ℕ → BoardFields → DecisionValue → Entry  -- the server carried a decision out, on its board
+  Undone : ℕ → BoardFields → DecisionValue → Entry  -- it served a decision that changed nothing
+  Lost : ℕ → Option (BoardFields × DecisionValue) → Entry  -- the connection ended, with what was unconfirmed

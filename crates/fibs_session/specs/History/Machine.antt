@@ -1,4 +1,5 @@
--- The client as a machine over its inputs: its history, the bytes of the open connection, and the commands handed out on it.
+-- The client as a machine over its inputs (the project's own): its history, the bytes of the open connection, and the commands
+-- handed out on it.
 use Rattle.std.specs.Prelude.{ℕ, suc, Bool, true, false, not, ◌&&◌, ◌||◌, List, [], ◌∷◌, ◌++◌, length, drop, Option, Some, None, option_map, if◌then◌else◌, nat_eq, flat_map}
 use Rattle.std.specs.Str.{bytes_eq}
 use Rattle.fibs_lines.specs.Lines.{ReadLine, lines_of}
@@ -31,6 +32,7 @@ pub record Step : Type 0 where
   pub talk : Talk
   pub send : List (List ℕ)
 
+-- what comes to a client: bytes of the server, a decision of the user, another command of his
 pub data InputValue : Type 0 where
   Open : InputValue
   Lose : InputValue
@@ -38,6 +40,7 @@ pub data InputValue : Type 0 where
   Click : DecisionValue → InputValue
   PlainInput : PlainValue → InputValue
 
+-- before all
 abbrev pub start : List ℕ → Talk
 start login = record { login = login; log = []; stream = []; commands = [] }
 
@@ -51,17 +54,21 @@ is_online t = not (nat_eq (open_now t.log) 0)
 abbrev pub noted : Talk → List Entry → List (List ℕ) → Talk
 noted t entries texts = record { login = t.login; log = t.log ++ entries; stream = t.stream; commands = t.commands ++ texts }
 
+-- it notes and hands out
 abbrev pub does : Talk → List Entry → List (List ℕ) → Step
 does t entries texts = record { talk = noted t entries texts; send = texts }
 
+-- nothing happens
 abbrev pub stays : Talk → Step
 stays t = record { talk = t; send = [] }
 
 -- Open
 
+-- refused where a connection is open
 abbrev pub open_refusal : Talk → Option Refusal
 open_refusal t = if is_online t then Some R.AlreadyOpen else None
 
+-- a new connection has no bytes, and its first command is the login
 abbrev pub opened : Talk → Talk
 opened t = record { login = t.login; log = t.log ++ Opened (suc (connections t.log)) ∷ []; stream = []; commands = t.login ∷ [] }
 
@@ -70,6 +77,7 @@ opens t = if is_online t then stays t else record { talk = opened t; send = t.lo
 
 -- Lose
 
+-- what is unconfirmed on the open connection
 abbrev pub unconfirmed_now : Talk → Option Ask
 unconfirmed_now t = unconfirmed same_game (open_now t.log) t.log
 
@@ -78,19 +86,23 @@ loses t = if is_online t then does t (Lost (open_now t.log) (unconfirmed_now t) 
 
 -- Piece
 
+-- what a line says now
 abbrev pub heard_by : Talk → ReadingValue → Heard
 heard_by t r = heard (open_now t.log) t.log r
 
 abbrev pub hears : Talk → Heard → Step
 hears t h = does t h.entries h.send
 
+-- one step after another: what both hand out
 abbrev pub then_also : List (List ℕ) → Step → Step
 then_also texts later = record { talk = later.talk; send = texts ++ later.send }
 
+-- the lines are heard, one after another
 unfoldable pub hears_all : Talk → List ReadLine → Step
 hears_all t [] = stays t
 hears_all t (l ∷ ls) = then_also (heard_by t (line_reading l)).send (hears_all (hears t (heard_by t (line_reading l))).talk ls)
 
+-- more bytes have come
 abbrev pub with_bytes : Talk → List ℕ → Talk
 with_bytes t bytes = record { login = t.login; log = t.log; stream = t.stream ++ bytes; commands = t.commands }
 
@@ -101,10 +113,11 @@ gained before more = drop (length (lines_of before)) (lines_of (before ++ more))
 abbrev pub reads : Talk → List ℕ → Step
 reads t bytes = if is_online t then hears_all (with_bytes t bytes) (gained t.stream bytes) else stays t
 
--- a whole line, with its line end
+-- what a whole line says; offline nothing
 abbrev pub line_heard : Talk → ReadLine → Heard
 line_heard t l = if is_online t then heard_by t (line_reading l) else nothing_heard
 
+-- the last board shown on the open connection
 abbrev pub shown_now : Talk → Option BoardFields
 shown_now t = last (shown (open_now t.log) t.log)
 
@@ -115,12 +128,15 @@ refusal_of D.NotYours = R.NotYours
 refusal_of D.WrongKind = R.WrongKind
 refusal_of D.IllegalPlay = R.IllegalPlay
 
+-- why a board does not allow a decision, if it does not
 abbrev pub allows : BoardFields → DecisionValue → Option Refusal
 allows b d = option_map refusal_of (allowed_of b d)
 
+-- the answer to a click
 abbrev pub answer_now : Talk → DecisionValue → Option Refusal
 answer_now t d = answer same_game allows t.log d
 
+-- the decision is sent, in the numbers of the board shown last
 abbrev pub decides_on : Talk → DecisionValue → Option BoardFields → Step
 decides_on t d None = stays t
 decides_on t d (Some b) = does t (Clicked (open_now t.log) d None ∷ Sent (open_now t.log) b d ∷ []) (command_of (direction_of b) d ∷ [])
@@ -134,10 +150,12 @@ clicks t d = clicks_by t d (answer_now t d)
 
 -- Plain
 
+-- the text is one of the commands
 abbrev pub was_sent : List ℕ → List (List ℕ) → Bool
 was_sent text [] = false
 was_sent text (t ∷ ts) = bytes_eq text t || was_sent text ts
 
+-- the flag is 1
 abbrev pub says : (Flags → Bool) → Option Flags → Bool
 says flag None = false
 says flag (Some f) = flag f
@@ -146,11 +164,13 @@ says flag (Some f) = flag f
 abbrev pub is_on : Talk → (Flags → Bool) → PlainValue → Bool
 is_on t flag p = says flag (last (informed (open_now t.log) t.log)) && not (was_sent (plain_of p) t.commands)
 
+-- only the two commands that turn something off ask for that
 abbrev pub may_send : Talk → PlainValue → Bool
 may_send t automove_off = is_on t (λ f. f.automove) automove_off
 may_send t greedy_off = is_on t (λ f. f.greedy) greedy_off
 may_send t p = true
 
+-- the first that fits; None is the yes
 abbrev pub plain_refusal : Talk → PlainValue → Option PlainRefusal
 plain_refusal t p =
     if not (is_online t) then Some P.Offline
@@ -177,6 +197,7 @@ unfoldable pub run : Talk → List InputValue → Step
 run t [] = stays t
 run t (i ∷ is) = then_also (step t i).send (run (step t i).talk is)
 
+-- a command as it is sent: with CR LF
 abbrev pub on_wire : List ℕ → List ℕ
 on_wire text = text ++ 13 ∷ 10 ∷ []
 

@@ -1,4 +1,4 @@
--- What a history of entries, the oldest first, says of a connection.
+-- What a history of entries, the oldest first, says of a connection (the project's own). Each word is of the whole list.
 use Rattle.std.specs.Prelude.{◌≡◌, ℕ, Bool, true, false, not, ◌&&◌, ◌||◌, List, [], ◌∷◌, length, Option, Some, None, if◌then◌else◌, nat_eq, flat_map}
 use Rattle.fibs_messages.specs.Board.{BoardFields as Board}
 use Rattle.fibs_position.specs.DecisionValue.{DecisionValue as Decision}
@@ -13,10 +13,12 @@ Ask = Board × Decision
 
 -- lists
 
+-- a list of one, or the empty one
 abbrev pub one_if : {A : Type 0} → Bool → A → List A
 one_if true x = x ∷ []
 one_if false x = []
 
+-- no element
 abbrev pub is_empty : {A : Type 0} → List A → Bool
 is_empty [] = true
 is_empty (x ∷ xs) = false
@@ -27,6 +29,7 @@ last [] = None
 last (x ∷ []) = Some x
 last (x ∷ y ∷ ys) = last (y ∷ ys)
 
+-- the test holds of each element
 abbrev pub each : {A : Type 0} → (A → Bool) → List A → Bool
 each p [] = true
 each p (x ∷ xs) = p x && each p xs
@@ -102,15 +105,17 @@ unconfirmed like c log = if is_spent like c log then last (sent c log) else None
 
 -- the answer to a click
 
+-- on the board shown last: no board, a stretch that is spent, what the board allows
 abbrev pub if_board : (Board → Decision → Option Refusal) → Bool → Decision → Option Board → Option Refusal
 if_board allows spent d None = Some NoBoard
 if_board allows spent d (Some b) = if spent then Some Waiting else allows b d
 
+-- the server plays: the flags have a 1
 abbrev pub plays_itself : Option Flags → Bool
 plays_itself None = false
 plays_itself (Some f) = f.automove || f.greedy
 
--- the first that fits; None is the yes
+-- of a decision by the history: the first refusal that fits; None is the yes
 abbrev pub answer : (Board → Board → Bool) → (Board → Decision → Option Refusal) → List Entry → Decision → Option Refusal
 answer like allows log d =
     let c : ℕ = open_now log in

@@ -1,6 +1,7 @@
 //! Laws of the client as a machine over its inputs, for proofs in the crates above. Each function does nothing: its
 //! contract is the law, stated in `specs/History/MachineLaws.antt`.
 
+ghost use Rattle.fibs_session.specs.History.Owing.{PiecesTakeFromWhatIsOwed};
 ghost use Rattle.fibs_session.specs.History.MachineLaws.{PiecesJoin, EmptyPieceIsNothing, InputsGoOn, ServersEntriesAreSilent};
 
 /// Bytes may come in any pieces: two pieces after each other are one.
@@ -23,4 +24,10 @@ pub fn servers_entries_are_silent()
 /// A call leaves a client after its list of inputs with the call's.
 pub fn inputs_go_on()
     ensures { InputsGoOn }
+{}
+
+/// What a piece makes a client hand out is taken from what is owed on the connection: 18 bytes of commands, line ends
+/// included, before message 1, and 44 before message 2. Later lines hand out nothing.
+pub fn pieces_take_from_what_is_owed()
+    ensures { PiecesTakeFromWhatIsOwed }
 {}
