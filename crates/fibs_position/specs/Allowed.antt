@@ -4,8 +4,7 @@ use Rattle.std.specs.Ordering.{int_eq}
 use Rattle.fibs_messages.specs.Board.{BoardFields}
 use Rattle.fibs_position.specs.First.{IsFirst}
 use Rattle.fibs_position.specs.PositionValue.{PositionValue, position_of}
-use Rattle.fibs_position.specs.LegalPlays.{LegalPlay}
-use Rattle.fibs_position.specs.Search.{legal_of}
+use Rattle.fibs_position.specs.LegalPlays.{LegalPlay, legal_of}
 use Rattle.fibs_position.specs.DecisionValue.{DecisionValue, roll, double, accept, reject, move}
 use Rattle.fibs_position.specs.Phases.{InPhase, decides, phase_in}
 use Rattle.fibs_position.specs.declared.phase.Phase.{Phase}

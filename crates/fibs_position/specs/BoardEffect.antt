@@ -1,14 +1,15 @@
 -- What becomes of a board when a decision is carried out.
 --
 -- The effect asks for less than the rules do: of a move it asks that at each step a checker stands at the source and
--- no two of the opponent's at the target, and nothing of dice lengths, of the bar, of bearing off or of the fullest use of the dice.
-use Rattle.std.specs.Prelude.{◌≡◌, ◌≢◌, ◌≤ℤ◌, ◌<◌, ◌≤◌, ◌==◌, ◌+ℤ◌, ◌-ℤ◌, ◌-◌, ◌++◌, ℕ, ℤ, pos, neg_ℤ, List, [], ◌∷◌, map, slice_set, slice_index, if◌then◌else◌}
+-- no two of the opponent's at the target, and nothing of dice lengths, of the bar, of bearing off or of the fullest use
+-- of the dice.
+use Rattle.std.specs.Prelude.{◌≡◌, ◌≢◌, ◌≤ℤ◌, ◌<◌, ◌≤◌, ◌==◌, ◌+ℤ◌, ◌-ℤ◌, ◌-◌, ◌++◌, ◌&&◌, not, int_le, nat_lt, nat_le, ℕ, ℤ, pos, neg_ℤ, Bool, Option, Some, None, option_map, List, [], ◌∷◌, map, slice_set, slice_index, if◌then◌else◌}
 use Rattle.std.specs.Ordering.{int_eq}
 use Rattle.fibs_messages.specs.Board.{BoardFields, field_of}
-use Rattle.fibs_position.specs.OwnView.{turn, colour, NoDice, own_view, place_field, places}
-use Rattle.fibs_position.specs.GoodBoard.{IsGood}
+use Rattle.fibs_position.specs.OwnView.{turn, colour, NoDice, no_dice, own_view, place_field, places}
+use Rattle.fibs_position.specs.GoodBoard.{IsGood, good}
 use Rattle.fibs_position.specs.Checkers.{Checkers}
-use Rattle.fibs_position.specs.Effect.{LaxRun}
+use Rattle.fibs_position.specs.LaxPlays.{LaxRun, lax_of}
 use Rattle.fibs_position.specs.DecisionValue.{DecisionValue, roll, double, accept, reject, move}
 
 -- the board with the number of field n changed; every other field stays
@@ -58,7 +59,8 @@ placed b q = map (place_says b q) places
 
 -- the dice of the roll are the player's, and the opponent's are taken away
 abbrev pub rolled : BoardFields → List ℕ → BoardFields
-rolled b dice = set_fields b ((34, pos (slice_index dice 0)) ∷ (35, pos (slice_index dice 1)) ∷ (36, pos 0) ∷ (37, pos 0) ∷ [])
+rolled b dice =
+    set_fields b ((34, pos (slice_index dice 0)) ∷ (35, pos (slice_index dice 1)) ∷ (36, pos 0) ∷ (37, pos 0) ∷ [])
 
 -- the turn goes to the opponent, who has to answer
 abbrev pub doubled : BoardFields → BoardFields
@@ -66,17 +68,21 @@ doubled b = set_fields b ((33, neg_ℤ (colour b)) ∷ [])
 
 -- the cube shows twice as much, the player alone may double next, and the opponent goes on
 abbrev pub accepted : BoardFields → BoardFields
-accepted b = set_fields b ((41, pos 0) ∷ (38, field_of b 38 +ℤ field_of b 38) ∷ (39, pos 1) ∷ (40, pos 0) ∷ (33, neg_ℤ (colour b)) ∷ [])
+accepted b =
+    let twice = field_of b 38 +ℤ field_of b 38 in
+    set_fields b ((41, pos 0) ∷ (38, twice) ∷ (39, pos 1) ∷ (40, pos 0) ∷ (33, neg_ℤ (colour b)) ∷ [])
 
 -- the game is over
 abbrev pub rejected : BoardFields → BoardFields
 rejected b = set_fields b ((41, pos 0) ∷ (33, pos 0) ∷ [])
 
--- the checkers stand so, those borne off are counted, and the turn goes to the opponent; with all fifteen off the game is over
+-- the checkers stand so, those borne off are counted, and the turn goes to the opponent; with all fifteen off the game
+-- is over
 abbrev pub after_move : BoardFields → Checkers → BoardFields
 after_move b q =
     let off = slice_index q.own 0 in
-    set_fields b (placed b q ++ (46, pos off) ∷ (34, pos 0) ∷ (35, pos 0) ∷ (33, if off == 15 then pos 0 else neg_ℤ (colour b)) ∷ [])
+    let next = if off == 15 then pos 0 else neg_ℤ (colour b) in
+    set_fields b (placed b q ++ (46, pos off) ∷ (34, pos 0) ∷ (35, pos 0) ∷ (33, next) ∷ [])
 
 -- the table of decisions: the condition of each, and the board afterwards
 abbrev pub Carries : BoardFields → DecisionValue → List ℕ → BoardFields → Type 0
@@ -84,8 +90,34 @@ Carries b roll dice after = BeforeRoll b × AreThrown dice × (after ≡ rolled 
 Carries b double dice after = BeforeRoll b × (after ≡ doubled b)
 Carries b accept dice after = IsDoubled b × (field_of b 38 ≤ℤ pos 524288) × (after ≡ accepted b)
 Carries b reject dice after = IsDoubled b × (after ≡ rejected b)
-Carries b (move steps) dice after = BeforeMove b × ((q : Checkers) × LaxRun (own_view b) steps q × (after ≡ after_move b q))
+Carries b (move steps) dice after =
+    BeforeMove b × ((q : Checkers) × LaxRun (own_view b) steps q × (after ≡ after_move b q))
 
 -- a decision on a good board leads to a board
 abbrev pub Effect : BoardFields → DecisionValue → List ℕ → BoardFields → Type 0
 Effect b decision dice after = IsGood b × Carries b decision dice after
+
+-- the same as functions
+
+abbrev pub is_die : ℕ → Bool
+is_die die = nat_lt 0 die && nat_le die 6
+
+abbrev pub are_thrown : List ℕ → Bool
+are_thrown dice = is_die (slice_index dice 0) && is_die (slice_index dice 1)
+
+abbrev pub has_turn : BoardFields → Bool
+has_turn b = int_eq (turn b) (colour b) && int_eq (field_of b 41) (pos 0)
+
+abbrev pub is_doubled : BoardFields → Bool
+is_doubled b = not (int_eq (turn b) (pos 0)) && int_eq (field_of b 41) (pos 1)
+
+abbrev pub carried : BoardFields → DecisionValue → List ℕ → Option BoardFields
+carried b roll dice = if (has_turn b && no_dice b) && are_thrown dice then Some (rolled b dice) else None
+carried b double dice = if has_turn b && no_dice b then Some (doubled b) else None
+carried b accept dice = if is_doubled b && int_le (field_of b 38) (pos 524288) then Some (accepted b) else None
+carried b reject dice = if is_doubled b then Some (rejected b) else None
+carried b (move steps) dice =
+    if has_turn b && not (no_dice b) then option_map (after_move b) (lax_of (own_view b) steps) else None
+
+unfoldable pub effect_of : BoardFields → DecisionValue → List ℕ → Option BoardFields
+effect_of b decision dice = if good b then carried b decision dice else None

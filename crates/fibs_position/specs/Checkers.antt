@@ -1,5 +1,6 @@
 -- The checkers of both sides, and what one checker's way makes of them (rules of backgammon).
-use Rattle.std.specs.Prelude.{◌≡◌, ℕ, ◌+◌, ◌-◌, ◌<◌, ◌&&◌, ◌==◌, nat_lt, List, slice_index, slice_set, if◌then◌else◌}
+use Rattle.std.specs.Prelude.{◌≡◌, ℕ, ◌+◌, ◌-◌, ◌<◌, ◌&&◌, ◌||◌, ◌==◌, nat_lt, Bool, List, drop, slice_index, slice_set, if◌then◌else◌}
+use Rattle.std.specs.List.{list_all}
 
 -- How many checkers stand on each place, in the player's own numbering. Of the player's own, place 25 is the bar and
 -- place 0 is off. Of the other side, which goes the other way, place 0 is the bar and place 25 is off.
@@ -27,3 +28,13 @@ IsOpen p to = 0 < to → slice_index p.other to < 2
 -- all own checkers are on places 1 to 6 or off
 abbrev pub AllHome : Checkers → Type 0
 AllHome p = (place : ℕ) → 6 < place → slice_index p.own place ≡ 0
+
+-- the same as functions
+
+-- no own checker stands at this place or above it
+abbrev pub is_empty_from : Checkers → ℕ → Bool
+is_empty_from p place = list_all (λ n. n == 0) (drop place p.own)
+
+-- a place where an own checker may come
+abbrev pub is_open : Checkers → ℕ → Bool
+is_open p to = nat_lt (slice_index p.other to) 2 || (to == 0)

@@ -3,6 +3,7 @@ use Rattle.std.specs.Prelude.{◌≡◌, ◌↔◌, ℕ, ◌<◌, ◌≤◌, tru
 use Rattle.fibs_messages.specs.Board.{BoardFields}
 use Rattle.fibs_position.specs.Checkers.{Checkers}
 use Rattle.fibs_position.specs.OneChecker.{One}
+use Rattle.fibs_position.specs.LaxPlays.{LaxRun}
 use Rattle.fibs_position.specs.Hop.{Hop}
 use Rattle.fibs_position.specs.Runs.{Standing}
 use Rattle.fibs_position.specs.LegalPlays.{LegalPlay}
@@ -12,8 +13,7 @@ use Rattle.fibs_position.specs.Phases.{IsPhase, decides, phase_of}
 use Rattle.fibs_position.specs.DecisionValue.{DecisionValue, IsPlay, IsDecision}
 use Rattle.fibs_position.specs.DecisionOf.{decision_of}
 use Rattle.fibs_position.specs.Allowed.{IsAllowed, IsDisallowed, allowed_of}
-use Rattle.fibs_position.specs.BoardEffect.{AreThrown, Effect}
-use Rattle.fibs_position.specs.EffectOf.{effect_of}
+use Rattle.fibs_position.specs.BoardEffect.{AreThrown, Effect, effect_of}
 use Rattle.fibs_position.specs.declared.decision.Decision.{Decision}
 use Rattle.fibs_position.specs.declared.phase.Phase.{Phase}
 use Rattle.fibs_position.specs.declared.disallowed.Disallowed.{Disallowed}
@@ -22,8 +22,13 @@ use Rattle.fibs_position.specs.declared.disallowed.Disallowed.{Disallowed}
 -- other order lead from p to q
 abbrev pub StepsSwap : Type 0
 StepsSwap =
-    (p r q : Checkers) (low low_to high high_to die : ℕ) → 0 < die → low < high → One p low low_to die r → One r high high_to die q
+    (p r q : Checkers) (low low_to high high_to die : ℕ) → 0 < die → low < high
+    → One p low low_to die r → One r high high_to die q
     → (other : Checkers) × One p high high_to die other × One other low low_to die q
+
+-- each legal play can be carried out
+abbrev pub LegalIsCarriedOut : Type 0
+LegalIsCarriedOut = (p : Standing) (steps : List Hop) → LegalPlay p steps → (q : Checkers) × LaxRun p.checkers steps q
 
 -- the function `phase_of` tells each phase, which is the first line of the table that fits
 abbrev pub PhaseIsExact : Type 0
@@ -33,7 +38,8 @@ PhaseIsExact = (b : BoardFields) (phase : Phase) → IsGood b → (phase_of b �
 abbrev pub AllowedIsExact : Type 0
 AllowedIsExact =
     (b : BoardFields) (decision : DecisionValue) → IsGood b
-    → ((allowed_of b decision ≡ None) ↔ IsAllowed b decision) × ((why : Disallowed) → (allowed_of b decision ≡ Some why) ↔ IsDisallowed b decision why)
+    → ((allowed_of b decision ≡ None) ↔ IsAllowed b decision)
+    × ((why : Disallowed) → (allowed_of b decision ≡ Some why) ↔ IsDisallowed b decision why)
 
 -- the function `effect_of` tells exactly the boards that decisions lead to
 abbrev pub EffectIsExact : Type 0
@@ -43,7 +49,8 @@ EffectIsExact =
 
 -- a decision that is allowed is the user's
 abbrev pub AllowedIsTheUsers : Type 0
-AllowedIsTheUsers = (b : BoardFields) (decision : DecisionValue) → IsGood b → IsAllowed b decision → decides (phase_of b) ≡ true
+AllowedIsTheUsers =
+    (b : BoardFields) (decision : DecisionValue) → IsGood b → IsAllowed b decision → decides (phase_of b) ≡ true
 
 -- what is allowed is carried out, with dice that are dice
 abbrev pub AllowedIsCarriedOut : Type 0

@@ -1,5 +1,5 @@
 -- Legal plays, and the list of them (rules of backgammon).
-use Rattle.std.specs.Prelude.{◌≡◌, ◌≢◌, ◌↔◌, ℕ, ◌<◌, ◌≤◌, max, List, [], ◌∷◌, length, Contains}
+use Rattle.std.specs.Prelude.{◌≡◌, ◌≢◌, ◌↔◌, ℕ, ◌<◌, ◌≤◌, ◌==◌, ◌&&◌, ◌||◌, not, nat_lt, Bool, max, List, [], ◌∷◌, length, Contains, if◌then◌else◌}
 use Rattle.std.specs.declared.cmp.Ordering.TheVariants.{Greater}
 use Rattle.std.specs.declared.cmp.Ordering.{Ordering}
 use Rattle.std.specs.Ordering.{ordering_then, nat_cmp}
@@ -7,7 +7,7 @@ use Rattle.std.specs.Cmp.Lexicographic.{slice_cmp}
 use Rattle.std.specs.List.{AllAdjacentBelow}
 use Rattle.fibs_position.specs.Hop.{Hop}
 use Rattle.fibs_position.specs.Checkers.{Checkers}
-use Rattle.fibs_position.specs.Runs.{Run, RunOf, CanPlay, Standing, held}
+use Rattle.fibs_position.specs.Runs.{Run, RunOf, CanPlay, Standing, held, held_of, most_of, follows, can_play}
 
 -- two different dice are held, and this is the larger
 abbrev pub IsLarger : Standing → ℕ → Type 0
@@ -18,7 +18,8 @@ IsLarger p die = (0 < p.first) × (0 < p.second) × (p.first ≢ p.second) × (d
 pub record LegalPlay (p : Standing) (steps : List Hop) : Type 0 where
   pub run : (q : Checkers) × RunOf p.checkers (held p) steps q
   pub longest : (others : List Hop) (q : Checkers) → RunOf p.checkers (held p) others q → length others ≤ length steps
-  pub larger : (die : ℕ) → IsLarger p die → length steps ≡ 1 → CanPlay p.checkers die → (q : Checkers) × Run p.checkers (die ∷ []) steps q
+  pub larger : (die : ℕ) → IsLarger p die → length steps ≡ 1 → CanPlay p.checkers die
+      → (q : Checkers) × Run p.checkers (die ∷ []) steps q
 
 -- steps by source, then by target
 abbrev pub hop_cmp : Hop → Hop → Ordering
@@ -42,3 +43,20 @@ pub record IsGreatest (p : Standing) (steps : List Hop) : Type 0 where
 pub record PlayList (p : Standing) (plays : List (List Hop)) : Type 0 where
   pub each : (steps : List Hop) → Contains plays steps ↔ IsGreatest p steps
   pub descending : AllAdjacentBelow (λ a b. play_cmp a b ≡ Greater) plays (length plays)
+
+-- the rule of legal plays as a function
+
+-- two different dice are held
+abbrev pub are_two : ℕ → ℕ → Bool
+are_two a b = nat_lt 0 a && (nat_lt 0 b && not (a == b))
+
+-- two different dice are held and the larger can be played
+abbrev pub larger_first : Standing → Bool
+larger_first p = are_two p.first p.second && can_play p.checkers (max p.first p.second)
+
+abbrev pub legal_of : Standing → List Hop → Bool
+legal_of p steps =
+    (length steps == most_of p)
+    && (if (length steps == 1) && larger_first p
+    then follows p.checkers (max p.first p.second ∷ []) steps
+    else follows p.checkers (held_of p.first p.second) steps || follows p.checkers (held_of p.second p.first) steps)

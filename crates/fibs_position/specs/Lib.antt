@@ -6,7 +6,7 @@ pub mod Checkers
 pub mod OneChecker
 pub mod Runs
 pub mod LegalPlays
-pub mod Effect
+pub mod LaxPlays
 pub mod Search
 pub mod ReachedValue
 pub mod DirectionOf
@@ -20,7 +20,6 @@ pub mod Phases
 pub mod DecisionValue
 pub mod DecisionOf
 pub mod BoardEffect
-pub mod EffectOf
 pub mod Allowed
 pub mod PlaysOf
 pub mod Names

@@ -1,6 +1,6 @@
 -- One checker by one die (rules of backgammon): four ways to go, each to a free place or with a hit.
-use Rattle.std.specs.Prelude.{◌≡◌, ℕ, ◌+◌, ◌<◌, ◌≤◌, ◌⊎◌, slice_index}
-use Rattle.fibs_position.specs.Checkers.{Checkers, IsOpen, AllHome, moved}
+use Rattle.std.specs.Prelude.{◌≡◌, ℕ, ◌+◌, ◌-◌, ◌<◌, ◌≤◌, ◌==◌, ◌&&◌, ◌||◌, ◌⊎◌, Bool, nat_lt, nat_le, slice_index, Option, Some, None, if◌then◌else◌}
+use Rattle.fibs_position.specs.Checkers.{Checkers, IsOpen, AllHome, moved, is_empty_from, is_open}
 
 -- from the bar, to the place that the die counts from 25 down
 pub record Enters (p : Checkers) (from to die : ℕ) : Type 0 where
@@ -36,3 +36,24 @@ pub record One (p : Checkers) (from to die : ℕ) (q : Checkers) : Type 0 where
   pub goes : Enters p from to die ⊎ Moves p from to die ⊎ BearsOff p from to die ⊎ BearsOffHighest p from to die
   pub free : IsOpen p to
   pub leads : q ≡ moved p from to
+
+-- the same as a function
+
+-- a checker may leave this place by this die, wherever it comes to
+abbrev pub can_leave : Checkers → ℕ → ℕ → Bool
+can_leave p from die =
+    if nat_lt 0 (slice_index p.own 25)
+    then from == 25
+    else nat_lt 0 (slice_index p.own from)
+    && (nat_lt die from || (is_empty_from p 7 && (from == die || is_empty_from p (from + 1))))
+
+-- the places from which a checker may go
+abbrev pub is_source : ℕ → Bool
+is_source from = nat_lt 0 from && nat_le from 25
+
+-- one checker's way as a function of the source and the die
+abbrev pub one_of : Checkers → ℕ → ℕ → Option Checkers
+one_of p from die =
+    if is_source from && (can_leave p from die && is_open p (from - die))
+    then Some (moved p from (from - die))
+    else None

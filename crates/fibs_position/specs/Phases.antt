@@ -1,11 +1,10 @@
 -- The phases of a turn (the standard rules of backgammon; FIBS board style 3).
-use Rattle.std.specs.Prelude.{◌≡◌, ◌≢◌, ◌||◌, ◌&&◌, ◌==◌, not, Bool, true, false, List, [], ◌∷◌, pos, find, unwrap_or}
+use Rattle.std.specs.Prelude.{◌≡◌, ◌≢◌, ◌&&◌, ◌==◌, not, Bool, true, false, List, [], ◌∷◌, pos, find, unwrap_or}
 use Rattle.std.specs.Ordering.{int_eq}
 use Rattle.fibs_messages.specs.Board.{BoardFields}
 use Rattle.fibs_position.specs.First.{IsFirst}
 use Rattle.fibs_position.specs.PositionValue.{PositionValue, position_of}
-use Rattle.fibs_position.specs.Runs.{Standing, CanMove}
-use Rattle.fibs_position.specs.Search.{can_play}
+use Rattle.fibs_position.specs.Runs.{CanMove, can_move}
 use Rattle.fibs_position.specs.declared.phase.Phase.{Phase}
 use Rattle.fibs_position.specs.declared.phase.Phase.TheVariants.{Over, AnswerDouble, OpponentActs, RollOrDouble, Move, Passing}
 
@@ -40,9 +39,6 @@ decides Move = true
 decides Passing = false
 
 -- the same as functions
-
-abbrev pub can_move : Standing → Bool
-can_move p = can_play p.checkers p.first || can_play p.checkers p.second
 
 abbrev pub phase_fits : PositionValue → Phase → Bool
 phase_fits p Over = int_eq p.turn (pos 0)

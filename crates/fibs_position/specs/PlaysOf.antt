@@ -7,8 +7,8 @@ use Rattle.fibs_position.specs.PositionValue.{PositionValue, position_of}
 use Rattle.fibs_position.specs.Phases.{InPhase}
 use Rattle.fibs_position.specs.declared.phase.Phase.TheVariants.{Move}
 
--- in the phase of moving, for each arrangement that a legal play reaches the greatest such play, in descending order; in
--- every other phase none
+-- in the phase of moving, for each arrangement that a legal play reaches the greatest such play, in descending order;
+-- in every other phase none
 pub record PlaysIn (p : PositionValue) (plays : List (List Hop)) : Type 0 where
   pub move : InPhase p Move → PlayList p.standing plays
   pub other : ¬ InPhase p Move → plays ≡ []

@@ -1,8 +1,8 @@
 -- Steps played one after another by the dice held (rules of backgammon).
-use Rattle.std.specs.Prelude.{◌≡◌, ℕ, ◌<◌, ◌≤◌, ◌==◌, List, [], ◌∷◌, length, ◌++◌, if◌then◌else◌}
+use Rattle.std.specs.Prelude.{◌≡◌, ℕ, zero, suc, ◌<◌, ◌≤◌, ◌==◌, ◌-◌, ◌&&◌, ◌||◌, Bool, true, false, max, nat_lt, List, [], ◌∷◌, length, ◌++◌, Option, Some, None, if◌then◌else◌}
 use Rattle.fibs_position.specs.Hop.{Hop}
 use Rattle.fibs_position.specs.Checkers.{Checkers}
-use Rattle.fibs_position.specs.OneChecker.{One}
+use Rattle.fibs_position.specs.OneChecker.{One, one_of}
 
 -- as many steps as dice, each by its die, from an arrangement through to another
 abbrev pub Run : Checkers → List ℕ → List Hop → Checkers → Type 0
@@ -47,3 +47,44 @@ CanMove p = (steps : List Hop) × (q : Checkers) × RunOf p.checkers (held p) st
 pub record IsMost (p : Standing) (n : ℕ) : Type 0 where
   pub reached : (steps : List Hop) × (q : Checkers) × RunOf p.checkers (held p) steps q × (length steps ≡ n)
   pub most : (steps : List Hop) (q : Checkers) → RunOf p.checkers (held p) steps q → length steps ≤ n
+
+-- the same as functions
+
+-- what an arrangement is worth, and 0 for none
+abbrev pub score : (Checkers → ℕ) → Option Checkers → ℕ
+score worth None = 0
+score worth (Some q) = worth q
+
+-- the greatest worth of an arrangement that one step by this die leads to, from a place up to n
+unfoldable pub best_of : (Checkers → ℕ) → Checkers → ℕ → ℕ → ℕ
+best_of worth p die zero = 0
+best_of worth p die (suc n) = max (best_of worth p die n) (score worth (one_of p (suc n) die))
+
+-- how many of these dice can be played one after another
+abbrev pub longest : Checkers → List ℕ → ℕ
+longest p [] = 0
+longest p (die ∷ dice) = best_of (λ q. suc (longest q dice)) p die 25
+
+-- the most dice that can be played, in either order
+abbrev pub most_of : Standing → ℕ
+most_of p = max (longest p.checkers (held_of p.first p.second)) (longest p.checkers (held_of p.second p.first))
+
+-- a test of an arrangement, where there is one
+abbrev pub passes : (Checkers → Bool) → Option Checkers → Bool
+passes test None = false
+passes test (Some q) = test q
+
+-- these steps can be played one after another by a front of these dice
+abbrev pub follows : Checkers → List ℕ → List Hop → Bool
+follows p dice [] = true
+follows p [] (step ∷ steps) = false
+follows p (die ∷ dice) (step ∷ steps) =
+    (step.target == step.source - die) && passes (λ q. follows q dice steps) (one_of p step.source die)
+
+-- this die is held, and can be played
+abbrev pub can_play : Checkers → ℕ → Bool
+can_play p die = nat_lt 0 die && nat_lt 0 (longest p (die ∷ []))
+
+-- one of the dice shown can be played
+abbrev pub can_move : Standing → Bool
+can_move p = can_play p.checkers p.first || can_play p.checkers p.second

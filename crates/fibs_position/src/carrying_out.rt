@@ -3,8 +3,7 @@
 ghost use Rattle.std.specs.Prelude.{◌≡◌, ◌↔◌, ◌≤◌, ◌≤ℤ◌, ◌&&◌, not, ℕ, List, pos, negsuc, true, IsTrue, Some, option_map, slice_index, ◌==◌, if◌then◌else◌, neg_ℤ};
 ghost use Rattle.fibs_messages.specs.Board.{BoardFields, can_have, field_of};
 ghost use Rattle.fibs_messages.specs.StoredBoard.{fields_of};
-ghost use Rattle.fibs_position.specs.BoardEffect.{set_field, set_fields, rolled, doubled, accepted, rejected, value_of, placed, after_move, Effect};
-ghost use Rattle.fibs_position.specs.EffectOf.{is_die, are_thrown, has_turn, is_doubled, carried, effect_of};
+ghost use Rattle.fibs_position.specs.BoardEffect.{set_field, set_fields, rolled, doubled, accepted, rejected, value_of, placed, after_move, Effect, is_die, are_thrown, has_turn, is_doubled, carried, effect_of};
 ghost use Rattle.fibs_position.specs.DecisionValue.{roll, double, accept, reject, move};
 ghost use Rattle.fibs_position.specs.DecisionOf.{decision_of};
 ghost use Rattle.fibs_position.specs.PlayValue.{hops_of};
@@ -154,7 +153,8 @@ fn turn_after(board: &Board, off: u8) -> i32
     if off == 15 { 0 } else { -colour(board) }
 }
 
-/// The checkers stand so, those borne off are counted, and the turn goes to the opponent; with all fifteen off the game is over.
+/// The checkers stand so, those borne off are counted, and the turn goes to the opponent; with all fifteen off the game
+/// is over.
 fn after_move(board: &Board, reached: &Arrangement) -> Board
     ensures { fields_of result ≡ after_move (fields_of board.now) reached.now }
 {
@@ -211,7 +211,8 @@ fn reject(board: &Board) -> Option<Board>
 fn make_steps(board: &Board, play: &Play) -> Option<Board>
     requires own { own_placed (fields_of board.now) ≤ 15 }
     requires other { other_placed (fields_of board.now) ≤ 15 }
-    ensures { (dice : List ℕ) → option_map fields_of result ≡ carried (fields_of board.now) (move (hops_of play.now)) dice }
+    ensures { (dice : List ℕ)
+        → option_map fields_of result ≡ carried (fields_of board.now) (move (hops_of play.now)) dice }
 {
     if !is_before_move(board) {
         return None;
@@ -249,19 +250,22 @@ fn by_table(board: &Board, decision: &Decision, dice: [u8; 2]) -> Option<Board>
 /// The board after the server carried a decision out, and None where it doesn't: where the board is not good, or the
 /// decision's condition doesn't hold.
 ///
-/// | Decision | Condition | Change |
-/// |---|---|---|
-/// | Roll | the player has the turn, no double to answer and no dice, and both given dice are 1 to 6 | the dice are his, the opponent's are taken away |
-/// | Double | the player has the turn, no double to answer and no dice | the turn goes to the opponent |
-/// | Accept | the game is not over, the opponent has doubled, and the cube is at most 524,288 | the cube doubles, the player alone may double next, and the turn goes to the opponent |
-/// | Reject | the game is not over, and the opponent has doubled | the game is over |
-/// | Move | the player has the turn, no double to answer and a die, and at each step in order a checker at its source and no two opponents at its target | the checkers stand as moved and hit, those off are counted, the dice are taken away, and the turn goes to the opponent, or the game is over with all fifteen off |
+/// - Roll, where the player has the turn, no double to answer and no dice, and both given dice are 1 to 6: the dice are
+///   his, the opponent's are taken away.
+/// - Double, where the player has the turn, no double to answer and no dice: the turn goes to the opponent.
+/// - Accept, where the game is not over, the opponent has doubled, and the cube is at most 524,288: the cube doubles, the
+///   player alone may double next, and the turn goes to the opponent.
+/// - Reject, where the game is not over, and the opponent has doubled: the game is over.
+/// - Move, where the player has the turn, no double to answer and a die, and at each step in order a checker at its
+///   source and no two opponents at its target: the checkers stand as moved and hit, those off are counted, the dice are
+///   taken away, and the turn goes to the opponent, or the game is over with all fifteen off.
 ///
-/// Fields that are not named stay. Of a move nothing else is asked: not the dice's lengths, the bar, bearing off, or the
-/// fullest use of the dice.
+/// Fields that are not named stay. Of a move nothing else is asked: not the dice's lengths, the bar, bearing off, or
+/// the fullest use of the dice.
 pub fn effect(board: &Board, decision: &Decision, dice: [u8; 2]) -> Option<Board>
     ensures value { option_map fields_of result ≡ effect_of (fields_of board.now) (decision_of decision.now) dice }
-    ensures carried { (after : BoardFields) → (option_map fields_of result ≡ Some after) ↔ Effect (fields_of board.now) (decision_of decision.now) dice after }
+    ensures carried { (after : BoardFields) → (option_map fields_of result ≡ Some after)
+        ↔ Effect (fields_of board.now) (decision_of decision.now) dice after }
 {
     is_board_is_exact();
     by_table(board, decision, dice)

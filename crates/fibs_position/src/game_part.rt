@@ -22,7 +22,8 @@ fn agree(a: &Board, b: &Board, first: usize, last: usize) -> bool
 
 /// Two boards have the same numbers in each field of the game part.
 fn same_numbers(a: &Board, b: &Board) -> bool
-    ensures { IsTrue result ↔ (Agree (fields_of a.now) (fields_of b.now) 4 6 × Agree (fields_of a.now) (fields_of b.now) 8 31 × Agree (fields_of a.now) (fields_of b.now) 33 43 × Agree (fields_of a.now) (fields_of b.now) 46 47) }
+    ensures { let x = fields_of a.now in let y = fields_of b.now in
+        IsTrue result ↔ (Agree x y 4 6 × Agree x y 8 31 × Agree x y 33 43 × Agree x y 46 47) }
 {
     agree(a, b, 4, 6) && agree(a, b, 8, 31) && agree(a, b, 33, 43) && agree(a, b, 46, 47)
 }

@@ -4,8 +4,7 @@ ghost use Rattle.std.specs.Prelude.{◌≡◌, ◌↔◌, IsTrue};
 ghost use Rattle.fibs_position.specs.StepValue.{hop_of};
 ghost use Rattle.fibs_position.specs.PlayValue.{hops_of};
 ghost use Rattle.fibs_position.specs.DecisionOf.{decision_of};
-ghost use Rattle.fibs_position.specs.Laws.{StepsSwap, PhaseIsExact, AllowedIsExact, EffectIsExact, AllowedIsTheUsers, AllowedIsCarriedOut, EffectIsGood, GoodIsExact, SameGameIsExact, SameGameIsALikeness, AllowedDecides, LegalPlaysAreSteps, AllowedIsADecision, DecisionsAreValid, AllowedActs};
-ghost use Rattle.fibs_position.specs.Effect.{LegalIsCarriedOut};
+ghost use Rattle.fibs_position.specs.Laws.{StepsSwap, PhaseIsExact, AllowedIsExact, EffectIsExact, AllowedIsTheUsers, AllowedIsCarriedOut, EffectIsGood, GoodIsExact, SameGameIsExact, SameGameIsALikeness, AllowedDecides, LegalPlaysAreSteps, AllowedIsADecision, DecisionsAreValid, AllowedActs, LegalIsCarriedOut};
 
 use crate::decision::Decision;
 use crate::direction::Direction;

@@ -30,6 +30,8 @@ mod test_known_boards;
 #[cfg(test)]
 mod test_rows;
 #[cfg(test)]
+mod test_slow;
+#[cfg(test)]
 mod test_turns;
 mod turn;
 

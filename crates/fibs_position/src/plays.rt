@@ -53,7 +53,7 @@ impl Reached {
     }
 }
 
-#[tactic(auto, using(crate::proofs::NoteLemmas::noted_at, crate::proofs::NoteLemmas::noted_new))]
+#[tactic(auto, using(crate::proofs::PlayListLemmas::NoteLoop::noted_at, crate::proofs::PlayListLemmas::NoteLoop::noted_new))]
 /// Keeps the greatest play for each arrangement.
 fn note(kept: &mut Vec<Reached>, found: Reached) -> Result<(), AllocError>
     ensures ok { OnOk result (map reach_of kept.new.items ≡ noted (map reach_of kept.old.items) (reach_of found)) }
@@ -83,7 +83,7 @@ fn next_top(die: u8, rest: &[u8], source: u8) -> u8
     }
 }
 
-#[tactic(auto, using(crate::proofs::VisitLemmas::reaches_none, crate::proofs::VisitLemmas::reaches_more, crate::proofs::VisitLemmas::reaches_start))]
+#[tactic(auto, using(crate::proofs::PlayListLemmas::VisitLoop::reaches_none, crate::proofs::PlayListLemmas::VisitLoop::reaches_more, crate::proofs::PlayListLemmas::VisitLoop::reaches_start))]
 /// Notes each play that goes on from a play by just these dice, its next step from a place up to
 /// `top`.
 pub(crate) fn visit(
@@ -96,7 +96,8 @@ pub(crate) fn visit(
     requires room { length (hops_of play) + length dice.now ≤ 4 }
     requires dice { AreDice dice.now }
     requires top { top ≤ 25 }
-    ensures ok { OnOk result (map reach_of kept.new.items ≡ fold noted (map reach_of kept.old.items) (reaches p.now dice.now top (hops_of play))) }
+    ensures ok { OnOk result (map reach_of kept.new.items
+        ≡ fold noted (map reach_of kept.old.items) (reaches p.now dice.now top (hops_of play))) }
 {
     if dice.is_empty() {
         return note(kept, Reached { play, leads: *p });

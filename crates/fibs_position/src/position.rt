@@ -5,14 +5,14 @@ ghost use Rattle.std.specs.Prelude.{◌≡◌, ◌≤◌, ◌↔◌, ◌&&◌, I
 ghost use Rattle.std.specs.Result.{result_err};
 ghost use Rattle.fibs_messages.specs.StoredBoard.{fields_of};
 ghost use Rattle.fibs_position.specs.First.{IsFirst};
-ghost use Rattle.fibs_position.specs.Runs.{IsMost};
+ghost use Rattle.fibs_position.specs.Runs.{IsMost, can_move};
 ghost use Rattle.fibs_position.specs.LegalPlays.{LegalPlay};
 ghost use Rattle.fibs_position.specs.PlayValue.{hops_of};
 ghost use Rattle.fibs_position.specs.PlaysOf.{PlaysIn};
 ghost use Rattle.fibs_position.specs.DecisionOf.{decision_of};
 ghost use Rattle.fibs_position.specs.Allowed.{is_for, cube_allows, is_legal, refusal_of, MayDecide, IsRefused};
 ghost use Rattle.fibs_position.specs.OwnView.{first_die, second_die};
-ghost use Rattle.fibs_position.specs.Phases.{InPhase, can_move, phase_in};
+ghost use Rattle.fibs_position.specs.Phases.{InPhase, phase_in};
 ghost use Rattle.fibs_position.specs.PositionValue.{position_of};
 ghost use Rattle.fibs_position.specs.GoodBoard.{IsGood, HasFault, faults, good};
 ghost use Rattle.fibs_position.specs.GoodBoardProp.{IsGood-prop};
@@ -80,7 +80,8 @@ impl Position {
         arrangement_of(&self.board)
     }
 
-    /// The player's checkers on a place, counted so that he goes down: 1 to 24, or 25 for his bar, or 0 for those borne off.
+    /// The player's checkers on a place, counted so that he goes down: 1 to 24, or 25 for his bar, or 0 for those borne
+    /// off.
     pub fn own(&self, place: u8) -> u8
         requires { place ≤ 25 }
         ensures value { result ≡ slice_index (position_value self.now).standing.checkers.own place }
@@ -188,15 +189,16 @@ impl Position {
     }
 
     /// The play is legal: a run of steps by the dice held than which no run is longer, and by the larger die where only
-    /// one of two different dice can be played, and the larger can. The empty play is legal where nothing can be played.
+    /// one of two different dice can be played, and the larger can. The empty play is legal where nothing can be
+    /// played.
     pub fn is_legal(&self, play: &Play) -> bool
         ensures { IsTrue result ↔ LegalPlay (position_value self.now).standing (hops_of play.now) }
     {
         self.turn().is_legal(play)
     }
 
-    /// In the phase `Move`, for each arrangement of checkers that some legal play reaches, the greatest such play (steps
-    /// compared by source, then by target), the greatest first. In every other phase none.
+    /// In the phase `Move`, for each arrangement of checkers that some legal play reaches, the greatest such play
+    /// (steps compared by source, then by target), the greatest first. In every other phase none.
     pub fn plays(&self, alloc: Global) -> Result<Vec<Play>, AllocError>
         ensures { IfOk result (λ plays. PlaysIn (position_value self.now) (map hops_of plays.items)) }
     {
@@ -222,7 +224,8 @@ impl Position {
 
     /// The decision is of the phase's kind, and the cube allows it.
     fn is_right_kind(&self, phase: Phase, decision: &Decision) -> bool
-        ensures { result ≡ (is_for (decision_of decision.now) phase && cube_allows (position_value self.now) (decision_of decision.now)) }
+        ensures { let d = decision_of decision.now in
+            result ≡ (is_for d phase && cube_allows (position_value self.now) d) }
     {
         decision.is_for(phase) && self.cube_allows(decision)
     }
@@ -258,7 +261,8 @@ impl Position {
     pub fn allows(&self, decision: &Decision) -> Result<(), Disallowed>
         ensures value { result_err result ≡ refusal_of (position_value self.now) (decision_of decision.now) }
         ensures allowed { IsOk result ↔ MayDecide (position_value self.now) (decision_of decision.now) }
-        ensures refused { (why : Disallowed) → (result ≡ Err why) ↔ IsRefused (position_value self.now) (decision_of decision.now) why }
+        ensures refused { (why : Disallowed) → (result ≡ Err why)
+            ↔ IsRefused (position_value self.now) (decision_of decision.now) why }
     {
         match self.refusal(decision) {
             None => Ok(()),

@@ -2,13 +2,14 @@
 
 ghost use Rattle.std.specs.Prelude.{◌≡◌, ◌+◌, ◌-◌, ◌≤◌, length, map};
 ghost use Rattle.fibs_position.specs.StepValue.{hop_of};
-ghost use Rattle.fibs_position.specs.Search.{AreDice, longest, follows};
+ghost use Rattle.fibs_position.specs.Search.{AreDice};
+ghost use Rattle.fibs_position.specs.Runs.{longest, follows};
 
 use crate::arrangement::Arrangement;
 use crate::step::Step;
 
 /// How many of these dice can be played one after another.
-#[tactic(auto, using(crate::proofs::SearchLemmas::best_of_none, crate::proofs::SearchLemmas::best_of_some, crate::proofs::SearchLemmas::best_of_skip, crate::proofs::SearchLemmas::longest_more, crate::proofs::SearchLemmas::longest_none))]
+#[tactic(auto, using(crate::proofs::SearchLemmas::LongestLoop::best_of_none, crate::proofs::SearchLemmas::LongestLoop::best_of_some, crate::proofs::SearchLemmas::LongestLoop::best_of_skip, crate::proofs::SearchLemmas::LongestLoop::longest_more, crate::proofs::SearchLemmas::LongestLoop::longest_none))]
 pub(crate) fn longest(p: &Arrangement, dice: &[u8]) -> u8
     requires few { length dice.now ≤ 4 }
     requires dice { AreDice dice.now }

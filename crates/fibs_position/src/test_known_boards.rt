@@ -10,7 +10,7 @@ use crate::test_choices::Choice;
 use fibs_messages::Board;
 use std::test::Fail;
 
-static KNOWN: [Case; 6] = [
+static KNOWN: [Case; 7] = [
     Case {
         name: "a board in the middle of a turn",
         board: b"board:You:someplayer:3:0:1:0:-2:0:0:0:0:5:0:3:0:0:0:-5:5:0:0:0:-3:0:-5:0:0:0:0:2:0:1:6:2:0:0:1:1:1:0:1:-1:0:25:0:0:0:0:2:0:0:0",
@@ -76,6 +76,25 @@ static KNOWN: [Case; 6] = [
         choice: Choice::Move(&[(24, 18)]),
         dice: [1, 1],
         after: Some(&[(25, 1), (31, 0), (33, -1), (34, 0), (35, 0)]),
+    },
+    Case {
+        name: "all entry places are held: one is on the bar, and none can enter",
+        board: b"board:You:bob:5:0:0:0:0:0:0:0:0:14:0:0:0:0:0:0:0:0:0:0:0:0:-2:-2:-2:-2:-2:-2:1:1:3:1:0:0:1:1:1:0:1:-1:0:25:0:3:1:0:0:0:0:0",
+        own: &[(6, 14), (25, 1)],
+        other: &[
+            (19, 2),
+            (20, 2),
+            (21, 2),
+            (22, 2),
+            (23, 2),
+            (24, 2),
+            (25, 3),
+        ],
+        direction: Direction::Down,
+        phase: Phase::Passing,
+        choice: Choice::Roll,
+        dice: [1, 1],
+        after: None,
     },
 ];
 

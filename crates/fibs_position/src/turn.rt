@@ -5,9 +5,9 @@ ghost use Rattle.std.specs.List.{fold};
 ghost use Rattle.fibs_position.specs.StepValue.{hop_of};
 ghost use Rattle.fibs_position.specs.PlayValue.{hops_of};
 ghost use Rattle.fibs_position.specs.ReachedValue.{reach_of};
-ghost use Rattle.fibs_position.specs.Runs.{Standing, held_of, IsMost, CanMove};
-ghost use Rattle.fibs_position.specs.LegalPlays.{LegalPlay, PlayList};
-ghost use Rattle.fibs_position.specs.Search.{AreDice, most_of, longest, follows, are_two, can_play, larger_first, legal_of, noted, all_in_order, all_of};
+ghost use Rattle.fibs_position.specs.Runs.{Standing, held_of, IsMost, CanMove, most_of, longest, follows, can_play, can_move};
+ghost use Rattle.fibs_position.specs.LegalPlays.{LegalPlay, PlayList, are_two, larger_first, legal_of};
+ghost use Rattle.fibs_position.specs.Search.{AreDice, noted, all_in_order, all_of};
 
 use crate::arrangement::Arrangement;
 use crate::play::Play;
@@ -116,7 +116,7 @@ impl Turn {
     }
 
     fn can_play_either(&self) -> bool
-        ensures value { result ≡ (can_play self.now.checkers self.now.first || can_play self.now.checkers self.now.second) }
+        ensures value { result ≡ can_move self.now }
         ensures first { self.now.first ≤ 6 }
         ensures second { self.now.second ≤ 6 }
     {
@@ -187,7 +187,8 @@ impl Turn {
     fn visit_order(&self, kept: &mut Vec<Reached>, a: u8, b: u8, most: u8) -> Result<(), AllocError>
         requires dice { AreDice (held_of a b) }
         requires most { most ≡ most_of self.now }
-        ensures ok { OnOk result (map reach_of kept.new.items ≡ fold noted (map reach_of kept.old.items) (all_in_order self.now a b)) }
+        ensures ok { OnOk result (map reach_of kept.new.items
+            ≡ fold noted (map reach_of kept.old.items) (all_in_order self.now a b)) }
     {
         let held = dice_given(a, b);
         let count = held.count.min(most as usize);

@@ -5,7 +5,7 @@ use Rattle.std.proofs.lemmas.Int.{ints}
 use Rattle.fibs_messages.specs.StoredBoard.{fields_of}
 use Rattle.fibs_position.specs.OwnView.{colour}
 use Rattle.fibs_messages.specs.Board.{field_values, field_of}
-use Rattle.fibs_position.proofs.SetLemmas.{may_cube, may_turn}
+use Rattle.fibs_position.proofs.BoardLemmas.SetFields.{may_cube, may_turn}
 use Rattle.fibs_position.proofs.carrying_out.accepted.Goals as goal
 
 pub set-board-requires : goal.set-board-requires

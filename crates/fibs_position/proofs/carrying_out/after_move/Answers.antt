@@ -6,7 +6,7 @@ use Rattle.fibs_messages.specs.Board.{field_values}
 use Rattle.fibs_messages.specs.StoredBoard.{fields_of}
 use Rattle.fibs_position.specs.OwnView.{colour}
 use Rattle.fibs_position.specs.BoardEffect.{placed}
-use Rattle.fibs_position.proofs.SetLemmas.{may_turn, may_off, set_last}
+use Rattle.fibs_position.proofs.BoardLemmas.SetFields.{may_turn, may_off, set_last}
 use Rattle.fibs_position.proofs.carrying_out.after_move.Goals as goal
 
 pub set-after-requires : goal.set-after-requires

@@ -3,8 +3,8 @@ use Rattle.fibs_messages.specs.StoredBoard.{fields_of}
 use Rattle.fibs_position.specs.PlayValue.{hops_of}
 use Rattle.fibs_position.specs.DecisionValue.{roll, double, accept, reject, move}
 use Rattle.fibs_position.specs.DecisionOf.{decision_of}
-use Rattle.fibs_position.specs.EffectOf.{effect_of}
-use Rattle.fibs_position.proofs.TableLemmas.{effect_good, effect_bad}
+use Rattle.fibs_position.specs.BoardEffect.{effect_of}
+use Rattle.fibs_position.proofs.BoardLemmas.EffectTable.{effect_good, effect_bad}
 use Rattle.fibs_position.proofs.carrying_out.by_table.Goals as goal
 
 pub returns-then-not-is_good : goal.returns-then-not-is_good

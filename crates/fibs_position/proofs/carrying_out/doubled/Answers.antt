@@ -1,6 +1,6 @@
 use Rattle.std.proofs.Common.{arith}
 use Rattle.std.proofs.lemmas.Int.{ints}
-use Rattle.fibs_position.proofs.SetLemmas.{may_turn}
+use Rattle.fibs_position.proofs.BoardLemmas.SetFields.{may_turn}
 use Rattle.fibs_position.proofs.carrying_out.doubled.Goals as goal
 
 pub set-requires : goal.set-requires

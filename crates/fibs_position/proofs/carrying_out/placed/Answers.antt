@@ -6,7 +6,7 @@ use Rattle.std.proofs.lemmas.Int.{ints, to_z-of_z}
 use Rattle.fibs_messages.specs.StoredBoard.{fields_of}
 use Rattle.fibs_position.specs.OwnView.{colour}
 use Rattle.fibs_position.specs.BoardEffect.{set_fields, place_says, value_of}
-use Rattle.fibs_position.proofs.SetLemmas.{may_stand, set_more, places_are}
+use Rattle.fibs_position.proofs.BoardLemmas.SetFields.{may_stand, set_more, places_are}
 use Rattle.fibs_position.proofs.carrying_out.placed.Goals as goal
 
 pub set-after-requires : goal.set-after-requires

@@ -1,6 +1,6 @@
 use Rattle.std.proofs.Common.{ap, not}
 use Rattle.fibs_messages.specs.StoredBoard.{fields_of}
-use Rattle.fibs_position.proofs.SameGameLemmas.{same_as_test}
+use Rattle.fibs_position.proofs.BoardLemmas.SameGameTest.{same_as_test}
 use Rattle.fibs_position.proofs.game_part.differs.Goals as goal
 
 pub returns-clause-test : goal.returns-clause-test

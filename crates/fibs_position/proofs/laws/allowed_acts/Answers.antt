@@ -1,4 +1,4 @@
-use Rattle.fibs_position.proofs.DecisionLemmas.{allowed_acts}
+use Rattle.fibs_position.proofs.LawLemmas.AllowedDecisions.{allowed_acts}
 use Rattle.fibs_position.proofs.laws.allowed_acts.Goals as goal
 
 pub returns : goal.returns

@@ -1,4 +1,4 @@
-use Rattle.fibs_position.proofs.DecisionLemmas.{allowed_decides}
+use Rattle.fibs_position.proofs.LawLemmas.AllowedDecisions.{allowed_decides}
 use Rattle.fibs_position.proofs.laws.allowed_decides.Goals as goal
 
 pub returns : goal.returns

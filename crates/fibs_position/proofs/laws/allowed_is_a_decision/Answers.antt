@@ -1,4 +1,4 @@
-use Rattle.fibs_position.proofs.DecisionLemmas.{allowed_is_a_decision}
+use Rattle.fibs_position.proofs.LawLemmas.AllowedDecisions.{allowed_is_a_decision}
 use Rattle.fibs_position.proofs.laws.allowed_is_a_decision.Goals as goal
 
 pub returns : goal.returns

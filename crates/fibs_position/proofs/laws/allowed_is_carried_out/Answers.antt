@@ -1,4 +1,4 @@
-use Rattle.fibs_position.proofs.LawLemmas.{allowed_carried}
+use Rattle.fibs_position.proofs.LawLemmas.CarriedOut.{allowed_carried}
 use Rattle.fibs_position.proofs.laws.allowed_is_carried_out.Goals as goal
 
 pub returns : goal.returns

@@ -1,4 +1,4 @@
-use Rattle.fibs_position.proofs.LawLemmas.{allowed_is}
+use Rattle.fibs_position.proofs.LawLemmas.CarriedOut.{allowed_is}
 use Rattle.fibs_position.proofs.laws.allowed_is_exact.Goals as goal
 
 pub returns : goal.returns

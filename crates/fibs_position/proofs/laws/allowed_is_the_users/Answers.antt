@@ -1,4 +1,4 @@
-use Rattle.fibs_position.proofs.LawLemmas.{allowed_users}
+use Rattle.fibs_position.proofs.LawLemmas.CarriedOut.{allowed_users}
 use Rattle.fibs_position.proofs.laws.allowed_is_the_users.Goals as goal
 
 pub returns : goal.returns

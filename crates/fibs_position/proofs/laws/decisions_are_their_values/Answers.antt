@@ -1,5 +1,5 @@
 use Rattle.std.proofs.Common.{rules}
-use Rattle.fibs_position.proofs.PlayLemmas.{same_decision, play_eq}
+use Rattle.fibs_position.proofs.LawLemmas.Equality.{same_decision, play_eq}
 use Rattle.fibs_position.proofs.laws.decisions_are_their_values.Goals as goal
 
 pub returns-clause-test : goal.returns-clause-test

@@ -1,4 +1,4 @@
-use Rattle.fibs_position.proofs.DecisionLemmas.{decisions_are_valid}
+use Rattle.fibs_position.proofs.LawLemmas.AllowedDecisions.{decisions_are_valid}
 use Rattle.fibs_position.proofs.laws.decisions_are_valid.Goals as goal
 
 pub returns : goal.returns

@@ -1,4 +1,4 @@
-use Rattle.fibs_position.proofs.LawLemmas.{effect_is}
+use Rattle.fibs_position.proofs.LawLemmas.CarriedOut.{effect_is}
 use Rattle.fibs_position.proofs.laws.effect_is_exact.Goals as goal
 
 pub returns : goal.returns

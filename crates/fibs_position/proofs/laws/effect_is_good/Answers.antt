@@ -1,4 +1,4 @@
-use Rattle.fibs_position.proofs.LawLemmas.{effect_good_differs}
+use Rattle.fibs_position.proofs.LawLemmas.CarriedOut.{effect_good_differs}
 use Rattle.fibs_position.proofs.laws.effect_is_good.Goals as goal
 
 pub returns : goal.returns

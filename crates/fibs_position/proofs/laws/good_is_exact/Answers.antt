@@ -1,4 +1,4 @@
-use Rattle.fibs_position.proofs.GoodLemmas.{good_is_exact}
+use Rattle.fibs_position.proofs.BoardLemmas.GoodTest.{good_is_exact}
 use Rattle.fibs_position.proofs.laws.good_is_exact.Goals as goal
 
 pub returns : goal.returns

@@ -1,4 +1,4 @@
-use Rattle.fibs_position.proofs.LawLemmas.{phase_is}
+use Rattle.fibs_position.proofs.LawLemmas.CarriedOut.{phase_is}
 use Rattle.fibs_position.proofs.laws.phase_is_exact.Goals as goal
 
 pub returns : goal.returns

@@ -1,4 +1,4 @@
-use Rattle.fibs_position.proofs.PlayLemmas.{same_play, play_eq}
+use Rattle.fibs_position.proofs.LawLemmas.Equality.{same_play, play_eq}
 use Rattle.fibs_position.proofs.laws.plays_are_their_steps.Goals as goal
 
 pub returns-clause-test : goal.returns-clause-test

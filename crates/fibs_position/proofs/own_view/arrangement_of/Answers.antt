@@ -1,7 +1,7 @@
 use Rattle.std.proofs.Common.{arith, rules, ◌≡◌, ap, sum}
 use Rattle.fibs_messages.specs.StoredBoard.{fields_of}
 use Rattle.fibs_position.specs.OwnView.{own_on_places, other_on_places, own_view}
-use Rattle.fibs_position.proofs.ViewLemmas.{line_sum}
+use Rattle.fibs_position.proofs.BoardLemmas.CountLines.{line_sum}
 use Rattle.fibs_position.proofs.own_view.arrangement_of.Goals as goal
 
 pub of_counts-requires-clause-own : goal.of_counts-requires-clause-own

@@ -2,8 +2,8 @@ use Rattle.std.proofs.Common.{rules, ◌<◌, length, map, get_or, drop, sym, �
 use Rattle.fibs_position.specs.StepValue.{hop_of}
 use Rattle.fibs_position.specs.PlayValue.{hops_of}
 use Rattle.fibs_position.specs.ReachedValue.{reach_of}
-use Rattle.fibs_position.proofs.VisitLemmas.{room_left, visited, visit_skip}
-use Rattle.fibs_position.proofs.FollowLemmas.{dice_rest}
+use Rattle.fibs_position.proofs.PlayListLemmas.VisitLoop.{room_left, visited, visit_skip}
+use Rattle.fibs_position.proofs.SearchLemmas.FollowSteps.{dice_rest}
 use Rattle.fibs_position.proofs.plays.+visit.Goals as goal
 use Rattle.fibs_position.proofs.plays.+visit.Goals.{in-Some+in_ok-visit, in_default}
 

@@ -1,5 +1,5 @@
 use Rattle.std.proofs.Common.{◌≡◌, length}
-use Rattle.fibs_position.proofs.NoteLemmas.{NoneBefore}
+use Rattle.fibs_position.proofs.PlayListLemmas.NoteLoop.{NoneBefore}
 use Rattle.fibs_position.proofs.plays.note.Given as goal
 
 abbrev pub invariant-loop-i : goal.invariant-loop-i

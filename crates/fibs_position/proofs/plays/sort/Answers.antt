@@ -4,7 +4,7 @@ use Rattle.std.proofs.lemmas.List.Sorted.{answers_always}
 use Rattle.fibs_position.specs.PlayValue.{hops_of}
 use Rattle.fibs_position.specs.LegalPlays.{play_cmp}
 use Rattle.fibs_position.specs.declared.plays.Reached.{Reached}
-use Rattle.fibs_position.proofs.OrderLemmas.{descending_order}
+use Rattle.fibs_position.proofs.PlayListLemmas.PlayOrder.{descending_order}
 use Rattle.fibs_position.proofs.plays.sort.Goals as goal
 
 pub returns-clause-sorted : goal.returns-clause-sorted

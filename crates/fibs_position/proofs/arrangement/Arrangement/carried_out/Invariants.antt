@@ -1,6 +1,6 @@
 use Rattle.std.proofs.Common.{◌≡◌, map, drop}
 use Rattle.fibs_position.specs.StepValue.{hop_of}
-use Rattle.fibs_position.specs.Search.{lax_of}
+use Rattle.fibs_position.specs.LaxPlays.{lax_of}
 use Rattle.fibs_position.proofs.arrangement.Arrangement.carried_out.Given as goal
 
 abbrev pub invariant-loop-step : goal.invariant-loop-step

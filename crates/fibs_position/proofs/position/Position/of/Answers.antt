@@ -1,12 +1,11 @@
 use Rattle.std.proofs.Common.{arith, ◌<◌, ◌≤◌, [], ◌∷◌, sym, ◌∙◌}
 use Rattle.fibs_messages.specs.StoredBoard.{fields_of}
-use Rattle.fibs_position.specs.GoodBoard.{HasFault}
+use Rattle.fibs_position.specs.GoodBoard.{HasFault, IsGood}
 use Rattle.fibs_position.specs.OwnView.{own_placed, other_placed}
 use Rattle.fibs_position.specs.declared.position_fault.PositionFault.TheVariants.{NotYou, TooManyOwn, TooManyOther}
-use Rattle.fibs_position.specs.GoodBoard.{IsGood}
-use Rattle.fibs_position.proofs.FirstLemmas.{err_first, skip_first}
-use Rattle.fibs_position.proofs.PhaseExact.{board_dice}
-use Rattle.fibs_position.proofs.GoodLemmas.{good_from, good_fails}
+use Rattle.fibs_position.proofs.DecidingLemmas.FirstFit.{err_first, skip_first}
+use Rattle.fibs_position.proofs.DecidingLemmas.PhaseTable.{board_dice}
+use Rattle.fibs_position.proofs.BoardLemmas.GoodTest.{good_from, good_fails}
 use Rattle.fibs_position.proofs.position.Position.of.Goals as goal
 
 pub returns-then-not-is_you-clause-good : goal.returns-then-not-is_you-clause-good

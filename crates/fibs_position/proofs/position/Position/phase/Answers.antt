@@ -1,6 +1,6 @@
 use Rattle.std.proofs.Common.{sym}
 use Rattle.fibs_position.specs.StoredPosition.{position_value}
-use Rattle.fibs_position.proofs.PhaseExact.{SmallDice, phase_exact}
+use Rattle.fibs_position.proofs.DecidingLemmas.PhaseTable.{SmallDice, phase_exact}
 use Rattle.fibs_position.proofs.position.Position.phase.Goals as goal
 
 pub returns-clause-first : goal.returns-clause-first

@@ -4,7 +4,7 @@ use Rattle.fibs_position.specs.StoredPosition.{position_value}
 use Rattle.fibs_position.specs.DecisionOf.{decision_of}
 use Rattle.fibs_position.specs.Phases.{decides, phase_in}
 use Rattle.fibs_position.specs.Allowed.{is_for, cube_allows}
-use Rattle.fibs_position.proofs.AllowedLemmas.{refuses_other, refuses_kind, refuses_move, refuses_none}
+use Rattle.fibs_position.proofs.DecidingLemmas.AllowedTable.{refuses_other, refuses_kind, refuses_move, refuses_none}
 use Rattle.fibs_position.proofs.position.Position.refusal.Goals as goal
 use Rattle.fibs_position.proofs.position.Position.refusal.Goals.{After-is_deciding, After-is_right_kind}
 

@@ -1,5 +1,5 @@
 use Rattle.std.proofs.Common.{sym, ◌∙◌}
-use Rattle.fibs_position.proofs.MoveLemmas.{can_sound, can_complete}
+use Rattle.fibs_position.proofs.SearchLemmas.SomeStep.{can_sound, can_complete}
 use Rattle.fibs_position.proofs.turn.Turn.can_move.Goals as goal
 
 pub returns : goal.returns

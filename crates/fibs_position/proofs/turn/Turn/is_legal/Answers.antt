@@ -1,7 +1,7 @@
 use Rattle.std.proofs.Common.{sym, ◌∙◌, ap}
 use Rattle.fibs_position.specs.PlayValue.{hops_of}
-use Rattle.fibs_position.specs.Search.{legal_of}
-use Rattle.fibs_position.proofs.LegalLemmas.{legal_sound, legal_complete}
+use Rattle.fibs_position.specs.LegalPlays.{legal_of}
+use Rattle.fibs_position.proofs.SearchLemmas.LegalTest.{legal_sound, legal_complete}
 use Rattle.fibs_position.proofs.turn.Turn.is_legal.Goals as goal
 
 pub returns : goal.returns

@@ -1,4 +1,4 @@
-use Rattle.fibs_position.proofs.MostLemmas.{most_is}
+use Rattle.fibs_position.proofs.SearchLemmas.MostDice.{most_is}
 use Rattle.fibs_position.proofs.turn.Turn.most_dice.Goals as goal
 
 pub returns : goal.returns

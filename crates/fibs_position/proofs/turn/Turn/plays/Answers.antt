@@ -4,7 +4,7 @@ use Rattle.fibs_position.specs.PlayValue.{hops_of}
 use Rattle.fibs_position.specs.ReachedValue.{reach_of}
 use Rattle.fibs_position.specs.LegalPlays.{PlayList}
 use Rattle.fibs_position.specs.declared.plays.Reached.{Reached}
-use Rattle.fibs_position.proofs.ListLemmas.{listed}
+use Rattle.fibs_position.proofs.PlayListLemmas.ListedPlays.{listed}
 use Rattle.fibs_position.proofs.turn.Turn.plays.Goals as goal
 
 pub returns : goal.returns

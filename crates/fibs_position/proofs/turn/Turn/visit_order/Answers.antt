@@ -1,5 +1,5 @@
 use Rattle.std.proofs.Common.{arith, ◌≤◌}
-use Rattle.fibs_position.proofs.FollowLemmas.{dice_front}
+use Rattle.fibs_position.proofs.SearchLemmas.FollowSteps.{dice_front}
 use Rattle.fibs_position.proofs.turn.Turn.visit_order.Goals as goal
 
 pub visit-requires-clause-dice : goal.visit-requires-clause-dice

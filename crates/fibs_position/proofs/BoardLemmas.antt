@@ -1,0 +1,10 @@
+pub mod CountLines
+pub mod SetFields
+pub mod ChangedFields
+pub mod ViewAfter
+pub mod AfterMove
+pub mod EffectTable
+pub mod GoodTest
+pub mod SameGameTest
+pub mod GamePartGroups
+pub mod NumberRanges

@@ -1,0 +1,4 @@
+pub mod FirstFit
+pub mod PhaseLines
+pub mod PhaseTable
+pub mod AllowedTable

@@ -1,0 +1,7 @@
+pub mod NoteLoop
+pub mod VisitLoop
+pub mod PlayOrder
+pub mod Reaches
+pub mod KeptPlays
+pub mod AllTried
+pub mod ListedPlays

@@ -1,0 +1,6 @@
+pub mod OneChecker
+pub mod DiceParts
+pub mod StepsSwap
+pub mod HighestFirst
+pub mod CheckerCounts
+pub mod LaxPlays
