@@ -18,7 +18,7 @@ pub fn limit_is_that_of_the_definitions()
 pub fn lines_are_their_bytes(a: &Line<'_>, b: &Line<'_>) -> bool
     ensures { IsTrue result ↔ (value_of a.now ≡ value_of b.now) }
 {
-    a == b
+    *a == *b
 }
 
 /// Two answers of `Lines::feed` are equal exactly where as many bytes were read and the same line was lent, or none.

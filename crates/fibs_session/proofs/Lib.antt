@@ -5,3 +5,4 @@ pub mod CommandLemmas
 mod PrintedLemmas
 mod History
 mod Calls
+mod DirectoryLemmas

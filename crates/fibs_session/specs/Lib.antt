@@ -10,3 +10,4 @@ pub mod CommandReading
 pub mod CommandLaws
 pub mod History
 pub mod Calls
+pub mod Directory

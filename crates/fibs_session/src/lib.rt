@@ -3,6 +3,7 @@
 
 pub mod client;
 mod commands;
+mod directory;
 pub mod laws;
 mod refusal;
 mod session;
@@ -14,5 +15,6 @@ pub use commands::{
     CommandText, Login, Plain, PlainFault, autoboard_text, board_text, decision_text,
     moreboards_text, plain_text, style_text,
 };
+pub use directory::{Directory, DirectoryFault, Player};
 pub use refusal::{PlainRefusal, Refusal};
 pub use session::{Outstanding, Session, Taken};
