@@ -1,4 +1,5 @@
 pub mod Backward
+pub mod BoardHeads
 pub mod BoardTests
 pub mod BoardTexts
 pub mod EachLine
@@ -7,6 +8,7 @@ pub mod FieldRangeLaws
 pub mod FieldTable
 pub mod FirstFaults
 pub mod Lengths
+pub mod NextFields
 pub mod OneNumberMore
 pub mod Pieces
 pub mod SpelledBoards

@@ -1,9 +1,7 @@
-pub mod BoardHeads
 pub mod CanonicalLines
 pub mod FieldFaults
 pub mod MessageLines
 pub mod MessageReadings
 pub mod MessageTable
-pub mod NextFields
 pub mod NumberWords
 pub mod Rows

@@ -7,6 +7,7 @@ use Rattle.fibs_messages.specs.declared.messages.message.Message.TheVariants.{We
 abbrev pub HasBits : Message → Type 0
 HasBits (Welcome name last_login last_host) = last_login < 18446744073709551616
 HasBits (OwnInfo info) = (info.experience < 18446744073709551616) × (info.rating < 4294967296)
-HasBits (WhoInfo info) = (info.rating < 4294967296) × (info.experience < 18446744073709551616) × (info.idle < 18446744073709551616) × (info.login < 18446744073709551616)
+HasBits (WhoInfo info) = (info.rating < 4294967296) × (info.experience < 18446744073709551616)
+    × (info.idle < 18446744073709551616) × (info.login < 18446744073709551616)
 HasBits (MessageReceived sender time text) = time < 18446744073709551616
 HasBits m = Unit {0}

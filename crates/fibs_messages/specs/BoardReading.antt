@@ -1,4 +1,4 @@
--- How the fields of a board line are gone through, from the left. Of what is public only the function `reading_value` rests on it.
+-- How the fields of a board line are gone through, from the left. Of what is public only `reading_value` rests on it.
 use Rattle.std.specs.Prelude.{◌+◌, ℕ, List, [], ◌∷◌, Option, Some, None}
 use Rattle.fibs_messages.specs.Board.{Kind, fault_in, pieces}
 use Rattle.fibs_messages.specs.FieldReading.{Left}

@@ -35,7 +35,8 @@ table =
     ∷ row 3 []
     ∷ row 4 []
     -- who info: name, opponent, watching; ready, away; rating; experience, idle, login; hostname, client; email
-    ∷ row 5 (a_name ∷ a_name ∷ a_name ∷ a_flag ∷ a_flag ∷ a_rating ∷ a_number ∷ a_number ∷ a_number ∷ a_word ∷ a_word ∷ a_tail ∷ [])
+    ∷ row 5 (a_name ∷ a_name ∷ a_name ∷ a_flag ∷ a_flag ∷ a_rating
+    ∷ a_number ∷ a_number ∷ a_number ∷ a_word ∷ a_word ∷ a_tail ∷ [])
     -- end of who info
     ∷ row 6 []
     -- login, logout: name, text
@@ -86,7 +87,8 @@ pub data FieldText : FieldValue → List ℕ → Type 0 where
 
 pub data FieldsText : List FieldValue → List ℕ → Type 0 where
   no_fields : FieldsText [] []
-  more_fields : {v : FieldValue} {vs : List FieldValue} {text texts : List ℕ} → FieldText v text → FieldsText vs texts → FieldsText (v ∷ vs) (text ++ texts)
+  more_fields : {v : FieldValue} {vs : List FieldValue} {text texts : List ℕ} →
+      FieldText v text → FieldsText vs texts → FieldsText (v ∷ vs) (text ++ texts)
 
 -- the line says this message: its number, its fields as the table has them, and spaces where they are dropped
 pub record MessageText (m : MessageValue) (line : List ℕ) : Type 0 where
@@ -118,7 +120,8 @@ kept n line = if drops_spaces n then without_spaces line else line
 
 -- the line has this number, and field k is the first that is wrong
 abbrev pub WrongMessage : List ℕ → ℕ → ℕ → Fault → Type 0
-WrongMessage line n k f = HasNumber line n × IsFirstFault (fault_at (kinds_of n) (texts_for (kinds_of n) 32 (after 32 (kept n line)))) k f
+WrongMessage line n k f = HasNumber line n
+    × IsFirstFault (fault_at (kinds_of n) (texts_for (kinds_of n) 32 (after 32 (kept n line)))) k f
 
 abbrev pub space_before : List ℕ → List ℕ
 space_before [] = []
@@ -143,7 +146,8 @@ IsValue (NumberField n) = n < 18446744073709551616
 IsValue (RatingField n) = n < 4294967296
 IsValue (TextField s) = Unit {0}
 
--- a message that is well formed: it has a number of the table, fields of the kinds of that row, and values of these kinds
+-- a message that is well formed: it has a number of the table, fields of the kinds of that row, and values of these
+-- kinds
 pub record IsMessage (m : MessageValue) : Type 0 where
   pub number : IsNumber m.number
   pub kinds : map kind_of m.fields ≡ kinds_of m.number

@@ -23,14 +23,16 @@ own_info_fields i = NameField (name_bytes i.name)
     ∷ WordField (word_bytes i.timezone) ∷ []
 
 abbrev pub who_info_fields : WhoInfo → List FieldValue
-who_info_fields w = NameField (name_bytes w.name) ∷ NameField (name_bytes w.opponent) ∷ NameField (name_bytes w.watching)
+who_info_fields w = NameField (name_bytes w.name)
+    ∷ NameField (name_bytes w.opponent) ∷ NameField (name_bytes w.watching)
     ∷ FlagField w.ready ∷ FlagField w.away ∷ RatingField w.rating
     ∷ NumberField w.experience ∷ NumberField w.idle ∷ NumberField w.login
     ∷ WordField (word_bytes w.hostname) ∷ WordField (word_bytes w.client)
     ∷ TailField (tail_bytes w.email) ∷ []
 
 abbrev pub message_of : Message → MessageValue
-message_of (Welcome name last_login last_host) = message 1 (NameField (name_bytes name) ∷ NumberField last_login ∷ WordField (word_bytes last_host) ∷ [])
+message_of (Welcome name last_login last_host) =
+    message 1 (NameField (name_bytes name) ∷ NumberField last_login ∷ WordField (word_bytes last_host) ∷ [])
 message_of (TheOwnInfo info) = message 2 (own_info_fields info)
 message_of MotdBegin = message 3 []
 message_of MotdEnd = message 4 []
@@ -38,7 +40,8 @@ message_of (TheWhoInfo info) = message 5 (who_info_fields info)
 message_of WhoInfoEnd = message 6 []
 message_of (Login name text) = message 7 (NameField (name_bytes name) ∷ TextField text.now ∷ [])
 message_of (Logout name text) = message 8 (NameField (name_bytes name) ∷ TextField text.now ∷ [])
-message_of (MessageReceived sender time text) = message 9 (NameField (name_bytes sender) ∷ NumberField time ∷ TextField text.now ∷ [])
+message_of (MessageReceived sender time text) =
+    message 9 (NameField (name_bytes sender) ∷ NumberField time ∷ TextField text.now ∷ [])
 message_of (MessageDelivered name) = message 10 (NameField (name_bytes name) ∷ [])
 message_of (MessageSaved name) = message 11 (NameField (name_bytes name) ∷ [])
 message_of (Says name text) = message 12 (NameField (name_bytes name) ∷ TextField text.now ∷ [])

@@ -89,18 +89,24 @@ pub fn prints_tell_boards(a: &Board, b: &Board) -> bool
 
 /// Each line says a board or has a first wrong field, never both, and no second one of either.
 pub fn each_line_is_one_board_or_wrong()
-    ensures either { (line : List ℕ) → ((b : BoardFields) × BoardText b line) ⊎ ((k : ℕ) × (f : Fault) × Wrong line k f) }
-    ensures not_both { (line : List ℕ) → (b : BoardFields) → (k : ℕ) → (f : Fault) → BoardText b line → Wrong line k f → ⊥ }
+    ensures either { (line : List ℕ) →
+        ((b : BoardFields) × BoardText b line) ⊎ ((k : ℕ) × (f : Fault) × Wrong line k f) }
+    ensures not_both { (line : List ℕ) → (b : BoardFields) → (k : ℕ) → (f : Fault) →
+        BoardText b line → Wrong line k f → ⊥ }
     ensures one_board { (line : List ℕ) → (a b : BoardFields) → BoardText a line → BoardText b line → a ≡ b }
-    ensures one_fault { (line : List ℕ) → (k m : ℕ) → (f g : Fault) → Wrong line k f → Wrong line m g → (k ≡ m) × (f ≡ g) }
+    ensures one_fault { (line : List ℕ) → (k m : ℕ) → (f g : Fault) →
+        Wrong line k f → Wrong line m g → (k ≡ m) × (f ≡ g) }
 {}
 
 /// A numbered line says a message or has a first wrong field, never both, and no second one of either.
 pub fn each_numbered_line_is_one_message_or_wrong()
-    ensures either { (line : List ℕ) → (n : ℕ) → HasNumber line n → ((m : MessageValue) × MessageText m line) ⊎ ((k : ℕ) × (f : Fault) × WrongMessage line n k f) }
-    ensures not_both { (line : List ℕ) → (m : MessageValue) → (n k : ℕ) → (f : Fault) → MessageText m line → WrongMessage line n k f → ⊥ }
+    ensures either { (line : List ℕ) → (n : ℕ) → HasNumber line n →
+        ((m : MessageValue) × MessageText m line) ⊎ ((k : ℕ) × (f : Fault) × WrongMessage line n k f) }
+    ensures not_both { (line : List ℕ) → (m : MessageValue) → (n k : ℕ) → (f : Fault) →
+        MessageText m line → WrongMessage line n k f → ⊥ }
     ensures one_message { (line : List ℕ) → (l m : MessageValue) → MessageText l line → MessageText m line → l ≡ m }
-    ensures one_fault { (line : List ℕ) → (m n j k : ℕ) → (f g : Fault) → WrongMessage line m j f → WrongMessage line n k g → (m ≡ n) × (j ≡ k) × (f ≡ g) }
+    ensures one_fault { (line : List ℕ) → (m n j k : ℕ) → (f g : Fault) →
+        WrongMessage line m j f → WrongMessage line n k g → (m ≡ n) × (j ≡ k) × (f ≡ g) }
 {}
 
 /// A line that says a message is a numbered line, and no board line is one.
@@ -148,7 +154,8 @@ pub fn flags_are_the_fields()
 
 /// A text is read as a number up to a limit exactly where it is what is written of that number.
 pub fn decimals_are_exact()
-    ensures { (limit n : ℕ) → (text : List ℕ) → limit < 2 ^ 64 → (decimal_up_to limit text ≡ Some n) ↔ ((text ≡ decimal n) × (n ≤ limit)) }
+    ensures { (limit n : ℕ) → (text : List ℕ) → limit < 2 ^ 64 →
+        (decimal_up_to limit text ≡ Some n) ↔ ((text ≡ decimal n) × (n ≤ limit)) }
 {}
 
 /// The canonical line of a message says it, and messages with one canonical line are one.
@@ -166,7 +173,8 @@ pub fn canonical_lines_read_back(line: &[u8]) -> Reading<'_>
 
 /// The number and the fields of each message are those of one row of the table.
 pub fn messages_are_rows_of_the_table()
-    ensures { (m : Message) → IsNumber (message_of m).number × (map kind_of (message_of m).fields ≡ kinds_of (message_of m).number) }
+    ensures { (m : Message) →
+        IsNumber (message_of m).number × (map kind_of (message_of m).fields ≡ kinds_of (message_of m).number) }
 {}
 
 fn own_info_has_bits(info: &OwnInfo<'_>)

@@ -1,4 +1,5 @@
-//! Lines of a backgammon server, FIBS: its boards in board style 3 and its numbered messages (CLIP 1008), read and printed.
+//! Lines of a backgammon server, FIBS: its boards in board style 3 and its numbered messages (CLIP 1008), read and
+//! printed.
 #![tactic(auto)]
 
 mod boards;

@@ -94,9 +94,9 @@ fn beginning_of(line: &[u8]) -> Beginning
 /// Reads a line that was not cut, without its line end and its prompts.
 ///
 /// A line that begins with `board:` is a board line (FIBS board style 3). A line that begins with a number from 1 to 19
-/// without leading zero, and then has a space or ends, is a numbered line (FIBS CLIP specification 1008). Such a line is
-/// `Board` or `Numbered` where its fields are right, else `Malformed` with the leftmost wrong one. Every other line is
-/// `Text`, also `board` alone, `05 x` and the empty line.
+/// without leading zero, and then has a space or ends, is a numbered line (FIBS CLIP specification 1008). Such a line
+/// is `Board` or `Numbered` where its fields are right, else `Malformed` with the leftmost wrong one. Every other line
+/// is `Text`, also `board` alone, `05 x` and the empty line.
 pub fn read(line: &[u8]) -> Reading<'_>
     // The answer is the line's reading, and a line has no other.
     ensures found { IsReading line.now (reading_of result) }
@@ -106,7 +106,8 @@ pub fn read(line: &[u8]) -> Reading<'_>
     // Each answer is given exactly where the line is this.
     ensures numbered { (m : MessageValue) → (reading_of result ≡ numbered_line m) ↔ MessageText m line.now }
     ensures board { (b : BoardFields) → (reading_of result ≡ board_line b) ↔ BoardText b line.now }
-    ensures malformed { (number k : ℕ) → (f : Fault) → (reading_of result ≡ malformed_line number k f) ↔ IsMalformed line.now number k f }
+    ensures malformed { (number k : ℕ) → (f : Fault) →
+        (reading_of result ≡ malformed_line number k f) ↔ IsMalformed line.now number k f }
     ensures text { (t : List ℕ) → (reading_of result ≡ text_line t) ↔ (IsText line.now × (t ≡ line.now)) }
 {
     match beginning_of(line) {

@@ -31,6 +31,7 @@ record IsEnd (line : List ℕ) : Type 0 where
   after : (k : ℕ) → place ≤ k → k < length line → (get_or line k 0 == 32) ≡ true
   before : 0 < place → (get_or line (place - 1) 0 == 32) ≡ false
 
+-- each line has such a place
 end_from : (line : List ℕ) (n : ℕ) → n ≤ length line → ((k : ℕ) → n ≤ k → k < length line → (get_or line k 0 == 32) ≡ true) → IsEnd line
 end_from line zero within after = record { place = 0; within = within; after = after; before = λ some. absurd (omega arith) }
 end_from line (suc n) within after = ⊎_elim
@@ -53,23 +54,28 @@ spaces_after line =
     let text = without_spaces_at line end.place end.within end.after end.before in
     (length line - end.place, spaces_at line end.place end.within end.after ∙ ap (λ l. l ++ replicate (length line - end.place) 32) (sym text))
 
+-- no fault in all is none here and none later
 no_fault : (n : ℕ) (o : Option Fault) (later : Option FieldFault) → fault_or n o later ≡ None → (o ≡ None) × (later ≡ None)
 no_fault n None later h = (refl, h)
 no_fault n (Some f) later h = absurd (some_none (record { field = n; fault = f }) h)
 
+-- no fault of a name: it is one
 good_unless : (good : Bool) → bad_name_unless good ≡ None → good ≡ true
 good_unless true h = refl
 good_unless false h = absurd (some_none BadName h)
 
+-- no fault of a number: there is one
 number_of : (r : Result ℤ Fault) → result_err r ≡ None → (z : ℤ) × (r ≡ Ok z)
 number_of (Ok z) h = (z, refl)
 number_of (Err f) h = absurd (some_none f h)
 
+-- pieces that are numbers of their fields
 record AreNumbers (vs : List Values) (ps : List (List ℕ)) : Type 0 where
   zs : List ℤ
   fit : Fit vs zs
   spelled : ps ≡ map signed_decimal zs
 
+-- pieces without a fault are such
 numbers_from : (n : ℕ) (vs : List Values) (ps : List (List ℕ)) → All IsNarrow vs → first_fault n (map number vs) ps ≡ None → AreNumbers vs ps
 numbers_from n [] [] narrow h = record { zs = []; fit = tt; spelled = refl }
 numbers_from n [] (p ∷ ps) narrow h = absurd (some_none _ h)
@@ -82,11 +88,13 @@ numbers_from n (v ∷ vs) (p ∷ ps) narrow h =
     let tail : ps ≡ map signed_decimal rest.zs = rest.spelled in
     record { zs = here.0 ∷ rest.zs; fit = (this.1, rest.fit); spelled = (λ i. this.0 i ∷ tail i) }
 
+-- pieces that are the fields of a board
 record AreFields (ps : List (List ℕ)) : Type 0 where
   board : BoardFields
   is_board : IsBoard board
   spelled : ps ≡ texts board
 
+-- pieces without a fault are such
 fields_from : (ps : List (List ℕ)) → first_fault 1 kinds ps ≡ None → AreFields ps
 fields_from [] h = absurd (some_none _ h)
 fields_from (w ∷ []) h = let word = no_fault 1 _ _ h in absurd (some_none _ word.1)
@@ -107,6 +115,7 @@ fields_from (w ∷ p ∷ o ∷ ps) h =
       spelled = (λ i. first i ∷ p ∷ o ∷ numbers i);
     }
 
+-- by the first fault that was found, or none
 by_first_fault : (line : List ℕ) (found : Option FieldFault) → first_fault 1 kinds (pieces (without_spaces line)) ≡ found
     → ((b : BoardFields) × BoardText b line) ⊎ ((k : ℕ) × (f : Fault) × Wrong line k f)
 by_first_fault line None h =
@@ -115,5 +124,6 @@ by_first_fault line None h =
     inl (fields.board, board_from_pieces fields.board line spaces.0 fields.is_board spaces.1 fields.spelled)
 by_first_fault line (Some e) h = inr (e.field, e.fault, wrong_from_first line e h)
 
+-- each line says a board or has a first wrong field
 pub board_or_wrong : (line : List ℕ) → ((b : BoardFields) × BoardText b line) ⊎ ((k : ℕ) × (f : Fault) × Wrong line k f)
 board_or_wrong line = by_first_fault line (first_fault 1 kinds (pieces (without_spaces line))) refl

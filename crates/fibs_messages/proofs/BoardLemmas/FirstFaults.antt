@@ -13,21 +13,26 @@ pub record IsLeast (n : ℕ) (ks : List Kind) (ps : List (List ℕ)) (e : FieldF
   pub here : fault_at ks ps place ≡ Some e.fault
   pub before : (j : ℕ) → j < place → fault_at ks ps j ≡ None
 
+-- what stands in one option is one
 pub option_same : {A : Type 0} (x y : A) → Some x ≡ Some y → x ≡ y
 option_same x y h = cc
 
+-- something is not nothing
 pub some_none : {A : Type 0} (x : A) → Some x ≡ None → ⊥
 some_none x h = cc
 
+-- a fault of a field, by its parts
 fault_in_field : (m n : ℕ) (f g : Fault) → m ≡ n → f ≡ g → ◌≡◌ {A = Option FieldFault} (Some (record { field = m; fault = f })) (Some (record { field = n; fault = g }))
 fault_in_field m n f g p q i = Some (record { field = p i; fault = q i })
 
+-- the first field is wrong
 from_here : (n : ℕ) (ks : List Kind) (ps : List (List ℕ)) (f : Fault) (e : FieldFault) → fault_at ks ps 0 ≡ Some f → Some (record { field = n; fault = f }) ≡ Some e → IsLeast n ks ps e
 from_here n ks ps f e here h =
     let same : ◌≡◌ {A = FieldFault} (record { field = n; fault = f }) e = option_same (record { field = n; fault = f }) e h in
     let field : n ≡ e.field = ap (λ (x : FieldFault). x.field) same in
     record { place = 0; field = omega arith; here = here ∙ ap (λ (x : FieldFault). Some x.fault) same; before = λ j below. absurd (omega arith) }
 
+-- a later one is
 from_later : (n : ℕ) (k : Kind) (ks : List Kind) (p : List ℕ) (ps : List (List ℕ)) (e : FieldFault) → fault_in k p ≡ None → IsLeast (n + 1) ks ps e → IsLeast n (k ∷ ks) (p ∷ ps) e
 from_later n k ks p ps e good rest =
     let field : e.field ≡ n + 1 + rest.place = rest.field in
@@ -37,17 +42,20 @@ from_later n k ks p ps e good rest =
     before zero below = good
     before (suc j) below = rest.before j (omega arith)
 
+-- either, by the fault of the first
 by_first : (n : ℕ) (k : Kind) (ks : List Kind) (p : List ℕ) (ps : List (List ℕ)) (e : FieldFault) (o : Option Fault) → fault_in k p ≡ o
     → fault_or n o (first_fault (n + 1) ks ps) ≡ Some e → (first_fault (n + 1) ks ps ≡ Some e → IsLeast (n + 1) ks ps e) → IsLeast n (k ∷ ks) (p ∷ ps) e
 by_first n k ks p ps e None is h later = from_later n k ks p ps e is (later h)
 by_first n k ks p ps e (Some f) is h later = from_here n (k ∷ ks) (p ∷ ps) f e is h
 
+-- the fault that is found is the least
 pub least_from_first : (n : ℕ) (ks : List Kind) (ps : List (List ℕ)) (e : FieldFault) → first_fault n ks ps ≡ Some e → IsLeast n ks ps e
 least_from_first n [] [] e h = absurd (some_none e (sym h))
 least_from_first n [] (p ∷ ps) e h = from_here n [] (p ∷ ps) Extra e refl h
 least_from_first n (k ∷ ks) [] e h = from_here n (k ∷ ks) [] Missing e refl h
 least_from_first n (k ∷ ks) (p ∷ ps) e h = by_first n k ks p ps e (fault_in k p) refl h (least_from_first (n + 1) ks ps e)
 
+-- the least fault is found
 pub first_from_least : (n : ℕ) (ks : List Kind) (ps : List (List ℕ)) (i : ℕ) (f : Fault) → fault_at ks ps i ≡ Some f → ((j : ℕ) → j < i → fault_at ks ps j ≡ None)
     → first_fault n ks ps ≡ Some (record { field = n + i; fault = f })
 first_from_least n [] [] i f here before = absurd (some_none f (sym here))

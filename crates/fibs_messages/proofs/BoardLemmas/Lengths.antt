@@ -22,17 +22,21 @@ use lib.Signed.{mag}
 abbrev pub digit_count : ℕ → ℕ
 digit_count n = cond (nat_lt n 10) 1 (cond (nat_lt n 100) 2 (cond (nat_lt n 10000) 4 (cond (nat_lt n 10000000) 7 (cond (nat_lt n 100000000) 8 10))))
 
+-- at least as many as the bytes of a number
 abbrev pub width : ℤ → ℕ
 width (pos n) = digit_count n
 width (negsuc n) = 1 + digit_count (suc n)
 
+-- at least as many as the bytes of each number that a field may have
 abbrev pub most_bytes : Values → ℕ
 most_bytes (Between low high) = max (width low) (width high)
 most_bytes (Either one other) = max (width one) (width other)
 
+-- a length that is small for each small number
 by_count : (n k : ℕ) → (n < 10 → k ≤ 1) → (n < 100 → k ≤ 2) → (n < 10000 → k ≤ 4) → (n < 10000000 → k ≤ 7) → (n < 100000000 → k ≤ 8) → k ≤ 10 → k ≤ digit_count n
 by_count n k one two four seven eight ten = grind (arith, nat_tests)
 
+-- a decimal is no longer
 pub decimal_short : (n : ℕ) → n < 10000000000 → length (decimal n) ≤ digit_count n
 decimal_short n limit =
     let one : n < 10 → length (decimal n) ≤ 1 = λ h. length-decimal-le 1 n (omega arith) h (omega arith) in
@@ -43,9 +47,11 @@ decimal_short n limit =
     let ten : length (decimal n) ≤ 10 = length-decimal-le 10 n (omega arith) limit (omega arith) in
     by_count n (length (decimal n)) one two four seven eight ten
 
+-- a smaller number is no longer
 digit_count-le : (m n : ℕ) → m ≤ n → digit_count m ≤ digit_count n
 digit_count-le m n le = grind (arith, nat_tests)
 
+-- nor is one with a sign
 pub signed_short : (z : ℤ) → mag z < 2 ^ 32 → length (signed_decimal z) ≤ width z
 signed_short (pos n) limit = decimal_short n (omega arith)
 signed_short (negsuc n) limit = omega (arith, decimal_short (suc n) (omega arith))
@@ -56,6 +62,7 @@ width_up (pos n) (pos b) h up = digit_count-le n b (grind (arith, nat_tests))
 width_up (pos n) (negsuc b) h up = absurd (false≢true h)
 width_up (negsuc n) high h up = absurd (false≢true up)
 
+-- the same below 0
 width_down : (low z : ℤ) → int_le low z ≡ true → int_le (pos 0) z ≡ false → width z ≤ width low
 width_down low (pos n) h down = absurd (false≢true (sym down ∙ grind (arith, nat_tests)))
 width_down (pos a) (negsuc n) h down = absurd (false≢true h)
@@ -63,6 +70,7 @@ width_down (negsuc a) (negsuc n) h down =
     let below : n ≤ a = grind (arith, nat_tests) in
     omega (arith, digit_count-le (suc n) (suc a) (omega arith))
 
+-- a number that a field may have is no longer than its field says
 pub width-le : (values : Values) (z : ℤ) → allows values z ≡ true → width z ≤ most_bytes values
 width-le (Between low high) z good =
     let parts = and_parts (int_le low z) (int_le z high) good in
@@ -76,6 +84,7 @@ width-le (Either one other) z good =
     (λ (is : int_eq z other ≡ true). let same : z ≡ other = grind (arith, nat_tests) in omega (arith, ap width same))
     (or_cases (int_eq z one) (int_eq z other) good)
 
+-- nor is its text
 pub number_short : (values : Values) (z : ℤ) → IsNarrow values → allows values z ≡ true → length (signed_decimal z) ≤ most_bytes values
 number_short values z fits good =
     let narrow : FitsSigned w32 z = allowed_narrow values z fits good in
@@ -86,6 +95,7 @@ pub total : List Values → ℕ
 total [] = 0
 total (v ∷ vs) = 1 + most_bytes v + total vs
 
+-- the numbers of a board take 194 bytes at most
 pub total_table : total field_values ≡ 194
 unfolding field_values total
 total_table = refl

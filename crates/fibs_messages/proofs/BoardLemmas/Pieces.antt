@@ -23,20 +23,24 @@ pub record IsFieldByte (c : ℕ) : Type 0 where
   pub no_colon : (c == 58) ≡ false
   pub no_space : (c == 32) ≡ false
 
+-- a name has neither
 pub name_bytes : (name : List ℕ) → is_name name ≡ true → All IsFieldByte name
 name_bytes name h =
     All-weaker (λ c. is_name_byte c ≡ true) IsFieldByte (λ c (each : is_name_byte c ≡ true). record { no_colon = grind (arith, nat_tests); no_space = grind (arith, nat_tests) })
     name (AllPass-from_list_all is_name_byte name (and_parts (nat_lt 0 (length name) && nat_le (length name) 64) (list_all is_name_byte name) h).1)
 
+-- nor have digits
 digit_bytes : (ds : List ℕ) → list_all is_ascii_digit ds ≡ true → All IsFieldByte ds
 digit_bytes ds h =
     All-weaker (λ c. is_ascii_digit c ≡ true) IsFieldByte (λ c (each : is_ascii_digit c ≡ true). record { no_colon = grind (arith, nat_tests); no_space = grind (arith, nat_tests) })
     ds (AllPass-from_list_all is_ascii_digit ds h)
 
+-- nor has a number
 pub number_bytes : (z : ℤ) → mag z < 2 ^ 63 → All IsFieldByte (signed_decimal z)
 number_bytes (pos n) limit = digit_bytes (decimal n) (digits_decimal own n (omega arith))
 number_bytes (negsuc n) limit = All-cons IsFieldByte 45 (decimal (suc n)) (record { no_colon = refl; no_space = refl }) (digit_bytes (decimal (suc n)) (digits_decimal own (suc n) (omega arith)))
 
+-- such a text has no colon
 pub no_colons : (text : List ℕ) → All IsFieldByte text → All (λ c. (c == 58) ≡ false) text
 no_colons = All-weaker IsFieldByte (λ c. (c == 58) ≡ false) (λ c h. h.no_colon)
 
@@ -58,6 +62,7 @@ without_spaces_at line n within after before =
     let is = suffix_len_is (λ c. c == 32) line n 0 within after before in
     ap (λ m. take m line) (omega (arith, is))
 
+-- a text of spaces alone
 pub all_spaces : (xs : List ℕ) → ((k : ℕ) → k < length xs → (get_or xs k 0 == 32) ≡ true) → xs ≡ replicate (length xs) 32
 all_spaces [] h = refl
 all_spaces (x ∷ xs) h =
@@ -90,6 +95,7 @@ pub space_from_not_in : (c : ℕ) → (not_in (32 ∷ []) c ≡ true → ⊥) �
 unfolding is_in
 space_from_not_in c h = true_from_ne_false (c == 32) (λ other. h (rw other refl))
 
+-- and the other way round
 pub no_space_from_not_in : (c : ℕ) → not_in (32 ∷ []) c ≡ true → (c == 32) ≡ false
 unfolding is_in
 no_space_from_not_in c h = false_from_ne_true (c == 32) (λ space. false≢true (rw space at h))

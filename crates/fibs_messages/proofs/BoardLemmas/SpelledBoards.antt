@@ -58,16 +58,20 @@ numbers_printed (v ∷ vs) (z ∷ zs) narrow h =
 head_of : BoardFields → List ℕ
 head_of b = codes "board:" ++ b.player
 
+-- with the opponent
 names_of : BoardFields → List ℕ
 names_of b = (head_of b ++ 58 ∷ []) ++ b.opponent
 
+-- with the numbers
 parts_of : BoardFields → List ℕ
 parts_of b = names_of b ++ after_colons b.numbers
 
+-- the parts are the spelling
 parts_spell : (b : BoardFields) → parts_of b ≡ spelling b
 unfolding parts_of names_of head_of
 parts_spell b = written_in_parts b (codes "board:") (head_of b) (head_of b ++ 58 ∷ []) (names_of b) (parts_of b) refl refl refl refl refl
 
+-- they are printed text
 parts_printed : (b : BoardFields) → IsBoard b → All IsPrinted (parts_of b)
 unfolding parts_of names_of head_of
 parts_printed b h =
@@ -76,6 +80,7 @@ parts_printed b h =
     let names = All-append IsPrinted (head_of b ++ 58 ∷ []) b.opponent colon (name_printed b.opponent h.1) in
     All-append IsPrinted (names_of b) (after_colons b.numbers) names (numbers_printed field_values b.numbers all_narrow h.2)
 
+-- they are short
 parts_short : (b : BoardFields) → IsBoard b → length (parts_of b) ≤ 329
 unfolding parts_of names_of head_of
 parts_short b h =

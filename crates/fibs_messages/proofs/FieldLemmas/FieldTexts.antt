@@ -15,6 +15,7 @@ use Rattle.fibs_messages.specs.Split.{before, after}
 use Rattle.fibs_messages.proofs.FieldLemmas.FieldValues.{bind_ok, ok_is, value_sound, value_complete, all_weaker, decimal_has_no}
 use Rattle.fibs_messages.proofs.FieldLemmas.Splits.{behind, opened, HeadIs, before-behind, has_no, cut_off}
 
+-- a fault that gets its field was there before
 pub numbered_ok : {A : Type 0} (r : Result A Fault) (i : ℕ) (v : A) → numbered i r ≡ Ok v → r ≡ Ok v
 numbered_ok (Ok x) i v e = ap Ok (ok_is x v e)
 numbered_ok (Err f) i v e = absurd cc
@@ -29,6 +30,7 @@ pub record Takes (k : Kind) (o : Option (List ℕ)) (x : FieldValue × Left) : T
   pub separator : x.1 ≡ left 32 x.1.rest
   pub kind : kind_of x.0 ≡ k
 
+-- a field where nothing is left
 absent_text : (k : Kind) (i : ℕ) (x : FieldValue × Left) → field_at k i (left 32 None) ≡ Ok x → Takes k None x
 unfolding field_at text_at value_in
 absent_text a_name i x e = absurd cc
@@ -40,6 +42,7 @@ absent_text a_rating i x e = absurd cc
 absent_text a_text i x e =
     subst (Takes a_text None) (ok_is (TextField [], left 32 None) x e) (record { text = []; field = no_text; parts = refl; separator = refl; kind = refl })
 
+-- the text of a field
 text_takes : (k : Kind) (i : ℕ) (s text : List ℕ) (o : Option (List ℕ)) (x : FieldValue × Left) → s ≡ text ++ behind 32 o
     → (numbered i (value_in k text) >>= λ v. Ok (v, left 32 o)) ≡ Ok x → Takes k (Some s) x
 text_takes k i s text o x parts e =
@@ -53,6 +56,7 @@ text_takes k i s text o x parts e =
       kind = v.0;
     })
 
+-- a field takes its text and leaves the rest
 pub field_takes : (k : Kind) (i : ℕ) (o : Option (List ℕ)) (x : FieldValue × Left) → field_at k i (left 32 o) ≡ Ok x → Takes k o x
 unfolding field_at text_at
 field_takes k i None x e = absent_text k i x e
@@ -66,10 +70,12 @@ field_takes a_text i (Some s) x e = text_takes a_text i s s None x (sym (append-
 
 -- ---- all fields that were read
 
+-- values that the fields of a text spell
 pub record AreFound (ks : List Kind) (text : List ℕ) (vs : List FieldValue) : Type 0 where
   pub fields : FieldsText vs text
   pub kinds : map kind_of vs ≡ ks
 
+-- what is read of the fields is spelled there
 pub fields_sound : (ks : List Kind) (i : ℕ) (o : Option (List ℕ)) (vs : List FieldValue) → fields_at ks i (left 32 o) ≡ Ok vs → AreFound ks (behind 32 o) vs
 unfolding end_at
 fields_sound [] i None vs e = subst (AreFound [] []) (ok_is [] vs e) (record { fields = no_fields; kinds = refl })
@@ -88,20 +94,24 @@ fields_sound (k ∷ ks) i o vs e =
 
 -- ---- what is spelled is read
 
+-- a byte of a name is no space
 no_space_byte : (b : ℕ) → is_name_byte b ≡ true → not (eqb b 32) ≡ true
 no_space_byte b h =
     let p = and_parts (leb 33 b && leb b 126) (not (eqb b 58)) h in
     let q = and_parts (leb 33 b) (leb b 126) p.0 in
     not_from_false (eqb b 32) (ne_eqb b 32 (λ (e : b ≡ 32). absurd (omega (arith, leb-true 33 b q.0))))
 
+-- what holds of two texts holds of both together
 all_both : (p : ℕ → Bool) (x y : List ℕ) → list_all p x ≡ true → list_all p y ≡ true → list_all p (x ++ y) ≡ true
 all_both p [] y h k = k
 all_both p (b ∷ x) y h k =
     let e = and_parts (p b) (list_all p x) h in and_from (p b) (list_all p (x ++ y)) e.0 (all_both p x y e.1 k)
 
+-- a digit is no space
 not_a_space : (d : ℕ) → not (eqb (48 + d) 32) ≡ true
 not_a_space d = not_from_false (eqb (48 + d) 32) (ne_eqb (48 + d) 32 (λ (e : 48 + d ≡ 32). absurd (omega arith)))
 
+-- a fraction has no space
 fraction_no_space : (s : List ℕ) (h : ℕ) → FractionText s h → has_no 32 s ≡ true
 fraction_no_space s h rating.no_fraction = refl
 fraction_no_space s h (rating.tenths {d} lt) = rw (not_a_space d) refl
@@ -117,14 +127,17 @@ text_head : (v : FieldValue) (t ts : List ℕ) → FieldText v t → HeadIs 32 t
 text_head v t ts (spelled h) head = refl
 text_head v t ts no_text head = head
 
+-- the fields begin with a space or are nothing
 pub texts_head : (vs : List FieldValue) (s : List ℕ) → FieldsText vs s → HeadIs 32 s
 texts_head vs s no_fields = tt
 texts_head vs s (more_fields {v} {vs = us} {text} {texts} here more) = text_head v text texts here (texts_head us texts more)
 
+-- no fields are no text
 pub no_more : (vs : List FieldValue) (s : List ℕ) → FieldsText vs s → map kind_of vs ≡ [] → s ≡ []
 no_more vs s no_fields e = refl
 no_more vs s (more_fields here more) e = absurd cc
 
+-- a field that is not the rest of the line has no space
 pub word_no_space : (v : FieldValue) (text : List ℕ) → Spells v text → takes_rest (kind_of v) ≡ false → has_no 32 text ≡ true
 word_no_space (NameField s) text h k =
     let p = and_parts _ (list_all is_name_byte s) h.0 in
@@ -155,6 +168,7 @@ unfolding field_at text_at value_in
 field_again v t rest i no_text head last = rw (last refl) refl
 field_again v t rest i (spelled {text} h) head last = word_again v text rest i h head last
 
+-- what the fields spell is read of them
 pub fields_complete : (vs : List FieldValue) (s : List ℕ) (i : ℕ) → FieldsText vs s → TextLast (map kind_of vs) → fields_at (map kind_of vs) i (left 32 (opened s)) ≡ Ok vs
 unfolding end_at
 fields_complete vs s i no_fields last = refl

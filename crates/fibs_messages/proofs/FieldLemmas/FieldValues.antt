@@ -24,13 +24,16 @@ use Rattle.fibs_messages.proofs.FieldLemmas.Splits.{behind, opened, HeadIs, befo
 
 -- ---- steps that did not fail
 
+-- two steps that gave a value each did
 pub bind_ok : {A B E : Type 0} (r : Result A E) (f : A → Result B E) (y : B) → (r >>= f) ≡ Ok y → (x : A) × (r ≡ Ok x) × (f x ≡ Ok y)
 bind_ok (Ok x) f y e = (x, refl, e)
 bind_ok (Err d) f y e = absurd cc
 
+-- one answer has one value
 pub ok_is : {A E : Type 0} (x y : A) → ◌≡◌ {A = Result A E} (Ok x) (Ok y) → x ≡ y
 ok_is x y e = cc
 
+-- a test that was passed
 good_is : {A : Type 0} (test : Bool) (x v : A) → good test x ≡ Ok v → (test ≡ true) × (x ≡ v)
 good_is true x v e = (refl, ok_is x v e)
 good_is false x v e = absurd cc
@@ -41,27 +44,32 @@ IsFound k text v = (kind_of v ≡ k) × Spells v text
 
 -- ---- flags
 
+-- a flag fits 32 bits
 narrow_flags : IsNarrow flag_values
 narrow_flags = (search (ints, arith), search (ints, arith))
 
+-- a number that a flag may be is its text
 flag_number : (z : ℤ) (text : List ℕ) → text ≡ signed_decimal z → allows flag_values z ≡ true → IsFound a_flag text (FlagField (eqb (natural z) 1))
 flag_number (pos zero) text e h = (refl, e ∙ decimal_digit 0 (lit< tt))
 flag_number (pos (suc zero)) text e h = (refl, e ∙ decimal_digit 1 (lit< tt))
 flag_number (pos (suc (suc n))) text e h = absurd (grind (arith, ints, nat_tests))
 flag_number (negsuc n) text e h = absurd (grind (arith, ints, nat_tests))
 
+-- a flag that is read is spelled so
 flag_sound : (text : List ℕ) (v : FieldValue) → (number_in flag_values text >>= λ z. Ok (FlagField (eqb (natural z) 1))) ≡ Ok v → IsFound a_flag text v
 flag_sound text v e =
     let b = bind_ok (number_in flag_values text) (λ z. Ok (FlagField (eqb (natural z) 1))) v e in
     let spelled = number_in_spelled flag_values text b.0 narrow_flags b.1 in
     subst (IsFound a_flag text) (ok_is (FlagField (eqb (natural b.0) 1)) v b.2) (flag_number b.0 text spelled.0 spelled.1)
 
+-- a flag that is spelled is read
 flag_complete : (b : Bool) → (number_in flag_values (flag_text b) >>= λ z. Ok (FlagField (eqb (natural z) 1))) ≡ Ok (FlagField b)
 flag_complete true = refl
 flag_complete false = refl
 
 -- ---- numbers
 
+-- a number that is read is spelled so
 number_sound : (text : List ℕ) (v : FieldValue) → (number_in number_values text >>= λ z. Ok (NumberField (natural z))) ≡ Ok v → IsFound a_number text v
 number_sound text v e =
     let b = bind_ok (number_in number_values text) (λ z. Ok (NumberField (natural z))) v e in
@@ -71,6 +79,7 @@ number_sound text v e =
 
 -- ---- ratings
 
+-- a digit and its number
 digit_of : (d : ℕ) → is_ascii_digit d ≡ true → (d - 48 < 10) × (d ≡ 48 + (d - 48))
 digit_of d h =
     let p = and_parts (leb 48 d) (leb d 57) h in
@@ -78,9 +87,11 @@ digit_of d h =
     let high = leb-true d 57 p.1 in
     (omega arith, omega arith)
 
+-- a small number and its digit
 digit_test : (d : ℕ) → d < 10 → is_ascii_digit (48 + d) ≡ true
 digit_test d lt = and_from (leb 48 (48 + d)) (leb (48 + d) 57) (le-leb 48 (48 + d) (omega arith)) (le-leb (48 + d) 57 (omega arith))
 
+-- a fraction that is read is spelled so
 fraction_sound : (o : Option (List ℕ)) → is_fraction o ≡ true → FractionText (behind 46 o) (hundredths_of o)
 fraction_sound None e = no_fraction
 fraction_sound (Some []) e = absurd cc
@@ -107,6 +118,7 @@ rating_parts text r e = elim (cases_Bool (is_rating text)) [
   | inr other ↦ let none = rw other at e in absurd cc
 ]
 
+-- a text of the form of a rating spells it
 rating_spelled : (text : List ℕ) (r : ℕ) → is_rating text ≡ true → rating_value text ≡ r → r < 4294967296 → RatingText r text
 rating_spelled text r form value small =
     let p = and_parts (is_zero (before 46 text) || is_positive (before 46 text)) (is_fraction (after 46 text)) form in
@@ -120,6 +132,7 @@ rating_spelled text r form value small =
       rating_is = sym value;
     }
 
+-- a rating that is read is spelled so
 rating_sound : (text : List ℕ) (v : FieldValue) → (rating_in text >>= λ r. Ok (RatingField r)) ≡ Ok v → IsFound a_rating text v
 rating_sound text v e =
     let b = bind_ok (rating_in text) (λ r. Ok (RatingField r)) v e in
@@ -128,6 +141,7 @@ rating_sound text v e =
 
 -- ---- what is found is spelled
 
+-- a value that is read is of its kind and spelled so
 pub value_sound : (k : Kind) (text : List ℕ) (v : FieldValue) → value_in k text ≡ Ok v → IsFound k text v
 unfolding value_in
 value_sound a_name text v e =
@@ -143,20 +157,24 @@ value_sound a_text text v e = subst (IsFound a_text text) (ok_is (TextField text
 
 -- ---- what is spelled is found
 
+-- what holds of each byte, and something weaker
 pub all_weaker : (p q : ℕ → Bool) → ((b : ℕ) → p b ≡ true → q b ≡ true) → (s : List ℕ) → list_all p s ≡ true → list_all q s ≡ true
 all_weaker p q h [] a = refl
 all_weaker p q h (b ∷ s) a =
     let e = and_parts (p b) (list_all p s) a in
     and_from (q b) (list_all q s) (h b e.0) (all_weaker p q h s e.1)
 
+-- a digit is no byte below it
 digit_is_no : (c : ℕ) → c < 48 → (b : ℕ) → is_ascii_digit b ≡ true → not (eqb b c) ≡ true
 digit_is_no c low b h =
     let p = and_parts (leb 48 b) (leb b 57) h in
     not_from_false (eqb b c) (ne_eqb b c (λ (e : b ≡ c). absurd (omega (arith, leb-true 48 b p.0))))
 
+-- nor has a decimal one
 pub decimal_has_no : (c n : ℕ) → c < 48 → n < 2 ^ 64 → has_no c (decimal n) ≡ true
 decimal_has_no c n low lt = all_weaker is_ascii_digit (λ b. not (eqb b c)) (digit_is_no c low) (decimal n) (digits_decimal own n lt)
 
+-- a fraction that is spelled is read
 fraction_complete : (s : List ℕ) (h : ℕ) → FractionText s h → HeadIs 46 s × (is_fraction (opened s) ≡ true) × (hundredths_of (opened s) ≡ h)
 fraction_complete s h no_fraction = (tt, refl, refl)
 fraction_complete s h (tenths {d} lt) = (refl, digit_test d lt, omega arith)
@@ -168,6 +186,7 @@ decimal_form zero limit = ap (λ (s : List ℕ). is_zero s || is_positive s) (de
 decimal_form (suc n) limit =
     or_right (is_zero (decimal (suc n))) (is_positive (decimal (suc n))) (positive_from (decimal (suc n)) (written_positive (suc n) (omega arith) limit))
 
+-- a rating that is spelled is read
 rating_complete : (r : ℕ) (text : List ℕ) → r < 4294967296 → RatingText r text → rating_in text ≡ Ok r
 rating_complete r text lt t =
     let f = fraction_complete t.fraction t.hundreds t.fraction_text in
@@ -179,6 +198,7 @@ rating_complete r text lt t =
     let form : is_rating text ≡ true = rw (front, back, decimal_form t.whole small) f.1 in
     rw (form, same, le-leb r 4294967295 (omega arith)) refl
 
+-- a value that is spelled is read
 pub value_complete : (v : FieldValue) (text : List ℕ) → Spells v text → value_in (kind_of v) text ≡ Ok v
 unfolding value_in
 value_complete (NameField s) text h = rw (h.1, h.0) refl

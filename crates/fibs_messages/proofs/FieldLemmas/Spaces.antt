@@ -9,12 +9,14 @@ use Rattle.fibs_messages.proofs.BoardLemmas.Pieces.{without_spaces_at}
 abbrev pub EndsPlain : List ℕ → Type 0
 EndsPlain text = 0 < length text → (get_or text (length text - 1) 0 == 32) ≡ false
 
+-- a text ends as its last part does
 pub ends_append : (x y : List ℕ) → 0 < length y → EndsPlain y → EndsPlain (x ++ y)
 ends_append x y some h inside =
     let place : length (x ++ y) - 1 - length x ≡ length y - 1 = omega (arith, length-append x y) in
     ap (λ (c : ℕ). c == 32) (get_or-append_right x y (length (x ++ y) - 1) 0 (omega (arith, length-append x y)))
     ∙ (ap (λ (m : ℕ). get_or y m 0 == 32) place ∙ h some)
 
+-- spaces after a text that ends in none are dropped, and nothing else
 pub without_spaces-end : (text : List ℕ) (n : ℕ) → EndsPlain text → without_spaces (text ++ replicate n 32) ≡ text
 without_spaces-end text n h =
     without_spaces_at (text ++ replicate n 32) (length text) (omega (arith, length-append text (replicate n 32)))

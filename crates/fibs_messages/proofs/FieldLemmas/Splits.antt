@@ -4,6 +4,7 @@ use Rattle.std.specs.List.{list_all}
 use Rattle.std.proofs.lemmas.Bool.{cases_eq, eq-eqb, ne_eqb, and_parts, not-true}
 use Rattle.fibs_messages.specs.Split.{before, after}
 
+-- the first such byte parts the text
 pub split_at : (c : ℕ) (s : List ℕ) (k : ℕ) → k < length s → ((j : ℕ) → j < k → get_or s j 0 ≡ c → ⊥) → get_or s k 0 ≡ c → (take k s ≡ before c s) × (Some (drop (suc k) s) ≡ after c s)
 split_at c [] k lt none is = absurd (omega arith)
 split_at c (b ∷ s) zero lt none is = rw (eq-eqb b c is) (refl, refl)
@@ -11,6 +12,7 @@ split_at c (b ∷ s) (suc k) lt none is =
     let more = split_at c s k (omega arith) (λ (j : ℕ) (l : j < k). none (suc j) (omega arith)) is in
     rw (ne_eqb b c (none 0 (omega arith))) (ap (λ (t : List ℕ). b ∷ t) more.0, more.1)
 
+-- without one all of the text is before it
 pub split_none : (c : ℕ) (s : List ℕ) → ((j : ℕ) → j < length s → get_or s j 0 ≡ c → ⊥) → (s ≡ before c s) × (None ≡ after c s)
 split_none c [] none = (refl, refl)
 split_none c (b ∷ s) none =
@@ -32,18 +34,22 @@ abbrev pub HeadIs : ℕ → List ℕ → Type 0
 HeadIs c [] = Unit {0}
 HeadIs c (b ∷ s) = b ≡ c
 
+-- what is put behind begins with the byte
 pub behind-head : (c : ℕ) (o : Option (List ℕ)) → HeadIs c (behind c o)
 behind-head c None = tt
 behind-head c (Some s) = refl
 
+-- and is opened again
 pub opened-behind : (c : ℕ) (o : Option (List ℕ)) → opened (behind c o) ≡ o
 opened-behind c None = refl
 opened-behind c (Some s) = refl
 
+-- what begins with the byte is put behind again
 pub behind-opened : (c : ℕ) (s : List ℕ) → HeadIs c s → behind c (opened s) ≡ s
 behind-opened c [] h = refl
 behind-opened c (b ∷ s) h = ap (λ (x : ℕ). x ∷ s) (sym h)
 
+-- the two parts are the text
 pub before-behind : (c : ℕ) (s : List ℕ) → before c s ++ behind c (after c s) ≡ s
 before-behind c [] = refl
 before-behind c (b ∷ s) = elim (cases_eq b c) [
@@ -64,6 +70,7 @@ cut_off c (b ∷ w) rest h head =
     let more = cut_off c w rest p.1 head in
     rw (not-true (eqb b c) p.0) (ap (λ (t : List ℕ). b ∷ t) more.0, more.1)
 
+-- two texts of which each begins with the byte or is nothing
 pub append_head : (c : ℕ) (t s : List ℕ) → HeadIs c t → HeadIs c s → HeadIs c (t ++ s)
 append_head c [] s h k = k
 append_head c (b ∷ t) s h k = h

@@ -22,6 +22,7 @@ one_board line a b g h = texts_same a b g.0 h.0 (sym (pieces_of_board a line g) 
 fault_same : (line : List ℕ) (d e : FieldFault) → Wrong line d.field d.fault → Wrong line e.field e.fault → d ≡ e
 fault_same line d e g h = option_same d e (sym (first_from_wrong line d g) ∙ first_from_wrong line e h)
 
+-- by its parts
 pub one_fault : (line : List ℕ) (k m : ℕ) (f g : Fault) → Wrong line k f → Wrong line m g → (k ≡ m) × (f ≡ g)
 one_fault line k m f g p q =
     let same : ◌≡◌ {A = FieldFault} (record { field = k; fault = f }) (record { field = m; fault = g }) =
@@ -38,6 +39,7 @@ not_both line b k f says wrong =
 pub board_begins : (line : List ℕ) (b : BoardFields) → BoardText b line → IsBoardLine line
 board_begins line b says = let P : List ℕ → Type 0 = λ l. IsBoardLine l in subst P (sym says.1.1) refl
 
+-- a malformed line, by its parts
 malformed_same : (j k : ℕ) (m n : ℕ) (f g : Fault) → j ≡ k → m ≡ n → f ≡ g → malformed_line j m f ≡ malformed_line k n g
 malformed_same j k m n f g p q r i = malformed_line (p i) (q i) (r i)
 
@@ -46,14 +48,17 @@ malformed_no_board : (line : List ℕ) (b : BoardFields) (n k : ℕ) (f : Fault)
 malformed_no_board line b n k f says (inl wrong) = not_both line b k f says wrong.2
 malformed_no_board line b n k f says (inr wrong) = board_not_numbered line (board_begins line b says) (n, wrong.0)
 
+-- nor a message
 malformed_no_message : (line : List ℕ) (m : MessageValue) (n k : ℕ) (f : Fault) → MessageText m line → IsMalformed line n k f → ⊥
 malformed_no_message line m n k f says (inl wrong) = board_not_numbered line wrong.0 (message_numbered line m says)
 malformed_no_message line m n k f says (inr wrong) = message_not_wrong line m n k f says wrong
 
+-- nor is it text
 malformed_no_text : (line : List ℕ) (n k : ℕ) (f : Fault) → IsText line → IsMalformed line n k f → ⊥
 malformed_no_text line n k f text (inl wrong) = text.0 wrong.0
 malformed_no_text line n k f text (inr wrong) = text.1 (n, wrong.0)
 
+-- a malformed line is so in one way
 one_malformed : (line : List ℕ) (j k m n : ℕ) (f g : Fault) → IsMalformed line j m f → IsMalformed line k n g → malformed_line j m f ≡ malformed_line k n g
 one_malformed line j k m n f g (inl p) (inl q) =
     let same = one_fault line m n f g p.2 q.2 in
@@ -64,6 +69,7 @@ one_malformed line j k m n f g (inr p) (inr q) =
     let same = one_wrong line j k m n f g p q in
     malformed_same j k m n f g same.number same.field same.fault
 
+-- a line has one reading
 pub reading_same : (line : List ℕ) (v w : ReadingValue) → IsReading line v → IsReading line w → v ≡ w
 reading_same line (numbered_line a) (numbered_line b) g h = ap numbered_line (one_message line a b g h)
 reading_same line (numbered_line a) (board_line b) g h = absurd (board_not_numbered line h.0 (message_numbered line a g))
@@ -90,6 +96,7 @@ pub record ReadExactly (line : List ℕ) (v : ReadingValue) : Type 0 where
   pub malformed : (n k : ℕ) → (f : Fault) → (v ≡ malformed_line n k f) ↔ IsMalformed line n k f
   pub text : (t : List ℕ) → (v ≡ text_line t) ↔ (IsText line × (t ≡ line))
 
+-- so it is of each reading that is the line's
 pub exactly : (line : List ℕ) (v : ReadingValue) → IsReading line v → ReadExactly line v
 exactly line v found =
     let P : ReadingValue → Type 0 = λ w. IsReading line w in

@@ -6,12 +6,14 @@ use Rattle.fibs_messages.specs.Field.{FieldValue, NameField, WordField, TailFiel
 use Rattle.fibs_messages.specs.Message.{MessageValue, FieldText, spelled, no_text, FieldsText, no_fields, more_fields, MessageText, canonical, canonical_field, IsValue, IsMessage}
 use Rattle.fibs_messages.specs.Rating.{FractionText, hundredths, RatingText}
 
+-- two digits are a fraction
 fraction_text : (n : ℕ) → n < 100 → FractionText (46 ∷ (48 + n / 10) ∷ (48 + n % 10) ∷ []) n
 fraction_text n lt =
     let e : 10 * (n / 10) + n % 10 ≡ n = omega arith in
     let h : FractionText (46 ∷ (48 + n / 10) ∷ (48 + n % 10) ∷ []) (10 * (n / 10) + n % 10) = hundredths (omega arith) (omega arith) in
     subst (FractionText (46 ∷ (48 + n / 10) ∷ (48 + n % 10) ∷ [])) e h
 
+-- what is printed of a rating spells it
 rating_text : (r : ℕ) → RatingText r (decimal (r / 100) ++ (46 ∷ (48 + r % 100 / 10) ∷ (48 + r % 10) ∷ []))
 rating_text r =
     let e : r % 100 % 10 ≡ r % 10 = omega arith in
@@ -24,6 +26,7 @@ rating_text r =
       rating_is = omega arith;
     }
 
+-- what is printed of a field spells it
 field_text : (v : FieldValue) → IsValue v → FieldText v (canonical_field v)
 unfolding canonical_field
 field_text (NameField s) h = spelled (h, refl)
@@ -35,10 +38,12 @@ field_text (RatingField r) h = spelled (h, rating_text r)
 field_text (TextField []) h = no_text
 field_text (TextField (b ∷ s)) h = spelled refl
 
+-- and so of all fields
 fields_text : (vs : List FieldValue) → AllByRecursion IsValue vs → FieldsText vs (flat_map canonical_field vs)
 fields_text [] h = no_fields
 fields_text (v ∷ vs) h = more_fields (field_text v h.0) (fields_text vs h.1)
 
+-- the canonical line of a message says it
 pub canonical_said : (m : MessageValue) → IsMessage m → MessageText m (canonical m)
 canonical_said m h = record {
   number = h.number;

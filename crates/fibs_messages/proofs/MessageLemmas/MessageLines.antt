@@ -24,14 +24,17 @@ use Rattle.fibs_messages.proofs.FieldLemmas.Splits.{behind, opened, HeadIs, befo
 
 -- ---- the fields' text ends without a space, where none is a text
 
+-- a text that ends in no space, and is not nothing
 pub record Ends (text : List ℕ) : Type 0 where
   pub some : 0 < length text
   pub plain : EndsPlain text
 
+-- a text with something before it
 front_some : (x y : List ℕ) → 0 < length x → 0 < length (x ++ y)
 front_some [] y h = absurd (omega arith)
 front_some (b ∷ x) y h = omega arith
 
+-- a field other than a text has a byte
 text_some : (v : FieldValue) (text : List ℕ) → Spells v text → may_be_absent (kind_of v) ≡ false → 0 < length text
 text_some (NameField s) text h k =
     let p = and_parts (ltb 0 (length s) && leb (length s) 64) (list_all is_name_byte s) h.0 in
@@ -47,11 +50,13 @@ text_some (RatingField r) text h k =
     rw t.text_is (front_some (decimal t.whole) t.fraction (decimal_nonempty t.whole lt))
 text_some (TextField s) text h k = absurd cc
 
+-- a text without a space ends in none
 plain_end : (text : List ℕ) → has_no 32 text ≡ true → EndsPlain text
 plain_end text h some =
     not-true (get_or text (length text - 1) 0 == 32)
     (All-get_or (λ c. not (eqb c 32) ≡ true) text (length text - 1) 0 (omega arith) (AllPass-from_list_all (λ c. not (eqb c 32)) text h))
 
+-- a field other than a text ends in no space
 text_plain : (v : FieldValue) (text : List ℕ) → Spells v text → may_be_absent (kind_of v) ≡ false → EndsPlain text
 text_plain (NameField s) text h k = plain_end text (word_no_space (NameField s) text h refl)
 text_plain (WordField s) text h k = plain_end text (word_no_space (WordField s) text h refl)
@@ -63,6 +68,7 @@ text_plain (NumberField n) text h k = plain_end text (word_no_space (NumberField
 text_plain (RatingField r) text h k = plain_end text (word_no_space (RatingField r) text h refl)
 text_plain (TextField s) text h k = absurd cc
 
+-- so does a line that ends in it
 field_end : (v : FieldValue) (t x : List ℕ) → FieldText v t → may_be_absent (kind_of v) ≡ false → Ends x → Ends (x ++ t)
 field_end v t x (spelled {text} h) k e = record {
   some = front_some x (32 ∷ text) e.some;
@@ -70,17 +76,20 @@ field_end v t x (spelled {text} h) k e = record {
 }
 field_end v t x no_text k e = absurd cc
 
+-- and one that ends in such fields
 pub texts_end : (vs : List FieldValue) (s x : List ℕ) → FieldsText vs s → has_all (map kind_of vs) ≡ true → Ends x → Ends (x ++ s)
 texts_end vs s x no_fields h e = subst Ends (sym (append-nil x)) e
 texts_end vs s x (more_fields {v} {vs = us} {text} {texts} here more) h e =
     let p = and_parts (not (may_be_absent (kind_of v))) (has_all (map kind_of us)) h in
     subst Ends (append_assoc x text texts) (texts_end us texts (x ++ text) more p.1 (field_end v text x here (not-true (may_be_absent (kind_of v)) p.0) e))
 
+-- a number ends in no space
 number_ends : (n : ℕ) → n < 2 ^ 64 → Ends (decimal n)
 number_ends n lt = record { some = decimal_nonempty n lt; plain = plain_end (decimal n) (decimal_has_no 32 n (omega arith) lt) }
 
 -- ---- lines
 
+-- spaces begin with a space
 spaces_head : (n : ℕ) → HeadIs 32 (replicate n 32)
 spaces_head zero = tt
 spaces_head (suc n) = refl
@@ -107,6 +116,7 @@ kept_is m line t =
       | inr e ↦ rw e (t.line_is ∙ ap (λ (k : ℕ). decimal n ++ (t.text ++ replicate k 32)) (t.no_spaces e) ∙ ap (λ (s : List ℕ). decimal n ++ s) (append-nil t.text))
     ]
 
+-- a line that says a message is read so
 pub line_reads : (m : MessageValue) (line : List ℕ) → MessageText m line → ReadsAs line m.number (Ok m.fields)
 line_reads m line t =
     let n = m.number in
@@ -127,12 +137,14 @@ record Kept (n : ℕ) (line : List ℕ) : Type 0 where
   none : drops_spaces n ≡ false → spaces ≡ 0
   line_is : line ≡ kept n line ++ replicate spaces 32
 
+-- what is kept of a line
 kept_part : (n : ℕ) (line : List ℕ) → Kept n line
 kept_part n line = elim (cases_Bool (drops_spaces n)) [
   | inl e ↦ let d = spaces_after line in record { spaces = d.0; none = λ f. absurd cc; line_is = rw e d.1 }
   | inr e ↦ record { spaces = 0; none = λ f. refl; line_is = rw e (sym (append-nil line)) }
 ]
 
+-- a line that is read as a message says it
 pub reads_line : (n : ℕ) (vs : List FieldValue) (line : List ℕ) → ReadsAs line n (Ok vs) → MessageText (record { number = n; fields = vs }) line
 reads_line n vs line r =
     let word = number_sound (before 32 line) n r.number in

@@ -8,6 +8,7 @@ use Rattle.fibs_messages.specs.Field.{Kind, takes_rest, may_be_absent}
 use Rattle.fibs_messages.specs.Message.{Row, table, kinds_in, kinds_of, drops_spaces}
 use Rattle.fibs_messages.proofs.FieldLemmas.FieldTexts.{TextLast}
 
+-- there is no field
 abbrev is_nil : List Kind → Bool
 is_nil [] = true
 is_nil (k ∷ ks) = false
@@ -21,12 +22,15 @@ text_last (k ∷ ks) = (not (takes_rest k) || is_nil ks) && text_last ks
 abbrev pub has_all : List Kind → Bool
 has_all ks = list_all (λ k. not (may_be_absent k)) ks
 
+-- what is checked of each row
 abbrev is_sound : ℕ → List Kind → Bool
 is_sound n ks = text_last ks && (not (drops_spaces n) || has_all ks)
 
+-- a number without a row passes
 empty_sound : (n : ℕ) → is_sound n [] ≡ true
 empty_sound n = or-true (not (drops_spaces n))
 
+-- the rows pass, and so does each number
 rows_sound : (rows : List Row) (n : ℕ) → list_all (λ r. is_sound r.number r.kinds) rows ≡ true → is_sound n (kinds_in rows n) ≡ true
 rows_sound [] n h = empty_sound n
 rows_sound (r ∷ rows) n h =
@@ -36,17 +40,21 @@ rows_sound (r ∷ rows) n h =
       | inr e ↦ rw e (rows_sound rows n p.1)
     ]
 
+-- the table passes
 table_sound : list_all (λ r. is_sound r.number r.kinds) table ≡ true
 unfolding table
 table_sound = refl
 
+-- and so does each message
 kinds_sound : (n : ℕ) → is_sound n (kinds_of n) ≡ true
 kinds_sound n = rows_sound table n table_sound
 
+-- the test of no field tells
 nil_is : (ks : List Kind) → is_nil ks ≡ true → ks ≡ []
 nil_is [] e = refl
 nil_is (k ∷ ks) e = absurd cc
 
+-- the test of the last field tells
 TextLast-from : (ks : List Kind) → text_last ks ≡ true → TextLast ks
 TextLast-from [] e = tt
 TextLast-from (k ∷ ks) e =
@@ -58,9 +66,11 @@ TextLast-from (k ∷ ks) e =
       TextLast-from ks p.1,
     )
 
+-- a text is the last field of each message
 pub last_is : (n : ℕ) → TextLast (kinds_of n)
 last_is n = TextLast-from (kinds_of n) (and_parts (text_last (kinds_of n)) (not (drops_spaces n) || has_all (kinds_of n)) (kinds_sound n)).0
 
+-- where spaces are dropped there is no text
 pub no_text_where_dropped : (n : ℕ) → drops_spaces n ≡ true → has_all (kinds_of n) ≡ true
 no_text_where_dropped n e = elim (or_cases (not (drops_spaces n)) (has_all (kinds_of n)) (and_parts (text_last (kinds_of n)) (not (drops_spaces n) || has_all (kinds_of n)) (kinds_sound n)).1) [
   | inl other ↦ let f : drops_spaces n ≡ false = not-true (drops_spaces n) other in absurd cc

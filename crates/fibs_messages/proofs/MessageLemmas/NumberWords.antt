@@ -6,20 +6,24 @@ use Rattle.std.proofs.lemmas.Bool.{and_parts, and_from, leb-true, le-leb, eqb-tr
 use Rattle.std.proofs.lemmas.Fmt.{decimal_digit, decimal_step}
 use Rattle.fibs_messages.specs.Message.{number_word, IsNumber}
 
+-- the text of a number from 1 to 19
 pub record IsNumberWord (text : List ℕ) (n : ℕ) : Type 0 where
   pub number : IsNumber n
   pub text_is : text ≡ decimal n
 
+-- a test that was passed
 some_if : {A : Type 0} (b : Bool) (x v : A) → cond b (Some x) None ≡ Some v → (b ≡ true) × (x ≡ v)
 some_if true x v e = (refl, cc)
 some_if false x v e = absurd cc
 
+-- the text of 10 to 19
 two_digits : (n : ℕ) → 10 ≤ n → n ≤ 19 → decimal n ≡ 49 ∷ (48 + (n - 10)) ∷ []
 two_digits n low high =
     let q : n / 10 ≡ 1 = omega arith in
     let r : n % 10 ≡ n - 10 = omega arith in
     decimal_step n low (omega arith) ∙ rw (q, r, decimal_digit 1 (omega arith)) refl
 
+-- a word that is read as a number is its text
 pub number_sound : (text : List ℕ) (n : ℕ) → number_word text ≡ Some n → IsNumberWord text n
 number_sound [] n e = absurd cc
 number_sound (d ∷ []) n e =
@@ -42,9 +46,11 @@ number_sound (d ∷ f ∷ []) n e =
     }
 number_sound (d ∷ f ∷ g ∷ s) n e = absurd cc
 
+-- a byte between two others
 in_range : (a b c : ℕ) → a ≤ c → c ≤ b → is_in_range a b c ≡ true
 in_range a b c low high = and_from (leb a c) (leb c b) (le-leb a c low) (le-leb c b high)
 
+-- the text of a number is read as it
 pub number_complete : (n : ℕ) → IsNumber n → number_word (decimal n) ≡ Some n
 number_complete n h = elim (cases_lt n 10) [
   | inl lt ↦

@@ -8,6 +8,7 @@ use Rattle.fibs_messages.specs.Message.{table, kinds_of, IsNumber, IsMessage, Is
 use Rattle.fibs_messages.specs.MessageOf.{message_of}
 use Rattle.fibs_messages.specs.Bits.{HasBits}
 
+-- each message has a number of the table
 pub number_is : (m : Message) → IsNumber (message_of m).number
 number_is (Welcome name last_login last_host) = (omega arith, omega arith)
 number_is (OwnInfo info) = (omega arith, omega arith)
@@ -29,6 +30,7 @@ number_is (YouShout text) = (omega arith, omega arith)
 number_is (YouWhisper text) = (omega arith, omega arith)
 number_is (YouKibitz text) = (omega arith, omega arith)
 
+-- each message has the kinds of its row
 pub kinds_are : (m : Message) → map kind_of (message_of m).fields ≡ kinds_of (message_of m).number
 unfolding table
 kinds_are (Welcome name last_login last_host) = refl

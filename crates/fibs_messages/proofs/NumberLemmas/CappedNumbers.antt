@@ -10,18 +10,21 @@ use Rattle.fibs_messages.specs.DecimalReading.{capped, IsNarrow}
 use Rattle.fibs_messages.specs.declared.fields.values.Values.{Values}
 use Rattle.fibs_messages.specs.declared.fields.values.Values.TheVariants.{Between, Either}
 
+-- a number that is cut off is refused as before
 pub allows_capped : (values : Values) (z : ℤ) → IsNarrow values → allows values (capped z) ≡ allows values z
 allows_capped (Between low high) (pos n) fits = grind (arith, ints, nat_tests)
 allows_capped (Between low high) (negsuc n) fits = grind (arith, ints, nat_tests)
 allows_capped (Either one other) (pos n) fits = grind (arith, ints, nat_tests)
 allows_capped (Either one other) (negsuc n) fits = grind (arith, ints, nat_tests)
 
+-- one that is allowed is not cut off
 pub allowed_same : (values : Values) (z : ℤ) → IsNarrow values → allows values z ≡ true → capped z ≡ z
 allowed_same (Between low high) (pos n) fits holds = grind (arith, ints, nat_tests)
 allowed_same (Between low high) (negsuc n) fits holds = grind (arith, ints, nat_tests)
 allowed_same (Either one other) (pos n) fits holds = grind (arith, ints, nat_tests)
 allowed_same (Either one other) (negsuc n) fits holds = grind (arith, ints, nat_tests)
 
+-- a number that a field may have fits 32 bits
 pub allowed_narrow : (values : Values) (z : ℤ) → IsNarrow values → allows values z ≡ true → FitsSigned w32 z
 allowed_narrow (Between low high) (pos n) fits holds = grind (arith, ints, nat_tests)
 allowed_narrow (Between low high) (negsuc n) fits holds = grind (arith, ints, nat_tests)

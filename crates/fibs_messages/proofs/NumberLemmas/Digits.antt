@@ -13,22 +13,28 @@ use Rattle.std.specs.Str.Parse.{digits_value, digits_value_after}
 use Rattle.std.specs.Char.{digit_value}
 use Rattle.std.proofs.lemmas.Bool.Decides.{nat_tests}
 
+-- each of the digits is one
 pub digit_at : (ds : List ℕ) (i : ℕ) → list_all is_ascii_digit ds ≡ true → i < length ds → is_ascii_digit (get_or ds i 0) ≡ true
 digit_at ds i all within = All-get_or (λ d. is_ascii_digit d ≡ true) ds i 0 within (AllPass-from_list_all is_ascii_digit ds all)
 
+-- a digit lies between `0` and `9`
 pub is_digit_range : (c : ℕ) → is_ascii_digit c ≡ true → (48 ≤ c) × (c < 58) × (digit_value c ≡ c - 48)
 is_digit_range c h = grind (arith, nat_tests)
 
+-- it is at least `0`
 pub digit_low : (ds : List ℕ) (i : ℕ) → list_all is_ascii_digit ds ≡ true → i < length ds → 48 ≤ get_or ds i 0
 digit_low ds i all within = (is_digit_range (get_or ds i 0) (digit_at ds i all within)).0
 
+-- its value is what it is above `0`
 pub digit_value_is : (ds : List ℕ) (i : ℕ) → list_all is_ascii_digit ds ≡ true → i < length ds → digit_value (get_or ds i 0) ≡ get_or ds i 0 - 48
 digit_value_is ds i all within = (is_digit_range (get_or ds i 0) (digit_at ds i all within)).2
 
+-- digits after a number only add to it
 worth_after-ge : (n : ℕ) (ds : List ℕ) → n ≤ digits_value_after 10 n ds
 worth_after-ge n [] = omega arith
 worth_after-ge n (d ∷ ds) = let more = worth_after-ge (n * 10 + digit_value d) ds in omega arith
 
+-- the front of digits is worth no more than all
 worth_after_front : (n k : ℕ) (ds : List ℕ) → digits_value_after 10 n (take k ds) ≤ digits_value_after 10 n ds
 worth_after_front n zero ds = worth_after-ge n ds
 worth_after_front n (suc k) [] = omega arith

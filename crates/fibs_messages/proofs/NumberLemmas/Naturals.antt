@@ -18,6 +18,7 @@ below_zero : (n : ℕ) → 0 < n → number_if_allowed number_values (Some (neg_
 below_zero zero above = absurd (omega arith)
 below_zero (suc n) above = refl
 
+-- a number below 0 is out of range
 pub negative_refused : (text : List ℕ) → (starts_with_minus text && is_positive (drop 1 text)) ≡ true → number_in number_values text ≡ Err OutOfRange
 negative_refused text h =
     let parts = and_parts (starts_with_minus text) (is_positive (drop 1 text)) h in
@@ -29,13 +30,16 @@ decimal_value-natural zero limit = ap decimal_value (decimal_digit 0 (lit< tt))
 decimal_value-natural (suc n) limit =
     plain_value (decimal (suc n)) (written_positive (suc n) (omega arith) limit) ∙ ap (λ m. Some (pos m)) (digits_value-decimal own (suc n) limit)
 
+-- a number below 0 is none above it
 neg_is_no_pos : (d n : ℕ) → 0 < d → neg_ℤ (pos d) ≡ pos n → ⊥
 neg_is_no_pos zero n above e = omega arith
 neg_is_no_pos (suc d) n above e = cc
 
+-- one number above 0
 pos_same : (m n : ℕ) → pos m ≡ pos n → m ≡ n
 pos_same m n e = cc
 
+-- digits are what is written of their number
 pub plain_spelled : (text : List ℕ) (n : ℕ) → (is_zero text || is_positive text) ≡ true → digits_value 10 text ≡ n → n < 2 ^ 64 → text ≡ decimal n
 plain_spelled text n form is limit = ⊎_elim
     (λ (is-zero : is_zero text ≡ true).
@@ -56,11 +60,13 @@ natural_is_spelled text n e limit = ⊎_elim
     plain_spelled text n found.0 (pos_same (digits_value 10 text) n found.1) limit)
     (cases_Bool (starts_with_minus text))
 
+-- what is written of a number of 64 bits is read
 pub number_in-natural : (n : ℕ) → n < 2 ^ 64 → number_in number_values (decimal n) ≡ Ok (pos n)
 number_in-natural n limit =
     let test : allows number_values (pos n) ≡ true = grind (arith, ints, nat_tests) in
     ap (number_if_allowed number_values) (decimal_value-natural n limit) ∙ ap (λ (b : Bool). cond b (Ok (pos n)) (Err OutOfRange)) test
 
+-- a number of 64 bits is one above 0
 in_range : (z : ℤ) → allows number_values z ≡ true → (n : ℕ) × (z ≡ pos n) × (n < 2 ^ 64)
 in_range (pos n) h = (n, refl, grind (arith, ints, nat_tests))
 in_range (negsuc n) h = absurd (grind (arith, ints, nat_tests))
@@ -72,6 +78,7 @@ pub record Natural (text : List ℕ) (z : ℤ) : Type 0 where
   pub small : number < 2 ^ 64
   pub text_is : text ≡ decimal number
 
+-- a number of 64 bits that is read, and its spelling
 pub natural_found : (text : List ℕ) (z : ℤ) → number_in number_values text ≡ Ok z → Natural text z
 natural_found text z e =
     let found = value_allowed number_values (decimal_value text) z e in

@@ -21,6 +21,7 @@ use Rattle.fibs_messages.specs.declared.fields.fault.Fault.{Fault}
 use Rattle.fibs_messages.proofs.NumberLemmas.CappedNumbers.{allowed_narrow}
 use lib.Signed.{mag}
 
+-- the numerals of base 10
 pub own : IsNumeralModel (λ ds. list_all is_ascii_digit ds ≡ true) (digits_value 10)
 own = numerals_by_value _ (search rules)
 
@@ -30,6 +31,7 @@ pub record Positive (ds : List ℕ) : Type 0 where
   pub lead : get_or ds 0 0 ≢ 48
   pub digits : list_all is_ascii_digit ds ≡ true
 
+-- the test tells
 pub positive_parts : (ds : List ℕ) → is_positive ds ≡ true → Positive ds
 positive_parts ds p =
     let parts = and_parts (nat_lt 0 (length ds) && not (get_or ds 0 0 == 48)) (list_all is_ascii_digit ds) p in
@@ -40,6 +42,7 @@ positive_parts ds p =
       digits = parts.1;
     }
 
+-- and the other way round
 pub positive_from : (ds : List ℕ) → Positive ds → is_positive ds ≡ true
 positive_from ds p =
     let some : 0 < length ds = p.some in
@@ -51,6 +54,7 @@ positive_from ds p =
 pub positive_spelled : (ds : List ℕ) → Positive ds → digits_value 10 ds < 2 ^ 64 → decimal (digits_value 10 ds) ≡ ds
 positive_spelled ds p limit = decimal-digits_value own ds p.digits p.some (λ zero_first. absurd (p.lead zero_first)) limit
 
+-- such digits are worth something
 pub positive_value : (ds : List ℕ) → Positive ds → 0 < digits_value 10 ds
 positive_value ds p = ⊎_elim (λ above. above)
     (λ none.
@@ -67,12 +71,14 @@ written_positive n above limit = record {
   digits = digits_decimal own n limit;
 }
 
+-- digits have their number
 pub plain_value : (ds : List ℕ) → Positive ds → decimal_value ds ≡ Some (pos (digits_value 10 ds))
 plain_value ds p =
     let low : 48 ≤ get_or ds 0 0 = digit_low ds 0 p.digits p.some in
     let minus : starts_with_minus ds ≡ false = grind (arith, nat_tests) in
     rw (minus, positive_from ds p, or-true (is_zero ds)) refl
 
+-- after a `-` they have the one below 0
 pub minus_value : (ds : List ℕ) → Positive ds → decimal_value (45 ∷ ds) ≡ Some (neg_ℤ (pos (digits_value 10 ds)))
 minus_value ds p = rw (positive_from ds p) refl
 
@@ -84,12 +90,14 @@ decimal_value-spelled (pos (suc n)) limit =
 decimal_value-spelled (negsuc n) limit =
     minus_value (decimal (suc n)) (written_positive (suc n) (omega arith) (omega arith)) ∙ ap (λ m. Some (neg_ℤ (pos m))) (digits_value-decimal own (suc n) (omega arith))
 
+-- and are what is written of it
 minus_spelled : (ds : List ℕ) (n : ℕ) (z : ℤ) → Positive ds → digits_value 10 ds ≡ n → neg_ℤ (pos n) ≡ z → mag z < 2 ^ 63 → 45 ∷ ds ≡ signed_decimal z
 minus_spelled ds zero z p is e limit = absurd (omega (arith, positive_value ds p))
 minus_spelled ds (suc n) z p is e limit =
     let limit-n : n < 2 ^ 63 = subst (λ (y : ℤ). mag y < 2 ^ 63) (sym e) limit in
     ap (λ l. 45 ∷ l) (sym (positive_spelled ds p (omega arith)) ∙ ap decimal is) ∙ ap signed_decimal e
 
+-- the text of 0
 pub zero_text : (text : List ℕ) → is_zero text ≡ true → text ≡ 48 ∷ []
 zero_text [] e = cc
 zero_text (c ∷ []) e = ap (λ b. b ∷ []) (grind (arith, nat_tests))
@@ -119,9 +127,11 @@ decimal_is_spelled (c ∷ cs) z e limit = ⊎_elim
 ok_same : (y z : ℤ) → ◌≡◌ {A = Result ℤ Fault} (Ok y) (Ok z) → y ≡ z
 ok_same y z e = cc
 
+-- a fault is no number
 err_is_no_ok : (f : Fault) (z : ℤ) → ◌≡◌ {A = Result ℤ Fault} (Err f) (Ok z) → ⊥
 err_is_no_ok f z e = cc
 
+-- a number that is read is allowed
 pub value_allowed : (values : Values) (found : Option ℤ) (z : ℤ) → number_if_allowed values found ≡ Ok z → (found ≡ Some z) × (allows values z ≡ true)
 value_allowed values None z h = cc
 value_allowed values (Some y) z h = ⊎_elim
@@ -131,12 +141,14 @@ value_allowed values (Some y) z h = ⊎_elim
     (λ (fails : allows values y ≡ false). absurd (err_is_no_ok OutOfRange z (rw fails at h)))
     (cases_Bool (allows values y))
 
+-- a number that is read is written so
 pub number_in_spelled : (values : Values) (text : List ℕ) (z : ℤ) → IsNarrow values → number_in values text ≡ Ok z → (text ≡ signed_decimal z) × (allows values z ≡ true)
 number_in_spelled values text z fits e =
     let found = value_allowed values (decimal_value text) z e in
     let narrow : FitsSigned w32 z = allowed_narrow values z fits found.1 in
     (decimal_is_spelled text z found.0 (omega (arith, narrow.sfits)), found.1)
 
+-- what is written of a number is read
 pub number_in-written : (values : Values) (z : ℤ) → IsNarrow values → allows values z ≡ true → number_in values (signed_decimal z) ≡ Ok z
 number_in-written values z fits holds =
     let narrow : FitsSigned w32 z = allowed_narrow values z fits holds in

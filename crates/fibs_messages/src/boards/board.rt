@@ -17,12 +17,13 @@ use crate::fields::name::Name;
 use arrayvec::ArrayVec;
 use std::alloc::AllocError;
 
-/// A board as the server shows it in board style 3: two names, and 50 numbers of which each is one that its field may have.
+/// A board as the server shows it in board style 3: two names, and 50 numbers of which each is one that its field may
+/// have.
 ///
-/// Field 1 is the word `board`, fields 2 and 3 are the names of the player and of the opponent. The other fields are numbers,
-/// which `field` gives and `with` changes: 4 match length; 5, 6 scores; 7 to 32 places 0 to 25; 33 turn; 34 to 37 dice; 38 cube;
-/// 39 to 41 who may double, and whether the opponent just has; 42 colour; 43 direction; 44, 45 home and bar; 46, 47 borne off;
-/// 48, 49 on the bar; 50 can move; 51 to 53 forced move, did Crawford, redoubles.
+/// Field 1 is the word `board`, fields 2 and 3 are the names of the player and of the opponent. The other fields are
+/// numbers, which `field` gives and `with` changes: 4 match length; 5, 6 scores; 7 to 32 places 0 to 25; 33 turn; 34 to
+/// 37 dice; 38 cube; 39 to 41 who may double, and whether the opponent just has; 42 colour; 43 direction; 44, 45 home
+/// and bar; 46, 47 borne off; 48, 49 on the bar; 50 can move; 51 to 53 forced move, did Crawford, redoubles.
 #[derive(Clone, Copy, Debug, PartialEq, Eq)]
 pub struct Board {
     player: StoredName,
@@ -45,7 +46,8 @@ impl Board {
     /// The board of two names and numbers that fit.
     pub(crate) fn of_parts(player: Name<'_>, opponent: Name<'_>, numbers: [i32; 50]) -> Board
         requires { Fit field_values numbers }
-        ensures { fields_of result ≡ record { player = name_bytes player.entry; opponent = name_bytes opponent.entry; numbers = numbers } }
+        ensures { fields_of result
+            ≡ record { player = name_bytes player.entry; opponent = name_bytes opponent.entry; numbers = numbers } }
     {
         Board {
             player: StoredName::new(player.bytes()),
@@ -56,10 +58,10 @@ impl Board {
 
     /// The board that the line says, or its leftmost wrong field.
     ///
-    /// Spaces at the line's end are dropped, and the fields are parted by colons. Field 1 is `BadName` where it is not `board`,
-    /// fields 2 and 3 where they are no names. A number is `NotANumber` where it is no canonical decimal (`0`, or digits that
-    /// begin with no 0, with a `-` or without), and `OutOfRange` where it is one, of any length, that the field may not have.
-    /// The first absent field is `Missing`, a 54th is `Extra`.
+    /// Spaces at the line's end are dropped, and the fields are parted by colons. Field 1 is `BadName` where it is not
+    /// `board`, fields 2 and 3 where they are no names. A number is `NotANumber` where it is no canonical decimal (`0`,
+    /// or digits that begin with no 0, with a `-` or without), and `OutOfRange` where it is one, of any length, that the
+    /// field may not have. The first absent field is `Missing`, a 54th is `Extra`.
     pub fn read(line: &[u8]) -> Result<Board, FieldFault>
         // What is read is what the line says.
         ensures found { IfOk (read_fields result) (λ b. BoardText b line.now) }
@@ -86,8 +88,8 @@ impl Board {
         out
     }
 
-    /// Appends the line that says the board, without a line end. Where `print` gives a text by value, this makes no copy of
-    /// one.
+    /// Appends the line that says the board, without a line end. Where `print` gives a text by value, this makes no
+    /// copy of one.
     ///
     /// A refusal of memory leaves `out` as it was.
     pub fn print_into(&self, out: &mut Vec<u8>) -> Result<(), AllocError>
@@ -146,12 +148,15 @@ impl Board {
         self.numbers[n - 4]
     }
 
-    /// The board with the number of field `n` changed. None where `n` is not 4 to 53, or the field can't have the number.
+    /// The board with the number of field `n` changed. None where `n` is not 4 to 53, or the field can't have the
+    /// number.
     pub fn with(&self, n: usize, value: i32) -> Option<Board>
         ensures value { option_map fields_of result ≡ with_field (fields_of self.now) n value }
         ensures changed { IfSome result (λ b. field_of (fields_of b) n ≡ value) }
-        ensures kept { IfSome result (λ b. (m : ℕ) → 4 ≤ m → m ≢ n → field_of (fields_of b) m ≡ field_of (fields_of self.now) m) }
-        ensures names { IfSome result (λ b. ((fields_of b).player ≡ (fields_of self.now).player) × ((fields_of b).opponent ≡ (fields_of self.now).opponent)) }
+        ensures kept { IfSome result (λ b. (m : ℕ) → 4 ≤ m → m ≢ n →
+            field_of (fields_of b) m ≡ field_of (fields_of self.now) m) }
+        ensures names { IfSome result (λ b. ((fields_of b).player ≡ (fields_of self.now).player)
+            × ((fields_of b).opponent ≡ (fields_of self.now).opponent)) }
         // It is Some exactly where the table of the fields allows the number; group by group:
         ensures exact { IsSome result ↔ ((4 ≤ n) × (n ≤ 53) × (can_have n value ≡ true)) }
         ensures places { 7 ≤ n → n ≤ 32 → (IsSome result ↔ ((negsuc 14 ≤ℤ value) × (value ≤ℤ pos 15))) }

@@ -30,8 +30,9 @@ const CHECKERS: Values = Values::Between(0, 15);
 static FIELD_VALUES: [Values; 50] = [
     COUNT, // 4: match length
     SCORE, SCORE, // 5, 6: scores
-    PLACE, PLACE, PLACE, PLACE, PLACE, PLACE, PLACE, PLACE, PLACE, PLACE, PLACE, PLACE, PLACE, // 7 to 19: places 0 to 12
-    PLACE, PLACE, PLACE, PLACE, PLACE, PLACE, PLACE, PLACE, PLACE, PLACE, PLACE, PLACE, PLACE, // 20 to 32: places 13 to 25
+    // 7 to 32: places 0 to 25
+    PLACE, PLACE, PLACE, PLACE, PLACE, PLACE, PLACE, PLACE, PLACE, PLACE, PLACE, PLACE, PLACE,
+    PLACE, PLACE, PLACE, PLACE, PLACE, PLACE, PLACE, PLACE, PLACE, PLACE, PLACE, PLACE, PLACE,
     TURN, // 33: turn
     DIE, DIE, DIE, DIE, // 34 to 37: dice
     CUBE, // 38: cube

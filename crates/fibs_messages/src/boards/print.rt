@@ -7,7 +7,8 @@ ghost use Rattle.fibs_messages.specs.Numerals.{after_colons};
 
 use itoa::write_digits;
 
-/// The most bytes that a board's line takes: `board:`, two names, a colon between them, and 194 bytes of numbers and colons.
+/// The most bytes that a board's line takes: `board:`, two names, a colon between them, and 194 bytes of numbers and
+/// colons.
 pub const LINE_LEN: usize = 329;
 
 /// Writes the digits of the number so that they end before `end`, and gives where they start. Most have one digit.
@@ -82,7 +83,8 @@ pub fn write_board(
     requires opponent { length opponent.now ≤ 64 }
     requires numbers { Fit field_values numbers.now }
     ensures within { result ≤ 329 }
-    ensures written { drop result text.new ≡ spelling (record { player = player.now; opponent = opponent.now; numbers = numbers.now }) }
+    ensures written { drop result text.new
+        ≡ spelling (record { player = player.now; opponent = opponent.now; numbers = numbers.now }) }
 {
     let start = write_numbers(text, numbers);
     let start = write_before(text, start, opponent);

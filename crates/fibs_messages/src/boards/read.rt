@@ -18,7 +18,8 @@ fn read_numbers(fields: &mut Fields<'_>) -> Result<[i32; 50], FieldFault>
     requires { (left_of fields.old).separator ≡ 58 }
     ensures ok { IfOk result (λ numbers. pieces_left (left_of fields.old) ≡ map signed_decimal numbers) }
     ensures fit { IfOk result (λ numbers. Fit field_values numbers) }
-    ensures err { IfErr result (λ e. first_fault 4 (map number field_values) (pieces_left (left_of fields.old)) ≡ Some e) }
+    ensures err { IfErr result (λ e.
+        first_fault 4 (map number field_values) (pieces_left (left_of fields.old)) ≡ Some e) }
 {
     let mut numbers = [0; 50];
     for i in 0..50 {

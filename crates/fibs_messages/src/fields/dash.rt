@@ -1,10 +1,10 @@
 //! The dash that stands for none.
 
-ghost use Rattle.std.specs.Prelude.{◌≡◌, IsTrue, ◌↔◌, [], ◌∷◌};
+ghost use Rattle.std.specs.Prelude.{◌≡◌, IsTrue, ◌↔◌, codes};
 
 /// Whether the bytes are `-`.
 pub fn is_dash(bytes: &[u8]) -> bool
-    ensures { IsTrue result ↔ (bytes.now ≡ 45 ∷ []) }
+    ensures { IsTrue result ↔ (bytes.now ≡ codes "-") }
 {
     bytes.len() == 1 && bytes[0] == b'-'
 }

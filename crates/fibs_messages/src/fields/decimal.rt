@@ -63,7 +63,8 @@ fn is_negative(text: &[u8]) -> bool
 /// The number of a canonical decimal without sign that has 19 digits at most. 64 bits hold each of these.
 #[inline(always)]
 fn short_unsigned(text: &[u8]) -> Option<u64>
-    ensures { result ≡ cond ((is_zero text.now || is_positive text.now) && nat_le (length text.now) 19) (Some (digits_value 10 text.now)) None }
+    ensures { result ≡ cond ((is_zero text.now || is_positive text.now) && nat_le (length text.now) 19)
+        (Some (digits_value 10 text.now)) None }
 {
     if text.is_empty() || text.len() > 19 || (text[0] == b'0' && text.len() > 1) {
         return None;
@@ -101,8 +102,8 @@ pub fn unsigned_number(text: &[u8]) -> Result<u64, Fault>
     }
 }
 
-/// The number of a canonical decimal without sign, which is `0` or digits that begin with no 0, where it is at most `limit`.
-/// None for every other text, also for one with a sign, and for a number of any length that is above it.
+/// The number of a canonical decimal without sign, which is `0` or digits that begin with no 0, where it is at most
+/// `limit`. None for every other text, also for one with a sign, and for a number of any length that is above it.
 pub fn read_decimal(text: &[u8], limit: u64) -> Option<u64>
     ensures value { result ≡ decimal_up_to limit text.now }
     ensures exact { (n : ℕ) → (result ≡ Some n) ↔ ((text.now ≡ decimal n) × (n ≤ limit)) }
@@ -150,7 +151,8 @@ fn two_bytes(first: u8, last: u8) -> Option<i64>
     }
 }
 
-/// The number of a canonical decimal of any length. One that is too large for any field is cut off at a number that is so too.
+/// The number of a canonical decimal of any length. One that is too large for any field is cut off at a number that is
+/// so too.
 #[inline(never)]
 fn long_decimal(text: &[u8]) -> Option<i64>
     ensures { result ≡ option_map capped (decimal_value text.now) }

@@ -1,6 +1,6 @@
 //! Names of players.
 
-ghost use Rattle.std.specs.Prelude.{◌≡◌, ◌==◌, true, IsSome, IsTrue, ◌↔◌, IfSome, [], ◌∷◌};
+ghost use Rattle.std.specs.Prelude.{◌≡◌, ◌==◌, true, IsSome, IsTrue, ◌↔◌, IfSome, codes};
 ghost use Rattle.std.specs.List.{list_all};
 ghost use Rattle.fibs_messages.specs.Name.{is_name, is_name_byte};
 
@@ -30,7 +30,8 @@ fn are_name_bytes(bytes: &[u8]) -> bool
 impl<'a> Name<'a> {
     ghost use Rattle.fibs_messages.specs.NameBytes.{name_bytes};
 
-    /// The bytes as a name. None where there is none of them, there are more than 64, or one is not 33 to 126, or is a colon.
+    /// The bytes as a name. None where there is none of them, there are more than 64, or one is not 33 to 126, or is a
+    /// colon.
     pub fn new(bytes: &'a [u8]) -> Option<Name<'a>>
         ensures test { IsSome result ↔ (is_name bytes.now ≡ true) }
         ensures value { IfSome result (λ name. name_bytes name ≡ bytes.now) }
@@ -60,7 +61,7 @@ impl<'a> Name<'a> {
 
     /// Whether it is `-`, which means that there is none.
     pub fn is_dash(&self) -> bool
-        ensures { IsTrue result ↔ (name_bytes self.now ≡ 45 ∷ []) }
+        ensures { IsTrue result ↔ (name_bytes self.now ≡ codes "-") }
     {
         is_dash(self.bytes)
     }

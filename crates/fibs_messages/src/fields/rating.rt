@@ -17,7 +17,8 @@ fn is_digit(byte: u8) -> bool
 
 /// The hundredths that stand after a point, or none where there is no point.
 fn hundredths(fraction: Option<&[u8]>) -> Option<u64>
-    ensures { MatchOption result (is_fraction (seen fraction.entry) ≡ false) (λ n. (is_fraction (seen fraction.entry) ≡ true) × (n ≡ hundredths_of (seen fraction.entry)) × (n < 100)) }
+    ensures { MatchOption result (is_fraction (seen fraction.entry) ≡ false) (λ n.
+        (is_fraction (seen fraction.entry) ≡ true) × (n ≡ hundredths_of (seen fraction.entry)) × (n < 100)) }
 {
     match fraction {
         None => Some(0),

@@ -52,7 +52,8 @@ impl<'a> Fields<'a> {
     /// The next field, which has to be this word.
     #[tactic(auto, unfolding(crate::specs::FieldReading::next_at, crate::specs::FieldReading::text_at))]
     pub fn this_word(&mut self, word: &[u8], field: usize) -> Result<(), FieldFault>
-        ensures { Gives (λ _. (word.now, left_of self.new)) result (next_at (this_word word.now) field (left_of self.old)) }
+        ensures { Gives (λ _. (word.now, left_of self.new)) result
+            (next_at (this_word word.now) field (left_of self.old)) }
     {
         if self.piece(field)? == word {
             Ok(())
@@ -68,7 +69,8 @@ impl<'a> Fields<'a> {
     #[inline(always)]
     #[tactic(auto, unfolding(crate::specs::FieldReading::next_at, crate::specs::FieldReading::text_at))]
     pub fn number_of(&mut self, values: Values, field: usize) -> Result<i32, FieldFault>
-        ensures { Gives (λ number. (number, left_of self.new)) result (next_at (number_in values) field (left_of self.old)) }
+        ensures { Gives (λ number. (number, left_of self.new)) result
+            (next_at (number_in values) field (left_of self.old)) }
     {
         let piece = self.piece(field)?;
         match number_in(values, piece) {
@@ -78,9 +80,11 @@ impl<'a> Fields<'a> {
     }
 
     /// The next field as a name.
+    #[inline(always)]
     #[tactic(auto, unfolding(crate::specs::FieldReading::field_at, crate::specs::FieldReading::text_at, crate::specs::FieldReading::value_in))]
     pub fn name(&mut self, field: usize) -> Result<Name<'a>, FieldFault>
-        ensures { Gives (λ name. (NameField (name_bytes name), left_of self.new)) result (field_at a_name field (left_of self.old)) }
+        ensures { Gives (λ name. (NameField (name_bytes name), left_of self.new)) result
+            (field_at a_name field (left_of self.old)) }
     {
         let piece = self.piece(field)?;
         match Name::new(piece) {
@@ -93,9 +97,11 @@ impl<'a> Fields<'a> {
     }
 
     /// The next field as a word.
+    #[inline(always)]
     #[tactic(auto, unfolding(crate::specs::FieldReading::field_at, crate::specs::FieldReading::text_at, crate::specs::FieldReading::value_in))]
     pub fn word(&mut self, field: usize) -> Result<Word<'a>, FieldFault>
-        ensures { Gives (λ word. (WordField (word_bytes word), left_of self.new)) result (field_at a_word field (left_of self.old)) }
+        ensures { Gives (λ word. (WordField (word_bytes word), left_of self.new)) result
+            (field_at a_word field (left_of self.old)) }
     {
         let piece = self.piece(field)?;
         match Word::new(piece) {
@@ -108,9 +114,11 @@ impl<'a> Fields<'a> {
     }
 
     /// The next field as a flag.
+    #[inline(always)]
     #[tactic(auto, unfolding(crate::specs::FieldReading::field_at, crate::specs::FieldReading::text_at, crate::specs::FieldReading::value_in))]
     pub fn flag(&mut self, field: usize) -> Result<bool, FieldFault>
-        ensures { Gives (λ flag. (FlagField flag, left_of self.new)) result (field_at a_flag field (left_of self.old)) }
+        ensures { Gives (λ flag. (FlagField flag, left_of self.new)) result
+            (field_at a_flag field (left_of self.old)) }
     {
         let piece = self.piece(field)?;
         match flag_in(piece) {
@@ -120,9 +128,11 @@ impl<'a> Fields<'a> {
     }
 
     /// The next field as a number of 64 bits.
+    #[inline(always)]
     #[tactic(auto, unfolding(crate::specs::FieldReading::field_at, crate::specs::FieldReading::text_at, crate::specs::FieldReading::value_in))]
     pub fn number(&mut self, field: usize) -> Result<u64, FieldFault>
-        ensures { Gives (λ number. (NumberField number, left_of self.new)) result (field_at a_number field (left_of self.old)) }
+        ensures { Gives (λ number. (NumberField number, left_of self.new)) result
+            (field_at a_number field (left_of self.old)) }
     {
         let piece = self.piece(field)?;
         match unsigned_in(piece) {
@@ -132,9 +142,11 @@ impl<'a> Fields<'a> {
     }
 
     /// The next field as a rating in hundredths.
+    #[inline(always)]
     #[tactic(auto, unfolding(crate::specs::FieldReading::field_at, crate::specs::FieldReading::text_at, crate::specs::FieldReading::value_in))]
     pub fn rating(&mut self, field: usize) -> Result<u32, FieldFault>
-        ensures { Gives (λ rating. (RatingField rating, left_of self.new)) result (field_at a_rating field (left_of self.old)) }
+        ensures { Gives (λ rating. (RatingField rating, left_of self.new)) result
+            (field_at a_rating field (left_of self.old)) }
     {
         let piece = self.piece(field)?;
         match rating_in(piece) {
@@ -146,7 +158,8 @@ impl<'a> Fields<'a> {
     /// All that is left as a tail.
     #[tactic(auto, unfolding(crate::specs::FieldReading::field_at, crate::specs::FieldReading::text_at, crate::specs::FieldReading::value_in))]
     pub fn tail(&mut self, field: usize) -> Result<Tail<'a>, FieldFault>
-        ensures { Gives (λ tail. (TailField (tail_bytes tail), left_of self.new)) result (field_at a_tail field (left_of self.old)) }
+        ensures { Gives (λ tail. (TailField (tail_bytes tail), left_of self.new)) result
+            (field_at a_tail field (left_of self.old)) }
     {
         let Some(rest) = self.rest else {
             return Err(FieldFault {

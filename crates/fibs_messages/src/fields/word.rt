@@ -1,6 +1,6 @@
 //! The parts of a message that are no names.
 
-ghost use Rattle.std.specs.Prelude.{◌≡◌, ◌==◌, ◌↔◌, [], ◌∷◌, not, true, IsTrue, IsSome, IfSome};
+ghost use Rattle.std.specs.Prelude.{◌≡◌, ◌==◌, ◌↔◌, codes, not, true, IsTrue, IsSome, IfSome};
 ghost use Rattle.std.specs.List.{list_all};
 ghost use Rattle.fibs_messages.specs.Word.{is_word, is_tail};
 
@@ -51,7 +51,7 @@ impl<'a> Word<'a> {
 
     /// Whether it is `-`, which means none.
     pub fn is_dash(&self) -> bool
-        ensures { IsTrue result ↔ (word_bytes self.now ≡ 45 ∷ []) }
+        ensures { IsTrue result ↔ (word_bytes self.now ≡ codes "-") }
     {
         is_dash(self.bytes)
     }
@@ -82,7 +82,7 @@ impl<'a> Tail<'a> {
 
     /// Whether it is `-`, which means none.
     pub fn is_dash(&self) -> bool
-        ensures { IsTrue result ↔ (tail_bytes self.now ≡ 45 ∷ []) }
+        ensures { IsTrue result ↔ (tail_bytes self.now ≡ codes "-") }
     {
         is_dash(self.bytes)
     }

@@ -105,7 +105,8 @@ fn append_number(out: &mut Vec<u8>, number: u8) -> Result<(), AllocError>
 
 /// Appends the number of a message and its fields.
 fn append_fields(out: &mut Vec<u8>, number: u8, fields: &[Field<'_>]) -> Result<(), AllocError>
-    ensures put { OnOk result (out.new.items ≡ out.old.items ++ (decimal number ++ flat_map canonical_field (values_of fields.now))) }
+    ensures put { OnOk result (out.new.items ≡ out.old.items
+        ++ (decimal number ++ flat_map canonical_field (values_of fields.now))) }
     ensures front { take (length out.old.items) out.new.items ≡ out.old.items }
 {
     append_number(out, number)?;
@@ -146,7 +147,8 @@ fn own_info_fields<'a>(info: &OwnInfo<'a>) -> [Field<'a>; 21]
 /// Appends three pieces, each behind a space.
 #[inline(always)]
 fn append_three(out: &mut Vec<u8>, one: &[u8], two: &[u8], three: &[u8]) -> Result<(), AllocError>
-    ensures put { OnOk result (out.new.items ≡ out.old.items ++ flat_map (λ piece. 32 ∷ piece) (one.now ∷ two.now ∷ three.now ∷ [])) }
+    ensures put { OnOk result (out.new.items ≡ out.old.items
+        ++ flat_map (λ piece. 32 ∷ piece) (one.now ∷ two.now ∷ three.now ∷ [])) }
     ensures front { take (length out.old.items) out.new.items ≡ out.old.items }
 {
     append_piece(out, one)?;
@@ -156,7 +158,9 @@ fn append_three(out: &mut Vec<u8>, one: &[u8], two: &[u8], three: &[u8]) -> Resu
 
 /// Appends the flags and the rating of message 5.
 fn append_readiness(out: &mut Vec<u8>, info: &WhoInfo<'_>) -> Result<(), AllocError>
-    ensures put { OnOk result (out.new.items ≡ out.old.items ++ flat_map canonical_field (FlagField info.now.ready ∷ FlagField info.now.away ∷ RatingField info.now.rating ∷ [])) }
+    ensures put { OnOk result (out.new.items ≡ out.old.items
+        ++ flat_map canonical_field (FlagField info.now.ready ∷ FlagField info.now.away
+        ∷ RatingField info.now.rating ∷ [])) }
     ensures front { take (length out.old.items) out.new.items ≡ out.old.items }
 {
     append_flag(out, info.ready)?;
@@ -166,7 +170,9 @@ fn append_readiness(out: &mut Vec<u8>, info: &WhoInfo<'_>) -> Result<(), AllocEr
 
 /// Appends the three numbers of message 5.
 fn append_counts(out: &mut Vec<u8>, info: &WhoInfo<'_>) -> Result<(), AllocError>
-    ensures put { OnOk result (out.new.items ≡ out.old.items ++ flat_map canonical_field (NumberField info.now.experience ∷ NumberField info.now.idle ∷ NumberField info.now.login ∷ [])) }
+    ensures put { OnOk result (out.new.items ≡ out.old.items
+        ++ flat_map canonical_field (NumberField info.now.experience ∷ NumberField info.now.idle
+        ∷ NumberField info.now.login ∷ [])) }
     ensures front { take (length out.old.items) out.new.items ≡ out.old.items }
 {
     append_count(out, info.experience)?;
@@ -184,7 +190,8 @@ fn append_welcome<'a>(
     last_login: u64,
     last_host: Word<'a>,
 ) -> Result<(), AllocError>
-    ensures put { OnOk result (out.new.items ≡ out.old.items ++ canonical (message_of (Message.Welcome name.entry last_login last_host.entry))) }
+    ensures put { OnOk result (out.new.items ≡ out.old.items
+        ++ canonical (message_of (Message.Welcome name.entry last_login last_host.entry))) }
     ensures front { take (length out.old.items) out.new.items ≡ out.old.items }
 {
     append_fields(
@@ -238,7 +245,9 @@ fn append_received<'a>(
     time: u64,
     text: &'a [u8],
 ) -> Result<(), AllocError>
-    ensures put { OnOk result (out.new.items ≡ out.old.items ++ (decimal 9 ++ flat_map canonical_field (NameField (name_bytes sender.entry) ∷ NumberField time ∷ TextField text.now ∷ []))) }
+    ensures put { OnOk result (out.new.items ≡ out.old.items
+        ++ (decimal 9 ++ flat_map canonical_field (NameField (name_bytes sender.entry) ∷ NumberField time
+        ∷ TextField text.now ∷ []))) }
     ensures front { take (length out.old.items) out.new.items ≡ out.old.items }
 {
     append_fields(
@@ -251,7 +260,8 @@ fn append_received<'a>(
 /// Appends the line of a message that has a name alone.
 #[tactic(auto, unfolding(crate::specs::Message::canonical_field))]
 fn append_name_alone(out: &mut Vec<u8>, number: u8, name: Name<'_>) -> Result<(), AllocError>
-    ensures put { OnOk result (out.new.items ≡ out.old.items ++ (decimal number ++ canonical_field (NameField (name_bytes name.entry)))) }
+    ensures put { OnOk result (out.new.items ≡ out.old.items
+        ++ (decimal number ++ canonical_field (NameField (name_bytes name.entry)))) }
     ensures front { take (length out.old.items) out.new.items ≡ out.old.items }
 {
     append_number(out, number)?;
@@ -260,7 +270,8 @@ fn append_name_alone(out: &mut Vec<u8>, number: u8, name: Name<'_>) -> Result<()
 
 /// Appends the line of a message that has a text alone.
 fn append_text_alone(out: &mut Vec<u8>, number: u8, text: &[u8]) -> Result<(), AllocError>
-    ensures put { OnOk result (out.new.items ≡ out.old.items ++ (decimal number ++ canonical_field (TextField text.now))) }
+    ensures put { OnOk result (out.new.items ≡ out.old.items
+        ++ (decimal number ++ canonical_field (TextField text.now))) }
     ensures front { take (length out.old.items) out.new.items ≡ out.old.items }
 {
     append_number(out, number)?;
@@ -274,7 +285,9 @@ fn append_name_and_text(
     name: Name<'_>,
     text: &[u8],
 ) -> Result<(), AllocError>
-    ensures put { OnOk result (out.new.items ≡ out.old.items ++ (decimal number ++ (canonical_field (NameField (name_bytes name.entry)) ++ canonical_field (TextField text.now)))) }
+    ensures put { OnOk result (out.new.items ≡ out.old.items
+        ++ (decimal number ++ (canonical_field (NameField (name_bytes name.entry))
+        ++ canonical_field (TextField text.now)))) }
     ensures front { take (length out.old.items) out.new.items ≡ out.old.items }
 {
     append_name_alone(out, number, name)?;
@@ -328,8 +341,8 @@ fn append_whole(out: &mut Vec<u8>, message: &Message<'_>) -> Result<(), AllocErr
     appended
 }
 
-/// Appends the canonical line of a message, without a line end: its number, and each field after one space. A rating has two
-/// digits after its point; an empty text is written as nothing, without its space.
+/// Appends the canonical line of a message, without a line end: its number, and each field after one space. A rating
+/// has two digits after its point; an empty text is written as nothing, without its space.
 ///
 /// A refusal of memory leaves `out` as it was.
 pub fn print_message(

@@ -87,7 +87,8 @@ fn who_info(rest: Option<&[u8]>) -> Result<WhoInfo<'_>, FieldFault>
 }
 
 fn name_and_text(rest: Option<&[u8]>) -> Result<(Name<'_>, &[u8]), FieldFault>
-    ensures { Gives (λ x. NameField (name_bytes x.0) ∷ TextField x.1.now ∷ []) result (fields_at (a_name ∷ a_text ∷ []) 1 (left 32 (seen rest.entry))) }
+    ensures { Gives (λ x. NameField (name_bytes x.0) ∷ TextField x.1.now ∷ []) result
+        (fields_at (a_name ∷ a_text ∷ []) 1 (left 32 (seen rest.entry))) }
 {
     let mut fields = Fields::new(rest, b' ');
     let name = fields.name(1)?;
@@ -115,7 +116,8 @@ fn nothing(rest: Option<&[u8]>) -> Result<(), FieldFault>
 }
 
 fn name_alone(rest: Option<&[u8]>) -> Result<Name<'_>, FieldFault>
-    ensures { Gives (λ name. NameField (name_bytes name) ∷ []) result (fields_at (a_name ∷ []) 1 (left 32 (seen rest.entry))) }
+    ensures { Gives (λ name. NameField (name_bytes name) ∷ []) result
+        (fields_at (a_name ∷ []) 1 (left 32 (seen rest.entry))) }
 {
     let mut fields = Fields::new(rest, b' ');
     let name = fields.name(1)?;
@@ -136,7 +138,8 @@ fn text_alone(rest: Option<&[u8]>) -> Result<&[u8], FieldFault>
 pub fn read_message(number: u8, rest: Option<&[u8]>) -> Result<Message<'_>, FieldFault>
     requires { IsNumber number }
     ensures number { IfOk result (λ m. (message_of m).number ≡ number) }
-    ensures fields { Gives (λ m. (message_of m).fields) result (fields_at (kinds_of number) 1 (left 32 (seen rest.entry))) }
+    ensures fields { Gives (λ m. (message_of m).fields) result
+        (fields_at (kinds_of number) 1 (left 32 (seen rest.entry))) }
 {
     Ok(match number {
         1 => welcome(rest)?,

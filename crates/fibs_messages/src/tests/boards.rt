@@ -1,5 +1,5 @@
 use crate::laws::{print_reads_back, prints_tell_boards};
-use crate::{Board, Fault, FieldFault, Name, Reading, read, read_decimal};
+use crate::{Board, Fault, FieldFault, Name, Reading, read, read_decimal, split};
 use arrayvec::ArrayVec;
 
 /// A board line as the server sends it.
@@ -265,5 +265,54 @@ fn a_decimal_up_to_a_limit_is_read(rt: HostRuntime) {
             number,
             "{text} up to {limit}"
         );
+    }
+}
+
+#[test]
+fn appends_a_line_of_a_board_or_nothing(rt: HostRuntime) {
+    let Ok(board) = Board::read(LINE) else {
+        assert!(rt; false, "the line is read");
+        return;
+    };
+    let mut out = Vec::new(rt.alloc());
+    if out.push(b'>').is_err() {
+        return;
+    }
+    let before = out.len();
+    match board.print_into(&mut out) {
+        Ok(()) => assert_eq!(rt; &out[before..], LINE),
+        Err(_) => assert_eq!(rt; out.len(), before),
+    }
+}
+
+#[test]
+fn splits_at_the_first_byte(rt: HostRuntime) {
+    let cases: [(&str, &str, Option<&str>); 6] = [
+        ("move 24-18", "move", Some("24-18")),
+        ("a b c", "a", Some("b c")),
+        ("ab ", "ab", Some("")),
+        (" x", "", Some("x")),
+        ("roll", "roll", None),
+        ("", "", None),
+    ];
+    for (text, front, rest) in cases {
+        let (before, after) = split(text.as_bytes(), b' ');
+        assert_eq!(rt; before, front.as_bytes(), "before the space of {text}");
+        assert_eq!(rt; after, rest.map(str::as_bytes), "after the space of {text}");
+    }
+}
+
+#[test]
+fn faults_have_names_and_numbers(rt: HostRuntime) {
+    let cases = [
+        (Fault::Missing, "Missing", 1),
+        (Fault::Extra, "Extra", 2),
+        (Fault::NotANumber, "NotANumber", 3),
+        (Fault::OutOfRange, "OutOfRange", 4),
+        (Fault::BadName, "BadName", 5),
+    ];
+    for (fault, name, number) in cases {
+        assert_eq!(rt; fault.name(), name);
+        assert_eq!(rt; fault.number(), number);
     }
 }

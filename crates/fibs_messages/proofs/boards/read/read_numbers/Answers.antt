@@ -10,7 +10,7 @@ use Rattle.fibs_messages.specs.Board.{field_values, number}
 use Rattle.fibs_messages.specs.BoardReading.{pieces_left, first_fault}
 use Rattle.fibs_messages.specs.Decimal.{allows, number_in}
 use Rattle.fibs_messages.specs.FieldReading.{left_of}
-use Rattle.fibs_messages.proofs.MessageLemmas.NextFields.{number_was_read, was_wrong, reads_number, end_right, end_wrong}
+use Rattle.fibs_messages.proofs.BoardLemmas.NextFields.{number_was_read, was_wrong, reads_number, end_right, end_wrong}
 use Rattle.fibs_messages.proofs.BoardLemmas.OneNumberMore.{read_more, fit_more, fault_more, drop_next}
 use Rattle.fibs_messages.proofs.BoardLemmas.FieldTable.{table_long}
 use Rattle.fibs_messages.proofs.boards.read.read_numbers.Goals as goal

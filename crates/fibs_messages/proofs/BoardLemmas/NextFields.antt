@@ -47,17 +47,21 @@ pub record WasRead {A : Type 0} (read : List ℕ → Result A Fault) (kind : Kin
   pub value : read text ≡ Ok x
   pub next : IsNext kind i rest text l
 
+-- one answer has one value
 ok_same : {A : Type 0} (x y : A) → ◌≡◌ {A = Result A FieldFault} (Ok x) (Ok y) → x ≡ y
 ok_same x y h = cc
 
+-- and one rest
 pair_same : {A : Type 0} (x y : A) (l m : Left) → ◌≡◌ {A = Result (A × Left) FieldFault} (Ok (x, l)) (Ok (y, m)) → (x ≡ y) × (l ≡ m)
 pair_same x y l m h =
     let same = ok_same (x, l) (y, m) h in
     (ap (λ p. p.0) same, ap (λ p. p.1) same)
 
+-- a value is no fault
 ok_no_err : {A : Type 0} (x : A) (e : FieldFault) → ◌≡◌ {A = Result A FieldFault} (Ok x) (Err e) → ⊥
 ok_no_err x e h = cc
 
+-- one fault
 err_same : {A : Type 0} (d e : FieldFault) → ◌≡◌ {A = Result A FieldFault} (Err d) (Err e) → d ≡ e
 err_same d e h = cc
 
@@ -66,6 +70,7 @@ first_right : (kind : Kind) (i : ℕ) (s : List ℕ) (kinds : List Kind) → fau
 first_right kind i s kinds good =
     ap (first_fault i (kind ∷ kinds)) (pieces_split s) ∙ ap (λ o. fault_or i o (first_fault (i + 1) kinds (pieces_of (after 58 s)))) good
 
+-- a wrong piece is the first fault
 first_wrong : (kind : Kind) (i : ℕ) (s : List ℕ) (kinds : List Kind) (f : Fault) → fault_in kind (before 58 s) ≡ Some f → first_fault i (kind ∷ kinds) (pieces s) ≡ Some (record { field = i; fault = f })
 first_wrong kind i s kinds f bad =
     ap (first_fault i (kind ∷ kinds)) (pieces_split s) ∙ ap (λ o. fault_or i o (first_fault (i + 1) kinds (pieces_of (after 58 s)))) bad
@@ -84,17 +89,20 @@ right_read read kind i s (Ok y) x l reads is h =
     record { text = before 58 s; value = is ∙ ap Ok same.0; next = subst (IsNext kind i (Some s) (before 58 s)) same.1 next }
 right_read read kind i s (Err f) x l reads is h = absurd (ok_no_err (x, l) (record { field = i; fault = f }) (sym h))
 
+-- a field that is refused is the first fault, by its answer
 wrong_read : {A : Type 0} (read : List ℕ → Result A Fault) (kind : Kind) (i : ℕ) (s : List ℕ) (r : Result A Fault) (e : FieldFault) (kinds : List Kind) → Reads read kind → read (before 58 s) ≡ r
     → read_with i r (left 58 (after 58 s)) ≡ Err e → first_fault i (kind ∷ kinds) (pieces s) ≡ Some e
 wrong_read read kind i s (Ok y) e kinds reads is h = absurd (ok_no_err (y, left 58 (after 58 s)) e h)
 wrong_read read kind i s (Err f) e kinds reads is h =
     first_wrong kind i s kinds f (sym (reads (before 58 s)) ∙ ap result_err is) ∙ ap Some (err_same (record { field = i; fault = f }) e h)
 
+-- a field that is read
 next_read : {A : Type 0} (read : List ℕ → Result A Fault) (kind : Kind) (i : ℕ) (rest : Option (List ℕ)) (x : A) (l : Left) → Reads read kind → next_at read i (left 58 rest) ≡ Ok (x, l) → WasRead read kind i rest x l
 unfolding next_at text_at
 next_read read kind i None x l reads h = absurd (ok_no_err (x, l) (record { field = i; fault = Missing }) (sym h))
 next_read read kind i (Some s) x l reads h = right_read read kind i s (read (before 58 s)) x l reads refl h
 
+-- a field that is refused
 next_wrong : {A : Type 0} (read : List ℕ → Result A Fault) (kind : Kind) (i : ℕ) (rest : Option (List ℕ)) (e : FieldFault) (kinds : List Kind) → Reads read kind → next_at read i (left 58 rest) ≡ Err e
     → first_fault i (kind ∷ kinds) (pieces_of rest) ≡ Some e
 unfolding next_at text_at
@@ -105,12 +113,14 @@ next_wrong read kind i (Some s) e kinds reads h = wrong_read read kind i s (read
 pub was_read : {A : Type 0} (read : List ℕ → Result A Fault) (kind : Kind) (i : ℕ) (l m : Left) (x : A) → Reads read kind → l.separator ≡ 58 → next_at read i l ≡ Ok (x, m) → WasRead read kind i l.rest x m
 was_read read kind i l m x reads colon h = next_read read kind i l.rest x m reads (subst (λ (c : ℕ). next_at read i (left c l.rest) ≡ Ok (x, m)) colon h)
 
+-- a field that is refused is the first fault
 pub was_wrong : {A : Type 0} (read : List ℕ → Result A Fault) (kind : Kind) (i : ℕ) (l : Left) (e : FieldFault) (kinds : List Kind) → Reads read kind → l.separator ≡ 58 → next_at read i l ≡ Err e
     → first_fault i (kind ∷ kinds) (pieces_of l.rest) ≡ Some e
 was_wrong read kind i l e kinds reads colon h = next_wrong read kind i l.rest e kinds reads (subst (λ (c : ℕ). next_at read i (left c l.rest) ≡ Err e) colon h)
 
 -- ---- the kinds
 
+-- a name is read as any piece is
 name_of_left : (i c : ℕ) (rest : Option (List ℕ)) → field_at a_name i (left c rest) ≡ next_at (value_in a_name) i (left c rest)
 unfolding field_at next_at text_at
 name_of_left i c None = refl
@@ -120,15 +130,19 @@ name_of_left i c (Some s) = refl
 pub name_is_next : (i : ℕ) (l : Left) → field_at a_name i l ≡ next_at (value_in a_name) i l
 name_is_next i l = name_of_left i l.separator l.rest
 
+-- names are read as their kind says
 pub reads_name : Reads (value_in a_name) player_name
 reads_name text = fault_of_value a_name text
 
+-- and so are numbers
 pub reads_number : (values : Values) → Reads (number_in values) (number values)
 reads_number values text = refl
 
+-- and the word `board`
 pub reads_board : Reads (this_word (codes "board")) board_word
 reads_board text = err_of_good (bytes_eq text (codes "board")) (codes "board")
 
+-- a test that was passed
 if_good : {A : Type 0} (test : Bool) (x y : A) → good test x ≡ Ok y → (test ≡ true) × (x ≡ y)
 if_good true x y h = (refl, cc)
 if_good false x y h = cc
@@ -137,6 +151,7 @@ if_good false x y h = cc
 pub is_this_word : (word text : List ℕ) → this_word word text ≡ Ok word → text ≡ word
 is_this_word word text h = (bytes_eq-Decides text word).0 (if_good (bytes_eq text word) word word h).0
 
+-- a name that is read is the text
 pub is_this_name : (text s : List ℕ) → value_in a_name text ≡ Ok (NameField s) → (text ≡ s) × (is_name s ≡ true)
 unfolding value_in
 is_this_name text s h =
@@ -151,6 +166,7 @@ pub record NumberRead (values : Values) (i : ℕ) (l m : Left) (z : ℤ) : Type 
   pub allowed : allows values z ≡ true
   pub later : (kinds : List Kind) → first_fault i (number values ∷ kinds) (pieces_left l) ≡ first_fault (i + 1) kinds (pieces_left m)
 
+-- what is so where a number was read
 pub number_was_read : (values : Values) (i : ℕ) (l m : Left) (z : ℤ) → IsNarrow values → l.separator ≡ 58 → next_at (number_in values) i l ≡ Ok (z, m) → NumberRead values i l m z
 number_was_read values i l m z narrow colon h =
     let read = was_read (number_in values) (number values) i l m z (reads_number values) colon h in
@@ -164,12 +180,14 @@ pub record NameRead (i : ℕ) (l m : Left) (s : List ℕ) : Type 0 where
   pub is_name : is_name s ≡ true
   pub later : (kinds : List Kind) → first_fault i (player_name ∷ kinds) (pieces_left l) ≡ first_fault (i + 1) kinds (pieces_left m)
 
+-- where a name was read
 pub name_was_read : (i : ℕ) (l m : Left) (s : List ℕ) → l.separator ≡ 58 → field_at a_name i l ≡ Ok (NameField s, m) → NameRead i l m s
 name_was_read i l m s colon h =
     let read = was_read (value_in a_name) player_name i l m (NameField s) reads_name colon (sym (name_is_next i l) ∙ h) in
     let name = is_this_name read.text s read.value in
     record { colon = read.next.separator; pieces = read.next.pieces ∙ ap (λ t. t ∷ pieces_left m) name.0; is_name = name.1; later = read.next.later }
 
+-- where a name was refused
 pub name_was_wrong : (i : ℕ) (l : Left) (e : FieldFault) (kinds : List Kind) → l.separator ≡ 58 → field_at a_name i l ≡ Err e → first_fault i (player_name ∷ kinds) (pieces_left l) ≡ Some e
 name_was_wrong i l e kinds colon h = was_wrong (value_in a_name) player_name i l e kinds reads_name colon (sym (name_is_next i l) ∙ h)
 
@@ -179,6 +197,7 @@ pub record BoardRead (l m : Left) : Type 0 where
   pub pieces : pieces_left l ≡ codes "board" ∷ pieces_left m
   pub later : (kinds : List Kind) → first_fault 1 (board_word ∷ kinds) (pieces_left l) ≡ first_fault 2 kinds (pieces_left m)
 
+-- where the word was read
 pub board_was_read : (l m : Left) → l.separator ≡ 58 → next_at (this_word (codes "board")) 1 l ≡ Ok (codes "board", m) → BoardRead l m
 board_was_read l m colon h =
     let read = was_read (this_word (codes "board")) board_word 1 l m (codes "board") reads_board colon h in
@@ -190,13 +209,16 @@ unfolding end_at
 end_right_of i c None vs h = refl
 end_right_of i c (Some s) vs h = absurd (ok_no_err vs (record { field = i; fault = Extra }) (sym h))
 
+-- nothing is left at the end
 pub end_right : (i : ℕ) (l : Left) (vs : List FieldValue) → end_at i l ≡ Ok vs → pieces_left l ≡ []
 end_right i l vs h = end_right_of i l.separator l.rest vs h
 
+-- something is left
 end_wrong_of : (i c : ℕ) (rest : Option (List ℕ)) (e : FieldFault) → end_at i (left c rest) ≡ Err e → first_fault i [] (pieces_of rest) ≡ Some e
 unfolding end_at
 end_wrong_of i c None e h = absurd (ok_no_err [] e h)
 end_wrong_of i c (Some s) e h = extra_piece i s ∙ ap Some (err_same (record { field = i; fault = Extra }) e h)
 
+-- what is left at the end is the first fault
 pub end_wrong : (i : ℕ) (l : Left) (e : FieldFault) → end_at i l ≡ Err e → first_fault i [] (pieces_left l) ≡ Some e
 end_wrong i l e h = end_wrong_of i l.separator l.rest e h
