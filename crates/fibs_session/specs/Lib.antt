@@ -7,6 +7,7 @@ pub mod Logins
 pub mod LoginOf
 pub mod FirstCommands
 pub mod CommandReading
+pub mod PlainReading
 pub mod CommandLaws
 pub mod History
 pub mod Calls

@@ -1,8 +1,7 @@
 -- The commands of a player that decide nothing in the game, as the FIBS server reads them, and what is wrong with one that
 -- has no text.
-use Rattle.std.specs.Prelude.{◌++◌, ◌&&◌, ℕ, Bool, true, List, ◌∷◌, Option, None, Some, cond, codes, decimal, length, nat_le, nat_lt}
+use Rattle.std.specs.Prelude.{◌++◌, ◌&&◌, ℕ, Bool, List, ◌∷◌, Option, None, Some, cond, codes, decimal, length, nat_le, nat_lt}
 use Rattle.std.specs.List.{list_all}
-use Rattle.std.specs.Option.{is_none}
 use Rattle.fibs_messages.specs.Name.{is_name}
 use Rattle.fibs_session.specs.declared.commands.plain.PlainFault.{PlainFault}
 use Rattle.fibs_session.specs.declared.commands.plain.PlainFault.TheVariants.{BadName, BadText, TooLong}
@@ -66,7 +65,11 @@ name_fault name = cond (is_name name) None (Some BadName)
 abbrev pub text_fault : List ℕ → Option PlainFault
 text_fault text = cond (nat_le (length text) 400) (cond (is_printed text) None (Some BadText)) (Some TooLong)
 
--- what is wrong with a plain command: its name goes before its text
+-- what is wrong with the points of an invitation: they have more than 16 bits, as no invitation of the program has
+abbrev pub points_fault : ℕ → Option PlainFault
+points_fault points = cond (nat_le points 65535) None (Some TooLong)
+
+-- what is wrong with a plain command, where it has no text: its name goes before its text
 unfoldable pub plain_fault_of : PlainValue → Option PlainFault
 plain_fault_of (say text) = text_fault text
 plain_fault_of (tell name text) = first_of (name_fault name) (text_fault text)
@@ -75,15 +78,6 @@ plain_fault_of (whisper text) = text_fault text
 plain_fault_of (kibitz text) = text_fault text
 plain_fault_of (leave_message name text) = first_of (name_fault name) (text_fault text)
 plain_fault_of (invite name) = name_fault name
-plain_fault_of (invite_to name points) = name_fault name
+plain_fault_of (invite_to name points) = first_of (name_fault name) (points_fault points)
 plain_fault_of (join_with name) = name_fault name
 plain_fault_of plain = None
-
--- the points of an invitation have 16 bits
-abbrev pub has_range : PlainValue → Bool
-has_range (invite_to name points) = nat_le points 65535
-has_range plain = true
-
--- a plain command that has a text
-unfoldable pub has_text : PlainValue → Bool
-has_text plain = has_range plain && is_none (plain_fault_of plain)

@@ -7,13 +7,11 @@ mod directory;
 pub mod laws;
 mod refusal;
 mod session;
-#[cfg(test)]
-mod tests;
 
 pub use client::{Client, Got, HeardLine, Input, run_client};
 pub use commands::{
     CommandText, Login, Plain, PlainFault, autoboard_text, board_text, decision_text,
-    moreboards_text, plain_text, style_text,
+    moreboards_text, plain_text, read_command, read_plain, style_text,
 };
 pub use directory::{Directory, DirectoryFault, Player};
 pub use refusal::{PlainRefusal, Refusal};

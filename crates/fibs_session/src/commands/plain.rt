@@ -3,7 +3,7 @@
 ghost use Rattle.std.specs.Prelude.{◌≡◌, ◌≤◌, ◌++◌, ◌∷◌, Some, IfOk, IsOk, codes, decimal, length, true};
 ghost use Rattle.std.specs.Result.{result_err};
 ghost use Rattle.fibs_messages.specs.Name.{is_name};
-ghost use Rattle.fibs_session.specs.PlainCommands.{first_of, is_printed, name_fault, text_fault, plain_of, plain_fault_of};
+ghost use Rattle.fibs_session.specs.PlainCommands.{first_of, is_printed, points_fault, name_fault, text_fault, plain_of, plain_fault_of};
 ghost use Rattle.fibs_session.specs.PlainOf.{plain_value};
 ghost use Rattle.fibs_session.specs.TextOf.{text_of};
 
@@ -162,7 +162,7 @@ fn with_name_and_text(word: &str, name: &[u8], text: &[u8]) -> Result<CommandTex
 /// An invitation to a match of so many points.
 fn with_points(name: &[u8], points: u16) -> Result<CommandText, PlainFault>
     ensures text { IfOk result (λ command. text_of command ≡ codes "invite " ++ (name.now ++ 32 ∷ decimal points)) }
-    ensures fault { result_err result ≡ name_fault name.now }
+    ensures fault { result_err result ≡ first_of (name_fault name.now) (points_fault points) }
 {
     let mut command = with_name("invite ", name)?;
     let mut buffer = Buffer::new();

@@ -1,13 +1,19 @@
 //! The commands that a client sends: their texts, printed and read.
 
+mod command_reader;
 mod decisions;
 mod first;
 mod login;
 mod plain;
+mod plain_reader;
+#[cfg(test)]
+mod tests;
 mod text;
 
+pub use command_reader::read_command;
 pub use decisions::decision_text;
 pub use first::{autoboard_text, board_text, moreboards_text, style_text};
 pub use login::Login;
 pub use plain::{Plain, PlainFault, plain_text};
+pub use plain_reader::read_plain;
 pub use text::CommandText;
