@@ -10,6 +10,8 @@ ghost use Rattle.fibs_session.specs.Directory.Steps.{with_entry, without_entry, 
 
 mod fault;
 mod player;
+#[cfg(test)]
+mod tests;
 
 pub use fault::DirectoryFault;
 use fibs_messages::{Message, WhoInfo};
