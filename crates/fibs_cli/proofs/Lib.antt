@@ -1,3 +1,5 @@
-pub mod Escaping
-pub mod Shown
+pub mod EscapeLemmas
+pub mod WriteLemmas
+pub mod ShowLemmas
 pub mod PlaysLemmas
+pub mod ProgramLemmas

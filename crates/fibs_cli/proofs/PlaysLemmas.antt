@@ -1,8 +1,7 @@
 -- The lines of `fibs plays`.
-use Rattle.std.proofs.Common.{◌≡◌, ℕ, List, [], ◌∷◌, ◌++◌, ap, sym, ◌∙◌, append_assoc, arith, refl, subst, Option, Some, None, inl, inr}
+use Rattle.std.proofs.Common.{◌≡◌, ℕ, List, [], ◌∷◌, ◌++◌, ap, sym, ◌∙◌, append_assoc, arith, refl, subst, inl, inr, Result, Ok, Err, IsErrOf, MatchResult}
 use Rattle.std.specs.Prelude.{codes, decimal}
 use Rattle.std.proofs.lemmas.Fmt.{decimal_digit}
-use Rattle.std.specs.Io.KnownBytes.{Keeps}
 use Rattle.fibs_messages.specs.Board.{BoardFields}
 use Rattle.fibs_messages.specs.Line.{ReadingValue, board_line}
 use Rattle.fibs_position.specs.First.{IsFirst}
@@ -10,6 +9,8 @@ use Rattle.fibs_position.specs.GoodBoard.{IsGood, HasFault, faults}
 use Rattle.fibs_position.specs.declared.position_fault.PositionFault.{PositionFault}
 use Rattle.fibs_position.specs.declared.position_fault.PositionFault.TheVariants.{NotYou, TooManyOwn, TooManyOther}
 use Rattle.fibs_cli.specs.Plays.{Refusal}
+use Rattle.fibs_cli.specs.declared.fault.EngineFault.{EngineFault}
+use Rattle.fibs_cli.specs.declared.fault.EngineFault.TheVariants.{Device, Memory}
 
 -- the parts of the line of a wrong field, one after another
 pub malformed_parts : (none front shown digits number space name whole : List ℕ) → none ≡ [] → front ≡ none ++ codes "malformed 0 "
@@ -18,11 +19,6 @@ pub malformed_parts : (none front shown digits number space name whole : List �
 malformed_parts none front shown digits number space name whole e0 e1 e2 e3 e4 e5 =
     e5 ∙ ap (λ l. (l ++ name) ++ 10 ∷ []) (e4 ∙ ap (λ l. l ++ 32 ∷ []) (e3 ∙ ap (λ l. front ++ l) e2 ∙ ap (λ l. l ++ digits) (e1 ∙ ap (λ l. l ++ codes "malformed 0 ") e0)))
     ∙ rw (decimal_digit 0 (omega arith)) (simp append_assoc)
-
--- known bytes that nothing is written to
-pub keeps_itself : (held : Option (List ℕ)) → Keeps held held
-keeps_itself None = tt
-keeps_itself (Some bytes) = refl
 
 -- the first that fits does fit
 first_fits : {X : Type 0} (fits : X → Type 0) (xs : List X) (x : X) → IsFirst fits xs x → fits x
@@ -40,3 +36,10 @@ pub good_not_refused : (b : BoardFields) (reading : ReadingValue) (why : List �
 good_not_refused b reading why e good refusal =
     let told = subst (λ r. Refusal r why) e refusal in
     no_fault b told.0 good (first_fits (HasFault b) faults told.0 told.1)
+
+-- what answers a status or the fault of a device does not say that memory ran out
+pub device_alone : (r : Result ℕ EngineFault) (P : ℕ → Type 0) (Q : Type 0)
+    → MatchResult r P (λ fault. (fault ≡ Device) × Q) → IsErrOf r Memory → ⊥
+device_alone (Ok status) P Q told failed = cc
+device_alone (Err Device) P Q told failed = cc
+device_alone (Err Memory) P Q told failed = cc

@@ -1,4 +1,6 @@
+pub mod Writing
 pub mod Escape
 pub mod Show
 pub mod Shows
 pub mod Plays
+pub mod Program

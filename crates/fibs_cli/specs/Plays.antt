@@ -12,26 +12,10 @@ use Rattle.fibs_position.specs.PlaysOf.{PlaysIn}
 use Rattle.fibs_position.specs.PositionValue.{PositionValue, position_of}
 use Rattle.fibs_position.specs.declared.direction.Direction.{Direction}
 use Rattle.fibs_position.specs.declared.phase.Phase.{Phase}
-use Rattle.fibs_position.specs.declared.phase.Phase.TheVariants.{Over, AnswerDouble, OpponentActs, RollOrDouble, Move, Passing}
+use Rattle.fibs_position.specs.Names.{phase_name, position_fault_name}
 use Rattle.fibs_position.specs.declared.position_fault.PositionFault.{PositionFault}
-use Rattle.fibs_position.specs.declared.position_fault.PositionFault.TheVariants.{NotYou, TooManyOwn, TooManyOther}
 use Rattle.fibs_session.specs.Commands.{command_of}
 use Rattle.fibs_cli.specs.Show.{reading_text}
-
--- the name of a phase
-abbrev pub phase_name : Phase → List ℕ
-phase_name Over = codes "Over"
-phase_name AnswerDouble = codes "AnswerDouble"
-phase_name OpponentActs = codes "OpponentActs"
-phase_name RollOrDouble = codes "RollOrDouble"
-phase_name Move = codes "Move"
-phase_name Passing = codes "Passing"
-
--- the name of what a board is not good for
-abbrev pub position_fault_name : PositionFault → List ℕ
-position_fault_name NotYou = codes "NotYou"
-position_fault_name TooManyOwn = codes "TooManyOwn"
-position_fault_name TooManyOther = codes "TooManyOther"
 
 -- a play's command, by which the player whose checkers go this way sends it, and a line end
 abbrev pub play_line : Direction → List Hop → List ℕ

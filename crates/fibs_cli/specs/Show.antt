@@ -6,17 +6,9 @@ use Rattle.fibs_lines.specs.Lines.{ReadLine, lines_of, rest_of, kept_limit}
 use Rattle.fibs_messages.specs.Board.{spelling}
 use Rattle.fibs_messages.specs.Line.{ReadingValue, numbered_line, board_line, text_line, malformed_line, IsReading}
 use Rattle.fibs_messages.specs.Message.{canonical}
-use Rattle.fibs_messages.specs.declared.fields.fault.Fault.{Fault}
-use Rattle.fibs_messages.specs.declared.fields.fault.Fault.TheVariants.{Missing, Extra, NotANumber, OutOfRange, BadName}
+use Rattle.fibs_messages.specs.Faults.{fault_name}
 use Rattle.fibs_cli.specs.Escape.{escaped}
-
--- the name of a fault
-abbrev pub fault_name : Fault → List ℕ
-fault_name Missing = codes "Missing"
-fault_name Extra = codes "Extra"
-fault_name NotANumber = codes "NotANumber"
-fault_name OutOfRange = codes "OutOfRange"
-fault_name BadName = codes "BadName"
+use Rattle.fibs_cli.specs.Writing.{GainedFront}
 
 -- what is printed for what a line says: the message by its canonical line; the board as it is spelled; the text; or the number, the field and the fault of a malformed line
 abbrev pub reading_text : ReadingValue → List ℕ
@@ -49,14 +41,25 @@ ShowText s text = (shown : List ℕ) × ShownLines (lines_of s) shown
     × (text ≡ shown ++ unfinished_text (min kept_limit (length (rest_of s))))
 
 -- What a reader has left, and what a writer holds, is Some list where it tells its bytes, and None where it tells nothing:
--- of the latter the next two say nothing.
-
--- a reader lost some bytes, and a writer gained just what is printed for the lines of all but the last of them, which are no more than `unshown`
-abbrev pub WroteLines : ℕ → Option (List ℕ) → Option (List ℕ) → Option (List ℕ) → Option (List ℕ) → Type 0
-WroteLines unshown left still_left held now = (s more text : List ℕ) × (length more ≤ unshown) × Consumes left still_left (s ++ more)
-    × ShownLines (lines_of s) text × Appends held now text
+-- of the latter the next five say nothing.
 
 -- a reader was read to its end, and a writer gained all that is printed for its bytes
 abbrev pub WroteAll : Option (List ℕ) → Option (List ℕ) → Option (List ℕ) → Option (List ℕ) → Type 0
-WroteAll left still_left held now = (s text : List ℕ) × Consumes left still_left s
-    × ShowText s text × Appends held now text
+WroteAll left still_left held now = (s text : List ℕ) × Consumes left still_left s × ShowText s text × Appends held now text
+
+-- a reader lost the bytes s and then `more`, and a writer gained just what is printed for the lines of s
+abbrev pub WroteLinesOf : List ℕ → List ℕ → Option (List ℕ) → Option (List ℕ) → Option (List ℕ) → Option (List ℕ) → Type 0
+WroteLinesOf s more left still_left held now = (text : List ℕ) × Consumes left still_left (s ++ more)
+    × ShownLines (lines_of s) text × Appends held now text
+
+-- a writer gained just what is printed for the lines of all that was read
+abbrev pub WroteRead : Option (List ℕ) → Option (List ℕ) → Option (List ℕ) → Option (List ℕ) → Type 0
+WroteRead left still_left held now = (s : List ℕ) × WroteLinesOf s [] left still_left held now
+
+-- a writer gained just what is printed for the lines of some front of what was read
+abbrev pub WroteLines : Option (List ℕ) → Option (List ℕ) → Option (List ℕ) → Option (List ℕ) → Type 0
+WroteLines left still_left held now = (s more : List ℕ) × WroteLinesOf s more left still_left held now
+
+-- a writer gained a front of what is printed for what was read, and at least one byte of it is missing
+abbrev pub WroteFront : Option (List ℕ) → Option (List ℕ) → Option (List ℕ) → Option (List ℕ) → Type 0
+WroteFront left still_left held now = (s text : List ℕ) × Consumes left still_left s × ShowText s text × GainedFront held now text

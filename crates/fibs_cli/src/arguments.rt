@@ -1,4 +1,5 @@
 //! The command line.
+ghost use Rattle.std.specs.Prelude.{◌≡◌, ◌≢◌};
 
 use clap::error::ErrorKind;
 use clap::{Arg, ArgMatches, Command, Error};
@@ -32,8 +33,9 @@ and at the end, where bytes stand after the last line end,
 
   unfinished COUNT        how many they are, up to 4096
 
-Telnet commands, and the prompts `login: ` and `> ` at a line's start, are left out. In TEXT
-each backslash and each byte that is not printable ASCII is `\\x` and two hexadecimal digits.";
+Telnet commands, and the prompts `login: ` and `> ` at a line's start, are left out. In TEXT and
+in a message each backslash and each byte that is not printable ASCII is `\\x` and two hexadecimal
+digits.";
 
 const PLAYS: &str = "List the plays of a board";
 
@@ -69,10 +71,12 @@ pub enum Request<'a> {
 /// What a command line is answered by.
 #[derive(Drop)]
 pub enum Answer<'a> {
-    /// Its request is served.
-    Request(Request<'a>),
-    /// A text is printed: help, or what is wrong with the line.
-    Printed(Error),
+    /// An engine runs.
+    Engine(Request<'a>),
+    /// Help that was asked for.
+    Help(String),
+    /// What is wrong with the line.
+    Refused(String),
     /// Memory ran out.
     Memory,
 }
@@ -81,12 +85,34 @@ pub enum Answer<'a> {
 pub fn read<'a>(alloc: Global, words: &'a [String]) -> Answer<'a> {
     match matches_of(alloc, words) {
         Ok(matches) => match request_of(&matches) {
-            Some(request) => Answer::Request(request),
+            Some(request) => Answer::Engine(request),
             // The command line needs a subcommand and a line, so this does not come.
             None => Answer::Memory,
         },
-        Err(error) if error.kind() == ErrorKind::OutOfMemory => Answer::Memory,
-        Err(error) => Answer::Printed(error),
+        Err(error) => answer_to(alloc, &error),
+    }
+}
+
+/// What is answered to words that ask for no engine.
+fn answer_to<'a>(alloc: Global, error: &Error) -> Answer<'a> {
+    match error.to_string(alloc) {
+        Ok(text) => answer_of(error.kind(), text),
+        Err(_) => Answer::Memory,
+    }
+}
+
+/// The answer of this kind and text. Help comes where it was asked for alone, and a refusal at every other mistake.
+fn answer_of<'a>(kind: ErrorKind, text: String) -> Answer<'a>
+    ensures memory { kind ≡ ErrorKind.OutOfMemory → result ≡ Answer.Memory }
+    ensures help { kind ≡ ErrorKind.DisplayHelp → result ≡ Answer.Help text }
+    ensures refused { kind ≢ ErrorKind.OutOfMemory → kind ≢ ErrorKind.DisplayHelp → result ≡ Answer.Refused text }
+{
+    if kind == ErrorKind::OutOfMemory {
+        Answer::Memory
+    } else if kind == ErrorKind::DisplayHelp {
+        Answer::Help(text)
+    } else {
+        Answer::Refused(text)
     }
 }
 

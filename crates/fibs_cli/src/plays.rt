@@ -1,5 +1,5 @@
 //! `fibs plays`: prints the phase of a board and its plays.
-ghost use Rattle.std.specs.Prelude.{◌≡◌, ◌≤◌, ◌+◌, ◌++◌, ◌∷◌, [], ℕ, List, length, map, codes, IfOk, IfErr, OnOk, OnErr, MatchResult};
+ghost use Rattle.std.specs.Prelude.{◌≡◌, ◌≤◌, ◌+◌, ◌++◌, ◌∷◌, [], ℕ, List, length, map, codes, IfOk, IfErr, IsErrOf, OnErr, OnOk, MatchResult};
 ghost use Rattle.std.specs.Io.KnownBytes.{Appends, Keeps};
 ghost use Rattle.arrayvec.specs.ArrayVec.{array_vec_len};
 ghost use Rattle.fibs_messages.specs.Board.{BoardFields};
@@ -8,11 +8,14 @@ ghost use Rattle.fibs_position.specs.GoodBoard.{IsGood};
 ghost use Rattle.fibs_position.specs.PlayValue.{hops_of};
 ghost use Rattle.fibs_position.specs.PositionValue.{position_of};
 ghost use Rattle.fibs_position.specs.StoredPosition.{position_value};
-ghost use Rattle.fibs_cli.specs.Plays.{phase_name, position_fault_name, listing, PositionText, PlaysText, Refusal};
+ghost use Rattle.fibs_messages.specs.Faults.{fault_name};
+ghost use Rattle.fibs_position.specs.Names.{phase_name, position_fault_name};
+ghost use Rattle.fibs_cli.specs.Plays.{listing, PositionText, PlaysText, Refusal};
 ghost use Rattle.fibs_cli.specs.Show.{reading_text};
+ghost use Rattle.fibs_cli.specs.Writing.{GainedFront};
 
 use crate::fault::EngineFault;
-use crate::reading::fault_name;
+use crate::writing::{Progress, write_bytes};
 use arrayvec::ArrayVec;
 use fibs_messages::{Fault, Reading, read};
 use fibs_position::{Decision, Direction, Phase, Play, Position, PositionFault};
@@ -29,7 +32,7 @@ type RefusalLine = ArrayVec<u8, 64>;
 /// For the line of a good board `out` is given `phase NAME`, and in the phase Move the command of each play, in the numbers
 /// of the board, each on a line of its own; the status is 0. For every other line `out` is given nothing, `err` one line,
 /// and the status is 3: `not a board`; `malformed 0 FIELD FAULT` for a board line with a wrong field; or `position NAME`
-/// for a board without a position.
+/// for a board without a position. After a failed write nothing more is written.
 pub fn plays<W: Write, E: Write>(
     alloc: Global,
     line: &[u8],
@@ -37,13 +40,19 @@ pub fn plays<W: Write, E: Write>(
     err: &mut E,
 ) -> Result<u8, EngineFault>
     ensures good { (b : BoardFields) → IsReading line.now (board_line b) → IsGood b
-        → IfOk result (λ status. (status ≡ 0) × Keeps (E.contents err.old) (E.contents err.new)
-        × ((text : List ℕ) × PlaysText b text × Appends (W.contents out.old) (W.contents out.new) text)) }
+        → IfOk result (λ status. (status ≡ 0) × ((text : List ℕ) × PlaysText b text × Appends (W.contents out.old) (W.contents out.new) text)) }
+    ensures good_device { (b : BoardFields) → IsReading line.now (board_line b) → IsGood b → IsErrOf result EngineFault.Device
+        → (text : List ℕ) × PlaysText b text × GainedFront (W.contents out.old) (W.contents out.new) text }
+    ensures good_silent { (b : BoardFields) → IsReading line.now (board_line b) → IsGood b
+        → Keeps (E.contents err.old) (E.contents err.new) }
     // Of a refused line no memory is asked.
     ensures refused { (reading : ReadingValue) → (why : List ℕ) → IsReading line.now reading → Refusal reading why
-        → Keeps (W.contents out.old) (W.contents out.new)
-        × MatchResult result (λ status. (status ≡ 3) × Appends (E.contents err.old) (E.contents err.new) (why ++ (10 ∷ [])))
-        (λ fault. fault ≡ EngineFault.Device) }
+        → MatchResult result (λ status. (status ≡ 3) × Appends (E.contents err.old) (E.contents err.new) (why ++ (10 ∷ [])))
+        (λ fault. (fault ≡ EngineFault.Device) × GainedFront (E.contents err.old) (E.contents err.new) (why ++ (10 ∷ []))) }
+    ensures refused_silent { (reading : ReadingValue) → (why : List ℕ) → IsReading line.now reading → Refusal reading why
+        → Keeps (W.contents out.old) (W.contents out.new) }
+    ensures memory { IsErrOf result EngineFault.Memory
+        → Keeps (W.contents out.old) (W.contents out.new) × Keeps (E.contents err.old) (E.contents err.new) }
 {
     match position_of(line) {
         Ok(position) => print_plays(alloc, &position, out),
@@ -97,7 +106,7 @@ fn one_line(front: &[u8], end: &[u8]) -> RefusalLine
 fn no_position(fault: PositionFault) -> RefusalLine
     ensures { result.items ≡ (codes "position " ++ position_fault_name fault) ++ (10 ∷ []) }
 {
-    one_line(b"position ", position_fault_name(fault))
+    one_line(b"position ", fault.name().as_bytes())
 }
 
 /// The line of a board line with a wrong field.
@@ -108,64 +117,48 @@ fn malformed(field: usize, fault: Fault) -> RefusalLine
     append(&mut line, b"malformed 0 ");
     append(&mut line, Buffer::new().format(field).as_bytes());
     line.push(b' ');
-    append(&mut line, fault_name(fault));
+    append(&mut line, fault.name().as_bytes());
     line.push(b'\n');
     line
-}
-
-/// The name of what a board is not good for.
-fn position_fault_name(fault: PositionFault) -> &'static [u8]
-    ensures name { result.now ≡ position_fault_name fault }
-    ensures short { length result.now ≤ 12 }
-{
-    match fault {
-        PositionFault::NotYou => b"NotYou",
-        PositionFault::TooManyOwn => b"TooManyOwn",
-        PositionFault::TooManyOther => b"TooManyOther",
-    }
-}
-
-/// The name of a phase.
-fn phase_name(phase: Phase) -> &'static [u8]
-    ensures { result.now ≡ phase_name phase }
-{
-    match phase {
-        Phase::Over => b"Over",
-        Phase::AnswerDouble => b"AnswerDouble",
-        Phase::OpponentActs => b"OpponentActs",
-        Phase::RollOrDouble => b"RollOrDouble",
-        Phase::Move => b"Move",
-        Phase::Passing => b"Passing",
-    }
 }
 
 /// Prints why a line has no position.
 fn print_refusal<E: Write>(line: &[u8], err: &mut E) -> Result<u8, EngineFault>
     ensures { MatchResult result (λ status. (status ≡ 3) × Appends (E.contents err.old) (E.contents err.new) line.now)
-        (λ fault. fault ≡ EngineFault.Device) }
+        (λ fault. (fault ≡ EngineFault.Device) × GainedFront (E.contents err.old) (E.contents err.new) line.now) }
 {
-    match err.write_all(line) {
-        Ok(()) => Ok(3),
-        Err(_) => Err(EngineFault::Device),
+    match write_bytes(line, err) {
+        Progress::Whole => Ok(3),
+        Progress::Broken => Err(EngineFault::Device),
     }
 }
 
 /// Prints the phase of a position and its plays.
 fn print_plays<W: Write>(alloc: Global, position: &Position, out: &mut W) -> Result<u8, EngineFault>
-    ensures { IfOk result (λ status. (status ≡ 0)
+    ensures ok { IfOk result (λ status. (status ≡ 0)
         × ((text : List ℕ) × PositionText (position_value position.now) text × Appends (W.contents out.old) (W.contents out.new) text)) }
+    ensures device { IsErrOf result EngineFault.Device
+        → (text : List ℕ) × PositionText (position_value position.now) text × GainedFront (W.contents out.old) (W.contents out.new) text }
+    ensures memory { IsErrOf result EngineFault.Memory → Keeps (W.contents out.old) (W.contents out.new) }
+{
+    let text = listing_of(alloc, position)?;
+    match write_bytes(text.as_slice(), out) {
+        Progress::Whole => Ok(0),
+        Progress::Broken => Err(EngineFault::Device),
+    }
+}
+
+/// The phase of a position and its plays.
+fn listing_of(alloc: Global, position: &Position) -> Result<Vec<u8>, AllocError>
+    ensures { IfOk result (λ text. PositionText (position_value position.now) text.items) }
 {
     let plays = position.plays(alloc)?;
-    let text = listing(
+    listing(
         alloc,
         position.phase(),
         position.direction(),
         plays.as_slice(),
-    )?;
-    match out.write_all(text.as_slice()) {
-        Ok(()) => Ok(0),
-        Err(_) => Err(EngineFault::Device),
-    }
+    )
 }
 
 /// The phase, and each play's command, each on a line of its own.
@@ -178,7 +171,7 @@ fn listing(
     ensures { IfOk result (λ text. text.items ≡ listing phase direction (map hops_of plays.now)) }
 {
     let mut text = Vec::from_slice(alloc, b"phase ")?;
-    text.extend_from_slice(phase_name(phase))?;
+    text.extend_from_slice(phase.name().as_bytes())?;
     text.push(b'\n')?;
     for play in plays {
         let command = decision_text(&Decision::Move(*play), direction);

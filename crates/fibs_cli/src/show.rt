@@ -1,12 +1,14 @@
 //! `fibs show`: prints what each line of a stream says.
-ghost use Rattle.std.specs.Prelude.{◌≡◌, ◌≢◌, ◌++◌, ℕ, List, [], IfOk, IfErr, OnOk, IsErrOf};
+ghost use Rattle.std.specs.Prelude.{◌≡◌, ◌≤◌, ◌<◌, ◌*◌, ◌⊎◌, ◌++◌, ℕ, List, [], length, IfOk, OnOk, IfErr, IsErrOf, MatchResult};
 ghost use Rattle.std.specs.Io.KnownBytes.{Appends, IsAtEnd};
-ghost use Rattle.fibs_cli.specs.Show.{unfinished_text, WroteAll, WroteLines};
-ghost use Rattle.fibs_cli.specs.Shows.{EndsText, Shows};
+ghost use Rattle.fibs_cli.specs.Show.{unfinished_text, WroteAll, WroteRead, WroteLines, WroteLinesOf, WroteFront};
+ghost use Rattle.fibs_cli.specs.Shows.{EndsText, LostAtLeast, LostAtMost, Shows};
+ghost use Rattle.fibs_cli.specs.Writing.{GainedFront};
 
 use crate::fault::EngineFault;
-use crate::reading::{append_line, append_number};
-use fibs_lines::Lines;
+use crate::printing::line::{append_line, append_number};
+use crate::writing::{Progress, write_bytes};
+use fibs_lines::{Lines, laws};
 use std::alloc::{AllocError, Global};
 use std::io::{Read, Write};
 
@@ -14,17 +16,34 @@ use std::io::{Read, Write};
 const MAX_READS: u32 = 1_000_000_000;
 
 /// How many bytes are asked for at once.
-const PORTION: usize = 4096;
+const PORTION: usize = 1024;
 
 /// Why a stream was not shown to its end.
 #[derive(Clone, Copy, Debug, PartialEq, Eq)]
 pub enum StreamFault {
-    /// The reader failed, or did not end within a thousand million reads.
+    /// A read failed.
     Reader,
-    /// The writer failed.
+    /// The reader gave bytes each time that it was asked, as often as it may be.
+    Endless,
+    /// A write failed.
     Writer,
     /// Memory ran out.
     Memory,
+}
+
+impl StreamFault {
+    /// What the engine answers.
+    fn engine_fault(self) -> EngineFault
+        ensures reader { self ≡ StreamFault.Reader → result ≡ EngineFault.Device }
+        ensures endless { self ≡ StreamFault.Endless → result ≡ EngineFault.Device }
+        ensures writer { self ≡ StreamFault.Writer → result ≡ EngineFault.Device }
+        ensures memory { self ≡ StreamFault.Memory → result ≡ EngineFault.Memory }
+    {
+        match self {
+            StreamFault::Reader | StreamFault::Endless | StreamFault::Writer => EngineFault::Device,
+            StreamFault::Memory => EngineFault::Memory,
+        }
+    }
 }
 
 impl From<AllocError> for StreamFault {
@@ -38,6 +57,9 @@ impl From<AllocError> for StreamFault {
 }
 
 /// Prints what each line that is read says, to the reader's end.
+///
+/// After a device's fault the writer has either all that is printed for the lines that were read, where the reader failed
+/// or did not end; or a front of what is printed for what was read, where the writer failed, and then nothing after it.
 pub fn show<R: Read, W: Write>(
     alloc: Global,
     reader: &mut R,
@@ -46,17 +68,19 @@ pub fn show<R: Read, W: Write>(
     ensures status { IfOk result (λ status. status ≡ 0) }
     ensures whole { OnOk result (WroteAll (R.remaining reader.old) (R.remaining reader.new) (W.contents writer.old) (W.contents writer.new)) }
     ensures end { OnOk result (IsAtEnd (R.remaining reader.new)) }
+    ensures device { IsErrOf result EngineFault.Device →
+        WroteRead (R.remaining reader.old) (R.remaining reader.new) (W.contents writer.old) (W.contents writer.new)
+        ⊎ WroteFront (R.remaining reader.old) (R.remaining reader.new) (W.contents writer.old) (W.contents writer.new) }
     ensures memory { IsErrOf result EngineFault.Memory →
-        WroteLines PORTION (R.remaining reader.old) (R.remaining reader.new) (W.contents writer.old) (W.contents writer.new) }
+        WroteLines (R.remaining reader.old) (R.remaining reader.new) (W.contents writer.old) (W.contents writer.new) }
 {
     match show_stream(alloc, reader, writer) {
         Ok(()) => Ok(0),
-        Err(StreamFault::Memory) => Err(EngineFault::Memory),
-        Err(StreamFault::Reader | StreamFault::Writer) => Err(EngineFault::Device),
+        Err(fault) => Err(fault.engine_fault()),
     }
 }
 
-/// The same, and it says which end failed.
+/// The same, and it says what failed.
 pub fn show_stream<R: Read, W: Write>(
     alloc: Global,
     reader: &mut R,
@@ -65,15 +89,46 @@ pub fn show_stream<R: Read, W: Write>(
     ensures whole { OnOk result (WroteAll (R.remaining reader.old) (R.remaining reader.new) (W.contents writer.old) (W.contents writer.new)) }
     ensures end { OnOk result (IsAtEnd (R.remaining reader.new)) }
     ensures reader { IsErrOf result StreamFault.Reader →
-        WroteLines 0 (R.remaining reader.old) (R.remaining reader.new) (W.contents writer.old) (W.contents writer.new) }
+        WroteRead (R.remaining reader.old) (R.remaining reader.new) (W.contents writer.old) (W.contents writer.new) }
+    ensures endless { IsErrOf result StreamFault.Endless →
+        WroteRead (R.remaining reader.old) (R.remaining reader.new) (W.contents writer.old) (W.contents writer.new) }
+    ensures writer { IsErrOf result StreamFault.Writer →
+        WroteFront (R.remaining reader.old) (R.remaining reader.new) (W.contents writer.old) (W.contents writer.new) }
     ensures memory { IsErrOf result StreamFault.Memory →
-        WroteLines PORTION (R.remaining reader.old) (R.remaining reader.new) (W.contents writer.old) (W.contents writer.new) }
+        WroteLines (R.remaining reader.old) (R.remaining reader.new) (W.contents writer.old) (W.contents writer.new) }
+{
+    show_portions(alloc, MAX_READS, &mut [0; PORTION], reader, writer)
+}
+
+/// The same with at most so many reads, each of at most as many bytes as `portion` has room for.
+///
+/// It says `Endless` only where each of so many reads gave a byte.
+pub fn show_portions<R: Read, W: Write>(
+    alloc: Global,
+    reads: u32,
+    portion: &mut [u8],
+    reader: &mut R,
+    writer: &mut W,
+) -> Result<(), StreamFault>
+    requires { 0 < length portion.old }
+    ensures whole { OnOk result (WroteAll (R.remaining reader.old) (R.remaining reader.new) (W.contents writer.old) (W.contents writer.new)) }
+    ensures end { OnOk result (IsAtEnd (R.remaining reader.new)) }
+    ensures reader { IsErrOf result StreamFault.Reader →
+        WroteRead (R.remaining reader.old) (R.remaining reader.new) (W.contents writer.old) (W.contents writer.new) }
+    ensures endless { IsErrOf result StreamFault.Endless →
+        WroteRead (R.remaining reader.old) (R.remaining reader.new) (W.contents writer.old) (W.contents writer.new) }
+    ensures writer { IsErrOf result StreamFault.Writer →
+        WroteFront (R.remaining reader.old) (R.remaining reader.new) (W.contents writer.old) (W.contents writer.new) }
+    ensures memory { IsErrOf result StreamFault.Memory → (s more : List ℕ) × (length more ≤ length portion.old)
+        × WroteLinesOf s more (R.remaining reader.old) (R.remaining reader.new) (W.contents writer.old) (W.contents writer.new) }
+    ensures enough { IsErrOf result StreamFault.Endless → LostAtLeast reads (R.remaining reader.old) (R.remaining reader.new) }
+    ensures few { LostAtMost (reads * length portion.old) (R.remaining reader.old) (R.remaining reader.new) }
 {
     let mut lines = Lines::new();
     let mut text = Vec::new(alloc);
-    let mut portion = [0u8; PORTION];
-    for _ in 0..MAX_READS {
-        let count = match reader.read(&mut portion) {
+    laws::empty_stream_has_no_line();
+    for made in 0..reads {
+        let count = match reader.read(portion) {
             Ok(0) => return finish(&lines, &mut text, writer),
             Ok(count) => count,
             Err(_) => return Err(StreamFault::Reader),
@@ -82,25 +137,28 @@ pub fn show_stream<R: Read, W: Write>(
         write_text(&text, writer)?;
         text.clear();
     }
-    Err(StreamFault::Reader)
+    Err(StreamFault::Endless)
 }
 
 /// Writes the whole text.
 fn write_text<W: Write>(text: &Vec<u8>, writer: &mut W) -> Result<(), StreamFault>
-    ensures ok { OnOk result (Appends (W.contents writer.old) (W.contents writer.new) text.now.items) }
-    ensures err { IfErr result (λ fault. fault ≡ StreamFault.Writer) }
+    ensures { MatchResult result (λ _. Appends (W.contents writer.old) (W.contents writer.new) text.now.items)
+        (λ fault. (fault ≡ StreamFault.Writer) × GainedFront (W.contents writer.old) (W.contents writer.new) text.now.items) }
 {
-    writer
-        .write_all(text.as_slice())
-        .map_err(|_| StreamFault::Writer)
+    match write_bytes(text.as_slice(), writer) {
+        Progress::Whole => Ok(()),
+        Progress::Broken => Err(StreamFault::Writer),
+    }
 }
 
 /// Writes what is printed for the bytes after the last line end.
 fn finish<W: Write>(lines: &Lines, text: &mut Vec<u8>, writer: &mut W) -> Result<(), StreamFault>
     requires { text.old.items ≡ [] }
-    ensures ok { OnOk result (EndsText lines.now (W.contents writer.old) (W.contents writer.new)) }
-    ensures err { IfErr result (λ fault. fault ≢ StreamFault.Reader) }
+    ensures ok { OnOk result ((ending : List ℕ) × EndsText lines.now ending × Appends (W.contents writer.old) (W.contents writer.new) ending) }
+    ensures writer { IsErrOf result StreamFault.Writer →
+        (ending : List ℕ) × EndsText lines.now ending × GainedFront (W.contents writer.old) (W.contents writer.new) ending }
     ensures memory { IsErrOf result StreamFault.Memory → W.contents writer.new ≡ W.contents writer.old }
+    ensures others { IfErr result (λ fault. (fault ≡ StreamFault.Writer) ⊎ (fault ≡ StreamFault.Memory)) }
 {
     append_unfinished(lines.held(), text)?;
     write_text(text, writer)

@@ -4,7 +4,8 @@ use Rattle.fibs_messages.specs.Line.{board_line}
 use Rattle.fibs_messages.specs.StoredBoard.{fields_of}
 use Rattle.fibs_position.specs.PositionValue.{position_of}
 use Rattle.fibs_cli.proofs.PlaysLemmas.{good_not_refused}
-use Rattle.fibs_cli.specs.Plays.{position_fault_name, Refusal}
+use Rattle.fibs_position.specs.Names.{position_fault_name}
+use Rattle.fibs_cli.specs.Plays.{Refusal}
 use Rattle.fibs_cli.proofs.plays.position_of.Goals as goal
 
 pub returns-in-Ok-clause-good : goal.returns-in-Ok-clause-good

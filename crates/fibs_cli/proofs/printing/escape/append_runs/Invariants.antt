@@ -1,6 +1,6 @@
 use Rattle.std.proofs.Common.{◌≡◌, ◌++◌, length}
 use Rattle.fibs_cli.specs.Escape.{escaped}
-use Rattle.fibs_cli.proofs.escape.append_runs.Given as goal
+use Rattle.fibs_cli.proofs.printing.escape.append_runs.Given as goal
 
 -- what is appended so far, and the text of the rest, is that of all
 abbrev pub invariant-loop-at : goal.invariant-loop-at

@@ -14,6 +14,10 @@ pub enum After {
     End,
     /// Each read fails.
     Fault,
+    /// Each read would wait.
+    WouldBlock,
+    /// Each read waited in vain.
+    TimedOut,
 }
 
 /// A stream in memory: bytes to read, what follows them, and what was written. It takes no memory, so that each
@@ -23,13 +27,13 @@ pub struct Pipe<'a> {
     input: &'a [u8],
     most: usize,
     after: After,
-    output: ArrayVec<u8, 512>,
+    output: ArrayVec<u8, 4096>,
     room: usize,
 }
 
 impl<'a> Pipe<'a> {
     /// A pipe that gives `input` in reads of at most `most` bytes, and takes `room` bytes, and no
-    /// more than 512, before a write fails.
+    /// more than 4096, before a write fails.
     pub fn new(input: &'a [u8], most: usize, after: After, room: usize) -> Pipe<'a>
         ensures input { result.input.now ≡ input.entry.now }
         ensures output { result.output.items ≡ [] }
@@ -66,6 +70,8 @@ impl Read for Pipe<'_> {
             return match self.after {
                 After::End => Ok(0),
                 After::Fault => Err(io::Error::from(ErrorKind::ConnectionReset)),
+                After::WouldBlock => Err(io::Error::from(ErrorKind::WouldBlock)),
+                After::TimedOut => Err(io::Error::from(ErrorKind::TimedOut)),
             };
         }
         let most = self.most.max(1).min(self.input.len()).min(buf.len());

@@ -15,7 +15,7 @@ fn is_escaped(byte: u8) -> bool
 }
 
 /// Where the first byte stands that is not shown as it is.
-fn first_escaped(bytes: &[u8]) -> Option<usize>
+pub fn first_escaped(bytes: &[u8]) -> Option<usize>
     ensures { result ≡ position is_escaped bytes.now }
 {
     bytes.iter().position(|byte| is_escaped(*byte))
@@ -32,13 +32,20 @@ fn has_escaped(bytes: &[u8]) -> bool
     found
 }
 
-/// Appends the escape of a byte: `\x` and two hexadecimal digits.
-fn append_hex(byte: u8, text: &mut Vec<u8>) -> Result<(), AllocError>
-    ensures { OnOk result (text.new.items ≡ text.old.items ++ hex_escape byte) }
+/// The escape of a byte: `\x` and two hexadecimal digits.
+pub fn hex_escape(byte: u8) -> [u8; 4]
+    ensures { result ≡ hex_escape byte }
 {
     let high = HEX_DIGITS[usize::from(byte / 16)];
     let low = HEX_DIGITS[usize::from(byte % 16)];
-    text.extend_from_slice(&[b'\\', b'x', high, low])
+    [b'\\', b'x', high, low]
+}
+
+/// Appends the escape of a byte.
+fn append_hex(byte: u8, text: &mut Vec<u8>) -> Result<(), AllocError>
+    ensures { OnOk result (text.new.items ≡ text.old.items ++ hex_escape byte) }
+{
+    text.extend_from_slice(&hex_escape(byte))
 }
 
 /// Appends the bytes, each run of printable ones at once and every other byte by its escape.

@@ -1,6 +1,7 @@
 //! The engine `plays`.
+use super::devices::FailsOnce;
+use super::pipe::{After, Pipe};
 use crate::fault::EngineFault;
-use crate::pipe::{After, Pipe};
 use crate::plays::plays;
 use std::process::Abort;
 use std::test::Fail;
@@ -245,5 +246,21 @@ fn stops_at_a_failed_write(rt: HostRuntime) {
     let bad = &REFUSED[6];
     for room in 0..bad.printed.len() {
         assert_stops(&rt, bad, 0, room);
+    }
+}
+
+/// After a failed write neither writer is given more, though it would take it.
+#[test]
+fn writes_nothing_after_a_failed_write(rt: HostRuntime) {
+    for (case, listed) in [(&PRINTED[6], true), (&REFUSED[6], false)] {
+        for failing in 0..case.printed.len() {
+            let mut out = FailsOnce::new(if listed { failing } else { 0 }, 1);
+            let mut err = FailsOnce::new(if listed { 0 } else { failing }, 1);
+            let ending = plays(rt.alloc(), case.word, &mut out, &mut err);
+            assert_eq!(rt; ending, Err(EngineFault::Device), "{}", case.name);
+            let (written, other) = if listed { (&out, &err) } else { (&err, &out) };
+            assert_eq!(rt; Some(written.output()), case.printed.get(..failing), "{}", case.name);
+            assert_eq!(rt; other.output(), b"".as_slice(), "{}", case.name);
+        }
     }
 }

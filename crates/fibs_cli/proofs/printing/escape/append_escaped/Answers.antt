@@ -1,7 +1,7 @@
 use Rattle.std.proofs.Common.{◌++◌, sym, ap, ◌∙◌}
-use Rattle.fibs_cli.proofs.Escaping.{escaped_plain}
-use Rattle.fibs_cli.proofs.Shown.{on_ok_grown}
-use Rattle.fibs_cli.proofs.escape.append_escaped.Goals as goal
+use Rattle.fibs_cli.proofs.EscapeLemmas.{escaped_plain}
+use Rattle.fibs_cli.proofs.ShowLemmas.{on_ok_grown}
+use Rattle.fibs_cli.proofs.printing.escape.append_escaped.Goals as goal
 
 pub returns-else-has_escaped : goal.returns-else-has_escaped
 returns-else-has_escaped c =

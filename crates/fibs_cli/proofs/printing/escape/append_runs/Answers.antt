@@ -1,7 +1,7 @@
 use Rattle.std.proofs.Common.{◌++◌, sym, ap, ◌∙◌}
-use Rattle.fibs_cli.proofs.Escaping.{escaped_more, escaped_none}
-use Rattle.fibs_cli.proofs.Shown.{on_ok_grown}
-use Rattle.fibs_cli.proofs.escape.append_runs.Goals as goal
+use Rattle.fibs_cli.proofs.EscapeLemmas.{escaped_more, escaped_none}
+use Rattle.fibs_cli.proofs.ShowLemmas.{on_ok_grown}
+use Rattle.fibs_cli.proofs.printing.escape.append_runs.Goals as goal
 
 pub loop-at-preserved : goal.loop-at-preserved
 loop-at-preserved c =

@@ -3,31 +3,19 @@ ghost use Rattle.std.specs.Prelude.{◌≡◌, ◌++◌, ◌∷◌, [], ℕ, Lis
 ghost use Rattle.std.specs.Fmt.{decimal};
 ghost use Rattle.fibs_lines.specs.LineValue.{value_of};
 ghost use Rattle.fibs_messages.specs.Board.{spelling};
+ghost use Rattle.fibs_messages.specs.Faults.{fault_name};
 ghost use Rattle.fibs_messages.specs.Line.{IsReading, ReadingValue};
 ghost use Rattle.fibs_messages.specs.Message.{canonical};
 ghost use Rattle.fibs_messages.specs.MessageOf.{message_of};
 ghost use Rattle.fibs_messages.specs.StoredBoard.{fields_of};
 ghost use Rattle.fibs_cli.specs.Escape.{escaped};
-ghost use Rattle.fibs_cli.specs.Show.{fault_name, reading_text, ShownLine};
+ghost use Rattle.fibs_cli.specs.Show.{reading_text, ShownLine};
 
-use crate::escape::{append_escaped, escape_from};
+use super::escape::{append_escaped, escape_from};
 use fibs_lines::Line;
 use fibs_messages::{Board, Fault, Message, Reading, print_message, read};
 use itoa::{Buffer, Integer};
 use std::alloc::{AllocError, Global};
-
-/// The name of a fault.
-pub fn fault_name(fault: Fault) -> &'static [u8]
-    ensures { result.now ≡ fault_name fault }
-{
-    match fault {
-        Fault::Missing => b"Missing",
-        Fault::Extra => b"Extra",
-        Fault::NotANumber => b"NotANumber",
-        Fault::OutOfRange => b"OutOfRange",
-        Fault::BadName => b"BadName",
-    }
-}
 
 /// Appends a number.
 pub fn append_number<I: Integer>(number: I, text: &mut Vec<u8>) -> Result<(), AllocError>
@@ -51,7 +39,7 @@ fn append_malformed(
     text.push(b' ')?;
     append_number(field, text)?;
     text.push(b' ')?;
-    text.extend_from_slice(fault_name(fault))
+    text.extend_from_slice(fault.name().as_bytes())
 }
 
 /// Appends what is printed for a message. It is not inlined, since room for its largest values is cleared at each call.

@@ -1,0 +1,48 @@
+-- What the engines answer, in the words of the program.
+use Rattle.std.proofs.Common.{◌≡◌, ◌⊎◌, ◌++◌, ◌∷◌, [], ℕ, List, Option, Result, Ok, Err, IfOk, OnOk, IsErrOf, MatchResult, refl, sym, subst}
+use Rattle.std.specs.Borrow.{Bor}
+use Rattle.std.specs.Io.KnownBytes.{Appends, Keeps, IsAtEnd}
+use Rattle.fibs_messages.specs.Board.{BoardFields}
+use Rattle.fibs_cli.specs.Plays.{PlaysText}
+use Rattle.fibs_cli.specs.Program.{Showed, Listed, Played, Printed, Served}
+use Rattle.fibs_cli.specs.Show.{WroteAll, WroteRead, WroteLines, WroteFront}
+use Rattle.fibs_cli.specs.Writing.{GainedFront}
+use Rattle.fibs_cli.specs.declared.arguments.Request.{Request}
+use Rattle.fibs_cli.specs.declared.arguments.Request.TheVariants.{Show, Plays}
+use Rattle.fibs_cli.specs.declared.fault.EngineFault.{EngineFault}
+use Rattle.fibs_cli.specs.declared.fault.EngineFault.TheVariants.{Device, Memory}
+
+-- the clauses of `show` in one
+pub showed : (r : Result ℕ EngineFault) (left still held now : Option (List ℕ)) → IfOk r (λ status. status ≡ 0) → OnOk r (WroteAll left still held now)
+    → OnOk r (IsAtEnd still) → (IsErrOf r Device → WroteRead left still held now ⊎ WroteFront left still held now)
+    → (IsErrOf r Memory → WroteLines left still held now) → Showed r left still held now
+showed (Ok status) left still held now is whole end device memory = (is, whole, end)
+showed (Err Device) left still held now is whole end device memory = device refl
+showed (Err Memory) left still held now is whole end device memory = memory refl
+
+-- the clauses of `plays` for a good board in one
+pub listed : (r : Result ℕ EngineFault) (b : BoardFields) (held now : Option (List ℕ))
+    → IfOk r (λ status. (status ≡ 0) × ((text : List ℕ) × PlaysText b text × Appends held now text))
+    → (IsErrOf r Device → (text : List ℕ) × PlaysText b text × GainedFront held now text) → (IsErrOf r Memory → Keeps held now) → Listed b r held now
+listed (Ok status) b held now whole device memory = whole
+listed (Err Device) b held now whole device memory = device refl
+listed (Err Memory) b held now whole device memory = memory refl
+
+-- a text that was printed, or a front of it
+pub printed : (r : Result ℕ EngineFault) (status : ℕ) (text : List ℕ) (held now : Option (List ℕ))
+    → MatchResult r (λ answered. (answered ≡ status) × Appends held now text) (λ fault. (fault ≡ Device) × GainedFront held now text)
+    → Printed status text r held now
+printed (Ok answered) status text held now told = told
+printed (Err fault) status text held now told = told
+
+-- a request to show is served so
+pub served_show : (request : Request) (r : Result ℕ EngineFault) (left still held now other then : Option (List ℕ)) → request ≡ Show
+    → Showed r left still held now → Keeps other then → Served request r left still held now other then
+served_show request r left still held now other then is shown kept =
+    subst (λ q. Served q r left still held now other then) (sym is) (shown, kept)
+
+-- a request for the plays of a line is served so
+pub served_plays : (request : Request) (line : Bor (List ℕ)) (r : Result ℕ EngineFault) (left still held now other then : Option (List ℕ)) → request ≡ Plays line
+    → Played line.now r held now other then → Keeps left still → Served request r left still held now other then
+served_plays request line r left still held now other then is played kept =
+    subst (λ q. Served q r left still held now other then) (sym is) (played, kept)

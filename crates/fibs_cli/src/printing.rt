@@ -1,0 +1,4 @@
+//! What is printed for a line of the server.
+
+pub mod escape;
+pub mod line;

@@ -1,0 +1,78 @@
+//! What the program does with a command line: which engine runs on which devices, what is printed, and the exit status.
+ghost use Rattle.std.specs.Prelude.{◌≡◌, OnOk};
+ghost use Rattle.std.specs.Io.KnownBytes.{Keeps};
+ghost use Rattle.fibs_cli.specs.Program.{Answered, Printed, Served, status_of};
+
+use crate::arguments::{Answer, Request};
+use crate::fault::EngineFault;
+use crate::plays::plays;
+use crate::show::show;
+use crate::writing::{Progress, write_bytes};
+use std::alloc::Global;
+use std::io::{Read, Write};
+
+/// The exit status of a command line that is served, and of help.
+const DONE: u8 = 0;
+
+/// The exit status of a command line that is refused.
+const WRONG_LINE: u8 = 2;
+
+/// Does what a command line calls for: it runs an engine, prints help on `out`, or says on `err` what is wrong.
+pub fn answer<R: Read, W: Write, E: Write>(
+    alloc: Global,
+    answer: &Answer<'_>,
+    input: &mut R,
+    out: &mut W,
+    err: &mut E,
+) -> Result<u8, EngineFault>
+    ensures { Answered answer.now result (R.remaining input.old) (R.remaining input.new)
+        (W.contents out.old) (W.contents out.new) (E.contents err.old) (E.contents err.new) }
+{
+    match answer {
+        Answer::Engine(request) => serve(alloc, *request, input, out, err),
+        Answer::Help(text) => print_text(text.as_bytes(), DONE, out),
+        Answer::Refused(text) => print_text(text.as_bytes(), WRONG_LINE, err),
+        Answer::Memory => Err(EngineFault::Memory),
+    }
+}
+
+/// Runs the engine that a request asks for.
+fn serve<R: Read, W: Write, E: Write>(
+    alloc: Global,
+    request: Request<'_>,
+    input: &mut R,
+    out: &mut W,
+    err: &mut E,
+) -> Result<u8, EngineFault>
+    ensures { Served request.entry result (R.remaining input.old) (R.remaining input.new)
+        (W.contents out.old) (W.contents out.new) (E.contents err.old) (E.contents err.new) }
+{
+    match request {
+        Request::Show => show(alloc, input, out),
+        Request::Plays(line) => plays(alloc, line.as_bytes(), out, err),
+    }
+}
+
+/// Prints a text, and answers the status.
+fn print_text<W: Write>(text: &[u8], status: u8, device: &mut W) -> Result<u8, EngineFault>
+    ensures { Printed status text.now result (W.contents device.old) (W.contents device.new) }
+{
+    match write_bytes(text, device) {
+        Progress::Whole => Ok(status),
+        Progress::Broken => Err(EngineFault::Device),
+    }
+}
+
+/// The exit status of the program, which says on `err` why an engine stopped before its end.
+pub fn status<E: Write>(ending: Result<u8, EngineFault>, err: &mut E) -> u8
+    ensures status { result ≡ status_of ending }
+    ensures silent { OnOk ending (Keeps (E.contents err.old) (E.contents err.new)) }
+{
+    match ending {
+        Ok(status) => status,
+        Err(fault) => {
+            let _ = writeln!(err, "fibs: {fault}");
+            fault.status()
+        }
+    }
+}
