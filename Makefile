@@ -7,7 +7,7 @@
 PREFIX ?= /usr/local
 MEGABYTES ?= 50
 ROUNDS ?= 5
-PEER ?=
+PEER ?= $(if $(shell command -v rustc),bin/plain_show)
 BUILT := crates/fibs_cli/out/fibs_cli
 
 .PHONY: all test install bench clean
@@ -24,7 +24,11 @@ install: all
 	install -d $(DESTDIR)$(PREFIX)/bin
 	install -m 755 bin/fibs $(DESTDIR)$(PREFIX)/bin/fibs
 
-bench: all
+bin/plain_show: bench/plain_show.rs
+	mkdir -p bin
+	rustc -O -o $@ $<
+
+bench: all $(PEER)
 	cd crates/fibs_bench && rt run > /dev/null < /dev/null
 	PEER=$(PEER) bench/show bin/fibs $(MEGABYTES) $(ROUNDS)
 	bench/loops crates/fibs_bench/out/fibs_bench $(MEGABYTES) $(ROUNDS)

@@ -1,4 +1,4 @@
-# Writes lines as a backgammon server sends them: awk -v kind=boards|mixed -v megabytes=50 -f traffic.awk
+# Writes lines as a backgammon server sends them: awk -v kind=boards|mixed|chat -v megabytes=50 -f traffic.awk
 # The same lines on each machine: the random numbers are a generator of its own (x -> 16807 x mod 2^31 - 1).
 
 function below(n) {
@@ -61,6 +61,7 @@ function text(    i, line) {
 
 function any_line(    choice) {
     if (kind == "boards") return board()
+    if (kind == "chat") return below(2) ? talk() : text()
     choice = below(10)
     if (choice < 3) return board()
     if (choice < 7) return who()

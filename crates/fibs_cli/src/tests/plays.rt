@@ -259,7 +259,12 @@ fn writes_nothing_after_a_failed_write(rt: HostRuntime) {
             let ending = plays(rt.alloc(), case.word, &mut out, &mut err);
             assert_eq!(rt; ending, Err(EngineFault::Device), "{}", case.name);
             let (written, other) = if listed { (&out, &err) } else { (&err, &out) };
-            assert_eq!(rt; Some(written.output()), case.printed.get(..failing), "{}", case.name);
+            assert_eq!(rt;
+                Some(written.output()),
+                case.printed.get(..failing),
+                "{}",
+                case.name
+            );
             assert_eq!(rt; other.output(), b"".as_slice(), "{}", case.name);
         }
     }

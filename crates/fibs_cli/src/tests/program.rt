@@ -17,7 +17,8 @@ struct Case {
 }
 
 /// A board on which the larger die alone can be played.
-const BOARD: &str = "board:You:bob:5:0:0:0:0:0:0:0:0:0:0:0:0:0:0:0:-2:0:0:0:0:0:0:0:0:0:0:1:0:1:6:5:0:0:1:1:1:0:1:-1:0:25:14:13:0:0:1:0:0:0";
+const BOARD: &str =
+    "board:You:bob:5:0:0:0:0:0:0:0:0:0:0:0:0:0:0:0:-2:0:0:0:0:0:0:0:0:0:0:1:0:1:6:5:0:0:1:1:1:0:1:-1:0:25:14:13:0:0:1:0:0:0";
 
 /// Command lines that run an engine.
 static SERVED: [Case; 4] = [

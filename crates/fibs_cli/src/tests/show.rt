@@ -1,6 +1,6 @@
 //! The engines over streams in memory.
-use super::pipe::{After, Pipe};
 use super::devices::{Endless, FailsOnce};
+use super::pipe::{After, Pipe};
 use crate::fault::EngineFault;
 use crate::show::{StreamFault, show, show_portions, show_stream};
 use std::alloc::{AllocError, Global};
@@ -108,7 +108,8 @@ fn shows_boards(rt: HostRuntime) -> Result<(), Fail> {
 /// A telnet command inside a field is no part of it, wherever the stream is cut.
 #[test]
 fn drops_a_telnet_command_inside_a_field(rt: HostRuntime) -> Result<(), Fail> {
-    let line = b"board:You:someplayer:3:0:1:0:-2:0:0:0:0:5:0:3:0:0:0:-5:5:0:0:0:-3:0:-5:0:0:0:0:2:0:1:6:2:0:0:1:1:1:0:1:-1:0:2\xff\xfb\x015:0:0:0:0:2:0:0:0\r\n";
+    let line =
+        b"board:You:someplayer:3:0:1:0:-2:0:0:0:0:5:0:3:0:0:0:-5:5:0:0:0:-3:0:-5:0:0:0:0:2:0:1:6:2:0:0:1:1:1:0:1:-1:0:2\xff\xfb\x015:0:0:0:0:2:0:0:0\r\n";
     assert_shown(&rt, line, &board_line(rt.alloc(), FRONT, LAST, b"\n")?);
     Ok(())
 }
@@ -229,7 +230,12 @@ fn shows_under_refused_memory(rt: HostRuntime) {
 /// A reader without end gives its bytes as often as it is asked, and no more often.
 #[test]
 fn asks_a_reader_without_end_so_often(rt: HostRuntime) {
-    let wanted: [&[u8]; 4] = [b"", b"text y\n", b"text y\ntext y\n", b"text y\ntext y\ntext y\n"];
+    let wanted: [&[u8]; 4] = [
+        b"",
+        b"text y\n",
+        b"text y\ntext y\n",
+        b"text y\ntext y\ntext y\n",
+    ];
     for (reads, lines) in (0u32..4).zip(wanted) {
         let mut reader = Endless::new();
         let mut writer = Pipe::new(b"", 1, After::End, 512);
@@ -250,7 +256,11 @@ fn writes_nothing_after_a_failed_write(rt: HostRuntime) {
             let mut writer = FailsOnce::new(failing, most);
             let ending = show_stream(rt.alloc(), &mut reader, &mut writer);
             assert_eq!(rt; ending, Err(StreamFault::Writer), "{failing} of {most}");
-            assert_eq!(rt; Some(writer.output()), wanted.get(..writer.output().len()), "{failing} of {most}");
+            assert_eq!(rt;
+                Some(writer.output()),
+                wanted.get(..writer.output().len()),
+                "{failing} of {most}"
+            );
         }
     }
 }
