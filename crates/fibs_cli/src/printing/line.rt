@@ -62,7 +62,7 @@ fn append_message(
 fn append_board(board: &Board, text: &mut Vec<u8>) -> Result<(), AllocError>
     ensures { OnOk result (text.new.items ≡ text.old.items ++ spelling (fields_of board.now)) }
 {
-    text.extend_from_slice(board.print().as_slice())
+    board.print_into(text)
 }
 
 /// Appends what is printed for a text.
