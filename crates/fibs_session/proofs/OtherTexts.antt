@@ -16,6 +16,7 @@ letters text = 2 * get_or text 0 0 + get_or text 1 0
 abbrev is_letters : ℕ → Bool
 is_letters n = n == 339 || n == 311 || n == 293 || n == 329
 
+-- the commands of decisions begin with such letters
 command_letters : (direction : Direction) (d : DecisionValue) → is_letters (letters (command_of direction d)) ≡ true
 unfolding command_of
 command_letters direction roll = refl
@@ -34,21 +35,26 @@ other exact text sent differs = record { printed = sent.printed; no_decision = �
         let h = (exact direction text d).0 e in
         absurd (true≢false (sym (command_letters direction d) ∙ ap (λ t. is_letters (letters t)) (sym h.text_is) ∙ differs))
 
+-- a login does not
 login_letters : (name password : List ℕ) → is_letters (letters (login_text name password)) ≡ false
 unfolding login_text
 login_letters name password = refl
 
+-- no login is a decision
 pub login_is_other : ReadCommandIsExact → LoginsAreSent → LoginIsOther
 login_is_other exact sent name password h = other exact (login_text name password) (sent name password h) (login_letters name password)
 
+-- nor is the command after the welcome
 pub style_is_other : ReadCommandIsExact → FirstAreSent → StyleIsOther
 unfolding style_text
 style_is_other exact sent = other exact style_text sent.0 refl
 
+-- nor are those after the settings
 pub initial_are_other : ReadCommandIsExact → FirstAreSent → InitialAreOther
 unfolding autoboard_text moreboards_text board_text
 initial_are_other exact sent = (other exact autoboard_text sent.1 refl, other exact moreboards_text sent.2 refl, other exact board_text sent.3 refl)
 
+-- no plain command does
 plain_letters : (plain : PlainValue) → is_letters (letters (plain_of plain)) ≡ false
 unfolding plain_of
 plain_letters board_again = refl
@@ -68,5 +74,6 @@ plain_letters automove_off = refl
 plain_letters greedy_off = refl
 plain_letters bye = refl
 
+-- nor is a plain command
 pub plain_is_other : ReadCommandIsExact → PlainIsSent → PlainIsOther
 plain_is_other exact sent plain h = other exact (plain_of plain) (sent plain h) (plain_letters plain)

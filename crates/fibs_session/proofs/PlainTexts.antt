@@ -15,6 +15,7 @@ no_fault : (a b : Option PlainFault) → first_of a b ≡ None → (a ≡ None) 
 no_fault None b h = (refl, h)
 no_fault (Some f) b h = absurd cc
 
+-- a name without a fault
 name_right : (name : List ℕ) → name_fault name ≡ None → is_name name ≡ true
 name_right name h = go (is_name name) h
   where
@@ -22,6 +23,7 @@ name_right name h = go (is_name name) h
     go true h = refl
     go false h = absurd cc
 
+-- a text without a fault
 text_right : (text : List ℕ) → text_fault text ≡ None → IsText text
 text_right text h = go (nat_le (length text) 400) refl h
   where
@@ -33,6 +35,7 @@ text_right text h = go (nat_le (length text) 400) refl h
     go true e h = (grind (arith, nat_tests), printed (is_printed text) h)
     go false e h = absurd cc
 
+-- points without a fault
 points_right : (points : ℕ) → points_fault points ≡ None → points ≤ 65535
 points_right points h = go (nat_le points 65535) refl h
   where

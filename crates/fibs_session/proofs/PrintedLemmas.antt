@@ -14,6 +14,7 @@ use Rattle.fibs_session.specs.Logins.{is_password_byte}
 use Rattle.fibs_session.specs.PlainCommands.{is_text_byte}
 use Rattle.fibs_messages.specs.Printed.{IsPrinted}
 
+-- a byte of a text is printed
 byte_from_text : (b : ℕ) → is_text_byte b ≡ true → IsPrinted b
 byte_from_text b h =
     let q = and_parts (nat_le 32 b) (nat_le b 126) h in
@@ -28,10 +29,12 @@ bytes_from P p f (b ∷ text) h =
     let q = and_parts (p b) (list_all p text) h in
     All-cons P b text (f b q.0) (bytes_from P p f text q.1)
 
+-- two tests that pass
 and_both : (a b : Bool) → a ≡ true → b ≡ true → (a && b) ≡ true
 and_both true b h k = k
 and_both false b h k = h
 
+-- so are all bytes of one
 pub bytes_printed : (text : List ℕ) → list_all is_text_byte text ≡ true → All IsPrinted text
 bytes_printed text h = bytes_from IsPrinted is_text_byte byte_from_text text h
 
@@ -53,6 +56,7 @@ all_pass p q f (b ∷ text) h =
     let parts = and_parts (p b) (list_all p text) h in
     and_both (q b) (list_all q text) (f b parts.0) (all_pass p q f text parts.1)
 
+-- a byte of a name is one of a text
 name_byte : (b : ℕ) → is_name_byte b ≡ true → is_text_byte b ≡ true
 name_byte b h =
     let p = and_parts (nat_le 33 b && nat_le b 126) (not (b == 58)) h in
@@ -61,6 +65,7 @@ name_byte b h =
     let high = q.1 in
     grind (arith, nat_tests)
 
+-- so is a byte of a password
 password_byte : (b : ℕ) → is_password_byte b ≡ true → is_text_byte b ≡ true
 password_byte b h =
     let q = and_parts (nat_le 33 b) (nat_le b 126) h in

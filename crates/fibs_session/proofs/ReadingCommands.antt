@@ -34,6 +34,7 @@ line_place_back : (direction : Direction) (n : ℕ) → n ≤ 25 → line_place 
 line_place_back Down n le = refl
 line_place_back Up n le = omega arith
 
+-- a place inside has a number inside
 line_place_inside : (direction : Direction) (n : ℕ) → 0 < n → n ≤ 24 → (0 < line_place direction n) × (line_place direction n ≤ 24)
 line_place_inside Down n low high = (low, high)
 line_place_inside Up n low high = (omega arith, omega arith)
@@ -41,6 +42,7 @@ line_place_inside Up n low high = (omega arith, omega arith)
 abbrev Named : Direction → List ℕ → ℕ → Type 0
 Named direction name p = (p ≤ 25) × (name ≡ place_text direction p)
 
+-- a number is the name of a place
 named_number : (direction : Direction) (name : List ℕ) (n p : ℕ) → name ≡ decimal n → 0 < n → n ≤ 24 → line_place direction n ≡ p → Named direction name p
 named_number direction name n p is low high e =
     let inside = line_place_inside direction n low high in
@@ -83,6 +85,7 @@ differs a b n = go (bytes_eq a b) refl
     go true e = absurd (n ((bytes_eq-Decides a b).0 e))
     go false e = e
 
+-- the number of a place is read as that place
 numbered_named : DecimalsAreExact → (direction : Direction) (k : ℕ) → 0 < k → k ≤ 24 → place_in direction (decimal k) ≡ Some (line_place direction k)
 unfolding place_in
 numbered_named decimals direction k low high =
@@ -170,6 +173,7 @@ step_named decimals direction step is =
 abbrev AreSteps : Direction → List (List ℕ) → List Hop → Type 0
 AreSteps direction words steps = All IsStep steps × (words ≡ map (step_text direction) steps)
 
+-- what is read as steps is their texts
 steps_read : DecimalsAreExact → (direction : Direction) (words : List (List ℕ)) (steps : List Hop) → steps_in direction words ≡ Some steps → AreSteps direction words steps
 steps_read decimals direction [] steps h =
     let none : [] ≡ steps = cc in
@@ -190,6 +194,7 @@ steps_read decimals direction (word ∷ words) steps h =
         let words_are : words ≡ map (step_text direction) later = rest.1 in
         subst (AreSteps direction (word ∷ words)) all (All-cons IsStep step later first.0 rest.0, cc)
 
+-- steps are read by their texts
 steps_named : DecimalsAreExact → (direction : Direction) (steps : List Hop) → All IsStep steps → steps_in direction (map (step_text direction) steps) ≡ Some steps
 steps_named decimals direction [] is = refl
 steps_named decimals direction (step ∷ steps) is =
@@ -201,6 +206,7 @@ steps_named decimals direction (step ∷ steps) is =
 abbrev spaced : List (List ℕ) → List ℕ
 spaced = flat_map (λ word. 32 ∷ word)
 
+-- words after spaces are words joined by spaces
 joined : (word : List ℕ) (words : List (List ℕ)) → 32 ∷ join_with_byte 32 (word ∷ words) ≡ spaced (word ∷ words)
 joined word [] = ap (λ x. 32 ∷ x) (sym (append-nil word))
 joined word (next ∷ words) = ap (λ x. 32 ∷ (word ++ x)) (joined next words)
@@ -213,6 +219,7 @@ from_words (Some s) =
     ap (λ x. 32 ∷ x) (sym (join_with_byte-slice_split 32 s)) ∙ ap (λ x. 32 ∷ join_with_byte 32 x) words
     ∙ joined (before 32 s) (words_after (after 32 s)) ∙ ap spaced (sym words)
 
+-- where no word follows, nothing does
 no_words : (o : Option (List ℕ)) → words_after o ≡ [] → o ≡ None
 no_words None e = refl
 no_words (Some s) e = let none : before 32 s ∷ words_after (after 32 s) ≡ [] = sym (words_of s) ∙ e in absurd cc
@@ -228,6 +235,7 @@ record Behind (direction : Direction) (steps : List Hop) : Type 0 where
   text : from 32 rest ≡ steps_text direction steps
   words : words_after rest ≡ map (step_text direction) steps
 
+-- the words of steps
 behind : (direction : Direction) (steps : List Hop) → All IsStep steps → Behind direction steps
 behind direction [] is = record { rest = None; text = refl; words = refl }
 behind direction (step ∷ steps) is =
@@ -243,6 +251,7 @@ behind direction (step ∷ steps) is =
 
 -- decisions
 
+-- what is read as a word is that word
 turn_reads : (direction : Direction) (word : List ℕ) (d : DecisionValue) → turn_in word ≡ Some d → IsDecision d × (word ≡ command_of direction d)
 unfolding turn_in command_of
 turn_reads direction word d h = one (bytes_eq word (codes "roll")) refl h
@@ -278,6 +287,7 @@ unfolding command_of
 play_text direction text word o steps t w e =
     t ∙ ap (λ x. x ++ from 32 o) w ∙ ap (λ x. codes "move" ++ x) (from_words o ∙ ap spaced e ∙ spaced_steps direction steps)
 
+-- what is read as a play is its words
 play_reads : DecimalsAreExact → (direction : Direction) (words : List (List ℕ)) (d : DecisionValue) → option_map (λ steps. move steps) (play_from direction [] words) ≡ Some d
     → (steps : List Hop) × (move steps ≡ d) × (length words ≤ 4) × AreSteps direction words steps
 unfolding play_from
@@ -290,6 +300,7 @@ play_reads decimals direction words d h = go (nat_le (0 + length words) 4) refl 
     go true t (Some steps) e f = (steps, cc, grind (arith, nat_tests), steps_read decimals direction words steps e)
     go false t r e f = absurd cc
 
+-- what is read as a decision is its command
 command_reads : DecimalsAreExact → (direction : Direction) (text : List ℕ) (d : DecisionValue) → read_command direction text ≡ Some d → ReadCommand text direction d
 unfolding read_command decision_in
 command_reads decimals direction text d h = go (bytes_eq (before 32 text) (codes "move")) refl h
@@ -326,6 +337,7 @@ command_reads decimals direction text d h = go (bytes_eq (before 32 text) (codes
         subst (ReadCommand text direction) same is
     go false t f = alone (length (words_after (after 32 text)) == 0) refl f
 
+-- a play is read by its command
 move_finds : DecimalsAreExact → (direction : Direction) (steps : List Hop) → All IsStep steps → length steps ≤ 4 → read_command direction (codes "move" ++ steps_text direction steps) ≡ Some (move steps)
 unfolding read_command decision_in play_from
 move_finds decimals direction steps is few =
@@ -344,6 +356,7 @@ move_finds decimals direction steps is few =
     within : (n : ℕ) → n ≤ 4 → nat_le (0 + n) 4 ≡ true
     within n le = grind (arith, nat_tests)
 
+-- each decision is read by its command
 command_finds : DecimalsAreExact → (direction : Direction) (d : DecisionValue) → IsDecision d → read_command direction (command_of direction d) ≡ Some d
 unfolding read_command decision_in turn_in command_of
 command_finds decimals direction roll is = refl
@@ -352,6 +365,7 @@ command_finds decimals direction accept is = refl
 command_finds decimals direction reject is = refl
 command_finds decimals direction (move steps) is = move_finds decimals direction steps is.0 is.1
 
+-- the function and the relation say the same
 pub read_command_is_exact : DecimalsAreExact → ReadCommandIsExact
 read_command_is_exact decimals direction text d =
     (command_reads decimals direction text d, λ h. ap (read_command direction) h.text_is ∙ command_finds decimals direction d h.valid)

@@ -24,10 +24,12 @@ same_word word other e = sym ((bytes_eq-Decides word other).0 e)
 
 -- the fields behind a word
 
+-- a text as it stands behind a word or a name
 text_stands : (o : Option (List ℕ)) → TextField (text_in o) (from 32 o)
 text_stands None = no_text
 text_stands (Some text) = rest_of_line
 
+-- a name and a text as they stand behind a word
 name_stands : (o : Option (List ℕ)) → NameAndText (name_in o) (text_in (after_name o)) (from 32 o)
 name_stands None = no_name
 name_stands (Some rest) =
@@ -42,6 +44,7 @@ at_word other word rest plain made t e h =
     let same : made ≡ plain = cc in
     subst (λ w. ReadsAs (w ++ rest) plain) (same_word word other t) (subst (ReadsAs (other ++ rest)) same h)
 
+-- a word and a text
 saying_reads : (word : List ℕ) (o : Option (List ℕ)) (plain : PlainValue) → saying_in word (text_in o) ≡ Some plain → ReadsAs (word ++ from 32 o) plain
 unfolding saying_in
 saying_reads word o plain h = one (bytes_eq word (codes "say")) refl h
@@ -68,6 +71,7 @@ saying_reads word o plain h = one (bytes_eq word (codes "say")) refl h
     one true t e = at_word (codes "say") word (from 32 o) plain (say (text_in o)) t e (reads_say (text_stands o))
     one false t e = two (bytes_eq word (codes "shout")) refl e
 
+-- a word, a name and a text
 letter_reads : (word : List ℕ) (o : Option (List ℕ)) (plain : PlainValue) → letter_in word (name_in o) (text_in (after_name o)) ≡ Some plain → ReadsAs (word ++ from 32 o) plain
 unfolding letter_in
 letter_reads word o plain h = one (bytes_eq word (codes "tell")) refl h
@@ -82,6 +86,7 @@ letter_reads word o plain h = one (bytes_eq word (codes "tell")) refl h
     one true t e = at_word (codes "tell") word (from 32 o) plain (tell (name_in o) (text_in (after_name o))) t e (reads_tell (name_stands o))
     one false t e = two (bytes_eq word (codes "message")) refl e
 
+-- a word alone
 alone_reads : (word : List ℕ) (o : Option (List ℕ)) (plain : PlainValue) → alone_in word o ≡ Some plain → ReadsAs (word ++ from 32 o) plain
 unfolding alone_in
 alone_reads word (Some rest) plain h = absurd cc
@@ -110,6 +115,7 @@ name_and_points decimals rest points plain a (Some n) e f =
     subst (λ x. ReadsAs (codes "invite " ++ x) plain) (ap (λ d. before 32 rest ++ 32 ∷ d) (sym is.0) ∙ ap (λ o. before 32 rest ++ from 32 o) (sym a) ∙ sym (before_and_from 32 rest))
     (subst (ReadsAs (codes "invite " ++ (before 32 rest ++ 32 ∷ decimal n))) made (reads_invite_to (before_without 32 rest) is.1))
 
+-- an invitation
 invitation_reads : DecimalsAreExact → (o : Option (List ℕ)) (plain : PlainValue) → invitation_in (name_in o) (after_name o) ≡ Some plain → ReadsAs (codes "invite" ++ from 32 o) plain
 unfolding invitation_in
 invitation_reads decimals None plain h =
@@ -124,6 +130,7 @@ invitation_reads decimals (Some rest) plain h = go (after 32 rest) refl h
         (subst (ReadsAs (codes "invite " ++ before 32 rest)) made (reads_invite_of (before_without 32 rest)))
     go (Some points) e f = name_and_points decimals rest points plain e (decimal_up_to 65535 points) refl f
 
+-- whom a user joins
 joining_reads : (o : Option (List ℕ)) (plain : PlainValue) → joining_in o ≡ Some plain → ReadsAs (codes "join" ++ from 32 o) plain
 unfolding joining_in
 joining_reads None plain h =
@@ -138,6 +145,7 @@ joining_reads (Some rest) plain h = go (after 32 rest) refl h
         (subst (ReadsAs (codes "join " ++ before 32 rest)) made (reads_join_with (before_without 32 rest)))
     go (Some more) e f = absurd cc
 
+-- what a user turns over
 toggle_reads : (o : Option (List ℕ)) (plain : PlainValue) → toggle_in o ≡ Some plain → ReadsAs (codes "toggle" ++ from 32 o) plain
 unfolding toggle_in
 toggle_reads None plain h = absurd cc
@@ -168,6 +176,7 @@ either_reads : (P : PlainValue → Type 0) (a b : Option PlainValue) (plain : Pl
 either_reads P None b plain h f g = g h
 either_reads P (Some made) b plain h f g = f h
 
+-- a word and what follows it
 fields_read : DecimalsAreExact → (word : List ℕ) (o : Option (List ℕ)) (plain : PlainValue) → plain_in word o ≡ Some plain → ReadsAs (word ++ from 32 o) plain
 unfolding plain_in
 fields_read decimals word o plain h = one (bytes_eq word (codes "invite")) refl h
@@ -195,6 +204,7 @@ fields_read decimals word o plain h = one (bytes_eq word (codes "invite")) refl 
     one true t e = subst (λ w. ReadsAs (w ++ from 32 o) plain) (same_word word (codes "invite") t) (invitation_reads decimals o plain e)
     one false t e = two (bytes_eq word (codes "join")) refl e
 
+-- a text
 plain_reads : DecimalsAreExact → (text : List ℕ) (plain : PlainValue) → read_plain text ≡ Some plain → ReadsAs text plain
 unfolding read_plain
 plain_reads decimals text plain h =
@@ -202,6 +212,7 @@ plain_reads decimals text plain h =
 
 -- what the relation says, the function reads
 
+-- a word and a text are found
 saying_found : (front : List ℕ) (made : List ℕ → PlainValue) → (read_plain front ≡ Some (made [])) → ((t : List ℕ) → read_plain (front ++ 32 ∷ t) ≡ Some (made t))
     → {text rest : List ℕ} → TextField text rest → read_plain (front ++ rest) ≡ Some (made text)
 saying_found front made none some no_text = ap read_plain (append-nil front) ∙ none
@@ -212,6 +223,7 @@ behind_name : {text rest : List ℕ} → TextField text rest → (o : Option (Li
 behind_name no_text = (None, refl, refl)
 behind_name (rest_of_line {text = t}) = (Some t, refl, refl)
 
+-- a word, a name and a text are found
 letter_found : (front : List ℕ) (made : List ℕ → List ℕ → PlainValue) → (read_plain front ≡ Some (made [] []))
     → ((r : List ℕ) → read_plain (front ++ 32 ∷ r) ≡ Some (made (before 32 r) (text_in (after 32 r))))
     → {name text rest : List ℕ} → NameAndText name text rest → read_plain (front ++ rest) ≡ Some (made name text)
@@ -230,6 +242,7 @@ last_name name apart =
     let whole = append-nil name in
     (ap (before 32) (sym whole) ∙ split.0, ap (after 32) (sym whole) ∙ split.1)
 
+-- a text is found
 plain_found : DecimalsAreExact → (text : List ℕ) (plain : PlainValue) → ReadsAs text plain → read_plain text ≡ Some plain
 unfolding read_plain plain_in alone_in saying_in letter_in invitation_in joining_in toggle_in
 plain_found decimals text plain reads_board = refl
@@ -258,11 +271,13 @@ plain_found decimals text plain reads_ready = refl
 plain_found decimals text plain reads_automove = refl
 plain_found decimals text plain reads_greedy = refl
 
+-- the function and the relation say the same
 pub read_plain_is_exact : DecimalsAreExact → ReadPlainIsExact
 read_plain_is_exact decimals text plain = (plain_reads decimals text plain, plain_found decimals text plain)
 
 -- a plain command that has a text is read from it
 
+-- a name has no space
 name_apart : (name : List ℕ) → is_name name ≡ true → NoSpace name
 name_apart name h =
     bytes_from (λ b. b ≢ 32) is_name_byte no_space name (and_parts (nat_lt 0 (length name) && nat_le (length name) 64) (list_all is_name_byte name) h).1
@@ -274,6 +289,7 @@ name_apart name h =
         let low = q.0 in
         λ e. let above : 33 ≤ b = grind (arith, nat_tests) in absurd (omega arith)
 
+-- the text of a plain command stands as the relation says
 plain_stands : (plain : PlainValue) → plain_fault_of plain ≡ None → ReadsAs (plain_of plain) plain
 unfolding plain_of plain_fault_of
 plain_stands board_again h = reads_board
@@ -293,5 +309,6 @@ plain_stands automove_off h = reads_automove
 plain_stands greedy_off h = reads_greedy
 plain_stands bye h = reads_bye
 
+-- so it is read back
 pub plain_reads_back : ReadPlainIsExact → PlainReadsBack
 plain_reads_back exact plain h = (exact (plain_of plain) plain).1 (plain_stands plain h)

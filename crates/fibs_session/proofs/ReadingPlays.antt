@@ -32,6 +32,7 @@ later_steps : (played : List Hop) (step : Hop) (steps : Option (List Hop))
 later_steps played step None = refl
 later_steps played step (Some steps) = ap Some (sym (append_assoc played (step ∷ []) steps))
 
+-- a step goes behind the steps before
 goes_on : (direction : Direction) (played : List Hop) (step : Hop) (word : List ℕ) (words : List (List ℕ))
     → step_in direction word ≡ Some step → play_from direction played (word ∷ words) ≡ play_from direction (played ++ step ∷ []) words
 unfolding play_from
@@ -48,6 +49,7 @@ ended direction played few =
 
 -- the four ends of the loop
 
+-- the loop ends at a word that is no step
 pub no_step : (direction : Direction) (played : List Hop) (all : Option (List Hop)) (o : Option (List ℕ)) (text word : List ℕ)
     → o ≡ Some text → word ≡ before 32 text → step_in direction word ≡ None
     → all ≡ play_from direction played (words_after o) → all ≡ None
@@ -55,6 +57,7 @@ no_step direction played all o text word is w e h =
     h ∙ ap (λ x. play_from direction played (words_after x)) is ∙ ap (play_from direction played) (words_of text)
     ∙ stops direction played (before 32 text) (words_after (after 32 text)) (ap (step_in direction) (sym w) ∙ e)
 
+-- it ends at a fifth step
 pub no_room : (direction : Direction) (played : List Hop) (all : Option (List Hop)) (o : Option (List ℕ)) (text : List ℕ)
     → o ≡ Some text → 4 ≤ length played
     → all ≡ play_from direction played (words_after o) → all ≡ None
@@ -62,6 +65,7 @@ no_room direction played all o text is many h =
     h ∙ ap (λ x. play_from direction played (words_after x)) is ∙ ap (play_from direction played) (words_of text)
     ∙ full direction played (before 32 text) (words_after (after 32 text)) many
 
+-- it goes on by one more step
 pub one_more : (direction : Direction) (played later : List Hop) (step : Hop) (all : Option (List Hop)) (o p : Option (List ℕ)) (text word : List ℕ)
     → o ≡ Some text → word ≡ before 32 text → p ≡ after 32 text → step_in direction word ≡ Some step → later ≡ played ++ step ∷ []
     → all ≡ play_from direction played (words_after o) → all ≡ play_from direction later (words_after p)
@@ -71,6 +75,7 @@ one_more direction played later step all o p text word is w a e l h =
     ∙ ap (λ x. play_from direction x (words_after (after 32 text))) (sym l)
     ∙ ap (λ x. play_from direction later (words_after x)) (sym a)
 
+-- it ends with the play where no word is left
 pub none_left : (direction : Direction) (played : List Hop) (all : Option (List Hop)) (o : Option (List ℕ))
     → o ≡ None → length played ≤ 4
     → all ≡ play_from direction played (words_after o) → all ≡ Some played

@@ -46,21 +46,25 @@ sent laws text printed short no_login no_command =
 
 -- names, texts and passwords
 
+-- a name is printed and short
 pub name_text : (name : List ℕ) → is_name name ≡ true → All IsPrinted name × (length name ≤ 64)
 name_text name h =
     let p = and_parts (nat_lt 0 (length name) && nat_le (length name) 64) (list_all _ name) h in
     let few = (and_parts (nat_lt 0 (length name)) (nat_le (length name) 64) p.0).1 in
     (bytes_printed name (name_is_printed name h), grind (arith, nat_tests))
 
+-- a text is printed
 pub said_text : (text : List ℕ) → IsText text → All IsPrinted text
 said_text text h = bytes_printed text (and_parts (nat_lt 0 (length text)) (list_all is_text_byte text) h.1).1
 
+-- a password is printed and short
 pub secret_text : (text : List ℕ) → is_password text ≡ true → All IsPrinted text × (length text ≤ 64)
 secret_text text h =
     let p = and_parts (nat_le (length text) 64) (nat_lt 0 (length text) && list_all is_password_byte text) h in
     let few = p.0 in
     (bytes_printed text (secret_is_printed text (nat_lt 0 (length text) && list_all is_password_byte text) refl p.1), grind (arith, nat_tests))
 
+-- points are printed and short
 pub points_text : (n : ℕ) → n ≤ 65535 → All IsPrinted (decimal n) × (length (decimal n) ≤ 5)
 points_text n le =
     let numeral = decimal_is_IsNumeral n (omega arith) in (
@@ -68,15 +72,19 @@ points_text n le =
       length-decimal-le 5 n (omega arith) (omega arith) (omega arith),
     )
 
+-- a word, a name and a text are printed where each is
 two : (front n t : List ℕ) → All IsPrinted front → All IsPrinted n → All IsPrinted t → All IsPrinted (front ++ (n ++ 32 ∷ t))
 two front n t a b c = All-append IsPrinted front (n ++ 32 ∷ t) a (All-append IsPrinted n (32 ∷ t) b (All-cons IsPrinted 32 t (omega arith, omega arith) c))
 
+-- their length
 two_short : (front n t : List ℕ) → length (front ++ (n ++ 32 ∷ t)) ≡ length front + (length n + (1 + length t))
 two_short front n t = omega (arith, length-append front (n ++ 32 ∷ t), length-append n (32 ∷ t))
 
+-- a word and a text are printed where each is
 one : (front t : List ℕ) → All IsPrinted front → All IsPrinted t → All IsPrinted (front ++ t)
 one front t a b = All-append IsPrinted front t a b
 
+-- the commands of decisions
 pub decisions_are_sent : Lines → CommandsArePrinted → CommandsAreShort → DecisionsAreSent
 unfolding command_of
 decisions_are_sent laws printed short direction roll is = sent laws (codes "roll") (printed direction roll is).0 (omega arith) refl refl
@@ -87,6 +95,7 @@ decisions_are_sent laws printed short direction (move steps) is =
     let few = short direction (move steps) is in
     sent laws (codes "move" ++ steps_text direction steps) (printed direction (move steps) is).0 (omega (arith, few)) refl refl
 
+-- logins
 pub logins_are_sent : Lines → LoginsAreSent
 unfolding login_text
 logins_are_sent laws name password h =
@@ -96,6 +105,7 @@ logins_are_sent laws name password h =
     (two (codes "login fibs_client 1008 ") name password (All-from_recursion IsPrinted (codes "login fibs_client 1008 ") (search rules)) user.0 secret.0)
     (omega (arith, user.1, secret.1, two_short (codes "login fibs_client 1008 ") name password)) refl refl
 
+-- the commands that set up a connection
 pub first_are_sent : Lines → FirstAreSent
 unfolding style_text autoboard_text moreboards_text board_text
 first_are_sent laws = (
@@ -107,21 +117,25 @@ first_are_sent laws = (
 
 -- a word alone, with a text, with a name, and with both
 
+-- a word alone
 word_sent : Lines → (word : List ℕ) → All IsPrinted word → length word ≤ 20 → starts_with nat_eq word login_prompt ≡ false → starts_with nat_eq word command_prompt ≡ false → IsSent word
 word_sent laws word printed short a b = sent laws word printed (omega arith) a b
 
+-- a word and a text
 text_sent : Lines → (word text : List ℕ) → All IsPrinted word → length word ≤ 20 → IsText text
     → starts_with nat_eq (word ++ text) login_prompt ≡ false → starts_with nat_eq (word ++ text) command_prompt ≡ false → IsSent (word ++ text)
 text_sent laws word text printed short is a b =
     let few : length text ≤ 400 = is.0 in
     sent laws (word ++ text) (one word text printed (said_text text is)) (omega (arith, length-append word text)) a b
 
+-- a word and a name
 name_sent : Lines → (word name : List ℕ) → All IsPrinted word → length word ≤ 20 → is_name name ≡ true
     → starts_with nat_eq (word ++ name) login_prompt ≡ false → starts_with nat_eq (word ++ name) command_prompt ≡ false → IsSent (word ++ name)
 name_sent laws word name printed short is a b =
     let n = name_text name is in
     sent laws (word ++ name) (one word name printed n.0) (omega (arith, n.1, length-append word name)) a b
 
+-- a word, a name and a text
 both_sent : Lines → (word name text : List ℕ) → All IsPrinted word → length word ≤ 20 → is_name name ≡ true → All IsPrinted text → length text ≤ 400
     → starts_with nat_eq (word ++ (name ++ 32 ∷ text)) login_prompt ≡ false → starts_with nat_eq (word ++ (name ++ 32 ∷ text)) command_prompt ≡ false
     → IsSent (word ++ (name ++ 32 ∷ text))
@@ -129,6 +143,7 @@ both_sent laws word name text printed short is t few a b =
     let n = name_text name is in
     sent laws (word ++ (name ++ 32 ∷ text)) (two word name text printed n.0 t) (omega (arith, n.1, two_short word name text)) a b
 
+-- plain commands
 pub plain_is_sent : Lines → PlainIsSent
 unfolding plain_of plain_fault_of
 plain_is_sent laws board_again h = word_sent laws (codes "board") (All-from_recursion IsPrinted (codes "board") (search rules)) (omega arith) refl refl

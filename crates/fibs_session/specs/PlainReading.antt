@@ -10,7 +10,8 @@ use Rattle.fibs_session.specs.PlainCommands.{PlainValue, board_again, who, say, 
 abbrev pub NoSpace : List ℕ → Type 0
 NoSpace name = All (λ byte. byte ≢ 32) name
 
--- a text, and how it stands behind what comes before it: not at all, which is the empty text, or as all that follows a space
+-- a text, and how it stands behind what comes before it: not at all, which is the empty text, or as all that follows a
+-- space
 pub data TextField : List ℕ → List ℕ → Type 0 where
   no_text : TextField [] []
   rest_of_line : {text : List ℕ} → TextField text (32 ∷ text)
@@ -18,7 +19,8 @@ pub data TextField : List ℕ → List ℕ → Type 0 where
 -- a name and a text behind a word: no name, which is the empty one, and no text; or a space, the name, and the text
 pub data NameAndText : List ℕ → List ℕ → List ℕ → Type 0 where
   no_name : NameAndText [] [] []
-  name_then : {name text rest : List ℕ} → NoSpace name → TextField text rest → NameAndText name text (32 ∷ (name ++ rest))
+  name_then : {name text rest : List ℕ} → NoSpace name → TextField text rest
+      → NameAndText name text (32 ∷ (name ++ rest))
 
 -- the text is read as this command: its first word tells which, a space begins a next field, and no field is left over
 pub data ReadsAs : List ℕ → PlainValue → Type 0 where
@@ -29,11 +31,14 @@ pub data ReadsAs : List ℕ → PlainValue → Type 0 where
   reads_shout : {text rest : List ℕ} → TextField text rest → ReadsAs (codes "shout" ++ rest) (shout text)
   reads_whisper : {text rest : List ℕ} → TextField text rest → ReadsAs (codes "whisper" ++ rest) (whisper text)
   reads_kibitz : {text rest : List ℕ} → TextField text rest → ReadsAs (codes "kibitz" ++ rest) (kibitz text)
-  reads_tell : {name text rest : List ℕ} → NameAndText name text rest → ReadsAs (codes "tell" ++ rest) (tell name text)
-  reads_message : {name text rest : List ℕ} → NameAndText name text rest → ReadsAs (codes "message" ++ rest) (leave_message name text)
+  reads_tell : {name text rest : List ℕ} → NameAndText name text rest
+      → ReadsAs (codes "tell" ++ rest) (tell name text)
+  reads_message : {name text rest : List ℕ} → NameAndText name text rest
+      → ReadsAs (codes "message" ++ rest) (leave_message name text)
   reads_invite : ReadsAs (codes "invite") (invite [])
   reads_invite_of : {name : List ℕ} → NoSpace name → ReadsAs (codes "invite " ++ name) (invite name)
-  reads_invite_to : {name : List ℕ} {points : ℕ} → NoSpace name → points ≤ 65535 → ReadsAs (codes "invite " ++ (name ++ 32 ∷ decimal points)) (invite_to name points)
+  reads_invite_to : {name : List ℕ} {points : ℕ} → NoSpace name → points ≤ 65535
+      → ReadsAs (codes "invite " ++ (name ++ 32 ∷ decimal points)) (invite_to name points)
   reads_join : ReadsAs (codes "join") join
   reads_join_with : {name : List ℕ} → NoSpace name → ReadsAs (codes "join " ++ name) (join_with name)
   reads_ready : ReadsAs (codes "toggle ready") toggle_ready
@@ -102,13 +107,14 @@ toggle_in (Some setting) =
     (cond (bytes_eq setting (codes "automove")) (Some automove_off)
     (cond (bytes_eq setting (codes "greedy")) (Some greedy_off) None))
 
--- a word whose fields are of their own kind
+-- the command of a first word and of what follows the space behind it
 unfoldable pub plain_in : List ℕ → Option (List ℕ) → Option PlainValue
 plain_in word rest =
     cond (bytes_eq word (codes "invite")) (invitation_in (name_in rest) (after_name rest))
     (cond (bytes_eq word (codes "join")) (joining_in rest)
     (cond (bytes_eq word (codes "toggle")) (toggle_in rest)
-    (option_or (saying_in word (text_in rest)) (option_or (letter_in word (name_in rest) (text_in (after_name rest))) (alone_in word rest)))))
+    (option_or (saying_in word (text_in rest))
+    (option_or (letter_in word (name_in rest) (text_in (after_name rest))) (alone_in word rest)))))
 
 -- the plain command of a text
 unfoldable pub read_plain : List ℕ → Option PlainValue

@@ -102,8 +102,8 @@ fn read_words(text: &[u8], direction: Direction) -> Option<Decision>
     }
 }
 
-/// The decision whose command the text is, without its line end, where it is one. The places are in the server's numbers,
-/// for a player who goes in this direction.
+/// The decision whose command the text is, without its line end, where it is one. The places are in the server's
+/// numbers, for a player who goes in this direction.
 pub fn read_command(text: &[u8], direction: Direction) -> Option<Decision>
     ensures exact { (d : DecisionValue) → (option_map decision_of result ≡ Some d) ↔ ReadCommand text.now direction d }
     ensures value { option_map decision_of result ≡ read_command direction text.now }

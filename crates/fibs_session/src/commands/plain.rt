@@ -12,8 +12,8 @@ use fibs_messages::Name;
 use itoa::Buffer;
 use std::fmt;
 
-/// A command that decides nothing in the game. It borrows its names and texts, which may be any bytes: `plain_text` says
-/// what is wrong with them.
+/// A command that decides nothing in the game. It borrows its names and texts, which may be any bytes: `plain_text`
+/// says what is wrong with them.
 #[derive(Clone, Copy, Debug, PartialEq, Eq)]
 pub enum Plain<'a> {
     /// `board`: the board is to be shown.
@@ -171,10 +171,11 @@ fn with_points(name: &[u8], points: u16) -> Result<CommandText, PlainFault>
     Ok(command)
 }
 
-/// The text of a plain command: the word in small letters, then the name, the length and the text, each after one space.
+/// The text of a plain command: the word in small letters, then the name, the points and the text, each after one
+/// space.
 ///
-/// The first fault of: `BadName`, where a name is none; `TooLong`, where a text has more than 400 bytes; `BadText`, where it
-/// has none, or one outside 32 to 126.
+/// The first fault of: `BadName`, where a name is none; `TooLong`, where a text has more than 400 bytes; `BadText`, where
+/// it has none, or one outside 32 to 126.
 #[tactic(auto, unfolding(crate::specs::PlainCommands::plain_of, crate::specs::PlainCommands::plain_fault_of))]
 pub fn plain_text(plain: &Plain<'_>) -> Result<CommandText, PlainFault>
     ensures text { IfOk result (λ command. text_of command ≡ plain_of (plain_value plain.now)) }

@@ -158,10 +158,11 @@ fn read_fields<'a>(word: &[u8], rest: Option<&'a [u8]>) -> Option<Plain<'a>>
 
 /// The plain command that a text is, without its line end. None where it is none.
 ///
-/// The first word tells which command it is. A space behind a word or a name begins a next field, which may be empty: a name
-/// ends at the next space, a text is the rest, and an absent name or text is the empty one, but for `join`, which needs none.
-/// The points of an invitation are a decimal from 0 to 65535 without leading zero. A text with another first word, a field
-/// too many, points that are none, or another word behind `toggle` is no plain command. Names and texts are not looked at.
+/// The first word tells which command it is. A space behind a word or a name begins a next field, which may be empty: a
+/// name ends at the next space, a text is the rest, and an absent name or text is the empty one, but for `join`, which
+/// needs none. The points of an invitation are a decimal from 0 to 65535 without leading zero. A text with another first
+/// word, a field too many, points that are none, or another word behind `toggle` is no plain command. What stands in names
+/// and texts is not looked at: `plain_text` tells.
 #[tactic(auto, unfolding(crate::specs::PlainReading::read_plain))]
 pub fn read_plain(text: &[u8]) -> Option<Plain<'_>>
     ensures exact { (plain : PlainValue) → (option_map plain_value result ≡ Some plain) ↔ ReadsAs text.now plain }
