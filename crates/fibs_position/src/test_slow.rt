@@ -267,43 +267,62 @@ enum Aim {
     BearingOff,
 }
 
-/// An arrangement and dice aimed at something.
-fn aimed(numbers: &mut Numbers, aim: Aim) -> (Counts, [u8; 2]) {
-    let mut own = [0; 26];
-    let mut other = [0; 26];
-    let (low, many, checkers, points) = match aim {
-        Aim::LargerDie => (8, 17, 2, 6),
-        Aim::Doubles => (5, 20, 4, 3),
-        Aim::Bar => (1, 24, 3, 5),
-        Aim::BearingOff => (1, 6, 5, 1),
+/// Dice aimed at something.
+fn thrown(numbers: &mut Numbers, aim: Aim) -> [u8; 2] {
+    let first = numbers.between(1, 6);
+    match aim {
+        Aim::Doubles => [first, first],
+        _ => [first, numbers.between(1, 6)],
+    }
+}
+
+/// Own checkers aimed at something, and for the larger die a place held that both dice together reach.
+fn place_own(numbers: &mut Numbers, aim: Aim, dice: [u8; 2], counts: &mut Counts) {
+    let (low, many, checkers) = match aim {
+        Aim::LargerDie => (14, 11, 1),
+        Aim::Doubles => (5, 20, 4),
+        Aim::Bar => (1, 24, 3),
+        Aim::BearingOff => (1, 6, 5),
     };
     for _ in 0..checkers {
-        put(&mut own, numbers.between(low, many));
+        let place = numbers.between(low, many);
+        put(&mut counts.own, place);
+        if aim == Aim::LargerDie {
+            let reached = place.saturating_sub(dice[0]).saturating_sub(dice[1]);
+            set(&mut counts.other, reached, 2);
+        }
     }
     if aim == Aim::Bar {
-        put(&mut own, 25);
+        put(&mut counts.own, 25);
         for _ in 0..numbers.below(2) {
-            put(&mut own, 25);
+            put(&mut counts.own, 25);
         }
     }
-    for _ in 0..points {
-        let place = numbers.between(1, 24);
-        let place = if aim == Aim::Bar && place < 13 {
-            25 - (place + 1) / 2
-        } else {
-            place
+}
+
+/// Some places of the opponent's, each with one checker or two: against the bar mostly where checkers enter.
+fn place_other(numbers: &mut Numbers, aim: Aim, counts: &mut Counts) {
+    for _ in 0..4 {
+        let place = match aim {
+            Aim::Bar => numbers.between(17, 8),
+            _ => numbers.between(1, 24),
         };
-        if count(&own, place) == 0 && count(&other, place) == 0 {
-            set(&mut other, place, numbers.between(1, 2));
+        if count(&counts.own, place) == 0 && count(&counts.other, place) == 0 {
+            set(&mut counts.other, place, numbers.between(1, 2));
         }
     }
-    let first = numbers.between(1, 6);
-    let second = if aim == Aim::Doubles {
-        first
-    } else {
-        numbers.between(1, 6)
+}
+
+/// An arrangement and dice aimed at something.
+fn aimed(numbers: &mut Numbers, aim: Aim) -> (Counts, [u8; 2]) {
+    let mut counts = Counts {
+        own: [0; 26],
+        other: [0; 26],
     };
-    (Counts { own, other }, [first, second])
+    let dice = thrown(numbers, aim);
+    place_own(numbers, aim, dice, &mut counts);
+    place_other(numbers, aim, &mut counts);
+    (counts, dice)
 }
 
 /// The checkers of a side on places 1 to 24.
