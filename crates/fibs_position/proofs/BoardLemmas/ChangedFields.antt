@@ -1,12 +1,12 @@
 -- The fields of a board of which some are changed.
 use Rattle.std.proofs.Common.{◌≡◌, ℕ, zero, suc, ◌+◌, ◌-◌, ◌<◌, ◌≤◌, ◌≢◌, Bool, true, false, cond, eqb, List, [], ◌∷◌, ◌++◌, length, get_or, set, inl, inr, refl, ap, ◌∙◌, arith}
-use Rattle.std.specs.Prelude.{ℤ, pos, map, slice_set, nat_le, ◌&&◌}
+use Rattle.std.specs.Prelude.{ℤ, pos, map, nat_le, ◌&&◌}
 use Rattle.std.specs.List.{range_with_len, list_all}
 use Rattle.std.proofs.lemmas.Bool.{cases_eq, and_parts}
 use Rattle.std.proofs.lemmas.Bool.Decides.{nat_tests}
 use Rattle.std.proofs.lemmas.List.{get_or-set_same, get_or-set_other}
 use Rattle.std.proofs.Math.ListN.{length-set}
-use Rattle.fibs_messages.specs.Board.{BoardFields, IsBoard, Fit, field_of, can_have, field_values, allowed_by}
+use Rattle.fibs_messages.specs.Board.{BoardFields, IsBoard, field_of, can_have}
 use Rattle.fibs_messages.specs.FieldRanges.{FieldRanges}
 use Rattle.fibs_position.specs.BoardEffect.{set_field, set_fields}
 

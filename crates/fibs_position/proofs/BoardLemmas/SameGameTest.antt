@@ -1,5 +1,5 @@
 -- The test `same_game` is exact, and an equivalence.
-use Rattle.std.proofs.Common.{◌≡◌, ◌&&◌, true, false, Bool, ℕ, List, [], ◌∷◌, refl, sym, ap, ◌∙◌, subst, inl, inr, true≢false}
+use Rattle.std.proofs.Common.{◌≡◌, true, false, Bool, ℕ, List, [], ◌∷◌, refl, sym, ap, ◌∙◌, subst, inl, inr, true≢false}
 use Rattle.std.specs.Prelude.{ℤ, ◌↔◌, IsTrue}
 use Rattle.std.specs.Ordering.{int_eq}
 use Rattle.std.specs.Str.{bytes_eq}

@@ -11,11 +11,10 @@ use Rattle.fibs_position.specs.Hop.{Hop, IsStep}
 use Rattle.fibs_position.specs.StepValue.{hop_of}
 use Rattle.fibs_position.specs.Checkers.{Checkers}
 use Rattle.fibs_position.specs.OneChecker.{One}
-use Rattle.fibs_position.specs.Runs.{Run, RunOf, IsPart, held_of, held, Standing}
-use Rattle.fibs_position.specs.LegalPlays.{LegalPlay}
+use Rattle.fibs_position.specs.Runs.{Run, RunOf, IsPart, held_of, held}
 use Rattle.fibs_position.specs.OwnView.{standing_of}
 use Rattle.fibs_position.specs.PositionValue.{position_of}
-use Rattle.fibs_position.specs.DecisionValue.{DecisionValue, roll, double, accept, reject, move, IsPlay, IsDecision}
+use Rattle.fibs_position.specs.DecisionValue.{DecisionValue, roll, double, accept, reject, move, IsDecision}
 use Rattle.fibs_position.specs.Phases.{phase_in, decides}
 use Rattle.fibs_position.specs.Allowed.{IsAllowed, refusal_of, forbids}
 use Rattle.fibs_position.specs.Laws.{LegalPlaysAreSteps, AllowedDecides, AllowedIsADecision, DecisionsAreValid, AllowedActs}
