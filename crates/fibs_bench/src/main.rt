@@ -1,10 +1,12 @@
-//! Two loops to measure, over standard input: how many lines a stream has, and how many legal plays the boards among
-//! its lines have. Nothing stands on them.
+//! Loops to measure, over standard input: how many lines a stream has, how many of them are read, taken by a client or noted
+//! by a directory, and how many legal plays their boards have; and how many of a million typed texts are commands. Nothing
+//! stands on them.
 #![tactic(auto)]
 
-use fibs_lines::Lines;
+use fibs_lines::{Line, Lines};
 use fibs_messages::{Reading, read};
-use fibs_position::Position;
+use fibs_position::{Direction, Position};
+use fibs_session::{Client, Directory, Login, read_command, read_plain};
 use std::alloc::{AllocError, Global};
 use std::io::Read;
 use std::{env, io};
@@ -12,11 +14,18 @@ use std::{env, io};
 /// How much is read at once.
 const PORTION: usize = 65536;
 
-/// What is counted.
+/// How many typed texts are read.
+const TEXTS: u32 = 1_000_000;
+
+/// What is counted of the lines of a stream.
 #[derive(Clone, Copy, PartialEq, Eq)]
 enum Count {
     /// Lines.
     Lines,
+    /// Lines that are read, and are a board or a message.
+    Readings,
+    /// Messages that a directory takes note of.
+    Notes,
     /// The legal plays of each board.
     Plays,
 }
@@ -32,11 +41,40 @@ fn plays_of(alloc: Global, line: &[u8]) -> Result<usize, AllocError> {
     }
 }
 
+/// Whether a line is a board or a message.
+fn is_read(line: &[u8]) -> bool {
+    matches!(read(line), Reading::Board(_) | Reading::Numbered(_))
+}
+
+/// Whether a line is a message of which the directory takes note.
+fn is_noted(directory: &mut Directory, line: &[u8]) -> bool {
+    match read(line) {
+        Reading::Numbered(message) => directory.note(&message).is_ok(),
+        _ => false,
+    }
+}
+
+/// How many a line counts for.
+fn count_line(
+    alloc: Global,
+    what: Count,
+    directory: &mut Directory,
+    line: &Line<'_>,
+) -> Result<usize, AllocError> {
+    match what {
+        Count::Lines => Ok(1),
+        Count::Readings => Ok(usize::from(is_read(line.bytes))),
+        Count::Notes => Ok(usize::from(is_noted(directory, line.bytes))),
+        Count::Plays => plays_of(alloc, line.bytes),
+    }
+}
+
 /// Counts over the lines that end in `piece`.
 fn count_piece(
     alloc: Global,
     what: Count,
     lines: &mut Lines,
+    directory: &mut Directory,
     piece: &[u8],
 ) -> Result<u64, AllocError> {
     let mut at = 0;
@@ -45,26 +83,33 @@ fn count_piece(
         let fed = lines.feed(&piece[at..]);
         at += fed.used;
         if let Some(line) = fed.line {
-            let gained = match what {
-                Count::Lines => 1,
-                Count::Plays => plays_of(alloc, line.bytes)?,
-            };
-            count = count.wrapping_add(gained as u64);
+            count = count.wrapping_add(count_line(alloc, what, directory, &line)? as u64);
         }
     }
     Ok(count)
 }
 
-/// Counts plays where the first argument is `plays`, else lines.
-fn main(rt: HostRuntime) -> io::Result<()> {
+/// Counts the lines that a client takes of `piece`.
+fn take_piece(client: &mut Client, piece: &[u8]) -> u64 {
+    let mut at = 0;
+    let mut count = 0u64;
+    while at < piece.len() {
+        let heard = client.read(&piece[at..]);
+        let got = client.got(heard);
+        at += got.used;
+        if got.taken.is_some() {
+            count = count.wrapping_add(1);
+        }
+    }
+    count
+}
+
+/// Counts over the lines of the standard input.
+fn count_lines(rt: &HostRuntime, what: Count) -> io::Result<u64> {
     let alloc = rt.alloc();
-    let words: Vec<String> = env::args(&rt)?.collect(alloc)?;
-    let what = match words.get(1) {
-        Some(word) if word.as_str() == "plays" => Count::Plays,
-        _ => Count::Lines,
-    };
     let mut portion = vec![in alloc; 0u8; PORTION]?;
     let mut lines = Lines::new();
+    let mut directory = Directory::new(alloc);
     let mut input = rt.stdin();
     let mut count = 0u64;
     for _ in 0..u64::MAX {
@@ -72,8 +117,74 @@ fn main(rt: HostRuntime) -> io::Result<()> {
         if used == 0 {
             break;
         }
-        count = count.wrapping_add(count_piece(alloc, what, &mut lines, &portion[..used])?);
+        let piece = &portion[..used];
+        count = count.wrapping_add(count_piece(
+            alloc,
+            what,
+            &mut lines,
+            &mut directory,
+            piece,
+        )?);
     }
+    Ok(count)
+}
+
+/// Counts the lines of the standard input that a client takes which has a connection.
+fn take_lines(rt: &HostRuntime) -> io::Result<u64> {
+    let mut portion = vec![in rt.alloc(); 0u8; PORTION]?;
+    let mut count = 0u64;
+    if let Ok(login) = Login::new(b"ann", b"secret") {
+        let mut client = Client::new(login);
+        let _opened = client.open();
+        let mut input = rt.stdin();
+        for _ in 0..u64::MAX {
+            let used = input.read(&mut portion)?;
+            if used == 0 {
+                break;
+            }
+            count = count.wrapping_add(take_piece(&mut client, &portion[..used]));
+        }
+    }
+    Ok(count)
+}
+
+/// Counts the commands among many typed texts.
+fn count_commands() -> u64 {
+    let texts: [&[u8]; 8] = [
+        b"roll",
+        b"move 24-18 18-13",
+        b"move bar-20",
+        b"move 3-off 2-off",
+        b"tell bob hi",
+        b"invite bob 5",
+        b"say good luck",
+        b"dance",
+    ];
+    let mut count = 0u64;
+    for i in 0..TEXTS {
+        let text = texts[(i % 8) as usize];
+        if read_command(text, Direction::Down).is_some() || read_plain(text).is_some() {
+            count = count.wrapping_add(1);
+        }
+    }
+    count
+}
+
+/// Counts what the first argument names: `lines`, `readings`, `notes`, `plays`, `client` or `commands`; without one, lines.
+fn main(rt: HostRuntime) -> io::Result<()> {
+    let words: Vec<String> = env::args(&rt)?.collect(rt.alloc())?;
+    let word = match words.get(1) {
+        Some(word) => word.as_str(),
+        None => "lines",
+    };
+    let count = match word {
+        "readings" => count_lines(&rt, Count::Readings)?,
+        "notes" => count_lines(&rt, Count::Notes)?,
+        "plays" => count_lines(&rt, Count::Plays)?,
+        "client" => take_lines(&rt)?,
+        "commands" => count_commands(),
+        _ => count_lines(&rt, Count::Lines)?,
+    };
     println!(rt; "{count}")?;
     Ok(())
 }
