@@ -1,0 +1,4 @@
+-- Facts on the log alone.
+pub mod Lists
+pub mod Past
+pub mod Told

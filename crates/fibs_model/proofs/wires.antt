@@ -1,0 +1,4 @@
+-- Facts on the bytes of the wires.
+pub mod Cuts
+pub mod Ways
+pub mod Boards

@@ -1,0 +1,105 @@
+-- The headline: what holds after every list of events. It speaks of the log of the whole list and of real boards, equal
+-- in all 53 fields (the project's own).
+--
+--     The decisions that take effect on each connection, with the positions that they change, are a prefix of those sent
+--     there with the boards then shown: each legal, each answering its own click there, at most the last missing, none
+--     once a differing board is shown.
+use Rattle.std.specs.Prelude.{◌≡◌, ℕ, ◌+◌, ◌<◌, ◌≤◌, Bool, true, false, List, [], ◌∷◌, ◌++◌, Option, Some, None, if◌then◌else◌, nat_eq, length, slice_index}
+use Rattle.fibs_messages.specs.Board.{BoardFields}
+use Rattle.fibs_position.specs.DecisionValue.{DecisionValue}
+use Rattle.fibs_position.specs.GamePart.{same_game}
+use Rattle.fibs_session.specs.declared.refusal.Refusal.{Refusal}
+use Rattle.fibs_session.specs.History.Log.{Entry, Clicked, Sent, Took, Undone}
+use Rattle.fibs_session.specs.History.Words.{Ask, last, open_now, shown, sent, took, unconfirmed, answer}
+use Rattle.fibs_session.specs.History.Machine.{allows}
+use Rattle.fibs_model.specs.Wires.{next_line}
+use Rattle.fibs_model.specs.Moving.{has_moved_on}
+use Rattle.fibs_model.specs.World.{World}
+
+-- `sent c log` and `took c log` are the lists of pairs (board, decision) of the Sent and of the Took entries of c, in order.
+
+-- the first list is a prefix of the second
+abbrev pub IsPrefixOf : List Ask → List Ask → Type 0
+IsPrefixOf xs ys = (rest : List Ask) × (xs ++ rest ≡ ys)
+
+-- the places in the log of the entries that a test picks, counted from n
+abbrev pub places : (Entry → Bool) → ℕ → List Entry → List ℕ
+places p n [] = []
+places p n (e ∷ later) = if p e then n ∷ places p (n + 1) later else places p (n + 1) later
+
+abbrev pub is_sent : ℕ → Entry → Bool
+is_sent c (Sent d b m) = nat_eq d c
+is_sent c e = false
+
+abbrev pub is_took : ℕ → Entry → Bool
+is_took c (Took d b m) = nat_eq d c
+is_took c e = false
+
+-- the i-th Took of c stands after the i-th Sent of c, which is there
+abbrev pub InOrder : ℕ → List Entry → Type 0
+InOrder c log =
+    (i : ℕ) → i < length (took c log)
+    → (i < length (sent c log)) × (slice_index (places (is_sent c) 0 log) i < slice_index (places (is_took c) 0 log) i)
+
+-- each of the decisions was allowed on its board
+abbrev pub AllLegal : List Ask → Type 0
+AllLegal [] = Unit {0}
+AllLegal (a ∷ rest) = (allows a.0 a.1 ≡ None) × AllLegal rest
+
+-- A click that is answered by yes and a Sent come in pairs of one connection and one decision, the Sent directly after
+-- its click; neither stands without the other.
+abbrev pub InPairs : List Entry → Type 0
+InPairs [] = Unit {0}
+InPairs (Clicked c d None ∷ Sent c' b d' ∷ later) = (c ≡ c') × (d ≡ d') × InPairs later
+InPairs (Clicked c d None ∷ later) = ⊥
+InPairs (Sent c b d ∷ later) = ⊥
+InPairs (e ∷ later) = InPairs later
+
+-- each decision was sent with the board that was the last one shown before it on that connection
+abbrev pub AllOnShown : List Entry → Type 0
+AllOnShown log =
+    (before later : List Entry) (c : ℕ) (b : BoardFields) (d : DecisionValue) → log ≡ before ++ Sent c b d ∷ later
+    → last (shown c before) ≡ Some b
+
+-- no entry is Undone
+abbrev pub NoneUndone : List Entry → Type 0
+NoneUndone [] = Unit {0}
+NoneUndone (Undone c b d ∷ later) = ⊥
+NoneUndone (e ∷ later) = NoneUndone later
+
+-- each click is of the connection that is open before it (0 where none is), and carries the answer of the log before it
+abbrev pub AllAnswered : List Entry → Type 0
+AllAnswered log =
+    (before later : List Entry) (c : ℕ) (d : DecisionValue) (a : Option Refusal) → log ≡ before ++ Clicked c d a ∷ later
+    → (c ≡ open_now before) × (a ≡ answer same_game allows before d)
+
+-- a connection is open and logged in, all lines that it sent were served, and all bytes sent to it were delivered
+pub record IsAtRest (w : World) : Type 0 where
+  pub some : 0 < w.logged_in
+  pub is_open : open_now w.log ≡ w.logged_in
+  pub all_served : next_line (w.links w.logged_in).asked ≡ None
+  pub all_delivered : (w.links w.logged_in).coming ≡ []
+
+pub record Headline (w : World) : Type 0 where
+  -- The decisions that take effect on each connection, with the positions that they change, are a prefix of those sent
+  -- there with the boards then shown:
+  pub prefix : (c : ℕ) → IsPrefixOf (took c w.log) (sent c w.log)
+  -- each takes effect after it was sent;
+  pub order : (c : ℕ) → InOrder c w.log
+  -- the board of each decision sent is the last one shown before it on that connection;
+  pub on_shown : AllOnShown w.log
+  -- each is legal;
+  pub legal : (c : ℕ) → AllLegal (sent c w.log)
+  -- each answers its own click there: it stands directly after it, and each click answered by yes is directly followed by
+  -- its decision;
+  pub own_click : InPairs w.log
+  -- at most the last is missing;
+  pub at_most_one : (c : ℕ) → length (sent c w.log) ≤ length (took c w.log) + 1
+  -- and none once a differing board is shown.
+  pub moved_on : (c : ℕ) → has_moved_on same_game c w.log ≡ true → took c w.log ≡ sent c w.log
+  -- Beside it: no served decision changed nothing;
+  pub none_undone : NoneUndone w.log
+  -- each click carries the answer of the log before it;
+  pub answered : AllAnswered w.log
+  -- and at rest nothing waits.
+  pub at_rest : IsAtRest w → unconfirmed same_game w.logged_in w.log ≡ None

@@ -1,0 +1,12 @@
+pub mod RefusalNames
+pub mod Wires
+pub mod Server
+pub mod ServerOf
+pub mod Events
+pub mod World
+pub mod Refusals
+pub mod Runs
+pub mod Moving
+pub mod Headline
+pub mod Stale
+pub mod Laws

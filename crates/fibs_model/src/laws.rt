@@ -1,0 +1,29 @@
+//! Laws of the world. Each function does nothing else: its contract is the law.
+
+ghost use Rattle.fibs_model.specs.Laws.{HeadlineHolds, NothingServedIsStale};
+
+/// After every list of events that may be, from every good first board on and for every login, the headline holds.
+/// Beside it: the server of the world never meets a stale line.
+pub fn headline()
+    ensures headline { HeadlineHolds }
+    ensures stale { NothingServedIsStale }
+{
+    fibs_lines::laws::empty_stream_has_no_line();
+    fibs_lines::laws::lines_only_grow();
+    fibs_lines::laws::what_follows_a_line_end_reads_alone();
+    fibs_lines::laws::sendable_text_is_its_line();
+    fibs_messages::laws::spellings_are_lines();
+    fibs_messages::laws::reading_is_exact();
+    fibs_messages::laws::each_line_has_one_reading();
+    fibs_position::laws::good_is_exact();
+    fibs_position::laws::same_game_is_a_likeness();
+    fibs_position::laws::allowed_decides();
+    fibs_position::laws::allowed_is_a_decision();
+    fibs_position::laws::allowed_acts();
+    fibs_session::laws::commands_are_printed();
+    fibs_session::laws::read_command_is_exact();
+    fibs_session::laws::login_is_other();
+    fibs_session::laws::style_is_other();
+    fibs_session::laws::plain_is_other();
+    fibs_session::laws::initial_are_other();
+}

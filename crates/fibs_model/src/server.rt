@@ -1,0 +1,203 @@
+//! The model server.
+
+ghost use Rattle.std.specs.Prelude.{◌≡◌, ◌↔◌, ◌≤◌, true, Some,  IsOk, IfOk, OnOk, OnErr, slice_index};
+ghost use Rattle.std.specs.Result.{result_err};
+ghost use Rattle.fibs_messages.specs.StoredBoard.{fields_of};
+ghost use Rattle.fibs_position.specs.DecisionOf.{decision_of};
+ghost use Rattle.fibs_position.specs.DirectionOf.{direction_of};
+ghost use Rattle.fibs_position.specs.First.{IsFirst};
+ghost use Rattle.fibs_position.specs.GoodBoard.{IsGood, HasFault, faults};
+ghost use Rattle.fibs_position.specs.GoodBoard.{good};
+ghost use Rattle.fibs_model.specs.Server.{answered, obeyed, own_refusal, user_decides};
+
+use crate::refusal::WorldRefusal;
+use fibs_messages::Board;
+use fibs_position::{Decision, Direction, Phase, Position, PositionFault, effect};
+use fibs_session::read_command;
+use std::marker::Model;
+
+/// What comes of a line that the server takes.
+#[derive(Clone, Copy, Debug, PartialEq, Eq)]
+pub enum Served {
+    /// The line is of a connection older than the one logged in, or a later line of one that isn't logged in.
+    Stale,
+    /// The line was a login.
+    LoggedIn,
+    /// The decision was carried out, and the board changed.
+    Took(Decision),
+    /// The decision changes nothing.
+    Undone(Decision),
+    /// The line is no decision.
+    Answered,
+}
+
+/// A model of the server: a good board, and the number of the connection that is logged in.
+///
+/// Connections are numbered from 1. The first line of a connection is its login; from then on nothing of an older
+/// connection is served. Every later line that is a decision in the numbers of the board is carried out where `effect`
+/// carries it out. What is sent to the connections is not the server's: see `laws::headline`.
+#[derive(Drop)]
+pub struct Server {
+    board: Board,
+    logged_in: usize,
+}
+
+impl Model for Server {
+    ghost use Rattle.std.specs.Prelude.{◌≡◌, true};
+    ghost use Rattle.fibs_messages.specs.StoredBoard.{fields_of};
+    ghost use Rattle.fibs_position.specs.GoodBoard.{good};
+    ghost use Rattle.fibs_model.specs.ServerOf.{ServerValue};
+
+    ghost Value = { ServerValue };
+
+    ghost view = { λ s. record { board = fields_of s.board; logged_in = s.logged_in } };
+
+    ghost invariant = { λ s. good (fields_of s.board) ≡ true };
+}
+
+/// The user decides on a good board.
+fn user_decides(board: &Board) -> bool
+    requires { good (fields_of board.now) ≡ true }
+    ensures { result ≡ user_decides (fields_of board.now) }
+{
+    fibs_position::laws::good_is_exact();
+    match Position::of(board) {
+        Err(_) => false,
+        Ok(position) => matches!(
+            position.phase(),
+            Phase::AnswerDouble | Phase::RollOrDouble | Phase::Move
+        ),
+    }
+}
+
+/// The direction of a good board.
+fn direction(board: &Board) -> Direction
+    requires { good (fields_of board.now) ≡ true }
+    ensures { result ≡ direction_of (fields_of board.now) }
+{
+    fibs_position::laws::good_is_exact();
+    match Position::of(board) {
+        Err(_) => Direction::Down,
+        Ok(position) => position.direction(),
+    }
+}
+
+/// The board is good.
+pub(crate) fn is_good(board: &Board) -> bool
+    ensures { result ≡ good (fields_of board.now) }
+{
+    fibs_position::laws::good_is_exact();
+    Position::of(board).is_ok()
+}
+
+impl Server {
+    ghost use Rattle.fibs_model.specs.ServerOf.{served_of, after_line};
+
+    /// A server with a good board, and no connection logged in. Any other board is refused, with the first of its faults.
+    pub fn new(board: Board) -> Result<Server, PositionFault>
+        ensures good { IsOk result ↔ IsGood (fields_of board) }
+        ensures fault { (f : PositionFault) →
+            (result_err result ≡ Some f) ↔ IsFirst (HasFault (fields_of board)) faults f }
+        ensures begins { IfOk result (λ server. (server.board ≡ fields_of board) × (server.logged_in ≡ 0)) }
+    {
+        fibs_position::laws::good_is_exact();
+        match Position::of(&board) {
+            Err(fault) => Err(fault),
+            Ok(_) => Ok(Server {
+                board,
+                logged_in: 0,
+            }),
+        }
+    }
+
+    /// The board.
+    pub fn board(&self) -> &Board
+        ensures value { fields_of result.now ≡ self.now.board }
+        ensures good { good (fields_of result.now) ≡ true }
+    {
+        &self.board
+    }
+
+    /// The number of the connection that is logged in; 0 at first.
+    pub fn logged_in(&self) -> usize
+        ensures { result ≡ self.now.logged_in }
+    {
+        self.logged_in
+    }
+
+    /// What comes of a decision.
+    fn obey(&mut self, decision: Decision, dice: [u8; 2]) -> Served
+        ensures answer { served_of result self.new.board ≡
+            obeyed self.old.board (slice_index dice 0) (slice_index dice 1) (Some (decision_of decision)) }
+        ensures after { self.new ≡ after_line self.old self.old.logged_in
+            (obeyed self.old.board (slice_index dice 0) (slice_index dice 1) (Some (decision_of decision))) }
+    {
+        fibs_position::laws::good_is_exact();
+        fibs_position::laws::effect_is_good();
+        match effect(&self.board, &decision, dice) {
+            None => Served::Undone(decision),
+            Some(board) => {
+                self.board = board;
+                Served::Took(decision)
+            }
+        }
+    }
+
+    /// Takes a line of a connection, without its line end: the connection's first, which is its login, or a later one.
+    /// `dice` are those of a roll.
+    ///
+    /// `Stale` for a line of a connection below the one logged in, and for a later line of one that isn't logged in;
+    /// otherwise a first line makes its connection the one logged in, and a later one is `Took` where it is a decision in
+    /// the numbers of the board that `effect` carries out, `Undone` where it is another decision, and else `Answered`.
+    pub fn serve(&mut self, conn: usize, first: bool, text: &[u8], dice: [u8; 2]) -> Served
+        requires { 1 ≤ conn }
+        ensures answer { served_of result self.new.board ≡
+            answered self.old.board self.old.logged_in conn first text.now (slice_index dice 0) (slice_index dice 1) }
+        ensures after { self.new ≡ after_line self.old conn
+            (answered self.old.board self.old.logged_in conn first text.now (slice_index dice 0) (slice_index dice 1)) }
+    {
+        if first {
+            if conn < self.logged_in {
+                return Served::Stale;
+            }
+            self.logged_in = conn;
+            return Served::LoggedIn;
+        }
+        if conn != self.logged_in {
+            return Served::Stale;
+        }
+        match read_command(text, direction(&self.board)) {
+            None => Served::Answered,
+            Some(decision) => self.obey(decision, dice),
+        }
+    }
+
+    /// Why the board may not become this one.
+    pub(crate) fn own_refusal(&self, board: &Board) -> Option<WorldRefusal>
+        ensures { result ≡ own_refusal self.now.board (fields_of board.now) }
+    {
+        if !is_good(board) {
+            return Some(WorldRefusal::BadBoard);
+        }
+        if user_decides(&self.board) {
+            return Some(WorldRefusal::UserDecides);
+        }
+        None
+    }
+
+    /// The board becomes another one, by what the server does itself.
+    ///
+    /// `BadBoard` where the board is not good; then `UserDecides` where the server's board is one on which the user
+    /// decides: nothing but a decision changes it.
+    pub fn own(&mut self, board: &Board) -> Result<(), WorldRefusal>
+        ensures refusal { result_err result ≡ own_refusal self.old.board (fields_of board.now) }
+        ensures ok { OnOk result (self.new ≡ record { board = fields_of board.now; logged_in = self.old.logged_in }) }
+        ensures err { OnErr result (self.new ≡ self.old) }
+    {
+        if let Some(why) = self.own_refusal(board) {
+            return Err(why);
+        }
+        self.board = *board;
+        Ok(())
+    }
+}
