@@ -1,6 +1,6 @@
 //! The model server.
 
-ghost use Rattle.std.specs.Prelude.{◌≡◌, ◌↔◌, ◌≤◌, true, Some,  IsOk, IfOk, OnOk, OnErr, slice_index};
+ghost use Rattle.std.specs.Prelude.{◌≡◌, ◌↔◌, ◌≤◌, true, Some, IsOk, IfOk, OnOk, OnErr, slice_index};
 ghost use Rattle.std.specs.Result.{result_err};
 ghost use Rattle.fibs_messages.specs.StoredBoard.{fields_of};
 ghost use Rattle.fibs_position.specs.DecisionOf.{decision_of};
