@@ -3,3 +3,4 @@ pub mod WriteLemmas
 pub mod ShowLemmas
 pub mod PlaysLemmas
 pub mod ProgramLemmas
+pub mod TurnLemmas

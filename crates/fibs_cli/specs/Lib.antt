@@ -4,3 +4,4 @@ pub mod Show
 pub mod Shows
 pub mod Plays
 pub mod Program
+pub mod Turns

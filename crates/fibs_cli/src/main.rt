@@ -2,7 +2,9 @@
 #![tactic(auto)]
 
 mod arguments;
+mod exchange;
 mod fault;
+pub mod laws;
 mod plays;
 mod printing;
 mod program;

@@ -1,0 +1,9 @@
+-- What a turn does, act by act.
+pub mod Wrote
+pub mod Escapes
+pub mod Scripts
+pub mod Hearing
+pub mod Typed
+pub mod Turns
+pub mod Printed
+pub mod Noted

@@ -1,0 +1,24 @@
+use Rattle.std.proofs.Common.{◌≡◌, true, sym, ap, subst, ◌∙◌, Some, None}
+use Rattle.fibs_cli.specs.declared.writing.Progress.TheVariants.{Whole, Broken}
+use Rattle.fibs_cli.specs.Turns.Typing.{typed_now, typed_step}
+use Rattle.fibs_cli.proofs.TurnLemmas.Wrote.{if_ok_weaker}
+use Rattle.fibs_cli.proofs.TurnLemmas.Typed.{typed_stays}
+use Rattle.fibs_cli.proofs.TurnLemmas.Turns.{turned_typed, turned_broken}
+use Rattle.fibs_cli.proofs.exchange.talk.Goals as goal
+
+pub returns-in-Whole : goal.returns-in-Whole
+returns-in-Whole g c =
+    rw c.in-Some.is (if_ok_weaker c.listen-in-Whole.result
+    (λ e h t at on.
+    let text = c.in-Some.text.now in
+    let v = typed_now t text in
+    turned_typed e t _ text _ _ _ _ _ _ on c.type_line.ensures.apart (rw c.in-Whole.is at c.in_ok-type_line-in-Some.ensures.did t at c.args.directory.now)
+    (h (typed_step t v).talk (c.type_line.ensures.stands t at) ((typed_stays t v).online ∙ on))) c.listen-in-Whole.ensures)
+
+pub returns-in-Broken : goal.returns-in-Broken
+returns-in-Broken g c =
+    rw c.in-Some.is (if_ok_weaker c.end_connection.result
+    (λ e h t at on.
+    let text = c.in-Some.text.now in
+    turned_broken e t _ text _ _ _ _ _ c.empty_piece_is_nothing.ensures c.type_line.ensures.apart (rw c.in-Broken.is at c.in_ok-type_line-in-Some.ensures.did t at c.args.directory.now)
+    (h Broken (typed_step t (typed_now t text)).talk (c.type_line.ensures.stands t at) _ _)) c.end_connection.ensures)

@@ -1,0 +1,23 @@
+use Rattle.std.proofs.Common.{◌++◌, [], ◌∷◌, codes, refl, sym, ap, subst, ◌∙◌, append-nil, None, Some}
+use Rattle.std.specs.Io.KnownBytes.{Appends}
+use Rattle.std.proofs.KnownBytes.{Appends-nil}
+use Rattle.fibs_session.specs.TextOf.{text_of}
+use Rattle.fibs_cli.specs.declared.writing.Progress.TheVariants.{Whole, Broken}
+use Rattle.fibs_cli.specs.Turns.Acts.{line_bytes}
+use Rattle.fibs_cli.specs.Turns.Answering.{complaint_line}
+use Rattle.fibs_cli.specs.Turns.Typing.{typed_now}
+use Rattle.fibs_cli.proofs.TurnLemmas.Typed.{did_complaint, did_sent, did_unsent}
+use Rattle.fibs_cli.proofs.exchange.typing.type_line.Goals as goal
+
+pub returns-in_ok-print_complaint-in-Complaint-clause-did : goal.returns-in_ok-print_complaint-in-Complaint-clause-did
+returns-in_ok-print_complaint-in-Complaint-clause-did g c = λ t at players.
+    did_complaint t (typed_now t c.args.text.now) (complaint_line c.in-Complaint.complaint) _ _ _ players (c.in-Complaint.ensures.act t at) (Appends-nil _) c.in_ok-print_complaint-in-Complaint.ensures
+
+pub returns-in-Broken-clause-did : goal.returns-in-Broken-clause-did
+returns-in-Broken-clause-did g c = λ t at players.
+    did_unsent t (typed_now t c.args.text.now) (text_of c.in-Sent.command) _ _ _ players (c.in-Sent.ensures.act t at) c.in-Broken.ensures.wrote
+
+pub returns-in_ok-print_line-in-Whole-clause-did : goal.returns-in_ok-print_line-in-Whole-clause-did
+returns-in_ok-print_line-in-Whole-clause-did g c = λ t at players.
+    let printed = subst (λ l. Appends (g.W.Write.contents c.args.out.now) (g.W.Write.contents c.print_line.new.out) (line_bytes (codes "sent " ++ l))) c.text_bytes.ensures c.in_ok-print_line-in-Whole.ensures in
+    did_sent t (typed_now t c.args.text.now) (text_of c.in-Sent.command) _ _ _ _ players (c.in-Sent.ensures.act t at) c.in-Whole.ensures.wrote printed
