@@ -4,9 +4,19 @@
 pub mod client;
 mod commands;
 mod directory;
+#[cfg(test)]
+mod example;
 pub mod laws;
 mod refusal;
 mod session;
+#[cfg(test)]
+mod test_client;
+#[cfg(test)]
+mod test_histories;
+#[cfg(test)]
+mod test_lines;
+#[cfg(test)]
+mod test_steps;
 
 pub use client::{Client, Got, HeardLine, Input, run_client};
 pub use commands::{
