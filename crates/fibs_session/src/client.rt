@@ -3,7 +3,7 @@
 ghost use Rattle.std.specs.Borrow.{sem};
 ghost use Rattle.std.specs.Io.BufRead.{Rests};
 ghost use Rattle.std.specs.Option.{option_copied};
-ghost use Rattle.std.specs.Prelude.{◌≡◌, ◌<◌, ◌≤◌, Option, [], length, take, option_map};
+ghost use Rattle.std.specs.Prelude.{◌≡◌, IsErr, ◌<◌, ◌≤◌, Option, [], length, take, option_map};
 ghost use Rattle.fibs_messages.specs.StoredBoard.{fields_of};
 ghost use Rattle.fibs_position.specs.DecisionOf.{decision_of};
 ghost use Rattle.fibs_session.specs.Calls.Doing.{Does};
@@ -76,6 +76,7 @@ impl Client {
     pub fn open(&mut self) -> Result<CommandText, Refusal>
         ensures does { Does self.old self.new Open (handed result) }
         ensures refusal { (t : Talk) → StandsAfter self.old t → refusal_in result ≡ open_refusal t }
+        ensures kept { IsErr result → self.new ≡ self.old }
     {
         match self.session.open() {
             Err(why) => Err(why),
@@ -100,6 +101,7 @@ impl Client {
         ensures does { Does self.old self.new (Click (decision_of decision.now)) (handed result) }
         ensures refusal { (t : Talk) → StandsAfter self.old t →
             refusal_in result ≡ answer_now t (decision_of decision.now) }
+        ensures kept { IsErr result → self.new ≡ self.old }
     {
         self.session.decide(decision)
     }
@@ -109,6 +111,7 @@ impl Client {
         ensures does { Does self.old self.new (PlainInput (plain_value plain.now)) (handed result) }
         ensures refusal { (t : Talk) → StandsAfter self.old t →
             refusal_in result ≡ plain_refusal t (plain_value plain.now) }
+        ensures kept { IsErr result → self.new ≡ self.old }
     {
         self.session.plain(plain)
     }

@@ -1,7 +1,7 @@
 //! What a client has heard on a connection, and the decision that it waits for.
 
 ghost use Rattle.std.specs.Option.{option_copied};
-ghost use Rattle.std.specs.Prelude.{◌≡◌, [], true, option_map};
+ghost use Rattle.std.specs.Prelude.{◌≡◌, IsErr, [], true, option_map};
 ghost use Rattle.fibs_lines.specs.LineValue.{value_of};
 ghost use Rattle.fibs_messages.specs.ReadingOf.{reading_of};
 ghost use Rattle.fibs_messages.specs.StoredBoard.{fields_of};
@@ -68,6 +68,7 @@ impl Session {
     pub fn open(&mut self) -> Result<CommandText, Refusal>
         ensures does { SessionDoes (session_of self.old) (session_of self.new) Open (handed result) }
         ensures refusal { (t : Talk) → SessionStandsAfter (session_of self.old) t → refusal_in result ≡ open_refusal t }
+        ensures kept { IsErr result → session_of self.new ≡ session_of self.old }
     {
         self.note_open()
     }
@@ -115,6 +116,7 @@ impl Session {
             (handed result) }
         ensures refusal { (t : Talk) → SessionStandsAfter (session_of self.old) t →
             refusal_in result ≡ answer_now t (decision_of decision.now) }
+        ensures kept { IsErr result → session_of self.new ≡ session_of self.old }
     {
         self.note_decision(decision)
     }
@@ -129,6 +131,7 @@ impl Session {
             (handed result) }
         ensures refusal { (t : Talk) → SessionStandsAfter (session_of self.old) t →
             refusal_in result ≡ plain_refusal t (plain_value plain.now) }
+        ensures kept { IsErr result → session_of self.new ≡ session_of self.old }
     {
         self.note_plain(plain)
     }

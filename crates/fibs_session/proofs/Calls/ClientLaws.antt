@@ -1,6 +1,6 @@
 -- From the session to the client, for each call.
-use Rattle.std.proofs.Common.{◌≡◌, ℕ, Bool, true, false, List, [], ◌∷◌, Option, Some, None, if◌then◌else◌, refl, sym, ap, subst}
-use Rattle.fibs_lines.specs.LinesValue.{StandsAfter as LinesStandAfter}
+use Rattle.std.proofs.Common.{◌≡◌, ℕ, Bool, true, false, List, [], ◌∷◌, Option, Some, None, if◌then◌else◌, refl, sym, ◌∙◌, ap, subst}
+use Rattle.fibs_lines.specs.LinesValue.{LinesValue, StandsAfter as LinesStandAfter}
 use Rattle.fibs_messages.specs.Board.{BoardFields}
 use Rattle.fibs_position.specs.DecisionValue.{DecisionValue}
 use Rattle.fibs_session.specs.PlainCommands.{PlainValue}
@@ -10,6 +10,7 @@ use Rattle.fibs_session.specs.declared.refusal.PlainRefusal.{PlainRefusal}
 use Rattle.fibs_session.specs.History.Log.{Lost}
 use Rattle.fibs_session.specs.History.Words.{last, open_now, shown}
 use Rattle.fibs_session.specs.History.Machine.{Talk, InputValue, Open, Lose, Click, PlainInput, step, stays, does, is_online, opened, opens, open_refusal, unconfirmed_now, clicks_by, decides_on, answer_now, sends_plain, plain_refusal}
+use Rattle.fibs_session.specs.Calls.SessionValue.{SessionValue}
 use Rattle.fibs_session.specs.Calls.Standing.{SessionStandsAfter, ClientValue, StandsAfter}
 use Rattle.fibs_session.specs.Calls.Doing.{SessionDoes, Does}
 
@@ -24,6 +25,13 @@ lines_at c t at = at.0
 pub both_at : (c : ClientValue) (t : Talk) → LinesStandAfter c.lines t.stream → SessionStandsAfter c.session t → StandsAfter c t
 unfolding StandsAfter SessionStandsAfter
 both_at c t l s = (l, s)
+
+-- where neither lines nor session changed
+pub same_client : (old new : ClientValue) → new.lines ≡ old.lines → new.session ≡ old.session → new ≡ old
+same_client old new e f = ap (λ l. with_both l new.session) e ∙ ap (λ s. with_both old.lines s) f
+  where
+    with_both : LinesValue → SessionValue → ClientValue
+    with_both l s = record { lines = l; session = s }
 
 -- the calls that read no byte
 pub KeepsBytes : InputValue → Type 0

@@ -1,6 +1,6 @@
 //! Opening and losing a connection, by the session's fields.
 
-ghost use Rattle.std.specs.Prelude.{◌≡◌, option_map};
+ghost use Rattle.std.specs.Prelude.{◌≡◌, IsErr, option_map};
 ghost use Rattle.fibs_session.specs.Calls.FieldSteps.{fresh, open_fields, open_send, open_refusal_of, lose_fields};
 ghost use Rattle.fibs_session.specs.LoginOf.{login_of};
 
@@ -32,6 +32,7 @@ impl Session {
         ensures fields { session_of self.new ≡ open_fields (session_of self.old) }
         ensures handed { handed result ≡ open_send (session_of self.old) }
         ensures refusal { refusal_in result ≡ open_refusal_of (session_of self.old) }
+        ensures kept { IsErr result → session_of self.new ≡ session_of self.old }
     {
         if self.online {
             return Err(Refusal::AlreadyOpen);

@@ -1,6 +1,6 @@
 //! What the user says, by the session's fields.
 
-ghost use Rattle.std.specs.Prelude.{◌≡◌, true};
+ghost use Rattle.std.specs.Prelude.{◌≡◌, IsErr, true};
 ghost use Rattle.fibs_messages.specs.StoredBoard.{fields_of};
 ghost use Rattle.fibs_position.specs.DecisionOf.{decision_of};
 ghost use Rattle.fibs_position.specs.DirectionOf.{direction_of};
@@ -94,6 +94,7 @@ impl Session {
         ensures fields { session_of self.new ≡ decide_fields (session_of self.old) (decision_of decision.now) }
         ensures handed { handed result ≡ decide_send (session_of self.old) (decision_of decision.now) }
         ensures refusal { refusal_in result ≡ answer_of (session_of self.old) (decision_of decision.now) }
+        ensures kept { IsErr result → session_of self.new ≡ session_of self.old }
     {
         match self.answer(decision) {
             Some(why) => Err(why),
@@ -143,6 +144,7 @@ impl Session {
         ensures fields { session_of self.new ≡ plain_fields (session_of self.old) (plain_value plain.now) }
         ensures handed { handed result ≡ plain_send (session_of self.old) (plain_value plain.now) }
         ensures refusal { refusal_in result ≡ plain_refusal_of (session_of self.old) (plain_value plain.now) }
+        ensures kept { IsErr result → session_of self.new ≡ session_of self.old }
     {
         if !self.online {
             return Err(PlainRefusal::Offline);
