@@ -118,13 +118,7 @@ fn count_lines(rt: &HostRuntime, what: Count) -> io::Result<u64> {
             break;
         }
         let piece = &portion[..used];
-        count = count.wrapping_add(count_piece(
-            alloc,
-            what,
-            &mut lines,
-            &mut directory,
-            piece,
-        )?);
+        count = count.wrapping_add(count_piece(alloc, what, &mut lines, &mut directory, piece)?);
     }
     Ok(count)
 }
