@@ -1,6 +1,7 @@
 //! The engines and the program over streams in memory.
 
 mod devices;
+mod exchange;
 mod pipe;
 mod plays;
 mod program;

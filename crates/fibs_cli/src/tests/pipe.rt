@@ -3,6 +3,7 @@ ghost use Rattle.std.specs.Prelude.{◌≡◌, Some, []};
 ghost use Rattle.std.specs.Io.{ReadsAtMost, WritesAtMost};
 ghost use Rattle.std.specs.Io.KnownBytes.{ReadConsumes, WriteAppends};
 
+use crate::exchange::link::Link;
 use arrayvec::ArrayVec;
 use std::io;
 use std::io::{ErrorKind, Read, Write};
@@ -104,5 +105,15 @@ impl Write for Pipe<'_> {
 
     fn flush(&mut self) -> io::Result<()> {
         Ok(())
+    }
+}
+
+impl Link for Pipe<'_> {
+    fn receive(&mut self, buf: &mut [u8]) -> io::Result<usize> {
+        self.read(buf)
+    }
+
+    fn transmit(&mut self, buf: &[u8]) -> io::Result<usize> {
+        self.write(buf)
     }
 }
