@@ -16,7 +16,6 @@ use Rattle.fibs_model.specs.Wires.{next_line}
 use Rattle.fibs_model.specs.Server.{is_die, decision_in, command, effect, carried, obeyed, answered as answered_now, Stale, LoggedIn as LoggedInNow}
 use Rattle.fibs_model.specs.Events.{Event, Open, Click, Plain, Deliver, Lose, Serve, Own, Repeat, Text}
 use Rattle.fibs_model.specs.World.{does_heard, does_served, sends_plain, talk_of, World, noted, linked, sends, is_talking, sends_out, clicks, hears, hears_all, takes_line, obeys, carries_out, serves, after, start}
-use Rattle.fibs_model.specs.declared.refusal.WorldRefusal.{WorldRefusal}
 use Rattle.fibs_model.specs.Refusals.{refusal}
 use Rattle.fibs_model.specs.Headline.{Headline, IsAtRest}
 use Rattle.fibs_model.specs.Stale.{NoneStale}

@@ -1,5 +1,5 @@
 -- The error of a result.
-use Rattle.std.proofs.Common.{◌≡◌, Option, Some, ◌↔◌}
+use Rattle.std.proofs.Common.{◌≡◌, Some, ◌↔◌}
 use Rattle.std.specs.Prelude.{Result, Ok, Err}
 use Rattle.std.specs.Result.{result_err}
 

@@ -3,6 +3,8 @@ pub mod Wires
 pub mod Server
 pub mod ServerOf
 pub mod Events
+pub mod EventOf
+pub mod EntryOf
 pub mod World
 pub mod Refusals
 pub mod Runs

@@ -1,5 +1,5 @@
 -- A server of the program as a value, and what its calls do.
-use Rattle.std.specs.Prelude.{ℕ, not, Option, Some, None, if◌then◌else◌}
+use Rattle.std.specs.Prelude.{ℕ}
 use Rattle.fibs_messages.specs.Board.{BoardFields}
 use Rattle.fibs_position.specs.DecisionOf.{decision_of}
 use Rattle.fibs_model.specs.Server as V

@@ -1,9 +1,15 @@
 //! A model of a backgammon server, and what holds of it, of the wires to it and of a client: the headline.
 #![tactic(auto)]
 
+mod entry;
+mod event;
 pub mod laws;
 mod refusal;
+mod run_end;
 mod server;
 
+pub use entry::Entry;
+pub use event::Event;
 pub use refusal::WorldRefusal;
+pub use run_end::RunEnd;
 pub use server::{Served, Server};

@@ -1,0 +1,22 @@
+-- Entries of the program as values.
+use Rattle.std.specs.Prelude.{option_map}
+use Rattle.std.specs.Result.{result_err}
+use Rattle.fibs_messages.specs.StoredBoard.{fields_of}
+use Rattle.fibs_position.specs.DecisionOf.{decision_of}
+use Rattle.fibs_session.specs.History.Log as V
+use Rattle.fibs_session.specs.Calls.SessionOf.{ask_of}
+use Rattle.fibs_model.specs.declared.entry.Entry.{Entry}
+use Rattle.fibs_model.specs.declared.entry.Entry.TheVariants as E
+
+-- what was noted, in the words of the history
+abbrev pub entry_of : Entry → V.Entry
+entry_of (E.Opened conn) = V.Opened conn
+entry_of (E.LoggedIn conn) = V.LoggedIn conn
+entry_of (E.Welcomed conn) = V.Welcomed conn
+entry_of (E.Informed conn automove greedy) = V.Informed conn (record { automove = automove; greedy = greedy })
+entry_of (E.Shown conn board) = V.Shown conn (fields_of board)
+entry_of (E.Clicked conn decision answer) = V.Clicked conn (decision_of decision) (result_err answer)
+entry_of (E.Sent conn board decision) = V.Sent conn (fields_of board) (decision_of decision)
+entry_of (E.Took conn board decision) = V.Took conn (fields_of board) (decision_of decision)
+entry_of (E.Undone conn board decision) = V.Undone conn (fields_of board) (decision_of decision)
+entry_of (E.Lost conn unconfirmed) = V.Lost conn (option_map ask_of unconfirmed)

@@ -1,0 +1,12 @@
+//! How a run of events ended.
+
+use crate::refusal::WorldRefusal;
+
+/// How a run of events ended.
+#[derive(Clone, Copy, Debug, PartialEq, Eq)]
+pub struct RunEnd {
+    /// The events that were accepted, all of them before the one that was not.
+    pub done: usize,
+    /// Why the next event may not be; None where all were accepted.
+    pub refusal: Option<WorldRefusal>,
+}
