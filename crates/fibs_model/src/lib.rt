@@ -7,6 +7,10 @@ pub mod laws;
 mod refusal;
 mod run_end;
 mod server;
+#[cfg(test)]
+mod test_boards;
+#[cfg(test)]
+mod test_server;
 
 pub use entry::Entry;
 pub use event::Event;
