@@ -14,7 +14,8 @@ use Rattle.fibs_lines.specs.declared.line.Line.{Line}
 use Rattle.fibs_messages.specs.Line.{ReadingValue, IsReading}
 use Rattle.fibs_cli.specs.Escape.{escaped}
 use Rattle.fibs_cli.specs.Show.{reading_text, ShownAs, ShownLine, ShownLines, ShowText, WroteLinesOf, WroteRead, WroteFront, WroteAll, unfinished_text}
-use Rattle.fibs_cli.specs.Shows.{Shows, EndsText, LostAtLeast, LostAtMost}
+use Rattle.fibs_cli.specs.Shows.{Shows, EndsText}
+use Rattle.fibs_cli.specs.Reads.{LostAtLeast, LostAtMost}
 use Rattle.fibs_cli.specs.Writing.{GainedFront}
 
 -- a line that was cut

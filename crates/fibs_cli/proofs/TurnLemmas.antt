@@ -7,3 +7,4 @@ pub mod Typed
 pub mod Turns
 pub mod Printed
 pub mod Noted
+pub mod Reads

@@ -1,6 +1,5 @@
--- What a portion of a stream adds to the text, and how much was read. No public contract rests on it.
-use Rattle.std.specs.Prelude.{◌≡◌, ◌≤◌, ℕ, List, ◌++◌, length, min, Option}
-use Rattle.std.specs.Io.KnownBytes.{Appends, Consumes}
+-- What a portion of a stream adds to the text. No public contract rests on it.
+use Rattle.std.specs.Prelude.{◌≡◌, ℕ, List, ◌++◌, length, min}
 use Rattle.fibs_lines.specs.Lines.{ReadLine, lines_of, rest_of, kept_limit}
 use Rattle.fibs_lines.specs.LinesValue.{LinesValue, StandsAfter}
 use Rattle.fibs_cli.specs.Show.{ShownLines, unfinished_text}
@@ -15,11 +14,3 @@ pub record Shows (old now : LinesValue) (piece added : List ℕ) : Type 0 where
 -- what is printed for the bytes after the last line end
 abbrev pub EndsText : LinesValue → List ℕ → Type 0
 EndsText lines text = (s : List ℕ) → StandsAfter lines s → text ≡ unfinished_text (min kept_limit (length (rest_of s)))
-
--- a reader lost at most so many bytes
-abbrev pub LostAtMost : ℕ → Option (List ℕ) → Option (List ℕ) → Type 0
-LostAtMost most left still_left = (s : List ℕ) × (length s ≤ most) × Consumes left still_left s
-
--- a reader lost at least so many bytes
-abbrev pub LostAtLeast : ℕ → Option (List ℕ) → Option (List ℕ) → Type 0
-LostAtLeast least left still_left = (s : List ℕ) × (least ≤ length s) × Consumes left still_left s

@@ -1,10 +1,11 @@
 //! One turn of a client with its stream.
-ghost use Rattle.std.specs.Prelude.{◌≡◌, ◌++◌, ℕ, List, Option, None, true, false, IfOk};
+ghost use Rattle.std.specs.Prelude.{◌≡◌, ◌++◌, ◌*◌, ℕ, List, Option, None, true, false, length, IfOk};
 ghost use Rattle.fibs_session.specs.History.Machine.{Talk, is_online};
 ghost use Rattle.fibs_session.specs.Calls.Standing.{StandsAfter};
 ghost use Rattle.fibs_messages.specs.Message.{MessageValue};
 ghost use Rattle.fibs_cli.specs.Turns.Script.{outside, known_before, known_after};
 ghost use Rattle.fibs_cli.specs.Turns.Turn.{Ended, Turned, FitsStream, bytes_of, is_there, still_given};
+ghost use Rattle.fibs_cli.specs.Reads.{LostAtMost};
 ghost use Rattle.fibs_cli.specs.declared.writing.Progress.{Progress};
 
 mod hearing;
@@ -73,18 +74,36 @@ fn listen<S: Link, W: Write>(
     stream: &mut S,
     out: &mut W,
 ) -> Result<Ending, ExchangeFault>
-    ensures { IfOk result (λ e. (t : Talk) → StandsAfter client.old t → is_online t ≡ true →
+    ensures turned { IfOk result (λ e. (t : Talk) → StandsAfter client.old t → is_online t ≡ true →
         Turned t client.new None (S.remaining stream.old) (S.remaining stream.new)
         (outside (S.contents stream.old) (W.contents out.old) directory.old)
         (outside (S.contents stream.new) (W.contents out.new) directory.new) e) }
+    ensures few { LostAtMost (4096 * 1024) (S.remaining stream.old) (S.remaining stream.new) }
+{
+    listen_portions(client, directory, stream, out, MAX_READS, &mut [0; PORTION])
+}
+
+/// The same with at most so many reads, each of at most as many bytes as `portion` has room for.
+fn listen_portions<S: Link, W: Write>(
+    client: &mut Client,
+    directory: &mut Directory,
+    stream: &mut S,
+    out: &mut W,
+    reads: u32,
+    portion: &mut [u8],
+) -> Result<Ending, ExchangeFault>
+    ensures turned { IfOk result (λ e. (t : Talk) → StandsAfter client.old t → is_online t ≡ true →
+        Turned t client.new None (S.remaining stream.old) (S.remaining stream.new)
+        (outside (S.contents stream.old) (W.contents out.old) directory.old)
+        (outside (S.contents stream.new) (W.contents out.new) directory.new) e) }
+    ensures few { LostAtMost (reads * length portion.old) (S.remaining stream.old) (S.remaining stream.new) }
 {
     fibs_session::client::laws::pieces_join();
     fibs_session::client::laws::empty_piece_is_nothing();
     fibs_lines::laws::lines_only_grow();
-    let mut portion = [0u8; PORTION];
-    for _ in 0..MAX_READS {
+    for made in 0..reads {
         out.flush().map_err(|_| ExchangeFault::Output)?;
-        let count = match stream.receive(&mut portion) {
+        let count = match stream.receive(portion) {
             Ok(0) => return end_connection(client, out),
             Ok(count) => count,
             Err(error) if is_quiet(&error) => return Ok(Ending::Quiet),
@@ -106,10 +125,11 @@ fn talk<S: Link, W: Write>(
     typed: Option<&[u8]>,
     out: &mut W,
 ) -> Result<Ending, ExchangeFault>
-    ensures { IfOk result (λ e. (t : Talk) → StandsAfter client.old t → is_online t ≡ true →
+    ensures turned { IfOk result (λ e. (t : Talk) → StandsAfter client.old t → is_online t ≡ true →
         Turned t client.new (bytes_of typed.entry) (S.remaining stream.old) (S.remaining stream.new)
         (outside (S.contents stream.old) (W.contents out.old) directory.old)
         (outside (S.contents stream.new) (W.contents out.new) directory.new) e) }
+    ensures few { LostAtMost (4096 * 1024) (S.remaining stream.old) (S.remaining stream.new) }
 {
     fibs_session::client::laws::empty_piece_is_nothing();
     match typed {
@@ -166,6 +186,7 @@ pub fn exchange<S: Link, W: Write>(
         (known_before S.remaining stream.entry) (known_after S.remaining stream.exit)
         (outside (known_before S.contents stream.entry) (W.contents out.old) directory.old)
         (outside (known_after S.contents stream.exit) (W.contents out.new) directory.new) e) }
+    ensures few { LostAtMost (4096 * 1024) (known_before S.remaining stream.entry) (known_after S.remaining stream.exit) }
 {
     match stream {
         None => talk_offline(client, typed, out),

@@ -2,7 +2,8 @@
 ghost use Rattle.std.specs.Prelude.{◌≡◌, ◌≤◌, ◌<◌, ◌*◌, ◌⊎◌, ◌++◌, ℕ, List, [], length, IfOk, OnOk, IfErr, IsErrOf, MatchResult};
 ghost use Rattle.std.specs.Io.KnownBytes.{Appends, IsAtEnd};
 ghost use Rattle.fibs_cli.specs.Show.{unfinished_text, WroteAll, WroteRead, WroteLines, WroteLinesOf, WroteFront};
-ghost use Rattle.fibs_cli.specs.Shows.{EndsText, LostAtLeast, LostAtMost, Shows};
+ghost use Rattle.fibs_cli.specs.Reads.{LostAtLeast, LostAtMost};
+ghost use Rattle.fibs_cli.specs.Shows.{EndsText, Shows};
 ghost use Rattle.fibs_cli.specs.Writing.{GainedFront};
 
 use crate::fault::EngineFault;

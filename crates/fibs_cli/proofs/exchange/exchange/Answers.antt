@@ -11,7 +11,10 @@ returns-in-None-clause-next g c =
 pub returns-in-Some-clause-next : goal.returns-in-Some-clause-next
 returns-in-Some-clause-next g c =
     let fits = rw c.in-Some.is at c.requires in
-    rw c.in-Some.is (if_ok_weaker c.talk.result (λ e h. next_fits e fits.0 _ _ _ _ _ _ true fits.2 (h fits.0 fits.1 fits.2)) c.talk.ensures)
+    rw c.in-Some.is (if_ok_weaker c.talk.result (λ e h. next_fits e fits.0 _ _ _ _ _ _ true fits.2 (h fits.0 fits.1 fits.2)) c.talk.ensures.turned)
 
 pub returns-in-Some-clause-turned : goal.returns-in-Some-clause-turned
-returns-in-Some-clause-turned g c = rw c.in-Some.is c.talk.ensures
+returns-in-Some-clause-turned g c = rw c.in-Some.is c.talk.ensures.turned
+
+pub returns-in-Some-clause-few : goal.returns-in-Some-clause-few
+returns-in-Some-clause-few g c = rw c.in-Some.is c.talk.ensures.few

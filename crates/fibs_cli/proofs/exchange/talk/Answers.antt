@@ -6,17 +6,17 @@ use Rattle.fibs_cli.proofs.TurnLemmas.Typed.{typed_stays}
 use Rattle.fibs_cli.proofs.TurnLemmas.Turns.{turned_typed, turned_broken}
 use Rattle.fibs_cli.proofs.exchange.talk.Goals as goal
 
-pub returns-in-Whole : goal.returns-in-Whole
-returns-in-Whole g c =
+pub returns-in-Whole-clause-turned : goal.returns-in-Whole-clause-turned
+returns-in-Whole-clause-turned g c =
     rw c.in-Some.is (if_ok_weaker c.listen-in-Whole.result
     (λ e h t at on.
     let text = c.in-Some.text.now in
     let v = typed_now t text in
     turned_typed e t _ text _ _ _ _ _ _ on c.type_line.ensures.apart (rw c.in-Whole.is at c.in_ok-type_line-in-Some.ensures.did t at c.args.directory.now)
-    (h (typed_step t v).talk (c.type_line.ensures.stands t at) ((typed_stays t v).online ∙ on))) c.listen-in-Whole.ensures)
+    (h (typed_step t v).talk (c.type_line.ensures.stands t at) ((typed_stays t v).online ∙ on))) c.listen-in-Whole.ensures.turned)
 
-pub returns-in-Broken : goal.returns-in-Broken
-returns-in-Broken g c =
+pub returns-in-Broken-clause-turned : goal.returns-in-Broken-clause-turned
+returns-in-Broken-clause-turned g c =
     rw c.in-Some.is (if_ok_weaker c.end_connection.result
     (λ e h t at on.
     let text = c.in-Some.text.now in
