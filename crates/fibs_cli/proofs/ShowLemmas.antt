@@ -7,7 +7,7 @@ use Rattle.std.proofs.KnownBytes.{Consumes-nil, Appends-nil, Consumes-trans, App
 use Rattle.fibs_lines.specs.Lines.{ReadLine, lines_of, rest_of, kept_limit}
 use Rattle.fibs_lines.specs.StreamLaws.{EmptyStreamHasNoLine}
 use Rattle.fibs_lines.specs.LinesValue.{LinesValue, StandsAfter}
-use Rattle.fibs_lines.specs.LineValue.{value_of}
+use Rattle.fibs_lines.specs.Lines.{value_of}
 use Rattle.fibs_lines.specs.Feeding.{Feeds, lent_lines}
 use Rattle.fibs_lines.specs.declared.lines.Fed.{Fed}
 use Rattle.fibs_lines.specs.declared.line.Line.{Line}

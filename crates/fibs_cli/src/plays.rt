@@ -7,7 +7,7 @@ ghost use Rattle.fibs_messages.specs.Line.{ReadingValue, board_line, malformed_l
 ghost use Rattle.fibs_position.specs.GoodBoard.{IsGood};
 ghost use Rattle.fibs_position.specs.PlayValue.{hops_of};
 ghost use Rattle.fibs_position.specs.PositionValue.{position_of};
-ghost use Rattle.fibs_position.specs.StoredPosition.{position_value};
+ghost use Rattle.fibs_position.specs.PositionValue.{position_value};
 ghost use Rattle.fibs_messages.specs.Faults.{fault_name};
 ghost use Rattle.fibs_position.specs.Names.{phase_name, position_fault_name};
 ghost use Rattle.fibs_cli.specs.Plays.{listing, PositionText, PlaysText, Refusal};

@@ -1,5 +1,7 @@
 -- What is kept, while a stream goes on.
-use Rattle.std.proofs.Common.{◌≡◌, ◌≢◌, ℕ, zero, suc, ◌+◌, ◌-◌, ◌<◌, Bool, true, false, List, [], ◌∷◌, ◌++◌, length, take, drop, get_or, refl, sym, ap, subst, ◌∙◌, arith, length-append, append_assoc, zero-le}
+use Rattle.std.proofs.Common.{◌≡◌, ◌≢◌, ℕ, zero, suc, ◌+◌, ◌-◌, ◌<◌, Bool, true, false, List, [], ◌∷◌, ◌++◌, length}
+use Rattle.std.proofs.Common.{take, drop, get_or, refl, sym, ap, subst, ◌∙◌, arith, length-append, append_assoc}
+use Rattle.std.proofs.Common.{zero-le}
 use Rattle.std.specs.Prelude.{◌||◌, nat_lt}
 use Rattle.std.proofs.Math.Seq.{take-add}
 use Rattle.std.proofs.lemmas.List.{length-take, append-nil, take_all, take_more}
@@ -8,7 +10,8 @@ use Rattle.fibs_lines.specs.Progress.{IsRun, Kept, KeptAfter, Advances}
 use Rattle.fibs_lines.proofs.Parts.{has_end}
 use Rattle.fibs_lines.specs.declared.telnet.Telnet.{Telnet}
 use Rattle.fibs_lines.specs.declared.telnet.Telnet.TheVariants.{Data, Command, Negotiation}
-use Rattle.fibs_lines.proofs.Streams.{data_of, telnet_after, data_along, telnet_along, plain-append, telnet_of-append, lines_of_more, rest_of_more}
+use Rattle.fibs_lines.proofs.Streams.{data_of, telnet_after, data_along, telnet_along, plain-append, telnet_of-append}
+use Rattle.fibs_lines.proofs.Streams.{lines_of_more, rest_of_more}
 use Rattle.fibs_lines.proofs.RunLemmas.{has_end_run, data_along_run, telnet_along_run}
 
 -- the front of a list that grows

@@ -1,18 +1,20 @@
 -- What `feed` answers, from what is kept.
-use Rattle.std.proofs.Common.{◌≡◌, ℕ, ◌+◌, min, Bool, true, false, List, [], ◌∷◌, ◌++◌, length, take, None, Some, true≢false, refl, sym, ap, subst, ◌∙◌, arith, append_assoc}
+use Rattle.std.proofs.Common.{◌≡◌, ℕ, ◌+◌, min, Bool, true, false, List, [], ◌∷◌, ◌++◌, length, take, None, Some}
+use Rattle.std.proofs.Common.{true≢false, refl, sym, ap, subst, ◌∙◌, arith, append_assoc}
 use Rattle.std.specs.Prelude.{nat_lt}
 use Rattle.std.proofs.lemmas.List.{take_more, take_all, append-nil, length-take}
 use Rattle.fibs_lines.specs.Lines.{plain, lines_of, rest_of, line_of, kept_limit}
 use Rattle.fibs_lines.specs.Standing.{telnet_of, AtLineStart}
 use Rattle.fibs_lines.specs.Progress.{Kept, KeptAfter, Advances, AdvancesToEnd}
-use Rattle.fibs_lines.specs.LineValue.{value_of}
+use Rattle.fibs_lines.specs.Lines.{value_of}
 use Rattle.fibs_lines.specs.LinesValue.{LinesValue, StandsAfter}
-use Rattle.fibs_lines.specs.LinesView.{kept_line, lines_value}
+use Rattle.fibs_lines.specs.LinesValue.{kept_line, lines_value}
 use Rattle.fibs_lines.specs.declared.unfinished.Unfinished.{Unfinished}
 use Rattle.fibs_lines.specs.Feeding.{Feeds}
 use Rattle.fibs_lines.specs.declared.line.Line.{Line}
 use Rattle.fibs_lines.specs.declared.telnet.Telnet.TheVariants.{Data}
-use Rattle.fibs_lines.proofs.Streams.{data_along, telnet_along, plain-append, telnet_of-append, lines_of_end, rest_of_end, lines_of_before}
+use Rattle.fibs_lines.proofs.Streams.{data_along, telnet_along, plain-append, telnet_of-append, lines_of_end}
+use Rattle.fibs_lines.proofs.Streams.{rest_of_end, lines_of_before}
 use Rattle.fibs_lines.proofs.ReturnLemmas.{kept_line_is}
 
 -- the value of a `Lines`, but for the line

@@ -1,10 +1,11 @@
 -- The byte 13 at a line's end.
-use Rattle.std.proofs.Common.{◌≡◌, ℕ, zero, suc, ◌+◌, ◌-◌, ◌<◌, ◌≤◌, Bool, true, false, eqb, cond, List, [], ◌∷◌, ◌++◌, length, take, refl, sym, ap, ◌∙◌, arith, get_or, ne_eqb, ◌≢◌}
+use Rattle.std.proofs.Common.{◌≡◌, ℕ, zero, suc, ◌+◌, ◌-◌, ◌<◌, ◌≤◌, Bool, true, false, eqb, cond, List, [], ◌∷◌, ◌++◌}
+use Rattle.std.proofs.Common.{length, take, refl, sym, ap, ◌∙◌, arith, get_or, ne_eqb, ◌≢◌}
 use Rattle.std.specs.Prelude.{◌||◌, nat_lt}
 use Rattle.std.proofs.lemmas.List.{take_all, take_more}
 use Rattle.std.specs.Str.Lines.{strip_carriage_return}
 use Rattle.fibs_lines.specs.Lines.{kept_limit, without_prompts, line_of, ReadLine}
-use Rattle.fibs_lines.specs.LinesView.{kept_line}
+use Rattle.fibs_lines.specs.LinesValue.{kept_line}
 
 -- std's `strip_carriage_return`, from the front on
 unfoldable pub without_return : List ℕ → List ℕ

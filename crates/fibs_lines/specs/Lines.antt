@@ -1,7 +1,10 @@
--- The lines of a byte stream: telnet commands (RFC 854), line ends, the limit and the prompts. Each definition cuts a whole list.
-use Rattle.std.specs.Prelude.{ℕ, zero, suc, Bool, ◌&&◌, ◌==◌, nat_le, nat_lt, nat_eq, List, [], ◌∷◌, length, take, drop, map, count_by, if◌then◌else◌}
+-- The lines of a byte stream: telnet commands (RFC 854), line ends, the limit and the prompts. Each definition cuts a
+-- whole list.
+use Rattle.std.specs.Prelude.{ℕ, zero, suc, Bool, ◌&&◌, ◌==◌, nat_le, nat_lt, nat_eq, List, [], ◌∷◌, length, take, drop}
+use Rattle.std.specs.Prelude.{map, count_by, if◌then◌else◌, Option, None, Some}
 use Rattle.std.specs.List.{starts_with, slice_split, after_last}
 use Rattle.std.specs.Str.Lines.{strip_carriage_return}
+use Rattle.fibs_lines.specs.declared.line.Line.{Line}
 
 -- how many bytes of a line are kept
 abbrev pub kept_limit : ℕ
@@ -11,7 +14,9 @@ kept_limit = 4096
 abbrev pub takes_option : ℕ → Bool
 takes_option c = nat_le 251 c && nat_le c 254
 
--- the stream without its telnet commands, which begin with the byte 255 (RFC 854, IAC): 255 255 is the byte 255, 255 and 251 to 254 go with the byte after them, and 255 goes with any other byte after it. A command that the end leaves unfinished gives nothing
+-- the stream without its telnet commands, which begin with the byte 255 (RFC 854, IAC): 255 255 is the byte 255, 255
+-- and 251 to 254 go with the byte after them, and 255 goes with any other byte after it. A command that the end leaves
+-- unfinished gives nothing
 unfoldable pub plain : List ℕ → List ℕ
 plain [] = []
 plain (b ∷ []) = if b == 255 then [] else b ∷ []
@@ -68,3 +73,14 @@ lines_of s = map line_of (finished_parts (plain s))
 -- what follows the last line end of a stream
 unfoldable pub rest_of : List ℕ → List ℕ
 rest_of s = after_last is_line_end (plain s)
+
+-- ---- the lines of the program as values
+
+-- its bytes, and whether it had more
+abbrev pub value_of : Line → ReadLine
+value_of line = record { bytes = line.bytes.now; cut = line.cut }
+
+-- the same of a line that may be there
+abbrev pub line_value : Option Line → Option ReadLine
+line_value None = None
+line_value (Some line) = Some (value_of line)

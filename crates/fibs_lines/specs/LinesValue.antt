@@ -1,8 +1,11 @@
 -- What a `Lines` is seen as.
-use Rattle.std.specs.Prelude.{◌≡◌, ℕ, ◌+◌, Bool, nat_lt, List, length, take, Option}
-use Rattle.fibs_lines.specs.Lines.{kept_limit, rest_of, ReadLine}
+use Rattle.std.specs.Prelude.{◌≡◌, ℕ, ◌+◌, Bool, nat_lt, List, length, take, Option, false, ◌||◌, [], None, Some}
+use Rattle.std.specs.Prelude.{if◌then◌else◌}
+use Rattle.fibs_lines.specs.Lines.{kept_limit, rest_of, ReadLine, without_prompts}
 use Rattle.fibs_lines.specs.Standing.{telnet_of}
 use Rattle.fibs_lines.specs.declared.telnet.Telnet.{Telnet}
+use Rattle.std.specs.Str.Lines.{strip_carriage_return}
+use Rattle.fibs_lines.specs.declared.unfinished.Unfinished.{Unfinished}
 
 -- what it keeps of its stream, and the line that it lent last
 pub record LinesValue : Type 0 where
@@ -15,9 +18,24 @@ pub record LinesValue : Type 0 where
   -- the line that the last call of `feed` lent, if that was the last call and it lent one
   pub line : Option ReadLine
 
--- the value stands after the stream: one byte more than a line's is kept, since that may be the CR before a line end. Callers name streams by this word, and never open it
+-- the value stands after the stream: one byte more than a line's is kept, since that may be the CR before a line end.
+-- Callers name streams by this word, and never open it
 unfoldable pub StandsAfter : LinesValue → List ℕ → Type 0
 StandsAfter v s =
     (v.telnet ≡ telnet_of s)
     × (v.front ≡ take (kept_limit + 1) (rest_of s))
     × (v.over ≡ nat_lt (kept_limit + 1) (length (rest_of s)))
+
+-- ---- the `Lines` of the program as this value
+
+-- the line that begins with these bytes, and goes on behind them where it is over
+abbrev pub kept_line : List ℕ → Bool → ReadLine
+kept_line front over =
+    let line = strip_carriage_return front in
+    record { bytes = without_prompts (take kept_limit line); cut = over || nat_lt kept_limit (length line) }
+
+-- the bytes of a line that was lent stay where they are until the next call, and count as gone
+abbrev pub lines_value : Unfinished → Bool → LinesValue
+lines_value u lent =
+    if lent then record { telnet = u.telnet; front = []; over = false; line = Some (kept_line u.front.items u.over) }
+    else record { telnet = u.telnet; front = u.front.items; over = u.over; line = None }

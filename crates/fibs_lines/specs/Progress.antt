@@ -1,12 +1,14 @@
 -- How the reading loop goes on. No public contract rests on this file.
-use Rattle.std.specs.Prelude.{◌≡◌, ℕ, ◌+◌, ◌<◌, Bool, false, ◌||◌, ◌==◌, nat_lt, List, [], ◌∷◌, ◌++◌, length, take, slice_index}
+use Rattle.std.specs.Prelude.{◌≡◌, ℕ, ◌+◌, ◌<◌, Bool, false, ◌||◌, ◌==◌, nat_lt, List, [], ◌∷◌, ◌++◌, length, take}
+use Rattle.std.specs.Prelude.{slice_index}
 use Rattle.fibs_lines.specs.Lines.{kept_limit, rest_of, lines_of}
 use Rattle.fibs_lines.specs.Standing.{telnet_of}
 use Rattle.fibs_lines.specs.declared.telnet.Telnet.{Telnet}
 use Rattle.fibs_lines.specs.declared.telnet.Telnet.TheVariants.{Data}
 use Rattle.fibs_lines.specs.declared.unfinished.Unfinished.{Unfinished}
 
--- what is kept of a stream: how much of a telnet command has come, the first bytes after the last line end, and whether there are more
+-- what is kept of a stream: how much of a telnet command has come, the first bytes after the last line end, and whether
+-- there are more
 pub record Kept : Type 0 where
   pub telnet : Telnet
   pub front : List ℕ

@@ -4,7 +4,8 @@ use Rattle.fibs_lines.specs.Lines.{takes_option, rest_of}
 use Rattle.fibs_lines.specs.declared.telnet.Telnet.{Telnet}
 use Rattle.fibs_lines.specs.declared.telnet.Telnet.TheVariants.{Data, Command, Negotiation}
 
--- how much of a telnet command stands at the end of a stream: none, a byte 255, or 255 and one of 251 to 254. The cases are those of `plain`
+-- how much of a telnet command stands at the end of a stream: none, a byte 255, or 255 and one of 251 to 254. The cases
+-- are those of `plain`
 unfoldable pub telnet_of : List ℕ → Telnet
 telnet_of [] = Data
 telnet_of (b ∷ []) = if b == 255 then Command else Data

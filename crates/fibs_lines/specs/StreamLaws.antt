@@ -1,7 +1,8 @@
 -- Laws of the definitions: the contracts of the functions in `laws`.
 use Rattle.std.specs.Prelude.{◌≡◌, ℕ, ◌+◌, ◌≤◌, ◌⊎◌, ◌≢◌, false, nat_eq, List, [], ◌∷◌, ◌++◌, length, count_by, All}
 use Rattle.std.specs.List.{starts_with, slice_split, concat}
-use Rattle.fibs_lines.specs.Lines.{kept_limit, plain, is_line_end, finished_parts, login_prompt, command_prompt, without_prompts, ReadLine, lines_of, rest_of}
+use Rattle.fibs_lines.specs.Lines.{kept_limit, plain, is_line_end, finished_parts, login_prompt, command_prompt}
+use Rattle.fibs_lines.specs.Lines.{without_prompts, ReadLine, lines_of, rest_of}
 use Rattle.fibs_lines.specs.Standing.{AtLineStart}
 
 -- the parts between the line ends are the finished ones, and then the rest
@@ -16,7 +17,8 @@ EmptyStreamHasNoLine = (lines_of [] ≡ []) × AtLineStart []
 abbrev pub LinesOnlyGrow : Type 0
 LinesOnlyGrow = (s t : List ℕ) → (more : List ReadLine) × (lines_of (s ++ t) ≡ lines_of s ++ more)
 
--- a piece gives at most as many lines as it has bytes LF: no telnet command that is open before it turns another byte into a line end
+-- a piece gives at most as many lines as it has bytes LF: no telnet command that is open before it turns another byte
+-- into a line end
 abbrev pub LinesAreAtMostTheLineEnds : Type 0
 LinesAreAtMostTheLineEnds = (s t : List ℕ) → length (lines_of (s ++ t)) ≤ length (lines_of s) + count_by is_line_end t
 
@@ -24,7 +26,8 @@ LinesAreAtMostTheLineEnds = (s t : List ℕ) → length (lines_of (s ++ t)) ≤ 
 abbrev pub with_line_end : List ℕ → List ℕ
 with_line_end text = text ++ 13 ∷ 10 ∷ []
 
--- after CR LF a stream stands at a line's start, whatever came before: whether CR is a byte of the line or the last byte of a telnet command, the LF after it is neither
+-- after CR LF a stream stands at a line's start, whatever came before: whether CR is a byte of the line or the last
+-- byte of a telnet command, the LF after it is neither
 abbrev pub LineEndIsALineStart : Type 0
 LineEndIsALineStart = (t : List ℕ) → AtLineStart (with_line_end t)
 
@@ -45,7 +48,8 @@ WhatFollowsALineEndReadsAlone = (t s : List ℕ) → ReadsAlone (with_line_end t
 abbrev pub LinesFit : Type 0
 LinesFit = (s : List ℕ) → All (λ l. length l.bytes ≤ kept_limit) (lines_of s)
 
--- a text that a reader gets as it was sent: it fits, begins with no prompt, and has no LF and no 255. It may end in CR, since only the CR that is sent after it goes
+-- a text that a reader gets as it was sent: it fits, begins with no prompt, and has no LF and no 255. It may end in CR,
+-- since only the CR that is sent after it goes
 pub record IsSendable (text : List ℕ) : Type 0 where
   pub fits : length text ≤ kept_limit
   pub no_line_end : All (λ b. b ≢ 10) text

@@ -3,9 +3,12 @@
 //! The functions without parameters do nothing: the contract is the law, stated in `specs/StreamLaws.antt`.
 
 ghost use Rattle.std.specs.Prelude.{◌≡◌, ◌↔◌, IsTrue};
-ghost use Rattle.fibs_lines.specs.LineValue.{value_of, line_value};
+ghost use Rattle.fibs_lines.specs.Lines.{value_of, line_value};
 ghost use Rattle.fibs_lines.specs.Lines.{kept_limit};
-ghost use Rattle.fibs_lines.specs.StreamLaws.{PartsAreLinesAndRest, EmptyStreamHasNoLine, LinesOnlyGrow, LinesAreAtMostTheLineEnds, LineEndIsALineStart, LineStartReadsAlone, WhatFollowsALineEndReadsAlone, LinesFit, SendableTextIsItsLine, PromptsAreRemoved};
+ghost use Rattle.fibs_lines.specs.StreamLaws.{PartsAreLinesAndRest, EmptyStreamHasNoLine, LinesOnlyGrow};
+ghost use Rattle.fibs_lines.specs.StreamLaws.{LinesAreAtMostTheLineEnds, LineEndIsALineStart, LineStartReadsAlone};
+ghost use Rattle.fibs_lines.specs.StreamLaws.{WhatFollowsALineEndReadsAlone, LinesFit, SendableTextIsItsLine};
+ghost use Rattle.fibs_lines.specs.StreamLaws.{PromptsAreRemoved};
 
 use crate::{Fed, LIMIT, Line};
 

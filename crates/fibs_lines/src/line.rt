@@ -25,8 +25,8 @@ fn without_return(bytes: &[u8]) -> &[u8]
 }
 
 impl<'a> Line<'a> {
-    ghost use Rattle.fibs_lines.specs.LineValue.{value_of};
-    ghost use Rattle.fibs_lines.specs.LinesView.{kept_line};
+    ghost use Rattle.fibs_lines.specs.Lines.{value_of};
+    ghost use Rattle.fibs_lines.specs.LinesValue.{kept_line};
 
     /// The line that begins with `front`, and goes on behind it where it is `over`.
     pub(crate) fn from_front(front: &'a [u8], over: bool) -> Line<'a>

@@ -33,7 +33,7 @@ impl Model for Lines {
 
     ghost Value = { LinesValue };
 
-    ghost use Rattle.fibs_lines.specs.LinesView.{lines_value};
+    ghost use Rattle.fibs_lines.specs.LinesValue.{lines_value};
 
     ghost view = { λ l. lines_value l.unfinished l.lent };
 }
@@ -51,7 +51,7 @@ impl Default for Lines {
 impl Lines {
     ghost use Rattle.fibs_lines.specs.contracts.lines.Lines.{the_row};
     ghost use Rattle.fibs_lines.specs.Feeding.{Feeds};
-    ghost use Rattle.fibs_lines.specs.LineValue.{line_value};
+    ghost use Rattle.fibs_lines.specs.Lines.{line_value};
 
     /// The reader of a stream of which nothing has come.
     pub fn new() -> Lines
@@ -97,7 +97,8 @@ impl Lines {
 
     /// The line that the last call of `feed` lent, if it lent one: none after `new` and `reset`.
     ///
-    /// A caller that changes something of its own at a line, and lends the line on, takes `used` from `feed` and the line
+    /// A caller that changes something of its own at a line, and lends the line on, takes `used` from `feed` and the
+    /// line
     /// from here.
     pub fn line(&self) -> Option<Line<'_>>
         ensures { line_value result ≡ self.now.line }
@@ -109,7 +110,8 @@ impl Lines {
         }
     }
 
-    /// Forgets the unfinished line, the unfinished telnet command and the line that was lent: the next byte is the first
+    /// Forgets the unfinished line, the unfinished telnet command and the line that was lent: the next byte is the
+    /// first
     /// of a new stream.
     pub fn reset(&mut self)
         ensures stands { StandsAfter self.new [] }
@@ -119,7 +121,8 @@ impl Lines {
         self.lent = false;
     }
 
-    /// How many bytes stand after the last line end, without telnet commands and up to `LIMIT`. It is 0 after a line was
+    /// How many bytes stand after the last line end, without telnet commands and up to `LIMIT`. It is 0 after a line
+    /// was
     /// lent.
     ///
     /// Prompts are counted, and so is a CR at the end, since they are bytes of the line until it ends.

@@ -1,4 +1,5 @@
-ghost use Rattle.std.specs.Prelude.{true, false, IfNone, IfSome, ◌≡◌, ◌+◌, ◌-◌, ◌<◌, ◌≤◌, ◌||◌, nat_lt, length, take, ◌++◌, ◌∷◌, [], slice_index, ◌≢◌};
+ghost use Rattle.std.specs.Prelude.{true, false, IfNone, IfSome, ◌≡◌, ◌+◌, ◌-◌, ◌<◌, ◌≤◌, ◌||◌, nat_lt, length, take};
+ghost use Rattle.std.specs.Prelude.{◌++◌, ◌∷◌, [], slice_index, ◌≢◌};
 ghost use Rattle.fibs_lines.specs.Progress.{IsRun, ends_run};
 
 use crate::LIMIT;
@@ -44,8 +45,8 @@ pub(crate) fn run_len(bytes: &[u8]) -> usize
 }
 
 impl Unfinished {
-    ghost use Rattle.fibs_lines.specs.LineValue.{value_of};
-    ghost use Rattle.fibs_lines.specs.LinesView.{kept_line};
+    ghost use Rattle.fibs_lines.specs.Lines.{value_of};
+    ghost use Rattle.fibs_lines.specs.LinesValue.{kept_line};
     ghost use Rattle.fibs_lines.specs.Progress.{kept, Advances, AdvancesToEnd};
 
     /// Nothing is kept.
@@ -84,7 +85,8 @@ impl Unfinished {
     /// Keeps what there is room for of `run`.
     fn keep(&mut self, run: &[u8])
         ensures telnet { self.new.telnet ≡ self.old.telnet }
-        ensures front { self.new.front.items ≡ self.old.front.items ++ take (ROOM - length self.old.front.items) run.now }
+        ensures front { self.new.front.items ≡
+            self.old.front.items ++ take (ROOM - length self.old.front.items) run.now }
         ensures over { self.new.over ≡ (self.old.over || nat_lt (ROOM - length self.old.front.items) (length run.now)) }
     {
         let room = self.front.remaining_capacity();

@@ -1,11 +1,13 @@
 -- Boards of FIBS board style 3: the 53 fields of a board line, its spelling, and its first wrong field.
-use Rattle.std.specs.Prelude.{◌≡◌, ◌==◌, ◌&&◌, ◌-◌, ◌++◌, ℕ, Bool, true, false, cond, List, [], ◌∷◌, Option, Some, None, ℤ, pos, negsuc, map, codes, replicate, length, take, nat_le, slice_get, slice_set, slice_index_or}
+use Rattle.std.specs.Prelude.{◌≡◌, ◌==◌, ◌&&◌, ◌-◌, ◌++◌, ℕ, Bool, true, false, cond, List, [], ◌∷◌, Option, Some, None}
+use Rattle.std.specs.Prelude.{ℤ, pos, negsuc, map, codes, replicate, length, take, nat_le, slice_get, slice_set}
+use Rattle.std.specs.Prelude.{slice_index_or}
 use Rattle.std.specs.Str.{bytes_eq}
 use Rattle.std.specs.Result.{result_err}
 use Rattle.std.specs.List.{AllZip, slice_split, suffix_len, join_with_byte}
 use Rattle.std.specs.Fmt.{signed_decimal}
 use Rattle.fibs_messages.specs.Decimal.{allows, number_in}
-use Rattle.fibs_messages.specs.FirstFault.{IsFirstFault, bad_name_unless}
+use Rattle.fibs_messages.specs.Field.{IsFirstFault, bad_name_unless}
 use Rattle.fibs_messages.specs.Name.{is_name}
 use Rattle.fibs_messages.specs.declared.fields.fault.Fault.{Fault}
 use Rattle.fibs_messages.specs.declared.fields.fault.Fault.TheVariants.{Missing, Extra}

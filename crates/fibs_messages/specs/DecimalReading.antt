@@ -1,8 +1,8 @@
 -- How numbers are read. No public contract rests on it.
-use Rattle.std.specs.Prelude.{◌||◌, ℕ, cond, List, Result, Ok, Err, ℤ, pos, negsuc, ◌-◌, ◌^◌, min, FitsSigned, nat_lt}
+use Rattle.std.specs.Prelude.{◌||◌, ℕ, cond, List, Result, Ok, Err, ℤ, pos, negsuc, ◌-◌, min, FitsSigned, nat_lt}
 use Rattle.std.specs.Int.{w32}
 use Rattle.std.specs.Str.Parse.{digits_value}
-use Rattle.fibs_messages.specs.Decimal.{is_positive, is_zero}
+use Rattle.fibs_messages.specs.Decimal.{numbers_of_32_bits, numbers_of_64_bits, is_positive, is_zero}
 use Rattle.fibs_messages.specs.declared.fields.fault.Fault.{Fault}
 use Rattle.fibs_messages.specs.declared.fields.fault.Fault.TheVariants.{NotANumber, OutOfRange}
 use Rattle.fibs_messages.specs.declared.fields.values.Values.{Values}
@@ -12,7 +12,7 @@ use Rattle.fibs_messages.specs.declared.fields.values.Values.TheVariants.{Betwee
 abbrev pub unsigned_value : List ℕ → Result ℕ Fault
 unsigned_value text =
     cond (is_zero text || is_positive text)
-    (cond (nat_lt (digits_value 10 text) (2 ^ 64)) (Ok (digits_value 10 text)) (Err OutOfRange))
+    (cond (nat_lt (digits_value 10 text) numbers_of_64_bits) (Ok (digits_value 10 text)) (Err OutOfRange))
     (Err NotANumber)
 
 -- the numbers fit 32 bits
@@ -22,5 +22,5 @@ IsNarrow (Either one other) = FitsSigned w32 one × FitsSigned w32 other
 
 -- the number, or one as far from 0 as no field's is
 abbrev pub capped : ℤ → ℤ
-capped (pos n) = pos (min n (2 ^ 32 - 1))
-capped (negsuc n) = negsuc (min n (2 ^ 32 - 2))
+capped (pos n) = pos (min n (numbers_of_32_bits - 1))
+capped (negsuc n) = negsuc (min n (numbers_of_32_bits - 2))

@@ -1,14 +1,14 @@
 -- The fields of a message: their kinds, how a value is spelled, and what is wrong with other texts.
-use Rattle.std.specs.Prelude.{◌≡◌, ℕ, ◌+◌, ◌/◌, ◌%◌, ◌<◌, Bool, true, false, List, [], ◌∷◌, ◌++◌, Option, Some, None, decimal, pos, slice_get, if◌then◌else◌}
+use Rattle.std.specs.Prelude.{◌≡◌, ℕ, ◌+◌, ◌-◌, ◌<◌, Bool, true, false, List, [], ◌∷◌, ◌++◌, Option, Some, None}
+use Rattle.std.specs.Prelude.{decimal, pos, slice_get, if◌then◌else◌, cond}
 use Rattle.std.specs.Result.{result_err}
 use Rattle.fibs_messages.specs.declared.fields.fault.Fault.{Fault}
-use Rattle.fibs_messages.specs.declared.fields.fault.Fault.TheVariants.{Missing, Extra}
+use Rattle.fibs_messages.specs.declared.fields.fault.Fault.TheVariants.{Missing, Extra, BadName}
 use Rattle.fibs_messages.specs.declared.fields.values.Values.{Values}
 use Rattle.fibs_messages.specs.declared.fields.values.Values.TheVariants.{Between}
-use Rattle.fibs_messages.specs.Decimal.{number_in}
-use Rattle.fibs_messages.specs.FirstFault.{bad_name_unless}
+use Rattle.fibs_messages.specs.Decimal.{numbers_of_32_bits, numbers_of_64_bits, number_in}
 use Rattle.fibs_messages.specs.Name.{is_name}
-use Rattle.fibs_messages.specs.Rating.{RatingText, rating_in}
+use Rattle.fibs_messages.specs.Rating.{RatingText, rating_in, printed_rating}
 use Rattle.fibs_messages.specs.Split.{before, after}
 use Rattle.fibs_messages.specs.Word.{is_word, is_tail}
 
@@ -59,32 +59,45 @@ may_be_absent k = false
 abbrev pub flag_text : Bool → List ℕ
 flag_text b = (if b then 49 else 48) ∷ []
 
--- the ways in which a value may be spelled
-abbrev pub Spells : FieldValue → List ℕ → Type 0
-Spells (NameField s) text = (is_name s ≡ true) × (text ≡ s)
-Spells (WordField s) text = (is_word s ≡ true) × (text ≡ s)
-Spells (TailField s) text = (is_tail s ≡ true) × (text ≡ s)
-Spells (FlagField b) text = text ≡ flag_text b
-Spells (NumberField n) text = (n < 18446744073709551616) × (text ≡ decimal n)
-Spells (RatingField r) text = (r < 4294967296) × RatingText r text
-Spells (TextField s) text = text ≡ s
-
--- the one way in which it is printed; a rating always has two digits after its point
+-- the one way in which a value is printed
 abbrev pub canonical_text : FieldValue → List ℕ
 canonical_text (NameField s) = s
 canonical_text (WordField s) = s
 canonical_text (TailField s) = s
 canonical_text (FlagField b) = flag_text b
 canonical_text (NumberField n) = decimal n
-canonical_text (RatingField r) = decimal (r / 100) ++ (46 ∷ (48 + r % 100 / 10) ∷ (48 + r % 10) ∷ [])
+canonical_text (RatingField r) = printed_rating r
 canonical_text (TextField s) = s
+
+-- what a value has to hold
+abbrev pub IsValue : FieldValue → Type 0
+IsValue (NameField s) = is_name s ≡ true
+IsValue (WordField s) = is_word s ≡ true
+IsValue (TailField s) = is_tail s ≡ true
+IsValue (FlagField b) = Unit {0}
+IsValue (NumberField n) = n < numbers_of_64_bits
+IsValue (RatingField r) = r < numbers_of_32_bits
+IsValue (TextField s) = Unit {0}
+
+-- the texts that say a value: the one that is printed, and of a rating others
+abbrev pub IsSpelling : FieldValue → List ℕ → Type 0
+IsSpelling (RatingField r) text = RatingText r text
+IsSpelling v text = text ≡ canonical_text v
+
+-- the ways in which a value may be spelled
+abbrev pub Spells : FieldValue → List ℕ → Type 0
+Spells v text = IsValue v × IsSpelling v text
 
 -- the numbers of a flag, and those of 64 bits
 abbrev pub flag_values : Values
 flag_values = Between (pos 0) (pos 1)
 
 abbrev pub number_values : Values
-number_values = Between (pos 0) (pos 18446744073709551615)
+number_values = Between (pos 0) (pos (numbers_of_64_bits - 1))
+
+-- a text that is no name, or not the word that has to stand there
+abbrev pub bad_name_unless : Bool → Option Fault
+bad_name_unless good = cond good None (Some BadName)
 
 -- what is wrong with a text that has to be of a kind, if anything
 abbrev pub fault_in : Kind → List ℕ → Option Fault
@@ -113,3 +126,8 @@ fault_between None None = None
 
 abbrev pub fault_at : List Kind → List (List ℕ) → ℕ → Option Fault
 fault_at ks texts i = fault_between (slice_get ks i) (slice_get texts i)
+
+-- of the places 0, 1, 2 and so on, each of which has its fault or none, field k, counted from 1, is wrong for the
+-- reason f, and no field before it is wrong
+abbrev pub IsFirstFault : (ℕ → Option Fault) → ℕ → Fault → Type 0
+IsFirstFault fault k f = (i : ℕ) × (k ≡ i + 1) × (fault i ≡ Some f) × ((j : ℕ) → j < i → fault j ≡ None)

@@ -3,8 +3,8 @@ use Rattle.std.specs.Prelude.{List, map}
 use Rattle.fibs_messages.specs.declared.messages.print.Field.{Field}
 use Rattle.fibs_messages.specs.declared.messages.print.Field.TheVariants.{Name, Word, Flag, Number, Rating, Text}
 use Rattle.fibs_messages.specs.Field.{FieldValue, NameField, WordField, FlagField, NumberField, RatingField, TextField}
-use Rattle.fibs_messages.specs.NameBytes.{name_bytes}
-use Rattle.fibs_messages.specs.WordBytes.{word_bytes}
+use Rattle.fibs_messages.specs.Bytes.{name_bytes}
+use Rattle.fibs_messages.specs.Bytes.{word_bytes}
 
 abbrev pub value_of : Field → FieldValue
 value_of (Name name) = NameField (name_bytes name)

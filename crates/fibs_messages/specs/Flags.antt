@@ -2,7 +2,7 @@
 use Rattle.std.specs.Prelude.{◌≡◌, ℕ, Bool, false, Option, Some, slice_get}
 use Rattle.fibs_messages.specs.Field.{FieldValue, FlagField}
 use Rattle.fibs_messages.specs.Message.{MessageValue}
-use Rattle.fibs_messages.specs.MessageOf.{message_of}
+use Rattle.fibs_messages.specs.Message.{message_of}
 use Rattle.fibs_messages.specs.declared.messages.message.Message.TheVariants.{OwnInfo as TheOwnInfo}
 use Rattle.fibs_messages.specs.declared.messages.message.OwnInfo.{OwnInfo}
 

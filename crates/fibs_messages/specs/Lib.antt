@@ -5,7 +5,6 @@ pub mod Name
 pub mod Word
 pub mod Rating
 pub mod Faults
-pub mod FirstFault
 pub mod Printed
 pub mod Board
 pub mod FieldRanges
@@ -13,13 +12,9 @@ pub mod Field
 pub mod Message
 pub mod Flags
 pub mod Line
--- The values of the program as these.
-pub mod NameBytes
-pub mod WordBytes
-pub mod Stored
+-- The values of the program as these, where their own facts stand in the files above.
+pub mod Bytes
 pub mod StoredBoard
-pub mod MessageOf
-pub mod ReadingOf
 -- What only private functions and proofs say; on the readings of fields and boards rests `reading_value` too.
 pub mod Bits
 pub mod BoardProp

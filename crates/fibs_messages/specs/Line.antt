@@ -1,16 +1,21 @@
 -- What a line of the server is, and what a reading says of it (FIBS CLIP specification 1008; FIBS board style 3).
-use Rattle.std.specs.Prelude.{◌≡◌, ◌==◌, ◌⊎◌, List, [], ◌∷◌, ℕ, ℤ, pos, Option, Some, None, Result, Ok, Err, codes, true, if◌then◌else◌}
+use Rattle.std.specs.Prelude.{◌≡◌, ◌==◌, ◌⊎◌, List, [], ◌∷◌, ℕ, ℤ, pos, Option, Some, None, Result, Ok, Err, codes}
+use Rattle.std.specs.Prelude.{true, if◌then◌else◌}
 use Rattle.std.specs.List.{starts_with}
 use Rattle.fibs_messages.specs.Board.{BoardFields, BoardText, Wrong, field_values, kinds, pieces, without_spaces}
 use Rattle.fibs_messages.specs.BoardReading.{first_fault}
 use Rattle.fibs_messages.specs.Decimal.{number_in}
 use Rattle.fibs_messages.specs.Field.{FieldValue}
 use Rattle.fibs_messages.specs.FieldReading.{fields_at, left}
-use Rattle.fibs_messages.specs.Message.{MessageValue, MessageText, IsNumbered, WrongMessage, kinds_of, kept, number_word}
+use Rattle.fibs_messages.specs.Message.{MessageValue, MessageText, IsNumbered, WrongMessage, kinds_of, kept}
+use Rattle.fibs_messages.specs.Message.{number_word, message_of}
 use Rattle.fibs_messages.specs.Split.{before, after}
 use Rattle.fibs_messages.specs.declared.fields.fault.FieldFault.{FieldFault}
 use Rattle.fibs_messages.specs.declared.fields.fault.Fault.{Fault}
 use Rattle.fibs_messages.specs.declared.fields.values.Values.{Values}
+use Rattle.fibs_messages.specs.StoredBoard.{fields_of}
+use Rattle.fibs_messages.specs.declared.line.Reading.{Reading}
+use Rattle.fibs_messages.specs.declared.line.Reading.TheVariants.{Numbered, Board, Text, Malformed}
 
 -- a board line begins with `board:`
 abbrev pub IsBoardLine : List ℕ → Type 0
@@ -81,3 +86,12 @@ reading_value line =
 -- it is the line's reading
 abbrev pub ReadingIsExact : Type 0
 ReadingIsExact = (line : List ℕ) → IsReading line (reading_value line)
+
+-- ---- the readings of the program as values
+
+-- what the reading says, with no address in it
+abbrev pub reading_of : Reading → ReadingValue
+reading_of (Numbered m) = numbered_line (message_of m)
+reading_of (Board b) = board_line (fields_of b)
+reading_of (Text text) = text_line text.now
+reading_of (Malformed number field fault) = malformed_line number field fault

@@ -1,14 +1,27 @@
 -- Messages 1 to 19 (FIBS CLIP specification 1008) and their lines.
-use Rattle.std.specs.Prelude.{◌≡◌, ℕ, ◌<◌, ◌≤◌, ◌+◌, ◌-◌, Bool, true, false, nat_le, ◌&&◌, ◌||◌, ◌==◌, List, [], ◌∷◌, ◌++◌, Option, Some, None, decimal, map, replicate, if◌then◌else◌}
+use Rattle.std.specs.Prelude.{◌≡◌, ℕ, ◌<◌, ◌≤◌, ◌+◌, ◌-◌, Bool, true, false, nat_le, ◌&&◌, ◌||◌, ◌==◌, List, [], ◌∷◌}
+use Rattle.std.specs.Prelude.{◌++◌, Option, Some, None, decimal, map, replicate, if◌then◌else◌}
 use Rattle.std.specs.Int.{is_in_range}
 use Rattle.std.specs.List.{flat_map, AllByRecursion}
 use Rattle.fibs_messages.specs.declared.fields.fault.Fault.{Fault}
 use Rattle.fibs_messages.specs.Board.{without_spaces}
 use Rattle.fibs_messages.specs.Name.{is_name}
 use Rattle.fibs_messages.specs.Word.{is_word, is_tail}
-use Rattle.fibs_messages.specs.Field.{Kind, a_name, a_word, a_tail, a_flag, a_number, a_rating, a_text, FieldValue, NameField, WordField, TailField, FlagField, NumberField, RatingField, TextField, kind_of, Spells, canonical_text, texts_for, fault_at}
-use Rattle.fibs_messages.specs.FirstFault.{IsFirstFault}
+use Rattle.fibs_messages.specs.Field.{Kind, a_name, a_word, a_tail, a_flag, a_number, a_rating, a_text, FieldValue}
+use Rattle.fibs_messages.specs.Field.{NameField, WordField, TailField, FlagField, NumberField, RatingField, TextField}
+use Rattle.fibs_messages.specs.Field.{kind_of, IsValue, Spells, canonical_text, texts_for, fault_at, IsFirstFault}
 use Rattle.fibs_messages.specs.Split.{before, after}
+use Rattle.fibs_messages.specs.declared.messages.message.Message.{Message}
+use Rattle.fibs_messages.specs.declared.messages.message.Message.TheVariants.{Welcome, OwnInfo as TheOwnInfo, MotdBegin}
+use Rattle.fibs_messages.specs.declared.messages.message.Message.TheVariants.{MotdEnd, WhoInfo as TheWhoInfo}
+use Rattle.fibs_messages.specs.declared.messages.message.Message.TheVariants.{WhoInfoEnd, Login, Logout}
+use Rattle.fibs_messages.specs.declared.messages.message.Message.TheVariants.{MessageReceived, MessageDelivered}
+use Rattle.fibs_messages.specs.declared.messages.message.Message.TheVariants.{MessageSaved, Says, Shouts, Whispers}
+use Rattle.fibs_messages.specs.declared.messages.message.Message.TheVariants.{Kibitzes, YouSay, YouShout, YouWhisper}
+use Rattle.fibs_messages.specs.declared.messages.message.Message.TheVariants.{YouKibitz}
+use Rattle.fibs_messages.specs.declared.messages.message.OwnInfo.{OwnInfo}
+use Rattle.fibs_messages.specs.declared.messages.message.WhoInfo.{WhoInfo}
+use Rattle.fibs_messages.specs.Bytes.{name_bytes, word_bytes, tail_bytes}
 
 -- a row of the table: a message's number, and the kinds of its fields in their order
 pub record Row : Type 0 where
@@ -136,19 +149,55 @@ canonical_field v = 32 ∷ canonical_text v
 abbrev pub canonical : MessageValue → List ℕ
 canonical m = decimal m.number ++ flat_map canonical_field m.fields
 
--- what a value has to hold
-abbrev pub IsValue : FieldValue → Type 0
-IsValue (NameField s) = is_name s ≡ true
-IsValue (WordField s) = is_word s ≡ true
-IsValue (TailField s) = is_tail s ≡ true
-IsValue (FlagField b) = Unit {0}
-IsValue (NumberField n) = n < 18446744073709551616
-IsValue (RatingField n) = n < 4294967296
-IsValue (TextField s) = Unit {0}
-
 -- a message that is well formed: it has a number of the table, fields of the kinds of that row, and values of these
 -- kinds
 pub record IsMessage (m : MessageValue) : Type 0 where
   pub number : IsNumber m.number
   pub kinds : map kind_of m.fields ≡ kinds_of m.number
   pub values : AllByRecursion IsValue m.fields
+
+-- ---- the messages of the program as values
+
+abbrev pub message : ℕ → List FieldValue → MessageValue
+message n fields = record { number = n; fields = fields }
+
+abbrev pub own_info_fields : OwnInfo → List FieldValue
+own_info_fields i = NameField (name_bytes i.name)
+    ∷ FlagField i.allowpip ∷ FlagField i.autoboard ∷ FlagField i.autodouble ∷ FlagField i.automove
+    ∷ FlagField i.away ∷ FlagField i.bell ∷ FlagField i.crawford ∷ FlagField i.double
+    ∷ NumberField i.experience
+    ∷ FlagField i.greedy ∷ FlagField i.moreboards ∷ FlagField i.moves ∷ FlagField i.notify
+    ∷ RatingField i.rating ∷ FlagField i.ratings ∷ FlagField i.ready
+    ∷ WordField (word_bytes i.redoubles) ∷ FlagField i.report ∷ FlagField i.silent
+    ∷ WordField (word_bytes i.timezone) ∷ []
+
+abbrev pub who_info_fields : WhoInfo → List FieldValue
+who_info_fields w = NameField (name_bytes w.name)
+    ∷ NameField (name_bytes w.opponent) ∷ NameField (name_bytes w.watching)
+    ∷ FlagField w.ready ∷ FlagField w.away ∷ RatingField w.rating
+    ∷ NumberField w.experience ∷ NumberField w.idle ∷ NumberField w.login
+    ∷ WordField (word_bytes w.hostname) ∷ WordField (word_bytes w.client)
+    ∷ TailField (tail_bytes w.email) ∷ []
+
+abbrev pub message_of : Message → MessageValue
+message_of (Welcome name last_login last_host) =
+    message 1 (NameField (name_bytes name) ∷ NumberField last_login ∷ WordField (word_bytes last_host) ∷ [])
+message_of (TheOwnInfo info) = message 2 (own_info_fields info)
+message_of MotdBegin = message 3 []
+message_of MotdEnd = message 4 []
+message_of (TheWhoInfo info) = message 5 (who_info_fields info)
+message_of WhoInfoEnd = message 6 []
+message_of (Login name text) = message 7 (NameField (name_bytes name) ∷ TextField text.now ∷ [])
+message_of (Logout name text) = message 8 (NameField (name_bytes name) ∷ TextField text.now ∷ [])
+message_of (MessageReceived sender time text) =
+    message 9 (NameField (name_bytes sender) ∷ NumberField time ∷ TextField text.now ∷ [])
+message_of (MessageDelivered name) = message 10 (NameField (name_bytes name) ∷ [])
+message_of (MessageSaved name) = message 11 (NameField (name_bytes name) ∷ [])
+message_of (Says name text) = message 12 (NameField (name_bytes name) ∷ TextField text.now ∷ [])
+message_of (Shouts name text) = message 13 (NameField (name_bytes name) ∷ TextField text.now ∷ [])
+message_of (Whispers name text) = message 14 (NameField (name_bytes name) ∷ TextField text.now ∷ [])
+message_of (Kibitzes name text) = message 15 (NameField (name_bytes name) ∷ TextField text.now ∷ [])
+message_of (YouSay name text) = message 16 (NameField (name_bytes name) ∷ TextField text.now ∷ [])
+message_of (YouShout text) = message 17 (TextField text.now ∷ [])
+message_of (YouWhisper text) = message 18 (TextField text.now ∷ [])
+message_of (YouKibitz text) = message 19 (TextField text.now ∷ [])

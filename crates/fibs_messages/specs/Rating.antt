@@ -1,10 +1,12 @@
 -- Ratings, which are kept as hundredths.
-use Rattle.std.specs.Prelude.{◌≡◌, ℕ, ◌+◌, ◌*◌, ◌<◌, ◌-◌, ◌&&◌, ◌||◌, Bool, true, false, cond, List, [], ◌∷◌, ◌++◌, Option, Some, None, Result, Ok, Err, decimal, nat_le}
+use Rattle.std.specs.Prelude.{◌≡◌, ℕ, ◌+◌, ◌*◌, ◌/◌, ◌%◌, ◌<◌, ◌-◌, ◌&&◌, ◌||◌, Bool, true, false, cond, List, [], ◌∷◌}
+use Rattle.std.specs.Prelude.{◌++◌}
+use Rattle.std.specs.Prelude.{Option, Some, None, Result, Ok, Err, decimal, nat_lt}
 use Rattle.std.specs.Char.{is_ascii_digit}
 use Rattle.std.specs.Str.Parse.{digits_value}
 use Rattle.fibs_messages.specs.declared.fields.fault.Fault.{Fault}
 use Rattle.fibs_messages.specs.declared.fields.fault.Fault.TheVariants.{NotANumber, OutOfRange}
-use Rattle.fibs_messages.specs.Decimal.{is_positive, is_zero}
+use Rattle.fibs_messages.specs.Decimal.{numbers_of_32_bits, is_positive, is_zero}
 use Rattle.fibs_messages.specs.Split.{before, after}
 
 -- what may follow the whole number, and its hundredths: nothing, or a point and one or two digits
@@ -49,5 +51,9 @@ rating_value text = 100 * digits_value 10 (before 46 text) + hundredths_of (afte
 abbrev pub rating_in : List ℕ → Result ℕ Fault
 rating_in text =
     cond (is_rating text)
-    (cond (nat_le (rating_value text) 4294967295) (Ok (rating_value text)) (Err OutOfRange))
+    (cond (nat_lt (rating_value text) numbers_of_32_bits) (Ok (rating_value text)) (Err OutOfRange))
     (Err NotANumber)
+
+-- a rating as it is printed: always with two digits after its point
+abbrev pub printed_rating : ℕ → List ℕ
+printed_rating r = decimal (r / 100) ++ (46 ∷ (48 + r % 100 / 10) ∷ (48 + r % 10) ∷ [])

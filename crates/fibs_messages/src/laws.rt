@@ -1,19 +1,21 @@
 //! Laws of boards, messages and their lines.
 
-ghost use Rattle.std.specs.Prelude.{◌<◌, ◌≤◌, ◌^◌, ◌≡◌, ◌↔◌, ◌⊎◌, ℕ, List, Ok, Some, IsTrue, All, decimal, length, map, true};
+ghost use Rattle.std.specs.Prelude.{◌<◌, ◌≤◌, ◌≡◌, ◌↔◌, ◌⊎◌, ℕ, List, Ok, Some, IsTrue, All, decimal, length, map};
+ghost use Rattle.std.specs.Prelude.{true};
 ghost use Rattle.fibs_messages.specs.Board.{BoardFields, IsBoard, BoardText, Wrong, is_board, spelling};
 ghost use Rattle.fibs_messages.specs.Bits.{HasBits};
-ghost use Rattle.fibs_messages.specs.Decimal.{decimal_up_to};
+ghost use Rattle.fibs_messages.specs.Decimal.{decimal_up_to, numbers_of_32_bits, numbers_of_64_bits};
 ghost use Rattle.fibs_messages.specs.Field.{kind_of};
 ghost use Rattle.fibs_messages.specs.FieldRanges.{FieldRanges};
 ghost use Rattle.fibs_messages.specs.Flags.{FlagsAreTheFields};
 ghost use Rattle.fibs_messages.specs.Line.{IsBoardLine, IsReading, ReadingIsExact, ReadingValue, numbered_line};
-ghost use Rattle.fibs_messages.specs.Message.{HasNumber, IsMessage, IsNumber, IsNumbered, MessageText, MessageValue, WrongMessage, canonical, kinds_of};
-ghost use Rattle.fibs_messages.specs.ReadingOf.{reading_of};
+ghost use Rattle.fibs_messages.specs.Message.{HasNumber, IsMessage, IsNumber, IsNumbered, MessageText, MessageValue};
+ghost use Rattle.fibs_messages.specs.Message.{WrongMessage, canonical, kinds_of};
+ghost use Rattle.fibs_messages.specs.Line.{reading_of};
 ghost use Rattle.fibs_messages.specs.declared.messages.message.Message.{Message};
-ghost use Rattle.fibs_messages.specs.MessageOf.{message_of};
-ghost use Rattle.fibs_messages.specs.NameBytes.{name_bytes};
-ghost use Rattle.fibs_messages.specs.WordBytes.{tail_bytes, word_bytes};
+ghost use Rattle.fibs_messages.specs.Message.{message_of};
+ghost use Rattle.fibs_messages.specs.Bytes.{name_bytes};
+ghost use Rattle.fibs_messages.specs.Bytes.{tail_bytes, word_bytes};
 ghost use Rattle.fibs_messages.specs.Printed.{IsPrinted};
 ghost use Rattle.fibs_messages.specs.StoredBoard.{fields_of, read_fields};
 ghost use Rattle.fibs_messages.specs.declared.boards.board.Board.{Board};
@@ -154,7 +156,7 @@ pub fn flags_are_the_fields()
 
 /// A text is read as a number up to a limit exactly where it is what is written of that number.
 pub fn decimals_are_exact()
-    ensures { (limit n : ℕ) → (text : List ℕ) → limit < 2 ^ 64 →
+    ensures { (limit n : ℕ) → (text : List ℕ) → limit < numbers_of_64_bits →
         (decimal_up_to limit text ≡ Some n) ↔ ((text ≡ decimal n) × (n ≤ limit)) }
 {}
 
@@ -178,18 +180,18 @@ pub fn messages_are_rows_of_the_table()
 {}
 
 fn own_info_has_bits(info: &OwnInfo<'_>)
-    ensures experience { info.now.experience < 18446744073709551616 }
-    ensures rating { info.now.rating < 4294967296 }
+    ensures experience { info.now.experience < numbers_of_64_bits }
+    ensures rating { info.now.rating < numbers_of_32_bits }
 {
     let _experience = info.experience;
     let _rating = info.rating;
 }
 
 fn who_info_has_bits(info: &WhoInfo<'_>)
-    ensures rating { info.now.rating < 4294967296 }
-    ensures experience { info.now.experience < 18446744073709551616 }
-    ensures idle { info.now.idle < 18446744073709551616 }
-    ensures login { info.now.login < 18446744073709551616 }
+    ensures rating { info.now.rating < numbers_of_32_bits }
+    ensures experience { info.now.experience < numbers_of_64_bits }
+    ensures idle { info.now.idle < numbers_of_64_bits }
+    ensures login { info.now.login < numbers_of_64_bits }
 {
     let _rating = info.rating;
     let _experience = info.experience;

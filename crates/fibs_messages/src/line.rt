@@ -2,10 +2,11 @@
 
 ghost use Rattle.std.specs.Prelude.{◌≡◌, ◌↔◌, ℕ, List, Some};
 ghost use Rattle.fibs_messages.specs.Board.{BoardFields, BoardText};
-ghost use Rattle.fibs_messages.specs.Line.{IsBoardLine, IsMalformed, IsText, ReadingValue, numbered_line, board_line, text_line, malformed_line, IsReading, reading_value};
+ghost use Rattle.fibs_messages.specs.Line.{IsBoardLine, IsMalformed, IsText, ReadingValue, numbered_line, board_line};
+ghost use Rattle.fibs_messages.specs.Line.{text_line, malformed_line, IsReading, reading_value};
 ghost use Rattle.fibs_messages.specs.LineReading.{BeginsAs, IsAsRead};
 ghost use Rattle.fibs_messages.specs.Message.{number_word, IsNumber, MessageValue, MessageText};
-ghost use Rattle.fibs_messages.specs.ReadingOf.{reading_of};
+ghost use Rattle.fibs_messages.specs.Line.{reading_of};
 ghost use Rattle.fibs_messages.specs.Split.{before};
 
 use crate::boards::board::Board;

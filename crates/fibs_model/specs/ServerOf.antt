@@ -1,7 +1,7 @@
 -- A server of the program as a value, and what its calls do.
 use Rattle.std.specs.Prelude.{ℕ}
 use Rattle.fibs_messages.specs.Board.{BoardFields}
-use Rattle.fibs_position.specs.DecisionOf.{decision_of}
+use Rattle.fibs_position.specs.DecisionValue.{decision_of}
 use Rattle.fibs_model.specs.Server as V
 use Rattle.fibs_model.specs.declared.server.Served.{Served}
 use Rattle.fibs_model.specs.declared.server.Served.TheVariants as S

@@ -3,7 +3,7 @@
 ghost use Rattle.std.specs.Prelude.{◌≡◌, ◌↔◌, ◌≤◌, true, Some, IsOk, IfOk, OnOk, OnErr, slice_index};
 ghost use Rattle.std.specs.Result.{result_err};
 ghost use Rattle.fibs_messages.specs.StoredBoard.{fields_of};
-ghost use Rattle.fibs_position.specs.DecisionOf.{decision_of};
+ghost use Rattle.fibs_position.specs.DecisionValue.{decision_of};
 ghost use Rattle.fibs_position.specs.DirectionOf.{direction_of};
 ghost use Rattle.fibs_position.specs.First.{IsFirst};
 ghost use Rattle.fibs_position.specs.GoodBoard.{IsGood, HasFault, faults};

@@ -1,6 +1,9 @@
 -- What a user may decide, as values.
 use Rattle.std.specs.Prelude.{◌≤◌, List, All, length}
 use Rattle.fibs_position.specs.Hop.{Hop, IsStep}
+use Rattle.fibs_position.specs.PlayValue.{hops_of}
+use Rattle.fibs_position.specs.declared.decision.Decision.{Decision}
+use Rattle.fibs_position.specs.declared.decision.Decision.TheVariants.{Roll, Double, Accept, Reject, Move}
 
 pub data DecisionValue : Type 0 where
   roll : DecisionValue
@@ -20,3 +23,12 @@ IsDecision double = Unit {0}
 IsDecision accept = Unit {0}
 IsDecision reject = Unit {0}
 IsDecision (move steps) = IsPlay steps
+
+-- ---- the decisions of the program as values
+
+abbrev pub decision_of : Decision → DecisionValue
+decision_of Roll = roll
+decision_of Double = double
+decision_of Accept = accept
+decision_of Reject = reject
+decision_of (Move play) = move (hops_of play)

@@ -1,6 +1,5 @@
 pub mod First
 pub mod Hop
-pub mod StepValue
 pub mod PlayValue
 pub mod Checkers
 pub mod OneChecker
@@ -8,17 +7,14 @@ pub mod Runs
 pub mod LegalPlays
 pub mod LaxPlays
 pub mod Search
-pub mod ReachedValue
 pub mod DirectionOf
 pub mod OwnView
 pub mod GoodBoard
 pub mod GoodBoardProp
 pub mod GamePart
 pub mod PositionValue
-pub mod StoredPosition
 pub mod Phases
 pub mod DecisionValue
-pub mod DecisionOf
 pub mod BoardEffect
 pub mod Allowed
 pub mod PlaysOf

@@ -5,6 +5,8 @@ use Rattle.fibs_position.specs.DirectionOf.{direction_of}
 use Rattle.fibs_position.specs.OwnView.{turn, colour, standing_of}
 use Rattle.fibs_position.specs.Runs.{Standing}
 use Rattle.fibs_position.specs.declared.direction.Direction.{Direction}
+use Rattle.fibs_messages.specs.StoredBoard.{fields_of}
+use Rattle.fibs_position.specs.declared.position.Position.{Position}
 
 pub record PositionValue : Type 0 where
   -- the checkers of both sides, and the player's dice
@@ -33,3 +35,9 @@ position_of b = record {
   cube = field_of b 38;
   may_double = field_of b 39;
 }
+
+-- ---- the positions of the program as values
+
+-- what the rules read of the board that a position keeps
+unfoldable pub position_value : Position → PositionValue
+position_value p = position_of (fields_of p.board)

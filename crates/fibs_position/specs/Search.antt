@@ -1,5 +1,6 @@
 -- What the code computes as it collects the plays. Only proofs use this file: no public clause rests on it.
-use Rattle.std.specs.Prelude.{ℕ, zero, suc, ◌-◌, ◌<◌, ◌≤◌, ◌==◌, ◌&&◌, nat_eq, max, Bool, List, [], ◌∷◌, ◌++◌, take, Option, Some, None, if◌then◌else◌}
+use Rattle.std.specs.Prelude.{ℕ, zero, suc, ◌-◌, ◌<◌, ◌≤◌, ◌==◌, ◌&&◌, nat_eq, max, Bool, List, [], ◌∷◌, ◌++◌, take}
+use Rattle.std.specs.Prelude.{Option, Some, None, if◌then◌else◌}
 use Rattle.std.specs.Ordering.{is_lt}
 use Rattle.std.specs.Cmp.Lexicographic.{pointwise}
 use Rattle.fibs_position.specs.Hop.{Hop}
@@ -7,6 +8,8 @@ use Rattle.fibs_position.specs.Checkers.{Checkers}
 use Rattle.fibs_position.specs.OneChecker.{one_of}
 use Rattle.fibs_position.specs.Runs.{Standing, held_of, best_of, longest, most_of}
 use Rattle.fibs_position.specs.LegalPlays.{play_cmp, are_two, larger_first}
+use Rattle.fibs_position.specs.PlayValue.{hops_of}
+use Rattle.fibs_position.specs.declared.plays.Reached.{Reached}
 
 -- dice of a cube
 abbrev pub AreDice : List ℕ → Type 0
@@ -75,3 +78,7 @@ all_of p =
     else (if are_two p.first p.second
     then all_in_order p p.first p.second ++ all_in_order p p.second p.first
     else all_in_order p p.first p.second)
+
+-- what the search keeps, as a value
+abbrev pub reach_of : Reached → Reach
+reach_of found = record { play = hops_of found.play; leads = found.leads }

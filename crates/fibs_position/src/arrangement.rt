@@ -2,7 +2,7 @@
 
 ghost use Rattle.std.specs.Prelude.{◌≡◌, ◌+◌, ◌-◌, ◌<◌, ◌≤◌, ◌==◌, sum, map, slice_index, ◌↔◌, IsSome};
 ghost use Rattle.std.specs.List.{list_all};
-ghost use Rattle.fibs_position.specs.StepValue.{hop_of};
+ghost use Rattle.fibs_position.specs.Hop.{hop_of};
 ghost use Rattle.fibs_position.specs.Checkers.{Checkers, moved, is_empty_from, is_open};
 ghost use Rattle.fibs_position.specs.OneChecker.{can_leave, one_of};
 ghost use Rattle.fibs_position.specs.LaxPlays.{lax_one, lax_of};

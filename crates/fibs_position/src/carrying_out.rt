@@ -1,11 +1,14 @@
 //! What becomes of a board when the server carries a decision out.
 
-ghost use Rattle.std.specs.Prelude.{◌≡◌, ◌↔◌, ◌≤◌, ◌≤ℤ◌, ◌&&◌, not, ℕ, List, pos, negsuc, true, IsTrue, Some, option_map, slice_index, ◌==◌, if◌then◌else◌, neg_ℤ};
+ghost use Rattle.std.specs.Prelude.{◌≡◌, ◌↔◌, ◌≤◌, ◌≤ℤ◌, ◌&&◌, not, ℕ, List, pos, negsuc, true, IsTrue, Some};
+ghost use Rattle.std.specs.Prelude.{option_map, slice_index, ◌==◌, if◌then◌else◌, neg_ℤ};
 ghost use Rattle.fibs_messages.specs.Board.{BoardFields, can_have, field_of};
 ghost use Rattle.fibs_messages.specs.StoredBoard.{fields_of};
-ghost use Rattle.fibs_position.specs.BoardEffect.{set_field, set_fields, rolled, doubled, accepted, rejected, value_of, placed, after_move, Effect, is_die, are_thrown, has_turn, is_doubled, carried, effect_of};
+ghost use Rattle.fibs_position.specs.BoardEffect.{set_field, set_fields, rolled, doubled, accepted, rejected, value_of};
+ghost use Rattle.fibs_position.specs.BoardEffect.{placed, after_move, Effect, is_die, are_thrown, has_turn, is_doubled};
+ghost use Rattle.fibs_position.specs.BoardEffect.{carried, effect_of};
 ghost use Rattle.fibs_position.specs.DecisionValue.{roll, double, accept, reject, move};
-ghost use Rattle.fibs_position.specs.DecisionOf.{decision_of};
+ghost use Rattle.fibs_position.specs.DecisionValue.{decision_of};
 ghost use Rattle.fibs_position.specs.PlayValue.{hops_of};
 ghost use Rattle.fibs_position.specs.OwnView.{colour, no_dice, own_placed, other_placed};
 ghost use Rattle.fibs_position.specs.GoodBoard.{IsGood, good};
@@ -253,11 +256,13 @@ fn by_table(board: &Board, decision: &Decision, dice: [u8; 2]) -> Option<Board>
 /// - Roll, where the player has the turn, no double to answer and no dice, and both given dice are 1 to 6: the dice are
 ///   his, the opponent's are taken away.
 /// - Double, where the player has the turn, no double to answer and no dice: the turn goes to the opponent.
-/// - Accept, where the game is not over, the opponent has doubled, and the cube is at most 524,288: the cube doubles, the
+/// - Accept, where the game is not over, the opponent has doubled, and the cube is at most 524,288: the cube doubles,
+/// the
 ///   player alone may double next, and the turn goes to the opponent.
 /// - Reject, where the game is not over, and the opponent has doubled: the game is over.
 /// - Move, where the player has the turn, no double to answer and a die, and at each step in order a checker at its
-///   source and no two opponents at its target: the checkers stand as moved and hit, those off are counted, the dice are
+///   source and no two opponents at its target: the checkers stand as moved and hit, those off are counted, the dice
+/// are
 ///   taken away, and the turn goes to the opponent, or the game is over with all fifteen off.
 ///
 /// Fields that are not named stay. Of a move nothing else is asked: not the dice's lengths, the bar, bearing off, or

@@ -19,7 +19,7 @@ pub enum Decision {
 }
 
 impl Decision {
-    ghost use Rattle.fibs_position.specs.DecisionOf.{decision_of};
+    ghost use Rattle.fibs_position.specs.DecisionValue.{decision_of};
     ghost use Rattle.fibs_position.specs.Allowed.{is_for};
 
     /// Such a decision is made in this phase.

@@ -1,10 +1,13 @@
 //! Laws of steps and plays, and of the rules. Each is a promise; the functions do nothing else.
 
 ghost use Rattle.std.specs.Prelude.{◌≡◌, ◌↔◌, IsTrue};
-ghost use Rattle.fibs_position.specs.StepValue.{hop_of};
+ghost use Rattle.fibs_position.specs.Hop.{hop_of};
 ghost use Rattle.fibs_position.specs.PlayValue.{hops_of};
-ghost use Rattle.fibs_position.specs.DecisionOf.{decision_of};
-ghost use Rattle.fibs_position.specs.Laws.{StepsSwap, PhaseIsExact, AllowedIsExact, EffectIsExact, AllowedIsTheUsers, AllowedIsCarriedOut, EffectIsGood, GoodIsExact, SameGameIsExact, SameGameIsALikeness, AllowedDecides, LegalPlaysAreSteps, AllowedIsADecision, DecisionsAreValid, AllowedActs, LegalIsCarriedOut};
+ghost use Rattle.fibs_position.specs.DecisionValue.{decision_of};
+ghost use Rattle.fibs_position.specs.Laws.{StepsSwap, PhaseIsExact, AllowedIsExact, EffectIsExact, AllowedIsTheUsers};
+ghost use Rattle.fibs_position.specs.Laws.{AllowedIsCarriedOut, EffectIsGood, GoodIsExact, SameGameIsExact};
+ghost use Rattle.fibs_position.specs.Laws.{SameGameIsALikeness, AllowedDecides, LegalPlaysAreSteps, AllowedIsADecision};
+ghost use Rattle.fibs_position.specs.Laws.{DecisionsAreValid, AllowedActs, LegalIsCarriedOut};
 
 use crate::decision::Decision;
 use crate::direction::Direction;

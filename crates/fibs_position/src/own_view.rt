@@ -3,7 +3,8 @@
 ghost use Rattle.std.specs.Prelude.{◌≡◌, ◌⊎◌, ◌+◌, ◌*◌, ◌≤◌, ◌∷◌, ◌++◌, [], pos, negsuc, length, sum};
 ghost use Rattle.fibs_messages.specs.StoredBoard.{fields_of};
 ghost use Rattle.fibs_position.specs.DirectionOf.{direction_of};
-ghost use Rattle.fibs_position.specs.OwnView.{colour, place_field, stand_on, on_places, own_off, other_off, own_placed, other_placed, own_view, first_die, second_die, no_dice};
+ghost use Rattle.fibs_position.specs.OwnView.{colour, place_field, stand_on, on_places, own_off, other_off, own_placed};
+ghost use Rattle.fibs_position.specs.OwnView.{other_placed, own_view, first_die, second_die, no_dice};
 
 use crate::arrangement::Arrangement;
 use crate::direction::Direction;

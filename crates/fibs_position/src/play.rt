@@ -3,7 +3,7 @@
 ghost use Rattle.std.specs.Prelude.{◌≡◌, ◌<◌, ◌≤◌, ◌↔◌, ◌++◌, ◌∷◌, [], length, map, drop, true, IsTrue};
 ghost use Rattle.std.specs.Bool.{OnTrue, OnFalse};
 ghost use Rattle.std.specs.List.{list_all};
-ghost use Rattle.fibs_position.specs.StepValue.{hop_of, is_blank};
+ghost use Rattle.fibs_position.specs.Hop.{hop_of, is_blank};
 
 use crate::step::Step;
 use std::fmt;

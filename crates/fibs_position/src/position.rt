@@ -1,20 +1,11 @@
 //! Positions: boards seen from their players' side.
-#![tactic(auto, unfolding(crate::specs::StoredPosition::position_value))]
+#![tactic(auto, unfolding(crate::specs::PositionValue::position_value))]
 
 ghost use Rattle.std.specs.Prelude.{◌≡◌, ◌≤◌, ◌↔◌, ◌&&◌, IsOk, is_ok, IfOk, IsTrue, Err, codes, map, slice_index};
 ghost use Rattle.std.specs.Result.{result_err};
 ghost use Rattle.fibs_messages.specs.StoredBoard.{fields_of};
-ghost use Rattle.fibs_position.specs.First.{IsFirst};
-ghost use Rattle.fibs_position.specs.Runs.{IsMost, can_move};
-ghost use Rattle.fibs_position.specs.LegalPlays.{LegalPlay};
-ghost use Rattle.fibs_position.specs.PlayValue.{hops_of};
-ghost use Rattle.fibs_position.specs.PlaysOf.{PlaysIn};
-ghost use Rattle.fibs_position.specs.DecisionOf.{decision_of};
-ghost use Rattle.fibs_position.specs.Allowed.{is_for, cube_allows, is_legal, refusal_of, MayDecide, IsRefused};
 ghost use Rattle.fibs_position.specs.OwnView.{first_die, second_die};
-ghost use Rattle.fibs_position.specs.Phases.{InPhase, phase_in};
-ghost use Rattle.fibs_position.specs.PositionValue.{position_of};
-ghost use Rattle.fibs_position.specs.GoodBoard.{IsGood, HasFault, faults, good};
+ghost use Rattle.fibs_position.specs.GoodBoard.{IsGood};
 ghost use Rattle.fibs_position.specs.GoodBoardProp.{IsGood-prop};
 
 use crate::arrangement::Arrangement;
@@ -50,7 +41,16 @@ fn is_you(board: &Board) -> bool
 }
 
 impl Position {
-    ghost use Rattle.fibs_position.specs.StoredPosition.{position_value};
+    ghost use Rattle.fibs_position.specs.GoodBoard.{HasFault, faults, good};
+    ghost use Rattle.fibs_position.specs.First.{IsFirst};
+    ghost use Rattle.fibs_position.specs.Runs.{IsMost, can_move};
+    ghost use Rattle.fibs_position.specs.LegalPlays.{LegalPlay};
+    ghost use Rattle.fibs_position.specs.PlayValue.{hops_of};
+    ghost use Rattle.fibs_position.specs.PlaysOf.{PlaysIn};
+    ghost use Rattle.fibs_position.specs.DecisionValue.{decision_of};
+    ghost use Rattle.fibs_position.specs.Allowed.{is_for, cube_allows, is_legal, refusal_of, MayDecide, IsRefused};
+    ghost use Rattle.fibs_position.specs.Phases.{InPhase, phase_in};
+    ghost use Rattle.fibs_position.specs.PositionValue.{position_of, position_value};
 
     /// The position of a board, or why it has none.
     pub fn of(board: &Board) -> Result<Position, PositionFault>

@@ -1,7 +1,7 @@
 //! The search through runs of steps.
 
 ghost use Rattle.std.specs.Prelude.{◌≡◌, ◌+◌, ◌-◌, ◌≤◌, length, map};
-ghost use Rattle.fibs_position.specs.StepValue.{hop_of};
+ghost use Rattle.fibs_position.specs.Hop.{hop_of};
 ghost use Rattle.fibs_position.specs.Search.{AreDice};
 ghost use Rattle.fibs_position.specs.Runs.{longest, follows};
 

@@ -14,7 +14,7 @@ pub struct Step {
 }
 
 impl Step {
-    ghost use Rattle.fibs_position.specs.StepValue.{hop_of};
+    ghost use Rattle.fibs_position.specs.Hop.{hop_of};
 
     /// A step from a place 1 to 25 to a place 0 to 24. None for any other places.
     pub fn new(source: u8, target: u8) -> Option<Step>

@@ -2,7 +2,7 @@
 use Rattle.std.specs.Prelude.{codes, None, Some, ◌∷◌, [], List, ℕ}
 use Rattle.fibs_session.specs.TextOf.{text_of}
 use Rattle.fibs_session.specs.PlainOf.{plain_value}
-use Rattle.fibs_position.specs.DecisionOf.{decision_of}
+use Rattle.fibs_position.specs.DecisionValue.{decision_of}
 use Rattle.fibs_cli.specs.declared.exchange.typing.Typed.{Typed}
 use Rattle.fibs_cli.specs.declared.exchange.typing.Typed.TheVariants as T
 use Rattle.fibs_cli.specs.declared.exchange.typing.Answer.{Answer}

@@ -1,8 +1,8 @@
 //! Lines of the server are heard.
 ghost use Rattle.std.specs.Prelude.{◌≡◌, ◌++◌, ◌∷◌, [], List, Option, Some, None, if◌then◌else◌, option_map, IfOk, OnOk};
 ghost use Rattle.std.specs.Io.KnownBytes.{Appends, Keeps};
-ghost use Rattle.fibs_lines.specs.LineValue.{value_of};
-ghost use Rattle.fibs_messages.specs.ReadingOf.{reading_of};
+ghost use Rattle.fibs_lines.specs.Lines.{value_of};
+ghost use Rattle.fibs_messages.specs.Line.{reading_of};
 ghost use Rattle.fibs_messages.specs.Line.{malformed_line};
 ghost use Rattle.fibs_cli.specs.Show.{reading_text};
 ghost use Rattle.fibs_messages.specs.StoredBoard.{fields_of};

@@ -1,12 +1,12 @@
 //! One line of text for each line of the server.
 ghost use Rattle.std.specs.Prelude.{◌≡◌, ◌++◌, ◌∷◌, [], ℕ, List, codes, OnOk};
 ghost use Rattle.std.specs.Fmt.{decimal};
-ghost use Rattle.fibs_lines.specs.LineValue.{value_of};
+ghost use Rattle.fibs_lines.specs.Lines.{value_of};
 ghost use Rattle.fibs_messages.specs.Board.{spelling};
 ghost use Rattle.fibs_messages.specs.Faults.{fault_name};
 ghost use Rattle.fibs_messages.specs.Line.{IsReading, ReadingValue};
 ghost use Rattle.fibs_messages.specs.Message.{canonical};
-ghost use Rattle.fibs_messages.specs.MessageOf.{message_of};
+ghost use Rattle.fibs_messages.specs.Message.{message_of};
 ghost use Rattle.fibs_messages.specs.StoredBoard.{fields_of};
 ghost use Rattle.fibs_cli.specs.Escape.{escaped};
 ghost use Rattle.fibs_cli.specs.Show.{reading_text, ShownLine};

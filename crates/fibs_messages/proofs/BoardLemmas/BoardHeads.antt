@@ -5,7 +5,8 @@ use Rattle.fibs_messages.specs.BoardReading.{first_fault, pieces_left}
 use Rattle.fibs_messages.specs.Field.{a_name, NameField}
 use Rattle.fibs_messages.specs.FieldReading.{Left, left, next_at, field_at, this_word}
 use Rattle.fibs_messages.specs.declared.fields.fault.FieldFault.{FieldFault}
-use Rattle.fibs_messages.proofs.BoardLemmas.NextFields.{board_was_read, name_was_read, name_was_wrong, was_wrong, reads_board}
+use Rattle.fibs_messages.proofs.BoardLemmas.NextFields.{board_was_read, name_was_read, name_was_wrong, was_wrong}
+use Rattle.fibs_messages.proofs.BoardLemmas.NextFields.{reads_board}
 
 -- the fields that follow the first, the second and the third
 abbrev names_and_numbers : List Kind

@@ -1,5 +1,6 @@
 -- A line says a board exactly where its pieces are the board's fields, and has then no wrong field.
-use Rattle.std.proofs.Common.{◌≡◌, ℕ, ◌<◌, ◌+◌, ◌^◌, true, List, [], ◌∷◌, ◌++◌, Some, None, Result, Ok, Err, map, replicate, codes, append_assoc, arith, refl, sym, ap, ◌∙◌}
+use Rattle.std.proofs.Common.{◌≡◌, ℕ, ◌<◌, ◌+◌, ◌^◌, true, List, [], ◌∷◌, ◌++◌, Some, None, Result, Ok, Err, map}
+use Rattle.std.proofs.Common.{replicate, codes, append_assoc, arith, refl, sym, ap, ◌∙◌}
 use Rattle.std.specs.Prelude.{ℤ, FitsSigned, IfOk, IfErr}
 use Rattle.std.specs.Fmt.{signed_decimal}
 use Rattle.std.specs.Int.{w32}
@@ -8,14 +9,16 @@ use Rattle.std.proofs.lemmas.Fmt.{signed_decimal_injective}
 use Rattle.std.proofs.lemmas.List.Elements.{All-head, All-tail}
 use Rattle.std.proofs.lemmas.List.{append-nil}
 use Rattle.std.proofs.lemmas.List.Splits.{join_with_byte-slice_split}
-use Rattle.fibs_messages.specs.Board.{BoardFields, IsBoard, BoardText, Fit, number, field_values, kinds, texts, spelling, pieces, without_spaces, Wrong}
+use Rattle.fibs_messages.specs.Board.{BoardFields, IsBoard, BoardText, Fit, number, field_values, kinds, texts}
+use Rattle.fibs_messages.specs.Board.{spelling, pieces, without_spaces, Wrong}
 use Rattle.fibs_messages.specs.Numerals.{after_colons}
 use Rattle.fibs_messages.specs.Decimal.{allows}
 use Rattle.fibs_messages.specs.DecimalReading.{IsNarrow}
 use Rattle.fibs_messages.specs.BoardReading.{first_fault}
 use Rattle.fibs_messages.specs.declared.fields.values.Values.{Values}
 use Rattle.fibs_messages.specs.declared.fields.fault.FieldFault.{FieldFault}
-use Rattle.fibs_messages.proofs.BoardLemmas.Pieces.{IsFieldByte, name_bytes, number_bytes, pieces-join, join_no_space, without_spaces-append}
+use Rattle.fibs_messages.proofs.BoardLemmas.Pieces.{IsFieldByte, name_bytes, number_bytes, pieces-join, join_no_space}
+use Rattle.fibs_messages.proofs.BoardLemmas.Pieces.{without_spaces-append}
 use Rattle.fibs_messages.proofs.NumberLemmas.CappedNumbers.{allowed_narrow}
 use Rattle.fibs_messages.proofs.NumberLemmas.Spelled.{number_in-written}
 use Rattle.fibs_messages.proofs.BoardLemmas.OneNumberMore.{join_is_after}

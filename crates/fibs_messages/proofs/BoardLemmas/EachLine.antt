@@ -1,5 +1,7 @@
 -- Each line says a board, or has a first wrong field.
-use Rattle.std.proofs.Common.{◌≡◌, ℕ, zero, suc, ◌<◌, ◌≤◌, ◌+◌, ◌-◌, ◌==◌, ◌⊎◌, inl, inr, Bool, true, false, List, [], ◌∷◌, ◌++◌, Option, Some, None, Result, Ok, Err, length, get_or, map, replicate, codes, arith, refl, sym, ap, ◌∙◌, ⊎_elim}
+use Rattle.std.proofs.Common.{◌≡◌, ℕ, zero, suc, ◌<◌, ◌≤◌, ◌+◌, ◌-◌, ◌==◌, ◌⊎◌, inl, inr, Bool, true, false, List, []}
+use Rattle.std.proofs.Common.{◌∷◌, ◌++◌, Option, Some, None, Result, Ok, Err, length, get_or, map, replicate, codes}
+use Rattle.std.proofs.Common.{arith, refl, sym, ap, ◌∙◌, ⊎_elim}
 use Rattle.std.specs.Prelude.{ℤ}
 use Rattle.std.specs.Fmt.{signed_decimal}
 use Rattle.std.specs.List.{All}
@@ -8,10 +10,11 @@ use Rattle.std.specs.Str.{bytes_eq}
 use Rattle.std.proofs.lemmas.Bool.{cases_Bool}
 use Rattle.std.proofs.lemmas.List.Elements.{All-head, All-tail}
 use Rattle.std.proofs.lemmas.Slice.Eq.{bytes_eq-Decides}
-use Rattle.fibs_messages.specs.Board.{BoardFields, IsBoard, BoardText, Fit, Wrong, field_values, kinds, number, pieces, texts, without_spaces}
+use Rattle.fibs_messages.specs.Board.{BoardFields, IsBoard, BoardText, Fit, Wrong, field_values, kinds, number, pieces}
+use Rattle.fibs_messages.specs.Board.{texts, without_spaces}
 use Rattle.fibs_messages.specs.Decimal.{number_in}
 use Rattle.fibs_messages.specs.DecimalReading.{IsNarrow}
-use Rattle.fibs_messages.specs.FirstFault.{bad_name_unless}
+use Rattle.fibs_messages.specs.Field.{bad_name_unless}
 use Rattle.fibs_messages.specs.Name.{is_name}
 use Rattle.fibs_messages.specs.BoardReading.{first_fault, fault_or}
 use Rattle.fibs_messages.specs.declared.fields.fault.FieldFault.{FieldFault}

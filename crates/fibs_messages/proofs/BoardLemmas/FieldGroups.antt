@@ -1,5 +1,6 @@
 -- Which numbers a field may have, group by group of the table.
-use Rattle.std.proofs.Common.{◌≡◌, ℕ, ◌<◌, ◌≤◌, ◌+◌, ◌-◌, Bool, true, false, Some, arith, refl, nat_le, ⊎_elim, inl, inr, ◌⊎◌, zero, suc, List, [], ◌∷◌, ◌++◌, replicate, drop, sym, ap, ◌∙◌}
+use Rattle.std.proofs.Common.{◌≡◌, ℕ, ◌<◌, ◌≤◌, ◌+◌, ◌-◌, Bool, true, false, Some, arith, refl, nat_le, ⊎_elim, inl}
+use Rattle.std.proofs.Common.{inr, ◌⊎◌, zero, suc, List, [], ◌∷◌, ◌++◌, replicate, drop, sym, ap, ◌∙◌}
 use Rattle.std.specs.Prelude.{ℤ, pos, negsuc, ◌≤ℤ◌, int_le, slice_get, ◌↔◌, FitsSigned}
 use Rattle.std.specs.Int.{w32, cast_signed, cast_unsigned}
 use Rattle.std.specs.Ordering.{int_eq}

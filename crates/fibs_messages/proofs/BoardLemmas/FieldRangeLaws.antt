@@ -4,7 +4,8 @@ use Rattle.std.specs.Prelude.{ℤ, pos, slice_get, slice_set}
 use Rattle.std.proofs.lemmas.Bool.{and_parts}
 use Rattle.fibs_messages.specs.Board.{BoardFields, IsBoard, allowed_by, can_have, field_of, field_values}
 use Rattle.fibs_messages.specs.FieldRanges.{FieldRanges}
-use Rattle.fibs_messages.proofs.BoardLemmas.FieldGroups.{can_have_by, place_exact, turn_exact, dice_exact, cube_exact, flag_exact, side_exact, off_exact}
+use Rattle.fibs_messages.proofs.BoardLemmas.FieldGroups.{can_have_by, place_exact, turn_exact, dice_exact, cube_exact}
+use Rattle.fibs_messages.proofs.BoardLemmas.FieldGroups.{flag_exact, side_exact, off_exact}
 use Rattle.fibs_messages.proofs.BoardLemmas.OneNumberMore.{fit_at, fit_long, fit_set}
 use Rattle.fibs_messages.proofs.BoardLemmas.FieldTable.{table_long}
 

@@ -1,5 +1,6 @@
 -- The next field of a board line, as it is read: what it says of the pieces of the line.
-use Rattle.std.proofs.Common.{◌≡◌, ◌∙◌, ℕ, ◌+◌, Bool, true, false, List, [], ◌∷◌, Option, Some, None, Result, Ok, Err, codes, refl, sym, ap, subst, inl, inr}
+use Rattle.std.proofs.Common.{◌≡◌, ◌∙◌, ℕ, ◌+◌, Bool, true, false, List, [], ◌∷◌, Option, Some, None, Result, Ok, Err}
+use Rattle.std.proofs.Common.{codes, refl, sym, ap, subst, inl, inr}
 use Rattle.std.specs.Prelude.{ℤ}
 use Rattle.std.specs.Fmt.{signed_decimal}
 use Rattle.std.specs.Result.{result_err}
@@ -12,7 +13,8 @@ use Rattle.fibs_messages.specs.BoardReading.{first_fault, fault_or, pieces_of, p
 use Rattle.fibs_messages.specs.Decimal.{allows, number_in}
 use Rattle.fibs_messages.specs.DecimalReading.{IsNarrow}
 use Rattle.fibs_messages.specs.Field.{a_name, FieldValue, NameField}
-use Rattle.fibs_messages.specs.FieldReading.{Left, left, numbered, next_at, field_at, text_at, end_at, value_in, good, this_word, ◌>>=◌}
+use Rattle.fibs_messages.specs.FieldReading.{Left, left, numbered, next_at, field_at, text_at, end_at, value_in, good}
+use Rattle.fibs_messages.specs.FieldReading.{this_word, ◌>>=◌}
 use Rattle.fibs_messages.specs.Name.{is_name}
 use Rattle.fibs_messages.specs.Split.{before, after}
 use Rattle.fibs_messages.specs.declared.fields.fault.FieldFault.{FieldFault}

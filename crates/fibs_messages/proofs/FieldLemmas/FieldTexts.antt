@@ -1,18 +1,23 @@
 -- The fields of a message and the text that they are read from, both ways.
-use Rattle.std.proofs.Common.{◌≡◌, ◌∙◌, ℕ, ◌+◌, Bool, true, false, not, leb, eqb, List, [], ◌∷◌, ◌++◌, map, decimal, Option, Some, None, Result, Ok, Err, refl, sym, ap, subst, arith, inl, inr}
+use Rattle.std.proofs.Common.{◌≡◌, ◌∙◌, ℕ, ◌+◌, Bool, true, false, not, leb, eqb, List, [], ◌∷◌, ◌++◌, map, decimal}
+use Rattle.std.proofs.Common.{Option, Some, None, Result, Ok, Err, refl, sym, ap, subst, arith, inl, inr}
 use Rattle.std.specs.Prelude.{◌&&◌}
 use Rattle.std.specs.List.{list_all}
 use Rattle.std.proofs.lemmas.Bool.{and_parts, and_from, leb-true, cases_Bool, not_from_false, ne_eqb}
 use Rattle.std.proofs.lemmas.List.{append-nil}
 use Rattle.fibs_messages.specs.declared.fields.fault.Fault.{Fault}
-use Rattle.fibs_messages.specs.Field.{Kind, a_name, a_word, a_tail, a_flag, a_number, a_rating, a_text, FieldValue, NameField, WordField, TailField, FlagField, NumberField, RatingField, TextField, kind_of, takes_rest, Spells}
-use Rattle.fibs_messages.specs.FieldReading.{Left, left, ◌>>=◌, numbered, value_in, text_at, field_at, end_at, fields_at}
+use Rattle.fibs_messages.specs.Field.{Kind, a_name, a_word, a_tail, a_flag, a_number, a_rating, a_text, FieldValue}
+use Rattle.fibs_messages.specs.Field.{NameField, WordField, TailField, FlagField, NumberField, RatingField, TextField}
+use Rattle.fibs_messages.specs.Field.{kind_of, takes_rest, Spells}
+use Rattle.fibs_messages.specs.FieldReading.{Left, left, ◌>>=◌, numbered, value_in, text_at, field_at, end_at}
+use Rattle.fibs_messages.specs.FieldReading.{fields_at}
 use Rattle.fibs_messages.specs.Message.{FieldText, spelled, no_text, FieldsText, no_fields, more_fields}
 use Rattle.fibs_messages.specs.Name.{is_name_byte}
 use Rattle.fibs_messages.specs.Rating.{FractionText, RatingText}
 use Rattle.fibs_messages.specs.Rating as rating
 use Rattle.fibs_messages.specs.Split.{before, after}
-use Rattle.fibs_messages.proofs.FieldLemmas.FieldValues.{bind_ok, ok_is, value_sound, value_complete, all_weaker, decimal_has_no}
+use Rattle.fibs_messages.proofs.FieldLemmas.FieldValues.{bind_ok, ok_is, value_sound, value_complete, all_weaker}
+use Rattle.fibs_messages.proofs.FieldLemmas.FieldValues.{decimal_has_no}
 use Rattle.fibs_messages.proofs.FieldLemmas.Splits.{behind, opened, HeadIs, before-behind, has_no, cut_off}
 
 -- a fault that gets its field was there before
@@ -144,8 +149,8 @@ word_no_space (NameField s) text h k =
     rw h.1 (all_weaker is_name_byte (λ b. not (eqb b 32)) no_space_byte s p.1)
 word_no_space (WordField s) text h k = rw h.1 (and_parts _ (list_all (λ b. not (eqb b 32)) s) h.0).1
 word_no_space (TailField s) text h k = absurd cc
-word_no_space (FlagField true) text h k = rw h refl
-word_no_space (FlagField false) text h k = rw h refl
+word_no_space (FlagField true) text h k = rw h.1 refl
+word_no_space (FlagField false) text h k = rw h.1 refl
 word_no_space (NumberField n) text h k = rw h.1 (decimal_has_no 32 n (omega arith) (omega (arith, h.0)))
 word_no_space (RatingField r) text h k =
     let t = h.1 in

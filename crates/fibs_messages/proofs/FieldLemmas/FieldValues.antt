@@ -1,20 +1,26 @@
 -- A value and the texts that spell it, both ways.
-use Rattle.std.proofs.Common.{◌≡◌, ◌∙◌, ℕ, zero, suc, ◌+◌, ◌-◌, ◌*◌, ◌^◌, ◌<◌, Bool, true, false, not, leb, eqb, List, [], ◌∷◌, ◌++◌, decimal, Option, Some, None, Result, Ok, Err, refl, sym, ap, subst, arith, inl, inr, lit<}
-use Rattle.std.specs.Prelude.{◌||◌, ℤ, pos, negsuc, nat_le}
+use Rattle.std.proofs.Common.{◌≡◌, ◌∙◌, ℕ, zero, suc, ◌+◌, ◌-◌, ◌*◌, ◌^◌, ◌<◌, Bool, true, false, not, leb, eqb, List}
+use Rattle.std.proofs.Common.{[], ◌∷◌, ◌++◌, decimal, Option, Some, None, Result, Ok, Err, refl, sym, ap, subst, arith}
+use Rattle.std.proofs.Common.{inl, inr, lit<}
+use Rattle.std.specs.Prelude.{◌||◌, ℤ, pos, negsuc, nat_lt}
 use Rattle.std.specs.Char.{is_ascii_digit}
 use Rattle.std.specs.List.{list_all}
 use Rattle.std.specs.Str.Parse.{digits_value}
 use Rattle.std.specs.Fmt.{signed_decimal}
-use Rattle.std.proofs.lemmas.Bool.{cases_Bool, ne_eqb, and_parts, and_from, leb-true, le-leb, not_from_false, or_right}
+use Rattle.std.proofs.lemmas.Bool.{cases_Bool, ne_eqb, and_parts, and_from, leb-true, le-leb, ltb-true, lt-ltb}
+use Rattle.std.proofs.lemmas.Bool.{not_from_false, or_right}
 use Rattle.std.proofs.lemmas.Bool.Decides.{nat_tests}
 use Rattle.std.proofs.lemmas.Int.{ints}
 use Rattle.std.proofs.lemmas.Fmt.{digits_decimal, decimal_digit, digits_value-decimal}
-use Rattle.fibs_messages.specs.Decimal.{is_positive, is_zero, allows, number_in}
+use Rattle.fibs_messages.specs.Decimal.{numbers_of_32_bits, is_positive, is_zero, allows, number_in}
 use Rattle.fibs_messages.specs.DecimalReading.{IsNarrow}
-use Rattle.fibs_messages.specs.Field.{Kind, a_name, a_word, a_tail, a_flag, a_number, a_rating, a_text, FieldValue, NameField, WordField, TailField, FlagField, NumberField, RatingField, TextField, kind_of, Spells, flag_text, flag_values, number_values}
+use Rattle.fibs_messages.specs.Field.{Kind, a_name, a_word, a_tail, a_flag, a_number, a_rating, a_text, FieldValue}
+use Rattle.fibs_messages.specs.Field.{NameField, WordField, TailField, FlagField, NumberField, RatingField, TextField}
+use Rattle.fibs_messages.specs.Field.{kind_of, Spells, flag_text, flag_values, number_values}
 use Rattle.fibs_messages.specs.FieldReading.{◌>>=◌, good, natural, value_in}
 use Rattle.fibs_messages.specs.Name.{is_name}
-use Rattle.fibs_messages.specs.Rating.{RatingText, FractionText, no_fraction, tenths, is_fraction, hundredths_of, is_rating, rating_value, rating_in}
+use Rattle.fibs_messages.specs.Rating.{RatingText, FractionText, no_fraction, tenths, is_fraction, hundredths_of}
+use Rattle.fibs_messages.specs.Rating.{is_rating, rating_value, rating_in}
 use Rattle.fibs_messages.specs.Rating as rating
 use Rattle.fibs_messages.specs.Split.{before, after}
 use Rattle.fibs_messages.specs.Word.{is_word, is_tail}
@@ -50,8 +56,8 @@ narrow_flags = (search (ints, arith), search (ints, arith))
 
 -- a number that a flag may be is its text
 flag_number : (z : ℤ) (text : List ℕ) → text ≡ signed_decimal z → allows flag_values z ≡ true → IsFound a_flag text (FlagField (eqb (natural z) 1))
-flag_number (pos zero) text e h = (refl, e ∙ decimal_digit 0 (lit< tt))
-flag_number (pos (suc zero)) text e h = (refl, e ∙ decimal_digit 1 (lit< tt))
+flag_number (pos zero) text e h = (refl, (tt, e ∙ decimal_digit 0 (lit< tt)))
+flag_number (pos (suc zero)) text e h = (refl, (tt, e ∙ decimal_digit 1 (lit< tt)))
 flag_number (pos (suc (suc n))) text e h = absurd (grind (arith, ints, nat_tests))
 flag_number (negsuc n) text e h = absurd (grind (arith, ints, nat_tests))
 
@@ -107,19 +113,19 @@ fraction_sound (Some (d ∷ f ∷ [])) e =
 fraction_sound (Some (d ∷ f ∷ g ∷ s)) e = absurd cc
 
 -- a rating's form and its range
-rating_parts : (text : List ℕ) (r : ℕ) → rating_in text ≡ Ok r → (is_rating text ≡ true) × (rating_value text ≡ r) × (r < 4294967296)
+rating_parts : (text : List ℕ) (r : ℕ) → rating_in text ≡ Ok r → (is_rating text ≡ true) × (rating_value text ≡ r) × (r < numbers_of_32_bits)
 rating_parts text r e = elim (cases_Bool (is_rating text)) [
-  | inl form ↦ elim (cases_Bool (nat_le (rating_value text) 4294967295)) [
+  | inl form ↦ elim (cases_Bool (nat_lt (rating_value text) numbers_of_32_bits)) [
     | inl small ↦
         let same : rating_value text ≡ r = ok_is (rating_value text) r (rw (form, small) at e) in
-        (form, same, omega (arith, leb-true (rating_value text) 4294967295 small))
+        (form, same, omega (arith, ltb-true (rating_value text) numbers_of_32_bits small))
     | inr large ↦ let none = rw (form, large) at e in absurd cc
   ]
   | inr other ↦ let none = rw other at e in absurd cc
 ]
 
 -- a text of the form of a rating spells it
-rating_spelled : (text : List ℕ) (r : ℕ) → is_rating text ≡ true → rating_value text ≡ r → r < 4294967296 → RatingText r text
+rating_spelled : (text : List ℕ) (r : ℕ) → is_rating text ≡ true → rating_value text ≡ r → r < numbers_of_32_bits → RatingText r text
 rating_spelled text r form value small =
     let p = and_parts (is_zero (before 46 text) || is_positive (before 46 text)) (is_fraction (after 46 text)) form in
     let whole = plain_spelled (before 46 text) (digits_value 10 (before 46 text)) p.0 refl (omega arith) in
@@ -153,7 +159,7 @@ value_sound a_tail text v e =
 value_sound a_flag text v e = flag_sound text v e
 value_sound a_number text v e = number_sound text v e
 value_sound a_rating text v e = rating_sound text v e
-value_sound a_text text v e = subst (IsFound a_text text) (ok_is (TextField text) v e) (refl, refl)
+value_sound a_text text v e = subst (IsFound a_text text) (ok_is (TextField text) v e) (refl, (tt, refl))
 
 -- ---- what is spelled is found
 
@@ -187,7 +193,7 @@ decimal_form (suc n) limit =
     or_right (is_zero (decimal (suc n))) (is_positive (decimal (suc n))) (positive_from (decimal (suc n)) (written_positive (suc n) (omega arith) limit))
 
 -- a rating that is spelled is read
-rating_complete : (r : ℕ) (text : List ℕ) → r < 4294967296 → RatingText r text → rating_in text ≡ Ok r
+rating_complete : (r : ℕ) (text : List ℕ) → r < numbers_of_32_bits → RatingText r text → rating_in text ≡ Ok r
 rating_complete r text lt t =
     let f = fraction_complete t.fraction t.hundreds t.fraction_text in
     let small : t.whole < 2 ^ 64 = omega (arith, t.rating_is) in
@@ -196,7 +202,7 @@ rating_complete r text lt t =
     let back : after 46 text ≡ opened t.fraction = ap (after 46) t.text_is ∙ c.1 in
     let same : rating_value text ≡ r = rw (front, back, digits_value-decimal own t.whole small, f.2) (sym t.rating_is) in
     let form : is_rating text ≡ true = rw (front, back, decimal_form t.whole small) f.1 in
-    rw (form, same, le-leb r 4294967295 (omega arith)) refl
+    rw (form, same, lt-ltb r numbers_of_32_bits lt) refl
 
 -- a value that is spelled is read
 pub value_complete : (v : FieldValue) (text : List ℕ) → Spells v text → value_in (kind_of v) text ≡ Ok v
@@ -204,7 +210,7 @@ unfolding value_in
 value_complete (NameField s) text h = rw (h.1, h.0) refl
 value_complete (WordField s) text h = rw (h.1, h.0) refl
 value_complete (TailField s) text h = rw (h.1, h.0) refl
-value_complete (FlagField b) text h = rw h (flag_complete b)
+value_complete (FlagField b) text h = rw h.1 (flag_complete b)
 value_complete (NumberField n) text h = rw (h.1, number_in-natural n (omega (arith, h.0))) refl
 value_complete (RatingField r) text h = rw (rating_complete r text h.0 h.1) refl
-value_complete (TextField s) text h = rw h refl
+value_complete (TextField s) text h = rw h.1 refl

@@ -1,5 +1,6 @@
 -- The function that gives a line its reading is exact.
-use Rattle.std.proofs.Common.{◌≡◌, ◌==◌, ℕ, Bool, true, false, if◌then◌else◌, List, [], ◌∷◌, Option, Some, None, Result, Ok, Err, codes, map, refl, sym, ap, ◌∙◌, subst, inl, inr, ◌⊎◌, true≢false}
+use Rattle.std.proofs.Common.{◌≡◌, ◌==◌, ℕ, Bool, true, false, if◌then◌else◌, List, [], ◌∷◌, Option, Some, None, Result}
+use Rattle.std.proofs.Common.{Ok, Err, codes, map, refl, sym, ap, ◌∙◌, subst, inl, inr, ◌⊎◌, true≢false}
 use Rattle.std.specs.Prelude.{ℤ}
 use Rattle.std.specs.Fmt.{signed_decimal}
 use Rattle.std.specs.List.{starts_with, All}
@@ -9,14 +10,16 @@ use Rattle.fibs_messages.specs.declared.fields.values.Values.{Values}
 use Rattle.fibs_messages.specs.declared.fields.fault.FieldFault.{FieldFault}
 use Rattle.fibs_messages.specs.Decimal.{number_in}
 use Rattle.fibs_messages.specs.DecimalReading.{IsNarrow}
-use Rattle.fibs_messages.specs.Board.{BoardFields, IsBoard, BoardText, Wrong, Fit, field_values, kinds, pieces, texts, without_spaces}
+use Rattle.fibs_messages.specs.Board.{BoardFields, IsBoard, BoardText, Wrong, Fit, field_values, kinds, pieces, texts}
+use Rattle.fibs_messages.specs.Board.{without_spaces}
 use Rattle.fibs_messages.specs.BoardReading.{first_fault}
 use Rattle.fibs_messages.specs.Split.{before, after}
 use Rattle.fibs_messages.specs.Field.{FieldValue}
 use Rattle.fibs_messages.specs.FieldReading.{fields_at, left}
 use Rattle.fibs_messages.specs.LineReading.{IsAsRead}
 use Rattle.fibs_messages.specs.Message.{kinds_of, kept, number_word}
-use Rattle.fibs_messages.specs.Line.{board_line, IsReading, number_or_0, numbers_in, board_in, board_reading, message_reading, other_reading, reading_value, ReadingIsExact}
+use Rattle.fibs_messages.specs.Line.{board_line, IsReading, number_or_0, numbers_in, board_in, board_reading}
+use Rattle.fibs_messages.specs.Line.{message_reading, other_reading, reading_value, ReadingIsExact}
 use Rattle.fibs_messages.proofs.BoardLemmas.FieldTable.{all_narrow}
 use Rattle.fibs_messages.proofs.NumberLemmas.Spelled.{number_in-written}
 use Rattle.fibs_messages.proofs.BoardLemmas.BoardTexts.{pieces_of_board, texts_right, first_from_wrong}

@@ -1,9 +1,13 @@
 -- The canonical line of a message says it.
-use Rattle.std.proofs.Common.{◌≡◌, ℕ, ◌+◌, ◌*◌, ◌/◌, ◌%◌, ◌<◌, List, [], ◌∷◌, ◌++◌, decimal, refl, sym, ap, subst, arith}
+use Rattle.std.proofs.Common.{◌≡◌, ℕ, ◌+◌, ◌*◌, ◌/◌, ◌%◌, ◌<◌, List, [], ◌∷◌, ◌++◌, decimal, refl, sym, ap, subst}
+use Rattle.std.proofs.Common.{arith}
 use Rattle.std.specs.List.{flat_map, AllByRecursion}
 use Rattle.std.proofs.lemmas.List.{append-nil}
-use Rattle.fibs_messages.specs.Field.{FieldValue, NameField, WordField, TailField, FlagField, NumberField, RatingField, TextField}
-use Rattle.fibs_messages.specs.Message.{MessageValue, FieldText, spelled, no_text, FieldsText, no_fields, more_fields, MessageText, canonical, canonical_field, IsValue, IsMessage}
+use Rattle.fibs_messages.specs.Field.{IsValue, FieldValue, NameField, WordField, TailField, FlagField, NumberField}
+use Rattle.fibs_messages.specs.Field.{RatingField}
+use Rattle.fibs_messages.specs.Field.{TextField}
+use Rattle.fibs_messages.specs.Message.{MessageValue, FieldText, spelled, no_text, FieldsText, no_fields, more_fields}
+use Rattle.fibs_messages.specs.Message.{MessageText, canonical, canonical_field, IsMessage}
 use Rattle.fibs_messages.specs.Rating.{FractionText, hundredths, RatingText}
 
 -- two digits are a fraction
@@ -32,11 +36,11 @@ unfolding canonical_field
 field_text (NameField s) h = spelled (h, refl)
 field_text (WordField s) h = spelled (h, refl)
 field_text (TailField s) h = spelled (h, refl)
-field_text (FlagField b) h = spelled refl
+field_text (FlagField b) h = spelled (tt, refl)
 field_text (NumberField n) h = spelled (h, refl)
 field_text (RatingField r) h = spelled (h, rating_text r)
 field_text (TextField []) h = no_text
-field_text (TextField (b ∷ s)) h = spelled refl
+field_text (TextField (b ∷ s)) h = spelled (tt, refl)
 
 -- and so of all fields
 fields_text : (vs : List FieldValue) → AllByRecursion IsValue vs → FieldsText vs (flat_map canonical_field vs)

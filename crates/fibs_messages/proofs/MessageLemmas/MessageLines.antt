@@ -1,5 +1,7 @@
 -- A message and its line, both ways.
-use Rattle.std.proofs.Common.{◌≡◌, ◌∙◌, ℕ, zero, suc, ◌-◌, ◌^◌, ◌<◌, ◌==◌, true, false, not, leb, ltb, eqb, List, [], ◌∷◌, ◌++◌, length, get_or, map, decimal, replicate, Option, Ok, refl, sym, ap, subst, arith, inl, inr, append_assoc}
+use Rattle.std.proofs.Common.{◌≡◌, ◌∙◌, ℕ, zero, suc, ◌-◌, ◌^◌, ◌<◌, ◌==◌, true, false, not, leb, ltb, eqb, List, []}
+use Rattle.std.proofs.Common.{◌∷◌, ◌++◌, length, get_or, map, decimal, replicate, Option, Ok, refl, sym, ap, subst}
+use Rattle.std.proofs.Common.{arith, inl, inr, append_assoc}
 use Rattle.std.specs.Prelude.{◌&&◌}
 use Rattle.std.specs.List.{list_all}
 use Rattle.std.proofs.lemmas.Bool.{cases_Bool, cases_eq, eq-eqb, ne_eqb, and_parts, ltb-true, not-true}
@@ -7,14 +9,17 @@ use Rattle.std.proofs.lemmas.Fmt.{decimal_nonempty}
 use Rattle.std.proofs.lemmas.List.{append-nil}
 use Rattle.std.proofs.lemmas.List.Elements.{All-get_or}
 use Rattle.std.proofs.lemmas.List.Sums.{AllPass-from_list_all}
-use Rattle.fibs_messages.specs.Field.{Kind, FieldValue, NameField, WordField, TailField, FlagField, NumberField, RatingField, TextField, kind_of, may_be_absent, Spells}
+use Rattle.fibs_messages.specs.Field.{Kind, FieldValue, NameField, WordField, TailField, FlagField, NumberField}
+use Rattle.fibs_messages.specs.Field.{RatingField, TextField, kind_of, may_be_absent, Spells}
 use Rattle.fibs_messages.specs.FieldReading.{left, fields_at}
 use Rattle.fibs_messages.specs.LineReading.{ReadsAs}
-use Rattle.fibs_messages.specs.Message.{number_word, MessageValue, FieldText, spelled, no_text, FieldsText, no_fields, more_fields, MessageText, kinds_of, drops_spaces, kept}
+use Rattle.fibs_messages.specs.Message.{number_word, MessageValue, FieldText, spelled, no_text, FieldsText, no_fields}
+use Rattle.fibs_messages.specs.Message.{more_fields, MessageText, kinds_of, drops_spaces, kept}
 use Rattle.fibs_messages.specs.Board.{without_spaces}
 use Rattle.fibs_messages.specs.Name.{is_name_byte}
 use Rattle.fibs_messages.specs.Split.{before, after}
-use Rattle.fibs_messages.proofs.FieldLemmas.FieldTexts.{word_no_space, texts_head, fields_sound, fields_complete, TextLast}
+use Rattle.fibs_messages.proofs.FieldLemmas.FieldTexts.{word_no_space, texts_head, fields_sound, fields_complete}
+use Rattle.fibs_messages.proofs.FieldLemmas.FieldTexts.{TextLast}
 use Rattle.fibs_messages.proofs.FieldLemmas.FieldValues.{decimal_has_no}
 use Rattle.fibs_messages.proofs.MessageLemmas.MessageTable.{has_all, last_is, no_text_where_dropped}
 use Rattle.fibs_messages.proofs.MessageLemmas.NumberWords.{number_sound, number_complete}
@@ -42,7 +47,7 @@ text_some (NameField s) text h k =
     rw h.1 (ltb-true 0 (length s) q.0)
 text_some (WordField s) text h k = rw h.1 (ltb-true 0 (length s) (and_parts (ltb 0 (length s)) (list_all (λ b. not (eqb b 32)) s) h.0).0)
 text_some (TailField s) text h k = rw h.1 (ltb-true 0 (length s) (and_parts (ltb 0 (length s)) (not (eqb (get_or s (length s - 1) 0) 32)) h.0).0)
-text_some (FlagField b) text h k = rw h (omega arith)
+text_some (FlagField b) text h k = rw h.1 (omega arith)
 text_some (NumberField n) text h k = rw h.1 (decimal_nonempty n (omega (arith, h.0)))
 text_some (RatingField r) text h k =
     let t = h.1 in

@@ -1,12 +1,14 @@
 //! Boards of FIBS board style 3.
 
-ghost use Rattle.std.specs.Prelude.{◌≡◌, ◌≢◌, ◌≤◌, IfSome, IsSome, ◌↔◌, ◌≤ℤ◌, ◌⊎◌, pos, negsuc, ◌++◌, ◌+◌, ℕ, true, length, IfOk, IfErr, OnOk, OnErr, drop, option_map, Ok, Err};
-ghost use Rattle.fibs_messages.specs.Stored.{name_of};
+ghost use Rattle.std.specs.Prelude.{◌≡◌, ◌≢◌, ◌≤◌, IfSome, IsSome, ◌↔◌, ◌≤ℤ◌, ◌⊎◌, pos, negsuc, ◌++◌, ◌+◌, ℕ, true};
+ghost use Rattle.std.specs.Prelude.{length, IfOk, IfErr, OnOk, OnErr, drop, option_map, Ok, Err};
+ghost use Rattle.fibs_messages.specs.Bytes.{parts_of};
 ghost use Rattle.fibs_messages.specs.BoardProp.{IsBoard-prop};
 ghost use Rattle.fibs_messages.specs.Name.{is_name};
-ghost use Rattle.fibs_messages.specs.NameBytes.{name_bytes};
+ghost use Rattle.fibs_messages.specs.Bytes.{name_bytes};
 ghost use Rattle.arrayvec.specs.ArrayVec.{array_vec_len};
-ghost use Rattle.fibs_messages.specs.Board.{BoardFields, IsBoard, Fit, field_values, spelling, BoardText, Wrong, field_of, can_have, with_field};
+ghost use Rattle.fibs_messages.specs.Board.{BoardFields, IsBoard, Fit, field_values, spelling, BoardText, Wrong};
+ghost use Rattle.fibs_messages.specs.Board.{field_of, can_have, with_field};
 
 use crate::boards::field_ranges::can_have;
 use crate::boards::print::{LINE_LEN, write_board};
@@ -29,7 +31,7 @@ pub struct Board {
     player: StoredName,
     opponent: StoredName,
     numbers: [i32; 50],
-    pub ghost valid: { IsBoard (record { player = name_of player; opponent = name_of opponent; numbers = numbers }) } by { IsBoard-prop (record { player = name_of player; opponent = name_of opponent; numbers = numbers }) },
+    pub ghost valid: { IsBoard (parts_of player opponent numbers) } by { IsBoard-prop (parts_of player opponent numbers) },
 }
 
 /// Appends bytes for which there is room.
@@ -60,7 +62,8 @@ impl Board {
     ///
     /// Spaces at the line's end are dropped, and the fields are parted by colons. Field 1 is `BadName` where it is not
     /// `board`, fields 2 and 3 where they are no names. A number is `NotANumber` where it is no canonical decimal (`0`,
-    /// or digits that begin with no 0, with a `-` or without), and `OutOfRange` where it is one, of any length, that the
+    /// or digits that begin with no 0, with a `-` or without), and `OutOfRange` where it is one, of any length, that
+    /// the
     /// field may not have. The first absent field is `Missing`, a 54th is `Extra`.
     pub fn read(line: &[u8]) -> Result<Board, FieldFault>
         // What is read is what the line says.

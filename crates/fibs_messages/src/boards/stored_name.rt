@@ -22,7 +22,7 @@ fn padded(name: &[u8]) -> [u8; 64]
 }
 
 impl StoredName {
-    ghost use Rattle.fibs_messages.specs.Stored.{name_of};
+    ghost use Rattle.fibs_messages.specs.Bytes.{name_of};
 
     /// A copy of the name.
     pub fn new(name: &[u8]) -> StoredName

@@ -1,12 +1,15 @@
 //! Numbers of fields, as they are spelled.
 
-ghost use Rattle.std.specs.Prelude.{◌≡◌, ◌↔◌, ◌-◌, ◌^◌, ◌≤◌, ◌&&◌, ◌||◌, ℕ, cond, decimal, length, min, nat_le, pos, true, drop, [], ◌∷◌, option_map, Some, None, MatchOption, if◌then◌else◌};
+ghost use Rattle.std.specs.Prelude.{◌≡◌, ◌↔◌, ◌-◌, ◌≤◌, ◌&&◌, ◌||◌, ℕ, cond, decimal, length, min, nat_le, pos};
+ghost use Rattle.std.specs.Prelude.{true, drop, [], ◌∷◌, option_map, Some, None, MatchOption, if◌then◌else◌};
 ghost use Rattle.std.specs.Char.{is_ascii_digit};
 ghost use Rattle.std.specs.List.{list_all};
 ghost use Rattle.std.specs.Str.Parse.{digits_value, starts_with_minus};
 ghost use Rattle.fibs_messages.specs.Field.{flag_values, number_values};
 ghost use Rattle.fibs_messages.specs.FieldReading.{Gives};
-ghost use Rattle.fibs_messages.specs.Decimal.{is_positive, is_zero, decimal_up_to, decimal_value, number_if_allowed, number_in};
+ghost use Rattle.fibs_messages.specs.Decimal.{is_positive, is_zero, decimal_up_to, decimal_value, number_if_allowed};
+ghost use Rattle.fibs_messages.specs.Decimal.{numbers_of_32_bits, numbers_of_64_bits};
+ghost use Rattle.fibs_messages.specs.Decimal.{number_in};
 ghost use Rattle.fibs_messages.specs.DecimalReading.{IsNarrow, capped, unsigned_value};
 
 use crate::fields::fault::Fault;
@@ -29,7 +32,7 @@ fn is_positive(text: &[u8]) -> bool
 /// The number that the digits write, unless it takes more than 64 bits.
 fn magnitude(digits: &[u8]) -> Option<u64>
     requires { list_all is_ascii_digit digits.now ≡ true }
-    ensures { MatchOption result (2 ^ 64 ≤ digits_value 10 digits.now) (λ n. n ≡ digits_value 10 digits.now) }
+    ensures { MatchOption result (numbers_of_64_bits ≤ digits_value 10 digits.now) (λ n. n ≡ digits_value 10 digits.now) }
 {
     let mut value = 0u64;
     for digit in digits {
@@ -117,11 +120,11 @@ pub fn read_decimal(text: &[u8], limit: u64) -> Option<u64>
 /// The number that the digits write, or the greatest of 32 bits where that is greater.
 fn capped(digits: &[u8]) -> u32
     requires { list_all is_ascii_digit digits.now ≡ true }
-    ensures { result ≡ min (digits_value 10 digits.now) (2 ^ 32 - 1) }
+    ensures { result ≡ min (digits_value 10 digits.now) (numbers_of_32_bits - 1) }
 {
     match magnitude(digits) {
-        Some(number) if number < 4_294_967_295 => number as u32,
-        _ => 4_294_967_295,
+        Some(number) if number < u64::from(u32::MAX) => number as u32,
+        _ => u32::MAX,
     }
 }
 

@@ -28,7 +28,7 @@ fn are_name_bytes(bytes: &[u8]) -> bool
 }
 
 impl<'a> Name<'a> {
-    ghost use Rattle.fibs_messages.specs.NameBytes.{name_bytes};
+    ghost use Rattle.fibs_messages.specs.Bytes.{name_bytes};
 
     /// The bytes as a name. None where there is none of them, there are more than 64, or one is not 33 to 126, or is a
     /// colon.

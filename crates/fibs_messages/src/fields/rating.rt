@@ -1,13 +1,18 @@
 //! Ratings, in hundredths.
 
-ghost use Rattle.std.specs.Prelude.{◌≡◌, ◌+◌, ◌*◌, ◌<◌, true, false, MatchOption};
+ghost use Rattle.std.specs.Prelude.{◌≡◌, ◌+◌, ◌*◌, ◌<◌, ◌++◌, true, false, length, take, MatchOption, OnOk};
 ghost use Rattle.std.specs.Char.{is_ascii_digit};
 ghost use Rattle.fibs_messages.specs.Split.{seen};
-ghost use Rattle.fibs_messages.specs.Rating.{is_fraction, hundredths_of, rating_in};
+ghost use Rattle.fibs_messages.specs.Rating.{is_fraction, hundredths_of, rating_in, printed_rating};
 
 use crate::fields::decimal::unsigned_number;
 use crate::fields::fault::Fault;
 use crate::fields::split::split;
+use itoa::Buffer;
+use std::alloc::AllocError;
+
+/// The greatest rating.
+const HIGHEST: u64 = u32::MAX as u64;
 
 fn is_digit(byte: u8) -> bool
     ensures { result ≡ is_ascii_digit byte }
@@ -39,9 +44,20 @@ pub fn rating_in(text: &[u8]) -> Result<u32, Fault>
         return Err(Fault::NotANumber);
     };
     let whole = unsigned_number(whole)?;
-    if whole <= 42_949_672 && 100 * whole + fraction <= 4_294_967_295 {
+    if whole <= HIGHEST / 100 && 100 * whole + fraction <= HIGHEST {
         Ok((100 * whole + fraction) as u32)
     } else {
         Err(Fault::OutOfRange)
     }
+}
+
+/// Appends the rating, with two digits after its point.
+pub fn append_rating(out: &mut Vec<u8>, rating: u32) -> Result<(), AllocError>
+    ensures put { OnOk result (out.new.items ≡ out.old.items ++ printed_rating rating) }
+    ensures front { take (length out.old.items) out.new.items ≡ out.old.items }
+{
+    out.extend_from_slice(Buffer::new().format(rating / 100).as_bytes())?;
+    let tenths = b'0' + (rating % 100 / 10) as u8;
+    let hundredths = b'0' + (rating % 10) as u8;
+    out.extend_from_slice(&[b'.', tenths, hundredths])
 }

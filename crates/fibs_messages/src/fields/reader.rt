@@ -1,12 +1,13 @@
 //! The fields of a line, read from left to right.
 
 ghost use Rattle.std.specs.Prelude.{◌≡◌, ℕ, [], Ok};
-ghost use Rattle.fibs_messages.specs.Field.{NameField, WordField, TailField, FlagField, NumberField, RatingField, TextField, a_name, a_word, a_tail, a_flag, a_number, a_rating, a_text};
+ghost use Rattle.fibs_messages.specs.Field.{NameField, WordField, TailField, FlagField, NumberField, RatingField};
+ghost use Rattle.fibs_messages.specs.Field.{TextField, a_name, a_word, a_tail, a_flag, a_number, a_rating, a_text};
 ghost use Rattle.fibs_messages.specs.FieldReading.{Gives, left, left_of, text_at, field_at, next_at, this_word, end_at};
 ghost use Rattle.fibs_messages.specs.Split.{seen};
 ghost use Rattle.fibs_messages.specs.Decimal.{number_in};
-ghost use Rattle.fibs_messages.specs.NameBytes.{name_bytes};
-ghost use Rattle.fibs_messages.specs.WordBytes.{word_bytes, tail_bytes};
+ghost use Rattle.fibs_messages.specs.Bytes.{name_bytes};
+ghost use Rattle.fibs_messages.specs.Bytes.{word_bytes, tail_bytes};
 
 use crate::fields::decimal::{flag_in, number_in, unsigned_in};
 use crate::fields::fault::{Fault, FieldFault};

@@ -27,7 +27,7 @@ fn has_no_space(bytes: &[u8]) -> bool
 }
 
 impl<'a> Word<'a> {
-    ghost use Rattle.fibs_messages.specs.WordBytes.{word_bytes};
+    ghost use Rattle.fibs_messages.specs.Bytes.{word_bytes};
 
     /// The bytes as a word, where they are one.
     pub fn new(bytes: &'a [u8]) -> Option<Word<'a>>
@@ -58,7 +58,7 @@ impl<'a> Word<'a> {
 }
 
 impl<'a> Tail<'a> {
-    ghost use Rattle.fibs_messages.specs.WordBytes.{tail_bytes};
+    ghost use Rattle.fibs_messages.specs.Bytes.{tail_bytes};
 
     /// The bytes as a tail, where they are one.
     pub fn new(bytes: &'a [u8]) -> Option<Tail<'a>>

@@ -5,10 +5,11 @@ ghost use Rattle.std.specs.List.{flat_map};
 ghost use Rattle.fibs_messages.specs.Field.{NameField, FlagField, NumberField, RatingField, TextField};
 ghost use Rattle.fibs_messages.specs.FieldOf.{value_of, values_of};
 ghost use Rattle.fibs_messages.specs.Message.{MessageText, canonical, canonical_field};
-ghost use Rattle.fibs_messages.specs.MessageOf.{message_of, own_info_fields};
-ghost use Rattle.fibs_messages.specs.NameBytes.{name_bytes};
+ghost use Rattle.fibs_messages.specs.Message.{message_of, own_info_fields};
+ghost use Rattle.fibs_messages.specs.Bytes.{name_bytes};
 
 use crate::fields::name::Name;
+use crate::fields::rating::append_rating;
 use crate::fields::word::Word;
 use crate::laws::messages_are_well_formed;
 use crate::messages::message::{Message, OwnInfo, WhoInfo};
@@ -35,16 +36,14 @@ fn append_piece(out: &mut Vec<u8>, bytes: &[u8]) -> Result<(), AllocError>
     out.extend_from_slice(bytes)
 }
 
-/// Appends a space and the rating with two digits after its point.
+/// Appends a space and the rating.
 #[tactic(auto, unfolding(crate::specs::Message::canonical_field))]
-fn append_rating(out: &mut Vec<u8>, rating: u32) -> Result<(), AllocError>
+fn append_spaced_rating(out: &mut Vec<u8>, rating: u32) -> Result<(), AllocError>
     ensures put { OnOk result (out.new.items ≡ out.old.items ++ canonical_field (RatingField rating)) }
     ensures front { take (length out.old.items) out.new.items ≡ out.old.items }
 {
-    append_piece(out, Buffer::new().format(rating / 100).as_bytes())?;
-    let tenths = b'0' + (rating % 100 / 10) as u8;
-    let hundredths = b'0' + (rating % 10) as u8;
-    out.extend_from_slice(&[b'.', tenths, hundredths])
+    out.push(b' ')?;
+    append_rating(out, rating)
 }
 
 /// Appends a space and the flag, as 0 or 1.
@@ -90,7 +89,7 @@ fn append_field(out: &mut Vec<u8>, field: &Field<'_>) -> Result<(), AllocError>
         Field::Word(word) => append_piece(out, word.bytes()),
         Field::Flag(flag) => append_flag(out, *flag),
         Field::Number(number) => append_count(out, *number),
-        Field::Rating(rating) => append_rating(out, *rating),
+        Field::Rating(rating) => append_spaced_rating(out, *rating),
         Field::Text(text) => append_text(out, text),
     }
 }
@@ -165,7 +164,7 @@ fn append_readiness(out: &mut Vec<u8>, info: &WhoInfo<'_>) -> Result<(), AllocEr
 {
     append_flag(out, info.ready)?;
     append_flag(out, info.away)?;
-    append_rating(out, info.rating)
+    append_spaced_rating(out, info.rating)
 }
 
 /// Appends the three numbers of message 5.

@@ -11,7 +11,9 @@ use Rattle.fibs_position.specs.OwnView.{turn, colour, first_die, second_die, NoD
 use Rattle.fibs_position.specs.GoodBoard.{good}
 use Rattle.fibs_position.specs.LaxPlays.{lax_of}
 use Rattle.fibs_position.specs.DecisionValue.{DecisionValue, roll, double, accept, reject, move}
-use Rattle.fibs_position.specs.BoardEffect.{IsDie, AreThrown, HasTurn, BeforeRoll, BeforeMove, IsDoubled, rolled, doubled, accepted, rejected, after_move, Carries, Effect, is_die, are_thrown, has_turn, is_doubled, carried, effect_of}
+use Rattle.fibs_position.specs.BoardEffect.{IsDie, AreThrown, HasTurn, BeforeRoll, BeforeMove, IsDoubled, rolled}
+use Rattle.fibs_position.specs.BoardEffect.{doubled, accepted, rejected, after_move, Carries, Effect, is_die}
+use Rattle.fibs_position.specs.BoardEffect.{are_thrown, has_turn, is_doubled, carried, effect_of}
 use Rattle.fibs_position.proofs.RuleLemmas.LaxPlays.{lax_sound, lax_complete}
 use Rattle.fibs_position.proofs.BoardLemmas.GoodTest.{BoardTest, good_tells, good_from}
 

@@ -1,5 +1,6 @@
 -- The first of a list of which a fact holds.
-use Rattle.std.proofs.Common.{◌≡◌, Bool, true, false, cond, List, [], ◌∷◌, ◌++◌, ◌⊎◌, inl, inr, Option, Some, Err, sym, ap, refl}
+use Rattle.std.proofs.Common.{◌≡◌, Bool, true, false, cond, List, [], ◌∷◌, ◌++◌, ◌⊎◌, inl, inr, Option, Some, Err, sym}
+use Rattle.std.proofs.Common.{ap, refl}
 use Rattle.std.specs.Prelude.{◌↔◌, Result, find}
 use Rattle.std.specs.Bool.{Decides}
 use Rattle.std.proofs.lemmas.Bool.{false≢true}

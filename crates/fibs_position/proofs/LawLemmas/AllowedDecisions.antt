@@ -1,5 +1,7 @@
 -- What is allowed is a decision of the user's, which a player can make, and which is carried out.
-use Rattle.std.proofs.Common.{◌≡◌, ℕ, ◌<◌, ◌≤◌, ◌==◌, Bool, true, false, not, cond, Option, if◌then◌else◌, List, [], ◌∷◌, ◌++◌, length, get_or, take, map, None, Some, refl, sym, ap, subst, inl, inr, arith, length-append, length-take}
+use Rattle.std.proofs.Common.{◌≡◌, ℕ, ◌<◌, ◌≤◌, ◌==◌, Bool, true, false, not, cond, Option, if◌then◌else◌, List, []}
+use Rattle.std.proofs.Common.{◌∷◌, ◌++◌, length, get_or, take, map, None, Some, refl, sym, ap, subst, inl, inr, arith}
+use Rattle.std.proofs.Common.{length-append, length-take}
 use Rattle.std.specs.Prelude.{find, All}
 use Rattle.std.specs.List.{AllByRecursion}
 use Rattle.std.proofs.lemmas.Bool.Decides.{nat_tests}
@@ -8,7 +10,7 @@ use Rattle.std.proofs.lemmas.List.Elements.{All-from_recursion, All-map}
 use Rattle.fibs_messages.specs.Board.{BoardFields}
 use Rattle.fibs_messages.specs.FieldRanges.{FieldRanges}
 use Rattle.fibs_position.specs.Hop.{Hop, IsStep}
-use Rattle.fibs_position.specs.StepValue.{hop_of}
+use Rattle.fibs_position.specs.Hop.{hop_of}
 use Rattle.fibs_position.specs.Checkers.{Checkers}
 use Rattle.fibs_position.specs.OneChecker.{One}
 use Rattle.fibs_position.specs.Runs.{Run, RunOf, IsPart, held_of, held}
@@ -17,7 +19,8 @@ use Rattle.fibs_position.specs.PositionValue.{position_of}
 use Rattle.fibs_position.specs.DecisionValue.{DecisionValue, roll, double, accept, reject, move, IsDecision}
 use Rattle.fibs_position.specs.Phases.{phase_in, decides}
 use Rattle.fibs_position.specs.Allowed.{IsAllowed, refusal_of, forbids}
-use Rattle.fibs_position.specs.Laws.{LegalPlaysAreSteps, AllowedDecides, AllowedIsADecision, DecisionsAreValid, AllowedActs}
+use Rattle.fibs_position.specs.Laws.{LegalPlaysAreSteps, AllowedDecides, AllowedIsADecision, DecisionsAreValid}
+use Rattle.fibs_position.specs.Laws.{AllowedActs}
 use Rattle.fibs_position.specs.declared.step.Step.{Step}
 use Rattle.fibs_position.specs.declared.decision.Decision.TheVariants.{Roll, Double, Accept, Reject, Move}
 use Rattle.fibs_position.specs.declared.disallowed.Disallowed.{Disallowed}

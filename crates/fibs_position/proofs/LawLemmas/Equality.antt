@@ -1,6 +1,7 @@
 -- Plays are given by their steps, and decisions by their values.
 use mathlib.Core.HLevel.{is_prop→PathP}
-use Rattle.std.proofs.Common.{◌≡◌, ℕ, ◌<◌, ◌≤◌, List, [], ◌∷◌, ◌++◌, length, map, take, drop, Bool, true, refl, sym, ap, ap₂, ◌∙◌, arith, eq-eqb, take-append-drop, length-take-le, length-drop}
+use Rattle.std.proofs.Common.{◌≡◌, ℕ, ◌<◌, ◌≤◌, List, [], ◌∷◌, ◌++◌, length, map, take, drop, Bool, true, refl, sym, ap}
+use Rattle.std.proofs.Common.{ap₂, ◌∙◌, arith, eq-eqb, take-append-drop, length-take-le, length-drop}
 use Rattle.std.specs.Prelude.{◌==◌, ◌&&◌}
 use Rattle.std.specs.Bool.{Decides}
 use Rattle.std.specs.Coded.{le_prop, Coded-set, coded_bool, coded_ℕ}
@@ -9,10 +10,10 @@ use Rattle.std.specs.Cmp.Lexicographic.{pointwise}
 use Rattle.std.proofs.lemmas.Bool.{and_parts, and_from, eqb-true}
 use Rattle.std.proofs.lemmas.Slice.Eq.{slice_eq-Decides}
 use Rattle.fibs_position.specs.Hop.{Hop}
-use Rattle.fibs_position.specs.StepValue.{hop_of, is_blank}
+use Rattle.fibs_position.specs.Hop.{hop_of, is_blank}
 use Rattle.fibs_position.specs.PlayValue.{hops_of}
 use Rattle.fibs_position.specs.DecisionValue.{DecisionValue, roll, double, accept, reject, move}
-use Rattle.fibs_position.specs.DecisionOf.{decision_of}
+use Rattle.fibs_position.specs.DecisionValue.{decision_of}
 use Rattle.fibs_position.specs.declared.decision.Decision.{Decision}
 use Rattle.fibs_position.specs.declared.decision.Decision.TheVariants.{Roll, Double, Accept, Reject, Move}
 use Rattle.fibs_position.specs.declared.step.Step.{Step}

@@ -1,7 +1,11 @@
--- The runs that are tried are legal, and each arrangement that a legal play reaches is reached by the greatest such play.
-use Rattle.std.proofs.Common.{◌≡◌, ◌≢◌, ℕ, suc, zero, ◌<◌, ◌≤◌, inl, inr, max, List, [], ◌∷◌, ◌++◌, length, take, drop, Bool, true, false, replicate, refl, sym, ap, ap₂, subst, ◌∙◌, arith, cond, eq-eqb, length-append, length-take-le, take-append-drop, take_all}
+-- The runs that are tried are legal, and each arrangement that a legal play reaches is reached by the greatest such
+-- play.
+use Rattle.std.proofs.Common.{◌≡◌, ◌≢◌, ℕ, suc, zero, ◌<◌, ◌≤◌, inl, inr, max, List, [], ◌∷◌, ◌++◌, length, take, drop}
+use Rattle.std.proofs.Common.{Bool, true, false, replicate, refl, sym, ap, ap₂, subst, ◌∙◌, arith, cond, eq-eqb}
+use Rattle.std.proofs.Common.{length-append, length-take-le, take-append-drop, take_all}
 use Rattle.std.specs.Prelude.{◌&&◌, ◌==◌}
-use Rattle.std.proofs.lemmas.Bool.{and_parts, and_from, or_left, or_right, cond-true, cond-false, eqb-true, ne_eqb, both_ways, cond_both}
+use Rattle.std.proofs.lemmas.Bool.{and_parts, and_from, or_left, or_right, cond-true, cond-false, eqb-true, ne_eqb}
+use Rattle.std.proofs.lemmas.Bool.{both_ways, cond_both}
 use Rattle.std.proofs.Math.Seq.{take-append_seam}
 use Rattle.fibs_position.specs.Hop.{Hop}
 use Rattle.fibs_position.specs.Checkers.{Checkers, moved}
@@ -9,11 +13,14 @@ use Rattle.fibs_position.specs.Runs.{Run, RunOf, Standing, held, held_of, most_o
 use Rattle.fibs_position.specs.LegalPlays.{Leads, are_two, larger_first}
 use Rattle.fibs_position.specs.Search.{AreDice, Reach, next_top, reaches, all_in_order, all_of}
 use Rattle.fibs_position.proofs.SearchLemmas.LongestRuns.{longest-reached}
-use Rattle.fibs_position.proofs.RuleLemmas.DiceParts.{IsFront, front_from_part, part_from_held, part_from_swapped, dice_held, two_held, held_long, alike}
+use Rattle.fibs_position.proofs.RuleLemmas.DiceParts.{IsFront, front_from_part, part_from_held, part_from_swapped}
+use Rattle.fibs_position.proofs.RuleLemmas.DiceParts.{dice_held, two_held, held_long, alike}
 use Rattle.fibs_position.proofs.SearchLemmas.FollowSteps.{dice_front}
-use Rattle.fibs_position.proofs.SearchLemmas.LegalTest.{follows_complete, legal_sound, legal_complete, two_from, two_is, larger_from, part_of_larger, playable, in_order}
+use Rattle.fibs_position.proofs.SearchLemmas.LegalTest.{follows_complete, legal_sound, legal_complete, two_from, two_is}
+use Rattle.fibs_position.proofs.SearchLemmas.LegalTest.{larger_from, part_of_larger, playable, in_order}
 use Rattle.fibs_position.proofs.PlayListLemmas.PlayOrder.{itself}
-use Rattle.fibs_position.proofs.PlayListLemmas.Reaches.{In, in_left, in_right, in_cases, Tried, reaches_sound, reaches_complete}
+use Rattle.fibs_position.proofs.PlayListLemmas.Reaches.{In, in_left, in_right, in_cases, Tried, reaches_sound}
+use Rattle.fibs_position.proofs.PlayListLemmas.Reaches.{reaches_complete}
 use Rattle.fibs_position.proofs.RuleLemmas.HighestFirst.{fallen, fallen_tried}
 use Rattle.fibs_position.proofs.PlayListLemmas.KeptPlays.{Covered}
 

@@ -10,7 +10,8 @@ use Rattle.std.proofs.lemmas.Slice.Eq.{bytes_eq-Decides}
 use Rattle.fibs_position.specs.Checkers.{Checkers}
 use Rattle.fibs_position.specs.LegalPlays.{play_cmp}
 use Rattle.fibs_position.specs.Search.{Reach, same, greater, noted}
-use Rattle.fibs_position.proofs.PlayListLemmas.PlayOrder.{play_total, itself, greater_kept, greater_found, greater_which}
+use Rattle.fibs_position.proofs.PlayListLemmas.PlayOrder.{play_total, itself, greater_kept, greater_found}
+use Rattle.fibs_position.proofs.PlayListLemmas.PlayOrder.{greater_which}
 use Rattle.fibs_position.proofs.PlayListLemmas.Reaches.{In}
 
 -- arrangements that pass the test are one

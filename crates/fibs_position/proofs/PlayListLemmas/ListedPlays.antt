@@ -1,5 +1,6 @@
 -- The plays that are kept, sorted, are the list of plays of the rules.
-use Rattle.std.proofs.Common.{◌≡◌, ◌≢◌, ℕ, suc, zero, ◌+◌, ◌<◌, ◌≤◌, inl, inr, List, [], ◌∷◌, length, map, get_or, true, false, refl, sym, ap, subst, ◌∙◌, arith, cond, add-one}
+use Rattle.std.proofs.Common.{◌≡◌, ◌≢◌, ℕ, suc, zero, ◌+◌, ◌<◌, ◌≤◌, inl, inr, List, [], ◌∷◌, length, map, get_or, true}
+use Rattle.std.proofs.Common.{false, refl, sym, ap, subst, ◌∙◌, arith, cond, add-one}
 use Rattle.std.specs.declared.cmp.Ordering.TheVariants.{Greater}
 use Rattle.std.specs.List.{fold, Contains, sum_by}
 use Rattle.std.specs.List.Sorted.{IsPermutation, IsSortedBy}
@@ -7,20 +8,23 @@ use Rattle.std.specs.Ordering.{is_lt, is_gt}
 use Rattle.std.proofs.lemmas.Bool.{cases_Bool, cond-true, cond-false}
 use Rattle.std.proofs.lemmas.List.Sums.{sum_by-cons}
 use Rattle.std.proofs.lemmas.List.{get_or-map, length-map}
-use Rattle.std.proofs.lemmas.List.Sorted.{Contains-permutation, IsPermutation-sym, IsPermutation-map, sum_by-IsPermutation}
+use Rattle.std.proofs.lemmas.List.Sorted.{Contains-permutation, IsPermutation-sym, IsPermutation-map}
+use Rattle.std.proofs.lemmas.List.Sorted.{sum_by-IsPermutation}
 use Rattle.std.proofs.lemmas.Cmp.{upto}
 use Rattle.fibs_position.specs.Hop.{Hop}
 use Rattle.fibs_position.specs.PlayValue.{hops_of}
-use Rattle.fibs_position.specs.ReachedValue.{reach_of}
+use Rattle.fibs_position.specs.Search.{reach_of}
 use Rattle.fibs_position.specs.declared.play.Play.{Play}
 use Rattle.fibs_position.specs.declared.plays.Reached.{Reached}
 use Rattle.fibs_position.specs.Checkers.{Checkers}
 use Rattle.fibs_position.specs.Runs.{Run, Standing}
 use Rattle.fibs_position.specs.LegalPlays.{play_cmp, Leads, IsGreatest, PlayList}
 use Rattle.fibs_position.specs.Search.{Reach, same, noted, all_of}
-use Rattle.fibs_position.proofs.PlayListLemmas.PlayOrder.{play_total, not_greater, gt_from, play_same, play_exact, no_less}
+use Rattle.fibs_position.proofs.PlayListLemmas.PlayOrder.{play_total, not_greater, gt_from, play_same, play_exact}
+use Rattle.fibs_position.proofs.PlayListLemmas.PlayOrder.{no_less}
 use Rattle.fibs_position.proofs.PlayListLemmas.Reaches.{In}
-use Rattle.fibs_position.proofs.PlayListLemmas.KeptPlays.{Covered, Apart, Distinct, all_in, all_covered, all_distinct, distinct_one, leads_same, same_leads}
+use Rattle.fibs_position.proofs.PlayListLemmas.KeptPlays.{Covered, Apart, Distinct, all_in, all_covered, all_distinct}
+use Rattle.fibs_position.proofs.PlayListLemmas.KeptPlays.{distinct_one, leads_same, same_leads}
 use Rattle.fibs_position.proofs.PlayListLemmas.AllTried.{all_sound, all_complete, run_one}
 
 -- an entry of a list is in it

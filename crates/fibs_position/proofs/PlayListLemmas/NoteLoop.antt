@@ -1,7 +1,8 @@
 -- The loop that keeps the greatest play for each arrangement.
-use Rattle.std.proofs.Common.{◌≡◌, ℕ, suc, zero, ◌<◌, List, [], ◌∷◌, ◌++◌, length, map, get_or, set, true, false, refl, sym, ap, ◌∙◌, arith}
+use Rattle.std.proofs.Common.{◌≡◌, ℕ, suc, zero, ◌<◌, List, [], ◌∷◌, ◌++◌, length, map, get_or, set, true, false, refl}
+use Rattle.std.proofs.Common.{sym, ap, ◌∙◌, arith}
 use Rattle.std.proofs.lemmas.Bool.{cond-true, cond-false}
-use Rattle.fibs_position.specs.ReachedValue.{reach_of}
+use Rattle.fibs_position.specs.Search.{reach_of}
 use Rattle.fibs_position.specs.Search.{same, greater, noted}
 use Rattle.fibs_position.specs.declared.plays.Reached.{Reached}
 

@@ -12,7 +12,7 @@ use Rattle.std.proofs.lemmas.Cmp.{then_total, on_total, nat_cmp_total, tied_itse
 use Rattle.std.proofs.lemmas.List.Sorted.{ranks_by, IsStrictWeakOrder-flip}
 use Rattle.std.proofs.lemmas.Map.Lookups.{exact_pairs, exact_unsigned}
 use Rattle.fibs_position.specs.Hop.{Hop}
-use Rattle.fibs_position.specs.StepValue.{hop_of}
+use Rattle.fibs_position.specs.Hop.{hop_of}
 use Rattle.fibs_position.specs.PlayValue.{hops_of}
 use Rattle.fibs_position.specs.declared.step.Step.{Step}
 use Rattle.fibs_position.specs.declared.plays.Reached.{Reached}

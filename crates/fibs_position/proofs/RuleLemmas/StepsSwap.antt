@@ -1,7 +1,10 @@
 -- Two steps by one die, the second from a higher place, may be played in the other order.
-use Rattle.std.proofs.Common.{◌≡◌, ◌≢◌, ℕ, suc, zero, ◌+◌, ◌-◌, ◌<◌, ◌≤◌, ◌⊎◌, inl, inr, List, [], ◌∷◌, length, get_or, set, Bool, true, false, refl, sym, ap, subst, ◌∙◌, arith, cond, eq-eqb, length-set, get_or-set_other, get_or-set_same}
+use Rattle.std.proofs.Common.{◌≡◌, ◌≢◌, ℕ, suc, zero, ◌+◌, ◌-◌, ◌<◌, ◌≤◌, ◌⊎◌, inl, inr, List, [], ◌∷◌, length, get_or}
+use Rattle.std.proofs.Common.{set, Bool, true, false, refl, sym, ap, subst, ◌∙◌, arith, cond, eq-eqb, length-set}
+use Rattle.std.proofs.Common.{get_or-set_other, get_or-set_same}
 use Rattle.std.specs.Prelude.{◌&&◌, ◌==◌, nat_lt, slice_index}
-use Rattle.std.proofs.lemmas.Bool.{cases_eq, cases_lt, cond-true, cond-false, cases_Bool, ne_eqb, cond_both, and_parts, and_left, ltb-true, eqb-true, le-ltb}
+use Rattle.std.proofs.lemmas.Bool.{cases_eq, cases_lt, cond-true, cond-false, cases_Bool, ne_eqb, cond_both, and_parts}
+use Rattle.std.proofs.lemmas.Bool.{and_left, ltb-true, eqb-true, le-ltb}
 use Rattle.std.proofs.lemmas.Bool.Decides.{nat_tests}
 use Rattle.std.proofs.lemmas.Grind.{same_number_lists}
 use Rattle.fibs_position.specs.Checkers.{Checkers, AllHome, moved, shifted, hit}

@@ -1,7 +1,8 @@
 -- The loop that looks for the most dice that can be played.
 use Rattle.std.specs.Ordering.{ord_max, nat_cmp}
 use Rattle.std.proofs.lemmas.Bool.Decides.{nat_tests}
-use Rattle.std.proofs.Common.{take, take_all, length-drop, ◌≡◌, ℕ, suc, ◌+◌, ◌-◌, ◌<◌, ◌≤◌, max, List, [], ◌∷◌, length, get_or, drop, Some, None, refl, sym, ap, ◌∙◌, arith, add-one}
+use Rattle.std.proofs.Common.{take, take_all, length-drop, ◌≡◌, ℕ, suc, ◌+◌, ◌-◌, ◌<◌, ◌≤◌, max, List, [], ◌∷◌, length}
+use Rattle.std.proofs.Common.{get_or, drop, Some, None, refl, sym, ap, ◌∙◌, arith, add-one}
 use Rattle.fibs_position.specs.Checkers.{Checkers}
 use Rattle.fibs_position.specs.OneChecker.{one_of}
 use Rattle.fibs_position.specs.Runs.{best_of, longest, score}

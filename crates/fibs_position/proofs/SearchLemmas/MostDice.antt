@@ -5,7 +5,8 @@ use Rattle.fibs_position.specs.Hop.{Hop}
 use Rattle.fibs_position.specs.Checkers.{Checkers}
 use Rattle.fibs_position.specs.Runs.{Run, RunOf, Standing, held, held_of, IsMost, longest, most_of}
 use Rattle.fibs_position.proofs.SearchLemmas.LongestRuns.{longest-most, longest-reached, Reached}
-use Rattle.fibs_position.proofs.RuleLemmas.DiceParts.{IsFront, front_from_part, part_from_held, part_from_swapped, dice_held}
+use Rattle.fibs_position.proofs.RuleLemmas.DiceParts.{IsFront, front_from_part, part_from_held, part_from_swapped}
+use Rattle.fibs_position.proofs.RuleLemmas.DiceParts.{dice_held}
 
 -- no run by a front of dice is longer than the most of them
 front_most : (p q : Checkers) (dice all : List ℕ) (steps : List Hop) → IsFront dice all → Run p dice steps q → length steps ≤ longest p all

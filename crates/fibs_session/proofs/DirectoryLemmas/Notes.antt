@@ -3,8 +3,8 @@ use Rattle.std.proofs.Common.{◌≡◌, ℕ, ◌<◌, Bool, true, false, cond, 
 use Rattle.std.specs.List.{AllByRecursion}
 use Rattle.std.specs.Str.{bytes_eq}
 use Rattle.fibs_messages.specs.Message.{MessageValue}
-use Rattle.fibs_messages.specs.MessageOf.{message_of}
-use Rattle.fibs_messages.specs.NameBytes.{name_bytes}
+use Rattle.fibs_messages.specs.Message.{message_of}
+use Rattle.fibs_messages.specs.Bytes.{name_bytes}
 use Rattle.fibs_messages.specs.declared.messages.message.Message.{Message}
 use Rattle.fibs_messages.specs.declared.messages.message.Message.TheVariants.{Welcome, OwnInfo as TheOwnInfo, MotdBegin, MotdEnd, WhoInfo as TheWhoInfo, WhoInfoEnd, Login, Logout, MessageReceived, MessageDelivered, MessageSaved, Says, Shouts, Whispers, Kibitzes, YouSay, YouShout, YouWhisper, YouKibitz}
 use Rattle.fibs_messages.specs.declared.messages.message.WhoInfo.{WhoInfo}

@@ -1,5 +1,5 @@
 -- Inputs as values.
-use Rattle.fibs_position.specs.DecisionOf.{decision_of}
+use Rattle.fibs_position.specs.DecisionValue.{decision_of}
 use Rattle.fibs_session.specs.History.Machine.{InputValue, Open, Lose, Piece, Click, PlainInput}
 use Rattle.fibs_session.specs.PlainOf.{plain_value}
 use Rattle.fibs_session.specs.declared.client.input.Input.{Input}

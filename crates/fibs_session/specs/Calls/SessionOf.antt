@@ -1,11 +1,11 @@
 -- Sessions and their answers as values.
 use Rattle.std.specs.Prelude.{ℕ, List, [], ◌∷◌, map, Option, None, Some, Result, Ok, Err, option_map}
 use Rattle.fibs_lines.specs.Lines.{ReadLine}
-use Rattle.fibs_lines.specs.LineValue.{value_of}
+use Rattle.fibs_lines.specs.Lines.{value_of}
 use Rattle.fibs_messages.specs.Line.{ReadingValue}
-use Rattle.fibs_messages.specs.ReadingOf.{reading_of}
+use Rattle.fibs_messages.specs.Line.{reading_of}
 use Rattle.fibs_messages.specs.StoredBoard.{fields_of}
-use Rattle.fibs_position.specs.DecisionOf.{decision_of}
+use Rattle.fibs_position.specs.DecisionValue.{decision_of}
 use Rattle.fibs_session.specs.TextOf.{text_of}
 use Rattle.arrayvec.specs.ArrayString.{ArrayString as CommandText}
 use Rattle.fibs_session.specs.declared.session.taken.Outstanding.{Outstanding}

@@ -1,9 +1,9 @@
 //! What is kept of a reading while its line is not lent.
 
 ghost use Rattle.std.specs.Prelude.{◌≡◌};
-ghost use Rattle.fibs_lines.specs.LineValue.{value_of};
+ghost use Rattle.fibs_lines.specs.Lines.{value_of};
 ghost use Rattle.fibs_lines.specs.Lines.{ReadLine};
-ghost use Rattle.fibs_messages.specs.ReadingOf.{reading_of};
+ghost use Rattle.fibs_messages.specs.Line.{reading_of};
 ghost use Rattle.fibs_session.specs.History.Hearing.{line_reading};
 
 use crate::session::read_line;

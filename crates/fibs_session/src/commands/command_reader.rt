@@ -3,10 +3,10 @@
 ghost use Rattle.std.specs.Prelude.{◌≡◌, ◌≤◌, ◌↔◌, [], IfSome, option_map, Some};
 ghost use Rattle.fibs_messages.specs.Decimal.{decimal_up_to};
 ghost use Rattle.fibs_messages.specs.Split.{seen};
-ghost use Rattle.fibs_position.specs.DecisionOf.{decision_of};
+ghost use Rattle.fibs_position.specs.DecisionValue.{decision_of};
 ghost use Rattle.fibs_position.specs.DecisionValue.{DecisionValue};
 ghost use Rattle.fibs_position.specs.PlayValue.{hops_of};
-ghost use Rattle.fibs_position.specs.StepValue.{hop_of};
+ghost use Rattle.fibs_position.specs.Hop.{hop_of};
 ghost use Rattle.fibs_session.specs.CommandReading.{ReadCommand, numbered_place, place_in, step_in, play_from, turn_in, words_after, read_command};
 
 use super::decisions::{BAR, OFF};

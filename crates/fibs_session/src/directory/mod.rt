@@ -3,8 +3,8 @@
 ghost use Rattle.std.specs.Prelude.{◌≡◌, ◌≢◌, ◌≤◌, ◌↔◌, ◌++◌, ◌∷◌, [], List, None, false, length, slice_get, OnOk, OnErr, IsOk, IsErrOf, IsTrue};
 ghost use Rattle.std.specs.Option.{option_map};
 ghost use Rattle.fibs_messages.specs.Message.{MessageValue};
-ghost use Rattle.fibs_messages.specs.MessageOf.{message, message_of, who_info_fields};
-ghost use Rattle.fibs_messages.specs.NameBytes.{name_bytes};
+ghost use Rattle.fibs_messages.specs.Message.{message, message_of, who_info_fields};
+ghost use Rattle.fibs_messages.specs.Bytes.{name_bytes};
 ghost use Rattle.fibs_session.specs.Directory.{directory_limit, name_of, entry_of, IsDirectory};
 ghost use Rattle.fibs_session.specs.Directory.Steps.{with_entry, without_entry, is_full_for};
 

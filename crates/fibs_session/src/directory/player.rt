@@ -1,7 +1,7 @@
 //! What is known of a player.
 
 ghost use Rattle.std.specs.Prelude.{◌≡◌, IfOk};
-ghost use Rattle.fibs_messages.specs.MessageOf.{message, who_info_fields};
+ghost use Rattle.fibs_messages.specs.Message.{message, who_info_fields};
 
 use fibs_messages::WhoInfo;
 use std::alloc::{AllocError, Global};

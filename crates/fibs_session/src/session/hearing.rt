@@ -1,9 +1,9 @@
 //! What a line says, by the session's fields.
 
 ghost use Rattle.std.specs.Prelude.{◌≡◌, true, map, option_map};
-ghost use Rattle.fibs_lines.specs.LineValue.{value_of};
-ghost use Rattle.fibs_messages.specs.MessageOf.{message_of};
-ghost use Rattle.fibs_messages.specs.ReadingOf.{reading_of};
+ghost use Rattle.fibs_lines.specs.Lines.{value_of};
+ghost use Rattle.fibs_messages.specs.Message.{message_of};
+ghost use Rattle.fibs_messages.specs.Line.{reading_of};
 ghost use Rattle.fibs_messages.specs.StoredBoard.{fields_of};
 ghost use Rattle.fibs_messages.specs.declared.messages.message.Message.TheVariants.{OwnInfo as TheOwnInfo};
 ghost use Rattle.fibs_session.specs.Calls.FieldSteps.{message_fields, heard_fields, with_board, confirmed_of, line_fields};

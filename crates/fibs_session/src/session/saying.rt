@@ -2,10 +2,10 @@
 
 ghost use Rattle.std.specs.Prelude.{◌≡◌, IsErr, true};
 ghost use Rattle.fibs_messages.specs.StoredBoard.{fields_of};
-ghost use Rattle.fibs_position.specs.DecisionOf.{decision_of};
+ghost use Rattle.fibs_position.specs.DecisionValue.{decision_of};
 ghost use Rattle.fibs_position.specs.DirectionOf.{direction_of};
 ghost use Rattle.fibs_position.specs.PositionValue.{position_of};
-ghost use Rattle.fibs_position.specs.StoredPosition.{position_value};
+ghost use Rattle.fibs_position.specs.PositionValue.{position_value};
 ghost use Rattle.fibs_session.specs.Calls.FieldSteps.{answer_of, decide_fields, decide_send, may_send_of, plain_refusal_of, plain_fields, plain_send, with_plain};
 ghost use Rattle.fibs_session.specs.Commands.{command_of};
 ghost use Rattle.fibs_session.specs.History.Machine.{allows, refusal_of};

@@ -1,7 +1,7 @@
 use Rattle.std.proofs.Common.{◌≡◌, ap, ◌∙◌, map}
 use Rattle.std.proofs.lemmas.Result.{IfOk-weaker}
 use Rattle.fibs_position.specs.PlayValue.{hops_of}
-use Rattle.fibs_position.specs.StoredPosition.{position_value}
+use Rattle.fibs_position.specs.PositionValue.{position_value}
 use Rattle.fibs_cli.specs.Plays.{listing}
 use Rattle.fibs_cli.proofs.plays.listing_of.Goals as goal
 

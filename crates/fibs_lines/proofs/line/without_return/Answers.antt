@@ -1,7 +1,8 @@
 use Rattle.std.proofs.Common.{arith, sym, ◌∙◌}
 use Rattle.fibs_lines.proofs.ReturnLemmas.{strip-is, without_return_at, without_return_none}
 use Rattle.fibs_lines.proofs.line.without_return.Goals as goal
-use Rattle.fibs_lines.proofs.line.without_return.Goals.{else-len-gt0-via-then-len-gt0+else-bytes-len-eq13, else-len-gt0-via-else-len-gt0}
+use Rattle.fibs_lines.proofs.line.without_return.Goals.{else-len-gt0-via-then-len-gt0+else-bytes-len-eq13}
+use Rattle.fibs_lines.proofs.line.without_return.Goals.{else-len-gt0-via-else-len-gt0}
 
 pub returns-then-bytes-len-eq13 : goal.returns-then-bytes-len-eq13
 returns-then-bytes-len-eq13 c = sym (strip-is c.args.bytes.now ∙ without_return_at c.args.bytes.now c.if-len-gt0.true c.if-bytes-len-eq13.true)

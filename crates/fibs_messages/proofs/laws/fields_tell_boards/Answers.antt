@@ -6,7 +6,7 @@ use Rattle.std.specs.Str.{bytes_eq}
 use Rattle.std.proofs.lemmas.Bool.Decides.{Decides-eqb, Decides-int_eq, Decides-and, Decides-at, Decides-like}
 use Rattle.std.proofs.lemmas.Slice.Eq.{bytes_eq-Decides, slice_eq-Decides}
 use Rattle.fibs_messages.specs.Board.{BoardFields}
-use Rattle.fibs_messages.specs.Stored.{name_of}
+use Rattle.fibs_messages.specs.Bytes.{name_of}
 use Rattle.fibs_messages.specs.StoredBoard.{fields_of}
 use Rattle.fibs_messages.specs.StoredBytes.{IsStored, padded}
 use Rattle.fibs_messages.specs.declared.boards.board.Board.{Board}

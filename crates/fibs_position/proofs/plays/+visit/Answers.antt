@@ -1,7 +1,7 @@
 use Rattle.std.proofs.Common.{rules, ◌<◌, length, map, get_or, drop, sym, ◌∙◌}
-use Rattle.fibs_position.specs.StepValue.{hop_of}
+use Rattle.fibs_position.specs.Hop.{hop_of}
 use Rattle.fibs_position.specs.PlayValue.{hops_of}
-use Rattle.fibs_position.specs.ReachedValue.{reach_of}
+use Rattle.fibs_position.specs.Search.{reach_of}
 use Rattle.fibs_position.proofs.PlayListLemmas.VisitLoop.{room_left, visited, visit_skip}
 use Rattle.fibs_position.proofs.SearchLemmas.FollowSteps.{dice_rest}
 use Rattle.fibs_position.proofs.plays.+visit.Goals as goal

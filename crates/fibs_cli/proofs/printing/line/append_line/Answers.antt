@@ -1,5 +1,5 @@
 use Rattle.std.proofs.Common.{◌++◌, codes, ap, ◌∙◌, append_assoc}
-use Rattle.fibs_lines.specs.LineValue.{value_of}
+use Rattle.fibs_lines.specs.Lines.{value_of}
 use Rattle.fibs_cli.specs.Escape.{escaped}
 use Rattle.fibs_cli.specs.Show.{reading_text}
 use Rattle.fibs_cli.proofs.ShowLemmas.{cut_line, read_line, line_more}

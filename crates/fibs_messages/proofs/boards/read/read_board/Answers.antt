@@ -1,9 +1,10 @@
 use Rattle.std.proofs.Common.{◌∷◌, codes, sym, ap, ◌∙◌}
 use Rattle.std.proofs.lemmas.Result.{err_from_is_err_and}
 use Rattle.fibs_messages.specs.FieldReading.{left_of}
-use Rattle.fibs_messages.specs.NameBytes.{name_bytes}
+use Rattle.fibs_messages.specs.Bytes.{name_bytes}
 use Rattle.fibs_messages.specs.Board.{texts}
-use Rattle.fibs_messages.proofs.BoardLemmas.BoardHeads.{begun, word_read, player_read, names_read, word_wrong, player_wrong, opponent_wrong}
+use Rattle.fibs_messages.proofs.BoardLemmas.BoardHeads.{begun, word_read, player_read, names_read, word_wrong}
+use Rattle.fibs_messages.proofs.BoardLemmas.BoardHeads.{player_wrong, opponent_wrong}
 use Rattle.fibs_messages.proofs.boards.read.read_board.Goals as goal
 
 pub returns-in_err-this_word-clause-err : goal.returns-in_err-this_word-clause-err

@@ -1,4 +1,5 @@
-use Rattle.std.proofs.Common.{◌≡◌, ◌∷◌, ◌++◌, ◌+◌, ◌<◌, ◌≤◌, [], sym, ap, ◌∙◌, rules, arith, take, drop, length, map, length-set}
+use Rattle.std.proofs.Common.{◌≡◌, ◌∷◌, ◌++◌, ◌+◌, ◌<◌, ◌≤◌, [], sym, ap, ◌∙◌, rules, arith, take, drop, length, map}
+use Rattle.std.proofs.Common.{length-set}
 use Rattle.std.specs.Prelude.{FitsSigned}
 use Rattle.std.specs.Fmt.{signed_decimal}
 use Rattle.std.specs.Int.{w32, cast_signed, cast_unsigned}

@@ -1,5 +1,6 @@
 use Rattle.std.proofs.Common.{◌≡◌, ◌==◌, ◌+◌, ◌-◌, sym, ap, ◌∙◌, arith, get_or, length}
-use Rattle.fibs_messages.proofs.BoardLemmas.Pieces.{without_spaces_at, spaces_at, space_from_not_in, no_space_from_not_in}
+use Rattle.fibs_messages.proofs.BoardLemmas.Pieces.{without_spaces_at, spaces_at, space_from_not_in}
+use Rattle.fibs_messages.proofs.BoardLemmas.Pieces.{no_space_from_not_in}
 use Rattle.fibs_messages.proofs.fields.trailing_spaces.without_spaces.Goals as goal
 
 pub returns-in-Some-clause-value : goal.returns-in-Some-clause-value

@@ -3,9 +3,9 @@ use Rattle.std.specs.List.{flat_map}
 use Rattle.std.specs.Result.{OnOk}
 use Rattle.fibs_messages.specs.Field.{NameField, WordField, TailField, FlagField, NumberField, RatingField}
 use Rattle.fibs_messages.specs.Message.{canonical_field}
-use Rattle.fibs_messages.specs.MessageOf.{who_info_fields}
-use Rattle.fibs_messages.specs.NameBytes.{name_bytes}
-use Rattle.fibs_messages.specs.WordBytes.{word_bytes, tail_bytes}
+use Rattle.fibs_messages.specs.Message.{who_info_fields}
+use Rattle.fibs_messages.specs.Bytes.{name_bytes}
+use Rattle.fibs_messages.specs.Bytes.{word_bytes, tail_bytes}
 use Rattle.fibs_messages.proofs.FieldLemmas.Fronts.{runs_joined}
 use Rattle.fibs_messages.proofs.messages.print.append_who_info.Goals as goal
 

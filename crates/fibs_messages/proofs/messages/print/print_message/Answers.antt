@@ -1,4 +1,4 @@
-use Rattle.fibs_messages.specs.MessageOf.{message_of}
+use Rattle.fibs_messages.specs.Message.{message_of}
 use Rattle.fibs_messages.proofs.MessageLemmas.CanonicalLines.{canonical_said}
 use Rattle.fibs_messages.proofs.messages.print.print_message.Goals as goal
 

@@ -1,5 +1,5 @@
 use Rattle.std.proofs.Common.{◌<◌, ◌≤◌, length, map, rules, sym, ◌∙◌}
-use Rattle.fibs_position.specs.StepValue.{hop_of}
+use Rattle.fibs_position.specs.Hop.{hop_of}
 use Rattle.fibs_position.specs.LaxPlays.{lax_of}
 use Rattle.fibs_position.proofs.RuleLemmas.LaxPlays.{lax_on, lax_stuck, lax_end}
 use Rattle.fibs_position.proofs.arrangement.Arrangement.carried_out.Goals as goal

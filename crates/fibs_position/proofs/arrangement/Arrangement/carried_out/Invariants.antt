@@ -1,5 +1,5 @@
 use Rattle.std.proofs.Common.{◌≡◌, map, drop}
-use Rattle.fibs_position.specs.StepValue.{hop_of}
+use Rattle.fibs_position.specs.Hop.{hop_of}
 use Rattle.fibs_position.specs.LaxPlays.{lax_of}
 use Rattle.fibs_position.proofs.arrangement.Arrangement.carried_out.Given as goal
 

@@ -1,7 +1,7 @@
 use Rattle.std.proofs.Common.{◌≡◌, refl, sym, ap, ◌∙◌}
 use Rattle.std.specs.Prelude.{Err, Some}
-use Rattle.fibs_position.specs.StoredPosition.{position_value}
-use Rattle.fibs_position.specs.DecisionOf.{decision_of}
+use Rattle.fibs_position.specs.PositionValue.{position_value}
+use Rattle.fibs_position.specs.DecisionValue.{decision_of}
 use Rattle.fibs_position.proofs.DecidingLemmas.AllowedTable.{allowed_exact, disallowed_exact}
 use Rattle.fibs_position.proofs.DecidingLemmas.PhaseTable.{SmallDice}
 use Rattle.fibs_position.specs.declared.position.Position.{Position}

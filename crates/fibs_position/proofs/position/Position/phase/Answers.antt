@@ -1,5 +1,5 @@
 use Rattle.std.proofs.Common.{sym}
-use Rattle.fibs_position.specs.StoredPosition.{position_value}
+use Rattle.fibs_position.specs.PositionValue.{position_value}
 use Rattle.fibs_position.proofs.DecidingLemmas.PhaseTable.{SmallDice, phase_exact}
 use Rattle.fibs_position.proofs.position.Position.phase.Goals as goal
 

@@ -1,10 +1,11 @@
 use Rattle.std.proofs.Common.{arith, sym, ◌∙◌, ◌≡◌, ◌≢◌, false, not, ap}
 use Rattle.std.specs.Prelude.{pos}
 use Rattle.std.proofs.lemmas.Int.{ints}
-use Rattle.fibs_position.specs.StoredPosition.{position_value}
+use Rattle.fibs_position.specs.PositionValue.{position_value}
 use Rattle.fibs_position.specs.Phases.{phase_fits}
 use Rattle.fibs_position.specs.declared.phase.Phase.TheVariants.{Over, AnswerDouble, OpponentActs}
-use Rattle.fibs_position.proofs.DecidingLemmas.PhaseLines.{same_int, other_int, phase_over, phase_answer, phase_opponent, phase_roll, phase_move, phase_passing}
+use Rattle.fibs_position.proofs.DecidingLemmas.PhaseLines.{same_int, other_int, phase_over, phase_answer}
+use Rattle.fibs_position.proofs.DecidingLemmas.PhaseLines.{phase_opponent, phase_roll, phase_move, phase_passing}
 use Rattle.fibs_position.proofs.position.Position.phase_by_table.Goals as goal
 use Rattle.fibs_position.proofs.position.Position.phase_by_table.Goals.{Else-turn-eq0, Else-field-eq1, Else-turn-field}
 

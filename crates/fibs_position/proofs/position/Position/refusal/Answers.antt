@@ -1,7 +1,7 @@
 use Rattle.std.proofs.Common.{◌≡◌, sym, ap, ◌∙◌}
 use Rattle.std.specs.Prelude.{◌&&◌}
-use Rattle.fibs_position.specs.StoredPosition.{position_value}
-use Rattle.fibs_position.specs.DecisionOf.{decision_of}
+use Rattle.fibs_position.specs.PositionValue.{position_value}
+use Rattle.fibs_position.specs.DecisionValue.{decision_of}
 use Rattle.fibs_position.specs.Phases.{decides, phase_in}
 use Rattle.fibs_position.specs.Allowed.{is_for, cube_allows}
 use Rattle.fibs_position.proofs.DecidingLemmas.AllowedTable.{refuses_other, refuses_kind, refuses_move, refuses_none}

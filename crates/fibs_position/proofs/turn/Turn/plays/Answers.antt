@@ -1,7 +1,7 @@
 use Rattle.std.proofs.Common.{◌≡◌, map, ◌∙◌, ap}
 use Rattle.std.proofs.lemmas.Result.{IfOk-weaker}
 use Rattle.fibs_position.specs.PlayValue.{hops_of}
-use Rattle.fibs_position.specs.ReachedValue.{reach_of}
+use Rattle.fibs_position.specs.Search.{reach_of}
 use Rattle.fibs_position.specs.LegalPlays.{PlayList}
 use Rattle.fibs_position.specs.declared.plays.Reached.{Reached}
 use Rattle.fibs_position.proofs.PlayListLemmas.ListedPlays.{listed}

@@ -2,7 +2,7 @@ use Rattle.std.proofs.Common.{rules, ap, sym, ◌∙◌, ◌≡◌, ◌≤◌, �
 use Rattle.std.specs.Prelude.{option_map}
 use Rattle.fibs_messages.specs.Split.{seen}
 use Rattle.fibs_position.specs.PlayValue.{hops_of}
-use Rattle.fibs_position.specs.StepValue.{hop_of}
+use Rattle.fibs_position.specs.Hop.{hop_of}
 use Rattle.fibs_session.proofs.ReadingPlays.{no_step, no_room, none_left, one_more, less_left, was_full}
 use Rattle.fibs_session.proofs.commands.command_reader.read_play.Goals as goal
 

@@ -1,5 +1,5 @@
 use Rattle.std.proofs.Common.{◌∙◌}
-use Rattle.fibs_messages.specs.MessageOf.{message, who_info_fields}
+use Rattle.fibs_messages.specs.Message.{message, who_info_fields}
 use Rattle.fibs_session.specs.Directory.{directory_limit}
 use Rattle.fibs_session.proofs.DirectoryLemmas.Maps.{set_values, set_holds}
 use Rattle.fibs_session.proofs.directory.Directory.set.Goals as goal

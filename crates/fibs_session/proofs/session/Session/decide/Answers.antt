@@ -1,4 +1,4 @@
-use Rattle.fibs_position.specs.DecisionOf.{decision_of}
+use Rattle.fibs_position.specs.DecisionValue.{decision_of}
 use Rattle.fibs_session.proofs.Calls.SessionLaws.{decide_does, answer_is}
 use Rattle.fibs_session.proofs.session.Session.decide.Goals as goal
 

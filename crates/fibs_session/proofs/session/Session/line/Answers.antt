@@ -1,5 +1,5 @@
 use Rattle.std.proofs.Common.{◌∙◌, ap}
-use Rattle.fibs_lines.specs.LineValue.{value_of}
+use Rattle.fibs_lines.specs.Lines.{value_of}
 use Rattle.fibs_position.specs.GamePart.{same_game}
 use Rattle.fibs_session.specs.History.Words.{IsLikeness}
 use Rattle.fibs_session.specs.Calls.FieldSteps.{line_fields}

@@ -3,7 +3,8 @@ use Rattle.std.specs.Prelude.{FitsSigned, pos}
 use Rattle.std.specs.Int.{w32, cast_signed, cast_unsigned}
 use Rattle.std.proofs.lemmas.Int.{to_z-of_z}
 use Rattle.fibs_messages.specs.Board.{can_have, field_values}
-use Rattle.fibs_messages.proofs.BoardLemmas.FieldGroups.{can_have_by, place_exact, turn_exact, dice_exact, cube_exact, flag_exact, side_exact, off_exact}
+use Rattle.fibs_messages.proofs.BoardLemmas.FieldGroups.{can_have_by, place_exact, turn_exact, dice_exact, cube_exact}
+use Rattle.fibs_messages.proofs.BoardLemmas.FieldGroups.{flag_exact, side_exact, off_exact}
 use Rattle.fibs_messages.proofs.BoardLemmas.OneNumberMore.{fit_at}
 use Rattle.fibs_messages.proofs.BoardLemmas.FieldTable.{table_long}
 use Rattle.fibs_messages.proofs.boards.board.Board.field.Goals as goal

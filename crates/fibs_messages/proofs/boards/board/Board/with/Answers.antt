@@ -4,7 +4,8 @@ use Rattle.std.specs.Int.{w32, cast_signed, cast_unsigned}
 use Rattle.std.proofs.lemmas.Bool.{and_parts}
 use Rattle.fibs_messages.specs.Board.{can_have, allowed_by, field_values}
 use Rattle.fibs_messages.proofs.BoardLemmas.OneNumberMore.{fit_set}
-use Rattle.fibs_messages.proofs.BoardLemmas.FieldGroups.{by_answer, place_exact, turn_exact, dice_exact, cube_exact, flag_exact, side_exact, off_exact}
+use Rattle.fibs_messages.proofs.BoardLemmas.FieldGroups.{by_answer, place_exact, turn_exact, dice_exact, cube_exact}
+use Rattle.fibs_messages.proofs.BoardLemmas.FieldGroups.{flag_exact, side_exact, off_exact}
 use Rattle.fibs_messages.proofs.boards.board.Board.with.Goals as goal
 
 pub invariant_of-board : goal.invariant_of-board
