@@ -7,3 +7,4 @@ pub mod ReturnLemmas
 pub mod FeedLemmas
 pub mod StreamLawProofs
 pub mod EndsCounted
+pub mod LineEnds

@@ -31,6 +31,10 @@ with_line_end text = text ++ 13 ∷ 10 ∷ []
 abbrev pub LineEndIsALineStart : Type 0
 LineEndIsALineStart = (t : List ℕ) → AtLineStart (with_line_end t)
 
+-- for the same reason CR LF ends just one line, whatever came before
+abbrev pub LineEndEndsALine : Type 0
+LineEndEndsALine = (t : List ℕ) → (line : ReadLine) × (lines_of (with_line_end t) ≡ lines_of t ++ line ∷ [])
+
 -- what follows a line's start is read as if it stood alone
 pub record ReadsAlone (s t : List ℕ) : Type 0 where
   pub lines : lines_of (s ++ t) ≡ lines_of s ++ lines_of t

@@ -6,7 +6,8 @@ ghost use Rattle.std.specs.Prelude.{◌≡◌, ◌↔◌, IsTrue};
 ghost use Rattle.fibs_lines.specs.Lines.{value_of, line_value};
 ghost use Rattle.fibs_lines.specs.Lines.{kept_limit};
 ghost use Rattle.fibs_lines.specs.StreamLaws.{PartsAreLinesAndRest, EmptyStreamHasNoLine, LinesOnlyGrow};
-ghost use Rattle.fibs_lines.specs.StreamLaws.{LinesAreAtMostTheLineEnds, LineEndIsALineStart, LineStartReadsAlone};
+ghost use Rattle.fibs_lines.specs.StreamLaws.{LinesAreAtMostTheLineEnds, LineEndIsALineStart};
+ghost use Rattle.fibs_lines.specs.StreamLaws.{LineEndEndsALine, LineStartReadsAlone};
 ghost use Rattle.fibs_lines.specs.StreamLaws.{WhatFollowsALineEndReadsAlone, LinesFit, SendableTextIsItsLine};
 ghost use Rattle.fibs_lines.specs.StreamLaws.{PromptsAreRemoved};
 
@@ -54,6 +55,11 @@ pub fn lines_are_at_most_the_line_ends()
 /// After CR LF a stream stands at a line's start, whatever came before.
 pub fn line_end_is_a_line_start()
     ensures { LineEndIsALineStart }
+{}
+
+/// CR LF ends just one line, whatever came before.
+pub fn line_end_ends_a_line()
+    ensures { LineEndEndsALine }
 {}
 
 /// What follows a line's start is read as if it stood alone.

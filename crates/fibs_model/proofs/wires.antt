@@ -2,3 +2,5 @@
 pub mod Cuts
 pub mod Ways
 pub mod Boards
+pub mod Needles
+pub mod BoardTexts

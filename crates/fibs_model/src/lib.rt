@@ -11,6 +11,9 @@ mod server;
 mod test_boards;
 #[cfg(test)]
 mod test_server;
+#[cfg(test)]
+mod test_wire;
+mod wire;
 
 pub use entry::Entry;
 pub use event::Event;

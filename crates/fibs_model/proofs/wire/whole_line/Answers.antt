@@ -1,0 +1,5 @@
+use Rattle.fibs_model.proofs.wires.Needles.{searched}
+use Rattle.fibs_model.proofs.wire.whole_line.Goals as goal
+
+pub returns-clause-line : goal.returns-clause-line
+returns-clause-line c = searched c.args.bytes.now c.find.result c.find.ensures
