@@ -31,7 +31,7 @@ pub enum WorldRefusal {
 }
 
 impl WorldRefusal {
-    ghost use Rattle.fibs_model.specs.RefusalNames.{refusal_number};
+    ghost use Rattle.fibs_model.specs.RefusalNames.{refusal_name, refusal_number};
 
     /// The number that the program prints: 1 for `Memory`, and so on in the order above.
     pub fn number(self) -> u8
@@ -49,15 +49,12 @@ impl WorldRefusal {
             WorldRefusal::BadDice => 9,
         }
     }
-}
 
-impl fmt::Display for WorldRefusal {
-    ghost use Rattle.fibs_model.specs.RefusalNames.{refusal_name};
-
-    ghost output = { λ refusal. Some (refusal_name refusal) };
-
-    fn fmt<W: fmt::Write>(&self, f: &mut fmt::Formatter<W>) -> fmt::Result {
-        f.pad(match self {
+    /// The refusal's name, which `Display` prints.
+    pub fn name(self) -> &'static str
+        ensures { result.now ≡ refusal_name self }
+    {
+        match self {
             WorldRefusal::Memory => "Memory",
             WorldRefusal::AlreadyOpen => "AlreadyOpen",
             WorldRefusal::NotOpen => "NotOpen",
@@ -67,7 +64,17 @@ impl fmt::Display for WorldRefusal {
             WorldRefusal::BoardAsText => "BoardAsText",
             WorldRefusal::BadBoard => "BadBoard",
             WorldRefusal::BadDice => "BadDice",
-        })
+        }
+    }
+}
+
+impl fmt::Display for WorldRefusal {
+    ghost use Rattle.fibs_model.specs.RefusalNames.{refusal_name};
+
+    ghost output = { λ refusal. Some (refusal_name refusal) };
+
+    fn fmt<W: fmt::Write>(&self, f: &mut fmt::Formatter<W>) -> fmt::Result {
+        f.pad(self.name())
     }
 }
 

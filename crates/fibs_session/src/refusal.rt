@@ -50,14 +50,12 @@ impl Refusal {
             Refusal::NotOn => 10,
         }
     }
-}
 
-/// The refusal's name.
-impl fmt::Display for Refusal {
-    ghost output = { λ why. Some (refusal_name why) };
-
-    fn fmt<W: fmt::Write>(&self, f: &mut fmt::Formatter<W>) -> fmt::Result {
-        f.pad(match self {
+    /// The refusal's name, which `Display` prints.
+    pub fn name(self) -> &'static str
+        ensures { result.now ≡ refusal_name self }
+    {
+        match self {
             Refusal::AlreadyOpen => "AlreadyOpen",
             Refusal::Offline => "Offline",
             Refusal::NotReady => "NotReady",
@@ -68,7 +66,16 @@ impl fmt::Display for Refusal {
             Refusal::WrongKind => "WrongKind",
             Refusal::IllegalPlay => "IllegalPlay",
             Refusal::NotOn => "NotOn",
-        })
+        }
+    }
+}
+
+/// The refusal's name.
+impl fmt::Display for Refusal {
+    ghost output = { λ why. Some (refusal_name why) };
+
+    fn fmt<W: fmt::Write>(&self, f: &mut fmt::Formatter<W>) -> fmt::Result {
+        f.pad(self.name())
     }
 }
 
