@@ -2,15 +2,12 @@
 use Rattle.std.specs.Prelude.{◌≡◌, ◌==◌, ◌&&◌, ◌-◌, ◌++◌, ℕ, Bool, true, false, cond, List, [], ◌∷◌, Option, Some, None}
 use Rattle.std.specs.Prelude.{ℤ, pos, negsuc, map, codes, replicate, length, take, nat_le, slice_get, slice_set}
 use Rattle.std.specs.Prelude.{slice_index_or}
-use Rattle.std.specs.Str.{bytes_eq}
-use Rattle.std.specs.Result.{result_err}
 use Rattle.std.specs.List.{AllZip, slice_split, suffix_len, join_with_byte}
 use Rattle.std.specs.Fmt.{signed_decimal}
-use Rattle.fibs_messages.specs.Decimal.{allows, number_in}
-use Rattle.fibs_messages.specs.Field.{IsFirstFault, bad_name_unless}
+use Rattle.fibs_messages.specs.Decimal.{allows}
+use Rattle.fibs_messages.specs.Field.{Kind, the_word, a_name, a_number_of, fault_at, IsFirstFault}
 use Rattle.fibs_messages.specs.Name.{is_name}
 use Rattle.fibs_messages.specs.declared.fields.fault.Fault.{Fault}
-use Rattle.fibs_messages.specs.declared.fields.fault.Fault.TheVariants.{Missing, Extra}
 use Rattle.fibs_messages.specs.declared.fields.values.Values.{Values}
 use Rattle.fibs_messages.specs.declared.fields.values.Values.TheVariants.{Between, Either}
 
@@ -132,32 +129,9 @@ without_spaces line = take (length line - suffix_len (λ c. c == 32) line) line
 abbrev pub pieces : List ℕ → List (List ℕ)
 pieces text = slice_split (λ c. c == 58) text
 
--- what a field has to be: the word `board`, a name, or one of some numbers
-pub data Kind : Type 0 where
-  board_word : Kind
-  player_name : Kind
-  number : Values → Kind
-
 -- the kinds of the 53 fields
 abbrev pub kinds : List Kind
-kinds = board_word ∷ player_name ∷ player_name ∷ map number field_values
-
--- why a piece is not of its kind
-abbrev pub fault_in : Kind → List ℕ → Option Fault
-fault_in board_word text = bad_name_unless (bytes_eq text (codes "board"))
-fault_in player_name text = bad_name_unless (is_name text)
-fault_in (number values) text = result_err (number_in values text)
-
--- why a field is wrong: it is absent, surplus, or not of its kind
-abbrev pub fault_between : Option Kind → Option (List ℕ) → Option Fault
-fault_between (Some kind) (Some text) = fault_in kind text
-fault_between (Some kind) None = Some Missing
-fault_between None (Some text) = Some Extra
-fault_between None None = None
-
--- why field i of the pieces, counted from 0, is wrong against the kinds
-abbrev pub fault_at : List Kind → List (List ℕ) → ℕ → Option Fault
-fault_at ks ps i = fault_between (slice_get ks i) (slice_get ps i)
+kinds = the_word (codes "board") ∷ a_name ∷ a_name ∷ map a_number_of field_values
 
 -- field k is the first that is wrong, for the reason f: without the spaces at its end the line is split at colons
 abbrev pub Wrong : List ℕ → ℕ → Fault → Type 0

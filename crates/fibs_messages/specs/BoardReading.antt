@@ -1,9 +1,10 @@
 -- How the fields of a board line are gone through, from the left. Of what is public only `reading_value` rests on it.
 use Rattle.std.specs.Prelude.{◌+◌, ℕ, List, [], ◌∷◌, Option, Some, None}
-use Rattle.fibs_messages.specs.Board.{Kind, fault_in, pieces}
+use Rattle.fibs_messages.specs.Board.{pieces}
+use Rattle.fibs_messages.specs.Field.{Kind, fault_in, fault_between}
 use Rattle.fibs_messages.specs.FieldReading.{Left}
 use Rattle.fibs_messages.specs.declared.fields.fault.Fault.{Fault}
-use Rattle.fibs_messages.specs.declared.fields.fault.Fault.TheVariants.{Missing, Extra}
+use Rattle.fibs_messages.specs.declared.fields.fault.Fault.TheVariants.{Extra}
 use Rattle.fibs_messages.specs.declared.fields.fault.FieldFault.{FieldFault}
 
 -- the pieces that are left, where none is left after the last
@@ -22,5 +23,5 @@ fault_or n (Some f) later = Some (record { field = n; fault = f })
 abbrev pub first_fault : ℕ → List Kind → List (List ℕ) → Option FieldFault
 first_fault n [] [] = None
 first_fault n [] (p ∷ ps) = Some (record { field = n; fault = Extra })
-first_fault n (k ∷ ks) [] = Some (record { field = n; fault = Missing })
+first_fault n (k ∷ ks) [] = fault_or n (fault_between (Some k) None) (first_fault (n + 1) ks [])
 first_fault n (k ∷ ks) (p ∷ ps) = fault_or n (fault_in k p) (first_fault (n + 1) ks ps)

@@ -1,7 +1,8 @@
--- The fields of a message: their kinds, how a value is spelled, and what is wrong with other texts.
-use Rattle.std.specs.Prelude.{◌≡◌, ℕ, ◌+◌, ◌-◌, ◌<◌, Bool, true, false, List, [], ◌∷◌, ◌++◌, Option, Some, None}
+-- The fields of a board and of a message: their kinds, how a value is spelled, and what is wrong with other texts.
+use Rattle.std.specs.Prelude.{◌≡◌, ℕ, ◌+◌, ◌-◌, ◌<◌, Bool, true, false, List, [], ◌∷◌, Option, Some, None}
 use Rattle.std.specs.Prelude.{decimal, pos, slice_get, if◌then◌else◌, cond}
 use Rattle.std.specs.Result.{result_err}
+use Rattle.std.specs.Str.{bytes_eq}
 use Rattle.fibs_messages.specs.declared.fields.fault.Fault.{Fault}
 use Rattle.fibs_messages.specs.declared.fields.fault.Fault.TheVariants.{Missing, Extra, BadName}
 use Rattle.fibs_messages.specs.declared.fields.values.Values.{Values}
@@ -14,11 +15,15 @@ use Rattle.fibs_messages.specs.Word.{is_word, is_tail}
 
 -- what a field has to be
 pub data Kind : Type 0 where
+  -- this word and no other
+  the_word : List ℕ → Kind
   a_name : Kind
   a_word : Kind
   -- the rest of the line, which does not end in a space
   a_tail : Kind
   a_flag : Kind
+  -- one of these numbers
+  a_number_of : Values → Kind
   -- a number of 64 bits
   a_number : Kind
   a_rating : Kind
@@ -101,10 +106,12 @@ bad_name_unless good = cond good None (Some BadName)
 
 -- what is wrong with a text that has to be of a kind, if anything
 abbrev pub fault_in : Kind → List ℕ → Option Fault
+fault_in (the_word word) text = bad_name_unless (bytes_eq text word)
 fault_in a_name text = bad_name_unless (is_name text)
 fault_in a_word text = bad_name_unless (is_word text)
 fault_in a_tail text = bad_name_unless (is_tail text)
 fault_in a_flag text = result_err (number_in flag_values text)
+fault_in (a_number_of values) text = result_err (number_in values text)
 fault_in a_number text = result_err (number_in number_values text)
 fault_in a_rating text = result_err (rating_in text)
 fault_in a_text text = None
@@ -117,13 +124,14 @@ texts_for [] separator (Some rest) = rest ∷ []
 texts_for (k ∷ ks) separator (Some rest) =
     if takes_rest k then rest ∷ [] else before separator rest ∷ texts_for ks separator (after separator rest)
 
--- why a place is wrong, where a kind or a text may be absent
+-- why a place is wrong: its text is absent, surplus, or not of its kind
 abbrev pub fault_between : Option Kind → Option (List ℕ) → Option Fault
 fault_between (Some k) (Some text) = fault_in k text
 fault_between (Some k) None = if may_be_absent k then None else Some Missing
 fault_between None (Some text) = Some Extra
 fault_between None None = None
 
+-- why field i of the texts, counted from 0, is wrong against the kinds
 abbrev pub fault_at : List Kind → List (List ℕ) → ℕ → Option Fault
 fault_at ks texts i = fault_between (slice_get ks i) (slice_get texts i)
 

@@ -7,7 +7,8 @@ use Rattle.fibs_messages.specs.declared.fields.fault.Fault.{Fault}
 use Rattle.fibs_messages.specs.declared.fields.fault.Fault.TheVariants.{Missing, Extra, BadName}
 use Rattle.fibs_messages.specs.declared.fields.reader.Fields.{Fields}
 use Rattle.fibs_messages.specs.Decimal.{number_in}
-use Rattle.fibs_messages.specs.Field.{Kind, a_name, a_word, a_tail, a_flag, a_number, a_rating, a_text, FieldValue}
+use Rattle.fibs_messages.specs.Field.{Kind, the_word, a_number_of, a_name, a_word, a_tail, a_flag, a_number, a_rating}
+use Rattle.fibs_messages.specs.Field.{a_text, FieldValue}
 use Rattle.fibs_messages.specs.Field.{NameField, WordField, TailField, FlagField, NumberField, RatingField, TextField}
 use Rattle.fibs_messages.specs.Field.{takes_rest, may_be_absent, flag_values, number_values}
 use Rattle.fibs_messages.specs.Name.{is_name}
@@ -38,12 +39,14 @@ abbrev pub natural : ℤ → ℕ
 natural (pos n) = n
 natural (negsuc n) = 0
 
--- the value of a kind that a text spells, or what is wrong with it
+-- the value of a kind that a text spells, or what is wrong with it; a board keeps its word and its numbers elsewhere
 unfoldable pub value_in : Kind → List ℕ → Result FieldValue Fault
+value_in (the_word word) text = good (bytes_eq text word) (WordField text)
 value_in a_name text = good (is_name text) (NameField text)
 value_in a_word text = good (is_word text) (WordField text)
 value_in a_tail text = good (is_tail text) (TailField text)
 value_in a_flag text = number_in flag_values text >>= λ z. Ok (FlagField (natural z == 1))
+value_in (a_number_of values) text = number_in values text >>= λ z. Ok (NumberField (natural z))
 value_in a_number text = number_in number_values text >>= λ z. Ok (NumberField (natural z))
 value_in a_rating text = rating_in text >>= λ r. Ok (RatingField r)
 value_in a_text text = Ok (TextField text)

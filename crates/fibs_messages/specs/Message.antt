@@ -1,12 +1,10 @@
 -- Messages 1 to 19 (FIBS CLIP specification 1008) and their lines.
-use Rattle.std.specs.Prelude.{◌≡◌, ℕ, ◌<◌, ◌≤◌, ◌+◌, ◌-◌, Bool, true, false, nat_le, ◌&&◌, ◌||◌, ◌==◌, List, [], ◌∷◌}
+use Rattle.std.specs.Prelude.{◌≡◌, ℕ, ◌≤◌, ◌+◌, ◌-◌, Bool, false, nat_le, ◌&&◌, ◌||◌, ◌==◌, List, [], ◌∷◌}
 use Rattle.std.specs.Prelude.{◌++◌, Option, Some, None, decimal, map, replicate, if◌then◌else◌}
 use Rattle.std.specs.Int.{is_in_range}
 use Rattle.std.specs.List.{flat_map, AllByRecursion}
 use Rattle.fibs_messages.specs.declared.fields.fault.Fault.{Fault}
 use Rattle.fibs_messages.specs.Board.{without_spaces}
-use Rattle.fibs_messages.specs.Name.{is_name}
-use Rattle.fibs_messages.specs.Word.{is_word, is_tail}
 use Rattle.fibs_messages.specs.Field.{Kind, a_name, a_word, a_tail, a_flag, a_number, a_rating, a_text, FieldValue}
 use Rattle.fibs_messages.specs.Field.{NameField, WordField, TailField, FlagField, NumberField, RatingField, TextField}
 use Rattle.fibs_messages.specs.Field.{kind_of, IsValue, Spells, canonical_text, texts_for, fault_at, IsFirstFault}

@@ -1,8 +1,8 @@
 -- The fields of a board line before its numbers.
 use Rattle.std.proofs.Common.{◌≡◌, ◌∙◌, ℕ, List, ◌∷◌, Some, Ok, Err, codes, sym, ap, map}
-use Rattle.fibs_messages.specs.Board.{Kind, player_name, board_word, number, field_values, kinds, pieces}
+use Rattle.fibs_messages.specs.Board.{field_values, kinds, pieces}
 use Rattle.fibs_messages.specs.BoardReading.{first_fault, pieces_left}
-use Rattle.fibs_messages.specs.Field.{a_name, NameField}
+use Rattle.fibs_messages.specs.Field.{Kind, the_word, a_name, a_number_of, NameField}
 use Rattle.fibs_messages.specs.FieldReading.{Left, left, next_at, field_at, this_word}
 use Rattle.fibs_messages.specs.declared.fields.fault.FieldFault.{FieldFault}
 use Rattle.fibs_messages.proofs.BoardLemmas.NextFields.{board_was_read, name_was_read, name_was_wrong, was_wrong}
@@ -10,15 +10,15 @@ use Rattle.fibs_messages.proofs.BoardLemmas.NextFields.{reads_board}
 
 -- the fields that follow the first, the second and the third
 abbrev names_and_numbers : List Kind
-names_and_numbers = player_name ∷ player_name ∷ map number field_values
+names_and_numbers = a_name ∷ a_name ∷ map a_number_of field_values
 
 -- those after the first two
 abbrev name_and_numbers : List Kind
-name_and_numbers = player_name ∷ map number field_values
+name_and_numbers = a_name ∷ map a_number_of field_values
 
 -- those after the first three
 abbrev numbers_alone : List Kind
-numbers_alone = map number field_values
+numbers_alone = map a_number_of field_values
 
 -- a line was begun, at its word `board`
 pub record IsBegun (text : List ℕ) (l : Left) : Type 0 where
@@ -67,7 +67,7 @@ names_read text player opponent l m p h =
 
 -- or one of them was wrong
 pub word_wrong : (text : List ℕ) (l : Left) (e : FieldFault) → IsBegun text l → next_at (this_word (codes "board")) 1 l ≡ Err e → first_fault 1 kinds (pieces text) ≡ Some e
-word_wrong text l e b h = ap (first_fault 1 kinds) b.parts ∙ was_wrong (this_word (codes "board")) board_word 1 l e names_and_numbers reads_board b.colon h
+word_wrong text l e b h = ap (first_fault 1 kinds) b.parts ∙ was_wrong (this_word (codes "board")) (the_word (codes "board")) 1 l e names_and_numbers reads_board b.colon h
 
 -- the first name is the first fault
 pub player_wrong : (text : List ℕ) (l : Left) (e : FieldFault) → WordRead text l → field_at a_name 2 l ≡ Err e → first_fault 1 kinds (pieces text) ≡ Some e

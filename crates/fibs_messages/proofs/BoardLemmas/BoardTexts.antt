@@ -9,7 +9,8 @@ use Rattle.std.proofs.lemmas.Fmt.{signed_decimal_injective}
 use Rattle.std.proofs.lemmas.List.Elements.{All-head, All-tail}
 use Rattle.std.proofs.lemmas.List.{append-nil}
 use Rattle.std.proofs.lemmas.List.Splits.{join_with_byte-slice_split}
-use Rattle.fibs_messages.specs.Board.{BoardFields, IsBoard, BoardText, Fit, number, field_values, kinds, texts}
+use Rattle.fibs_messages.specs.Board.{BoardFields, IsBoard, BoardText, Fit, field_values, kinds, texts}
+use Rattle.fibs_messages.specs.Field.{a_number_of}
 use Rattle.fibs_messages.specs.Board.{spelling, pieces, without_spaces, Wrong}
 use Rattle.fibs_messages.specs.Numerals.{after_colons}
 use Rattle.fibs_messages.specs.Decimal.{allows}
@@ -58,7 +59,7 @@ pub pieces_of_board : (b : BoardFields) (line : List ℕ) → BoardText b line �
 pieces_of_board b line h = ap (λ l. pieces (without_spaces l)) h.1.1 ∙ ap pieces (without_spaces-spelling b h.1.0 h.0) ∙ pieces-spelling b h.0
 
 -- numbers that fit have no fault
-numbers_right : (n : ℕ) (vs : List Values) (zs : List ℤ) → All IsNarrow vs → Fit vs zs → first_fault n (map number vs) (map signed_decimal zs) ≡ None
+numbers_right : (n : ℕ) (vs : List Values) (zs : List ℤ) → All IsNarrow vs → Fit vs zs → first_fault n (map a_number_of vs) (map signed_decimal zs) ≡ None
 numbers_right n [] [] narrow h = refl
 numbers_right n [] (z ∷ zs) narrow h = absurd h
 numbers_right n (v ∷ vs) [] narrow h = absurd h

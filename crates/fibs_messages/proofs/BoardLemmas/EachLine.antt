@@ -10,11 +10,11 @@ use Rattle.std.specs.Str.{bytes_eq}
 use Rattle.std.proofs.lemmas.Bool.{cases_Bool}
 use Rattle.std.proofs.lemmas.List.Elements.{All-head, All-tail}
 use Rattle.std.proofs.lemmas.Slice.Eq.{bytes_eq-Decides}
-use Rattle.fibs_messages.specs.Board.{BoardFields, IsBoard, BoardText, Fit, Wrong, field_values, kinds, number, pieces}
+use Rattle.fibs_messages.specs.Board.{BoardFields, IsBoard, BoardText, Fit, Wrong, field_values, kinds, pieces}
 use Rattle.fibs_messages.specs.Board.{texts, without_spaces}
 use Rattle.fibs_messages.specs.Decimal.{number_in}
 use Rattle.fibs_messages.specs.DecimalReading.{IsNarrow}
-use Rattle.fibs_messages.specs.Field.{bad_name_unless}
+use Rattle.fibs_messages.specs.Field.{a_number_of, bad_name_unless}
 use Rattle.fibs_messages.specs.Name.{is_name}
 use Rattle.fibs_messages.specs.BoardReading.{first_fault, fault_or}
 use Rattle.fibs_messages.specs.declared.fields.fault.FieldFault.{FieldFault}
@@ -79,12 +79,12 @@ record AreNumbers (vs : List Values) (ps : List (List ℕ)) : Type 0 where
   spelled : ps ≡ map signed_decimal zs
 
 -- pieces without a fault are such
-numbers_from : (n : ℕ) (vs : List Values) (ps : List (List ℕ)) → All IsNarrow vs → first_fault n (map number vs) ps ≡ None → AreNumbers vs ps
+numbers_from : (n : ℕ) (vs : List Values) (ps : List (List ℕ)) → All IsNarrow vs → first_fault n (map a_number_of vs) ps ≡ None → AreNumbers vs ps
 numbers_from n [] [] narrow h = record { zs = []; fit = tt; spelled = refl }
 numbers_from n [] (p ∷ ps) narrow h = absurd (some_none _ h)
 numbers_from n (v ∷ vs) [] narrow h = absurd (some_none _ h)
 numbers_from n (v ∷ vs) (p ∷ ps) narrow h =
-    let both = no_fault n (result_err (number_in v p)) (first_fault (n + 1) (map number vs) ps) h in
+    let both = no_fault n (result_err (number_in v p)) (first_fault (n + 1) (map a_number_of vs) ps) h in
     let here = number_of (number_in v p) both.0 in
     let this = number_in_spelled v p here.0 (All-head IsNarrow v vs narrow) here.1 in
     let rest = numbers_from (n + 1) vs ps (All-tail IsNarrow v vs narrow) both.1 in

@@ -8,11 +8,12 @@ use Rattle.std.specs.Str.{bytes_eq}
 use Rattle.std.specs.List.{onto_first}
 use Rattle.std.proofs.lemmas.Bool.{cases_eq, eq-eqb, ne_eqb}
 use Rattle.std.proofs.lemmas.Slice.Eq.{bytes_eq-Decides}
-use Rattle.fibs_messages.specs.Board.{Kind, board_word, player_name, number, fault_in, pieces}
+use Rattle.fibs_messages.specs.Board.{pieces}
 use Rattle.fibs_messages.specs.BoardReading.{first_fault, fault_or, pieces_of, pieces_left}
 use Rattle.fibs_messages.specs.Decimal.{allows, number_in}
 use Rattle.fibs_messages.specs.DecimalReading.{IsNarrow}
-use Rattle.fibs_messages.specs.Field.{a_name, FieldValue, NameField}
+use Rattle.fibs_messages.specs.Field.{Kind, the_word, a_name, a_number_of, may_be_absent, fault_in, FieldValue}
+use Rattle.fibs_messages.specs.Field.{NameField}
 use Rattle.fibs_messages.specs.FieldReading.{Left, left, numbered, next_at, field_at, text_at, end_at, value_in, good}
 use Rattle.fibs_messages.specs.FieldReading.{this_word, ◌>>=◌}
 use Rattle.fibs_messages.specs.Name.{is_name}
@@ -39,9 +40,9 @@ pub record IsNext (kind : Kind) (i : ℕ) (rest : Option (List ℕ)) (text : Lis
   pub pieces : pieces_of rest ≡ text ∷ pieces_of l.rest
   pub later : (kinds : List Kind) → first_fault i (kind ∷ kinds) (pieces_of rest) ≡ first_fault (i + 1) kinds (pieces_of l.rest)
 
--- a reader refuses the texts that are not of the kind, with their faults
+-- a reader refuses the texts that are not of the kind, with their faults, and the kind may not be absent
 abbrev pub Reads : {A : Type 0} → (List ℕ → Result A Fault) → Kind → Type 0
-Reads read kind = (text : List ℕ) → result_err (read text) ≡ fault_in kind text
+Reads read kind = ((text : List ℕ) → result_err (read text) ≡ fault_in kind text) × (may_be_absent kind ≡ false)
 
 -- what a field was read as
 pub record WasRead {A : Type 0} (read : List ℕ → Result A Fault) (kind : Kind) (i : ℕ) (rest : Option (List ℕ)) (x : A) (l : Left) : Type 0 where
@@ -86,7 +87,7 @@ right_read : {A : Type 0} (read : List ℕ → Result A Fault) (kind : Kind) (i 
     → read_with i r (left 58 (after 58 s)) ≡ Ok (x, l) → WasRead read kind i (Some s) x l
 right_read read kind i s (Ok y) x l reads is h =
     let same = pair_same y x (left 58 (after 58 s)) l h in
-    let good : fault_in kind (before 58 s) ≡ None = sym (reads (before 58 s)) ∙ ap result_err is in
+    let good : fault_in kind (before 58 s) ≡ None = sym (reads.0 (before 58 s)) ∙ ap result_err is in
     let next : IsNext kind i (Some s) (before 58 s) (left 58 (after 58 s)) = record { separator = refl; pieces = pieces_split s; later = λ kinds. first_right kind i s kinds good } in
     record { text = before 58 s; value = is ∙ ap Ok same.0; next = subst (IsNext kind i (Some s) (before 58 s)) same.1 next }
 right_read read kind i s (Err f) x l reads is h = absurd (ok_no_err (x, l) (record { field = i; fault = f }) (sym h))
@@ -96,7 +97,7 @@ wrong_read : {A : Type 0} (read : List ℕ → Result A Fault) (kind : Kind) (i 
     → read_with i r (left 58 (after 58 s)) ≡ Err e → first_fault i (kind ∷ kinds) (pieces s) ≡ Some e
 wrong_read read kind i s (Ok y) e kinds reads is h = absurd (ok_no_err (y, left 58 (after 58 s)) e h)
 wrong_read read kind i s (Err f) e kinds reads is h =
-    first_wrong kind i s kinds f (sym (reads (before 58 s)) ∙ ap result_err is) ∙ ap Some (err_same (record { field = i; fault = f }) e h)
+    first_wrong kind i s kinds f (sym (reads.0 (before 58 s)) ∙ ap result_err is) ∙ ap Some (err_same (record { field = i; fault = f }) e h)
 
 -- a field that is read
 next_read : {A : Type 0} (read : List ℕ → Result A Fault) (kind : Kind) (i : ℕ) (rest : Option (List ℕ)) (x : A) (l : Left) → Reads read kind → next_at read i (left 58 rest) ≡ Ok (x, l) → WasRead read kind i rest x l
@@ -108,7 +109,8 @@ next_read read kind i (Some s) x l reads h = right_read read kind i s (read (bef
 next_wrong : {A : Type 0} (read : List ℕ → Result A Fault) (kind : Kind) (i : ℕ) (rest : Option (List ℕ)) (e : FieldFault) (kinds : List Kind) → Reads read kind → next_at read i (left 58 rest) ≡ Err e
     → first_fault i (kind ∷ kinds) (pieces_of rest) ≡ Some e
 unfolding next_at text_at
-next_wrong read kind i None e kinds reads h = ap Some (err_same (record { field = i; fault = Missing }) e h)
+next_wrong read kind i None e kinds reads h =
+    rw reads.1 (ap Some (err_same (record { field = i; fault = Missing }) e h))
 next_wrong read kind i (Some s) e kinds reads h = wrong_read read kind i s (read (before 58 s)) e kinds reads refl h
 
 -- the same of what is left, where it is parted by colons
@@ -133,16 +135,16 @@ pub name_is_next : (i : ℕ) (l : Left) → field_at a_name i l ≡ next_at (val
 name_is_next i l = name_of_left i l.separator l.rest
 
 -- names are read as their kind says
-pub reads_name : Reads (value_in a_name) player_name
-reads_name text = fault_of_value a_name text
+pub reads_name : Reads (value_in a_name) a_name
+reads_name = (fault_of_value a_name, refl)
 
 -- and so are numbers
-pub reads_number : (values : Values) → Reads (number_in values) (number values)
-reads_number values text = refl
+pub reads_number : (values : Values) → Reads (number_in values) (a_number_of values)
+reads_number values = (λ text. refl, refl)
 
 -- and the word `board`
-pub reads_board : Reads (this_word (codes "board")) board_word
-reads_board text = err_of_good (bytes_eq text (codes "board")) (codes "board")
+pub reads_board : Reads (this_word (codes "board")) (the_word (codes "board"))
+reads_board = (λ text. err_of_good (bytes_eq text (codes "board")) (codes "board"), refl)
 
 -- a test that was passed
 if_good : {A : Type 0} (test : Bool) (x y : A) → good test x ≡ Ok y → (test ≡ true) × (x ≡ y)
@@ -166,12 +168,12 @@ pub record NumberRead (values : Values) (i : ℕ) (l m : Left) (z : ℤ) : Type 
   pub colon : m.separator ≡ 58
   pub pieces : pieces_left l ≡ signed_decimal z ∷ pieces_left m
   pub allowed : allows values z ≡ true
-  pub later : (kinds : List Kind) → first_fault i (number values ∷ kinds) (pieces_left l) ≡ first_fault (i + 1) kinds (pieces_left m)
+  pub later : (kinds : List Kind) → first_fault i (a_number_of values ∷ kinds) (pieces_left l) ≡ first_fault (i + 1) kinds (pieces_left m)
 
 -- what is so where a number was read
 pub number_was_read : (values : Values) (i : ℕ) (l m : Left) (z : ℤ) → IsNarrow values → l.separator ≡ 58 → next_at (number_in values) i l ≡ Ok (z, m) → NumberRead values i l m z
 number_was_read values i l m z narrow colon h =
-    let read = was_read (number_in values) (number values) i l m z (reads_number values) colon h in
+    let read = was_read (number_in values) (a_number_of values) i l m z (reads_number values) colon h in
     let spelled = number_in_spelled values read.text z narrow read.value in
     record { colon = read.next.separator; pieces = read.next.pieces ∙ ap (λ t. t ∷ pieces_left m) spelled.0; allowed = spelled.1; later = read.next.later }
 
@@ -180,29 +182,29 @@ pub record NameRead (i : ℕ) (l m : Left) (s : List ℕ) : Type 0 where
   pub colon : m.separator ≡ 58
   pub pieces : pieces_left l ≡ s ∷ pieces_left m
   pub is_name : is_name s ≡ true
-  pub later : (kinds : List Kind) → first_fault i (player_name ∷ kinds) (pieces_left l) ≡ first_fault (i + 1) kinds (pieces_left m)
+  pub later : (kinds : List Kind) → first_fault i (a_name ∷ kinds) (pieces_left l) ≡ first_fault (i + 1) kinds (pieces_left m)
 
 -- where a name was read
 pub name_was_read : (i : ℕ) (l m : Left) (s : List ℕ) → l.separator ≡ 58 → field_at a_name i l ≡ Ok (NameField s, m) → NameRead i l m s
 name_was_read i l m s colon h =
-    let read = was_read (value_in a_name) player_name i l m (NameField s) reads_name colon (sym (name_is_next i l) ∙ h) in
+    let read = was_read (value_in a_name) a_name i l m (NameField s) reads_name colon (sym (name_is_next i l) ∙ h) in
     let name = is_this_name read.text s read.value in
     record { colon = read.next.separator; pieces = read.next.pieces ∙ ap (λ t. t ∷ pieces_left m) name.0; is_name = name.1; later = read.next.later }
 
 -- where a name was refused
-pub name_was_wrong : (i : ℕ) (l : Left) (e : FieldFault) (kinds : List Kind) → l.separator ≡ 58 → field_at a_name i l ≡ Err e → first_fault i (player_name ∷ kinds) (pieces_left l) ≡ Some e
-name_was_wrong i l e kinds colon h = was_wrong (value_in a_name) player_name i l e kinds reads_name colon (sym (name_is_next i l) ∙ h)
+pub name_was_wrong : (i : ℕ) (l : Left) (e : FieldFault) (kinds : List Kind) → l.separator ≡ 58 → field_at a_name i l ≡ Err e → first_fault i (a_name ∷ kinds) (pieces_left l) ≡ Some e
+name_was_wrong i l e kinds colon h = was_wrong (value_in a_name) a_name i l e kinds reads_name colon (sym (name_is_next i l) ∙ h)
 
 -- the word `board` was read
 pub record BoardRead (l m : Left) : Type 0 where
   pub colon : m.separator ≡ 58
   pub pieces : pieces_left l ≡ codes "board" ∷ pieces_left m
-  pub later : (kinds : List Kind) → first_fault 1 (board_word ∷ kinds) (pieces_left l) ≡ first_fault 2 kinds (pieces_left m)
+  pub later : (kinds : List Kind) → first_fault 1 ((the_word (codes "board")) ∷ kinds) (pieces_left l) ≡ first_fault 2 kinds (pieces_left m)
 
 -- where the word was read
 pub board_was_read : (l m : Left) → l.separator ≡ 58 → next_at (this_word (codes "board")) 1 l ≡ Ok (codes "board", m) → BoardRead l m
 board_was_read l m colon h =
-    let read = was_read (this_word (codes "board")) board_word 1 l m (codes "board") reads_board colon h in
+    let read = was_read (this_word (codes "board")) (the_word (codes "board")) 1 l m (codes "board") reads_board colon h in
     record { colon = read.next.separator; pieces = read.next.pieces ∙ ap (λ t. t ∷ pieces_left m) (is_this_word (codes "board") read.text read.value); later = read.next.later }
 
 -- nothing is left, or more than there should be

@@ -6,7 +6,8 @@ use Rattle.std.specs.List.{join_with_byte}
 use Rattle.std.specs.Fmt.{signed_decimal}
 use Rattle.std.proofs.lemmas.List.{append-nil, take_more_set, take_more, map-append}
 use Rattle.std.proofs.lemmas.Option.{get_or_from_slice_get, slice_get_within}
-use Rattle.fibs_messages.specs.Board.{Fit, allowed_by, Kind, number, pieces}
+use Rattle.fibs_messages.specs.Board.{Fit, allowed_by, pieces}
+use Rattle.fibs_messages.specs.Field.{Kind, a_number_of}
 use Rattle.fibs_messages.specs.Numerals.{after_colons}
 use Rattle.fibs_messages.specs.Decimal.{allows}
 use Rattle.fibs_messages.specs.BoardReading.{first_fault}
@@ -41,10 +42,10 @@ fit_more vs zs i v z within e good h = rw (take_next vs i v e, take_more_set zs 
 
 -- the first fault from a place on is that after a right piece
 pub fault_more : (vs : List Values) (i : ℕ) (v : Values) (qs rs : List (List ℕ)) → slice_get vs i ≡ Some v
-    → ((later : List Kind) → first_fault (i + 4) (number v ∷ later) qs ≡ first_fault (i + 4 + 1) later rs)
-    → first_fault (i + 4) (map number (drop i vs)) qs ≡ first_fault (i + 1 + 4) (map number (drop (i + 1) vs)) rs
+    → ((later : List Kind) → first_fault (i + 4) (a_number_of v ∷ later) qs ≡ first_fault (i + 4 + 1) later rs)
+    → first_fault (i + 4) (map a_number_of (drop i vs)) qs ≡ first_fault (i + 1 + 4) (map a_number_of (drop (i + 1) vs)) rs
 fault_more vs i v qs rs e step =
-    ap (λ l. first_fault (i + 4) (map number l) qs) (drop_next vs i v e) ∙ step (map number (drop (i + 1) vs)) ∙ ap (λ n. first_fault n (map number (drop (i + 1) vs)) rs) (omega arith)
+    ap (λ l. first_fault (i + 4) (map a_number_of l) qs) (drop_next vs i v e) ∙ step (map a_number_of (drop (i + 1) vs)) ∙ ap (λ n. first_fault n (map a_number_of (drop (i + 1) vs)) rs) (omega arith)
 
 -- the first piece too many is Extra
 extra_of : (n : ℕ) (ps : List (List ℕ)) → 0 < length ps → first_fault n [] ps ≡ Some (record { field = n; fault = Extra })

@@ -6,7 +6,8 @@ use Rattle.std.specs.List.{list_all}
 use Rattle.std.proofs.lemmas.Bool.{and_parts, and_from, leb-true, cases_Bool, not_from_false, ne_eqb}
 use Rattle.std.proofs.lemmas.List.{append-nil}
 use Rattle.fibs_messages.specs.declared.fields.fault.Fault.{Fault}
-use Rattle.fibs_messages.specs.Field.{Kind, a_name, a_word, a_tail, a_flag, a_number, a_rating, a_text, FieldValue}
+use Rattle.fibs_messages.specs.Field.{Kind, the_word, a_number_of, a_name, a_word, a_tail, a_flag, a_number, a_rating}
+use Rattle.fibs_messages.specs.Field.{a_text, FieldValue}
 use Rattle.fibs_messages.specs.Field.{NameField, WordField, TailField, FlagField, NumberField, RatingField, TextField}
 use Rattle.fibs_messages.specs.Field.{kind_of, takes_rest, Spells}
 use Rattle.fibs_messages.specs.FieldReading.{Left, left, ◌>>=◌, numbered, value_in, text_at, field_at, end_at}
@@ -16,7 +17,8 @@ use Rattle.fibs_messages.specs.Name.{is_name_byte}
 use Rattle.fibs_messages.specs.Rating.{FractionText, RatingText}
 use Rattle.fibs_messages.specs.Rating as rating
 use Rattle.fibs_messages.specs.Split.{before, after}
-use Rattle.fibs_messages.proofs.FieldLemmas.FieldValues.{bind_ok, ok_is, value_sound, value_complete, all_weaker}
+use Rattle.fibs_messages.proofs.FieldLemmas.FieldValues.{has_values, bind_ok, ok_is, value_sound, value_complete}
+use Rattle.fibs_messages.proofs.FieldLemmas.FieldValues.{all_weaker}
 use Rattle.fibs_messages.proofs.FieldLemmas.FieldValues.{decimal_has_no}
 use Rattle.fibs_messages.proofs.FieldLemmas.Splits.{behind, opened, HeadIs, before-behind, has_no, cut_off}
 
@@ -38,6 +40,8 @@ pub record Takes (k : Kind) (o : Option (List ℕ)) (x : FieldValue × Left) : T
 -- a field where nothing is left
 absent_text : (k : Kind) (i : ℕ) (x : FieldValue × Left) → field_at k i (left 32 None) ≡ Ok x → Takes k None x
 unfolding field_at text_at value_in
+absent_text (the_word word) i x e = absurd cc
+absent_text (a_number_of values) i x e = absurd cc
 absent_text a_name i x e = absurd cc
 absent_text a_word i x e = absurd cc
 absent_text a_tail i x e = absurd cc
@@ -48,11 +52,11 @@ absent_text a_text i x e =
     subst (Takes a_text None) (ok_is (TextField [], left 32 None) x e) (record { text = []; field = no_text; parts = refl; separator = refl; kind = refl })
 
 -- the text of a field
-text_takes : (k : Kind) (i : ℕ) (s text : List ℕ) (o : Option (List ℕ)) (x : FieldValue × Left) → s ≡ text ++ behind 32 o
+text_takes : (k : Kind) (i : ℕ) (s text : List ℕ) (o : Option (List ℕ)) (x : FieldValue × Left) → has_values k ≡ true → s ≡ text ++ behind 32 o
     → (numbered i (value_in k text) >>= λ v. Ok (v, left 32 o)) ≡ Ok x → Takes k (Some s) x
-text_takes k i s text o x parts e =
+text_takes k i s text o x m parts e =
     let b = bind_ok (numbered i (value_in k text)) (λ v. Ok (v, left 32 o)) x e in
-    let v = value_sound k text b.0 (numbered_ok (value_in k text) i b.0 b.1) in
+    let v = value_sound k text b.0 m (numbered_ok (value_in k text) i b.0 b.1) in
     subst (Takes k (Some s)) (ok_is (b.0, left 32 o) x b.2) (record {
       text = 32 ∷ text;
       field = spelled v.1;
@@ -62,16 +66,18 @@ text_takes k i s text o x parts e =
     })
 
 -- a field takes its text and leaves the rest
-pub field_takes : (k : Kind) (i : ℕ) (o : Option (List ℕ)) (x : FieldValue × Left) → field_at k i (left 32 o) ≡ Ok x → Takes k o x
+pub field_takes : (k : Kind) (i : ℕ) (o : Option (List ℕ)) (x : FieldValue × Left) → has_values k ≡ true → field_at k i (left 32 o) ≡ Ok x → Takes k o x
 unfolding field_at text_at
-field_takes k i None x e = absent_text k i x e
-field_takes a_name i (Some s) x e = text_takes a_name i s (before 32 s) (after 32 s) x (sym (before-behind 32 s)) e
-field_takes a_word i (Some s) x e = text_takes a_word i s (before 32 s) (after 32 s) x (sym (before-behind 32 s)) e
-field_takes a_tail i (Some s) x e = text_takes a_tail i s s None x (sym (append-nil s)) e
-field_takes a_flag i (Some s) x e = text_takes a_flag i s (before 32 s) (after 32 s) x (sym (before-behind 32 s)) e
-field_takes a_number i (Some s) x e = text_takes a_number i s (before 32 s) (after 32 s) x (sym (before-behind 32 s)) e
-field_takes a_rating i (Some s) x e = text_takes a_rating i s (before 32 s) (after 32 s) x (sym (before-behind 32 s)) e
-field_takes a_text i (Some s) x e = text_takes a_text i s s None x (sym (append-nil s)) e
+field_takes (the_word word) i (Some s) x m e = absurd cc
+field_takes (a_number_of values) i (Some s) x m e = absurd cc
+field_takes k i None x m e = absent_text k i x e
+field_takes a_name i (Some s) x m e = text_takes a_name i s (before 32 s) (after 32 s) x m (sym (before-behind 32 s)) e
+field_takes a_word i (Some s) x m e = text_takes a_word i s (before 32 s) (after 32 s) x m (sym (before-behind 32 s)) e
+field_takes a_tail i (Some s) x m e = text_takes a_tail i s s None x m (sym (append-nil s)) e
+field_takes a_flag i (Some s) x m e = text_takes a_flag i s (before 32 s) (after 32 s) x m (sym (before-behind 32 s)) e
+field_takes a_number i (Some s) x m e = text_takes a_number i s (before 32 s) (after 32 s) x m (sym (before-behind 32 s)) e
+field_takes a_rating i (Some s) x m e = text_takes a_rating i s (before 32 s) (after 32 s) x m (sym (before-behind 32 s)) e
+field_takes a_text i (Some s) x m e = text_takes a_text i s s None x m (sym (append-nil s)) e
 
 -- ---- all fields that were read
 
@@ -81,17 +87,18 @@ pub record AreFound (ks : List Kind) (text : List ℕ) (vs : List FieldValue) : 
   pub kinds : map kind_of vs ≡ ks
 
 -- what is read of the fields is spelled there
-pub fields_sound : (ks : List Kind) (i : ℕ) (o : Option (List ℕ)) (vs : List FieldValue) → fields_at ks i (left 32 o) ≡ Ok vs → AreFound ks (behind 32 o) vs
+pub fields_sound : (ks : List Kind) (i : ℕ) (o : Option (List ℕ)) (vs : List FieldValue) → list_all has_values ks ≡ true → fields_at ks i (left 32 o) ≡ Ok vs → AreFound ks (behind 32 o) vs
 unfolding end_at
-fields_sound [] i None vs e = subst (AreFound [] []) (ok_is [] vs e) (record { fields = no_fields; kinds = refl })
-fields_sound [] i (Some s) vs e = absurd cc
-fields_sound (k ∷ ks) i o vs e =
+fields_sound [] i None vs m e = subst (AreFound [] []) (ok_is [] vs e) (record { fields = no_fields; kinds = refl })
+fields_sound [] i (Some s) vs m e = absurd cc
+fields_sound (k ∷ ks) i o vs m e =
+    let p = and_parts (has_values k) (list_all has_values ks) m in
     let b = bind_ok (field_at k i (left 32 o)) (λ x. fields_at ks (i + 1) x.1 >>= λ vs. Ok (x.0 ∷ vs)) vs e in
     let x = b.0 in
-    let t = field_takes k i o x b.1 in
+    let t = field_takes k i o x p.0 b.1 in
     let d = bind_ok (fields_at ks (i + 1) x.1) (λ vs. Ok (x.0 ∷ vs)) vs b.2 in
     let more : fields_at ks (i + 1) (left 32 x.1.rest) ≡ Ok d.0 = ap (fields_at ks (i + 1)) (sym t.separator) ∙ d.1 in
-    let r = fields_sound ks (i + 1) x.1.rest d.0 more in
+    let r = fields_sound ks (i + 1) x.1.rest d.0 p.1 more in
     subst (AreFound (k ∷ ks) (behind 32 o)) (ok_is (x.0 ∷ d.0) vs d.2) (record {
       fields = subst (FieldsText (x.0 ∷ d.0)) (sym t.parts) (more_fields t.field r.fields);
       kinds = rw (t.kind, r.kinds) refl;

@@ -14,7 +14,8 @@ use Rattle.std.proofs.lemmas.Int.{ints}
 use Rattle.std.proofs.lemmas.Fmt.{digits_decimal, decimal_digit, digits_value-decimal}
 use Rattle.fibs_messages.specs.Decimal.{numbers_of_32_bits, is_positive, is_zero, allows, number_in}
 use Rattle.fibs_messages.specs.DecimalReading.{IsNarrow}
-use Rattle.fibs_messages.specs.Field.{Kind, a_name, a_word, a_tail, a_flag, a_number, a_rating, a_text, FieldValue}
+use Rattle.fibs_messages.specs.Field.{Kind, the_word, a_number_of, a_name, a_word, a_tail, a_flag, a_number, a_rating}
+use Rattle.fibs_messages.specs.Field.{a_text, FieldValue}
 use Rattle.fibs_messages.specs.Field.{NameField, WordField, TailField, FlagField, NumberField, RatingField, TextField}
 use Rattle.fibs_messages.specs.Field.{kind_of, Spells, flag_text, flag_values, number_values}
 use Rattle.fibs_messages.specs.FieldReading.{◌>>=◌, good, natural, value_in}
@@ -147,19 +148,27 @@ rating_sound text v e =
 
 -- ---- what is found is spelled
 
+-- the kinds of messages, which have values
+abbrev pub has_values : Kind → Bool
+has_values (the_word word) = false
+has_values (a_number_of values) = false
+has_values k = true
+
 -- a value that is read is of its kind and spelled so
-pub value_sound : (k : Kind) (text : List ℕ) (v : FieldValue) → value_in k text ≡ Ok v → IsFound k text v
+pub value_sound : (k : Kind) (text : List ℕ) (v : FieldValue) → has_values k ≡ true → value_in k text ≡ Ok v → IsFound k text v
 unfolding value_in
-value_sound a_name text v e =
+value_sound (the_word word) text v m e = absurd cc
+value_sound (a_number_of values) text v m e = absurd cc
+value_sound a_name text v m e =
     let p = good_is (is_name text) (NameField text) v e in subst (IsFound a_name text) p.1 (refl, (p.0, refl))
-value_sound a_word text v e =
+value_sound a_word text v m e =
     let p = good_is (is_word text) (WordField text) v e in subst (IsFound a_word text) p.1 (refl, (p.0, refl))
-value_sound a_tail text v e =
+value_sound a_tail text v m e =
     let p = good_is (is_tail text) (TailField text) v e in subst (IsFound a_tail text) p.1 (refl, (p.0, refl))
-value_sound a_flag text v e = flag_sound text v e
-value_sound a_number text v e = number_sound text v e
-value_sound a_rating text v e = rating_sound text v e
-value_sound a_text text v e = subst (IsFound a_text text) (ok_is (TextField text) v e) (refl, (tt, refl))
+value_sound a_flag text v m e = flag_sound text v e
+value_sound a_number text v m e = number_sound text v e
+value_sound a_rating text v m e = rating_sound text v e
+value_sound a_text text v m e = subst (IsFound a_text text) (ok_is (TextField text) v e) (refl, (tt, refl))
 
 -- ---- what is spelled is found
 

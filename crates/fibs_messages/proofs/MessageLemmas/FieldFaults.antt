@@ -2,12 +2,14 @@
 use Rattle.std.proofs.Common.{◌≡◌, ◌∙◌, ℕ, zero, suc, ◌+◌, ◌<◌, Bool, true, false, List, [], ◌∷◌, Option, Some, None}
 use Rattle.std.proofs.Common.{Result, Ok, Err, refl, sym, ap, subst, arith, inl, inr}
 use Rattle.std.specs.Result.{result_err}
+use Rattle.std.specs.Str.{bytes_eq}
 use Rattle.std.proofs.lemmas.Bool.{cases_Bool, cases_order}
 use Rattle.fibs_messages.specs.declared.fields.fault.FieldFault.{FieldFault}
 use Rattle.fibs_messages.specs.declared.fields.fault.Fault.{Fault}
 use Rattle.fibs_messages.specs.declared.fields.fault.Fault.TheVariants.{Missing}
 use Rattle.fibs_messages.specs.Decimal.{number_in}
-use Rattle.fibs_messages.specs.Field.{Kind, a_name, a_word, a_tail, a_flag, a_number, a_rating, a_text, FieldValue}
+use Rattle.fibs_messages.specs.Field.{Kind, the_word, a_number_of, a_name, a_word, a_tail, a_flag, a_number, a_rating}
+use Rattle.fibs_messages.specs.Field.{a_text, FieldValue}
 use Rattle.fibs_messages.specs.Field.{FlagField, NumberField, RatingField, TextField, takes_rest, may_be_absent}
 use Rattle.fibs_messages.specs.Field.{flag_values, number_values, fault_in, texts_for, fault_at}
 use Rattle.fibs_messages.specs.FieldReading.{Left, left, ◌>>=◌, good, natural, numbered, fault_of_field, value_in}
@@ -34,6 +36,8 @@ err_of_bind (Err e) f = refl
 -- the fault of reading a value is that of its text
 pub fault_of_value : (k : Kind) (text : List ℕ) → result_err (value_in k text) ≡ fault_in k text
 unfolding value_in
+fault_of_value (the_word word) text = err_of_good (bytes_eq text word) _
+fault_of_value (a_number_of values) text = err_of_bind (number_in values text) (λ z. NumberField (natural z))
 fault_of_value a_name text = err_of_good (is_name text) _
 fault_of_value a_word text = err_of_good (is_word text) _
 fault_of_value a_tail text = err_of_good (is_tail text) _
@@ -137,6 +141,8 @@ pub tells : (ks : List Kind) (i c : ℕ) (o : Option (List ℕ)) → Tells ks i 
 unfolding field_at text_at end_at
 tells [] i c None = λ j. refl
 tells [] i c (Some s) = (0, omega arith, record { here = refl; before = none_before [] (s ∷ []) })
+tells (the_word word ∷ ks) i c None = tells_missing (the_word word) ks i refl
+tells (a_number_of values ∷ ks) i c None = tells_missing (a_number_of values) ks i refl
 tells (a_name ∷ ks) i c None = tells_missing a_name ks i refl
 tells (a_word ∷ ks) i c None = tells_missing a_word ks i refl
 tells (a_tail ∷ ks) i c None = tells_missing a_tail ks i refl

@@ -21,7 +21,7 @@ use Rattle.fibs_messages.specs.Split.{before, after}
 use Rattle.fibs_messages.proofs.FieldLemmas.FieldTexts.{word_no_space, texts_head, fields_sound, fields_complete}
 use Rattle.fibs_messages.proofs.FieldLemmas.FieldTexts.{TextLast}
 use Rattle.fibs_messages.proofs.FieldLemmas.FieldValues.{decimal_has_no}
-use Rattle.fibs_messages.proofs.MessageLemmas.MessageTable.{has_all, last_is, no_text_where_dropped}
+use Rattle.fibs_messages.proofs.MessageLemmas.MessageTable.{has_all, values_are, last_is, no_text_where_dropped}
 use Rattle.fibs_messages.proofs.MessageLemmas.NumberWords.{number_sound, number_complete}
 use Rattle.fibs_messages.proofs.FieldLemmas.Spaces.{EndsPlain, ends_append, without_spaces-end}
 use Rattle.fibs_messages.proofs.BoardLemmas.EachLine.{spaces_after}
@@ -154,7 +154,7 @@ pub reads_line : (n : ℕ) (vs : List FieldValue) (line : List ℕ) → ReadsAs 
 reads_line n vs line r =
     let word = number_sound (before 32 line) n r.number in
     let whole = kept n line in
-    let found = fields_sound (kinds_of n) 1 (after 32 whole) vs r.fields in
+    let found = fields_sound (kinds_of n) 1 (after 32 whole) vs (values_are n) r.fields in
     let k = kept_part n line in
     let front : before 32 whole ≡ decimal n =
     sym (before-append 32 whole (replicate k.spaces 32) (spaces_head k.spaces)) ∙ (ap (before 32) (sym k.line_is) ∙ word.text_is) in

@@ -7,6 +7,7 @@ use Rattle.std.proofs.lemmas.Bool.{and_parts, or_cases, not-true, cases_Bool, eq
 use Rattle.fibs_messages.specs.Field.{Kind, takes_rest, may_be_absent}
 use Rattle.fibs_messages.specs.Message.{Row, table, kinds_in, kinds_of, drops_spaces}
 use Rattle.fibs_messages.proofs.FieldLemmas.FieldTexts.{TextLast}
+use Rattle.fibs_messages.proofs.FieldLemmas.FieldValues.{has_values}
 
 -- there is no field
 abbrev is_nil : List Kind → Bool
@@ -24,7 +25,7 @@ has_all ks = list_all (λ k. not (may_be_absent k)) ks
 
 -- what is checked of each row
 abbrev is_sound : ℕ → List Kind → Bool
-is_sound n ks = text_last ks && (not (drops_spaces n) || has_all ks)
+is_sound n ks = list_all has_values ks && (text_last ks && (not (drops_spaces n) || has_all ks))
 
 -- a number without a row passes
 empty_sound : (n : ℕ) → is_sound n [] ≡ true
@@ -66,13 +67,25 @@ TextLast-from (k ∷ ks) e =
       TextLast-from ks p.1,
     )
 
+-- the fields of each message have values
+pub values_are : (n : ℕ) → list_all has_values (kinds_of n) ≡ true
+values_are n =
+    (and_parts (list_all has_values (kinds_of n)) (text_last (kinds_of n) && (not (drops_spaces n) || has_all (kinds_of n)))
+    (kinds_sound n)).0
+
+-- what else is checked of them
+others_are : (n : ℕ) → (text_last (kinds_of n) && (not (drops_spaces n) || has_all (kinds_of n))) ≡ true
+others_are n =
+    (and_parts (list_all has_values (kinds_of n)) (text_last (kinds_of n) && (not (drops_spaces n) || has_all (kinds_of n)))
+    (kinds_sound n)).1
+
 -- a text is the last field of each message
 pub last_is : (n : ℕ) → TextLast (kinds_of n)
-last_is n = TextLast-from (kinds_of n) (and_parts (text_last (kinds_of n)) (not (drops_spaces n) || has_all (kinds_of n)) (kinds_sound n)).0
+last_is n = TextLast-from (kinds_of n) (and_parts (text_last (kinds_of n)) (not (drops_spaces n) || has_all (kinds_of n)) (others_are n)).0
 
 -- where spaces are dropped there is no text
 pub no_text_where_dropped : (n : ℕ) → drops_spaces n ≡ true → has_all (kinds_of n) ≡ true
-no_text_where_dropped n e = elim (or_cases (not (drops_spaces n)) (has_all (kinds_of n)) (and_parts (text_last (kinds_of n)) (not (drops_spaces n) || has_all (kinds_of n)) (kinds_sound n)).1) [
+no_text_where_dropped n e = elim (or_cases (not (drops_spaces n)) (has_all (kinds_of n)) (and_parts (text_last (kinds_of n)) (not (drops_spaces n) || has_all (kinds_of n)) (others_are n)).1) [
   | inl other ↦ let f : drops_spaces n ≡ false = not-true (drops_spaces n) other in absurd cc
   | inr h ↦ h
 ]

@@ -2,7 +2,8 @@
 
 ghost use Rattle.std.specs.Prelude.{◌≡◌, ◌++◌, ℕ, replicate, map, IfOk, IfErr, Some};
 ghost use Rattle.std.specs.Fmt.{signed_decimal};
-ghost use Rattle.fibs_messages.specs.Board.{IsBoard, Fit, field_values, kinds, number, pieces, texts, without_spaces};
+ghost use Rattle.fibs_messages.specs.Board.{IsBoard, Fit, field_values, kinds, pieces, texts, without_spaces};
+ghost use Rattle.fibs_messages.specs.Field.{a_number_of};
 ghost use Rattle.fibs_messages.specs.BoardReading.{first_fault, pieces_left};
 ghost use Rattle.fibs_messages.specs.FieldReading.{left_of};
 ghost use Rattle.fibs_messages.specs.StoredBoard.{read_fields};
@@ -19,7 +20,7 @@ fn read_numbers(fields: &mut Fields<'_>) -> Result<[i32; 50], FieldFault>
     ensures ok { IfOk result (λ numbers. pieces_left (left_of fields.old) ≡ map signed_decimal numbers) }
     ensures fit { IfOk result (λ numbers. Fit field_values numbers) }
     ensures err { IfErr result (λ e.
-        first_fault 4 (map number field_values) (pieces_left (left_of fields.old)) ≡ Some e) }
+        first_fault 4 (map a_number_of field_values) (pieces_left (left_of fields.old)) ≡ Some e) }
 {
     let mut numbers = [0; 50];
     for i in 0..50 {

@@ -7,7 +7,8 @@ use Rattle.std.proofs.lemmas.Int.{to_z-of_z}
 use Rattle.std.proofs.lemmas.List.{append-nil, take_all}
 use Rattle.std.proofs.lemmas.Result.{err_from_is_err_and}
 use Rattle.std.proofs.Math.ListN.{drop_of_length-le}
-use Rattle.fibs_messages.specs.Board.{field_values, number}
+use Rattle.fibs_messages.specs.Board.{field_values}
+use Rattle.fibs_messages.specs.Field.{a_number_of}
 use Rattle.fibs_messages.specs.BoardReading.{pieces_left, first_fault}
 use Rattle.fibs_messages.specs.Decimal.{allows, number_in}
 use Rattle.fibs_messages.specs.FieldReading.{left_of}
@@ -22,8 +23,8 @@ returns-in_err-numbers-clause-err c =
     let i = c.loop-i.i in
     let v = c.values_of.result in
     rw (p.1, p.2)
-    (c.loop-i.invariant.fault ∙ ap (λ l. first_fault (i + 4) (map number l) (pieces_left (left_of c.loop-i.fields))) (drop_next field_values i v c.values_of.ensures.value)
-    ∙ was_wrong (number_in v) (number v) (i + 4) (left_of c.loop-i.fields) c.in_err-numbers.field-0.0 (map number (drop (i + 1) field_values)) (reads_number v) c.loop-i.invariant.colon c.in_err-numbers.ensures)
+    (c.loop-i.invariant.fault ∙ ap (λ l. first_fault (i + 4) (map a_number_of l) (pieces_left (left_of c.loop-i.fields))) (drop_next field_values i v c.values_of.ensures.value)
+    ∙ was_wrong (number_in v) (a_number_of v) (i + 4) (left_of c.loop-i.fields) c.in_err-numbers.field-0.0 (map a_number_of (drop (i + 1) field_values)) (reads_number v) c.loop-i.invariant.colon c.in_err-numbers.ensures)
 
 pub loop-i-preserved : goal.loop-i-preserved
 loop-i-preserved c =
@@ -50,7 +51,7 @@ returns-in_err-end-clause-err c =
     let there : i + 4 ≡ 54 = omega (arith, c.loop-i.auto.i-end) in
     let end : drop i field_values ≡ [] = drop_of_length-le field_values {i = i} (omega (arith, table_long)) in
     rw (p.1, p.2)
-    (c.loop-i.invariant.fault ∙ ap (λ l. first_fault (i + 4) (map number l) (pieces_left (left_of c.loop-i.fields))) end ∙ ap (λ n. first_fault n [] (pieces_left (left_of c.loop-i.fields))) there
+    (c.loop-i.invariant.fault ∙ ap (λ l. first_fault (i + 4) (map a_number_of l) (pieces_left (left_of c.loop-i.fields))) end ∙ ap (λ n. first_fault n [] (pieces_left (left_of c.loop-i.fields))) there
     ∙ end_wrong 54 (left_of c.loop-i.fields) c.in_err-end.field-0.0 c.in_err-end.ensures)
 
 pub returns-clause-ok : goal.returns-clause-ok

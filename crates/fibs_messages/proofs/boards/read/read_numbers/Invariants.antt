@@ -1,6 +1,7 @@
 use Rattle.std.proofs.Common.{◌≡◌, ◌+◌, ◌++◌, map, take, drop, length}
 use Rattle.std.specs.Fmt.{signed_decimal}
-use Rattle.fibs_messages.specs.Board.{Fit, field_values, number}
+use Rattle.fibs_messages.specs.Board.{Fit, field_values}
+use Rattle.fibs_messages.specs.Field.{a_number_of}
 use Rattle.fibs_messages.specs.BoardReading.{pieces_left, first_fault}
 use Rattle.fibs_messages.specs.FieldReading.{left_of}
 use Rattle.fibs_messages.proofs.boards.read.read_numbers.Given as goal
@@ -11,5 +12,5 @@ invariant-loop-i l = record {
   colon : (left_of l.fields).separator ≡ 58;
   read : pieces_left (left_of l.fn.fields) ≡ map signed_decimal (take l.i l.numbers) ++ pieces_left (left_of l.fields);
   fit : Fit (take l.i field_values) (take l.i l.numbers);
-  fault : first_fault 4 (map number field_values) (pieces_left (left_of l.fn.fields)) ≡ first_fault (l.i + 4) (map number (drop l.i field_values)) (pieces_left (left_of l.fields));
+  fault : first_fault 4 (map a_number_of field_values) (pieces_left (left_of l.fn.fields)) ≡ first_fault (l.i + 4) (map a_number_of (drop l.i field_values)) (pieces_left (left_of l.fields));
 }
