@@ -1,4 +1,5 @@
 pub mod Backward
+pub mod BoardEquality
 pub mod BoardHeads
 pub mod BoardTests
 pub mod BoardTexts

@@ -1,3 +1,4 @@
+pub mod Equality
 pub mod FieldTexts
 pub mod FieldValues
 pub mod Fronts

@@ -1,2 +1,3 @@
+pub mod ReadingEquality
 pub mod ReadingValues
 pub mod Readings

@@ -1,5 +1,6 @@
 pub mod CanonicalLines
 pub mod FieldFaults
+pub mod MessageEquality
 pub mod MessageLines
 pub mod MessageReadings
 pub mod MessageTable

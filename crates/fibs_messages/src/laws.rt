@@ -13,7 +13,7 @@ ghost use Rattle.fibs_messages.specs.Message.{HasNumber, IsMessage, IsNumber, Is
 ghost use Rattle.fibs_messages.specs.Message.{WrongMessage, canonical, kinds_of};
 ghost use Rattle.fibs_messages.specs.Line.{reading_of};
 ghost use Rattle.fibs_messages.specs.declared.messages.message.Message.{Message};
-ghost use Rattle.fibs_messages.specs.Message.{message_of};
+ghost use Rattle.fibs_messages.specs.Message.{message_of, own_info_fields, who_info_fields};
 ghost use Rattle.fibs_messages.specs.Bytes.{name_bytes};
 ghost use Rattle.fibs_messages.specs.Bytes.{tail_bytes, word_bytes};
 ghost use Rattle.fibs_messages.specs.Printed.{IsPrinted};
@@ -78,6 +78,34 @@ pub fn words_are_their_bytes(a: &Word<'_>, b: &Word<'_>) -> bool
 /// Two tails are equal exactly where their bytes are.
 pub fn tails_are_their_bytes(a: &Tail<'_>, b: &Tail<'_>) -> bool
     ensures { IsTrue result ↔ (tail_bytes a.now ≡ tail_bytes b.now) }
+{
+    *a == *b
+}
+
+/// Two settings of message 2 are equal exactly where their fields are.
+pub fn own_infos_are_their_fields(a: &OwnInfo<'_>, b: &OwnInfo<'_>) -> bool
+    ensures { IsTrue result ↔ (own_info_fields a.now ≡ own_info_fields b.now) }
+{
+    *a == *b
+}
+
+/// Two players of message 5 are equal exactly where their fields are.
+pub fn who_infos_are_their_fields(a: &WhoInfo<'_>, b: &WhoInfo<'_>) -> bool
+    ensures { IsTrue result ↔ (who_info_fields a.now ≡ who_info_fields b.now) }
+{
+    *a == *b
+}
+
+/// Two messages are equal exactly where they have one number and the same fields.
+pub fn messages_are_their_fields(a: &Message<'_>, b: &Message<'_>) -> bool
+    ensures { IsTrue result ↔ (message_of a.now ≡ message_of b.now) }
+{
+    *a == *b
+}
+
+/// Two readings are equal exactly where they say the same.
+pub fn readings_are_what_they_say(a: &Reading<'_>, b: &Reading<'_>) -> bool
+    ensures { IsTrue result ↔ (reading_of a.now ≡ reading_of b.now) }
 {
     *a == *b
 }
