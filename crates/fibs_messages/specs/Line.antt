@@ -83,6 +83,13 @@ reading_value line =
     then board_reading (first_fault 1 kinds (pieces (without_spaces line))) (pieces (without_spaces line))
     else other_reading (number_word (before 32 line)) line
 
+-- what is said of a numbered line is said of its number
+abbrev pub IsOfNumber : ℕ → ReadingValue → Type 0
+IsOfNumber n (numbered_line m) = m.number ≡ n
+IsOfNumber n (board_line b) = ⊥
+IsOfNumber n (text_line text) = ⊥
+IsOfNumber n (malformed_line number k f) = number ≡ n
+
 -- it is the line's reading
 abbrev pub ReadingIsExact : Type 0
 ReadingIsExact = (line : List ℕ) → IsReading line (reading_value line)

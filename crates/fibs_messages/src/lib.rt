@@ -16,6 +16,6 @@ pub use fields::fault::{Fault, FieldFault};
 pub use fields::name::Name;
 pub use fields::split::split;
 pub use fields::word::{Tail, Word};
-pub use line::{Reading, read};
+pub use line::{Reading, message_number, read};
 pub use messages::message::{Message, OwnInfo, WhoInfo};
 pub use messages::print::print_message;

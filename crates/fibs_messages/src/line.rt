@@ -1,11 +1,11 @@
 //! Lines of the server.
 
-ghost use Rattle.std.specs.Prelude.{◌≡◌, ◌↔◌, ℕ, List, Some};
+ghost use Rattle.std.specs.Prelude.{◌≡◌, ◌↔◌, ℕ, List, Some, IfSome};
 ghost use Rattle.fibs_messages.specs.Board.{BoardFields, BoardText};
 ghost use Rattle.fibs_messages.specs.Line.{IsBoardLine, IsMalformed, IsText, ReadingValue, numbered_line, board_line};
-ghost use Rattle.fibs_messages.specs.Line.{text_line, malformed_line, IsReading, reading_value};
+ghost use Rattle.fibs_messages.specs.Line.{text_line, malformed_line, IsOfNumber, IsReading, reading_value};
 ghost use Rattle.fibs_messages.specs.LineReading.{BeginsAs, IsAsRead};
-ghost use Rattle.fibs_messages.specs.Message.{number_word, IsNumber, MessageValue, MessageText};
+ghost use Rattle.fibs_messages.specs.Message.{number_word, HasNumber, IsNumber, MessageValue, MessageText};
 ghost use Rattle.fibs_messages.specs.Line.{reading_of};
 ghost use Rattle.fibs_messages.specs.Split.{before};
 
@@ -90,6 +90,14 @@ fn beginning_of(line: &[u8]) -> Beginning
         Some(number) => Beginning::Number(number),
         None => Beginning::Other,
     }
+}
+
+/// The number with which a numbered line begins; None for every other line. It reads no more of the line than that.
+pub fn message_number(line: &[u8]) -> Option<u8>
+    ensures number { (n : ℕ) → (result ≡ Some n) ↔ HasNumber line.now n }
+    ensures reading { IfSome result (λ n. IsOfNumber n (reading_value line.now)) }
+{
+    number_of(split(line, b' ').0)
 }
 
 /// Reads a line that was not cut, without its line end and its prompts.

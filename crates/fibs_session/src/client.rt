@@ -146,6 +146,12 @@ impl Client {
         match self.lines.line() {
             None => HeardLine { used, answer: None },
             Some(line) => {
+                if self.session.leaves(&line) {
+                    return HeardLine {
+                        used,
+                        answer: Some(Answer::nothing()),
+                    };
+                }
                 let Taken {
                     line: _,
                     reading,

@@ -1,7 +1,7 @@
 //! What a client has heard on a connection, and the decision that it waits for.
 
 ghost use Rattle.std.specs.Option.{option_copied};
-ghost use Rattle.std.specs.Prelude.{◌≡◌, IsErr, [], true, option_map};
+ghost use Rattle.std.specs.Prelude.{◌≡◌, IsErr, None, [], true, option_map};
 ghost use Rattle.fibs_lines.specs.Lines.{value_of};
 ghost use Rattle.fibs_messages.specs.Line.{reading_of};
 ghost use Rattle.fibs_messages.specs.StoredBoard.{fields_of};
@@ -24,6 +24,7 @@ use crate::refusal::{PlainRefusal, Refusal};
 use fibs_lines::Line;
 use fibs_messages::Board;
 use fibs_position::{Decision, laws};
+use hearing::is_unheard;
 pub(crate) use hearing::read_line;
 pub use taken::{Outstanding, Taken};
 
@@ -104,6 +105,15 @@ impl Session {
             send,
             confirmed,
         }
+    }
+
+    /// Whether a line is a message that changes nothing and is answered by nothing. Its fields are not read.
+    pub(crate) fn leaves(&self, line: &Line<'_>) -> bool
+        ensures { result ≡ true →
+            SessionHears (session_of self.now) (session_of self.now) (value_of line.now) [] None }
+    {
+        laws::same_game_is_a_likeness();
+        is_unheard(line)
     }
 
     /// Decides on the board shown, and hands out the command. The decision then waits.

@@ -1,6 +1,6 @@
 -- The function that gives a line its reading is exact.
 use Rattle.std.proofs.Common.{◌≡◌, ◌==◌, ℕ, Bool, true, false, if◌then◌else◌, List, [], ◌∷◌, Option, Some, None, Result}
-use Rattle.std.proofs.Common.{Ok, Err, codes, map, refl, sym, ap, ◌∙◌, subst, inl, inr, ◌⊎◌, true≢false}
+use Rattle.std.proofs.Common.{Ok, Err, IfSome, ◌↔◌, codes, map, refl, sym, ap, ◌∙◌, subst, inl, inr, ◌⊎◌, true≢false}
 use Rattle.std.specs.Prelude.{ℤ}
 use Rattle.std.specs.Fmt.{signed_decimal}
 use Rattle.std.specs.List.{starts_with, All}
@@ -17,14 +17,15 @@ use Rattle.fibs_messages.specs.Split.{before, after}
 use Rattle.fibs_messages.specs.Field.{FieldValue}
 use Rattle.fibs_messages.specs.FieldReading.{fields_at, left}
 use Rattle.fibs_messages.specs.LineReading.{IsAsRead}
-use Rattle.fibs_messages.specs.Message.{kinds_of, kept, number_word}
+use Rattle.fibs_messages.specs.Message.{kinds_of, kept, number_word, HasNumber}
 use Rattle.fibs_messages.specs.Line.{board_line, IsReading, number_or_0, numbers_in, board_in, board_reading}
-use Rattle.fibs_messages.specs.Line.{message_reading, other_reading, reading_value, ReadingIsExact}
+use Rattle.fibs_messages.specs.Line.{message_reading, other_reading, reading_value, IsOfNumber, ReadingIsExact}
 use Rattle.fibs_messages.proofs.BoardLemmas.FieldTable.{all_narrow}
 use Rattle.fibs_messages.proofs.NumberLemmas.Spelled.{number_in-written}
 use Rattle.fibs_messages.proofs.BoardLemmas.BoardTexts.{pieces_of_board, texts_right, first_from_wrong}
 use Rattle.fibs_messages.proofs.BoardLemmas.EachLine.{board_or_wrong}
 use Rattle.fibs_messages.proofs.LineLemmas.Readings.{is_reading}
+use Rattle.fibs_messages.proofs.MessageLemmas.MessageReadings.{board_not_numbered, has_number, number_of}
 
 -- the numbers that are written are found again
 numbers_back : (vs : List Values) (zs : List ℤ) → All IsNarrow vs → Fit vs zs → numbers_in vs (map signed_decimal zs) ≡ zs
@@ -76,3 +77,30 @@ by_test line false h = is_reading line (other_reading (number_word (before 32 li
 pub reading_is_exact : ReadingIsExact
 unfolding reading_value
 reading_is_exact line = by_test line (starts_with (λ a b. a == b) line (codes "board:")) refl
+
+-- what a message's fields say is said of its number
+of_number_fields : (n : ℕ) (r : Result (List FieldValue) FieldFault) → IsOfNumber n (message_reading n r)
+of_number_fields n (Ok fields) = refl
+of_number_fields n (Err e) = refl
+
+-- a line that begins with a number is no board line
+of_number_test : (line : List ℕ) (n : ℕ) (t : Bool) → starts_with (λ a b. a == b) line (codes "board:") ≡ t → number_word (before 32 line) ≡ Some n
+    → IsOfNumber n (if t then board_reading (first_fault 1 kinds (pieces (without_spaces line))) (pieces (without_spaces line)) else other_reading (number_word (before 32 line)) line)
+of_number_test line n true is number = absurd (board_not_numbered line is (n, has_number line n number))
+of_number_test line n false is number =
+    subst (λ o. IsOfNumber n (other_reading o line)) (sym number)
+    (of_number_fields n (fields_at (kinds_of n) 1 (left 32 (after 32 (kept n line)))))
+
+-- the reading of a line that begins with a number says the number
+pub reads_its_number : (line : List ℕ) (n : ℕ) → number_word (before 32 line) ≡ Some n → IsOfNumber n (reading_value line)
+unfolding reading_value
+reads_its_number line n number = of_number_test line n (starts_with (λ a b. a == b) line (codes "board:")) refl number
+
+-- of a word that may be a number
+pub reads_any_number : (line : List ℕ) (o : Option ℕ) → number_word (before 32 line) ≡ o → IfSome o (λ n. IsOfNumber n (reading_value line))
+reads_any_number line None h = tt
+reads_any_number line (Some n) h = reads_its_number line n h
+
+-- the number that a line begins with is the one that it has
+pub has_one_number : (line : List ℕ) (o : Option ℕ) → number_word (before 32 line) ≡ o → (n : ℕ) → (o ≡ Some n) ↔ HasNumber line n
+has_one_number line o h n = ((λ e. has_number line n (h ∙ e)), (λ has. sym h ∙ number_of line n has))

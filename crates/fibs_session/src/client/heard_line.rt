@@ -1,5 +1,8 @@
 //! What a client has heard, without the line itself.
 
+ghost use Rattle.std.specs.Prelude.{◌≡◌, [], None};
+ghost use Rattle.fibs_session.specs.declared.client.kept.Kept.TheVariants.{Numbered};
+
 use super::kept::Kept;
 use crate::commands::CommandText;
 use crate::session::Outstanding;
@@ -11,6 +14,21 @@ pub(crate) struct Answer {
     pub(super) kept: Kept,
     pub(super) send: ArrayVec<CommandText, 3>,
     pub(super) confirmed: Option<Outstanding>,
+}
+
+impl Answer {
+    /// The answer to a message that is answered by nothing. The message is read where it is lent.
+    pub(super) fn nothing() -> Answer
+        ensures kept { result.kept ≡ Numbered }
+        ensures send { result.send.items ≡ [] }
+        ensures confirmed { result.confirmed ≡ None }
+    {
+        Answer {
+            kept: Kept::Numbered,
+            send: ArrayVec::new(),
+            confirmed: None,
+        }
+    }
 }
 
 /// What `Client::read` has heard. It borrows nothing; `Client::got` lends the line to it.

@@ -10,7 +10,7 @@ use crate::session::read_line;
 use fibs_lines::Line;
 use fibs_messages::{Board, Fault, Reading, laws};
 
-/// What is kept of a reading. A message borrows from its line, so that it is read again; nothing else is.
+/// What is kept of a reading. A message borrows from its line: it is read where it is lent, most messages only there.
 #[derive(Clone, Copy)]
 pub(crate) enum Kept {
     Numbered,

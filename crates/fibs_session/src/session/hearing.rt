@@ -6,7 +6,8 @@ ghost use Rattle.fibs_messages.specs.Message.{message_of};
 ghost use Rattle.fibs_messages.specs.Line.{reading_of};
 ghost use Rattle.fibs_messages.specs.StoredBoard.{fields_of};
 ghost use Rattle.fibs_messages.specs.declared.messages.message.Message.TheVariants.{OwnInfo as TheOwnInfo};
-ghost use Rattle.fibs_session.specs.Calls.FieldSteps.{message_fields, heard_fields, with_board, confirmed_of, line_fields};
+ghost use Rattle.fibs_session.specs.Calls.FieldSteps.{message_fields, heard_fields, with_board, confirmed_of, line_fields, unheard};
+ghost use Rattle.fibs_session.specs.Calls.SessionValue.{SessionValue};
 ghost use Rattle.fibs_session.specs.History.Hearing.{initial_commands, line_reading};
 ghost use Rattle.fibs_position.specs.GoodBoard.{good};
 ghost use Rattle.fibs_session.specs.TextOf.{text_of};
@@ -15,7 +16,7 @@ use super::{Outstanding, ServerFlags, Session};
 use crate::commands::{CommandText, autoboard_text, board_text, moreboards_text, style_text};
 use arrayvec::ArrayVec;
 use fibs_lines::Line;
-use fibs_messages::{Board, Message, OwnInfo, Reading, read};
+use fibs_messages::{Board, Message, OwnInfo, Reading, message_number, read};
 use fibs_position::{Position, differs};
 
 /// The reading of a line. One that was cut is a text.
@@ -26,6 +27,19 @@ pub(crate) fn read_line<'a>(line: &Line<'a>) -> Reading<'a>
         return Reading::Text(line.bytes);
     }
     read(line.bytes)
+}
+
+/// Whether a line is a message that says nothing to a session: each but message 1 and message 2. Its fields are not read.
+pub(super) fn is_unheard(line: &Line<'_>) -> bool
+    ensures { result ≡ true → (v : SessionValue) → line_fields v (line_reading (value_of line.now)) ≡ unheard v }
+{
+    if line.cut {
+        return false;
+    }
+    match message_number(line.bytes) {
+        Some(number) => number > 2,
+        None => false,
+    }
 }
 
 /// The commands that answer the first message 2.
