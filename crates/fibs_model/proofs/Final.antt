@@ -128,11 +128,11 @@ module _ (law : Lawful) where
   told_after login w Repeat j k h = told_sends w (spelling w.board) h
   told_after login w (Text t) j k h = told_sends w t h
 
-  told_start : (b : Board) → Told (start b).log
+  pub told_start : (b : Board) → Told (start b).log
   told_start b = record { legal = λ c. tt; pairs = tt; undone = tt; answers = tt; boards = tt; order = λ c i h. absurd (omega arith) }
 
   -- both, after every list of events
-  kept : (login : List ℕ) → IsQuiet login → (es : List Event) (w : World) → AllAccepted login w es → Joint [] w → Told w.log
+  pub kept : (login : List ℕ) → IsQuiet login → (es : List Event) (w : World) → AllAccepted login w es → Joint [] w → Told w.log
       → Joint [] (after_all login w es) × Told (after_all login w es).log
   kept login quiet [] w a j t = (j, t)
   kept login quiet (e ∷ es) w a j t = kept login quiet es (after login w e) a.1 (joint_after law login quiet w e j a.0) (told_after login w e j a.0 t)

@@ -1,23 +1,21 @@
 -- The layers below keep what the headline asks.
-use Rattle.std.proofs.Common.{◌≡◌, ◌≢◌, ℕ, ◌<◌, ◌≤◌, Bool, true, false, List, [], ◌∷◌, ◌++◌, Option, Some, None, nat_lt, length, refl, sym, ap, ◌∙◌, append-nil, arith, if◌then◌else◌}
+use Rattle.std.proofs.Common.{◌≡◌, ◌≢◌, ℕ, ◌<◌, ◌≤◌, Bool, true, false, List, [], ◌∷◌, ◌++◌, Option, Some, None, nat_lt, refl, sym, ap, ◌∙◌, append-nil, arith, if◌then◌else◌}
 use Rattle.std.specs.Prelude.{All, option_map}
 use Rattle.std.proofs.lemmas.Bool.{and_parts}
 use Rattle.std.proofs.lemmas.Bool.Decides.{nat_tests}
 use Rattle.std.proofs.lemmas.List.Elements.{All-head, All-tail, All-weaker}
 use Rattle.fibs_lines.specs.Lines.{lines_of}
-use Rattle.fibs_lines.specs.StreamLaws.{EmptyStreamHasNoLine, LinesOnlyGrow, WhatFollowsALineEndReadsAlone, SendableTextIsItsLine}
 use Rattle.fibs_messages.specs.Board.{BoardFields, IsBoard, spelling}
 use Rattle.fibs_messages.specs.Flags.{autoboard, moreboards}
-use Rattle.fibs_messages.specs.Line.{ReadingValue, IsReading, IsBoardLine, board_line, reading_value, ReadingIsExact}
+use Rattle.fibs_messages.specs.Line.{IsReading, board_line, reading_value}
 use Rattle.fibs_messages.specs.Printed.{IsPrinted}
 use Rattle.fibs_position.specs.Allowed.{allowed_of}
 use Rattle.fibs_position.specs.DecisionValue.{DecisionValue, IsDecision}
 use Rattle.fibs_position.specs.DirectionOf.{direction_of}
 use Rattle.fibs_position.specs.GoodBoard.{IsGood, good as is_good}
-use Rattle.fibs_position.specs.Laws.{GoodIsExact, SameGameIsALikeness, AllowedDecides, AllowedIsADecision, AllowedActs}
 use Rattle.fibs_position.specs.declared.disallowed.Disallowed.{Disallowed}
 use Rattle.fibs_session.specs.Commands.{command_of}
-use Rattle.fibs_session.specs.CommandLaws.{CommandsArePrinted, ReadCommandIsExact, IsOther, LoginIsOther, StyleIsOther, PlainIsOther, InitialAreOther}
+use Rattle.fibs_session.specs.CommandLaws.{IsOther}
 use Rattle.fibs_session.specs.FirstCommands.{autoboard_text, moreboards_text, board_text}
 use Rattle.fibs_session.specs.History.Machine.{refusal_of, allows, on_wire}
 use Rattle.fibs_session.specs.Logins.{IsLogin, login_text}
@@ -25,32 +23,13 @@ use Rattle.fibs_model.specs.Events.{Event}
 use Rattle.fibs_model.specs.Headline.{Headline}
 use Rattle.fibs_model.specs.Runs.{MayBe, world_after}
 use Rattle.fibs_model.specs.Server.{is_die}
+use Rattle.fibs_model.specs.Owed.{Owed}
 use Rattle.fibs_model.specs.Stale.{NoneStale}
+use Rattle.fibs_model.specs.Acts.{acts_after}
+use Rattle.fibs_model.specs.Joint as S
 use Rattle.fibs_model.proofs.Final.{headline_holds, never_stale}
+use Rattle.fibs_model.proofs.joint.Stated.{joint_holds}
 use Rattle.fibs_model.proofs.Lawful.{NoReturn, Lawful, IsQuiet, AllQuiet}
-
--- what the layers below promise
-pub record Owed : Type 0 where
-  pub empty : EmptyStreamHasNoLine
-  pub grow : LinesOnlyGrow
-  pub alone : WhatFollowsALineEndReadsAlone
-  pub sent : SendableTextIsItsLine
-  pub printed : (b : BoardFields) → IsBoard b → All IsPrinted (spelling b)
-  pub short : (b : BoardFields) → IsBoard b → length (spelling b) ≤ 329
-  pub begins : (b : BoardFields) → IsBoard b → IsBoardLine (spelling b)
-  pub reading : ReadingIsExact
-  pub one_reading : (line : List ℕ) (v w : ReadingValue) → IsReading line v → IsReading line w → v ≡ w
-  pub good_exact : GoodIsExact
-  pub likeness : SameGameIsALikeness
-  pub decides : AllowedDecides
-  pub decision : AllowedIsADecision
-  pub acts : AllowedActs
-  pub exact : ReadCommandIsExact
-  pub commands : CommandsArePrinted
-  pub login : LoginIsOther
-  pub style : StyleIsOther
-  pub plain : PlainIsOther
-  pub initial : InitialAreOther
 
 none_left : (o : Option Disallowed) → option_map refusal_of o ≡ None → o ≡ None
 none_left None h = refl
@@ -128,3 +107,8 @@ module _ (owed : Owed) where
       → NoneStale (world_after (login_text name password) b events)
   unfolding MayBe world_after
   real_stale name password b events is h = never_stale lawful (login_text name password) (quiet _ (owed.login name password is)) b events ((owed.good_exact b).1 h)
+
+  pub real_joint : S.JointStatement
+  unfolding MayBe world_after acts_after
+  real_joint name password b events is h =
+      joint_holds lawful (login_text name password) (quiet _ (owed.login name password is)) b events ((owed.good_exact b).1 h)

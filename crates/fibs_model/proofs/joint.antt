@@ -5,3 +5,7 @@ pub mod Deliver
 pub mod Click
 pub mod Turns
 pub mod EachEvent
+pub mod Steady
+pub mod Carrying
+pub mod Acting
+pub mod Stated

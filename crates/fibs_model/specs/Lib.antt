@@ -11,4 +11,7 @@ pub mod Runs
 pub mod Moving
 pub mod Headline
 pub mod Stale
+pub mod Acts
+pub mod Joint
+pub mod Owed
 pub mod Laws

@@ -1,12 +1,12 @@
 //! Laws of the world. Each function does nothing else: its contract is the law.
 
+ghost use Rattle.fibs_model.specs.Joint.{JointStatement};
 ghost use Rattle.fibs_model.specs.Laws.{HeadlineHolds, NothingServedIsStale};
+ghost use Rattle.fibs_model.specs.Owed.{Owed};
 
-/// After every list of events that may be, from every good first board on and for every login, the headline holds.
-/// Beside it: the server of the world never meets a stale line.
-pub fn headline()
-    ensures headline { HeadlineHolds }
-    ensures stale { NothingServedIsStale }
+/// The laws of the layers below.
+fn layers_below()
+    ensures { Owed }
 {
     fibs_lines::laws::empty_stream_has_no_line();
     fibs_lines::laws::lines_only_grow();
@@ -26,4 +26,22 @@ pub fn headline()
     fibs_session::laws::style_is_other();
     fibs_session::laws::plain_is_other();
     fibs_session::laws::initial_are_other();
+}
+
+/// After every list of events that may be, from every good first board on and for every login, the headline holds.
+/// Beside it: the server of the world never meets a stale line.
+pub fn headline()
+    ensures headline { HeadlineHolds }
+    ensures stale { NothingServedIsStale }
+{
+    layers_below();
+}
+
+/// After every such list the joint statement holds, which is the core of the headline: what was put on each wire to the
+/// client is there, was delivered, or was dropped at a loss; boards on which the user decides stay until a decision is
+/// served; at most one decision of a connection is not served; and a connection that did not log in yet shows no board.
+pub fn joint_statement()
+    ensures { JointStatement }
+{
+    layers_below();
 }
