@@ -18,20 +18,26 @@ use Rattle.fibs_lines.proofs.RunLemmas.{has_end_run, data_along_run, telnet_alon
 pub take-grown : (room : ℕ) (r q : List ℕ) → take room r ++ take (room - length (take room r)) q ≡ take room (r ++ q)
 take-grown zero r q = refl
 take-grown (suc room) [] q = ap (λ n. take n q) {y = suc room} (omega arith)
-take-grown (suc room) (x ∷ r) q = ap (λ l. x ∷ l) (ap (λ n. take room r ++ take n q) {y = room - length (take room r)} (omega arith) ∙ take-grown room r q)
+take-grown (suc room) (x ∷ r) q =
+    ap (λ l. x ∷ l)
+    (ap (λ n. take room r ++ take n q) {y = room - length (take room r)} (omega arith) ∙ take-grown room r q)
 
 -- whether it is longer
-pub over-grown : (room : ℕ) (r q : List ℕ) → (nat_lt room (length r) || nat_lt (room - length (take room r)) (length q)) ≡ nat_lt room (length (r ++ q))
+pub over-grown : (room : ℕ) (r q : List ℕ)
+    → (nat_lt room (length r) || nat_lt (room - length (take room r)) (length q)) ≡ nat_lt room (length (r ++ q))
 over-grown room r q = let a = length-take room r in let b = length-append r q in grind arith
 
 -- what is kept at the front, when a stream goes on
-grown-front : (room : ℕ) (old new r q : List ℕ) → old ≡ take room r → new ≡ old ++ take (room - length old) q → new ≡ take room (r ++ q)
+grown-front : (room : ℕ) (old new r q : List ℕ) → old ≡ take room r → new ≡ old ++ take (room - length old) q
+    → new ≡ take room (r ++ q)
 grown-front room old new r q e h = h ∙ ap (λ l. l ++ take (room - length l) q) e ∙ take-grown room r q
 
 -- whether there is more than is kept, when a stream goes on
 grown-over : (room : ℕ) (old new : Bool) (front r q : List ℕ) → front ≡ take room r → old ≡ nat_lt room (length r)
     → new ≡ (old || nat_lt (room - length front) (length q)) → new ≡ nat_lt room (length (r ++ q))
-grown-over room old new front r q e f h = h ∙ ap (λ b. b || nat_lt (room - length front) (length q)) f ∙ ap (λ l. nat_lt room (length r) || nat_lt (room - length l) (length q)) e ∙ over-grown room r q
+grown-over room old new front r q e f h =
+    h ∙ ap (λ b. b || nat_lt (room - length front) (length q)) f
+    ∙ ap (λ l. nat_lt room (length r) || nat_lt (room - length l) (length q)) e ∙ over-grown room r q
 
 -- two advances in a row are one
 pub Advances-then : (u v w : Kept) (t t' : List ℕ) → Advances u v t → Advances v w t' → Advances u w (t ++ t')
@@ -51,21 +57,27 @@ pub record Grows (old new : Kept) (t : List ℕ) : Type 0 where
 pub Advances-grown : (old new : Kept) (t : List ℕ) → Grows old new t → Advances old new t
 Advances-grown old new t g = record {
   stands = λ s h.
-      let gives : plain (s ++ t) ≡ plain s ++ data_along old.telnet t = plain-append s t ∙ ap (λ k. plain s ++ data_along k t) (sym h.telnet) in
+      let gives : plain (s ++ t) ≡ plain s ++ data_along old.telnet t =
+      plain-append s t ∙ ap (λ k. plain s ++ data_along k t) (sym h.telnet) in
       let rest = rest_of_more s t (data_along old.telnet t) gives g.unended in
       record {
         telnet = g.telnet ∙ ap (λ k. telnet_along k t) h.telnet ∙ sym (telnet_of-append s t);
-        front = grown-front (kept_limit + 1) old.front new.front (rest_of s) (data_along old.telnet t) h.front g.front ∙ ap (take (kept_limit + 1)) (sym rest);
-        over = grown-over (kept_limit + 1) old.over new.over old.front (rest_of s) (data_along old.telnet t) h.front h.over g.over ∙ ap (λ r. nat_lt (kept_limit + 1) (length r)) (sym rest);
+        front = grown-front (kept_limit + 1) old.front new.front (rest_of s) (data_along old.telnet t) h.front g.front
+            ∙ ap (take (kept_limit + 1)) (sym rest);
+        over =
+            grown-over (kept_limit + 1) old.over new.over old.front (rest_of s) (data_along old.telnet t) h.front h.over
+            g.over ∙ ap (λ r. nat_lt (kept_limit + 1) (length r)) (sym rest);
       };
   same_lines = λ s h.
-      let gives : plain (s ++ t) ≡ plain s ++ data_along old.telnet t = plain-append s t ∙ ap (λ k. plain s ++ data_along k t) (sym h.telnet) in
+      let gives : plain (s ++ t) ≡ plain s ++ data_along old.telnet t =
+      plain-append s t ∙ ap (λ k. plain s ++ data_along k t) (sym h.telnet) in
       lines_of_more s t (data_along old.telnet t) gives g.unended;
 }
 
 -- data that nothing interrupts
 pub Advances-run : (old new : Kept) (q : List ℕ) → IsRun q → old.telnet ≡ Data → new.telnet ≡ Data
-    → new.front ≡ old.front ++ take (kept_limit + 1 - length old.front) q → new.over ≡ (old.over || nat_lt (kept_limit + 1 - length old.front) (length q)) → Advances old new q
+    → new.front ≡ old.front ++ take (kept_limit + 1 - length old.front) q
+    → new.over ≡ (old.over || nat_lt (kept_limit + 1 - length old.front) (length q)) → Advances old new q
 Advances-run old new q run was is front over =
     let gives : data_along old.telnet q ≡ q = ap (λ k. data_along k q) was ∙ data_along_run q run in
     Advances-grown old new q (record {
@@ -87,7 +99,8 @@ unended_nil = refl
 
 -- the byte 255 255
 pub Advances-escaped : (old new : Kept) (b : ℕ) → b ≡ 255 → old.telnet ≡ Command → new.telnet ≡ Data
-    → new.front ≡ old.front ++ take (kept_limit + 1 - length old.front) (b ∷ []) → new.over ≡ (old.over || nat_lt (kept_limit + 1 - length old.front) 1) → Advances old new (b ∷ [])
+    → new.front ≡ old.front ++ take (kept_limit + 1 - length old.front) (b ∷ [])
+    → new.over ≡ (old.over || nat_lt (kept_limit + 1 - length old.front) 1) → Advances old new (b ∷ [])
 Advances-escaped old new b at was is front over =
     let gives : data_along old.telnet (b ∷ []) ≡ b ∷ [] = rw (was, at) refl in
     Advances-grown old new (b ∷ []) (record {
@@ -105,7 +118,10 @@ Advances-silent old new b gives is front over =
     Advances-grown old new (b ∷ []) (record {
       telnet = is;
       unended = rw nothing unended_nil;
-      front = rw nothing (front ∙ sym (append-nil old.front) ∙ ap (λ l. old.front ++ l) (sym (take_all (kept_limit + 1 - length old.front) [] zero-le)));
+      front =
+          rw nothing
+          (front ∙ sym (append-nil old.front)
+          ∙ ap (λ l. old.front ++ l) (sym (take_all (kept_limit + 1 - length old.front) [] zero-le)));
       over = rw nothing (over ∙ or_none old.over (kept_limit + 1 - length old.front));
     })
   where
@@ -116,12 +132,14 @@ Advances-silent old new b gives is front over =
 -- the first byte of a command
 pub Advances-opened : (old new : Kept) (b : ℕ) → b ≡ 255 → old.telnet ≡ Data → new.telnet ≡ Command
     → new.front ≡ old.front → new.over ≡ old.over → Advances old new (b ∷ [])
-Advances-opened old new b at was is front over = Advances-silent old new b (rw (was, at) refl) (is ∙ rw (was, at) refl) front over
+Advances-opened old new b at was is front over =
+    Advances-silent old new b (rw (was, at) refl) (is ∙ rw (was, at) refl) front over
 
 -- a byte after a command's first two
 pub Advances-closed : (old new : Kept) (b : ℕ) → old.telnet ≢ Data → old.telnet ≢ Command → new.telnet ≡ Data
     → new.front ≡ old.front → new.over ≡ old.over → Advances old new (b ∷ [])
-Advances-closed old new b begun more is front over = Advances-silent old new b (gives old.telnet begun more) (is ∙ after old.telnet begun more) front over
+Advances-closed old new b begun more is front over =
+    Advances-silent old new b (gives old.telnet begun more) (is ∙ after old.telnet begun more) front over
   where
     gives : (k : Telnet) → k ≢ Data → k ≢ Command → data_of k b ≡ []
     gives Data p q = absurd (p refl)
@@ -134,11 +152,14 @@ Advances-closed old new b begun more is front over = Advances-silent old new b (
     after Negotiation p q = refl
 
 -- a part of a piece, and more of it
-pub Advances-taken : (u v w : Kept) (piece : List ℕ) (at more : ℕ) → Advances u v (take at piece) → Advances v w (take more (drop at piece))
+pub Advances-taken : (u v w : Kept) (piece : List ℕ) (at more : ℕ) → Advances u v (take at piece)
+    → Advances v w (take more (drop at piece))
     → Advances u w (take (at + more) piece)
-Advances-taken u v w piece at more a b = subst (Advances u w) (sym (take-add at more piece)) (Advances-then u v w _ _ a b)
+Advances-taken u v w piece at more a b =
+    subst (Advances u w) (sym (take-add at more piece)) (Advances-then u v w _ _ a b)
 
 -- a part of a piece, and the byte after it
-pub Advances-next : (u v w : Kept) (piece : List ℕ) (at : ℕ) → at < length piece → Advances u v (take at piece) → Advances v w (get_or piece at 0 ∷ [])
+pub Advances-next : (u v w : Kept) (piece : List ℕ) (at : ℕ) → at < length piece → Advances u v (take at piece)
+    → Advances v w (get_or piece at 0 ∷ [])
     → Advances u w (take (at + 1) piece)
 Advances-next u v w piece at h a b = subst (Advances u w) (sym (take_more piece at 0 h)) (Advances-then u v w _ _ a b)

@@ -21,7 +21,13 @@ pub length-lines_of : (s : List ℕ) → length (lines_of s) ≡ ends (plain s)
 length-lines_of s =
     let p = plain s in
     let e : length (lines_of s) ≡ length (finished p) = ap length (lines_of-is s) ∙ length-map (finished p) line_of in
-    omega (arith, e, length-slice_split is_line_end p, ap length (slice_split-is p), length-append (finished p) (after_end p ∷ []))
+    omega (
+      arith,
+      e,
+      length-slice_split is_line_end p,
+      ap length (slice_split-is p),
+      length-append (finished p) (after_end p ∷ []),
+    )
 
 -- line ends add up
 pub ends-append : (p q : List ℕ) → ends (p ++ q) ≡ ends p + ends q
@@ -37,9 +43,22 @@ data_of_ends Negotiation b = grind arith
 data_along_ends : (k : Telnet) (t : List ℕ) → ends (data_along k t) ≤ ends t
 data_along_ends k [] = omega arith
 data_along_ends k (b ∷ t) =
-    omega (arith, ends-append (data_of k b) (data_along (telnet_after k b) t), data_of_ends k b, data_along_ends (telnet_after k b) t, ends-append (b ∷ []) t)
+    omega (
+      arith,
+      ends-append (data_of k b) (data_along (telnet_after k b) t),
+      data_of_ends k b,
+      data_along_ends (telnet_after k b) t,
+      ends-append (b ∷ []) t,
+    )
 
 -- a piece gives at most as many lines as it has bytes LF
 pub lines_are_at_most_the_line_ends : LinesAreAtMostTheLineEnds
 lines_are_at_most_the_line_ends s t =
-    omega (arith, length-lines_of (s ++ t), length-lines_of s, ap ends (plain-append s t), ends-append (plain s) (data_along (telnet_of s) t), data_along_ends (telnet_of s) t)
+    omega (
+      arith,
+      length-lines_of (s ++ t),
+      length-lines_of s,
+      ap ends (plain-append s t),
+      ends-append (plain s) (data_along (telnet_of s) t),
+      data_along_ends (telnet_of s) t,
+    )

@@ -37,10 +37,12 @@ unfolding telnet_of rest_of plain
 KeptAfter_none v e = subst (λ k. KeptAfter k []) (sym e) (record { telnet = refl; front = refl; over = refl })
 
 -- the whole piece was taken
-pub Feeds_whole : (old new : Kept) (s piece : List ℕ) → Advances old new piece → KeptAfter old s → Feeds s piece (record { used = length piece; line = None })
+pub Feeds_whole : (old new : Kept) (s piece : List ℕ) → Advances old new piece → KeptAfter old s
+    → Feeds s piece (record { used = length piece; line = None })
 Feeds_whole old new s piece a h =
     let all : take (length piece) piece ≡ piece = take_all (length piece) piece (omega arith) in
-    let same : lines_of (s ++ take (length piece) piece) ≡ lines_of s = ap (λ l. lines_of (s ++ l)) all ∙ a.same_lines s h in
+    let same : lines_of (s ++ take (length piece) piece) ≡ lines_of s =
+    ap (λ l. lines_of (s ++ l)) all ∙ a.same_lines s h in
     record {
       in_range = omega arith;
       gains = same ∙ sym (append-nil (lines_of s));
@@ -60,26 +62,31 @@ module _ (old new : Kept) (s piece : List ℕ) (at : ℕ) (a : AdvancesToEnd old
 
   -- the stream with the line end
   split : s ++ take (at + 1) piece ≡ s ++ take at piece ++ 10 ∷ []
-  split = ap (λ l. s ++ l) (take_more piece at 0 a.in_range ∙ ap (λ b. take at piece ++ b ∷ []) a.end) ∙ sym (append_assoc s (take at piece) (10 ∷ []))
+  split = ap (λ l. s ++ l) (take_more piece at 0 a.in_range ∙ ap (λ b. take at piece ++ b ∷ []) a.end)
+      ∙ sym (append_assoc s (take at piece) (10 ∷ []))
 
   -- its data: the line end is one
   gives : plain (s ++ take at piece ++ 10 ∷ []) ≡ plain (s ++ take at piece) ++ 10 ∷ []
-  gives = plain-append (s ++ take at piece) (10 ∷ []) ∙ ap (λ k. plain (s ++ take at piece) ++ data_along k (10 ∷ [])) (sym stood.telnet ∙ a.no_command)
+  gives = plain-append (s ++ take at piece) (10 ∷ [])
+      ∙ ap (λ k. plain (s ++ take at piece) ++ data_along k (10 ∷ [])) (sym stood.telnet ∙ a.no_command)
 
   -- what follows the line end is a line's start
   starts_line : AtLineStart (s ++ take (at + 1) piece)
   starts_line = record {
-    no_command = ap telnet_of split ∙ telnet_of-append (s ++ take at piece) (10 ∷ []) ∙ ap (λ k. telnet_along k (10 ∷ [])) (sym stood.telnet ∙ a.no_command);
+    no_command = ap telnet_of split ∙ telnet_of-append (s ++ take at piece) (10 ∷ [])
+        ∙ ap (λ k. telnet_along k (10 ∷ [])) (sym stood.telnet ∙ a.no_command);
     no_rest = ap rest_of split ∙ rest_of_end (s ++ take at piece) (10 ∷ []) gives;
   }
 
   -- the line was lent
-  pub Feeds_line : (line : Line) → value_of line ≡ kept_line new.front new.over → Feeds s piece (record { used = at + 1; line = Some line })
+  pub Feeds_line : (line : Line) → value_of line ≡ kept_line new.front new.over
+      → Feeds s piece (record { used = at + 1; line = Some line })
   Feeds_line line e = record {
     in_range = omega (arith, a.in_range);
     gains = ap lines_of split ∙ lines_of_end (s ++ take at piece) (10 ∷ []) gives
         ∙ ap (λ l. l ++ line_of (rest_of (s ++ take at piece)) ∷ []) (a.advances.same_lines s h)
-        ∙ ap (λ l. lines_of s ++ l ∷ []) (sym (e ∙ kept_line_is new.front (rest_of (s ++ take at piece)) new.over stood.front stood.over));
+        ∙ ap (λ l. lines_of s ++ l ∷ [])
+        (sym (e ∙ kept_line_is new.front (rest_of (s ++ take at piece)) new.over stood.front stood.over));
     shortest = λ n l. lines_of_before s piece n at (omega arith) (a.advances.same_lines s h);
     whole = λ none. absurd (true≢false none);
     starts = λ _. starts_line;
@@ -102,7 +109,9 @@ pub value_where_not_lent : (u : Unfinished) (lent : Bool) → lent ≡ false →
 value_where_not_lent u lent e = ap (lines_value u) e
 
 -- how much is held
-pub held_of_front : (v : Kept) (s : List ℕ) → KeptAfter v s → min (length v.front) kept_limit ≡ min kept_limit (length (rest_of s))
+pub held_of_front : (v : Kept) (s : List ℕ) → KeptAfter v s
+    → min (length v.front) kept_limit ≡ min kept_limit (length (rest_of s))
 held_of_front v s h =
-    let long : length v.front ≡ min (kept_limit + 1) (length (rest_of s)) = ap length h.front ∙ length-take (kept_limit + 1) (rest_of s) in
+    let long : length v.front ≡ min (kept_limit + 1) (length (rest_of s)) =
+    ap length h.front ∙ length-take (kept_limit + 1) (rest_of s) in
     omega arith

@@ -22,14 +22,15 @@ no_end = refl
 apart : (t : List ℕ) → telnet_of t ≡ Data → (line : ReadLine) × (lines_of (with_line_end t) ≡ lines_of t ++ line ∷ [])
 apart t h =
     let begun : plain (t ++ 13 ∷ []) ≡ plain t ++ 13 ∷ [] =
-        plain-append t (13 ∷ []) ∙ ap (λ k. plain t ++ data_along k (13 ∷ [])) h in
+    plain-append t (13 ∷ []) ∙ ap (λ k. plain t ++ data_along k (13 ∷ [])) h in
     let closed : telnet_of (t ++ 13 ∷ []) ≡ Data =
-        telnet_of-append t (13 ∷ []) ∙ ap (λ k. telnet_along k (13 ∷ [])) h in
+    telnet_of-append t (13 ∷ []) ∙ ap (λ k. telnet_along k (13 ∷ [])) h in
     let ended : plain (t ++ 13 ∷ [] ++ 10 ∷ []) ≡ plain (t ++ 13 ∷ []) ++ 10 ∷ [] =
-        plain-append (t ++ 13 ∷ []) (10 ∷ []) ∙ ap (λ k. plain (t ++ 13 ∷ []) ++ data_along k (10 ∷ [])) closed in
-    (line_of (rest_of (t ++ 13 ∷ [])),
-    ap lines_of (sym (append_assoc t (13 ∷ []) (10 ∷ []))) ∙ lines_of_end (t ++ 13 ∷ []) (10 ∷ []) ended
-    ∙ ap (λ ls. ls ++ line_of (rest_of (t ++ 13 ∷ [])) ∷ []) (lines_of_more t (13 ∷ []) (13 ∷ []) begun no_end))
+    plain-append (t ++ 13 ∷ []) (10 ∷ []) ∙ ap (λ k. plain (t ++ 13 ∷ []) ++ data_along k (10 ∷ [])) closed in (
+      line_of (rest_of (t ++ 13 ∷ [])),
+      ap lines_of (sym (append_assoc t (13 ∷ []) (10 ∷ []))) ∙ lines_of_end (t ++ 13 ∷ []) (10 ∷ []) ended
+          ∙ ap (λ ls. ls ++ line_of (rest_of (t ++ 13 ∷ [])) ∷ []) (lines_of_more t (13 ∷ []) (13 ∷ []) begun no_end),
+    )
 
 -- the three ways in which the text may end
 ends_one : (t : List ℕ) (k : Telnet) → telnet_of t ≡ k

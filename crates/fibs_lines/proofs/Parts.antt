@@ -43,13 +43,16 @@ pub finished_some : (p : List ℕ) → has_end p ≡ true → (q : List ℕ) × 
 unfolding finished has_end
 finished_some [] h = absurd (cc)
 finished_some (x ∷ p) h =
-    elim (eqb x 10) as (λ v. cond v true (has_end p) ≡ true → (q : List ℕ) × (qs : List (List ℕ)) × (cond v ([] ∷ finished p) (onto_each_first x (finished p)) ≡ q ∷ qs)) [
+    elim (eqb x 10) as
+    (λ v. cond v true (has_end p) ≡ true → (q : List ℕ) × (qs : List (List ℕ))
+    × (cond v ([] ∷ finished p) (onto_each_first x (finished p)) ≡ q ∷ qs)) [
       | true ↦ λ _. ([], finished p, refl)
       | false ↦ λ e. let more = finished_some p e in (x ∷ more.0, more.1, ap (onto_each_first x) more.2)
     ] h
 
 -- these are the parts that std's split gives
-split_step : (x : ℕ) (p : List ℕ) (b : Bool) → has_end p ≡ b → slice_split is_line_end p ≡ finished p ++ after_end p ∷ []
+split_step : (x : ℕ) (p : List ℕ) (b : Bool) → has_end p ≡ b
+    → slice_split is_line_end p ≡ finished p ++ after_end p ∷ []
     → slice_split is_line_end (x ∷ p) ≡ finished (x ∷ p) ++ after_end (x ∷ p) ∷ []
 unfolding finished after_end
 split_step x p true h ih =
@@ -73,27 +76,40 @@ slice_split-is (x ∷ p) = split_step x p (has_end p) refl (slice_split-is p)
 pub finished_parts-is : (p : List ℕ) → finished_parts p ≡ finished p
 finished_parts-is p =
     let as_many : length (finished p) ≡ count_by is_line_end p =
-    omega (arith, length-slice_split is_line_end p, ap length (slice_split-is p), length-append (finished p) (after_end p ∷ [])) in
-    ap (take (count_by is_line_end p)) (slice_split-is p) ∙ take_at (finished p) (after_end p ∷ []) (count_by is_line_end p) as_many
+    omega (
+      arith,
+      length-slice_split is_line_end p,
+      ap length (slice_split-is p),
+      length-append (finished p) (after_end p ∷ []),
+    ) in
+    ap (take (count_by is_line_end p)) (slice_split-is p)
+    ∙ take_at (finished p) (after_end p ∷ []) (count_by is_line_end p) as_many
 
 -- what std's search from the end counts is as long as what follows the last line end
 abbrev pub goes_on : ℕ → Bool
 goes_on b = not (is_line_end b)
 
 -- a search that passed all passes one byte more, unless that is a line end
-prefix_len_past : (ys : List ℕ) (x : ℕ) → prefix_len goes_on ys ≡ length ys → prefix_len goes_on (ys ++ x ∷ []) ≡ cond (goes_on x) (1 + length ys) (length ys)
+prefix_len_past : (ys : List ℕ) (x : ℕ) → prefix_len goes_on ys ≡ length ys
+    → prefix_len goes_on (ys ++ x ∷ []) ≡ cond (goes_on x) (1 + length ys) (length ys)
 prefix_len_past [] x h = refl
 prefix_len_past (y ∷ ys) x h =
-    elim (eqb y 10) as (λ v. cond (not v) (1 + prefix_len goes_on ys) 0 ≡ length (y ∷ ys) → cond (not v) (1 + prefix_len goes_on (ys ++ x ∷ [])) 0 ≡ cond (goes_on x) (1 + length (y ∷ ys)) (length (y ∷ ys))) [
+    elim (eqb y 10) as
+    (λ v. cond (not v) (1 + prefix_len goes_on ys) 0 ≡ length (y ∷ ys)
+    → cond (not v) (1 + prefix_len goes_on (ys ++ x ∷ [])) 0 ≡ cond (goes_on x) (1 + length (y ∷ ys))
+    (length (y ∷ ys))) [
       | true ↦ λ e. absurd (omega (arith, e))
       | false ↦ λ e. let ih = prefix_len_past ys x (omega (arith, e)) in grind arith
     ] h
 
 -- a search that stopped stops there with one byte more
-prefix_len_within : (ys : List ℕ) (x : ℕ) → prefix_len goes_on ys < length ys → prefix_len goes_on (ys ++ x ∷ []) ≡ prefix_len goes_on ys
+prefix_len_within : (ys : List ℕ) (x : ℕ) → prefix_len goes_on ys < length ys
+    → prefix_len goes_on (ys ++ x ∷ []) ≡ prefix_len goes_on ys
 prefix_len_within [] x h = absurd (omega arith)
 prefix_len_within (y ∷ ys) x h =
-    elim (eqb y 10) as (λ v. cond (not v) (1 + prefix_len goes_on ys) 0 < length (y ∷ ys) → cond (not v) (1 + prefix_len goes_on (ys ++ x ∷ [])) 0 ≡ cond (not v) (1 + prefix_len goes_on ys) 0) [
+    elim (eqb y 10) as
+    (λ v. cond (not v) (1 + prefix_len goes_on ys) 0 < length (y ∷ ys)
+    → cond (not v) (1 + prefix_len goes_on (ys ++ x ∷ [])) 0 ≡ cond (not v) (1 + prefix_len goes_on ys) 0) [
       | true ↦ λ e. refl
       | false ↦ λ e. ap (λ n. 1 + n) (prefix_len_within ys x (omega (arith, e)))
     ] h
@@ -109,18 +125,23 @@ suffix_len-cons : (x : ℕ) (p : List ℕ) → suffix_len goes_on (x ∷ p) ≡ 
 suffix_len-cons x p = ap (prefix_len goes_on) (reverse-append (x ∷ []) p)
 
 -- what the search from the end counts, with one byte more in front
-suffix_len_step : (x : ℕ) (p : List ℕ) (b : Bool) → has_end p ≡ b → suffix_len goes_on p ≡ length (after_end p) → suffix_len goes_on (x ∷ p) ≡ length (after_end (x ∷ p))
+suffix_len_step : (x : ℕ) (p : List ℕ) (b : Bool) → has_end p ≡ b → suffix_len goes_on p ≡ length (after_end p)
+    → suffix_len goes_on (x ∷ p) ≡ length (after_end (x ∷ p))
 unfolding after_end
 suffix_len_step x p true h ih =
-    let less : prefix_len goes_on (reverse p) < length (reverse p) = omega (arith, ih, shorter_after_end p h, length-reverse p) in
-    suffix_len-cons x p ∙ prefix_len_within (reverse p) x less ∙ ih ∙ ap (λ b. length (cond b (after_end p) (cond (is_line_end x) p (x ∷ p)))) (sym h)
+    let less : prefix_len goes_on (reverse p) < length (reverse p) =
+    omega (arith, ih, shorter_after_end p h, length-reverse p) in
+    suffix_len-cons x p ∙ prefix_len_within (reverse p) x less ∙ ih
+    ∙ ap (λ b. length (cond b (after_end p) (cond (is_line_end x) p (x ∷ p)))) (sym h)
 suffix_len_step x p false h ih =
-    let whole : prefix_len goes_on (reverse p) ≡ length (reverse p) = ih ∙ ap length (after_end_none p h) ∙ sym (length-reverse p) in
+    let whole : prefix_len goes_on (reverse p) ≡ length (reverse p) =
+    ih ∙ ap length (after_end_none p h) ∙ sym (length-reverse p) in
     suffix_len-cons x p ∙ prefix_len_past (reverse p) x whole ∙ ap (λ n. cond (goes_on x) (1 + n) n) (length-reverse p)
     ∙ here ∙ ap (λ b. length (cond b (after_end p) (cond (is_line_end x) p (x ∷ p)))) (sym h)
   where
     here : cond (goes_on x) (1 + length p) (length p) ≡ length (cond (is_line_end x) p (x ∷ p))
-    here = elim (eqb x 10) as (λ v. cond (not v) (1 + length p) (length p) ≡ length (cond v p (x ∷ p))) [ true ↦ refl | false ↦ omega arith ]
+    here = elim (eqb x 10) as (λ v. cond (not v) (1 + length p) (length p) ≡ length (cond v p (x ∷ p)))
+        [ true ↦ refl | false ↦ omega arith ]
 
 -- the search from the end counts what follows the last line end
 suffix_len-is : (p : List ℕ) → suffix_len goes_on p ≡ length (after_end p)
@@ -129,9 +150,14 @@ suffix_len-is [] = refl
 suffix_len-is (x ∷ p) = suffix_len_step x p (has_end p) refl (suffix_len-is p)
 
 -- with one byte more in front, what follows the last line end still stands at the end
-before_end_step : (x : ℕ) (p : List ℕ) (b : Bool) → has_end p ≡ b → ((front : List ℕ) × (p ≡ front ++ after_end p)) → (front : List ℕ) × (x ∷ p ≡ front ++ after_end (x ∷ p))
+before_end_step : (x : ℕ) (p : List ℕ) (b : Bool) → has_end p ≡ b → ((front : List ℕ) × (p ≡ front ++ after_end p))
+    → (front : List ℕ) × (x ∷ p ≡ front ++ after_end (x ∷ p))
 unfolding after_end
-before_end_step x p true h ih = (x ∷ ih.0, ap (λ l. x ∷ l) ih.1 ∙ ap (λ b. x ∷ ih.0 ++ cond b (after_end p) (cond (is_line_end x) p (x ∷ p))) (sym h))
+before_end_step x p true h ih = (
+  x ∷ ih.0,
+  ap (λ l. x ∷ l) ih.1
+      ∙ ap (λ b. x ∷ ih.0 ++ cond b (after_end p) (cond (is_line_end x) p (x ∷ p))) (sym h),
+)
 before_end_step x p false h ih =
     elim (eqb x 10) as (λ v. (front : List ℕ) × (x ∷ p ≡ front ++ cond (has_end p) (after_end p) (cond v p (x ∷ p)))) [
       | true ↦ (x ∷ [], ap (λ b. x ∷ cond b (after_end p) p) (sym h))
@@ -148,7 +174,8 @@ before_end (x ∷ p) = before_end_step x p (has_end p) refl (before_end p)
 pub after_last-is : (p : List ℕ) → after_last is_line_end p ≡ after_end p
 after_last-is p =
     let split = before_end p in
-    let long : length p ≡ length split.0 + length (after_end p) = ap length split.1 ∙ length-append split.0 (after_end p) in
+    let long : length p ≡ length split.0 + length (after_end p) =
+    ap length split.1 ∙ length-append split.0 (after_end p) in
     let place : length p - suffix_len goes_on p ≡ length split.0 = omega (arith, suffix_len-is p, long) in
     ap (λ n. drop n p) place ∙ ap (drop (length split.0)) split.1 ∙ drop_at split.0 (after_end p) (length split.0) refl
 

@@ -14,10 +14,12 @@ false_unless true = λ no. absurd (no refl)
 false_unless false = λ _. refl
 
 -- a front in which no byte ends a run is one
-pub IsRun_take : (k : ℕ) (bytes : List ℕ) → ((j : ℕ) → j < k → ends_run (get_or bytes j 0) ≡ true → ⊥) → IsRun (take k bytes)
+pub IsRun_take : (k : ℕ) (bytes : List ℕ) → ((j : ℕ) → j < k → ends_run (get_or bytes j 0) ≡ true → ⊥)
+    → IsRun (take k bytes)
 IsRun_take zero bytes h = tt
 IsRun_take (suc k) [] h = tt
-IsRun_take (suc k) (x ∷ bytes) h = (false_unless (ends_run x) (h 0 (omega arith)), IsRun_take k bytes (λ j l. h (suc j) (omega arith)))
+IsRun_take (suc k) (x ∷ bytes) h =
+    (false_unless (ends_run x) (h 0 (omega arith)), IsRun_take k bytes (λ j l. h (suc j) (omega arith)))
 
 -- a run has no line end
 pub has_end_run : (q : List ℕ) → IsRun q → has_end q ≡ false
@@ -41,14 +43,19 @@ IsRun-append [] q h i = i
 IsRun-append (x ∷ l) q h i = (h.0, IsRun-append l q h.1 i)
 
 -- a run at a front, and a run after it
-pub IsRun-further : (bytes : List ℕ) (at more : ℕ) → IsRun (take at bytes) → IsRun (take more (drop at bytes)) → IsRun (take (at + more) bytes)
-IsRun-further bytes at more h i = subst IsRun (sym (take-add at more bytes)) (IsRun-append (take at bytes) (take more (drop at bytes)) h i)
+pub IsRun-further : (bytes : List ℕ) (at more : ℕ) → IsRun (take at bytes) → IsRun (take more (drop at bytes))
+    → IsRun (take (at + more) bytes)
+IsRun-further bytes at more h i =
+    subst IsRun (sym (take-add at more bytes)) (IsRun-append (take at bytes) (take more (drop at bytes)) h i)
 
 -- a run at a front, and more of it in the window that was searched after it
-pub IsRun-window : (bytes : List ℕ) (at wide more : ℕ) → IsRun (take at bytes) → more ≤ length (take wide (take (length bytes - at) (drop at bytes)))
-    → ((j : ℕ) → j < more → ends_run (get_or (take wide (take (length bytes - at) (drop at bytes))) j 0) ≡ true → ⊥) → IsRun (take (at + more) bytes)
+pub IsRun-window : (bytes : List ℕ) (at wide more : ℕ) → IsRun (take at bytes)
+    → more ≤ length (take wide (take (length bytes - at) (drop at bytes)))
+    → ((j : ℕ) → j < more → ends_run (get_or (take wide (take (length bytes - at) (drop at bytes))) j 0) ≡ true → ⊥)
+    → IsRun (take (at + more) bytes)
 IsRun-window bytes at wide more h within none =
     let window = take wide (take (length bytes - at) (drop at bytes)) in
     let narrow : more ≤ wide = omega (arith, within, length-take wide (take (length bytes - at) (drop at bytes))) in
-    let same : take more window ≡ take more (drop at bytes) = take-take more wide (take (length bytes - at) (drop at bytes)) narrow ∙ ap (take more) (take_rest bytes at) in
+    let same : take more window ≡ take more (drop at bytes) =
+    take-take more wide (take (length bytes - at) (drop at bytes)) narrow ∙ ap (take more) (take_rest bytes at) in
     IsRun-further bytes at more h (subst IsRun same (IsRun_take more window none))

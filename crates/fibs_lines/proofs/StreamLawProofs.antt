@@ -42,7 +42,8 @@ after_end-boundary p q true h e = after_end-append_some p q h
 after_end-boundary p q false h e = after_end-append_none p q h ∙ ap (λ l. l ++ q) e ∙ sym (after_end_none q h)
 
 -- the closed parts of two lists, with one byte more in front
-finished-boundary_step : (x : ℕ) (p q : List ℕ) (b c : Bool) → has_end p ≡ b → eqb x 10 ≡ c → after_end (x ∷ p) ≡ [] → (after_end p ≡ [] → finished (p ++ q) ≡ finished p ++ finished q)
+finished-boundary_step : (x : ℕ) (p q : List ℕ) (b c : Bool) → has_end p ≡ b → eqb x 10 ≡ c → after_end (x ∷ p) ≡ []
+    → (after_end p ≡ [] → finished (p ++ q) ≡ finished p ++ finished q)
     → finished (x ∷ p ++ q) ≡ finished (x ∷ p) ++ finished q
 unfolding finished after_end
 finished-boundary_step x p q true c h i e ih =
@@ -54,11 +55,14 @@ finished-boundary_step x p q true c h i e ih =
     let whole = ih empty in
     grind arith
 finished-boundary_step x p q false true h i e ih =
-    let empty : p ≡ [] = sym (ap (λ b. cond b (after_end p) (cond (eqb x 10) p (x ∷ p))) h ∙ ap (λ b. cond b p (x ∷ p)) i) ∙ e in
-    let whole : finished (p ++ q) ≡ finished p ++ finished q = ap (λ l. finished (l ++ q)) empty ∙ sym (ap (λ l. finished l ++ finished q) empty) in
+    let empty : p ≡ [] =
+    sym (ap (λ b. cond b (after_end p) (cond (eqb x 10) p (x ∷ p))) h ∙ ap (λ b. cond b p (x ∷ p)) i) ∙ e in
+    let whole : finished (p ++ q) ≡ finished p ++ finished q =
+    ap (λ l. finished (l ++ q)) empty ∙ sym (ap (λ l. finished l ++ finished q) empty) in
     grind arith
 finished-boundary_step x p q false false h i e ih =
-    let wrong : x ∷ p ≡ [] = sym (ap (λ b. cond b (after_end p) (cond (eqb x 10) p (x ∷ p))) h ∙ ap (λ b. cond b p (x ∷ p)) i) ∙ e in
+    let wrong : x ∷ p ≡ [] =
+    sym (ap (λ b. cond b (after_end p) (cond (eqb x 10) p (x ∷ p))) h ∙ ap (λ b. cond b p (x ∷ p)) i) ∙ e in
     absurd (cc)
 
 -- the closed parts of two lists, where the first ends with a line end
@@ -70,7 +74,8 @@ finished-boundary (x ∷ p) q e = finished-boundary_step x p q (has_end p) (eqb 
 module _ (s t : List ℕ) (a : AtLineStart s) where
   -- the data is that of the one and then that of the other
   plain_goes_on : plain (s ++ t) ≡ plain s ++ plain t
-  plain_goes_on = plain-append s t ∙ ap (λ k. plain s ++ data_along k t) a.no_command ∙ ap (λ l. plain s ++ l) (sym (plain-along t))
+  plain_goes_on = plain-append s t ∙ ap (λ k. plain s ++ data_along k t) a.no_command
+      ∙ ap (λ l. plain s ++ l) (sym (plain-along t))
 
   -- what comes after a line's start gives its own lines
   pub lines_of-append : lines_of (s ++ t) ≡ lines_of s ++ lines_of t
@@ -78,13 +83,15 @@ module _ (s t : List ℕ) (a : AtLineStart s) where
       lines_of-is (s ++ t) ∙ ap (λ p. map line_of (finished p)) plain_goes_on
       ∙ ap (map line_of) (finished-boundary (plain s) (plain t) (sym (rest_of-is s) ∙ a.no_rest))
       ∙ map-append line_of (finished (plain s)) (finished (plain t))
-      ∙ ap (λ ls. ls ++ map line_of (finished (plain t))) (sym (lines_of-is s)) ∙ ap (λ ls. lines_of s ++ ls) (sym (lines_of-is t))
+      ∙ ap (λ ls. ls ++ map line_of (finished (plain t))) (sym (lines_of-is s))
+      ∙ ap (λ ls. lines_of s ++ ls) (sym (lines_of-is t))
 
   -- the rest is that of what came after
   pub rest_of-append : rest_of (s ++ t) ≡ rest_of t
   rest_of-append =
       rest_of-is (s ++ t) ∙ ap after_end plain_goes_on
-      ∙ after_end-boundary (plain s) (plain t) (has_end (plain t)) refl (sym (rest_of-is s) ∙ a.no_rest) ∙ sym (rest_of-is t)
+      ∙ after_end-boundary (plain s) (plain t) (has_end (plain t)) refl (sym (rest_of-is s) ∙ a.no_rest)
+      ∙ sym (rest_of-is t)
 
   -- how much of a command stands at the end is that of what came after
   pub telnet_of-append_start : telnet_of (s ++ t) ≡ telnet_of t
@@ -95,7 +102,9 @@ pub line_start_reads_alone : LineStartReadsAlone
 line_start_reads_alone s t a = record {
   lines = lines_of-append s t a;
   rest = rest_of-append s t a;
-  start = λ b. record { no_command = telnet_of-append_start s t a ∙ b.no_command; no_rest = rest_of-append s t a ∙ b.no_rest };
+  start =
+      λ b. record
+      { no_command = telnet_of-append_start s t a ∙ b.no_command; no_rest = rest_of-append s t a ∙ b.no_rest };
 }
 
 -- the parts between the line ends are the finished ones, and then the rest
@@ -184,7 +193,8 @@ module _ (l : List ℕ) (h : IsSendable l) where
 
   -- the text and CR are the rest before the LF
   rest_before : rest_of (l ++ 13 ∷ []) ≡ l ++ 13 ∷ []
-  rest_before = rest_of-is (l ++ 13 ∷ []) ∙ ap after_end gives ∙ after_end_none (l ++ 13 ∷ []) (has_end_run (l ++ 13 ∷ []) begun)
+  rest_before = rest_of-is (l ++ 13 ∷ []) ∙ ap after_end gives
+      ∙ after_end_none (l ++ 13 ∷ []) (has_end_run (l ++ 13 ∷ []) begun)
 
   -- there is no line before the LF
   none_before : lines_of (l ++ 13 ∷ []) ≡ []
@@ -198,7 +208,8 @@ module _ (l : List ℕ) (h : IsSendable l) where
   line_of_sent =
       let line : strip_carriage_return (l ++ 13 ∷ []) ≡ l = strip-is (l ++ 13 ∷ []) ∙ without_return_yes l in
       same_read_line _ _
-      (ap (λ p. without_prompts (take kept_limit p)) line ∙ ap without_prompts (take_all kept_limit l h.fits) ∙ without_prompts_none l h.no_login_prompt h.no_command_prompt)
+      (ap (λ p. without_prompts (take kept_limit p)) line ∙ ap without_prompts (take_all kept_limit l h.fits)
+      ∙ without_prompts_none l h.no_login_prompt h.no_command_prompt)
       (ap (λ p. nat_lt kept_limit (length p)) line ∙ not_over (length l) h.fits)
 
   -- it is one line
@@ -232,11 +243,14 @@ PromptsThen-more l p q rest is e h = record {
 }
 
 -- a line that begins with no prompt
-PromptsThen-none : (l : List ℕ) → starts_with nat_eq l login_prompt ≡ false → starts_with nat_eq l command_prompt ≡ false → PromptsThen l l
-PromptsThen-none l h i = record { prompts = []; each = All-nil IsPrompt; joined = refl; no_login_prompt = h; no_command_prompt = i }
+PromptsThen-none : (l : List ℕ) → starts_with nat_eq l login_prompt ≡ false
+    → starts_with nat_eq l command_prompt ≡ false → PromptsThen l l
+PromptsThen-none l h i =
+    record { prompts = []; each = All-nil IsPrompt; joined = refl; no_login_prompt = h; no_command_prompt = i }
 
 -- the tests decide how the removal goes on
-removed_step : (n : ℕ) (l : List ℕ) (a b : Bool) → starts_with nat_eq l login_prompt ≡ a → starts_with nat_eq l command_prompt ≡ b
+removed_step : (n : ℕ) (l : List ℕ) (a b : Bool) → starts_with nat_eq l login_prompt ≡ a
+    → starts_with nat_eq l command_prompt ≡ b
     → ((r : List ℕ) → length r ≤ n → PromptsThen r (without_some_prompts n r)) → length l ≤ suc n
     → PromptsThen l (cond a (without_some_prompts n (drop 7 l)) (cond b (without_some_prompts n (drop 2 l)) l))
 removed_step n l true b h i ih small =
@@ -252,10 +266,13 @@ removed : (n : ℕ) (l : List ℕ) → length l ≤ n → PromptsThen l (without
 unfolding without_some_prompts
 removed zero [] small = PromptsThen-none [] refl refl
 removed zero (x ∷ l) small = absurd (omega arith)
-removed (suc n) l small = removed_step n l (starts_with nat_eq l login_prompt) (starts_with nat_eq l command_prompt) refl refl (removed n) small
+removed (suc n) l small =
+    removed_step n l (starts_with nat_eq l login_prompt) (starts_with nat_eq l command_prompt) refl refl (removed n)
+    small
 
 -- a row of prompts goes whole
-prompts_go : (ps : List (List ℕ)) (rest : List ℕ) → All IsPrompt ps → starts_with nat_eq rest login_prompt ≡ false → starts_with nat_eq rest command_prompt ≡ false
+prompts_go : (ps : List (List ℕ)) (rest : List ℕ) → All IsPrompt ps → starts_with nat_eq rest login_prompt ≡ false
+    → starts_with nat_eq rest command_prompt ≡ false
     → rest ≡ without_prompts (concat ps ++ rest)
 prompts_go [] rest is h i = sym (without_prompts_none rest h i)
 prompts_go (p ∷ ps) rest is h i =
@@ -275,7 +292,8 @@ prompts_go (p ∷ ps) rest is h i =
 pub prompts_are_removed : PromptsAreRemoved
 prompts_are_removed = (
   λ line. removed (length line) line (omega arith),
-  λ line rest h. prompts_go h.prompts rest h.each h.no_login_prompt h.no_command_prompt ∙ sym (ap without_prompts h.joined),
+  λ line rest h. prompts_go h.prompts rest h.each h.no_login_prompt h.no_command_prompt
+      ∙ sym (ap without_prompts h.joined),
 )
 
 -- a line of a part fits
@@ -284,7 +302,8 @@ unfolding line_of
 line_fits part =
     let kept = take kept_limit (strip_carriage_return part) in
     let h = prompts_are_removed.0 kept in
-    let long : length kept ≡ length (concat h.prompts) + length (without_prompts kept) = ap length h.joined ∙ length-append (concat h.prompts) (without_prompts kept) in
+    let long : length kept ≡ length (concat h.prompts) + length (without_prompts kept) =
+    ap length h.joined ∙ length-append (concat h.prompts) (without_prompts kept) in
     omega (arith, long, length-take kept_limit (strip_carriage_return part))
 
 -- no line is longer than the limit
@@ -293,4 +312,5 @@ lines_fit s =
     let Fits : ReadLine → Type 0 = λ l. length l.bytes ≤ kept_limit in
     let parts = finished (plain s) in
     All-same Fits (lines_of s) (map line_of parts) (lines_of-is s)
-    (All-map Fits line_of parts (All-from_get_or (λ part. Fits (line_of part)) parts [] (λ i _. line_fits (get_or parts i []))))
+    (All-map Fits line_of parts
+    (All-from_get_or (λ part. Fits (line_of part)) parts [] (λ i _. line_fits (get_or parts i []))))

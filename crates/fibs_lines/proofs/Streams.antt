@@ -54,19 +54,29 @@ telnet_of-along (b ∷ c ∷ d ∷ s) =
     let here = telnet_of-along s in
     let one = telnet_of-along (d ∷ s) in
     let two = telnet_of-along (c ∷ d ∷ s) in
-    elim (eqb b 255) as (λ v. cond v (cond (eqb c 255) (telnet_of (d ∷ s)) (cond (takes_option c) (telnet_of s) (telnet_of (d ∷ s)))) (telnet_of (c ∷ d ∷ s)) ≡ telnet_along (cond v Command Data) (c ∷ d ∷ s)) [
-      | true ↦ elim (eqb c 255) as (λ v. cond v (telnet_of (d ∷ s)) (cond (takes_option c) (telnet_of s) (telnet_of (d ∷ s))) ≡ telnet_along (cond v Data (cond (takes_option c) Negotiation Data)) (d ∷ s)) [
-        | true ↦ one
-        | false ↦ elim (takes_option c) as (λ v. cond v (telnet_of s) (telnet_of (d ∷ s)) ≡ telnet_along (cond v Negotiation Data) (d ∷ s)) [ true ↦ here | false ↦ one ]
-      ]
+    elim (eqb b 255) as
+    (λ v. cond v (cond (eqb c 255) (telnet_of (d ∷ s)) (cond (takes_option c) (telnet_of s) (telnet_of (d ∷ s))))
+    (telnet_of (c ∷ d ∷ s)) ≡ telnet_along (cond v Command Data) (c ∷ d ∷ s)) [
+      | true ↦
+          elim (eqb c 255) as
+          (λ v. cond v (telnet_of (d ∷ s)) (cond (takes_option c) (telnet_of s) (telnet_of (d ∷ s))) ≡ telnet_along
+          (cond v Data (cond (takes_option c) Negotiation Data)) (d ∷ s)) [
+            | true ↦ one
+            | false ↦
+                elim (takes_option c) as
+                (λ v. cond v (telnet_of s) (telnet_of (d ∷ s)) ≡ telnet_along (cond v Negotiation Data) (d ∷ s))
+                [ true ↦ here | false ↦ one ]
+          ]
       | false ↦ two
     ]
 
 -- the data of two lists in a row
-data_along-append : (t : Telnet) (s u : List ℕ) → data_along t (s ++ u) ≡ data_along t s ++ data_along (telnet_along t s) u
+data_along-append : (t : Telnet) (s u : List ℕ)
+    → data_along t (s ++ u) ≡ data_along t s ++ data_along (telnet_along t s) u
 data_along-append t [] u = refl
 data_along-append t (b ∷ s) u =
-    ap (λ l. data_of t b ++ l) (data_along-append (telnet_after t b) s u) ∙ sym (append_assoc (data_of t b) (data_along (telnet_after t b) s) (data_along (telnet_along t (b ∷ s)) u))
+    ap (λ l. data_of t b ++ l) (data_along-append (telnet_after t b) s u)
+    ∙ sym (append_assoc (data_of t b) (data_along (telnet_after t b) s) (data_along (telnet_along t (b ∷ s)) u))
 
 -- how far a command has come after two lists in a row
 telnet_along-append : (t : Telnet) (s u : List ℕ) → telnet_along t (s ++ u) ≡ telnet_along (telnet_along t s) u
@@ -112,7 +122,8 @@ after_end-append_end [] = refl
 after_end-append_end (x ∷ p) = let ih = after_end-append_end p in let e = has_end-append p (10 ∷ []) in grind arith
 
 -- the closed parts when a line end comes, with one byte more in front
-finished-append_end_step : (x : ℕ) (p : List ℕ) (b : Bool) → has_end p ≡ b → finished (p ++ 10 ∷ []) ≡ finished p ++ after_end p ∷ []
+finished-append_end_step : (x : ℕ) (p : List ℕ) (b : Bool) → has_end p ≡ b
+    → finished (p ++ 10 ∷ []) ≡ finished p ++ after_end p ∷ []
     → finished (x ∷ p ++ 10 ∷ []) ≡ finished (x ∷ p) ++ after_end (x ∷ p) ∷ []
 unfolding finished after_end
 finished-append_end_step x p true h ih =
@@ -133,17 +144,21 @@ finished-append_end [] = refl
 finished-append_end (x ∷ p) = finished-append_end_step x p (has_end p) refl (finished-append_end p)
 
 -- data that goes on without a line end
-pub lines_of_more : (s u q : List ℕ) → plain (s ++ u) ≡ plain s ++ q → has_end q ≡ false → lines_of (s ++ u) ≡ lines_of s
+pub lines_of_more : (s u q : List ℕ) → plain (s ++ u) ≡ plain s ++ q → has_end q ≡ false
+    → lines_of (s ++ u) ≡ lines_of s
 lines_of_more s u q e h =
-    lines_of-is (s ++ u) ∙ ap (λ p. map line_of (finished p)) e ∙ ap (map line_of) (finished-append_none (plain s) q h) ∙ sym (lines_of-is s)
+    lines_of-is (s ++ u) ∙ ap (λ p. map line_of (finished p)) e ∙ ap (map line_of) (finished-append_none (plain s) q h)
+    ∙ sym (lines_of-is s)
 
 -- the rest then grows by that data
-pub rest_of_more : (s u q : List ℕ) → plain (s ++ u) ≡ plain s ++ q → has_end q ≡ false → rest_of (s ++ u) ≡ rest_of s ++ q
+pub rest_of_more : (s u q : List ℕ) → plain (s ++ u) ≡ plain s ++ q → has_end q ≡ false
+    → rest_of (s ++ u) ≡ rest_of s ++ q
 rest_of_more s u q e h =
     rest_of-is (s ++ u) ∙ ap after_end e ∙ after_end-append_none (plain s) q h ∙ ap (λ r. r ++ q) (sym (rest_of-is s))
 
 -- a line end
-pub lines_of_end : (s u : List ℕ) → plain (s ++ u) ≡ plain s ++ 10 ∷ [] → lines_of (s ++ u) ≡ lines_of s ++ line_of (rest_of s) ∷ []
+pub lines_of_end : (s u : List ℕ) → plain (s ++ u) ≡ plain s ++ 10 ∷ []
+    → lines_of (s ++ u) ≡ lines_of s ++ line_of (rest_of s) ∷ []
 lines_of_end s u e =
     lines_of-is (s ++ u) ∙ ap (λ p. map line_of (finished p)) e ∙ ap (map line_of) (finished-append_end (plain s))
     ∙ map-append line_of (finished (plain s)) (after_end (plain s) ∷ [])
@@ -160,12 +175,16 @@ unfolding finished
 finished_grows [] q = (finished q, refl)
 finished_grows (x ∷ p) q =
     let more = finished_grows p q in
-    elim (eqb x 10) as (λ v. (ps : List (List ℕ)) × (cond v ([] ∷ finished (p ++ q)) (onto_each_first x (finished (p ++ q))) ≡ cond v ([] ∷ finished p) (onto_each_first x (finished p)) ++ ps)) [
+    elim (eqb x 10) as
+    (λ v. (ps : List (List ℕ))
+    × (cond v ([] ∷ finished (p ++ q)) (onto_each_first x (finished (p ++ q))) ≡ cond v ([] ∷ finished p)
+    (onto_each_first x (finished p)) ++ ps)) [
       | true ↦ (more.0, ap (λ l. [] ∷ l) more.1)
       | false ↦ onto (finished p) more.0 (finished (p ++ q)) more.1
     ]
   where
-    onto : (ps qs all : List (List ℕ)) → all ≡ ps ++ qs → (rs : List (List ℕ)) × (onto_each_first x all ≡ onto_each_first x ps ++ rs)
+    onto : (ps qs all : List (List ℕ)) → all ≡ ps ++ qs → (rs : List (List ℕ))
+        × (onto_each_first x all ≡ onto_each_first x ps ++ rs)
     onto [] qs all e = (onto_each_first x all, refl)
     onto (r ∷ ps) qs all e = (qs, ap (onto_each_first x) e)
 
@@ -179,14 +198,21 @@ lines_of_grow s u =
     )
 
 -- where a longer front of more gives no line, a shorter one gives none
-pub lines_of_before : (s piece : List ℕ) (n k : ℕ) → n ≤ k → lines_of (s ++ take k piece) ≡ lines_of s → lines_of (s ++ take n piece) ≡ lines_of s
+pub lines_of_before : (s piece : List ℕ) (n k : ℕ) → n ≤ k → lines_of (s ++ take k piece) ≡ lines_of s
+    → lines_of (s ++ take n piece) ≡ lines_of s
 lines_of_before s piece n k h e =
     let front = lines_of_grow s (take n piece) in
     let whole = lines_of_grow (s ++ take n piece) (take (k - n) (drop n piece)) in
-    let split : take k piece ≡ take n piece ++ take (k - n) (drop n piece) = ap (λ m. take m piece) {x = k} {y = n + (k - n)} (omega arith) ∙ take-add n (k - n) piece in
-    let joined : s ++ take k piece ≡ s ++ take n piece ++ take (k - n) (drop n piece) = ap (λ l. s ++ l) split ∙ sym (append_assoc s (take n piece) (take (k - n) (drop n piece))) in
-    let all : (lines_of s ++ front.0) ++ whole.0 ≡ lines_of s = ap (λ l. l ++ whole.0) (sym front.1) ∙ sym whole.1 ∙ ap lines_of (sym joined) ∙ e in
-    let none : front.0 ≡ [] = nil_from_length front.0 (omega (arith, ap length all, length-append (lines_of s ++ front.0) whole.0, length-append (lines_of s) front.0)) in
+    let split : take k piece ≡ take n piece ++ take (k - n) (drop n piece) =
+    ap (λ m. take m piece) {x = k} {y = n + (k - n)} (omega arith) ∙ take-add n (k - n) piece in
+    let joined : s ++ take k piece ≡ s ++ take n piece ++ take (k - n) (drop n piece) =
+    ap (λ l. s ++ l) split ∙ sym (append_assoc s (take n piece) (take (k - n) (drop n piece))) in
+    let all : (lines_of s ++ front.0) ++ whole.0 ≡ lines_of s =
+    ap (λ l. l ++ whole.0) (sym front.1) ∙ sym whole.1 ∙ ap lines_of (sym joined) ∙ e in
+    let none : front.0 ≡ [] =
+    nil_from_length front.0
+    (omega
+    (arith, ap length all, length-append (lines_of s ++ front.0) whole.0, length-append (lines_of s) front.0)) in
     front.1 ∙ ap (λ l. lines_of s ++ l) none ∙ append-nil (lines_of s)
 
 -- an empty stream has no line

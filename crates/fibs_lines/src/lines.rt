@@ -98,8 +98,7 @@ impl Lines {
     /// The line that the last call of `feed` lent, if it lent one: none after `new` and `reset`.
     ///
     /// A caller that changes something of its own at a line, and lends the line on, takes `used` from `feed` and the
-    /// line
-    /// from here.
+    /// line from here.
     pub fn line(&self) -> Option<Line<'_>>
         ensures { line_value result ≡ self.now.line }
     {
@@ -111,8 +110,7 @@ impl Lines {
     }
 
     /// Forgets the unfinished line, the unfinished telnet command and the line that was lent: the next byte is the
-    /// first
-    /// of a new stream.
+    /// first of a new stream.
     pub fn reset(&mut self)
         ensures stands { StandsAfter self.new [] }
         ensures no_line { self.new.line ≡ None }
@@ -122,8 +120,7 @@ impl Lines {
     }
 
     /// How many bytes stand after the last line end, without telnet commands and up to `LIMIT`. It is 0 after a line
-    /// was
-    /// lent.
+    /// was lent.
     ///
     /// Prompts are counted, and so is a CR at the end, since they are bytes of the line until it ends.
     pub fn held(&self) -> usize

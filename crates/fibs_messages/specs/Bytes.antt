@@ -23,5 +23,5 @@ abbrev pub name_of : StoredName → List ℕ
 name_of n = take n.len n.bytes
 
 -- the fields of a board whose names are stored
-abbrev pub parts_of : StoredName → StoredName → List ℤ → BoardFields
-parts_of player opponent numbers = record { player = name_of player; opponent = name_of opponent; numbers = numbers }
+abbrev pub parts : StoredName → StoredName → List ℤ → BoardFields
+parts player opponent numbers = record { player = name_of player; opponent = name_of opponent; numbers = numbers }

@@ -1,14 +1,15 @@
 -- The fields of a message as they are printed, as values. No public contract rests on it.
 use Rattle.std.specs.Prelude.{List, map}
 use Rattle.fibs_messages.specs.declared.messages.print.Field.{Field}
-use Rattle.fibs_messages.specs.declared.messages.print.Field.TheVariants.{Name, Word, Flag, Number, Rating, Text}
-use Rattle.fibs_messages.specs.Field.{FieldValue, NameField, WordField, FlagField, NumberField, RatingField, TextField}
-use Rattle.fibs_messages.specs.Bytes.{name_bytes}
-use Rattle.fibs_messages.specs.Bytes.{word_bytes}
+use Rattle.fibs_messages.specs.declared.messages.print.Field.TheVariants.{Name, Word, Tail, Flag, Number, Rating, Text}
+use Rattle.fibs_messages.specs.Field.{FieldValue, NameField, WordField, TailField, FlagField, NumberField, RatingField}
+use Rattle.fibs_messages.specs.Field.{TextField}
+use Rattle.fibs_messages.specs.Bytes.{name_bytes, word_bytes, tail_bytes}
 
 abbrev pub value_of : Field → FieldValue
 value_of (Name name) = NameField (name_bytes name)
 value_of (Word word) = WordField (word_bytes word)
+value_of (Tail tail) = TailField (tail_bytes tail)
 value_of (Flag flag) = FlagField flag
 value_of (Number number) = NumberField number
 value_of (Rating rating) = RatingField rating

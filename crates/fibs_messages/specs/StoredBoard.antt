@@ -1,13 +1,13 @@
 -- Boards as values.
 use Rattle.std.specs.Prelude.{Result, Ok, Err}
-use Rattle.fibs_messages.specs.Bytes.{parts_of}
+use Rattle.fibs_messages.specs.Bytes.{parts}
 use Rattle.fibs_messages.specs.Board.{BoardFields}
 use Rattle.fibs_messages.specs.declared.boards.board.Board.{Board}
 use Rattle.fibs_messages.specs.declared.fields.fault.FieldFault.{FieldFault}
 
 -- the 53 fields of a board
 abbrev pub fields_of : Board → BoardFields
-fields_of b = parts_of b.player b.opponent b.numbers
+fields_of b = parts b.player b.opponent b.numbers
 
 -- what reading a board answered
 abbrev pub read_fields : Result Board FieldFault → Result BoardFields FieldFault

@@ -257,13 +257,11 @@ fn by_table(board: &Board, decision: &Decision, dice: [u8; 2]) -> Option<Board>
 ///   his, the opponent's are taken away.
 /// - Double, where the player has the turn, no double to answer and no dice: the turn goes to the opponent.
 /// - Accept, where the game is not over, the opponent has doubled, and the cube is at most 524,288: the cube doubles,
-/// the
-///   player alone may double next, and the turn goes to the opponent.
+///   the player alone may double next, and the turn goes to the opponent.
 /// - Reject, where the game is not over, and the opponent has doubled: the game is over.
 /// - Move, where the player has the turn, no double to answer and a die, and at each step in order a checker at its
 ///   source and no two opponents at its target: the checkers stand as moved and hit, those off are counted, the dice
-/// are
-///   taken away, and the turn goes to the opponent, or the game is over with all fifteen off.
+///   are taken away, and the turn goes to the opponent, or the game is over with all fifteen off.
 ///
 /// Fields that are not named stay. Of a move nothing else is asked: not the dice's lengths, the bar, bearing off, or
 /// the fullest use of the dice.

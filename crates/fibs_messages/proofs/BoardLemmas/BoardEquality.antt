@@ -24,16 +24,25 @@ taken_same x y m n e i = take (e.1 i) (e.0 i)
 
 -- what `==` answers of stored names
 name_decides : (m n : StoredName) → Decides (bytes_eq m.bytes n.bytes && (m.len == n.len)) (name_of m ≡ name_of n)
-name_decides m n = Decides-like (bytes_eq m.bytes n.bytes && (m.len == n.len)) (taken_same m.bytes n.bytes m.len n.len) (stored_same m.bytes n.bytes m.len n.len m.stored n.stored)
-    (Decides-and (bytes_eq m.bytes n.bytes) (m.len == n.len) (bytes_eq-Decides m.bytes n.bytes) (Decides-eqb m.len n.len))
+name_decides m n =
+    Decides-like (bytes_eq m.bytes n.bytes && (m.len == n.len)) (taken_same m.bytes n.bytes m.len n.len)
+    (stored_same m.bytes n.bytes m.len n.len m.stored n.stored)
+    (Decides-and (bytes_eq m.bytes n.bytes) (m.len == n.len) (bytes_eq-Decides m.bytes n.bytes)
+    (Decides-eqb m.len n.len))
 
 -- boards with the same parts have the same fields
-fields_same : (a b : Board) → (name_of a.player ≡ name_of b.player) × ((name_of a.opponent ≡ name_of b.opponent) × (a.numbers ≡ b.numbers)) → fields_of a ≡ fields_of b
+fields_same : (a b : Board)
+    → (name_of a.player ≡ name_of b.player) × ((name_of a.opponent ≡ name_of b.opponent) × (a.numbers ≡ b.numbers))
+    → fields_of a ≡ fields_of b
 fields_same a b e i = record { player = e.0 i; opponent = e.1.0 i; numbers = e.1.1 i }
 
 -- and the other way round
-parts_same : (a b : Board) → fields_of a ≡ fields_of b → (name_of a.player ≡ name_of b.player) × ((name_of a.opponent ≡ name_of b.opponent) × (a.numbers ≡ b.numbers))
-parts_same a b e = (ap (λ (f : BoardFields). f.player) e, (ap (λ (f : BoardFields). f.opponent) e, ap (λ (f : BoardFields). f.numbers) e))
+parts_same : (a b : Board) → fields_of a ≡ fields_of b
+    → (name_of a.player ≡ name_of b.player) × ((name_of a.opponent ≡ name_of b.opponent) × (a.numbers ≡ b.numbers))
+parts_same a b e = (
+  ap (λ (f : BoardFields). f.player) e,
+  (ap (λ (f : BoardFields). f.opponent) e, ap (λ (f : BoardFields). f.numbers) e),
+)
 
 -- what `==` answers of two boards
 pub boards_decide : (a b : Board) → Decides (board_eq.it a b) (fields_of a ≡ fields_of b)
@@ -42,5 +51,6 @@ boards_decide a b =
     let opponent = bytes_eq a.opponent.bytes b.opponent.bytes && (a.opponent.len == b.opponent.len) in
     let numbers = pointwise int_eq a.numbers b.numbers in
     let each = Decides-and player (opponent && numbers) (name_decides a.player b.player)
-    (Decides-and opponent numbers (name_decides a.opponent b.opponent) (slice_eq-Decides Decides-int_eq a.numbers b.numbers numbers refl)) in
+    (Decides-and opponent numbers (name_decides a.opponent b.opponent)
+    (slice_eq-Decides Decides-int_eq a.numbers b.numbers numbers refl)) in
     Decides-like (player && (opponent && numbers)) (fields_same a b) (parts_same a b) each

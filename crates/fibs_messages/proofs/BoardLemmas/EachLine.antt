@@ -35,8 +35,10 @@ record IsEnd (line : List ℕ) : Type 0 where
   before : 0 < place → (get_or line (place - 1) 0 == 32) ≡ false
 
 -- each line has such a place
-end_from : (line : List ℕ) (n : ℕ) → n ≤ length line → ((k : ℕ) → n ≤ k → k < length line → (get_or line k 0 == 32) ≡ true) → IsEnd line
-end_from line zero within after = record { place = 0; within = within; after = after; before = λ some. absurd (omega arith) }
+end_from : (line : List ℕ) (n : ℕ) → n ≤ length line
+    → ((k : ℕ) → n ≤ k → k < length line → (get_or line k 0 == 32) ≡ true) → IsEnd line
+end_from line zero within after =
+    record { place = 0; within = within; after = after; before = λ some. absurd (omega arith) }
 end_from line (suc n) within after = ⊎_elim
     (λ (space : (get_or line n 0 == 32) ≡ true). end_from line n (omega arith) (λ k low high. ⊎_elim
     (λ (more : suc n ≤ k). after k more high)
@@ -44,7 +46,13 @@ end_from line (suc n) within after = ⊎_elim
     (at_least n k low)))
     (λ (other : (get_or line n 0 == 32) ≡ false).
     let there : suc n - 1 ≡ n = omega arith in
-    record { place = suc n; within = within; after = after; before = λ some. ap (λ j. get_or line j 0 == 32) there ∙ other })
+    record {
+      place = suc n;
+      within = within;
+      after = after;
+      before = λ some. ap (λ j. get_or line j 0 == 32) there
+          ∙ other;
+    })
     (cases_Bool (get_or line n 0 == 32))
   where
     at_least : (n k : ℕ) → n ≤ k → (suc n ≤ k) ⊎ (n ≡ k)
@@ -54,11 +62,15 @@ end_from line (suc n) within after = ⊎_elim
 pub spaces_after : (line : List ℕ) → (n : ℕ) × (line ≡ without_spaces line ++ replicate n 32)
 spaces_after line =
     let end = end_from line (length line) (omega arith) (λ k low high. absurd (omega arith)) in
-    let text = without_spaces_at line end.place end.within end.after end.before in
-    (length line - end.place, spaces_at line end.place end.within end.after ∙ ap (λ l. l ++ replicate (length line - end.place) 32) (sym text))
+    let text = without_spaces_at line end.place end.within end.after end.before in (
+      length line - end.place,
+      spaces_at line end.place end.within end.after
+          ∙ ap (λ l. l ++ replicate (length line - end.place) 32) (sym text),
+    )
 
 -- no fault in all is none here and none later
-no_fault : (n : ℕ) (o : Option Fault) (later : Option FieldFault) → fault_or n o later ≡ None → (o ≡ None) × (later ≡ None)
+no_fault : (n : ℕ) (o : Option Fault) (later : Option FieldFault) → fault_or n o later ≡ None
+    → (o ≡ None) × (later ≡ None)
 no_fault n None later h = (refl, h)
 no_fault n (Some f) later h = absurd (some_none (record { field = n; fault = f }) h)
 
@@ -79,7 +91,8 @@ record AreNumbers (vs : List Values) (ps : List (List ℕ)) : Type 0 where
   spelled : ps ≡ map signed_decimal zs
 
 -- pieces without a fault are such
-numbers_from : (n : ℕ) (vs : List Values) (ps : List (List ℕ)) → All IsNarrow vs → first_fault n (map a_number_of vs) ps ≡ None → AreNumbers vs ps
+numbers_from : (n : ℕ) (vs : List Values) (ps : List (List ℕ)) → All IsNarrow vs
+    → first_fault n (map a_number_of vs) ps ≡ None → AreNumbers vs ps
 numbers_from n [] [] narrow h = record { zs = []; fit = tt; spelled = refl }
 numbers_from n [] (p ∷ ps) narrow h = absurd (some_none _ h)
 numbers_from n (v ∷ vs) [] narrow h = absurd (some_none _ h)
@@ -110,7 +123,8 @@ fields_from (w ∷ p ∷ o ∷ ps) h =
     let player = no_fault 2 _ _ word.1 in
     let opponent = no_fault 3 _ _ player.1 in
     let rest = numbers_from 4 field_values ps all_narrow opponent.1 in
-    let first : w ≡ codes "board" = (bytes_eq-Decides w (codes "board")).0 (good_unless (bytes_eq w (codes "board")) word.0) in
+    let first : w ≡ codes "board" =
+    (bytes_eq-Decides w (codes "board")).0 (good_unless (bytes_eq w (codes "board")) word.0) in
     let numbers : ps ≡ map signed_decimal rest.zs = rest.spelled in
     record {
       board = record { player = p; opponent = o; numbers = rest.zs };
@@ -119,7 +133,8 @@ fields_from (w ∷ p ∷ o ∷ ps) h =
     }
 
 -- by the first fault that was found, or none
-by_first_fault : (line : List ℕ) (found : Option FieldFault) → first_fault 1 kinds (pieces (without_spaces line)) ≡ found
+by_first_fault : (line : List ℕ) (found : Option FieldFault)
+    → first_fault 1 kinds (pieces (without_spaces line)) ≡ found
     → ((b : BoardFields) × BoardText b line) ⊎ ((k : ℕ) × (f : Fault) × Wrong line k f)
 by_first_fault line None h =
     let fields = fields_from (pieces (without_spaces line)) h in

@@ -30,7 +30,8 @@ can_have_high n z high =
     rw (test, none) refl
 
 -- a field may have what its entry allows
-pub can_have_at : (n : ℕ) (z : ℤ) (values : Values) → 4 ≤ n → slice_get field_values (n - 4) ≡ Some values → can_have n z ≡ allows values z
+pub can_have_at : (n : ℕ) (z : ℤ) (values : Values) → 4 ≤ n → slice_get field_values (n - 4) ≡ Some values
+    → can_have n z ≡ allows values z
 can_have_at n z values low here =
     let test : nat_le 4 n ≡ true = grind (arith, nat_tests) in
     rw (test, here) refl
@@ -52,12 +53,15 @@ after_drop : (k : ℕ) (xs : List Values) (i : ℕ) → k ≤ i → slice_get xs
 after_drop zero xs i low = ap (slice_get xs) (omega arith)
 after_drop (suc k) [] i low = refl
 after_drop (suc k) (x ∷ xs) zero low = absurd (omega arith)
-after_drop (suc k) (x ∷ xs) (suc i) low = let e : suc i - suc k ≡ i - k = omega arith in rw e (after_drop k xs i (omega arith))
+after_drop (suc k) (x ∷ xs) (suc i) low =
+    let e : suc i - suc k ≡ i - k = omega arith in rw e (after_drop k xs i (omega arith))
 
 -- the fields of a group that begins at field 4 + k have the group's values
-in_group : (k count : ℕ) (x : Values) (ys : List Values) → drop k field_values ≡ replicate count x ++ ys → (n : ℕ) → k + 4 ≤ n → n < k + 4 + count → slice_get field_values (n - 4) ≡ Some x
+in_group : (k count : ℕ) (x : Values) (ys : List Values) → drop k field_values ≡ replicate count x ++ ys → (n : ℕ)
+    → k + 4 ≤ n → n < k + 4 + count → slice_get field_values (n - 4) ≡ Some x
 in_group k count x ys group n low high =
-    after_drop k field_values (n - 4) (omega arith) ∙ ap (λ l. slice_get l (n - 4 - k)) group ∙ from_front count x ys (n - 4 - k) (omega arith)
+    after_drop k field_values (n - 4) (omega arith) ∙ ap (λ l. slice_get l (n - 4 - k)) group
+    ∙ from_front count x ys (n - 4 - k) (omega arith)
 
 -- the entries of the places
 place_values : (n : ℕ) → 7 ≤ n → n ≤ 32 → slice_get field_values (n - 4) ≡ Some place
@@ -77,7 +81,8 @@ dice_values n low high = in_group 30 4 (Between (pos 0) (pos 6)) (drop 34 field_
 -- of the cube
 cube_values : (n : ℕ) → n ≡ 38 → slice_get field_values (n - 4) ≡ Some (Between (pos 1) (pos 1048576))
 unfolding field_values
-cube_values n is = in_group 34 1 (Between (pos 1) (pos 1048576)) (drop 35 field_values) refl n (omega arith) (omega arith)
+cube_values n is =
+    in_group 34 1 (Between (pos 1) (pos 1048576)) (drop 35 field_values) refl n (omega arith) (omega arith)
 
 -- of the flags
 flag_values : (n : ℕ) → 39 ≤ n → n ≤ 41 → slice_get field_values (n - 4) ≡ Some flag
@@ -97,27 +102,32 @@ off_values n low high = in_group 42 2 checkers (drop 44 field_values) refl n low
 -- a range allows just its numbers
 pub between_exact : (low high z : ℤ) → (allows (Between low high) z ≡ true) ↔ ((low ≤ℤ z) × (z ≤ℤ high))
 between_exact low high z = (
-  (λ h. let parts = and_parts (int_le low z) (int_le z high) h in (grind (arith, ints, parts.0), grind (arith, ints, parts.1))),
+  (λ h. let parts = and_parts (int_le low z) (int_le z high) h in
+      (grind (arith, ints, parts.0), grind (arith, ints, parts.1))),
   (λ h. and_from (int_le low z) (int_le z high) (grind (arith, ints, h.0)) (grind (arith, ints, h.1))),
 )
 
 -- two numbers allow just these
 pub either_exact : (one other z : ℤ) → (allows (Either one other) z ≡ true) ↔ ((z ≡ one) ⊎ (z ≡ other))
 either_exact one other z = (
-  (λ h. ⊎_elim (λ (is : int_eq z one ≡ true). inl (grind (arith, nat_tests))) (λ (is : int_eq z other ≡ true). inr (grind (arith, nat_tests))) (or_cases (int_eq z one) (int_eq z other) h)),
+  (λ h. ⊎_elim (λ (is : int_eq z one ≡ true). inl (grind (arith, nat_tests)))
+      (λ (is : int_eq z other ≡ true). inr (grind (arith, nat_tests))) (or_cases (int_eq z one) (int_eq z other) h)),
   (λ h. ⊎_elim (λ (is : z ≡ one). let e : int_eq z one ≡ true = grind (arith, nat_tests) in rw e refl)
-      (λ (is : z ≡ other). let e : int_eq z other ≡ true = grind (arith, nat_tests) in rw (e, or-true (int_eq z one)) refl) h),
+      (λ (is : z ≡ other). let e : int_eq z other ≡ true = grind (arith, nat_tests) in
+      rw (e, or-true (int_eq z one)) refl) h),
 )
 
 -- a field whose entry is a range
-between_at : (n : ℕ) (z low high : ℤ) → 4 ≤ n → slice_get field_values (n - 4) ≡ Some (Between low high) → Exactly n z ((low ≤ℤ z) × (z ≤ℤ high))
+between_at : (n : ℕ) (z low high : ℤ) → 4 ≤ n → slice_get field_values (n - 4) ≡ Some (Between low high)
+    → Exactly n z ((low ≤ℤ z) × (z ≤ℤ high))
 between_at n z low high from here =
     let same = can_have_at n z (Between low high) from here in
     let exact = between_exact low high z in
     ((λ h. exact.0 (sym same ∙ h)), (λ h. same ∙ exact.1 h))
 
 -- a field whose entry is two numbers
-either_at : (n : ℕ) (z one other : ℤ) → 4 ≤ n → slice_get field_values (n - 4) ≡ Some (Either one other) → Exactly n z ((z ≡ one) ⊎ (z ≡ other))
+either_at : (n : ℕ) (z one other : ℤ) → 4 ≤ n → slice_get field_values (n - 4) ≡ Some (Either one other)
+    → Exactly n z ((z ≡ one) ⊎ (z ≡ other))
 either_at n z one other from here =
     let same = can_have_at n z (Either one other) from here in
     let exact = either_exact one other z in
@@ -152,7 +162,8 @@ pub off_exact : (n : ℕ) (z : ℤ) → 46 ≤ n → n ≤ 47 → Exactly n z ((
 off_exact n z low high = between_at n z (pos 0) (pos 15) (omega arith) (off_values n low high)
 
 -- what a test of a number of 32 bits answered, against the same fact
-pub by_answer : (n : ℕ) (z : ℤ) (b : Bool) (P : Type 0) → FitsSigned w32 z → b ≡ can_have n (cast_signed w32 (cast_unsigned w32 z)) → Exactly n z P → (b ≡ true) ↔ P
+pub by_answer : (n : ℕ) (z : ℤ) (b : Bool) (P : Type 0) → FitsSigned w32 z
+    → b ≡ can_have n (cast_signed w32 (cast_unsigned w32 z)) → Exactly n z P → (b ≡ true) ↔ P
 by_answer n z b P fits answer exact =
     let same : b ≡ can_have n z = answer ∙ ap (can_have n) (to_z-of_z w32 z fits) in
     ((λ h. exact.0 (sym same ∙ h)), (λ h. same ∙ exact.1 h))

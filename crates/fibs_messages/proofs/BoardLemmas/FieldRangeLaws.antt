@@ -11,12 +11,18 @@ use Rattle.fibs_messages.proofs.BoardLemmas.FieldTable.{table_long}
 
 -- a board's fields have numbers that they may have
 field_held : (b : BoardFields) (n : ℕ) → IsBoard b → 4 ≤ n → n ≤ 53 → can_have n (field_of b n) ≡ true
-field_held b n board low high = can_have_by n (field_of b n) low (fit_at field_values b.numbers (n - 4) (pos 0) board.2 (omega (arith, table_long)))
+field_held b n board low high =
+    can_have_by n (field_of b n) low (fit_at field_values b.numbers (n - 4) (pos 0) board.2 (omega (arith, table_long)))
 
 -- a board stays one where a field gets a number that it may have
-field_set : (b : BoardFields) (n : ℕ) (z : ℤ) → IsBoard b → can_have n z ≡ true → IsBoard (record b { numbers = slice_set b.numbers (n - 4) z })
-field_set b n z board may =
-    (board.0, board.1, fit_set field_values b.numbers (n - 4) z board.2 (and_parts (nat_le 4 n) (allowed_by (slice_get field_values (n - 4)) z) may).1)
+field_set : (b : BoardFields) (n : ℕ) (z : ℤ) → IsBoard b → can_have n z ≡ true
+    → IsBoard (record b { numbers = slice_set b.numbers (n - 4) z })
+field_set b n z board may = (
+  board.0,
+  board.1,
+  fit_set field_values b.numbers (n - 4) z board.2
+      (and_parts (nat_le 4 n) (allowed_by (slice_get field_values (n - 4)) z) may).1,
+)
 
 -- the ranges, and what they mean for all boards
 pub field_ranges : FieldRanges

@@ -18,13 +18,17 @@ is_narrow (Either one other) = nat_lt (mag one) (2 ^ 31) && nat_lt (mag other) (
 -- the test tells
 narrow_from : (values : Values) → is_narrow values ≡ true → IsNarrow values
 unfolding is_narrow
-narrow_from (Between low high) h = (record { sfits = grind (arith, nat_tests) }, record { sfits = grind (arith, nat_tests) })
-narrow_from (Either one other) h = (record { sfits = grind (arith, nat_tests) }, record { sfits = grind (arith, nat_tests) })
+narrow_from (Between low high) h =
+    (record { sfits = grind (arith, nat_tests) }, record { sfits = grind (arith, nat_tests) })
+narrow_from (Either one other) h =
+    (record { sfits = grind (arith, nat_tests) }, record { sfits = grind (arith, nat_tests) })
 
 -- each entry of the table passes it
 pub all_narrow : All IsNarrow field_values
 unfolding is_narrow field_values
-all_narrow = All-weaker (λ values. is_narrow values ≡ true) IsNarrow narrow_from field_values (AllPass-from_list_all is_narrow field_values refl)
+all_narrow =
+    All-weaker (λ values. is_narrow values ≡ true) IsNarrow narrow_from field_values
+    (AllPass-from_list_all is_narrow field_values refl)
 
 -- the table has 50 entries
 pub table_long : length field_values ≡ 50

@@ -22,18 +22,28 @@ pub some_none : {A : Type 0} (x : A) → Some x ≡ None → ⊥
 some_none x h = cc
 
 -- a fault of a field, by its parts
-fault_in_field : (m n : ℕ) (f g : Fault) → m ≡ n → f ≡ g → ◌≡◌ {A = Option FieldFault} (Some (record { field = m; fault = f })) (Some (record { field = n; fault = g }))
+fault_in_field : (m n : ℕ) (f g : Fault) → m ≡ n → f ≡ g
+    → ◌≡◌ {A = Option FieldFault} (Some (record { field = m; fault = f })) (Some (record { field = n; fault = g }))
 fault_in_field m n f g p q i = Some (record { field = p i; fault = q i })
 
 -- the first field is wrong
-from_here : (n : ℕ) (ks : List Kind) (ps : List (List ℕ)) (f : Fault) (e : FieldFault) → fault_at ks ps 0 ≡ Some f → Some (record { field = n; fault = f }) ≡ Some e → IsLeast n ks ps e
+from_here : (n : ℕ) (ks : List Kind) (ps : List (List ℕ)) (f : Fault) (e : FieldFault) → fault_at ks ps 0 ≡ Some f
+    → Some (record { field = n; fault = f }) ≡ Some e → IsLeast n ks ps e
 from_here n ks ps f e here h =
-    let same : ◌≡◌ {A = FieldFault} (record { field = n; fault = f }) e = option_same (record { field = n; fault = f }) e h in
+    let same : ◌≡◌ {A = FieldFault} (record { field = n; fault = f }) e =
+    option_same (record { field = n; fault = f }) e h in
     let field : n ≡ e.field = ap (λ (x : FieldFault). x.field) same in
-    record { place = 0; field = omega arith; here = here ∙ ap (λ (x : FieldFault). Some x.fault) same; before = λ j below. absurd (omega arith) }
+    record {
+      place = 0;
+      field = omega arith;
+      here = here ∙ ap (λ (x : FieldFault). Some x.fault) same;
+      before =
+          λ j below. absurd (omega arith);
+    }
 
 -- a later one is, where the others are those of fewer texts
-from_later : (n : ℕ) (k : Kind) (ks : List Kind) (ps qs : List (List ℕ)) (e : FieldFault) → fault_at (k ∷ ks) ps 0 ≡ None
+from_later : (n : ℕ) (k : Kind) (ks : List Kind) (ps qs : List (List ℕ)) (e : FieldFault)
+    → fault_at (k ∷ ks) ps 0 ≡ None
     → ((j : ℕ) → fault_at (k ∷ ks) ps (suc j) ≡ fault_at ks qs j) → IsLeast (n + 1) ks qs e → IsLeast n (k ∷ ks) ps e
 from_later n k ks ps qs e good others rest =
     let field : e.field ≡ n + 1 + rest.place = rest.field in

@@ -21,7 +21,9 @@ use lib.Signed.{mag}
 
 -- at least as many as the digits of a number of at most ten
 abbrev pub digit_count : ℕ → ℕ
-digit_count n = cond (nat_lt n 10) 1 (cond (nat_lt n 100) 2 (cond (nat_lt n 10000) 4 (cond (nat_lt n 10000000) 7 (cond (nat_lt n 100000000) 8 10))))
+digit_count n =
+    cond (nat_lt n 10) 1
+    (cond (nat_lt n 100) 2 (cond (nat_lt n 10000) 4 (cond (nat_lt n 10000000) 7 (cond (nat_lt n 100000000) 8 10))))
 
 -- at least as many as the bytes of a number
 abbrev pub width : ℤ → ℕ
@@ -34,7 +36,8 @@ most_bytes (Between low high) = max (width low) (width high)
 most_bytes (Either one other) = max (width one) (width other)
 
 -- a length that is small for each small number
-by_count : (n k : ℕ) → (n < 10 → k ≤ 1) → (n < 100 → k ≤ 2) → (n < 10000 → k ≤ 4) → (n < 10000000 → k ≤ 7) → (n < 100000000 → k ≤ 8) → k ≤ 10 → k ≤ digit_count n
+by_count : (n k : ℕ) → (n < 10 → k ≤ 1) → (n < 100 → k ≤ 2) → (n < 10000 → k ≤ 4) → (n < 10000000 → k ≤ 7)
+    → (n < 100000000 → k ≤ 8) → k ≤ 10 → k ≤ digit_count n
 by_count n k one two four seven eight ten = grind (arith, nat_tests)
 
 -- a decimal is no longer
@@ -86,7 +89,8 @@ width-le (Either one other) z good =
     (or_cases (int_eq z one) (int_eq z other) good)
 
 -- nor is its text
-pub number_short : (values : Values) (z : ℤ) → IsNarrow values → allows values z ≡ true → length (signed_decimal z) ≤ most_bytes values
+pub number_short : (values : Values) (z : ℤ) → IsNarrow values → allows values z ≡ true
+    → length (signed_decimal z) ≤ most_bytes values
 number_short values z fits good =
     let narrow : FitsSigned w32 z = allowed_narrow values z fits good in
     omega (arith, signed_short z (omega (arith, narrow.sfits)), width-le values z good)
@@ -113,12 +117,14 @@ numbers_short (v ∷ vs) (z ∷ zs) narrow h =
     omega (arith, first, rest, length-append (58 ∷ signed_decimal z) (after_colons zs))
 
 -- a number and its colon fit beside what is before them
-pub room_before : (vs : List Values) (zs : List ℤ) (i : ℕ) (d : ℤ) → All IsNarrow vs → Fit vs zs → i < length zs → 1 + length (signed_decimal (get_or zs i d)) + total (take i vs) ≤ total (take (i + 1) vs)
+pub room_before : (vs : List Values) (zs : List ℤ) (i : ℕ) (d : ℤ) → All IsNarrow vs → Fit vs zs → i < length zs
+    → 1 + length (signed_decimal (get_or zs i d)) + total (take i vs) ≤ total (take (i + 1) vs)
 unfolding total
 room_before [] [] i d narrow h within = absurd (omega arith)
 room_before [] (z ∷ zs) i d narrow h within = absurd h
 room_before (v ∷ vs) [] i d narrow h within = absurd h
-room_before (v ∷ vs) (z ∷ zs) zero d narrow h within = omega (arith, number_short v z (All-head IsNarrow v vs narrow) h.0)
+room_before (v ∷ vs) (z ∷ zs) zero d narrow h within =
+    omega (arith, number_short v z (All-head IsNarrow v vs narrow) h.0)
 room_before (v ∷ vs) (z ∷ zs) (suc i) d narrow h within =
     let rest = rw (add-one) at (room_before vs zs i d (All-tail IsNarrow v vs narrow) h.1 (omega arith)) in
     rw (add-one) (omega (arith, rest))

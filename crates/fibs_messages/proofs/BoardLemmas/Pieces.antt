@@ -29,44 +29,60 @@ pub record IsFieldByte (c : ℕ) : Type 0 where
 -- a name has neither
 pub name_bytes : (name : List ℕ) → is_name name ≡ true → All IsFieldByte name
 name_bytes name h =
-    All-weaker (λ c. is_name_byte c ≡ true) IsFieldByte (λ c (each : is_name_byte c ≡ true). record { no_colon = grind (arith, nat_tests); no_space = grind (arith, nat_tests) })
-    name (AllPass-from_list_all is_name_byte name (and_parts (nat_lt 0 (length name) && nat_le (length name) 64) (list_all is_name_byte name) h).1)
+    All-weaker (λ c. is_name_byte c ≡ true) IsFieldByte
+    (λ c (each : is_name_byte c ≡ true). record
+    { no_colon = grind (arith, nat_tests); no_space = grind (arith, nat_tests) })
+    name
+    (AllPass-from_list_all is_name_byte name
+    (and_parts (nat_lt 0 (length name) && nat_le (length name) 64) (list_all is_name_byte name) h).1)
 
 -- nor have digits
 digit_bytes : (ds : List ℕ) → list_all is_ascii_digit ds ≡ true → All IsFieldByte ds
 digit_bytes ds h =
-    All-weaker (λ c. is_ascii_digit c ≡ true) IsFieldByte (λ c (each : is_ascii_digit c ≡ true). record { no_colon = grind (arith, nat_tests); no_space = grind (arith, nat_tests) })
+    All-weaker (λ c. is_ascii_digit c ≡ true) IsFieldByte
+    (λ c (each : is_ascii_digit c ≡ true). record
+    { no_colon = grind (arith, nat_tests); no_space = grind (arith, nat_tests) })
     ds (AllPass-from_list_all is_ascii_digit ds h)
 
 -- nor has a number
 pub number_bytes : (z : ℤ) → mag z < 2 ^ 63 → All IsFieldByte (signed_decimal z)
 number_bytes (pos n) limit = digit_bytes (decimal n) (digits_decimal own n (omega arith))
-number_bytes (negsuc n) limit = All-cons IsFieldByte 45 (decimal (suc n)) (record { no_colon = refl; no_space = refl }) (digit_bytes (decimal (suc n)) (digits_decimal own (suc n) (omega arith)))
+number_bytes (negsuc n) limit =
+    All-cons IsFieldByte 45 (decimal (suc n)) (record { no_colon = refl; no_space = refl })
+    (digit_bytes (decimal (suc n)) (digits_decimal own (suc n) (omega arith)))
 
 -- such a text has no colon
 pub no_colons : (text : List ℕ) → All IsFieldByte text → All (λ c. (c == 58) ≡ false) text
 no_colons = All-weaker IsFieldByte (λ c. (c == 58) ≡ false) (λ c h. h.no_colon)
 
 -- the pieces of fields that are joined by colons are the fields
-pub pieces-join : (x : List ℕ) (xs : List (List ℕ)) → All IsFieldByte x → AllByRecursion (All IsFieldByte) xs → pieces (join_with_byte 58 (x ∷ xs)) ≡ x ∷ xs
+pub pieces-join : (x : List ℕ) (xs : List (List ℕ)) → All IsFieldByte x → AllByRecursion (All IsFieldByte) xs
+    → pieces (join_with_byte 58 (x ∷ xs)) ≡ x ∷ xs
 pieces-join x [] h hs = slice_split_none (λ c. c == 58) x (no_colons x h)
-pieces-join x (y ∷ ys) h hs = slice_split_at (λ c. c == 58) x 58 (join_with_byte 58 (y ∷ ys)) (no_colons x h) refl ∙ ap (λ l. x ∷ l) (pieces-join y ys hs.0 hs.1)
+pieces-join x (y ∷ ys) h hs =
+    slice_split_at (λ c. c == 58) x 58 (join_with_byte 58 (y ∷ ys)) (no_colons x h) refl
+    ∙ ap (λ l. x ∷ l) (pieces-join y ys hs.0 hs.1)
 
 -- no space is among them
-pub join_no_space : (x : List ℕ) (xs : List (List ℕ)) → All IsFieldByte x → AllByRecursion (All IsFieldByte) xs → All (λ c. (c == 32) ≡ false) (join_with_byte 58 (x ∷ xs))
+pub join_no_space : (x : List ℕ) (xs : List (List ℕ)) → All IsFieldByte x → AllByRecursion (All IsFieldByte) xs
+    → All (λ c. (c == 32) ≡ false) (join_with_byte 58 (x ∷ xs))
 join_no_space x [] h hs = All-weaker IsFieldByte (λ c. (c == 32) ≡ false) (λ c each. each.no_space) x h
 join_no_space x (y ∷ ys) h hs =
-    All-append (λ c. (c == 32) ≡ false) x (58 ∷ join_with_byte 58 (y ∷ ys)) (All-weaker IsFieldByte (λ c. (c == 32) ≡ false) (λ c each. each.no_space) x h)
+    All-append (λ c. (c == 32) ≡ false) x (58 ∷ join_with_byte 58 (y ∷ ys))
+    (All-weaker IsFieldByte (λ c. (c == 32) ≡ false) (λ c each. each.no_space) x h)
     (All-cons (λ c. (c == 32) ≡ false) 58 (join_with_byte 58 (y ∷ ys)) refl (join_no_space y ys hs.0 hs.1))
 
 -- where the spaces at the end begin
-pub without_spaces_at : (line : List ℕ) (n : ℕ) → n ≤ length line → ((k : ℕ) → n ≤ k → k < length line → (get_or line k 0 == 32) ≡ true) → (0 < n → (get_or line (n - 1) 0 == 32) ≡ false) → without_spaces line ≡ take n line
+pub without_spaces_at : (line : List ℕ) (n : ℕ) → n ≤ length line
+    → ((k : ℕ) → n ≤ k → k < length line → (get_or line k 0 == 32) ≡ true)
+    → (0 < n → (get_or line (n - 1) 0 == 32) ≡ false) → without_spaces line ≡ take n line
 without_spaces_at line n within after before =
     let is = suffix_len_is (λ c. c == 32) line n 0 within after before in
     ap (λ m. take m line) (omega (arith, is))
 
 -- a text of spaces alone
-pub all_spaces : (xs : List ℕ) → ((k : ℕ) → k < length xs → (get_or xs k 0 == 32) ≡ true) → xs ≡ replicate (length xs) 32
+pub all_spaces : (xs : List ℕ) → ((k : ℕ) → k < length xs → (get_or xs k 0 == 32) ≡ true)
+    → xs ≡ replicate (length xs) 32
 all_spaces [] h = refl
 all_spaces (x ∷ xs) h =
     let first : x ≡ 32 = (let here : (x == 32) ≡ true = h 0 (omega arith) in grind (arith, nat_tests)) in
@@ -74,22 +90,29 @@ all_spaces (x ∷ xs) h =
     (λ i. first i ∷ rest i)
 
 -- what is before the spaces
-pub without_spaces-append : (text : List ℕ) (n : ℕ) → All (λ c. (c == 32) ≡ false) text → without_spaces (text ++ replicate n 32) ≡ text
+pub without_spaces-append : (text : List ℕ) (n : ℕ) → All (λ c. (c == 32) ≡ false) text
+    → without_spaces (text ++ replicate n 32) ≡ text
 without_spaces-append text n h =
     without_spaces_at (text ++ replicate n 32) (length text) (omega (arith, length-append text (replicate n 32)))
     (λ k after within.
-    let inside : k - length text < n = omega (arith, length-append text (replicate n 32), length-replicate {A = ℕ} n 32) in
-    ap (λ c. c == 32) (get_or-append_right text (replicate n 32) k 0 after ∙ get_or-replicate n (k - length text) 32 0 inside))
+    let inside : k - length text < n =
+    omega (arith, length-append text (replicate n 32), length-replicate {A = ℕ} n 32) in
+    ap (λ c. c == 32)
+    (get_or-append_right text (replicate n 32) k 0 after ∙ get_or-replicate n (k - length text) 32 0 inside))
     (λ some.
     let last : length text - 1 < length text = omega arith in
     ap (λ c. c == 32) (get_or_append_left text (replicate n 32) 0 (length text - 1) last) ∙ h (length text - 1) 0 last)
     ∙ take-append_seam text (replicate n 32)
 
 -- what is after the place where the spaces at the end begin
-pub spaces_at : (line : List ℕ) (n : ℕ) → n ≤ length line → ((k : ℕ) → n ≤ k → k < length line → (get_or line k 0 == 32) ≡ true) → line ≡ take n line ++ replicate (length line - n) 32
+pub spaces_at : (line : List ℕ) (n : ℕ) → n ≤ length line
+    → ((k : ℕ) → n ≤ k → k < length line → (get_or line k 0 == 32) ≡ true) → line ≡ take n line
+    ++ replicate (length line - n) 32
 spaces_at line n within after =
     let rest : drop n line ≡ replicate (length (drop n line)) 32 =
-    all_spaces (drop n line) (λ k inside. ap (λ c. c == 32) (get_or-drop n line k 0) ∙ after (n + k) (omega arith) (omega (arith, length-drop n line))) in
+    all_spaces (drop n line)
+    (λ k inside. ap (λ c. c == 32) (get_or-drop n line k 0)
+    ∙ after (n + k) (omega arith) (omega (arith, length-drop n line))) in
     let long : length (drop n line) ≡ length line - n = length-drop n line in
     sym (take-append-drop n line) ∙ ap (λ l. take n line ++ l) (rest ∙ ap (λ m. replicate m 32) long)
 

@@ -26,8 +26,11 @@ use lib.Signed.{mag}
 -- the bytes of a name are printed ones
 name_printed : (name : List ℕ) → is_name name ≡ true → All IsPrinted name
 name_printed name h =
-    let each = AllPass-from_list_all is_name_byte name (and_parts (nat_lt 0 (length name) && nat_le (length name) 64) (list_all is_name_byte name) h).1 in
-    All-weaker (λ c. is_name_byte c ≡ true) IsPrinted (λ c (is : is_name_byte c ≡ true). (grind (arith, nat_tests), grind (arith, nat_tests))) name each
+    let each =
+    AllPass-from_list_all is_name_byte name
+    (and_parts (nat_lt 0 (length name) && nat_le (length name) 64) (list_all is_name_byte name) h).1 in
+    All-weaker (λ c. is_name_byte c ≡ true) IsPrinted
+    (λ c (is : is_name_byte c ≡ true). (grind (arith, nat_tests), grind (arith, nat_tests))) name each
 
 -- a name has at most 64
 name_short : (name : List ℕ) → is_name name ≡ true → length name ≤ 64
@@ -39,12 +42,16 @@ name_short name h =
 -- digits are printed
 digits_printed : (ds : List ℕ) → list_all is_ascii_digit ds ≡ true → All IsPrinted ds
 digits_printed ds h =
-    All-weaker (λ c. is_ascii_digit c ≡ true) IsPrinted (λ c (is : is_ascii_digit c ≡ true). (grind (arith, nat_tests), grind (arith, nat_tests))) ds (AllPass-from_list_all is_ascii_digit ds h)
+    All-weaker (λ c. is_ascii_digit c ≡ true) IsPrinted
+    (λ c (is : is_ascii_digit c ≡ true). (grind (arith, nat_tests), grind (arith, nat_tests))) ds
+    (AllPass-from_list_all is_ascii_digit ds h)
 
 -- and so is a number
 number_printed : (z : ℤ) → mag z < 2 ^ 63 → All IsPrinted (signed_decimal z)
 number_printed (pos n) limit = digits_printed (decimal n) (digits_decimal own n (omega arith))
-number_printed (negsuc n) limit = All-cons IsPrinted 45 (decimal (suc n)) (omega arith, omega arith) (digits_printed (decimal (suc n)) (digits_decimal own (suc n) (omega arith)))
+number_printed (negsuc n) limit =
+    All-cons IsPrinted 45 (decimal (suc n)) (omega arith, omega arith)
+    (digits_printed (decimal (suc n)) (digits_decimal own (suc n) (omega arith)))
 
 -- the numbers of a board are printed after their colons
 numbers_printed : (vs : List Values) (zs : List ℤ) → All IsNarrow vs → Fit vs zs → All IsPrinted (after_colons zs)
@@ -54,7 +61,8 @@ numbers_printed (v ∷ vs) [] narrow h = absurd h
 numbers_printed (v ∷ vs) (z ∷ zs) narrow h =
     let first = number_printed z (small_number v z (All-head IsNarrow v vs narrow) h.0) in
     let rest = numbers_printed vs zs (All-tail IsNarrow v vs narrow) h.1 in
-    All-append IsPrinted (58 ∷ signed_decimal z) (after_colons zs) (All-cons IsPrinted 58 (signed_decimal z) (omega arith, omega arith) first) rest
+    All-append IsPrinted (58 ∷ signed_decimal z) (after_colons zs)
+    (All-cons IsPrinted 58 (signed_decimal z) (omega arith, omega arith) first) rest
 
 -- the spelling part by part, from the left
 head_of : BoardFields → List ℕ
@@ -71,16 +79,23 @@ parts_of b = names_of b ++ after_colons b.numbers
 -- the parts are the spelling
 parts_spell : (b : BoardFields) → parts_of b ≡ spelling b
 unfolding parts_of names_of head_of
-parts_spell b = written_in_parts b (codes "board:") (head_of b) (head_of b ++ 58 ∷ []) (names_of b) (parts_of b) refl refl refl refl refl
+parts_spell b =
+    written_in_parts b (codes "board:") (head_of b) (head_of b ++ 58 ∷ []) (names_of b) (parts_of b) refl refl refl refl
+    refl
 
 -- they are printed text
 parts_printed : (b : BoardFields) → IsBoard b → All IsPrinted (parts_of b)
 unfolding parts_of names_of head_of
 parts_printed b h =
-    let head = All-append IsPrinted (codes "board:") b.player (All-from_recursion IsPrinted (codes "board:") (search rules)) (name_printed b.player h.0) in
-    let colon = All-append IsPrinted (head_of b) (58 ∷ []) head (All-cons IsPrinted 58 [] (omega arith, omega arith) (All-nil IsPrinted)) in
+    let head =
+    All-append IsPrinted (codes "board:") b.player (All-from_recursion IsPrinted (codes "board:") (search rules))
+    (name_printed b.player h.0) in
+    let colon =
+    All-append IsPrinted (head_of b) (58 ∷ []) head
+    (All-cons IsPrinted 58 [] (omega arith, omega arith) (All-nil IsPrinted)) in
     let names = All-append IsPrinted (head_of b ++ 58 ∷ []) b.opponent colon (name_printed b.opponent h.1) in
-    All-append IsPrinted (names_of b) (after_colons b.numbers) names (numbers_printed field_values b.numbers all_narrow h.2)
+    All-append IsPrinted (names_of b) (after_colons b.numbers) names
+    (numbers_printed field_values b.numbers all_narrow h.2)
 
 -- they are short
 parts_short : (b : BoardFields) → IsBoard b → length (parts_of b) ≤ 329
@@ -91,7 +106,18 @@ parts_short b h =
     let colon = length-append (head_of b) (58 ∷ []) in
     let names = length-append (head_of b ++ 58 ∷ []) b.opponent in
     let word : length (codes "board:") ≡ 6 = refl in
-    omega (arith, all, head, colon, names, word, total_table, length-append (names_of b) (after_colons b.numbers), name_short b.player h.0, name_short b.opponent h.1)
+    omega (
+      arith,
+      all,
+      head,
+      colon,
+      names,
+      word,
+      total_table,
+      length-append (names_of b) (after_colons b.numbers),
+      name_short b.player h.0,
+      name_short b.opponent h.1,
+    )
 
 -- a board's spelling is printed text
 pub spelling_printed : (b : BoardFields) → IsBoard b → All IsPrinted (spelling b)

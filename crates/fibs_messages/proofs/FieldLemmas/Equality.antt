@@ -1,12 +1,13 @@
 -- Lists of values are equal exactly where a test goes through them, as `==` of a message's fields does.
-use Rattle.std.proofs.Common.{◌≡◌, ℕ, Bool, true, false, List, [], ◌∷◌, refl, sym, ap, ap₂, arith}
+use Rattle.std.proofs.Common.{◌≡◌, ℕ, Bool, true, false, List, [], ◌∷◌, refl, ap, ap₂, arith}
 use Rattle.std.specs.Prelude.{◌==◌, ◌&&◌}
 use Rattle.std.specs.Bool.{Decides, beq}
 use Rattle.std.specs.Cmp.{booleans_Decides}
 use Rattle.std.specs.Str.{bytes_eq}
 use Rattle.std.proofs.lemmas.Bool.Decides.{Decides-eqb, Decides-and, Decides-like}
 use Rattle.std.proofs.lemmas.Slice.Eq.{bytes_eq-Decides}
-use Rattle.fibs_messages.specs.Field.{FieldValue, NameField, WordField, TailField, FlagField, NumberField, RatingField, TextField}
+use Rattle.fibs_messages.specs.Field.{FieldValue, NameField, WordField, TailField, FlagField, NumberField, RatingField}
+use Rattle.fibs_messages.specs.Field.{TextField}
 
 -- what a value holds, where it is bytes, a flag or a number
 abbrev bytes_in : FieldValue → List ℕ
@@ -62,13 +63,20 @@ never no_p = (λ e. absurd cc, λ p. absurd (no_p p))
 
 -- the test of two values decides
 same_value_decides : (u v : FieldValue) → Decides (same_value u v) (u ≡ v)
-same_value_decides (NameField s) (NameField t) = Decides-like (bytes_eq s t) (ap NameField) (ap bytes_in) (bytes_eq-Decides s t)
-same_value_decides (WordField s) (WordField t) = Decides-like (bytes_eq s t) (ap WordField) (ap bytes_in) (bytes_eq-Decides s t)
-same_value_decides (TailField s) (TailField t) = Decides-like (bytes_eq s t) (ap TailField) (ap bytes_in) (bytes_eq-Decides s t)
-same_value_decides (FlagField a) (FlagField b) = Decides-like (beq a b) (ap FlagField) (ap flag_in) (booleans_Decides a b)
-same_value_decides (NumberField m) (NumberField n) = Decides-like (m == n) (ap NumberField) (ap number_in) (Decides-eqb m n)
-same_value_decides (RatingField m) (RatingField n) = Decides-like (m == n) (ap RatingField) (ap number_in) (Decides-eqb m n)
-same_value_decides (TextField s) (TextField t) = Decides-like (bytes_eq s t) (ap TextField) (ap bytes_in) (bytes_eq-Decides s t)
+same_value_decides (NameField s) (NameField t) =
+    Decides-like (bytes_eq s t) (ap NameField) (ap bytes_in) (bytes_eq-Decides s t)
+same_value_decides (WordField s) (WordField t) =
+    Decides-like (bytes_eq s t) (ap WordField) (ap bytes_in) (bytes_eq-Decides s t)
+same_value_decides (TailField s) (TailField t) =
+    Decides-like (bytes_eq s t) (ap TailField) (ap bytes_in) (bytes_eq-Decides s t)
+same_value_decides (FlagField a) (FlagField b) =
+    Decides-like (beq a b) (ap FlagField) (ap flag_in) (booleans_Decides a b)
+same_value_decides (NumberField m) (NumberField n) =
+    Decides-like (m == n) (ap NumberField) (ap number_in) (Decides-eqb m n)
+same_value_decides (RatingField m) (RatingField n) =
+    Decides-like (m == n) (ap RatingField) (ap number_in) (Decides-eqb m n)
+same_value_decides (TextField s) (TextField t) =
+    Decides-like (bytes_eq s t) (ap TextField) (ap bytes_in) (bytes_eq-Decides s t)
 same_value_decides u v = never (λ e. omega (arith, ap kind_in e))
 
 -- the first of a list, and the others

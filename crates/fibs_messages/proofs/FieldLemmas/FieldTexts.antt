@@ -14,7 +14,7 @@ use Rattle.fibs_messages.specs.FieldReading.{Left, left, ◌>>=◌, numbered, va
 use Rattle.fibs_messages.specs.FieldReading.{fields_at}
 use Rattle.fibs_messages.specs.Message.{FieldText, spelled, no_text, FieldsText, no_fields, more_fields}
 use Rattle.fibs_messages.specs.Name.{is_name_byte}
-use Rattle.fibs_messages.specs.Rating.{FractionText, RatingText}
+use Rattle.fibs_messages.specs.Rating.{FractionText}
 use Rattle.fibs_messages.specs.Rating as rating
 use Rattle.fibs_messages.specs.Split.{before, after}
 use Rattle.fibs_messages.proofs.FieldLemmas.FieldValues.{has_values, bind_ok, ok_is, value_sound, value_complete}
@@ -49,10 +49,12 @@ absent_text a_flag i x e = absurd cc
 absent_text a_number i x e = absurd cc
 absent_text a_rating i x e = absurd cc
 absent_text a_text i x e =
-    subst (Takes a_text None) (ok_is (TextField [], left 32 None) x e) (record { text = []; field = no_text; parts = refl; separator = refl; kind = refl })
+    subst (Takes a_text None) (ok_is (TextField [], left 32 None) x e)
+    (record { text = []; field = no_text; parts = refl; separator = refl; kind = refl })
 
 -- the text of a field
-text_takes : (k : Kind) (i : ℕ) (s text : List ℕ) (o : Option (List ℕ)) (x : FieldValue × Left) → has_values k ≡ true → s ≡ text ++ behind 32 o
+text_takes : (k : Kind) (i : ℕ) (s text : List ℕ) (o : Option (List ℕ)) (x : FieldValue × Left) → has_values k ≡ true
+    → s ≡ text ++ behind 32 o
     → (numbered i (value_in k text) >>= λ v. Ok (v, left 32 o)) ≡ Ok x → Takes k (Some s) x
 text_takes k i s text o x m parts e =
     let b = bind_ok (numbered i (value_in k text)) (λ v. Ok (v, left 32 o)) x e in
@@ -66,7 +68,8 @@ text_takes k i s text o x m parts e =
     })
 
 -- a field takes its text and leaves the rest
-pub field_takes : (k : Kind) (i : ℕ) (o : Option (List ℕ)) (x : FieldValue × Left) → has_values k ≡ true → field_at k i (left 32 o) ≡ Ok x → Takes k o x
+pub field_takes : (k : Kind) (i : ℕ) (o : Option (List ℕ)) (x : FieldValue × Left) → has_values k ≡ true
+    → field_at k i (left 32 o) ≡ Ok x → Takes k o x
 unfolding field_at text_at
 field_takes (the_word word) i (Some s) x m e = absurd cc
 field_takes (a_number_of values) i (Some s) x m e = absurd cc
@@ -75,8 +78,10 @@ field_takes a_name i (Some s) x m e = text_takes a_name i s (before 32 s) (after
 field_takes a_word i (Some s) x m e = text_takes a_word i s (before 32 s) (after 32 s) x m (sym (before-behind 32 s)) e
 field_takes a_tail i (Some s) x m e = text_takes a_tail i s s None x m (sym (append-nil s)) e
 field_takes a_flag i (Some s) x m e = text_takes a_flag i s (before 32 s) (after 32 s) x m (sym (before-behind 32 s)) e
-field_takes a_number i (Some s) x m e = text_takes a_number i s (before 32 s) (after 32 s) x m (sym (before-behind 32 s)) e
-field_takes a_rating i (Some s) x m e = text_takes a_rating i s (before 32 s) (after 32 s) x m (sym (before-behind 32 s)) e
+field_takes a_number i (Some s) x m e =
+    text_takes a_number i s (before 32 s) (after 32 s) x m (sym (before-behind 32 s)) e
+field_takes a_rating i (Some s) x m e =
+    text_takes a_rating i s (before 32 s) (after 32 s) x m (sym (before-behind 32 s)) e
 field_takes a_text i (Some s) x m e = text_takes a_text i s s None x m (sym (append-nil s)) e
 
 -- ---- all fields that were read
@@ -87,7 +92,8 @@ pub record AreFound (ks : List Kind) (text : List ℕ) (vs : List FieldValue) : 
   pub kinds : map kind_of vs ≡ ks
 
 -- what is read of the fields is spelled there
-pub fields_sound : (ks : List Kind) (i : ℕ) (o : Option (List ℕ)) (vs : List FieldValue) → list_all has_values ks ≡ true → fields_at ks i (left 32 o) ≡ Ok vs → AreFound ks (behind 32 o) vs
+pub fields_sound : (ks : List Kind) (i : ℕ) (o : Option (List ℕ)) (vs : List FieldValue) → list_all has_values ks ≡ true
+    → fields_at ks i (left 32 o) ≡ Ok vs → AreFound ks (behind 32 o) vs
 unfolding end_at
 fields_sound [] i None vs m e = subst (AreFound [] []) (ok_is [] vs e) (record { fields = no_fields; kinds = refl })
 fields_sound [] i (Some s) vs m e = absurd cc
@@ -142,7 +148,8 @@ text_head v t ts no_text head = head
 -- the fields begin with a space or are nothing
 pub texts_head : (vs : List FieldValue) (s : List ℕ) → FieldsText vs s → HeadIs 32 s
 texts_head vs s no_fields = tt
-texts_head vs s (more_fields {v} {vs = us} {text} {texts} here more) = text_head v text texts here (texts_head us texts more)
+texts_head vs s (more_fields {v} {vs = us} {text} {texts} here more) =
+    text_head v text texts here (texts_head us texts more)
 
 -- no fields are no text
 pub no_more : (vs : List FieldValue) (s : List ℕ) → FieldsText vs s → map kind_of vs ≡ [] → s ≡ []
@@ -150,7 +157,8 @@ no_more vs s no_fields e = refl
 no_more vs s (more_fields here more) e = absurd cc
 
 -- a field that is not the rest of the line has no space
-pub word_no_space : (v : FieldValue) (text : List ℕ) → Spells v text → takes_rest (kind_of v) ≡ false → has_no 32 text ≡ true
+pub word_no_space : (v : FieldValue) (text : List ℕ) → Spells v text → takes_rest (kind_of v) ≡ false
+    → has_no 32 text ≡ true
 word_no_space (NameField s) text h k =
     let p = and_parts _ (list_all is_name_byte s) h.0 in
     rw h.1 (all_weaker is_name_byte (λ b. not (eqb b 32)) no_space_byte s p.1)
@@ -161,11 +169,16 @@ word_no_space (FlagField false) text h k = rw h.1 refl
 word_no_space (NumberField n) text h k = rw h.1 (decimal_has_no 32 n (omega arith) (omega (arith, h.0)))
 word_no_space (RatingField r) text h k =
     let t = h.1 in
-    rw t.text_is (all_both (λ b. not (eqb b 32)) (decimal t.whole) t.fraction (decimal_has_no 32 t.whole (omega arith) (omega (arith, h.0, t.rating_is))) (fraction_no_space t.fraction t.hundreds t.fraction_text))
+    rw t.text_is
+    (all_both (λ b. not (eqb b 32)) (decimal t.whole) t.fraction
+    (decimal_has_no 32 t.whole (omega arith) (omega (arith, h.0, t.rating_is)))
+    (fraction_no_space t.fraction t.hundreds t.fraction_text))
 word_no_space (TextField s) text h k = absurd cc
 
 -- a word behind its space
-word_again : (v : FieldValue) (text rest : List ℕ) (i : ℕ) → Spells v text → HeadIs 32 rest → (takes_rest (kind_of v) ≡ true → rest ≡ []) → field_at (kind_of v) i (left 32 (Some (text ++ rest))) ≡ Ok (v, left 32 (opened rest))
+word_again : (v : FieldValue) (text rest : List ℕ) (i : ℕ) → Spells v text → HeadIs 32 rest
+    → (takes_rest (kind_of v) ≡ true → rest ≡ [])
+    → field_at (kind_of v) i (left 32 (Some (text ++ rest))) ≡ Ok (v, left 32 (opened rest))
 unfolding field_at text_at
 word_again v text rest i h head last = elim (cases_Bool (takes_rest (kind_of v))) [
   | inl e ↦ rw (e, last e, append-nil text, value_complete v text h) refl
@@ -175,16 +188,21 @@ word_again v text rest i h head last = elim (cases_Bool (takes_rest (kind_of v))
 ]
 
 -- one field, spelled at the front
-field_again : (v : FieldValue) (t rest : List ℕ) (i : ℕ) → FieldText v t → HeadIs 32 rest → (takes_rest (kind_of v) ≡ true → rest ≡ []) → field_at (kind_of v) i (left 32 (opened (t ++ rest))) ≡ Ok (v, left 32 (opened rest))
+field_again : (v : FieldValue) (t rest : List ℕ) (i : ℕ) → FieldText v t → HeadIs 32 rest
+    → (takes_rest (kind_of v) ≡ true → rest ≡ [])
+    → field_at (kind_of v) i (left 32 (opened (t ++ rest))) ≡ Ok (v, left 32 (opened rest))
 unfolding field_at text_at value_in
 field_again v t rest i no_text head last = rw (last refl) refl
 field_again v t rest i (spelled {text} h) head last = word_again v text rest i h head last
 
 -- what the fields spell is read of them
-pub fields_complete : (vs : List FieldValue) (s : List ℕ) (i : ℕ) → FieldsText vs s → TextLast (map kind_of vs) → fields_at (map kind_of vs) i (left 32 (opened s)) ≡ Ok vs
+pub fields_complete : (vs : List FieldValue) (s : List ℕ) (i : ℕ) → FieldsText vs s → TextLast (map kind_of vs)
+    → fields_at (map kind_of vs) i (left 32 (opened s)) ≡ Ok vs
 unfolding end_at
 fields_complete vs s i no_fields last = refl
 fields_complete vs s i (more_fields {v} {vs = us} {text} {texts} here more) last =
     let head = texts_head us texts more in
-    let one = field_again v text texts i here head (λ (e : takes_rest (kind_of v) ≡ true). no_more us texts more (last.0 e)) in
+    let one =
+    field_again v text texts i here head (λ (e : takes_rest (kind_of v) ≡ true). no_more us texts more (last.0 e))
+    in
     rw (one, fields_complete us texts (i + 1) more last.1) refl

@@ -32,7 +32,8 @@ use Rattle.fibs_messages.proofs.FieldLemmas.Splits.{behind, opened, HeadIs, befo
 -- ---- steps that did not fail
 
 -- two steps that gave a value each did
-pub bind_ok : {A B E : Type 0} (r : Result A E) (f : A → Result B E) (y : B) → (r >>= f) ≡ Ok y → (x : A) × (r ≡ Ok x) × (f x ≡ Ok y)
+pub bind_ok : {A B E : Type 0} (r : Result A E) (f : A → Result B E) (y : B) → (r >>= f) ≡ Ok y
+    → (x : A) × (r ≡ Ok x) × (f x ≡ Ok y)
 bind_ok (Ok x) f y e = (x, refl, e)
 bind_ok (Err d) f y e = absurd cc
 
@@ -56,32 +57,38 @@ narrow_flags : IsNarrow flag_values
 narrow_flags = (search (ints, arith), search (ints, arith))
 
 -- a number that a flag may be is its text
-flag_number : (z : ℤ) (text : List ℕ) → text ≡ signed_decimal z → allows flag_values z ≡ true → IsFound a_flag text (FlagField (eqb (natural z) 1))
+flag_number : (z : ℤ) (text : List ℕ) → text ≡ signed_decimal z → allows flag_values z ≡ true
+    → IsFound a_flag text (FlagField (eqb (natural z) 1))
 flag_number (pos zero) text e h = (refl, (tt, e ∙ decimal_digit 0 (lit< tt)))
 flag_number (pos (suc zero)) text e h = (refl, (tt, e ∙ decimal_digit 1 (lit< tt)))
 flag_number (pos (suc (suc n))) text e h = absurd (grind (arith, ints, nat_tests))
 flag_number (negsuc n) text e h = absurd (grind (arith, ints, nat_tests))
 
 -- a flag that is read is spelled so
-flag_sound : (text : List ℕ) (v : FieldValue) → (number_in flag_values text >>= λ z. Ok (FlagField (eqb (natural z) 1))) ≡ Ok v → IsFound a_flag text v
+flag_sound : (text : List ℕ) (v : FieldValue)
+    → (number_in flag_values text >>= λ z. Ok (FlagField (eqb (natural z) 1))) ≡ Ok v → IsFound a_flag text v
 flag_sound text v e =
     let b = bind_ok (number_in flag_values text) (λ z. Ok (FlagField (eqb (natural z) 1))) v e in
     let spelled = number_in_spelled flag_values text b.0 narrow_flags b.1 in
-    subst (IsFound a_flag text) (ok_is (FlagField (eqb (natural b.0) 1)) v b.2) (flag_number b.0 text spelled.0 spelled.1)
+    subst (IsFound a_flag text) (ok_is (FlagField (eqb (natural b.0) 1)) v b.2)
+    (flag_number b.0 text spelled.0 spelled.1)
 
 -- a flag that is spelled is read
-flag_complete : (b : Bool) → (number_in flag_values (flag_text b) >>= λ z. Ok (FlagField (eqb (natural z) 1))) ≡ Ok (FlagField b)
+flag_complete : (b : Bool)
+    → (number_in flag_values (flag_text b) >>= λ z. Ok (FlagField (eqb (natural z) 1))) ≡ Ok (FlagField b)
 flag_complete true = refl
 flag_complete false = refl
 
 -- ---- numbers
 
 -- a number that is read is spelled so
-number_sound : (text : List ℕ) (v : FieldValue) → (number_in number_values text >>= λ z. Ok (NumberField (natural z))) ≡ Ok v → IsFound a_number text v
+number_sound : (text : List ℕ) (v : FieldValue)
+    → (number_in number_values text >>= λ z. Ok (NumberField (natural z))) ≡ Ok v → IsFound a_number text v
 number_sound text v e =
     let b = bind_ok (number_in number_values text) (λ z. Ok (NumberField (natural z))) v e in
     let found = natural_found text b.0 b.1 in
-    let same : NumberField found.number ≡ v = ap (λ (z : ℤ). NumberField (natural z)) (sym found.is) ∙ ok_is (NumberField (natural b.0)) v b.2 in
+    let same : NumberField found.number ≡ v =
+    ap (λ (z : ℤ). NumberField (natural z)) (sym found.is) ∙ ok_is (NumberField (natural b.0)) v b.2 in
     subst (IsFound a_number text) same (refl, (found.small, found.text_is))
 
 -- ---- ratings
@@ -96,7 +103,8 @@ digit_of d h =
 
 -- a small number and its digit
 digit_test : (d : ℕ) → d < 10 → is_ascii_digit (48 + d) ≡ true
-digit_test d lt = and_from (leb 48 (48 + d)) (leb (48 + d) 57) (le-leb 48 (48 + d) (omega arith)) (le-leb (48 + d) 57 (omega arith))
+digit_test d lt =
+    and_from (leb 48 (48 + d)) (leb (48 + d) 57) (le-leb 48 (48 + d) (omega arith)) (le-leb (48 + d) 57 (omega arith))
 
 -- a fraction that is read is spelled so
 fraction_sound : (o : Option (List ℕ)) → is_fraction o ≡ true → FractionText (behind 46 o) (hundredths_of o)
@@ -110,11 +118,13 @@ fraction_sound (Some (d ∷ f ∷ [])) e =
     let g = digit_of d q.0 in
     let i = digit_of f q.1 in
     subst (λ (x : ℕ). FractionText (46 ∷ x ∷ f ∷ []) (10 * (d - 48) + (f - 48))) (sym g.1)
-    (subst (λ (y : ℕ). FractionText (46 ∷ (48 + (d - 48)) ∷ y ∷ []) (10 * (d - 48) + (f - 48))) (sym i.1) (rating.hundredths g.0 i.0))
+    (subst (λ (y : ℕ). FractionText (46 ∷ (48 + (d - 48)) ∷ y ∷ []) (10 * (d - 48) + (f - 48))) (sym i.1)
+    (rating.hundredths g.0 i.0))
 fraction_sound (Some (d ∷ f ∷ g ∷ s)) e = absurd cc
 
 -- a rating's form and its range
-rating_parts : (text : List ℕ) (r : ℕ) → rating_in text ≡ Ok r → (is_rating text ≡ true) × (rating_value text ≡ r) × (r < numbers_of_32_bits)
+rating_parts : (text : List ℕ) (r : ℕ) → rating_in text ≡ Ok r
+    → (is_rating text ≡ true) × (rating_value text ≡ r) × (r < numbers_of_32_bits)
 rating_parts text r e = elim (cases_Bool (is_rating text)) [
   | inl form ↦ elim (cases_Bool (nat_lt (rating_value text) numbers_of_32_bits)) [
     | inl small ↦
@@ -126,7 +136,8 @@ rating_parts text r e = elim (cases_Bool (is_rating text)) [
 ]
 
 -- a text of the form of a rating spells it
-rating_spelled : (text : List ℕ) (r : ℕ) → is_rating text ≡ true → rating_value text ≡ r → r < numbers_of_32_bits → RatingText r text
+rating_spelled : (text : List ℕ) (r : ℕ) → is_rating text ≡ true → rating_value text ≡ r → r < numbers_of_32_bits
+    → RatingText r text
 rating_spelled text r form value small =
     let p = and_parts (is_zero (before 46 text) || is_positive (before 46 text)) (is_fraction (after 46 text)) form in
     let whole = plain_spelled (before 46 text) (digits_value 10 (before 46 text)) p.0 refl (omega arith) in
@@ -140,7 +151,8 @@ rating_spelled text r form value small =
     }
 
 -- a rating that is read is spelled so
-rating_sound : (text : List ℕ) (v : FieldValue) → (rating_in text >>= λ r. Ok (RatingField r)) ≡ Ok v → IsFound a_rating text v
+rating_sound : (text : List ℕ) (v : FieldValue) → (rating_in text >>= λ r. Ok (RatingField r)) ≡ Ok v
+    → IsFound a_rating text v
 rating_sound text v e =
     let b = bind_ok (rating_in text) (λ r. Ok (RatingField r)) v e in
     let p = rating_parts text b.0 b.1 in
@@ -155,7 +167,8 @@ has_values (a_number_of values) = false
 has_values k = true
 
 -- a value that is read is of its kind and spelled so
-pub value_sound : (k : Kind) (text : List ℕ) (v : FieldValue) → has_values k ≡ true → value_in k text ≡ Ok v → IsFound k text v
+pub value_sound : (k : Kind) (text : List ℕ) (v : FieldValue) → has_values k ≡ true → value_in k text ≡ Ok v
+    → IsFound k text v
 unfolding value_in
 value_sound (the_word word) text v m e = absurd cc
 value_sound (a_number_of values) text v m e = absurd cc
@@ -173,7 +186,8 @@ value_sound a_text text v m e = subst (IsFound a_text text) (ok_is (TextField te
 -- ---- what is spelled is found
 
 -- what holds of each byte, and something weaker
-pub all_weaker : (p q : ℕ → Bool) → ((b : ℕ) → p b ≡ true → q b ≡ true) → (s : List ℕ) → list_all p s ≡ true → list_all q s ≡ true
+pub all_weaker : (p q : ℕ → Bool) → ((b : ℕ) → p b ≡ true → q b ≡ true) → (s : List ℕ) → list_all p s ≡ true
+    → list_all q s ≡ true
 all_weaker p q h [] a = refl
 all_weaker p q h (b ∷ s) a =
     let e = and_parts (p b) (list_all p s) a in
@@ -187,19 +201,26 @@ digit_is_no c low b h =
 
 -- nor has a decimal one
 pub decimal_has_no : (c n : ℕ) → c < 48 → n < 2 ^ 64 → has_no c (decimal n) ≡ true
-decimal_has_no c n low lt = all_weaker is_ascii_digit (λ b. not (eqb b c)) (digit_is_no c low) (decimal n) (digits_decimal own n lt)
+decimal_has_no c n low lt =
+    all_weaker is_ascii_digit (λ b. not (eqb b c)) (digit_is_no c low) (decimal n) (digits_decimal own n lt)
 
 -- a fraction that is spelled is read
-fraction_complete : (s : List ℕ) (h : ℕ) → FractionText s h → HeadIs 46 s × (is_fraction (opened s) ≡ true) × (hundredths_of (opened s) ≡ h)
+fraction_complete : (s : List ℕ) (h : ℕ) → FractionText s h
+    → HeadIs 46 s × (is_fraction (opened s) ≡ true) × (hundredths_of (opened s) ≡ h)
 fraction_complete s h no_fraction = (tt, refl, refl)
 fraction_complete s h (tenths {d} lt) = (refl, digit_test d lt, omega arith)
-fraction_complete s h (rating.hundredths {d} {e} lt lu) = (refl, and_from (is_ascii_digit (48 + d)) (is_ascii_digit (48 + e)) (digit_test d lt) (digit_test e lu), omega arith)
+fraction_complete s h (rating.hundredths {d} {e} lt lu) = (
+  refl,
+  and_from (is_ascii_digit (48 + d)) (is_ascii_digit (48 + e)) (digit_test d lt) (digit_test e lu),
+  omega arith,
+)
 
 -- what is written of a number has the form of one
 pub decimal_form : (n : ℕ) → n < 2 ^ 64 → (is_zero (decimal n) || is_positive (decimal n)) ≡ true
 decimal_form zero limit = ap (λ (s : List ℕ). is_zero s || is_positive s) (decimal_digit 0 (lit< tt))
 decimal_form (suc n) limit =
-    or_right (is_zero (decimal (suc n))) (is_positive (decimal (suc n))) (positive_from (decimal (suc n)) (written_positive (suc n) (omega arith) limit))
+    or_right (is_zero (decimal (suc n))) (is_positive (decimal (suc n)))
+    (positive_from (decimal (suc n)) (written_positive (suc n) (omega arith) limit))
 
 -- a rating that is spelled is read
 rating_complete : (r : ℕ) (text : List ℕ) → r < numbers_of_32_bits → RatingText r text → rating_in text ≡ Ok r
@@ -209,7 +230,8 @@ rating_complete r text lt t =
     let c = cut_off 46 (decimal t.whole) t.fraction (decimal_has_no 46 t.whole (omega arith) small) f.0 in
     let front : before 46 text ≡ decimal t.whole = ap (before 46) t.text_is ∙ c.0 in
     let back : after 46 text ≡ opened t.fraction = ap (after 46) t.text_is ∙ c.1 in
-    let same : rating_value text ≡ r = rw (front, back, digits_value-decimal own t.whole small, f.2) (sym t.rating_is) in
+    let same : rating_value text ≡ r =
+    rw (front, back, digits_value-decimal own t.whole small, f.2) (sym t.rating_is) in
     let form : is_rating text ≡ true = rw (front, back, decimal_form t.whole small) f.1 in
     rw (form, same, lt-ltb r numbers_of_32_bits lt) refl
 

@@ -22,8 +22,10 @@ pub without_spaces-end : (text : List ℕ) (n : ℕ) → EndsPlain text → with
 without_spaces-end text n h =
     without_spaces_at (text ++ replicate n 32) (length text) (omega (arith, length-append text (replicate n 32)))
     (λ k after within.
-    let inside : k - length text < n = omega (arith, length-append text (replicate n 32), length-replicate {A = ℕ} n 32) in
-    ap (λ (c : ℕ). c == 32) (get_or-append_right text (replicate n 32) k 0 after ∙ get_or-replicate n (k - length text) 32 0 inside))
+    let inside : k - length text < n =
+    omega (arith, length-append text (replicate n 32), length-replicate {A = ℕ} n 32) in
+    ap (λ (c : ℕ). c == 32)
+    (get_or-append_right text (replicate n 32) k 0 after ∙ get_or-replicate n (k - length text) 32 0 inside))
     (λ some.
     let last : length text - 1 < length text = omega arith in
     ap (λ (c : ℕ). c == 32) (get_or_append_left text (replicate n 32) 0 (length text - 1) last) ∙ h some)

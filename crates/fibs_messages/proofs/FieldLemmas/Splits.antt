@@ -6,7 +6,8 @@ use Rattle.std.proofs.lemmas.Bool.{cases_eq, eq-eqb, ne_eqb, and_parts, not-true
 use Rattle.fibs_messages.specs.Split.{before, after}
 
 -- the first such byte parts the text
-pub split_at : (c : ℕ) (s : List ℕ) (k : ℕ) → k < length s → ((j : ℕ) → j < k → get_or s j 0 ≡ c → ⊥) → get_or s k 0 ≡ c → (take k s ≡ before c s) × (Some (drop (suc k) s) ≡ after c s)
+pub split_at : (c : ℕ) (s : List ℕ) (k : ℕ) → k < length s → ((j : ℕ) → j < k → get_or s j 0 ≡ c → ⊥) → get_or s k 0 ≡ c
+    → (take k s ≡ before c s) × (Some (drop (suc k) s) ≡ after c s)
 split_at c [] k lt none is = absurd (omega arith)
 split_at c (b ∷ s) zero lt none is = rw (eq-eqb b c is) (refl, refl)
 split_at c (b ∷ s) (suc k) lt none is =
@@ -14,7 +15,8 @@ split_at c (b ∷ s) (suc k) lt none is =
     rw (ne_eqb b c (none 0 (omega arith))) (ap (λ (t : List ℕ). b ∷ t) more.0, more.1)
 
 -- without one all of the text is before it
-pub split_none : (c : ℕ) (s : List ℕ) → ((j : ℕ) → j < length s → get_or s j 0 ≡ c → ⊥) → (s ≡ before c s) × (None ≡ after c s)
+pub split_none : (c : ℕ) (s : List ℕ) → ((j : ℕ) → j < length s → get_or s j 0 ≡ c → ⊥)
+    → (s ≡ before c s) × (None ≡ after c s)
 split_none c [] none = (refl, refl)
 split_none c (b ∷ s) none =
     let more = split_none c s (λ (j : ℕ) (l : j < length s). none (suc j) (omega arith)) in
@@ -63,7 +65,8 @@ abbrev pub has_no : ℕ → List ℕ → Bool
 has_no c s = list_all (λ b. not (eqb b c)) s
 
 -- cut off at c, where none stands before
-pub cut_off : (c : ℕ) (w rest : List ℕ) → has_no c w ≡ true → HeadIs c rest → (before c (w ++ rest) ≡ w) × (after c (w ++ rest) ≡ opened rest)
+pub cut_off : (c : ℕ) (w rest : List ℕ) → has_no c w ≡ true → HeadIs c rest
+    → (before c (w ++ rest) ≡ w) × (after c (w ++ rest) ≡ opened rest)
 cut_off c [] [] h head = (refl, refl)
 cut_off c [] (b ∷ rest) h head = rw (eq-eqb b c head) (refl, refl)
 cut_off c (b ∷ w) rest h head =

@@ -28,18 +28,22 @@ use Rattle.fibs_messages.proofs.LineLemmas.Readings.{is_reading}
 use Rattle.fibs_messages.proofs.MessageLemmas.MessageReadings.{board_not_numbered, has_number, number_of}
 
 -- the numbers that are written are found again
-numbers_back : (vs : List Values) (zs : List ℤ) → All IsNarrow vs → Fit vs zs → numbers_in vs (map signed_decimal zs) ≡ zs
+numbers_back : (vs : List Values) (zs : List ℤ) → All IsNarrow vs → Fit vs zs
+    → numbers_in vs (map signed_decimal zs) ≡ zs
 numbers_back [] [] narrow h = refl
 numbers_back [] (z ∷ zs) narrow h = absurd h
 numbers_back (v ∷ vs) [] narrow h = absurd h
 numbers_back (v ∷ vs) (z ∷ zs) narrow h =
-    let first : number_or_0 (number_in v (signed_decimal z)) ≡ z = ap number_or_0 (number_in-written v z (All-head IsNarrow v vs narrow) h.0) in
+    let first : number_or_0 (number_in v (signed_decimal z)) ≡ z =
+    ap number_or_0 (number_in-written v z (All-head IsNarrow v vs narrow) h.0) in
     let rest : numbers_in vs (map signed_decimal zs) ≡ zs = numbers_back vs zs (All-tail IsNarrow v vs narrow) h.1 in
     (λ i. first i ∷ rest i)
 
 -- so is a board
 board_back : (b : BoardFields) → IsBoard b → board_in (texts b) ≡ b
-board_back b h = ap (λ n. let c : BoardFields = record { player = b.player; opponent = b.opponent; numbers = n } in c) (numbers_back field_values b.numbers all_narrow h.2)
+board_back b h =
+    ap (λ n. let c : BoardFields = record { player = b.player; opponent = b.opponent; numbers = n } in c)
+    (numbers_back field_values b.numbers all_narrow h.2)
 
 -- a board line
 board_case : (line : List ℕ) → starts_with (λ a b. a == b) line (codes "board:") ≡ true
@@ -47,9 +51,12 @@ board_case : (line : List ℕ) → starts_with (λ a b. a == b) line (codes "boa
     → IsReading line (board_reading (first_fault 1 kinds (pieces (without_spaces line))) (pieces (without_spaces line)))
 board_case line is (inl b) =
     let ps = pieces_of_board b.0 line b.1 in
-    let none : first_fault 1 kinds (pieces (without_spaces line)) ≡ None = ap (first_fault 1 kinds) ps ∙ texts_right b.0 b.1.0 in
-    let same : board_reading (first_fault 1 kinds (pieces (without_spaces line))) (pieces (without_spaces line)) ≡ board_line b.0 =
-    ap (λ o. board_reading o (pieces (without_spaces line))) none ∙ ap (λ p. board_line (board_in p)) ps ∙ ap board_line (board_back b.0 b.1.0) in
+    let none : first_fault 1 kinds (pieces (without_spaces line)) ≡ None =
+    ap (first_fault 1 kinds) ps ∙ texts_right b.0 b.1.0 in
+    let same : board_reading (first_fault 1 kinds (pieces (without_spaces line)))
+    (pieces (without_spaces line)) ≡ board_line b.0 =
+    ap (λ o. board_reading o (pieces (without_spaces line))) none ∙ ap (λ p. board_line (board_in p)) ps
+    ∙ ap board_line (board_back b.0 b.1.0) in
     subst (IsReading line) (sym same) (is, b.1)
 board_case line is (inr w) =
     let e : FieldFault = record { field = w.0; fault = w.1 } in
@@ -69,9 +76,13 @@ other_case line (Some n) h = message_case line n (fields_at (kinds_of n) 1 (left
 
 -- either
 by_test : (line : List ℕ) (t : Bool) → starts_with (λ a b. a == b) line (codes "board:") ≡ t
-    → IsReading line (if t then board_reading (first_fault 1 kinds (pieces (without_spaces line))) (pieces (without_spaces line)) else other_reading (number_word (before 32 line)) line)
+    → IsReading line
+    (if t then board_reading (first_fault 1 kinds (pieces (without_spaces line))) (pieces (without_spaces line))
+    else other_reading (number_word (before 32 line)) line)
 by_test line true h = board_case line h (board_or_wrong line)
-by_test line false h = is_reading line (other_reading (number_word (before 32 line)) line) (λ is. true≢false (sym is ∙ h)) (other_case line (number_word (before 32 line)) refl)
+by_test line false h =
+    is_reading line (other_reading (number_word (before 32 line)) line) (λ is. true≢false (sym is ∙ h))
+    (other_case line (number_word (before 32 line)) refl)
 
 -- the function gives each line its reading
 pub reading_is_exact : ReadingIsExact

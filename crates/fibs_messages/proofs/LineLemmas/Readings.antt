@@ -36,7 +36,9 @@ one_fault line k m f g p q =
 pub not_both : (line : List ℕ) (b : BoardFields) (k : ℕ) (f : Fault) → BoardText b line → Wrong line k f → ⊥
 not_both line b k f says wrong =
     let e : FieldFault = record { field = k; fault = f } in
-    some_none e (sym (first_from_wrong line e wrong) ∙ ap (first_fault 1 kinds) (pieces_of_board b line says) ∙ texts_right b says.0)
+    some_none e
+    (sym (first_from_wrong line e wrong) ∙ ap (first_fault 1 kinds) (pieces_of_board b line says)
+    ∙ texts_right b says.0)
 
 -- a line that says a board is a board line
 pub board_begins : (line : List ℕ) (b : BoardFields) → BoardText b line → IsBoardLine line
@@ -47,12 +49,14 @@ malformed_same : (j k : ℕ) (m n : ℕ) (f g : Fault) → j ≡ k → m ≡ n �
 malformed_same j k m n f g p q r i = malformed_line (p i) (q i) (r i)
 
 -- a malformed line, whichever it is, says neither a board nor a message
-malformed_no_board : (line : List ℕ) (b : BoardFields) (n k : ℕ) (f : Fault) → BoardText b line → IsMalformed line n k f → ⊥
+malformed_no_board : (line : List ℕ) (b : BoardFields) (n k : ℕ) (f : Fault) → BoardText b line → IsMalformed line n k f
+    → ⊥
 malformed_no_board line b n k f says (inl wrong) = not_both line b k f says wrong.2
 malformed_no_board line b n k f says (inr wrong) = board_not_numbered line (board_begins line b says) (n, wrong.0)
 
 -- nor a message
-malformed_no_message : (line : List ℕ) (m : MessageValue) (n k : ℕ) (f : Fault) → MessageText m line → IsMalformed line n k f → ⊥
+malformed_no_message : (line : List ℕ) (m : MessageValue) (n k : ℕ) (f : Fault) → MessageText m line
+    → IsMalformed line n k f → ⊥
 malformed_no_message line m n k f says (inl wrong) = board_not_numbered line wrong.0 (message_numbered line m says)
 malformed_no_message line m n k f says (inr wrong) = message_not_wrong line m n k f says wrong
 
@@ -62,7 +66,8 @@ malformed_no_text line n k f text (inl wrong) = text.0 wrong.0
 malformed_no_text line n k f text (inr wrong) = text.1 (n, wrong.0)
 
 -- a malformed line is so in one way
-one_malformed : (line : List ℕ) (j k m n : ℕ) (f g : Fault) → IsMalformed line j m f → IsMalformed line k n g → malformed_line j m f ≡ malformed_line k n g
+one_malformed : (line : List ℕ) (j k m n : ℕ) (f g : Fault) → IsMalformed line j m f → IsMalformed line k n g
+    → malformed_line j m f ≡ malformed_line k n g
 one_malformed line j k m n f g (inl p) (inl q) =
     let same = one_fault line m n f g p.2 q.2 in
     malformed_same j k m n f g (p.1 ∙ sym q.1) same.0 same.1
@@ -75,10 +80,12 @@ one_malformed line j k m n f g (inr p) (inr q) =
 -- a line has one reading
 pub reading_same : (line : List ℕ) (v w : ReadingValue) → IsReading line v → IsReading line w → v ≡ w
 reading_same line (numbered_line a) (numbered_line b) g h = ap numbered_line (one_message line a b g h)
-reading_same line (numbered_line a) (board_line b) g h = absurd (board_not_numbered line h.0 (message_numbered line a g))
+reading_same line (numbered_line a) (board_line b) g h =
+    absurd (board_not_numbered line h.0 (message_numbered line a g))
 reading_same line (numbered_line a) (text_line t) g h = absurd (h.0.1 (message_numbered line a g))
 reading_same line (numbered_line a) (malformed_line n k f) g h = absurd (malformed_no_message line a n k f g h)
-reading_same line (board_line a) (numbered_line b) g h = absurd (board_not_numbered line g.0 (message_numbered line b h))
+reading_same line (board_line a) (numbered_line b) g h =
+    absurd (board_not_numbered line g.0 (message_numbered line b h))
 reading_same line (board_line a) (board_line b) g h = ap board_line (one_board line a b g.1 h.1)
 reading_same line (board_line a) (text_line t) g h = absurd (h.0.0 g.0)
 reading_same line (board_line a) (malformed_line n k f) g h = absurd (malformed_no_board line a n k f g.1 h)
@@ -106,7 +113,11 @@ exactly line v found =
     record {
       only = λ w h. reading_same line v w found h;
       numbered = λ m. ((λ e. subst P e found), (λ says. reading_same line v (numbered_line m) found says));
-      board = λ b. ((λ e. (subst P e found).1), (λ says. reading_same line v (board_line b) found (board_begins line b says, says)));
+      board =
+          λ b. (
+            (λ e. (subst P e found).1),
+            (λ says. reading_same line v (board_line b) found (board_begins line b says, says)),
+          );
       malformed = λ n k f. ((λ e. subst P e found), (λ h. reading_same line v (malformed_line n k f) found h));
       text = λ t. ((λ e. subst P e found), (λ h. reading_same line v (text_line t) found h));
     }

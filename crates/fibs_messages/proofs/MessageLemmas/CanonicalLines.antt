@@ -14,7 +14,8 @@ use Rattle.fibs_messages.specs.Rating.{FractionText, hundredths, RatingText}
 fraction_text : (n : ℕ) → n < 100 → FractionText (46 ∷ (48 + n / 10) ∷ (48 + n % 10) ∷ []) n
 fraction_text n lt =
     let e : 10 * (n / 10) + n % 10 ≡ n = omega arith in
-    let h : FractionText (46 ∷ (48 + n / 10) ∷ (48 + n % 10) ∷ []) (10 * (n / 10) + n % 10) = hundredths (omega arith) (omega arith) in
+    let h : FractionText (46 ∷ (48 + n / 10) ∷ (48 + n % 10) ∷ []) (10 * (n / 10) + n % 10) =
+    hundredths (omega arith) (omega arith) in
     subst (FractionText (46 ∷ (48 + n / 10) ∷ (48 + n % 10) ∷ [])) e h
 
 -- what is printed of a rating spells it
@@ -25,7 +26,9 @@ rating_text r =
       whole = r / 100;
       hundreds = r % 100;
       fraction = 46 ∷ (48 + r % 100 / 10) ∷ (48 + r % 10) ∷ [];
-      fraction_text = subst (λ (d : ℕ). FractionText (46 ∷ (48 + r % 100 / 10) ∷ (48 + d) ∷ []) (r % 100)) e (fraction_text (r % 100) (omega arith));
+      fraction_text =
+          subst (λ (d : ℕ). FractionText (46 ∷ (48 + r % 100 / 10) ∷ (48 + d) ∷ []) (r % 100)) e
+          (fraction_text (r % 100) (omega arith));
       text_is = refl;
       rating_is = omega arith;
     }

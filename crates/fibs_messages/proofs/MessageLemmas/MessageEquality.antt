@@ -1,5 +1,5 @@
 -- Two messages are equal exactly where they have one number and the same fields.
-use Rattle.std.proofs.Common.{◌≡◌, ℕ, Bool, false, List, [], ◌∷◌, ap, arith}
+use Rattle.std.proofs.Common.{◌≡◌, ℕ, List, [], ◌∷◌, ap, arith}
 use Rattle.std.specs.Bool.{Decides}
 use Rattle.std.proofs.lemmas.Bool.Decides.{Decides-like}
 use Rattle.fibs_messages.specs.Bytes.{name_bytes, word_bytes}
@@ -7,9 +7,12 @@ use Rattle.fibs_messages.specs.Field.{FieldValue, NameField, WordField, NumberFi
 use Rattle.fibs_messages.specs.Message.{MessageValue, message, message_of, own_info_fields, who_info_fields}
 use Rattle.fibs_messages.specs.contracts.messages.message.MessagePartialEq.TheImpl.{eq-value}
 use Rattle.fibs_messages.specs.declared.messages.message.Message.{Message}
-use Rattle.fibs_messages.specs.declared.messages.message.Message.TheVariants.{Welcome, OwnInfo, MotdBegin, MotdEnd, WhoInfo}
-use Rattle.fibs_messages.specs.declared.messages.message.Message.TheVariants.{WhoInfoEnd, Login, Logout, MessageReceived}
-use Rattle.fibs_messages.specs.declared.messages.message.Message.TheVariants.{MessageDelivered, MessageSaved, Says, Shouts}
+use Rattle.fibs_messages.specs.declared.messages.message.Message.TheVariants.{Welcome, OwnInfo, MotdBegin, MotdEnd}
+use Rattle.fibs_messages.specs.declared.messages.message.Message.TheVariants.{WhoInfo}
+use Rattle.fibs_messages.specs.declared.messages.message.Message.TheVariants.{WhoInfoEnd, Login, Logout}
+use Rattle.fibs_messages.specs.declared.messages.message.Message.TheVariants.{MessageReceived}
+use Rattle.fibs_messages.specs.declared.messages.message.Message.TheVariants.{MessageDelivered, MessageSaved, Says}
+use Rattle.fibs_messages.specs.declared.messages.message.Message.TheVariants.{Shouts}
 use Rattle.fibs_messages.specs.declared.messages.message.Message.TheVariants.{Whispers, Kibitzes, YouSay, YouShout}
 use Rattle.fibs_messages.specs.declared.messages.message.Message.TheVariants.{YouWhisper, YouKibitz}
 use Rattle.fibs_messages.proofs.FieldLemmas.Equality.{never, same_values, same_values_decides}

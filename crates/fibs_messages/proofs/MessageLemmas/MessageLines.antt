@@ -45,8 +45,10 @@ text_some (NameField s) text h k =
     let p = and_parts (ltb 0 (length s) && leb (length s) 64) (list_all is_name_byte s) h.0 in
     let q = and_parts (ltb 0 (length s)) (leb (length s) 64) p.0 in
     rw h.1 (ltb-true 0 (length s) q.0)
-text_some (WordField s) text h k = rw h.1 (ltb-true 0 (length s) (and_parts (ltb 0 (length s)) (list_all (λ b. not (eqb b 32)) s) h.0).0)
-text_some (TailField s) text h k = rw h.1 (ltb-true 0 (length s) (and_parts (ltb 0 (length s)) (not (eqb (get_or s (length s - 1) 0) 32)) h.0).0)
+text_some (WordField s) text h k =
+    rw h.1 (ltb-true 0 (length s) (and_parts (ltb 0 (length s)) (list_all (λ b. not (eqb b 32)) s) h.0).0)
+text_some (TailField s) text h k =
+    rw h.1 (ltb-true 0 (length s) (and_parts (ltb 0 (length s)) (not (eqb (get_or s (length s - 1) 0) 32)) h.0).0)
 text_some (FlagField b) text h k = rw h.1 (omega arith)
 text_some (NumberField n) text h k = rw h.1 (decimal_nonempty n (omega (arith, h.0)))
 text_some (RatingField r) text h k =
@@ -59,7 +61,8 @@ text_some (TextField s) text h k = absurd cc
 plain_end : (text : List ℕ) → has_no 32 text ≡ true → EndsPlain text
 plain_end text h some =
     not-true (get_or text (length text - 1) 0 == 32)
-    (All-get_or (λ c. not (eqb c 32) ≡ true) text (length text - 1) 0 (omega arith) (AllPass-from_list_all (λ c. not (eqb c 32)) text h))
+    (All-get_or (λ c. not (eqb c 32) ≡ true) text (length text - 1) 0 (omega arith)
+    (AllPass-from_list_all (λ c. not (eqb c 32)) text h))
 
 -- a field other than a text ends in no space
 text_plain : (v : FieldValue) (text : List ℕ) → Spells v text → may_be_absent (kind_of v) ≡ false → EndsPlain text
@@ -77,20 +80,25 @@ text_plain (TextField s) text h k = absurd cc
 field_end : (v : FieldValue) (t x : List ℕ) → FieldText v t → may_be_absent (kind_of v) ≡ false → Ends x → Ends (x ++ t)
 field_end v t x (spelled {text} h) k e = record {
   some = front_some x (32 ∷ text) e.some;
-  plain = ends_append x (32 ∷ text) (omega arith) (ends_append (32 ∷ []) text (text_some v text h k) (text_plain v text h k));
+  plain =
+      ends_append x (32 ∷ text) (omega arith)
+      (ends_append (32 ∷ []) text (text_some v text h k) (text_plain v text h k));
 }
 field_end v t x no_text k e = absurd cc
 
 -- and one that ends in such fields
-pub texts_end : (vs : List FieldValue) (s x : List ℕ) → FieldsText vs s → has_all (map kind_of vs) ≡ true → Ends x → Ends (x ++ s)
+pub texts_end : (vs : List FieldValue) (s x : List ℕ) → FieldsText vs s → has_all (map kind_of vs) ≡ true → Ends x
+    → Ends (x ++ s)
 texts_end vs s x no_fields h e = subst Ends (sym (append-nil x)) e
 texts_end vs s x (more_fields {v} {vs = us} {text} {texts} here more) h e =
     let p = and_parts (not (may_be_absent (kind_of v))) (has_all (map kind_of us)) h in
-    subst Ends (append_assoc x text texts) (texts_end us texts (x ++ text) more p.1 (field_end v text x here (not-true (may_be_absent (kind_of v)) p.0) e))
+    subst Ends (append_assoc x text texts)
+    (texts_end us texts (x ++ text) more p.1 (field_end v text x here (not-true (may_be_absent (kind_of v)) p.0) e))
 
 -- a number ends in no space
 number_ends : (n : ℕ) → n < 2 ^ 64 → Ends (decimal n)
-number_ends n lt = record { some = decimal_nonempty n lt; plain = plain_end (decimal n) (decimal_has_no 32 n (omega arith) lt) }
+number_ends n lt =
+    record { some = decimal_nonempty n lt; plain = plain_end (decimal n) (decimal_has_no 32 n (omega arith) lt) }
 
 -- ---- lines
 
@@ -109,7 +117,8 @@ before-append c (b ∷ w) s h = elim (cases_eq b c) [
 ]
 
 -- what is kept of a line
-kept_is : (m : MessageValue) (line : List ℕ) → (t : MessageText m line) → kept m.number line ≡ decimal m.number ++ t.text
+kept_is : (m : MessageValue) (line : List ℕ) → (t : MessageText m line)
+    → kept m.number line ≡ decimal m.number ++ t.text
 kept_is m line t =
     let n = m.number in
     let small : n < 2 ^ 64 = omega (arith, t.number.1) in
@@ -117,8 +126,13 @@ kept_is m line t =
       | inl e ↦
           let all = subst (λ (ks : List Kind). has_all ks ≡ true) (sym t.kinds) (no_text_where_dropped n e) in
           let ends = texts_end m.fields t.text (decimal n) t.fields all (number_ends n small) in
-          rw e (ap without_spaces (t.line_is ∙ sym (append_assoc (decimal n) t.text (replicate t.spaces 32))) ∙ without_spaces-end (decimal n ++ t.text) t.spaces ends.plain)
-      | inr e ↦ rw e (t.line_is ∙ ap (λ (k : ℕ). decimal n ++ (t.text ++ replicate k 32)) (t.no_spaces e) ∙ ap (λ (s : List ℕ). decimal n ++ s) (append-nil t.text))
+          rw e
+          (ap without_spaces (t.line_is ∙ sym (append_assoc (decimal n) t.text (replicate t.spaces 32)))
+          ∙ without_spaces-end (decimal n ++ t.text) t.spaces ends.plain)
+      | inr e ↦
+          rw e
+          (t.line_is ∙ ap (λ (k : ℕ). decimal n ++ (t.text ++ replicate k 32)) (t.no_spaces e)
+          ∙ ap (λ (s : List ℕ). decimal n ++ s) (append-nil t.text))
     ]
 
 -- a line that says a message is read so
@@ -128,12 +142,17 @@ line_reads m line t =
     let small : n < 2 ^ 64 = omega (arith, t.number.1) in
     let head = texts_head m.fields t.text t.fields in
     let plain = decimal_has_no 32 n (omega arith) small in
-    let front : before 32 line ≡ decimal n = ap (before 32) t.line_is ∙ (cut_off 32 (decimal n) (t.text ++ replicate t.spaces 32) plain (append_head 32 t.text (replicate t.spaces 32) head (spaces_head t.spaces))).0 in
-    let back : after 32 (kept n line) ≡ opened t.text = ap (after 32) (kept_is m line t) ∙ (cut_off 32 (decimal n) t.text plain head).1 in
+    let front : before 32 line ≡ decimal n = ap (before 32) t.line_is
+    ∙ (cut_off 32 (decimal n) (t.text ++ replicate t.spaces 32) plain
+    (append_head 32 t.text (replicate t.spaces 32) head (spaces_head t.spaces))).0 in
+    let back : after 32 (kept n line) ≡ opened t.text =
+    ap (after 32) (kept_is m line t) ∙ (cut_off 32 (decimal n) t.text plain head).1 in
     let last : TextLast (map kind_of m.fields) = subst TextLast (sym t.kinds) (last_is n) in
     record {
       number = ap number_word front ∙ number_complete n t.number;
-      fields = ap (λ (o : Option (List ℕ)). fields_at (kinds_of n) 1 (left 32 o)) back ∙ (ap (λ (ks : List Kind). fields_at ks 1 (left 32 (opened t.text))) (sym t.kinds) ∙ fields_complete m.fields t.text 1 t.fields last);
+      fields = ap (λ (o : Option (List ℕ)). fields_at (kinds_of n) 1 (left 32 o)) back
+          ∙ (ap (λ (ks : List Kind). fields_at ks 1 (left 32 (opened t.text))) (sym t.kinds)
+          ∙ fields_complete m.fields t.text 1 t.fields last);
     }
 
 -- what is kept, and the spaces behind it
@@ -150,15 +169,18 @@ kept_part n line = elim (cases_Bool (drops_spaces n)) [
 ]
 
 -- a line that is read as a message says it
-pub reads_line : (n : ℕ) (vs : List FieldValue) (line : List ℕ) → ReadsAs line n (Ok vs) → MessageText (record { number = n; fields = vs }) line
+pub reads_line : (n : ℕ) (vs : List FieldValue) (line : List ℕ) → ReadsAs line n (Ok vs)
+    → MessageText (record { number = n; fields = vs }) line
 reads_line n vs line r =
     let word = number_sound (before 32 line) n r.number in
     let whole = kept n line in
     let found = fields_sound (kinds_of n) 1 (after 32 whole) vs (values_are n) r.fields in
     let k = kept_part n line in
     let front : before 32 whole ≡ decimal n =
-    sym (before-append 32 whole (replicate k.spaces 32) (spaces_head k.spaces)) ∙ (ap (before 32) (sym k.line_is) ∙ word.text_is) in
-    let parts : whole ≡ decimal n ++ behind 32 (after 32 whole) = sym (before-behind 32 whole) ∙ ap (λ (w : List ℕ). w ++ behind 32 (after 32 whole)) front in
+    sym (before-append 32 whole (replicate k.spaces 32) (spaces_head k.spaces))
+    ∙ (ap (before 32) (sym k.line_is) ∙ word.text_is) in
+    let parts : whole ≡ decimal n ++ behind 32 (after 32 whole) =
+    sym (before-behind 32 whole) ∙ ap (λ (w : List ℕ). w ++ behind 32 (after 32 whole)) front in
     record {
       number = word.number;
       kinds = found.kinds;
@@ -166,5 +188,8 @@ reads_line n vs line r =
       fields = found.fields;
       spaces = k.spaces;
       no_spaces = k.none;
-      line_is = k.line_is ∙ (ap (λ (w : List ℕ). w ++ replicate k.spaces 32) parts ∙ append_assoc (decimal n) (behind 32 (after 32 whole)) (replicate k.spaces 32));
+      line_is =
+          k.line_is
+          ∙ (ap (λ (w : List ℕ). w ++ replicate k.spaces 32) parts
+          ∙ append_assoc (decimal n) (behind 32 (after 32 whole)) (replicate k.spaces 32));
     }

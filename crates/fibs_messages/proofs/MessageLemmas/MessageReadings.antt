@@ -59,9 +59,11 @@ faults_same : (j k : ℕ) (f g : Fault) → j ≡ k → f ≡ g → faults j f �
 faults_same j k f g p q i = record { field = p i; fault = q i }
 
 -- what is read is told of the texts
-told : (line : List ℕ) (n : ℕ) (r : Fields) → fields_at (kinds_of n) 1 (left 32 (after 32 (kept n line))) ≡ r → Tells (kinds_of n) 1 (texts_for (kinds_of n) 32 (after 32 (kept n line))) r
+told : (line : List ℕ) (n : ℕ) (r : Fields) → fields_at (kinds_of n) 1 (left 32 (after 32 (kept n line))) ≡ r
+    → Tells (kinds_of n) 1 (texts_for (kinds_of n) 32 (after 32 (kept n line))) r
 told line n r e =
-    subst (Tells (kinds_of n) 1 (texts_for (kinds_of n) 32 (after 32 (kept n line)))) e (tells (kinds_of n) 1 32 (after 32 (kept n line)))
+    subst (Tells (kinds_of n) 1 (texts_for (kinds_of n) 32 (after 32 (kept n line)))) e
+    (tells (kinds_of n) 1 32 (after 32 (kept n line)))
 
 -- the word before the first space is the number
 pub has_number : (line : List ℕ) (n : ℕ) → number_word (before 32 line) ≡ Some n → HasNumber line n
@@ -79,7 +81,8 @@ reads_wrong line n k f r =
     (has_number line n r.number, (t.0, omega arith, t.2.here, t.2.before))
 
 -- a first fault is what reading answers
-told_wrong : (ks : List Kind) (texts : List (List ℕ)) (r : Fields) (i : ℕ) (k : ℕ) (f : Fault) → k ≡ i + 1 → fault_at ks texts i ≡ Some f → ((j : ℕ) → j < i → fault_at ks texts j ≡ None)
+told_wrong : (ks : List Kind) (texts : List (List ℕ)) (r : Fields) (i : ℕ) (k : ℕ) (f : Fault) → k ≡ i + 1
+    → fault_at ks texts i ≡ Some f → ((j : ℕ) → j < i → fault_at ks texts j ≡ None)
     → Tells ks 1 texts r → r ≡ failed (faults k f)
 told_wrong ks texts (Ok vs) i k f place here first t = absurd (some_none f (sym here ∙ t i))
 told_wrong ks texts (Err d) i k f place here first t =
@@ -92,25 +95,33 @@ told_wrong ks texts (Err d) i k f place here first t =
 pub wrong_reads : (line : List ℕ) (n k : ℕ) (f : Fault) → WrongMessage line n k f → ReadsAs line n (failed (faults k f))
 wrong_reads line n k f w = record {
   number = number_of line n w.0;
-  fields = told_wrong (kinds_of n) (texts_for (kinds_of n) 32 (after 32 (kept n line))) (fields_at (kinds_of n) 1 (left 32 (after 32 (kept n line)))) w.1.0 k f w.1.1 w.1.2 w.1.3 (told line n (fields_at (kinds_of n) 1 (left 32 (after 32 (kept n line)))) refl);
+  fields = told_wrong (kinds_of n) (texts_for (kinds_of n) 32 (after 32 (kept n line)))
+      (fields_at (kinds_of n) 1 (left 32 (after 32 (kept n line)))) w.1.0 k f w.1.1 w.1.2 w.1.3
+      (told line n (fields_at (kinds_of n) 1 (left 32 (after 32 (kept n line)))) refl);
 }
 
 -- ---- one or the other, and only one
 
 -- a message, by its parts
-message_same : (m n : ℕ) (us vs : List FieldValue) → m ≡ n → us ≡ vs → ◌≡◌ {A = MessageValue} (record { number = m; fields = us }) (record { number = n; fields = vs })
+message_same : (m n : ℕ) (us vs : List FieldValue) → m ≡ n → us ≡ vs
+    → ◌≡◌ {A = MessageValue} (record { number = m; fields = us }) (record { number = n; fields = vs })
 message_same m n us vs p q i = record { number = p i; fields = q i }
 
 -- a line says one message
 pub one_message : (line : List ℕ) (a b : MessageValue) → MessageText a line → MessageText b line → a ≡ b
 one_message line a b g h =
-    let same = one_number line a.number b.number (found a.fields) (found b.fields) (line_reads a line g) (line_reads b line h) in
+    let same =
+    one_number line a.number b.number (found a.fields) (found b.fields) (line_reads a line g)
+    (line_reads b line h) in
     message_same a.number b.number a.fields b.fields same.0 (found_same a.fields b.fields same.1)
 
 -- a line that says a message has no wrong field
-pub message_not_wrong : (line : List ℕ) (m : MessageValue) (n k : ℕ) (f : Fault) → MessageText m line → WrongMessage line n k f → ⊥
+pub message_not_wrong : (line : List ℕ) (m : MessageValue) (n k : ℕ) (f : Fault) → MessageText m line
+    → WrongMessage line n k f → ⊥
 message_not_wrong line m n k f says wrong =
-    let same = one_number line m.number n (found m.fields) (failed (faults k f)) (line_reads m line says) (wrong_reads line n k f wrong) in
+    let same =
+    one_number line m.number n (found m.fields) (failed (faults k f)) (line_reads m line says)
+    (wrong_reads line n k f wrong) in
     found_not_failed m.fields (faults k f) same.1
 
 -- one number, one field and one fault
@@ -120,21 +131,32 @@ pub record SameWrong (m n j k : ℕ) (f g : Fault) : Type 0 where
   pub fault : f ≡ g
 
 -- a line has one first wrong field
-pub one_wrong : (line : List ℕ) (m n j k : ℕ) (f g : Fault) → WrongMessage line m j f → WrongMessage line n k g → SameWrong m n j k f g
+pub one_wrong : (line : List ℕ) (m n j k : ℕ) (f g : Fault) → WrongMessage line m j f → WrongMessage line n k g
+    → SameWrong m n j k f g
 one_wrong line m n j k f g a b =
-    let same = one_number line m n (failed (faults j f)) (failed (faults k g)) (wrong_reads line m j f a) (wrong_reads line n k g b) in
+    let same =
+    one_number line m n (failed (faults j f)) (failed (faults k g)) (wrong_reads line m j f a)
+    (wrong_reads line n k g b) in
     let fault = failed_same (faults j f) (faults k g) same.1 in
-    record { number = same.0; field = ap (λ (e : FieldFault). e.field) fault; fault = ap (λ (e : FieldFault). e.fault) fault }
+    record {
+      number = same.0;
+      field = ap (λ (e : FieldFault). e.field) fault;
+      fault =
+          ap (λ (e : FieldFault). e.fault) fault;
+    }
 
 -- a numbered line says a message or has a first wrong field
-either_read : (line : List ℕ) (n : ℕ) (r : Fields) → ReadsAs line n r → ((m : MessageValue) × MessageText m line) ⊎ ((k : ℕ) × (f : Fault) × WrongMessage line n k f)
+either_read : (line : List ℕ) (n : ℕ) (r : Fields) → ReadsAs line n r
+    → ((m : MessageValue) × MessageText m line) ⊎ ((k : ℕ) × (f : Fault) × WrongMessage line n k f)
 either_read line n (Ok vs) h = inl (record { number = n; fields = vs }, reads_line n vs line h)
 either_read line n (Err e) h = inr (e.field, e.fault, reads_wrong line n e.field e.fault h)
 
 -- each numbered line says a message or has a first wrong field
-pub message_or_wrong : (line : List ℕ) (n : ℕ) → HasNumber line n → ((m : MessageValue) × MessageText m line) ⊎ ((k : ℕ) × (f : Fault) × WrongMessage line n k f)
+pub message_or_wrong : (line : List ℕ) (n : ℕ) → HasNumber line n
+    → ((m : MessageValue) × MessageText m line) ⊎ ((k : ℕ) × (f : Fault) × WrongMessage line n k f)
 message_or_wrong line n h =
-    either_read line n (fields_at (kinds_of n) 1 (left 32 (after 32 (kept n line)))) (record { number = number_of line n h; fields = refl })
+    either_read line n (fields_at (kinds_of n) 1 (left 32 (after 32 (kept n line))))
+    (record { number = number_of line n h; fields = refl })
 
 -- ---- lines of messages are numbered, and no board lines
 
@@ -151,7 +173,9 @@ none_with_b (c ∷ d ∷ s) n e = cc
 -- a board line does
 pub begins_with_b : (line : List ℕ) → IsBoardLine line → (s : List ℕ) × (line ≡ 98 ∷ s)
 begins_with_b [] h = absurd cc
-begins_with_b (c ∷ s) h = let first : 98 ≡ c = eqb-true 98 c (and_parts (eqb 98 c) (starts_with eqb s (codes "oard:")) h).0 in (s, ap (λ (b : ℕ). b ∷ s) (sym first))
+begins_with_b (c ∷ s) h =
+    let first : 98 ≡ c = eqb-true 98 c (and_parts (eqb 98 c) (starts_with eqb s (codes "oard:")) h).0 in
+    (s, ap (λ (b : ℕ). b ∷ s) (sym first))
 
 -- no board line is numbered
 pub board_not_numbered : (line : List ℕ) → IsBoardLine line → IsNumbered line → ⊥

@@ -32,7 +32,8 @@ empty_sound : (n : ℕ) → is_sound n [] ≡ true
 empty_sound n = or-true (not (drops_spaces n))
 
 -- the rows pass, and so does each number
-rows_sound : (rows : List Row) (n : ℕ) → list_all (λ r. is_sound r.number r.kinds) rows ≡ true → is_sound n (kinds_in rows n) ≡ true
+rows_sound : (rows : List Row) (n : ℕ) → list_all (λ r. is_sound r.number r.kinds) rows ≡ true
+    → is_sound n (kinds_in rows n) ≡ true
 rows_sound [] n h = empty_sound n
 rows_sound (r ∷ rows) n h =
     let p = and_parts (is_sound r.number r.kinds) (list_all (λ (x : Row). is_sound x.number x.kinds) rows) h in
@@ -70,22 +71,29 @@ TextLast-from (k ∷ ks) e =
 -- the fields of each message have values
 pub values_are : (n : ℕ) → list_all has_values (kinds_of n) ≡ true
 values_are n =
-    (and_parts (list_all has_values (kinds_of n)) (text_last (kinds_of n) && (not (drops_spaces n) || has_all (kinds_of n)))
+    (and_parts (list_all has_values (kinds_of n))
+    (text_last (kinds_of n) && (not (drops_spaces n) || has_all (kinds_of n)))
     (kinds_sound n)).0
 
 -- what else is checked of them
 others_are : (n : ℕ) → (text_last (kinds_of n) && (not (drops_spaces n) || has_all (kinds_of n))) ≡ true
 others_are n =
-    (and_parts (list_all has_values (kinds_of n)) (text_last (kinds_of n) && (not (drops_spaces n) || has_all (kinds_of n)))
+    (and_parts (list_all has_values (kinds_of n))
+    (text_last (kinds_of n) && (not (drops_spaces n) || has_all (kinds_of n)))
     (kinds_sound n)).1
 
 -- a text is the last field of each message
 pub last_is : (n : ℕ) → TextLast (kinds_of n)
-last_is n = TextLast-from (kinds_of n) (and_parts (text_last (kinds_of n)) (not (drops_spaces n) || has_all (kinds_of n)) (others_are n)).0
+last_is n =
+    TextLast-from (kinds_of n)
+    (and_parts (text_last (kinds_of n)) (not (drops_spaces n) || has_all (kinds_of n)) (others_are n)).0
 
 -- where spaces are dropped there is no text
 pub no_text_where_dropped : (n : ℕ) → drops_spaces n ≡ true → has_all (kinds_of n) ≡ true
-no_text_where_dropped n e = elim (or_cases (not (drops_spaces n)) (has_all (kinds_of n)) (and_parts (text_last (kinds_of n)) (not (drops_spaces n) || has_all (kinds_of n)) (others_are n)).1) [
-  | inl other ↦ let f : drops_spaces n ≡ false = not-true (drops_spaces n) other in absurd cc
-  | inr h ↦ h
-]
+no_text_where_dropped n e =
+    elim
+    (or_cases (not (drops_spaces n)) (has_all (kinds_of n))
+    (and_parts (text_last (kinds_of n)) (not (drops_spaces n) || has_all (kinds_of n)) (others_are n)).1) [
+      | inl other ↦ let f : drops_spaces n ≡ false = not-true (drops_spaces n) other in absurd cc
+      | inr h ↦ h
+    ]

@@ -33,7 +33,11 @@ number_sound (d ∷ []) n e =
     let low = leb-true 49 d q.0 in
     let high = leb-true d 57 q.1 in
     let is : d ≡ 48 + n = omega (arith, p.1) in
-    record { number = (omega (arith, p.1), omega (arith, p.1)); text_is = ap (λ (b : ℕ). b ∷ []) is ∙ sym (decimal_digit n (omega (arith, p.1))) }
+    record {
+      number = (omega (arith, p.1), omega (arith, p.1));
+      text_is = ap (λ (b : ℕ). b ∷ []) is
+          ∙ sym (decimal_digit n (omega (arith, p.1)));
+    }
 number_sound (d ∷ f ∷ []) n e =
     let p = some_if (eqb d 49 && is_in_range 48 57 f) (10 + (f - 48)) n e in
     let r = and_parts (eqb d 49) (is_in_range 48 57 f) p.0 in
@@ -43,7 +47,8 @@ number_sound (d ∷ f ∷ []) n e =
     let is : f ≡ 48 + (n - 10) = omega (arith, p.1) in
     record {
       number = (omega (arith, p.1), omega (arith, p.1));
-      text_is = ap (λ (b : ℕ). b ∷ f ∷ []) (eqb-true d 49 r.0) ∙ (ap (λ (b : ℕ). 49 ∷ b ∷ []) is ∙ sym (two_digits n (omega (arith, p.1)) (omega (arith, p.1))));
+      text_is = ap (λ (b : ℕ). b ∷ f ∷ []) (eqb-true d 49 r.0)
+          ∙ (ap (λ (b : ℕ). 49 ∷ b ∷ []) is ∙ sym (two_digits n (omega (arith, p.1)) (omega (arith, p.1))));
     }
 number_sound (d ∷ f ∷ g ∷ s) n e = absurd cc
 
@@ -59,5 +64,6 @@ number_complete n h = elim (cases_lt n 10) [
       rw (decimal_digit n lt, in_range 49 57 (48 + n) (omega (arith, h.0)) (omega arith)) (ap (λ (x : ℕ). Some x) v)
   | inr le ↦
       let v : 10 + (48 + (n - 10) - 48) ≡ n = omega arith in
-      rw (two_digits n le h.1, in_range 48 57 (48 + (n - 10)) (omega arith) (omega (arith, h.1))) (ap (λ (x : ℕ). Some x) v)
+      rw (two_digits n le h.1, in_range 48 57 (48 + (n - 10)) (omega arith) (omega (arith, h.1)))
+      (ap (λ (x : ℕ). Some x) v)
 ]

@@ -64,10 +64,55 @@ is_message m h = record { number = number_is m; kinds = kinds_are m; values = va
   where
     values_are : (m : Message) → HasBits m → AllByRecursion IsValue (message_of m).fields
     values_are (Welcome name last_login last_host) h = (name.valid, (h, (last_host.valid, tt)))
-    values_are (OwnInfo i) h = (i.name.valid, (tt, (tt, (tt, (tt, (tt, (tt, (tt, (tt, (h.0, (tt, (tt, (tt, (tt, (h.1, (tt, (tt, (i.redoubles.valid, (tt, (tt, (i.timezone.valid, tt)))))))))))))))))))))
+    values_are (OwnInfo i) h = (
+      i.name.valid,
+      (
+        tt,
+        (
+          tt,
+          (
+            tt,
+            (
+              tt,
+              (
+                tt,
+                (
+                  tt,
+                  (
+                    tt,
+                    (
+                      tt,
+                      (
+                        h.0,
+                        (
+                          tt,
+                          (
+                            tt,
+                            (tt, (tt, (h.1, (tt, (tt, (i.redoubles.valid, (tt, (tt, (i.timezone.valid, tt))))))))),
+                          ),
+                        ),
+                      ),
+                    ),
+                  ),
+                ),
+              ),
+            ),
+          ),
+        ),
+      ),
+    )
     values_are MotdBegin h = tt
     values_are MotdEnd h = tt
-    values_are (WhoInfo w) h = (w.name.valid, (w.opponent.valid, (w.watching.valid, (tt, (tt, (h.0, (h.1, (h.2, (h.3, (w.hostname.valid, (w.client.valid, (w.email.valid, tt))))))))))))
+    values_are (WhoInfo w) h = (
+      w.name.valid,
+      (
+        w.opponent.valid,
+        (
+          w.watching.valid,
+          (tt, (tt, (h.0, (h.1, (h.2, (h.3, (w.hostname.valid, (w.client.valid, (w.email.valid, tt))))))))),
+        ),
+      ),
+    )
     values_are WhoInfoEnd h = tt
     values_are (Login name text) h = (name.valid, (tt, tt))
     values_are (Logout name text) h = (name.valid, (tt, tt))

@@ -32,7 +32,8 @@ allowed_narrow (Either one other) (pos n) fits holds = grind (arith, ints, nat_t
 allowed_narrow (Either one other) (negsuc n) fits holds = grind (arith, ints, nat_tests)
 
 -- a number that is cut off is refused as before, and one that a field may have is not cut off
-pub same_if_allowed : (values : Values) (spelled : Option ℤ) → IsNarrow values → number_if_allowed values (option_map capped spelled) ≡ number_if_allowed values spelled
+pub same_if_allowed : (values : Values) (spelled : Option ℤ) → IsNarrow values
+    → number_if_allowed values (option_map capped spelled) ≡ number_if_allowed values spelled
 same_if_allowed values None fits = refl
 same_if_allowed values (Some z) fits = ⊎_elim
     (λ (holds : allows values z ≡ true). ap (λ y. number_if_allowed values (Some y)) (allowed_same values z fits holds))

@@ -14,8 +14,10 @@ use Rattle.std.specs.Char.{digit_value}
 use Rattle.std.proofs.lemmas.Bool.Decides.{nat_tests}
 
 -- each of the digits is one
-pub digit_at : (ds : List ℕ) (i : ℕ) → list_all is_ascii_digit ds ≡ true → i < length ds → is_ascii_digit (get_or ds i 0) ≡ true
-digit_at ds i all within = All-get_or (λ d. is_ascii_digit d ≡ true) ds i 0 within (AllPass-from_list_all is_ascii_digit ds all)
+pub digit_at : (ds : List ℕ) (i : ℕ) → list_all is_ascii_digit ds ≡ true → i < length ds
+    → is_ascii_digit (get_or ds i 0) ≡ true
+digit_at ds i all within =
+    All-get_or (λ d. is_ascii_digit d ≡ true) ds i 0 within (AllPass-from_list_all is_ascii_digit ds all)
 
 -- a digit lies between `0` and `9`
 pub is_digit_range : (c : ℕ) → is_ascii_digit c ≡ true → (48 ≤ c) × (c < 58) × (digit_value c ≡ c - 48)
@@ -26,7 +28,8 @@ pub digit_low : (ds : List ℕ) (i : ℕ) → list_all is_ascii_digit ds ≡ tru
 digit_low ds i all within = (is_digit_range (get_or ds i 0) (digit_at ds i all within)).0
 
 -- its value is what it is above `0`
-pub digit_value_is : (ds : List ℕ) (i : ℕ) → list_all is_ascii_digit ds ≡ true → i < length ds → digit_value (get_or ds i 0) ≡ get_or ds i 0 - 48
+pub digit_value_is : (ds : List ℕ) (i : ℕ) → list_all is_ascii_digit ds ≡ true → i < length ds
+    → digit_value (get_or ds i 0) ≡ get_or ds i 0 - 48
 digit_value_is ds i all within = (is_digit_range (get_or ds i 0) (digit_at ds i all within)).2
 
 -- digits after a number only add to it
@@ -45,13 +48,19 @@ pub front_worth : (k : ℕ) (ds : List ℕ) → digits_value 10 (take k ds) ≤ 
 front_worth k ds = worth_after_front 0 k ds
 
 -- digits whose front and next one are worth too much are so too
-pub too_large : (limit i : ℕ) (ds : List ℕ) → list_all is_ascii_digit ds ≡ true → i < length ds → limit ≤ digits_value 10 (take i ds) * 10 + (get_or ds i 0 - 48) → limit ≤ digits_value 10 ds
-too_large limit i ds all within large = omega (arith, front_worth (i + 1) ds, digits_value_more 10 ds i within, digit_value_is ds i all within)
+pub too_large : (limit i : ℕ) (ds : List ℕ) → list_all is_ascii_digit ds ≡ true → i < length ds
+    → limit ≤ digits_value 10 (take i ds) * 10 + (get_or ds i 0 - 48) → limit ≤ digits_value 10 ds
+too_large limit i ds all within large =
+    omega (arith, front_worth (i + 1) ds, digits_value_more 10 ds i within, digit_value_is ds i all within)
 
 -- 18 digits leave room for one more in 64 bits
-pub front_room : (ds : List ℕ) (i : ℕ) → list_all is_ascii_digit (take i ds) ≡ true → length ds ≤ 19 → i < length ds → digits_value 10 (take i ds) < 10 ^ 18
-front_room ds i all short within = digits_value_short (numerals_by_value (λ cs. list_all is_ascii_digit cs ≡ true) (search rules)) (take i ds) 18 all (omega (arith, length-take-le i ds (search arith)))
+pub front_room : (ds : List ℕ) (i : ℕ) → list_all is_ascii_digit (take i ds) ≡ true → length ds ≤ 19 → i < length ds
+    → digits_value 10 (take i ds) < 10 ^ 18
+front_room ds i all short within =
+    digits_value_short (numerals_by_value (λ cs. list_all is_ascii_digit cs ≡ true) (search rules)) (take i ds) 18 all
+    (omega (arith, length-take-le i ds (search arith)))
 
 -- digits and one more are digits
-pub front_more : (ds : List ℕ) (i : ℕ) → list_all is_ascii_digit (take i ds) ≡ true → i < length ds → is_ascii_digit (get_or ds i 0) ≡ true → list_all is_ascii_digit (take (i + 1) ds) ≡ true
+pub front_more : (ds : List ℕ) (i : ℕ) → list_all is_ascii_digit (take i ds) ≡ true → i < length ds
+    → is_ascii_digit (get_or ds i 0) ≡ true → list_all is_ascii_digit (take (i + 1) ds) ≡ true
 front_more ds i all within digit = list_all_more is_ascii_digit ds i 0 within ∙ rw (all, digit) refl

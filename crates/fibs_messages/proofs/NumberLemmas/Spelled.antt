@@ -55,7 +55,8 @@ positive_from ds p =
 
 -- digits that begin with no 0 are what is written of their number
 pub positive_spelled : (ds : List ℕ) → Positive ds → digits_value 10 ds < 2 ^ 64 → decimal (digits_value 10 ds) ≡ ds
-positive_spelled ds p limit = decimal-digits_value own ds p.digits p.some (λ zero_first. absurd (p.lead zero_first)) limit
+positive_spelled ds p limit =
+    decimal-digits_value own ds p.digits p.some (λ zero_first. absurd (p.lead zero_first)) limit
 
 -- such digits are worth something
 pub positive_value : (ds : List ℕ) → Positive ds → 0 < digits_value 10 ds
@@ -89,12 +90,15 @@ minus_value ds p = rw (positive_from ds p) refl
 pub decimal_value-spelled : (z : ℤ) → mag z < 2 ^ 63 → decimal_value (signed_decimal z) ≡ Some z
 decimal_value-spelled (pos zero) limit = ap decimal_value (decimal_digit 0 (lit< tt))
 decimal_value-spelled (pos (suc n)) limit =
-    plain_value (decimal (suc n)) (written_positive (suc n) (omega arith) (omega arith)) ∙ ap (λ m. Some (pos m)) (digits_value-decimal own (suc n) (omega arith))
+    plain_value (decimal (suc n)) (written_positive (suc n) (omega arith) (omega arith))
+    ∙ ap (λ m. Some (pos m)) (digits_value-decimal own (suc n) (omega arith))
 decimal_value-spelled (negsuc n) limit =
-    minus_value (decimal (suc n)) (written_positive (suc n) (omega arith) (omega arith)) ∙ ap (λ m. Some (neg_ℤ (pos m))) (digits_value-decimal own (suc n) (omega arith))
+    minus_value (decimal (suc n)) (written_positive (suc n) (omega arith) (omega arith))
+    ∙ ap (λ m. Some (neg_ℤ (pos m))) (digits_value-decimal own (suc n) (omega arith))
 
 -- and are what is written of it
-minus_spelled : (ds : List ℕ) (n : ℕ) (z : ℤ) → Positive ds → digits_value 10 ds ≡ n → neg_ℤ (pos n) ≡ z → mag z < 2 ^ 63 → 45 ∷ ds ≡ signed_decimal z
+minus_spelled : (ds : List ℕ) (n : ℕ) (z : ℤ) → Positive ds → digits_value 10 ds ≡ n → neg_ℤ (pos n) ≡ z
+    → mag z < 2 ^ 63 → 45 ∷ ds ≡ signed_decimal z
 minus_spelled ds zero z p is e limit = absurd (omega (arith, positive_value ds p))
 minus_spelled ds (suc n) z p is e limit =
     let limit-n : n < 2 ^ 63 = subst (λ (y : ℤ). mag y < 2 ^ 63) (sym e) limit in
@@ -107,7 +111,8 @@ zero_text (c ∷ []) e = ap (λ b. b ∷ []) (grind (arith, nat_tests))
 zero_text (c ∷ d ∷ cs) e = absurd (grind (arith, nat_tests))
 
 -- the number of a canonical decimal is written so
-pub decimal_is_spelled : (text : List ℕ) (z : ℤ) → decimal_value text ≡ Some z → mag z < 2 ^ 63 → text ≡ signed_decimal z
+pub decimal_is_spelled : (text : List ℕ) (z : ℤ) → decimal_value text ≡ Some z → mag z < 2 ^ 63
+    → text ≡ signed_decimal z
 decimal_is_spelled [] z e limit = cc
 decimal_is_spelled (c ∷ cs) z e limit = ⊎_elim
     (λ minus.
@@ -115,14 +120,16 @@ decimal_is_spelled (c ∷ cs) z e limit = ⊎_elim
     let found = cond_some (is_positive cs) (neg_ℤ (pos (digits_value 10 cs))) z (rw minus at e) in
     ap (λ b. b ∷ cs) is ∙ minus_spelled cs (digits_value 10 cs) z (positive_parts cs found.0) refl found.1 limit)
     (λ plain.
-    let found = cond_some (is_zero (c ∷ cs) || is_positive (c ∷ cs)) (pos (digits_value 10 (c ∷ cs))) z (rw plain at e) in
+    let found =
+    cond_some (is_zero (c ∷ cs) || is_positive (c ∷ cs)) (pos (digits_value 10 (c ∷ cs))) z (rw plain at e) in
     let limit-n : digits_value 10 (c ∷ cs) < 2 ^ 63 = subst (λ (y : ℤ). mag y < 2 ^ 63) (sym found.1) limit in
     ⊎_elim
     (λ (is-zero : is_zero (c ∷ cs) ≡ true).
     let text : c ∷ cs ≡ 48 ∷ [] = zero_text (c ∷ cs) is-zero in
     let number : pos 0 ≡ z = sym (ap (λ (l : List ℕ). pos (digits_value 10 l)) text) ∙ found.1 in
     text ∙ sym (decimal_digit 0 (lit< tt)) ∙ ap signed_decimal number)
-    (λ (is-positive : is_positive (c ∷ cs) ≡ true). sym (positive_spelled (c ∷ cs) (positive_parts (c ∷ cs) is-positive) (omega arith)) ∙ ap signed_decimal found.1)
+    (λ (is-positive : is_positive (c ∷ cs) ≡ true).
+    sym (positive_spelled (c ∷ cs) (positive_parts (c ∷ cs) is-positive) (omega arith)) ∙ ap signed_decimal found.1)
     (or_cases (is_zero (c ∷ cs)) (is_positive (c ∷ cs)) found.0))
     (cases_Bool (c == 45))
 
@@ -135,7 +142,8 @@ err_is_no_ok : (f : Fault) (z : ℤ) → ◌≡◌ {A = Result ℤ Fault} (Err f
 err_is_no_ok f z e = cc
 
 -- a number that is read is allowed
-pub value_allowed : (values : Values) (found : Option ℤ) (z : ℤ) → number_if_allowed values found ≡ Ok z → (found ≡ Some z) × (allows values z ≡ true)
+pub value_allowed : (values : Values) (found : Option ℤ) (z : ℤ) → number_if_allowed values found ≡ Ok z
+    → (found ≡ Some z) × (allows values z ≡ true)
 value_allowed values None z h = cc
 value_allowed values (Some y) z h = ⊎_elim
     (λ (holds : allows values y ≡ true).
@@ -145,14 +153,16 @@ value_allowed values (Some y) z h = ⊎_elim
     (cases_Bool (allows values y))
 
 -- a number that is read is written so
-pub number_in_spelled : (values : Values) (text : List ℕ) (z : ℤ) → IsNarrow values → number_in values text ≡ Ok z → (text ≡ signed_decimal z) × (allows values z ≡ true)
+pub number_in_spelled : (values : Values) (text : List ℕ) (z : ℤ) → IsNarrow values → number_in values text ≡ Ok z
+    → (text ≡ signed_decimal z) × (allows values z ≡ true)
 number_in_spelled values text z fits e =
     let found = value_allowed values (decimal_value text) z e in
     let narrow : FitsSigned w32 z = allowed_narrow values z fits found.1 in
     (decimal_is_spelled text z found.0 (omega (arith, narrow.sfits)), found.1)
 
 -- what is written of a number is read
-pub number_in-written : (values : Values) (z : ℤ) → IsNarrow values → allows values z ≡ true → number_in values (signed_decimal z) ≡ Ok z
+pub number_in-written : (values : Values) (z : ℤ) → IsNarrow values → allows values z ≡ true
+    → number_in values (signed_decimal z) ≡ Ok z
 number_in-written values z fits holds =
     let narrow : FitsSigned w32 z = allowed_narrow values z fits holds in
     let read : decimal_value (signed_decimal z) ≡ Some z = decimal_value-spelled z (omega (arith, narrow.sfits)) in

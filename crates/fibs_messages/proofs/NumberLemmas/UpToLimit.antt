@@ -16,10 +16,13 @@ use Rattle.fibs_messages.proofs.NumberLemmas.Naturals.{plain_spelled}
 use Rattle.fibs_messages.proofs.NumberLemmas.Spelled.{own}
 
 -- what is read is written so
-up_to_tells : (limit n : ℕ) (text : List ℕ) → limit < 2 ^ 64 → decimal_up_to limit text ≡ Some n → (text ≡ decimal n) × (n ≤ limit)
+up_to_tells : (limit n : ℕ) (text : List ℕ) → limit < 2 ^ 64 → decimal_up_to limit text ≡ Some n
+    → (text ≡ decimal n) × (n ≤ limit)
 unfolding decimal_up_to
 up_to_tells limit n text few h =
-    let found = cond_some ((is_zero text || is_positive text) && nat_le (digits_value 10 text) limit) (digits_value 10 text) n h in
+    let found =
+    cond_some ((is_zero text || is_positive text) && nat_le (digits_value 10 text) limit) (digits_value 10 text) n
+    h in
     let parts = and_parts (is_zero text || is_positive text) (nat_le (digits_value 10 text) limit) found.0 in
     let under : digits_value 10 text ≤ limit = (let test = parts.1 in grind (arith, nat_tests)) in
     let small : n ≤ limit = omega (arith, found.1, under) in
@@ -31,11 +34,14 @@ unfolding decimal_up_to
 up_to_from limit n few small =
     let value : digits_value 10 (decimal n) ≡ n = digits_value-decimal own n (omega arith) in
     let within : nat_le (digits_value 10 (decimal n)) limit ≡ true = grind (arith, nat_tests) in
-    let test = and_from (is_zero (decimal n) || is_positive (decimal n)) (nat_le (digits_value 10 (decimal n)) limit) (decimal_form n (omega arith)) within in
+    let test =
+    and_from (is_zero (decimal n) || is_positive (decimal n)) (nat_le (digits_value 10 (decimal n)) limit)
+    (decimal_form n (omega arith)) within in
     ap (λ t. cond t (Some (digits_value 10 (decimal n))) None) test ∙ ap Some value
 
 -- both ways
-pub up_to_exact : (limit n : ℕ) (text : List ℕ) → limit < 2 ^ 64 → (decimal_up_to limit text ≡ Some n) ↔ ((text ≡ decimal n) × (n ≤ limit))
+pub up_to_exact : (limit n : ℕ) (text : List ℕ) → limit < 2 ^ 64
+    → (decimal_up_to limit text ≡ Some n) ↔ ((text ≡ decimal n) × (n ≤ limit))
 up_to_exact limit n text few = (
   up_to_tells limit n text few,
   λ h. ap (decimal_up_to limit) h.0 ∙ up_to_from limit n few h.1,
@@ -62,18 +68,22 @@ up_to_of limit text few = elim (cases_Bool (is_zero text || is_positive text)) [
 ]
 
 -- a number that is not above it
-pub up_to_found : (limit n : ℕ) (text : List ℕ) (r : Result ℕ Fault) → limit < 2 ^ 64 → r ≡ unsigned_value text → r ≡ Ok n → n ≤ limit → Some n ≡ decimal_up_to limit text
+pub up_to_found : (limit n : ℕ) (text : List ℕ) (r : Result ℕ Fault) → limit < 2 ^ 64 → r ≡ unsigned_value text
+    → r ≡ Ok n → n ≤ limit → Some n ≡ decimal_up_to limit text
 up_to_found limit n text r few e is small =
-    sym (ap (λ t. cond t (Some n) None) (le-leb n limit small)) ∙ ap (limited limit) (sym is ∙ e) ∙ up_to_of limit text few
+    sym (ap (λ t. cond t (Some n) None) (le-leb n limit small)) ∙ ap (limited limit) (sym is ∙ e)
+    ∙ up_to_of limit text few
 
 -- one that is above it
-pub up_to_above : (limit n : ℕ) (text : List ℕ) (r : Result ℕ Fault) → limit < 2 ^ 64 → r ≡ unsigned_value text → r ≡ Ok n → limit < n → None ≡ decimal_up_to limit text
+pub up_to_above : (limit n : ℕ) (text : List ℕ) (r : Result ℕ Fault) → limit < 2 ^ 64 → r ≡ unsigned_value text
+    → r ≡ Ok n → limit < n → None ≡ decimal_up_to limit text
 up_to_above limit n text r few e is above =
     let test : nat_le n limit ≡ false = grind (arith, nat_tests) in
     sym (ap (λ t. cond t (Some n) None) test) ∙ ap (limited limit) (sym is ∙ e) ∙ up_to_of limit text few
 
 -- none
-pub up_to_refused : (limit : ℕ) (text : List ℕ) (r : Result ℕ Fault) (f : Fault) → limit < 2 ^ 64 → r ≡ unsigned_value text → r ≡ Err f → None ≡ decimal_up_to limit text
+pub up_to_refused : (limit : ℕ) (text : List ℕ) (r : Result ℕ Fault) (f : Fault) → limit < 2 ^ 64
+    → r ≡ unsigned_value text → r ≡ Err f → None ≡ decimal_up_to limit text
 up_to_refused limit text r f few e is = ap (limited limit) (sym is ∙ e) ∙ up_to_of limit text few
 
 -- what is so of what the definition gives

@@ -2,7 +2,7 @@
 
 ghost use Rattle.std.specs.Prelude.{◌≡◌, ◌≢◌, ◌≤◌, IfSome, IsSome, ◌↔◌, ◌≤ℤ◌, ◌⊎◌, pos, negsuc, ◌++◌, ◌+◌, ℕ, true};
 ghost use Rattle.std.specs.Prelude.{length, IfOk, IfErr, OnOk, OnErr, drop, option_map, Ok, Err};
-ghost use Rattle.fibs_messages.specs.Bytes.{parts_of};
+ghost use Rattle.fibs_messages.specs.Bytes.{parts};
 ghost use Rattle.fibs_messages.specs.BoardProp.{IsBoard-prop};
 ghost use Rattle.fibs_messages.specs.Name.{is_name};
 ghost use Rattle.fibs_messages.specs.Bytes.{name_bytes};
@@ -31,7 +31,7 @@ pub struct Board {
     player: StoredName,
     opponent: StoredName,
     numbers: [i32; 50],
-    pub ghost valid: { IsBoard (parts_of player opponent numbers) } by { IsBoard-prop (parts_of player opponent numbers) },
+    pub ghost valid: { IsBoard (parts player opponent numbers) } by { IsBoard-prop (parts player opponent numbers) },
 }
 
 /// Appends bytes for which there is room.
@@ -63,8 +63,7 @@ impl Board {
     /// Spaces at the line's end are dropped, and the fields are parted by colons. Field 1 is `BadName` where it is not
     /// `board`, fields 2 and 3 where they are no names. A number is `NotANumber` where it is no canonical decimal (`0`,
     /// or digits that begin with no 0, with a `-` or without), and `OutOfRange` where it is one, of any length, that
-    /// the
-    /// field may not have. The first absent field is `Missing`, a 54th is `Extra`.
+    /// the field may not have. The first absent field is `Missing`, a 54th is `Extra`.
     pub fn read(line: &[u8]) -> Result<Board, FieldFault>
         // What is read is what the line says.
         ensures found { IfOk (read_fields result) (λ b. BoardText b line.now) }

@@ -32,7 +32,8 @@ fn is_positive(text: &[u8]) -> bool
 /// The number that the digits write, unless it takes more than 64 bits.
 fn magnitude(digits: &[u8]) -> Option<u64>
     requires { list_all is_ascii_digit digits.now ≡ true }
-    ensures { MatchOption result (numbers_of_64_bits ≤ digits_value 10 digits.now) (λ n. n ≡ digits_value 10 digits.now) }
+    ensures { MatchOption result (numbers_of_64_bits ≤ digits_value 10 digits.now)
+        (λ n. n ≡ digits_value 10 digits.now) }
 {
     let mut value = 0u64;
     for digit in digits {

@@ -5,12 +5,12 @@ ghost use Rattle.std.specs.List.{flat_map};
 ghost use Rattle.fibs_messages.specs.Field.{NameField, FlagField, NumberField, RatingField, TextField};
 ghost use Rattle.fibs_messages.specs.FieldOf.{value_of, values_of};
 ghost use Rattle.fibs_messages.specs.Message.{MessageText, canonical, canonical_field};
-ghost use Rattle.fibs_messages.specs.Message.{message_of, own_info_fields};
+ghost use Rattle.fibs_messages.specs.Message.{message_of, own_info_fields, who_info_fields};
 ghost use Rattle.fibs_messages.specs.Bytes.{name_bytes};
 
 use crate::fields::name::Name;
 use crate::fields::rating::append_rating;
-use crate::fields::word::Word;
+use crate::fields::word::{Tail, Word};
 use crate::laws::messages_are_well_formed;
 use crate::messages::message::{Message, OwnInfo, WhoInfo};
 use itoa::Buffer;
@@ -21,6 +21,7 @@ use std::alloc::{AllocError, Global};
 pub enum Field<'a> {
     Name(Name<'a>),
     Word(Word<'a>),
+    Tail(Tail<'a>),
     Flag(bool),
     Number(u64),
     Rating(u32),
@@ -87,6 +88,7 @@ fn append_field(out: &mut Vec<u8>, field: &Field<'_>) -> Result<(), AllocError>
     match field {
         Field::Name(name) => append_piece(out, name.bytes()),
         Field::Word(word) => append_piece(out, word.bytes()),
+        Field::Tail(tail) => append_piece(out, tail.bytes()),
         Field::Flag(flag) => append_flag(out, *flag),
         Field::Number(number) => append_count(out, *number),
         Field::Rating(rating) => append_spaced_rating(out, *rating),
@@ -143,66 +145,26 @@ fn own_info_fields<'a>(info: &OwnInfo<'a>) -> [Field<'a>; 21]
     ]
 }
 
-/// Appends three pieces, each behind a space.
-#[inline(always)]
-fn append_three(out: &mut Vec<u8>, one: &[u8], two: &[u8], three: &[u8]) -> Result<(), AllocError>
-    ensures put { OnOk result (out.new.items ≡ out.old.items
-        ++ flat_map (λ piece. 32 ∷ piece) (one.now ∷ two.now ∷ three.now ∷ [])) }
-    ensures front { take (length out.old.items) out.new.items ≡ out.old.items }
+fn who_info_fields<'a>(info: &WhoInfo<'a>) -> [Field<'a>; 12]
+    ensures { values_of result ≡ who_info_fields info.now }
 {
-    append_piece(out, one)?;
-    append_piece(out, two)?;
-    append_piece(out, three)
-}
-
-/// Appends the flags and the rating of message 5.
-fn append_readiness(out: &mut Vec<u8>, info: &WhoInfo<'_>) -> Result<(), AllocError>
-    ensures put { OnOk result (out.new.items ≡ out.old.items
-        ++ flat_map canonical_field (FlagField info.now.ready ∷ FlagField info.now.away
-        ∷ RatingField info.now.rating ∷ [])) }
-    ensures front { take (length out.old.items) out.new.items ≡ out.old.items }
-{
-    append_flag(out, info.ready)?;
-    append_flag(out, info.away)?;
-    append_spaced_rating(out, info.rating)
-}
-
-/// Appends the three numbers of message 5.
-fn append_counts(out: &mut Vec<u8>, info: &WhoInfo<'_>) -> Result<(), AllocError>
-    ensures put { OnOk result (out.new.items ≡ out.old.items
-        ++ flat_map canonical_field (NumberField info.now.experience ∷ NumberField info.now.idle
-        ∷ NumberField info.now.login ∷ [])) }
-    ensures front { take (length out.old.items) out.new.items ≡ out.old.items }
-{
-    append_count(out, info.experience)?;
-    append_count(out, info.idle)?;
-    append_count(out, info.login)
+    [
+        Field::Name(info.name),
+        Field::Name(info.opponent),
+        Field::Name(info.watching),
+        Field::Flag(info.ready),
+        Field::Flag(info.away),
+        Field::Rating(info.rating),
+        Field::Number(info.experience),
+        Field::Number(info.idle),
+        Field::Number(info.login),
+        Field::Word(info.hostname),
+        Field::Word(info.client),
+        Field::Tail(info.email),
+    ]
 }
 
 // The longer messages stay out of line, so that no other pays for clearing their room.
-
-/// Appends the line of message 1.
-#[inline(never)]
-fn append_welcome<'a>(
-    out: &mut Vec<u8>,
-    name: Name<'a>,
-    last_login: u64,
-    last_host: Word<'a>,
-) -> Result<(), AllocError>
-    ensures put { OnOk result (out.new.items ≡ out.old.items
-        ++ canonical (message_of (Message.Welcome name.entry last_login last_host.entry))) }
-    ensures front { take (length out.old.items) out.new.items ≡ out.old.items }
-{
-    append_fields(
-        out,
-        1,
-        &[
-            Field::Name(name),
-            Field::Number(last_login),
-            Field::Word(last_host),
-        ],
-    )
-}
 
 /// Appends the line of message 2.
 #[inline(never)]
@@ -219,62 +181,7 @@ fn append_who_info(out: &mut Vec<u8>, info: &WhoInfo<'_>) -> Result<(), AllocErr
     ensures put { OnOk result (out.new.items ≡ out.old.items ++ canonical (message_of (Message.WhoInfo info.now))) }
     ensures front { take (length out.old.items) out.new.items ≡ out.old.items }
 {
-    append_number(out, 5)?;
-    append_three(
-        out,
-        info.name.bytes(),
-        info.opponent.bytes(),
-        info.watching.bytes(),
-    )?;
-    append_readiness(out, info)?;
-    append_counts(out, info)?;
-    append_three(
-        out,
-        info.hostname.bytes(),
-        info.client.bytes(),
-        info.email.bytes(),
-    )
-}
-
-/// Appends the line of message 9.
-#[inline(never)]
-fn append_received<'a>(
-    out: &mut Vec<u8>,
-    sender: Name<'a>,
-    time: u64,
-    text: &'a [u8],
-) -> Result<(), AllocError>
-    ensures put { OnOk result (out.new.items ≡ out.old.items
-        ++ (decimal 9 ++ flat_map canonical_field (NameField (name_bytes sender.entry) ∷ NumberField time
-        ∷ TextField text.now ∷ []))) }
-    ensures front { take (length out.old.items) out.new.items ≡ out.old.items }
-{
-    append_fields(
-        out,
-        9,
-        &[Field::Name(sender), Field::Number(time), Field::Text(text)],
-    )
-}
-
-/// Appends the line of a message that has a name alone.
-#[tactic(auto, unfolding(crate::specs::Message::canonical_field))]
-fn append_name_alone(out: &mut Vec<u8>, number: u8, name: Name<'_>) -> Result<(), AllocError>
-    ensures put { OnOk result (out.new.items ≡ out.old.items
-        ++ (decimal number ++ canonical_field (NameField (name_bytes name.entry)))) }
-    ensures front { take (length out.old.items) out.new.items ≡ out.old.items }
-{
-    append_number(out, number)?;
-    append_piece(out, name.bytes())
-}
-
-/// Appends the line of a message that has a text alone.
-fn append_text_alone(out: &mut Vec<u8>, number: u8, text: &[u8]) -> Result<(), AllocError>
-    ensures put { OnOk result (out.new.items ≡ out.old.items
-        ++ (decimal number ++ canonical_field (TextField text.now))) }
-    ensures front { take (length out.old.items) out.new.items ≡ out.old.items }
-{
-    append_number(out, number)?;
-    append_text(out, text)
+    append_fields(out, 5, &who_info_fields(info))
 }
 
 /// Appends the line of a message that has a name and a text.
@@ -285,12 +192,10 @@ fn append_name_and_text(
     text: &[u8],
 ) -> Result<(), AllocError>
     ensures put { OnOk result (out.new.items ≡ out.old.items
-        ++ (decimal number ++ (canonical_field (NameField (name_bytes name.entry))
-        ++ canonical_field (TextField text.now)))) }
+        ++ (decimal number ++ flat_map canonical_field (NameField (name_bytes name.entry) ∷ TextField text.now ∷ []))) }
     ensures front { take (length out.old.items) out.new.items ≡ out.old.items }
 {
-    append_name_alone(out, number, name)?;
-    append_text(out, text)
+    append_fields(out, number, &[Field::Name(name), Field::Text(text)])
 }
 
 /// Appends the line of a message.
@@ -303,27 +208,41 @@ fn append_message(out: &mut Vec<u8>, message: &Message<'_>) -> Result<(), AllocE
             name,
             last_login,
             last_host,
-        } => append_welcome(out, *name, *last_login, *last_host),
+        } => append_fields(
+            out,
+            1,
+            &[
+                Field::Name(*name),
+                Field::Number(*last_login),
+                Field::Word(*last_host),
+            ],
+        ),
         Message::OwnInfo(info) => append_own_info(out, info),
-        Message::MotdBegin => append_number(out, 3),
-        Message::MotdEnd => append_number(out, 4),
+        Message::MotdBegin => append_fields(out, 3, &[]),
+        Message::MotdEnd => append_fields(out, 4, &[]),
         Message::WhoInfo(info) => append_who_info(out, info),
-        Message::WhoInfoEnd => append_number(out, 6),
+        Message::WhoInfoEnd => append_fields(out, 6, &[]),
         Message::Login { name, text } => append_name_and_text(out, 7, *name, text),
         Message::Logout { name, text } => append_name_and_text(out, 8, *name, text),
-        Message::MessageReceived { sender, time, text } => {
-            append_received(out, *sender, *time, text)
-        }
-        Message::MessageDelivered { name } => append_name_alone(out, 10, *name),
-        Message::MessageSaved { name } => append_name_alone(out, 11, *name),
+        Message::MessageReceived { sender, time, text } => append_fields(
+            out,
+            9,
+            &[
+                Field::Name(*sender),
+                Field::Number(*time),
+                Field::Text(text),
+            ],
+        ),
+        Message::MessageDelivered { name } => append_fields(out, 10, &[Field::Name(*name)]),
+        Message::MessageSaved { name } => append_fields(out, 11, &[Field::Name(*name)]),
         Message::Says { name, text } => append_name_and_text(out, 12, *name, text),
         Message::Shouts { name, text } => append_name_and_text(out, 13, *name, text),
         Message::Whispers { name, text } => append_name_and_text(out, 14, *name, text),
         Message::Kibitzes { name, text } => append_name_and_text(out, 15, *name, text),
         Message::YouSay { name, text } => append_name_and_text(out, 16, *name, text),
-        Message::YouShout { text } => append_text_alone(out, 17, text),
-        Message::YouWhisper { text } => append_text_alone(out, 18, text),
-        Message::YouKibitz { text } => append_text_alone(out, 19, text),
+        Message::YouShout { text } => append_fields(out, 17, &[Field::Text(text)]),
+        Message::YouWhisper { text } => append_fields(out, 18, &[Field::Text(text)]),
+        Message::YouKibitz { text } => append_fields(out, 19, &[Field::Text(text)]),
     }
 }
 

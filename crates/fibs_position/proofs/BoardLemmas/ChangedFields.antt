@@ -17,9 +17,11 @@ AllMay [] = Unit {0}
 AllMay (c ∷ cs) = (can_have c.0 c.1 ≡ true) × AllMay cs
 
 -- such changes leave a board
-pub board_after : FieldRanges → (changes : List (ℕ × ℤ)) (b : BoardFields) → IsBoard b → AllMay changes → IsBoard (set_fields b changes)
+pub board_after : FieldRanges → (changes : List (ℕ × ℤ)) (b : BoardFields) → IsBoard b → AllMay changes
+    → IsBoard (set_fields b changes)
 board_after ranges [] b board may = board
-board_after ranges (c ∷ cs) b board may = board_after ranges cs (set_field b c.0 c.1) (ranges.set b c.0 c.1 board may.0) may.1
+board_after ranges (c ∷ cs) b board may =
+    board_after ranges cs (set_field b c.0 c.1) (ranges.set b c.0 c.1 board may.0) may.1
 
 -- two lists of such changes are one
 pub may_append : (xs ys : List (ℕ × ℤ)) → AllMay xs → AllMay ys → AllMay (xs ++ ys)
@@ -27,9 +29,14 @@ may_append [] ys a b = b
 may_append (x ∷ xs) ys a b = (a.0, may_append xs ys a.1 b)
 
 -- changes of a range of places
-pub may_range : (says : ℕ → ℕ × ℤ) (first long : ℕ) → ((k : ℕ) → first ≤ k → k < first + long → can_have (says k).0 (says k).1 ≡ true) → AllMay (map says (range_with_len first long))
+pub may_range : (says : ℕ → ℕ × ℤ) (first long : ℕ)
+    → ((k : ℕ) → first ≤ k → k < first + long → can_have (says k).0 (says k).1 ≡ true)
+    → AllMay (map says (range_with_len first long))
 may_range says first zero h = tt
-may_range says first (suc long) h = (h first (omega arith) (omega arith), may_range says (first + 1) long (λ k low high. h k (omega arith) (omega arith)))
+may_range says first (suc long) h = (
+  h first (omega arith) (omega arith),
+  may_range says (first + 1) long (λ k low high. h k (omega arith) (omega arith)),
+)
 
 -- changes of numbers leave the player's name
 pub player_after : (changes : List (ℕ × ℤ)) (b : BoardFields) → (set_fields b changes).player ≡ b.player
@@ -42,7 +49,8 @@ changed [] m z = z
 changed (c ∷ cs) m z = changed cs m (cond (eqb (c.0 - 4) (m - 4)) c.1 z)
 
 -- a number of a list of which one is changed
-set_at : (zs : List ℤ) (i j : ℕ) (z : ℤ) → j < length zs → get_or (set zs i z) j (pos 0) ≡ cond (eqb i j) z (get_or zs j (pos 0))
+set_at : (zs : List ℤ) (i j : ℕ) (z : ℤ) → j < length zs
+    → get_or (set zs i z) j (pos 0) ≡ cond (eqb i j) z (get_or zs j (pos 0))
 set_at zs i j z within = elim (cases_eq j i) [
   | inl same ↦
       let e : eqb i j ≡ true = grind (arith, nat_tests) in
@@ -52,13 +60,16 @@ set_at zs i j z within = elim (cases_eq j i) [
 ]
 
 -- a field after changes, where the list is long enough
-field_after_all : (changes : List (ℕ × ℤ)) (b : BoardFields) (m : ℕ) → m - 4 < length b.numbers → field_of (set_fields b changes) m ≡ changed changes m (field_of b m)
+field_after_all : (changes : List (ℕ × ℤ)) (b : BoardFields) (m : ℕ) → m - 4 < length b.numbers
+    → field_of (set_fields b changes) m ≡ changed changes m (field_of b m)
 field_after_all [] b m within = refl
 field_after_all (c ∷ cs) b m within =
-    field_after_all cs (set_field b c.0 c.1) m (omega (arith, length-set b.numbers (c.0 - 4) c.1)) ∙ ap (changed cs m) (set_at b.numbers (c.0 - 4) (m - 4) c.1 within)
+    field_after_all cs (set_field b c.0 c.1) m (omega (arith, length-set b.numbers (c.0 - 4) c.1))
+    ∙ ap (changed cs m) (set_at b.numbers (c.0 - 4) (m - 4) c.1 within)
 
 -- a field of a board after changes
-pub field_after : FieldRanges → (changes : List (ℕ × ℤ)) (b : BoardFields) (m : ℕ) → IsBoard b → m ≤ 53 → field_of (set_fields b changes) m ≡ changed changes m (field_of b m)
+pub field_after : FieldRanges → (changes : List (ℕ × ℤ)) (b : BoardFields) (m : ℕ) → IsBoard b → m ≤ 53
+    → field_of (set_fields b changes) m ≡ changed changes m (field_of b m)
 field_after ranges changes b m board high = field_after_all changes b m (omega (arith, ranges.fifty b board))
 
 -- changes after changes
@@ -75,20 +86,24 @@ passed : (n m : ℕ) (y z : ℤ) → 4 ≤ m → (m < n → n ≢ m) → n ≢ m
 passed n m y z from unused apart low = let e : eqb (n - 4) (m - 4) ≡ false = grind (arith, nat_tests) in rw e refl
 
 -- a field below all that are changed
-pub unchanged_below : (changes : List (ℕ × ℤ)) (low high m : ℕ) (z : ℤ) → between low high changes ≡ true → 4 ≤ m → m < low → changed changes m z ≡ z
+pub unchanged_below : (changes : List (ℕ × ℤ)) (low high m : ℕ) (z : ℤ) → between low high changes ≡ true → 4 ≤ m
+    → m < low → changed changes m z ≡ z
 unchanged_below [] low high m z h from below = refl
 unchanged_below (c ∷ cs) low high m z h from below =
     let (here, later) = and_parts (nat_le low c.0 && nat_le c.0 high) (between low high cs) h in
     let (a, b) = and_parts (nat_le low c.0) (nat_le c.0 high) here in
     let apart : c.0 ≢ m = grind (arith, nat_tests) in
-    ap (changed cs m) (passed c.0 m c.1 z from (λ _. apart) apart (grind (arith, nat_tests))) ∙ unchanged_below cs low high m z later from below
+    ap (changed cs m) (passed c.0 m c.1 z from (λ _. apart) apart (grind (arith, nat_tests)))
+    ∙ unchanged_below cs low high m z later from below
 
 -- a field above all that are changed
-pub unchanged_above : (changes : List (ℕ × ℤ)) (low high m : ℕ) (z : ℤ) → between low high changes ≡ true → 4 ≤ low → high < m → changed changes m z ≡ z
+pub unchanged_above : (changes : List (ℕ × ℤ)) (low high m : ℕ) (z : ℤ) → between low high changes ≡ true → 4 ≤ low
+    → high < m → changed changes m z ≡ z
 unchanged_above [] low high m z h from above = refl
 unchanged_above (c ∷ cs) low high m z h from above =
     let (here, later) = and_parts (nat_le low c.0 && nat_le c.0 high) (between low high cs) h in
     let (a, b) = and_parts (nat_le low c.0) (nat_le c.0 high) here in
     let apart : c.0 ≢ m = grind (arith, nat_tests) in
     let some : 4 ≤ c.0 = grind (arith, nat_tests) in
-    ap (changed cs m) (passed c.0 m c.1 z (grind (arith, nat_tests)) (λ _. apart) apart some) ∙ unchanged_above cs low high m z later from above
+    ap (changed cs m) (passed c.0 m c.1 z (grind (arith, nat_tests)) (λ _. apart) apart some)
+    ∙ unchanged_above cs low high m z later from above

@@ -1,5 +1,5 @@
 -- The test `good` is exact.
-use Rattle.std.proofs.Common.{◌≡◌, ◌≤◌, ◌&&◌, true, false, Bool, ℕ, [], inl, inr, arith, codes, nat_le}
+use Rattle.std.proofs.Common.{◌≡◌, ◌≤◌, ◌&&◌, true, false, Bool, ℕ, inl, inr, arith, codes, nat_le}
 use Rattle.std.specs.Prelude.{◌↔◌}
 use Rattle.std.specs.Str.{bytes_eq}
 use Rattle.std.proofs.lemmas.Bool.{and_parts, and_from, cases_Bool}

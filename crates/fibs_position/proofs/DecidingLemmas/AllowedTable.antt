@@ -24,17 +24,21 @@ use Rattle.fibs_position.proofs.BoardLemmas.EffectTable.{int_le_decides}
 deciding : (phase : Phase) → Decides (decides phase) ((phase ≡ AnswerDouble) ⊎ (phase ≡ RollOrDouble) ⊎ (phase ≡ Move))
 deciding Over = (λ e. absurd cc, λ h. elim h [ inl e ↦ absurd cc | inr (inl e) ↦ absurd cc | inr (inr e) ↦ absurd cc ])
 deciding AnswerDouble = (λ e. inl refl, λ h. refl)
-deciding OpponentActs = (λ e. absurd cc, λ h. elim h [ inl e ↦ absurd cc | inr (inl e) ↦ absurd cc | inr (inr e) ↦ absurd cc ])
+deciding OpponentActs =
+    (λ e. absurd cc, λ h. elim h [ inl e ↦ absurd cc | inr (inl e) ↦ absurd cc | inr (inr e) ↦ absurd cc ])
 deciding RollOrDouble = (λ e. inr (inl refl), λ h. refl)
 deciding Move = (λ e. inr (inr refl), λ h. refl)
-deciding Passing = (λ e. absurd cc, λ h. elim h [ inl e ↦ absurd cc | inr (inl e) ↦ absurd cc | inr (inr e) ↦ absurd cc ])
+deciding Passing =
+    (λ e. absurd cc, λ h. elim h [ inl e ↦ absurd cc | inr (inl e) ↦ absurd cc | inr (inr e) ↦ absurd cc ])
 
-user_from : (p : PositionValue) → SmallDice p.standing → (phase_in p ≡ AnswerDouble) ⊎ (phase_in p ≡ RollOrDouble) ⊎ (phase_in p ≡ Move) → UserDecides p
+user_from : (p : PositionValue) → SmallDice p.standing
+    → (phase_in p ≡ AnswerDouble) ⊎ (phase_in p ≡ RollOrDouble) ⊎ (phase_in p ≡ Move) → UserDecides p
 user_from p small (inl e) = inl ((phase_exact p AnswerDouble small).0 e)
 user_from p small (inr (inl e)) = inr (inl ((phase_exact p RollOrDouble small).0 e))
 user_from p small (inr (inr e)) = inr (inr ((phase_exact p Move small).0 e))
 
-user_to : (p : PositionValue) → SmallDice p.standing → UserDecides p → (phase_in p ≡ AnswerDouble) ⊎ (phase_in p ≡ RollOrDouble) ⊎ (phase_in p ≡ Move)
+user_to : (p : PositionValue) → SmallDice p.standing → UserDecides p
+    → (phase_in p ≡ AnswerDouble) ⊎ (phase_in p ≡ RollOrDouble) ⊎ (phase_in p ≡ Move)
 user_to p small (inl h) = inl ((phase_exact p AnswerDouble small).1 h)
 user_to p small (inr (inl h)) = inr (inl ((phase_exact p RollOrDouble small).1 h))
 user_to p small (inr (inr h)) = inr (inr ((phase_exact p Move small).1 h))
@@ -61,7 +65,8 @@ for_own reject = refl
 for_own (move steps) = refl
 
 -- the test of kind and phase
-phase_decides : (p : PositionValue) (d : DecisionValue) → SmallDice p.standing → Decides (is_for d (phase_in p)) (InPhase p (phase_for d))
+phase_decides : (p : PositionValue) (d : DecisionValue) → SmallDice p.standing
+    → Decides (is_for d (phase_in p)) (InPhase p (phase_for d))
 phase_decides p d small =
     let exact = phase_exact p (phase_for d) small in
     (λ e. exact.0 (for_sound d (phase_in p) e), λ h. ap (is_for d) (exact.1 h) ∙ for_own d)
@@ -70,17 +75,22 @@ phase_decides p d small =
 cube_decides : (p : PositionValue) (d : DecisionValue) → Decides (cube_allows p d) (CubeAllows p d)
 cube_decides p roll = (λ _. tt, λ _. refl)
 cube_decides p double =
-    Decides-and (not (int_eq p.may_double (pos 0))) (int_le p.cube (pos 524288)) (Decides-not (int_eq p.may_double (pos 0)) (Decides-int_eq p.may_double (pos 0))) (int_le_decides p.cube (pos 524288))
+    Decides-and (not (int_eq p.may_double (pos 0))) (int_le p.cube (pos 524288))
+    (Decides-not (int_eq p.may_double (pos 0)) (Decides-int_eq p.may_double (pos 0)))
+    (int_le_decides p.cube (pos 524288))
 cube_decides p accept = int_le_decides p.cube (pos 524288)
 cube_decides p reject = (λ _. tt, λ _. refl)
 cube_decides p (move steps) = (λ _. tt, λ _. refl)
 
 -- the test of the right kind
-kind_decides : (p : PositionValue) (d : DecisionValue) → SmallDice p.standing → Decides (is_for d (phase_in p) && cube_allows p d) (IsRightKind p d)
-kind_decides p d small = Decides-and (is_for d (phase_in p)) (cube_allows p d) (phase_decides p d small) (cube_decides p d)
+kind_decides : (p : PositionValue) (d : DecisionValue) → SmallDice p.standing
+    → Decides (is_for d (phase_in p) && cube_allows p d) (IsRightKind p d)
+kind_decides p d small =
+    Decides-and (is_for d (phase_in p)) (cube_allows p d) (phase_decides p d small) (cube_decides p d)
 
 -- the test of legal moves
-pub legal_decides : (p : PositionValue) (d : DecisionValue) → SmallDice p.standing → Decides (is_legal p d) (IsLegal p d)
+pub legal_decides : (p : PositionValue) (d : DecisionValue) → SmallDice p.standing
+    → Decides (is_legal p d) (IsLegal p d)
 legal_decides p roll small = (λ _. tt, λ _. refl)
 legal_decides p double small = (λ _. tt, λ _. refl)
 legal_decides p accept small = (λ _. tt, λ _. refl)
@@ -89,48 +99,65 @@ legal_decides p (move steps) small =
     (legal_sound p.standing steps small.first small.second, legal_complete p.standing steps small.first small.second)
 
 -- the test of each reason
-forbids_decides : (p : PositionValue) (d : DecisionValue) → SmallDice p.standing → (why : Disallowed) → Decides (forbids p d why) (Forbids p d why)
+forbids_decides : (p : PositionValue) (d : DecisionValue) → SmallDice p.standing → (why : Disallowed)
+    → Decides (forbids p d why) (Forbids p d why)
 forbids_decides p d small NotYours = Decides-not (decides (phase_in p)) (user_decides p small)
 forbids_decides p d small WrongKind = Decides-not (is_for d (phase_in p) && cube_allows p d) (kind_decides p d small)
 forbids_decides p d small IllegalPlay = Decides-not (is_legal p d) (legal_decides p d small)
 
 -- the function is the relation
-pub disallowed_exact : (p : PositionValue) (d : DecisionValue) (why : Disallowed) → SmallDice p.standing → (refusal_of p d ≡ Some why) ↔ IsRefused p d why
+pub disallowed_exact : (p : PositionValue) (d : DecisionValue) (why : Disallowed) → SmallDice p.standing
+    → (refusal_of p d ≡ Some why) ↔ IsRefused p d why
 unfolding refusal_of
 disallowed_exact p d why small = find_first (forbids p d) (Forbids p d) (forbids_decides p d small) reasons why
 
 -- where no reason is found, all tests hold
-none_of : (a b c : Bool) (x y z : Disallowed) → cond (not a) (Some x) (cond (not b) (Some y) (cond (not c) (Some z) None)) ≡ None → (a ≡ true) × (b ≡ true) × (c ≡ true)
+none_of : (a b c : Bool) (x y z : Disallowed)
+    → cond (not a) (Some x) (cond (not b) (Some y) (cond (not c) (Some z) None)) ≡ None → (a ≡ true) × (b ≡ true)
+    × (c ≡ true)
 none_of true true true x y z e = (refl, refl, refl)
 none_of true true false x y z e = absurd cc
 none_of true false c x y z e = absurd cc
 none_of false b c x y z e = absurd cc
 
 -- no reason is found exactly where the player may decide so
-pub allowed_exact : (p : PositionValue) (d : DecisionValue) → SmallDice p.standing → (refusal_of p d ≡ None) ↔ MayDecide p d
+pub allowed_exact : (p : PositionValue) (d : DecisionValue) → SmallDice p.standing
+    → (refusal_of p d ≡ None) ↔ MayDecide p d
 unfolding refusal_of
 allowed_exact p d small = (
-  λ e. let (yours, right, legal) = none_of (decides (phase_in p)) (is_for d (phase_in p) && cube_allows p d) (is_legal p d) NotYours WrongKind IllegalPlay e in
-      record { yours = (user_decides p small).0 yours; right = (kind_decides p d small).0 right; legal = (legal_decides p d small).0 legal },
-  λ h. rw ((user_decides p small).1 h.yours, (kind_decides p d small).1 h.right, (legal_decides p d small).1 h.legal) refl,
+  λ e. let (yours, right, legal) =
+      none_of (decides (phase_in p)) (is_for d (phase_in p) && cube_allows p d) (is_legal p d) NotYours WrongKind
+      IllegalPlay e in
+      record {
+        yours = (user_decides p small).0 yours;
+        right = (kind_decides p d small).0 right;
+        legal =
+            (legal_decides p d small).0 legal;
+      },
+  λ h. rw ((user_decides p small).1 h.yours, (kind_decides p d small).1 h.right, (legal_decides p d small).1 h.legal)
+      refl,
 )
 
 -- the reasons, one after another
-pub refuses_other : (p : PositionValue) (d : DecisionValue) → decides (phase_in p) ≡ false → refusal_of p d ≡ Some NotYours
+pub refuses_other : (p : PositionValue) (d : DecisionValue) → decides (phase_in p) ≡ false
+    → refusal_of p d ≡ Some NotYours
 unfolding refusal_of
 refuses_other p d yours = rw yours refl
 
 -- then the kind
-pub refuses_kind : (p : PositionValue) (d : DecisionValue) → decides (phase_in p) ≡ true → (is_for d (phase_in p) && cube_allows p d) ≡ false → refusal_of p d ≡ Some WrongKind
+pub refuses_kind : (p : PositionValue) (d : DecisionValue) → decides (phase_in p) ≡ true
+    → (is_for d (phase_in p) && cube_allows p d) ≡ false → refusal_of p d ≡ Some WrongKind
 unfolding refusal_of
 refuses_kind p d yours right = rw (yours, right) refl
 
 -- then the move
-pub refuses_move : (p : PositionValue) (d : DecisionValue) → decides (phase_in p) ≡ true → (is_for d (phase_in p) && cube_allows p d) ≡ true → is_legal p d ≡ false → refusal_of p d ≡ Some IllegalPlay
+pub refuses_move : (p : PositionValue) (d : DecisionValue) → decides (phase_in p) ≡ true
+    → (is_for d (phase_in p) && cube_allows p d) ≡ true → is_legal p d ≡ false → refusal_of p d ≡ Some IllegalPlay
 unfolding refusal_of
 refuses_move p d yours right legal = rw (yours, right, legal) refl
 
 -- and then none
-pub refuses_none : (p : PositionValue) (d : DecisionValue) → decides (phase_in p) ≡ true → (is_for d (phase_in p) && cube_allows p d) ≡ true → is_legal p d ≡ true → refusal_of p d ≡ None
+pub refuses_none : (p : PositionValue) (d : DecisionValue) → decides (phase_in p) ≡ true
+    → (is_for d (phase_in p) && cube_allows p d) ≡ true → is_legal p d ≡ true → refusal_of p d ≡ None
 unfolding refusal_of
 refuses_none p d yours right legal = rw (yours, right, legal) refl

@@ -7,21 +7,24 @@ use Rattle.std.proofs.lemmas.Bool.{false≢true}
 use Rattle.fibs_position.specs.First.{IsFirst}
 
 -- where the fact holds of the head, the head is told
-pub err_first : {X A : Type 0} (fits : A → Type 0) (y : A) (ys : List A) (x : A) → fits y → (◌≡◌ {A = Result X A} (Err y) (Err x)) ↔ IsFirst fits (y ∷ ys) x
+pub err_first : {X A : Type 0} (fits : A → Type 0) (y : A) (ys : List A) (x : A) → fits y
+    → (◌≡◌ {A = Result X A} (Err y) (Err x)) ↔ IsFirst fits (y ∷ ys) x
 err_first fits y ys x h = (
   λ e. inl (h, cc),
   λ f. elim f [ inl both ↦ ap Err (sym both.1) | inr later ↦ absurd (later.0 h) ],
 )
 
 -- where it doesn't, one of the others is
-pub skip_first : {P A : Type 0} (fits : A → Type 0) (y : A) (ys : List A) (x : A) → ¬ fits y → P ↔ IsFirst fits ys x → P ↔ IsFirst fits (y ∷ ys) x
+pub skip_first : {P A : Type 0} (fits : A → Type 0) (y : A) (ys : List A) (x : A) → ¬ fits y → P ↔ IsFirst fits ys x
+    → P ↔ IsFirst fits (y ∷ ys) x
 skip_first fits y ys x not_y h = (
   λ p. inr (not_y, h.0 p),
   λ f. elim f [ inl both ↦ absurd (not_y both.0) | inr later ↦ h.1 later.1 ],
 )
 
 -- what a search by tests finds, where each test tells the fact
-by_test : {A : Type 0} (t : Bool) (Q : Type 0) → Decides t Q → (y x : A) (o : Option A) (R : Type 0) → (o ≡ Some x) ↔ R → (cond t (Some y) o ≡ Some x) ↔ ((Q × (x ≡ y)) ⊎ (¬ Q × R))
+by_test : {A : Type 0} (t : Bool) (Q : Type 0) → Decides t Q → (y x : A) (o : Option A) (R : Type 0) → (o ≡ Some x) ↔ R
+    → (cond t (Some y) o ≡ Some x) ↔ ((Q × (x ≡ y)) ⊎ (¬ Q × R))
 by_test true Q d y x o R h = (
   λ e. inl (d.0 refl, cc),
   λ f. elim f [ inl both ↦ ap Some (sym both.1) | inr later ↦ absurd (later.0 (d.0 refl)) ],
@@ -32,16 +35,20 @@ by_test false Q d y x o R h = (
 )
 
 -- what a search by the test finds is the first that fits
-pub find_first : {A : Type 0} (test : A → Bool) (fits : A → Type 0) → ((y : A) → Decides (test y) (fits y)) → (ys : List A) (x : A) → (find test ys ≡ Some x) ↔ IsFirst fits ys x
+pub find_first : {A : Type 0} (test : A → Bool) (fits : A → Type 0) → ((y : A) → Decides (test y) (fits y))
+    → (ys : List A) (x : A) → (find test ys ≡ Some x) ↔ IsFirst fits ys x
 find_first test fits d [] x = (λ e. absurd cc, λ h. absurd h)
-find_first test fits d (y ∷ ys) x = by_test (test y) (fits y) (d y) y x (find test ys) (IsFirst fits ys x) (find_first test fits d ys x)
+find_first test fits d (y ∷ ys) x =
+    by_test (test y) (fits y) (d y) y x (find test ys) (IsFirst fits ys x) (find_first test fits d ys x)
 
 -- a search that finds something after a test finds something
-picked : {A : Type 0} (t : Bool) (y : A) (o : Option A) → (x : A) × (o ≡ Some x) → (x : A) × (cond t (Some y) o ≡ Some x)
+picked : {A : Type 0} (t : Bool) (y : A) (o : Option A) → (x : A) × (o ≡ Some x)
+    → (x : A) × (cond t (Some y) o ≡ Some x)
 picked true y o found = (y, refl)
 picked false y o found = found
 
 -- where the last passes the test, one is found
-pub find_some : {A : Type 0} (test : A → Bool) (ys : List A) (z : A) → test z ≡ true → (x : A) × (find test (ys ++ z ∷ []) ≡ Some x)
+pub find_some : {A : Type 0} (test : A → Bool) (ys : List A) (z : A) → test z ≡ true
+    → (x : A) × (find test (ys ++ z ∷ []) ≡ Some x)
 find_some test [] z passes = (z, rw passes refl)
 find_some test (y ∷ ys) z passes = picked (test y) y (find test (ys ++ z ∷ [])) (find_some test ys z passes)

@@ -22,26 +22,33 @@ unfolding phase_in
 phase_over p here = rw here refl
 
 -- the second
-pub phase_answer : (p : PositionValue) → phase_fits p Over ≡ false → phase_fits p AnswerDouble ≡ true → phase_in p ≡ AnswerDouble
+pub phase_answer : (p : PositionValue) → phase_fits p Over ≡ false → phase_fits p AnswerDouble ≡ true
+    → phase_in p ≡ AnswerDouble
 unfolding phase_in
 phase_answer p over here = rw (over, here) refl
 
 -- the third
-pub phase_opponent : (p : PositionValue) → phase_fits p Over ≡ false → phase_fits p AnswerDouble ≡ false → phase_fits p OpponentActs ≡ true → phase_in p ≡ OpponentActs
+pub phase_opponent : (p : PositionValue) → phase_fits p Over ≡ false → phase_fits p AnswerDouble ≡ false
+    → phase_fits p OpponentActs ≡ true → phase_in p ≡ OpponentActs
 unfolding phase_in
 phase_opponent p over answer here = rw (over, answer, here) refl
 
 -- the fourth
-pub phase_roll : (p : PositionValue) → phase_fits p Over ≡ false → phase_fits p AnswerDouble ≡ false → phase_fits p OpponentActs ≡ false → phase_fits p RollOrDouble ≡ true → phase_in p ≡ RollOrDouble
+pub phase_roll : (p : PositionValue) → phase_fits p Over ≡ false → phase_fits p AnswerDouble ≡ false
+    → phase_fits p OpponentActs ≡ false → phase_fits p RollOrDouble ≡ true → phase_in p ≡ RollOrDouble
 unfolding phase_in
 phase_roll p over answer opponent here = rw (over, answer, opponent, here) refl
 
 -- the fifth
-pub phase_move : (p : PositionValue) → phase_fits p Over ≡ false → phase_fits p AnswerDouble ≡ false → phase_fits p OpponentActs ≡ false → phase_fits p RollOrDouble ≡ false → phase_fits p Move ≡ true → phase_in p ≡ Move
+pub phase_move : (p : PositionValue) → phase_fits p Over ≡ false → phase_fits p AnswerDouble ≡ false
+    → phase_fits p OpponentActs ≡ false → phase_fits p RollOrDouble ≡ false → phase_fits p Move ≡ true
+    → phase_in p ≡ Move
 unfolding phase_in
 phase_move p over answer opponent roll here = rw (over, answer, opponent, roll, here) refl
 
 -- the last
-pub phase_passing : (p : PositionValue) → phase_fits p Over ≡ false → phase_fits p AnswerDouble ≡ false → phase_fits p OpponentActs ≡ false → phase_fits p RollOrDouble ≡ false → phase_fits p Move ≡ false → phase_in p ≡ Passing
+pub phase_passing : (p : PositionValue) → phase_fits p Over ≡ false → phase_fits p AnswerDouble ≡ false
+    → phase_fits p OpponentActs ≡ false → phase_fits p RollOrDouble ≡ false → phase_fits p Move ≡ false
+    → phase_in p ≡ Passing
 unfolding phase_in
 phase_passing p over answer opponent roll move = rw (over, answer, opponent, roll, move) refl

@@ -30,23 +30,31 @@ natural_small (negsuc n) h = omega arith
 -- no field of a die is above 6
 die_small : FieldRanges → (b : BoardFields) → IsBoard b → (n : ℕ) → 34 ≤ n → n ≤ 37 → natural (field_of b n) ≤ 6
 die_small ranges b board n low high =
-    natural_small (field_of b n) ((ranges.dice n (field_of b n) low high).0 (ranges.held b n board (omega arith) (omega arith))).1
+    natural_small (field_of b n)
+    ((ranges.dice n (field_of b n) low high).0 (ranges.held b n board (omega arith) (omega arith))).1
 
 -- so are the dice of a board
 pub board_dice : FieldRanges → (b : BoardFields) → IsBoard b → SmallDice (position_of b).standing
-board_dice ranges b board = record { first = die_small ranges b board 34 (lit≤ tt) (lit≤ tt); second = die_small ranges b board 35 (lit≤ tt) (lit≤ tt) }
+board_dice ranges b board =
+    record {
+      first = die_small ranges b board 34 (lit≤ tt) (lit≤ tt);
+      second =
+          die_small ranges b board 35 (lit≤ tt) (lit≤ tt);
+    }
 
 -- some die can be played exactly where a run has a step
 pub can_move_decides : (p : Standing) → SmallDice p → Decides (can_move p) (CanMove p)
 can_move_decides p small = (can_sound p small.first small.second, can_complete p)
 
 -- each line's test tells whether the line fits
-fits_decides : (p : PositionValue) → SmallDice p.standing → (phase : Phase) → Decides (phase_fits p phase) (PhaseFits p phase)
+fits_decides : (p : PositionValue) → SmallDice p.standing → (phase : Phase)
+    → Decides (phase_fits p phase) (PhaseFits p phase)
 fits_decides p small Over = Decides-int_eq p.turn (pos 0)
 fits_decides p small AnswerDouble = Decides-int_eq p.was_doubled (pos 1)
 fits_decides p small OpponentActs = Decides-not (int_eq p.turn p.colour) (Decides-int_eq p.turn p.colour)
 fits_decides p small RollOrDouble =
-    Decides-and (nat_eq p.standing.first 0) (nat_eq p.standing.second 0) (Decides-eqb p.standing.first 0) (Decides-eqb p.standing.second 0)
+    Decides-and (nat_eq p.standing.first 0) (nat_eq p.standing.second 0) (Decides-eqb p.standing.first 0)
+    (Decides-eqb p.standing.second 0)
 fits_decides p small Move = can_move_decides p.standing small
 fits_decides p small Passing = (λ _. tt, λ _. refl)
 
@@ -54,7 +62,8 @@ fits_decides p small Passing = (λ _. tt, λ _. refl)
 phase_found : (p : PositionValue) → find (phase_fits p) phases ≡ Some (phase_in p)
 unfolding phase_in
 phase_found p =
-    let (x, e) = find_some (phase_fits p) (Over ∷ AnswerDouble ∷ OpponentActs ∷ RollOrDouble ∷ Move ∷ []) Passing refl in
+    let (x, e) =
+    find_some (phase_fits p) (Over ∷ AnswerDouble ∷ OpponentActs ∷ RollOrDouble ∷ Move ∷ []) Passing refl in
     e ∙ ap Some (sym (ap (λ o. unwrap_or o Passing) e))
 
 -- the function is the relation

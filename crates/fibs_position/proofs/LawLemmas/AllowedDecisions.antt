@@ -38,7 +38,8 @@ first_test false x o h = absurd cc
 pub allowed_decides : AllowedDecides
 unfolding refusal_of
 allowed_decides b d h =
-    let p = position_of b in first_test (decides (phase_in p)) D.NotYours (find (forbids p d) (D.WrongKind ∷ D.IllegalPlay ∷ [])) h
+    let p = position_of b in
+    first_test (decides (phase_in p)) D.NotYours (find (forbids p d) (D.WrongKind ∷ D.IllegalPlay ∷ [])) h
 
 -- no die is 0
 abbrev AllDice : List ℕ → Type 0
@@ -62,7 +63,9 @@ held_few : (a b : ℕ) → Few (held_of a b)
 held_few a b = go (a == b) (a == 0) (b == 0) refl refl refl
   where
     go : (x y z : Bool) → (a == b) ≡ x → (a == 0) ≡ y → (b == 0) ≡ z
-        → Few (if x then (if y then [] else a ∷ a ∷ a ∷ a ∷ []) else (if y then b ∷ [] else (if z then a ∷ [] else a ∷ b ∷ [])))
+        → Few
+        (if x then (if y then [] else a ∷ a ∷ a ∷ a ∷ []) else
+        (if y then b ∷ [] else (if z then a ∷ [] else a ∷ b ∷ [])))
     go true true z e f g = (tt, omega arith)
     go true false z e f g = let l = some_die a f in ((l, (l, (l, (l, tt)))), omega arith)
     go false true z e f g = ((other_die a b e f, tt), omega arith)
@@ -70,7 +73,8 @@ held_few a b = go (a == b) (a == 0) (b == 0) refl refl refl
     go false false false e f g = ((some_die a f, (some_die b g, tt)), omega arith)
 
 -- a die of the middle, and the others
-middle : (before : List ℕ) (die : ℕ) (after : List ℕ) → AllDice (before ++ die ∷ after) → (0 < die) × AllDice (before ++ after)
+middle : (before : List ℕ) (die : ℕ) (after : List ℕ) → AllDice (before ++ die ∷ after)
+    → (0 < die) × AllDice (before ++ after)
 middle [] die after h = h
 middle (x ∷ before) die after h = let m = middle before die after h.1 in (m.0, (h.0, m.1))
 
@@ -86,7 +90,8 @@ part_few (die ∷ dice) all h k =
     ((m.0, rest.0), omega (arith, rest.1, ap length e, length-append before (die ∷ after), length-append before after))
 
 -- one checker's way is a step
-one_step : (p : Checkers) (from to die : ℕ) (q : Checkers) → One p from to die q → 0 < die → (0 < from) × (from ≤ 25) × (to ≤ 24)
+one_step : (p : Checkers) (from to die : ℕ) (q : Checkers) → One p from to die q → 0 < die
+    → (0 < from) × (from ≤ 25) × (to ≤ 24)
 one_step p from to die q o some =
     let s = o.source in (
       s.0,

@@ -54,13 +54,18 @@ allowed_users ranges b d good h = (user_decides (position_of b) (board_dice rang
 -- ---- what is allowed is carried out
 
 -- of a table's lines that fit, a later one is not before
-later_first : {A : Type 0} (fits : A → Type 0) (y : A) (ys : List A) (x : A) → x ≢ y → IsFirst fits (y ∷ ys) x → (¬ fits y) × IsFirst fits ys x
+later_first : {A : Type 0} (fits : A → Type 0) (y : A) (ys : List A) (x : A) → x ≢ y → IsFirst fits (y ∷ ys) x
+    → (¬ fits y) × IsFirst fits ys x
 later_first fits y ys x apart (inl h) = absurd (apart h.1)
 later_first fits y ys x apart (inr h) = h
 
 -- the lines above the three in which the user decides
-not_over : (b : BoardFields) (phase : Phase) → phase ≢ Over → IsPhase b phase → (turn b ≢ pos 0) × IsFirst (PhaseFits (position_of b)) (AnswerDouble ∷ OpponentActs ∷ RollOrDouble ∷ Move ∷ Passing ∷ []) phase
-not_over b phase apart h = later_first (PhaseFits (position_of b)) Over (AnswerDouble ∷ OpponentActs ∷ RollOrDouble ∷ Move ∷ Passing ∷ []) phase apart h
+not_over : (b : BoardFields) (phase : Phase) → phase ≢ Over → IsPhase b phase
+    → (turn b ≢ pos 0) × IsFirst (PhaseFits (position_of b))
+    (AnswerDouble ∷ OpponentActs ∷ RollOrDouble ∷ Move ∷ Passing ∷ []) phase
+not_over b phase apart h =
+    later_first (PhaseFits (position_of b)) Over (AnswerDouble ∷ OpponentActs ∷ RollOrDouble ∷ Move ∷ Passing ∷ [])
+    phase apart h
 
 -- numbers that are not apart are one
 stable : (x y : ℤ) → ¬ (x ≢ y) → x ≡ y
@@ -78,18 +83,33 @@ no_flag ranges b board h =
     ]
 
 -- in the phases of rolling and moving the player has the turn
-has_turn_from : FieldRanges → (b : BoardFields) (phase : Phase) → IsBoard b → phase ≢ Over → phase ≢ AnswerDouble → phase ≢ OpponentActs → IsPhase b phase → HasTurn b × IsFirst (PhaseFits (position_of b)) (RollOrDouble ∷ Move ∷ Passing ∷ []) phase
+has_turn_from : FieldRanges → (b : BoardFields) (phase : Phase) → IsBoard b → phase ≢ Over → phase ≢ AnswerDouble
+    → phase ≢ OpponentActs → IsPhase b phase → HasTurn b
+    × IsFirst (PhaseFits (position_of b)) (RollOrDouble ∷ Move ∷ Passing ∷ []) phase
 has_turn_from ranges b phase board over answer opponent h =
     let (_, after_over) = not_over b phase over h in
-    let (flag, after_answer) = later_first (PhaseFits (position_of b)) AnswerDouble (OpponentActs ∷ RollOrDouble ∷ Move ∷ Passing ∷ []) phase answer after_over in
-    let (own, rest) = later_first (PhaseFits (position_of b)) OpponentActs (RollOrDouble ∷ Move ∷ Passing ∷ []) phase opponent after_answer in
+    let (flag, after_answer) =
+    later_first (PhaseFits (position_of b)) AnswerDouble (OpponentActs ∷ RollOrDouble ∷ Move ∷ Passing ∷ []) phase
+    answer after_over in
+    let (own, rest) =
+    later_first (PhaseFits (position_of b)) OpponentActs (RollOrDouble ∷ Move ∷ Passing ∷ []) phase opponent
+    after_answer in
     ((stable (turn b) (colour b) own, no_flag ranges b board flag), rest)
 
 -- the phase of rolling is before the roll
 before_roll_from : FieldRanges → (b : BoardFields) → IsBoard b → IsPhase b RollOrDouble → BeforeRoll b
 before_roll_from ranges b board h =
-    let (turns, rest) = has_turn_from ranges b RollOrDouble board (λ e. absurd cc) (λ e. absurd cc) (λ e. absurd cc) h in
-    (turns, elim rest [ inl here ↦ here.0 | inr (_, inl bad) ↦ absurd cc | inr (_, inr (_, inl bad)) ↦ absurd cc | inr (_, inr (_, inr (_, bad))) ↦ absurd bad ])
+    let (turns, rest) =
+    has_turn_from ranges b RollOrDouble board (λ e. absurd cc) (λ e. absurd cc) (λ e. absurd cc) h in (
+      turns,
+      elim rest [
+        | inl here ↦ here.0
+        | inr (_, inl bad) ↦ absurd cc
+        | inr (_, inr (_, inl bad)) ↦
+            absurd cc
+        | inr (_, inr (_, inr (_, bad))) ↦ absurd bad
+      ],
+    )
 
 -- the phase of moving is before a move
 before_move_from : FieldRanges → (b : BoardFields) → IsBoard b → IsPhase b Move → BeforeMove b
@@ -114,12 +134,15 @@ doubled_from b h =
 
 -- what is allowed is carried out
 pub allowed_carried : FieldRanges → AllowedIsCarriedOut
-allowed_carried ranges b roll dice good h thrown = (rolled b dice, (good, (before_roll_from ranges b good.board h.right.0, thrown, refl)))
-allowed_carried ranges b double dice good h thrown = (doubled b, (good, (before_roll_from ranges b good.board h.right.0, refl)))
+allowed_carried ranges b roll dice good h thrown =
+    (rolled b dice, (good, (before_roll_from ranges b good.board h.right.0, thrown, refl)))
+allowed_carried ranges b double dice good h thrown =
+    (doubled b, (good, (before_roll_from ranges b good.board h.right.0, refl)))
 allowed_carried ranges b accept dice good h thrown = (accepted b, (good, (doubled_from b h.right.0, h.right.1, refl)))
 allowed_carried ranges b reject dice good h thrown = (rejected b, (good, (doubled_from b h.right.0, refl)))
 allowed_carried ranges b (move steps) dice good h thrown =
-    let (q, run) = legal_lax (standing_of b) steps h.legal in (after_move b q, (good, (before_move_from ranges b good.board h.right.0, (q, run, refl))))
+    let (q, run) = legal_lax (standing_of b) steps h.legal in
+    (after_move b q, (good, (before_move_from ranges b good.board h.right.0, (q, run, refl))))
 
 -- ---- what is carried out is good and differs
 
@@ -135,16 +158,19 @@ turned ranges b z board (inl e) f = let two = two_sides ranges b board in absurd
 turned ranges b z board (inr e) f = let two = two_sides ranges b board in absurd (omega (arith, ints))
 
 -- after a move the turn is nobody's or the opponent's
-either_turn : (b : BoardFields) (t : Bool) → (cond t (pos 0) (neg_ℤ (colour b)) ≡ pos 0) ⊎ (cond t (pos 0) (neg_ℤ (colour b)) ≡ neg_ℤ (colour b))
+either_turn : (b : BoardFields) (t : Bool)
+    → (cond t (pos 0) (neg_ℤ (colour b)) ≡ pos 0) ⊎ (cond t (pos 0) (neg_ℤ (colour b)) ≡ neg_ℤ (colour b))
 either_turn b true = inl refl
 either_turn b false = inr refl
 
 -- the other colour is a number of the turn
 opposite_may : FieldRanges → (b : BoardFields) → IsBoard b → can_have 33 (neg_ℤ (colour b)) ≡ true
-opposite_may ranges b board = let two = two_sides ranges b board in may_turn ranges (neg_ℤ (colour b)) (omega (arith, ints)) (omega (arith, ints))
+opposite_may ranges b board =
+    let two = two_sides ranges b board in may_turn ranges (neg_ℤ (colour b)) (omega (arith, ints)) (omega (arith, ints))
 
 -- twice a cube that can be doubled is a number of the cube
-cube_may : FieldRanges → (b : BoardFields) → IsBoard b → field_of b 38 ≤ℤ pos 524288 → can_have 38 (field_of b 38 +ℤ field_of b 38) ≡ true
+cube_may : FieldRanges → (b : BoardFields) → IsBoard b → field_of b 38 ≤ℤ pos 524288
+    → can_have 38 (field_of b 38 +ℤ field_of b 38) ≡ true
 cube_may ranges b board small =
     let range = (ranges.cube 38 (field_of b 38) refl).0 (ranges.held b 38 board (lit≤ tt) (lit≤ tt)) in
     may_cube ranges (field_of b 38 +ℤ field_of b 38) (omega (arith, ints, range.0)) (omega (arith, ints))
@@ -159,25 +185,42 @@ effect_good_differs ranges b roll dice after (good, (before, thrown, is)) =
     let may_first = may_show ranges 34 (pos first) (lit≤ tt) (lit≤ tt) (omega (arith, ints)) (omega (arith, ints)) in
     let may_second = may_show ranges 35 (pos second) (lit≤ tt) (lit≤ tt) (omega (arith, ints)) (omega (arith, ints)) in
     let shown : field_of (rolled b dice) 34 ≡ pos first = field_after ranges changes b 34 good.board (lit≤ tt) in
-    let apart : field_of b 34 ≢ field_of (rolled b dice) 34 = λ e. let none = before.1.0 in let f = ap natural (e ∙ shown) in absurd (omega arith) in
-    rw is (good_after ranges b changes good refl (may_first, (may_second, (refl, (refl, tt)))), differs_at b (rolled b dice) 34 (lit≤ tt) (lit≤ tt) apart)
+    let apart : field_of b 34 ≢ field_of (rolled b dice) 34 = λ e. let none = before.1.0 in let f =
+    ap natural (e ∙ shown) in absurd (omega arith) in
+    rw is (
+      good_after ranges b changes good refl (may_first, (may_second, (refl, (refl, tt)))),
+      differs_at b (rolled b dice) 34 (lit≤ tt) (lit≤ tt) apart,
+    )
 effect_good_differs ranges b double dice after (good, (before, is)) =
     let changes : List (ℕ × ℤ) = (33, neg_ℤ (colour b)) ∷ [] in
     let given : field_of (doubled b) 33 ≡ neg_ℤ (colour b) = field_after ranges changes b 33 good.board (lit≤ tt) in
-    let apart : field_of b 33 ≢ field_of (doubled b) 33 = λ e. turned ranges b (neg_ℤ (colour b)) good.board (inr refl) (sym before.0.0 ∙ e ∙ given) in
-    rw is (good_after ranges b changes good refl (opposite_may ranges b good.board, tt), differs_at b (doubled b) 33 (lit≤ tt) (lit≤ tt) apart)
+    let apart : field_of b 33 ≢ field_of (doubled b) 33 =
+    λ e. turned ranges b (neg_ℤ (colour b)) good.board (inr refl) (sym before.0.0 ∙ e ∙ given) in
+    rw is (
+      good_after ranges b changes good refl (opposite_may ranges b good.board, tt),
+      differs_at b (doubled b) 33 (lit≤ tt) (lit≤ tt) apart,
+    )
 effect_good_differs ranges b accept dice after (good, (asked, small, is)) =
-    let changes : List (ℕ × ℤ) = (41, pos 0) ∷ (38, field_of b 38 +ℤ field_of b 38) ∷ (39, pos 1) ∷ (40, pos 0) ∷ (33, neg_ℤ (colour b)) ∷ [] in
+    let changes : List (ℕ × ℤ) =
+    (41, pos 0) ∷ (38, field_of b 38 +ℤ field_of b 38) ∷ (39, pos 1) ∷ (40, pos 0) ∷ (33, neg_ℤ (colour b)) ∷ [] in
     let answered : field_of (accepted b) 41 ≡ pos 0 = field_after ranges changes b 41 good.board (lit≤ tt) in
     let apart : field_of b 41 ≢ field_of (accepted b) 41 = λ e. let f = sym asked.1 ∙ e ∙ answered in absurd cc in
-    rw is (good_after ranges b changes good refl (refl, (cube_may ranges b good.board small, (refl, (refl, (opposite_may ranges b good.board, tt))))), differs_at b (accepted b) 41 (lit≤ tt) (lit≤ tt) apart)
+    rw is (
+      good_after ranges b changes good refl
+          (refl, (cube_may ranges b good.board small, (refl, (refl, (opposite_may ranges b good.board, tt))))),
+      differs_at b (accepted b) 41 (lit≤ tt) (lit≤ tt) apart,
+    )
 effect_good_differs ranges b reject dice after (good, (asked, is)) =
     let changes : List (ℕ × ℤ) = (41, pos 0) ∷ (33, pos 0) ∷ [] in
     let answered : field_of (rejected b) 41 ≡ pos 0 = field_after ranges changes b 41 good.board (lit≤ tt) in
     let apart : field_of b 41 ≢ field_of (rejected b) 41 = λ e. let f = sym asked.1 ∙ e ∙ answered in absurd cc in
-    rw is (good_after ranges b changes good refl (refl, (refl, tt)), differs_at b (rejected b) 41 (lit≤ tt) (lit≤ tt) apart)
+    rw is (
+      good_after ranges b changes good refl (refl, (refl, tt)),
+      differs_at b (rejected b) 41 (lit≤ tt) (lit≤ tt) apart,
+    )
 effect_good_differs ranges b (move steps) dice after (good, (before, (q, run, is))) =
     let next = cond (slice_index q.own 0 == 15) (pos 0) (neg_ℤ (colour b)) in
     let given : field_of (after_move b q) 33 ≡ next = moved_beside ranges b q 33 good.board (lit≤ tt) (lit≤ tt) in
-    let apart : field_of b 33 ≢ field_of (after_move b q) 33 = λ e. turned ranges b next good.board (either_turn b (slice_index q.own 0 == 15)) (sym before.0.0 ∙ e ∙ given) in
+    let apart : field_of b 33 ≢ field_of (after_move b q) 33 =
+    λ e. turned ranges b next good.board (either_turn b (slice_index q.own 0 == 15)) (sym before.0.0 ∙ e ∙ given) in
     rw is (good_moved ranges b q steps good run, differs_at b (after_move b q) 33 (lit≤ tt) (lit≤ tt) apart)

@@ -29,7 +29,13 @@ in_range_prop source target = λ a b i. (le_prop a.0 b.0 i, le_prop a.1 b.1 i, l
 
 -- steps with the same places are one
 pub same_step : (a b : Step) → a.source ≡ b.source → a.target ≡ b.target → a ≡ b
-same_step a b s t = λ i. record { source = s i; target = t i; valid = is_prop→PathP (λ j. InRange (s j) (t j)) (λ j. in_range_prop (s j) (t j)) a.valid b.valid i }
+same_step a b s t =
+    λ i. record {
+      source = s i;
+      target = t i;
+      valid =
+          is_prop→PathP (λ j. InRange (s j) (t j)) (λ j. in_range_prop (s j) (t j)) a.valid b.valid i;
+    }
 
 -- from a place on the steps are blank
 abbrev BlankFrom : ℕ → List Step → Type 0
@@ -42,7 +48,9 @@ same_fields a b s l = λ i. record {
   len = l i;
   full = is_prop→PathP (λ j. length (s j) ≡ 4) (λ j. Coded-set coded_ℕ (length (s j)) 4) a.full b.full i;
   short = is_prop→PathP (λ j. l j ≤ 4) (λ j. le_prop) a.short b.short i;
-  rest = is_prop→PathP (λ j. BlankFrom (l j) (s j)) (λ j. Coded-set coded_bool (list_all is_blank (drop (l j) (s j))) true) a.rest b.rest i;
+  rest =
+      is_prop→PathP (λ j. BlankFrom (l j) (s j)) (λ j. Coded-set coded_bool (list_all is_blank (drop (l j) (s j))) true)
+      a.rest b.rest i;
 }
 
 -- blank steps are one
@@ -50,10 +58,12 @@ same_blank : (a b : Step) → is_blank a ≡ true → is_blank b ≡ true → a 
 same_blank a b h k =
     let (s, t) = and_parts (a.source == 1) (a.target == 0) h in
     let (u, v) = and_parts (b.source == 1) (b.target == 0) k in
-    same_step a b (eqb-true a.source 1 s ∙ sym (eqb-true b.source 1 u)) (eqb-true a.target 0 t ∙ sym (eqb-true b.target 0 v))
+    same_step a b (eqb-true a.source 1 s ∙ sym (eqb-true b.source 1 u))
+    (eqb-true a.target 0 t ∙ sym (eqb-true b.target 0 v))
 
 -- so are lists of them
-same_blanks : (xs ys : List Step) → list_all is_blank xs ≡ true → list_all is_blank ys ≡ true → length xs ≡ length ys → xs ≡ ys
+same_blanks : (xs ys : List Step) → list_all is_blank xs ≡ true → list_all is_blank ys ≡ true → length xs ≡ length ys
+    → xs ≡ ys
 same_blanks [] [] h k e = refl
 same_blanks [] (y ∷ ys) h k e = absurd (omega arith)
 same_blanks (x ∷ xs) [] h k e = absurd (omega arith)
@@ -70,7 +80,8 @@ same_hops (x ∷ xs) [] e = absurd cc
 same_hops (x ∷ xs) (y ∷ ys) e =
     let first : hop_of x ≡ hop_of y = cc in
     let others : map hop_of xs ≡ map hop_of ys = cc in
-    ap₂ (λ z zs. z ∷ zs) (same_step x y (ap (λ (h : Hop). h.source) first) (ap (λ (h : Hop). h.target) first)) (same_hops xs ys others)
+    ap₂ (λ z zs. z ∷ zs) (same_step x y (ap (λ (h : Hop). h.source) first) (ap (λ (h : Hop). h.target) first))
+    (same_hops xs ys others)
 
 -- a play is given by its steps
 pub same_play : (a b : Play) → hops_of a ≡ hops_of b → a ≡ b
@@ -82,20 +93,26 @@ same_play a b e =
     let m = length-take-le b.len b.steps (omega arith) in
     let f = ap length front in
     let long : a.len ≡ b.len = omega (arith, l, m, f) in
-    let rest = same_blanks (drop a.len a.steps) (drop b.len b.steps) a.rest b.rest (omega (arith, long, length-drop a.len a.steps, length-drop b.len b.steps)) in
-    let all : a.steps ≡ b.steps = sym (take-append-drop a.len a.steps) ∙ ap₂ (λ xs ys. xs ++ ys) front rest ∙ take-append-drop b.len b.steps in
+    let rest =
+    same_blanks (drop a.len a.steps) (drop b.len b.steps) a.rest b.rest
+    (omega (arith, long, length-drop a.len a.steps, length-drop b.len b.steps)) in
+    let all : a.steps ≡ b.steps = sym (take-append-drop a.len a.steps) ∙ ap₂ (λ xs ys. xs ++ ys) front rest
+    ∙ take-append-drop b.len b.steps in
     same_fields a b all long
 
 -- what `==` says of steps
 step_eq : (a b : Step) → Decides ((a.source == b.source) && (a.target == b.target)) (a ≡ b)
 step_eq a b = (
-  λ h. let (s, t) = and_parts (a.source == b.source) (a.target == b.target) h in same_step a b (eqb-true a.source b.source s) (eqb-true a.target b.target t),
-  λ e. and_from _ _ (eq-eqb a.source b.source (ap (λ (s : Step). s.source) e)) (eq-eqb a.target b.target (ap (λ (s : Step). s.target) e)),
+  λ h. let (s, t) = and_parts (a.source == b.source) (a.target == b.target) h in
+      same_step a b (eqb-true a.source b.source s) (eqb-true a.target b.target t),
+  λ e. and_from _ _ (eq-eqb a.source b.source (ap (λ (s : Step). s.source) e))
+      (eq-eqb a.target b.target (ap (λ (s : Step). s.target) e)),
 )
 
 -- what `==` says
 pub play_eq : (a b : Play) (r : Bool)
-    → r ≡ (pointwise (λ (s t : Step). (s.source == t.source) && (s.target == t.target)) a.steps b.steps && (a.len == b.len)) → Decides r (hops_of a ≡ hops_of b)
+    → r ≡ (pointwise (λ (s t : Step). (s.source == t.source) && (s.target == t.target)) a.steps b.steps
+    && (a.len == b.len)) → Decides r (hops_of a ≡ hops_of b)
 play_eq a b r e =
     let E : Step → Step → Bool = λ s t. (s.source == t.source) && (s.target == t.target) in
     let steps = slice_eq-Decides {E = E} step_eq a.steps b.steps (pointwise E a.steps b.steps) refl in (
@@ -104,7 +121,8 @@ play_eq a b r e =
           ap₂ (λ n xs. map hop_of (take n xs)) (eqb-true a.len b.len l) (steps.0 s),
       λ h.
           let same = same_play a b h in
-          e ∙ and_from _ _ (steps.1 (ap (λ (p : Play). p.steps) same)) (eq-eqb a.len b.len (ap (λ (p : Play). p.len) same)),
+          e ∙ and_from _ _ (steps.1 (ap (λ (p : Play). p.steps) same))
+          (eq-eqb a.len b.len (ap (λ (p : Play). p.len) same)),
     )
 
 -- a number by which the kinds of decisions differ

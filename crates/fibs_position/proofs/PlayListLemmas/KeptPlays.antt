@@ -24,7 +24,9 @@ same_leads p q e =
 
 -- an arrangement passes it against itself
 pub leads_same : (p q : Checkers) → p ≡ q → same p q ≡ true
-leads_same p q e = and_from _ _ ((bytes_eq-Decides p.own q.own).1 (ap (λ (c : Checkers). c.own) e)) ((bytes_eq-Decides p.other q.other).1 (ap (λ (c : Checkers). c.other) e))
+leads_same p q e =
+    and_from _ _ ((bytes_eq-Decides p.own q.own).1 (ap (λ (c : Checkers). c.own) e))
+    ((bytes_eq-Decides p.other q.other).1 (ap (λ (c : Checkers). c.other) e))
 
 -- the greater of two leads to where both lead
 greater_leads : (kept found : Reach) → same kept.leads found.leads ≡ true → (greater kept found).leads ≡ kept.leads
@@ -49,19 +51,30 @@ in_greater x kept found others e = elim (greater_which kept found) [ inl a ↦ i
 noted_in : (kept : List Reach) (found x : Reach) → In x (noted kept found) → In x kept ⊎ (x ≡ found)
 noted_in [] found x = λ h. elim h [ inl e ↦ inr e | inr k ↦ absurd k ]
 noted_in (kept ∷ others) found x =
-    cond_both (same kept.leads found.leads) (greater kept found ∷ others) (kept ∷ noted others found) (λ xs. In x xs → In x (kept ∷ others) ⊎ (x ≡ found))
+    cond_both (same kept.leads found.leads) (greater kept found ∷ others) (kept ∷ noted others found)
+    (λ xs. In x xs → In x (kept ∷ others) ⊎ (x ≡ found))
     (λ e h. elim h [ inl a ↦ in_greater x kept found others a | inr b ↦ inl (inr b) ])
-    (λ e h. elim h [ inl a ↦ inl (inl a) | inr b ↦ elim (noted_in others found x b) [ inl m ↦ inl (inr m) | inr n ↦ inr n ] ])
+    (λ e h. elim h
+    [ inl a ↦ inl (inl a) | inr b ↦ elim (noted_in others found x b) [ inl m ↦ inl (inr m) | inr n ↦ inr n ] ])
 
 -- what was kept is covered still
 noted_keeps : (kept : List Reach) (found x : Reach) → In x kept → Covered (noted kept found) x
 noted_keeps [] found x h = absurd h
 noted_keeps (kept ∷ others) found x (inl e) =
-    cond_both (same kept.leads found.leads) (greater kept found ∷ others) (kept ∷ noted others found) (λ xs. Covered xs x)
-    (λ s. (greater kept found, inl refl, greater_leads kept found s ∙ ap (λ (r : Reach). r.leads) (sym e), subst (λ (r : Reach). is_gt (play_cmp r.play (greater kept found).play) ≡ false) (sym e) (greater_kept kept found)))
+    cond_both (same kept.leads found.leads) (greater kept found ∷ others) (kept ∷ noted others found)
+    (λ xs. Covered xs x)
+    (λ s. (
+      greater kept found,
+      inl refl,
+      greater_leads kept found s
+          ∙ ap (λ (r : Reach). r.leads) (sym e),
+      subst (λ (r : Reach). is_gt (play_cmp r.play (greater kept found).play) ≡ false) (sym e)
+          (greater_kept kept found),
+    ))
     (λ s. (x, inl e, refl, itself x.play))
 noted_keeps (kept ∷ others) found x (inr h) =
-    cond_both (same kept.leads found.leads) (greater kept found ∷ others) (kept ∷ noted others found) (λ xs. Covered xs x)
+    cond_both (same kept.leads found.leads) (greater kept found ∷ others) (kept ∷ noted others found)
+    (λ xs. Covered xs x)
     (λ s. (x, inr h, refl, itself x.play))
     (λ s. covered_more (noted others found) kept x (noted_keeps others found x h))
 
@@ -69,8 +82,15 @@ noted_keeps (kept ∷ others) found x (inr h) =
 noted_has : (kept : List Reach) (found : Reach) → Covered (noted kept found) found
 noted_has [] found = (found, inl refl, refl, itself found.play)
 noted_has (kept ∷ others) found =
-    cond_both (same kept.leads found.leads) (greater kept found ∷ others) (kept ∷ noted others found) (λ xs. Covered xs found)
-    (λ s. (greater kept found, inl refl, greater_leads kept found s ∙ same_leads kept.leads found.leads s, greater_found kept found))
+    cond_both (same kept.leads found.leads) (greater kept found ∷ others) (kept ∷ noted others found)
+    (λ xs. Covered xs found)
+    (λ s. (
+      greater kept found,
+      inl refl,
+      greater_leads kept found s
+          ∙ same_leads kept.leads found.leads s,
+      greater_found kept found,
+    ))
     (λ s. covered_more (noted others found) kept found (noted_has others found))
 
 -- no element leads to this arrangement
@@ -84,7 +104,8 @@ Distinct [] = Unit {0}
 Distinct (x ∷ xs) = Apart x.leads xs × Distinct xs
 
 -- an arrangement that was not there and is not noted is not there
-noted_apart : (kept : List Reach) (found : Reach) (q : Checkers) → Apart q kept → found.leads ≢ q → Apart q (noted kept found)
+noted_apart : (kept : List Reach) (found : Reach) (q : Checkers) → Apart q kept → found.leads ≢ q
+    → Apart q (noted kept found)
 noted_apart [] found q h n = (n, tt)
 noted_apart (kept ∷ others) found q (h, t) n =
     cond_both (same kept.leads found.leads) (greater kept found ∷ others) (kept ∷ noted others found) (Apart q)
@@ -97,7 +118,11 @@ noted_distinct [] found h = (tt, tt)
 noted_distinct (kept ∷ others) found (h, t) =
     cond_both (same kept.leads found.leads) (greater kept found ∷ others) (kept ∷ noted others found) Distinct
     (λ s. (subst (λ q. Apart q others) (sym (greater_leads kept found s)) h, t))
-    (λ s. (noted_apart others found kept.leads h (λ e. both_ways _ s (leads_same kept.leads found.leads (sym e))), noted_distinct others found t))
+    (λ
+    s. (
+      noted_apart others found kept.leads h (λ e. both_ways _ s (leads_same kept.leads found.leads (sym e))),
+      noted_distinct others found t,
+    ))
 
 -- the same of a whole list that is noted
 pub all_in : (found kept : List Reach) (x : Reach) → In x (fold noted kept found) → In x kept ⊎ In x found
@@ -117,7 +142,8 @@ all_kept (f ∷ found) kept x (y, h, l, g) =
 -- each one noted is covered
 pub all_covered : (found kept : List Reach) (x : Reach) → In x found → Covered (fold noted kept found) x
 all_covered [] kept x h = absurd h
-all_covered (f ∷ found) kept x (inl e) = all_kept found (noted kept f) x (subst (Covered (noted kept f)) (sym e) (noted_has kept f))
+all_covered (f ∷ found) kept x (inl e) =
+    all_kept found (noted kept f) x (subst (Covered (noted kept f)) (sym e) (noted_has kept f))
 all_covered (f ∷ found) kept x (inr h) = all_covered found (noted kept f) x h
 
 -- and each arrangement is there once
@@ -135,6 +161,8 @@ apart_not (y ∷ xs) x q (n, t) (inr h) = apart_not xs x q t h
 pub distinct_one : (xs : List Reach) (x y : Reach) → Distinct xs → In x xs → In y xs → x.leads ≡ y.leads → x ≡ y
 distinct_one [] x y d h k e = absurd h
 distinct_one (z ∷ xs) x y (a, d) (inl h) (inl k) e = h ∙ sym k
-distinct_one (z ∷ xs) x y (a, d) (inl h) (inr k) e = absurd (apart_not xs y z.leads a k (sym e ∙ ap (λ (r : Reach). r.leads) h))
-distinct_one (z ∷ xs) x y (a, d) (inr h) (inl k) e = absurd (apart_not xs x z.leads a h (e ∙ ap (λ (r : Reach). r.leads) k))
+distinct_one (z ∷ xs) x y (a, d) (inl h) (inr k) e =
+    absurd (apart_not xs y z.leads a k (sym e ∙ ap (λ (r : Reach). r.leads) h))
+distinct_one (z ∷ xs) x y (a, d) (inr h) (inl k) e =
+    absurd (apart_not xs x z.leads a h (e ∙ ap (λ (r : Reach). r.leads) k))
 distinct_one (z ∷ xs) x y (a, d) (inr h) (inr k) e = distinct_one xs x y d h k e

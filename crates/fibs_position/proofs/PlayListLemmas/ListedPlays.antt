@@ -58,7 +58,8 @@ abbrev plays_in : List Reach → List (List Hop)
 plays_in xs = map (λ (r : Reach). r.play) xs
 
 -- the play of an entry
-play_at : (xs : List Reach) (k : ℕ) (d : List Hop) (e : Reach) → k < length xs → get_or (plays_in xs) k d ≡ (get_or xs k e).play
+play_at : (xs : List Reach) (k : ℕ) (d : List Hop) (e : Reach) → k < length xs
+    → get_or (plays_in xs) k d ≡ (get_or xs k e).play
 play_at [] k d e h = absurd (omega arith)
 play_at (x ∷ xs) zero d e h = refl
 play_at (x ∷ xs) (suc k) d e h = play_at xs k d e (omega arith)
@@ -69,13 +70,15 @@ plays_long [] = refl
 plays_long (x ∷ xs) = ap suc (plays_long xs)
 
 -- each play is that of an entry
-play_from : (xs : List Reach) (steps : List Hop) (k : ℕ) → k < length xs → get_or (plays_in xs) k steps ≡ steps → (x : Reach) × In x xs × (x.play ≡ steps)
+play_from : (xs : List Reach) (steps : List Hop) (k : ℕ) → k < length xs → get_or (plays_in xs) k steps ≡ steps
+    → (x : Reach) × In x xs × (x.play ≡ steps)
 play_from [] steps k h e = absurd (omega arith)
 play_from (x ∷ xs) steps zero h e = (x, inl refl, e)
 play_from (x ∷ xs) steps (suc k) h e = let (y, m, is) = play_from xs steps k (omega arith) e in (y, inr m, is)
 
 -- a play of a list is one of a longer list
-play_more : (xs : List Reach) (steps : List Hop) (x : Reach) → Contains (plays_in xs) steps → Contains (plays_in (x ∷ xs)) steps
+play_more : (xs : List Reach) (steps : List Hop) (x : Reach) → Contains (plays_in xs) steps
+    → Contains (plays_in (x ∷ xs)) steps
 play_more xs steps x (k, h, e) = (suc k, omega arith, e)
 
 -- the play of an entry is there
@@ -98,7 +101,8 @@ times_yes q x xs e = times_cons q x xs ∙ ap (λ k. k + times q xs) (cond-true 
 
 -- no more often where it is not
 times_no : (q : Checkers) (x : Reach) (xs : List Reach) → same x.leads q ≡ false → times q (x ∷ xs) ≡ times q xs
-times_no q x xs e = let a = times_cons q x xs in let b = cond-false {A = ℕ} (same x.leads q) 1 0 e in omega (arith, a, b)
+times_no q x xs e =
+    let a = times_cons q x xs in let b = cond-false {A = ℕ} (same x.leads q) 1 0 e in omega (arith, a, b)
 
 -- one that is not there is there no time
 never : (q r : Checkers) (xs : List Reach) → Apart r xs → r ≡ q → times q xs ≡ 0
@@ -117,22 +121,27 @@ once q (x ∷ xs) (a, d) = elim (cases_Bool (same x.leads q)) [
 ]
 
 -- two neighbours with it are there twice
-twice : (q : Checkers) (xs : List Reach) (k : ℕ) (d : Reach) → suc k < length xs → same (get_or xs k d).leads q ≡ true → same (get_or xs (suc k) d).leads q ≡ true → 2 ≤ times q xs
+twice : (q : Checkers) (xs : List Reach) (k : ℕ) (d : Reach) → suc k < length xs → same (get_or xs k d).leads q ≡ true
+    → same (get_or xs (suc k) d).leads q ≡ true → 2 ≤ times q xs
 twice q [] k d h a b = absurd (omega arith)
 twice q (x ∷ []) k d h a b = absurd (omega arith)
-twice q (x ∷ y ∷ xs) zero d h a b = let e = times_yes q x (y ∷ xs) a in let f = times_yes q y xs b in omega (arith, e, f)
+twice q (x ∷ y ∷ xs) zero d h a b =
+    let e = times_yes q x (y ∷ xs) a in let f = times_yes q y xs b in omega (arith, e, f)
 twice q (x ∷ y ∷ xs) (suc k) d h a b =
     let ih = twice q (y ∷ xs) k d (omega arith) a b in
     let e = times_cons q x (y ∷ xs) in omega (arith, e, ih)
 
-module _ (p : Standing) (sorted : List Reach) (l : p.first ≤ 6) (r : p.second ≤ 6) (moves : IsPermutation (fold noted [] (all_of p)) sorted) where
+module _ (p : Standing) (sorted : List Reach) (l : p.first ≤ 6) (r : p.second ≤ 6)
+    (moves : IsPermutation (fold noted [] (all_of p)) sorted) where
   kept_leads : (x : Reach) → In x sorted → Leads p x.play x.leads
-  kept_leads x h = elim (all_in (all_of p) [] x (moved_in sorted (fold noted [] (all_of p)) x (IsPermutation-sym _ _ moves) h)) [
-    | inl none ↦ absurd none
-    | inr m ↦ all_sound p x l r m
-  ]
+  kept_leads x h =
+      elim (all_in (all_of p) [] x (moved_in sorted (fold noted [] (all_of p)) x (IsPermutation-sym _ _ moves) h)) [
+        | inl none ↦ absurd none
+        | inr m ↦ all_sound p x l r m
+      ]
 
-  kept_covers : (steps : List Hop) (q : Checkers) → Leads p steps q → Covered sorted (record { play = steps; leads = q })
+  kept_covers : (steps : List Hop) (q : Checkers) → Leads p steps q
+      → Covered sorted (record { play = steps; leads = q })
   kept_covers steps q h =
       let (x, n, f, k) = all_complete p steps q l r h in
       let (y, m, e, g) = all_covered (all_of p) [] x n in
@@ -141,7 +150,8 @@ module _ (p : Standing) (sorted : List Reach) (l : p.first ≤ 6) (r : p.second 
   kept_one : (x y : Reach) → In x sorted → In y sorted → x.leads ≡ y.leads → x ≡ y
   kept_one x y h k e =
       distinct_one (fold noted [] (all_of p)) x y (all_distinct (all_of p) [] tt)
-      (moved_in sorted (fold noted [] (all_of p)) x (IsPermutation-sym _ _ moves) h) (moved_in sorted (fold noted [] (all_of p)) y (IsPermutation-sym _ _ moves) k) e
+      (moved_in sorted (fold noted [] (all_of p)) x (IsPermutation-sym _ _ moves) h)
+      (moved_in sorted (fold noted [] (all_of p)) y (IsPermutation-sym _ _ moves) k) e
 
   is_greatest : (x : Reach) → In x sorted → IsGreatest p x.play
   is_greatest x h = record {
@@ -149,7 +159,8 @@ module _ (p : Standing) (sorted : List Reach) (l : p.first ≤ 6) (r : p.second 
     leads = kept_leads x h;
     greatest = λ others o.
         let (y, m, e, g) = kept_covers others x.leads o in
-        not_greater (play_cmp others x.play) (subst (λ (z : Reach). is_gt (play_cmp others z.play) ≡ false) (kept_one y x m h e) g);
+        not_greater (play_cmp others x.play)
+        (subst (λ (z : Reach). is_gt (play_cmp others z.play) ≡ false) (kept_one y x m h e) g);
   }
 
   is_kept : (steps : List Hop) → IsGreatest p steps → Contains (plays_in sorted) steps
@@ -159,12 +170,14 @@ module _ (p : Standing) (sorted : List Reach) (l : p.first ≤ 6) (r : p.second 
       let same_play : steps ≡ y.play = play_same steps y.play f (gt_from _ (g.greatest y.play other)) in
       subst (Contains (plays_in sorted)) (sym same_play) (play_to sorted y m)
 
-  apart_adjacent : (k : ℕ) (d : Reach) → suc k < length sorted → (get_or sorted k d).leads ≢ (get_or sorted (suc k) d).leads
+  apart_adjacent : (k : ℕ) (d : Reach) → suc k < length sorted
+      → (get_or sorted k d).leads ≢ (get_or sorted (suc k) d).leads
   apart_adjacent k d h e =
       let q = (get_or sorted k d).leads in
       let two = twice q sorted k d h (leads_same q q refl) (leads_same (get_or sorted (suc k) d).leads q (sym e)) in
       let one = once q (fold noted [] (all_of p)) (all_distinct (all_of p) [] tt) in
-      let kept : times q sorted ≡ times q (fold noted [] (all_of p)) = sum_by-IsPermutation (λ (r : Reach). cond (same r.leads q) 1 0) (fold noted [] (all_of p)) sorted moves in
+      let kept : times q sorted ≡ times q (fold noted [] (all_of p)) =
+      sum_by-IsPermutation (λ (r : Reach). cond (same r.leads q) 1 0) (fold noted [] (all_of p)) sorted moves in
       omega (arith, two, one, kept)
 
   one_play : (x y : Reach) → In x sorted → In y sorted → x.play ≡ y.play → x.leads ≡ y.leads
@@ -173,19 +186,27 @@ module _ (p : Standing) (sorted : List Reach) (l : p.first ≤ 6) (r : p.second 
       let (others, parts, runs) = (kept_leads y k).1 in
       run_one p.checkers x.leads y.leads dice others y.play (subst (λ ms. Run p.checkers dice ms x.leads) e run) runs
 
-  falls_at : (k : ℕ) (d : Reach) → suc k < length sorted → is_lt (play_cmp (get_or sorted k d).play (get_or sorted (suc k) d).play) ≡ false
+  falls_at : (k : ℕ) (d : Reach) → suc k < length sorted
+      → is_lt (play_cmp (get_or sorted k d).play (get_or sorted (suc k) d).play) ≡ false
       → play_cmp (get_or sorted k d).play (get_or sorted (suc k) d).play ≡ Greater
   falls_at k d h f = elim (no_less _ f) [
-    | inl alike ↦ absurd (apart_adjacent k d h (one_play (get_or sorted k d) (get_or sorted (suc k) d) (at_in sorted k d (omega arith)) (at_in sorted (suc k) d h) (play_exact _ _ alike)))
+    | inl alike ↦
+        absurd
+        (apart_adjacent k d h
+        (one_play (get_or sorted k d) (get_or sorted (suc k) d) (at_in sorted k d (omega arith))
+        (at_in sorted (suc k) d h) (play_exact _ _ alike)))
     | inr above ↦ above
   ]
 
 -- the plays kept, sorted, are those of the rules, in descending order
-pub plays_list : (p : Standing) (sorted : List Reach) → p.first ≤ 6 → p.second ≤ 6 → IsPermutation (fold noted [] (all_of p)) sorted → IsSortedBy (λ (a b : Reach). is_lt (play_cmp b.play a.play)) sorted
+pub plays_list : (p : Standing) (sorted : List Reach) → p.first ≤ 6 → p.second ≤ 6
+    → IsPermutation (fold noted [] (all_of p)) sorted
+    → IsSortedBy (λ (a b : Reach). is_lt (play_cmp b.play a.play)) sorted
     → PlayList p (map (λ (r : Reach). r.play) sorted)
 plays_list p sorted l r moves order = record {
   each = λ steps. (
-    λ h. let (x, m, e) = play_from sorted steps h.0 (let n = plays_long sorted in omega (arith, h.1, n)) h.2 in subst (IsGreatest p) e (is_greatest p sorted l r moves x m),
+    λ h. let (x, m, e) = play_from sorted steps h.0 (let n = plays_long sorted in omega (arith, h.1, n)) h.2 in
+        subst (IsGreatest p) e (is_greatest p sorted l r moves x m),
     is_kept p sorted l r moves steps,
   );
   descending = λ k d h.
@@ -193,24 +214,34 @@ plays_list p sorted l r moves order = record {
       let e : Reach = record { play = d; leads = p.checkers } in
       let lt : suc k < length sorted = omega (arith, n, h) in
       let f = rw add-one at (order k e (omega arith) (omega (arith, lt))) in
-      rw (add-one, play_at sorted k d e (omega (arith, lt)), play_at sorted (suc k) d e lt) (falls_at p sorted l r moves k e lt f);
+      rw (add-one, play_at sorted k d e (omega (arith, lt)), play_at sorted (suc k) d e lt)
+      (falls_at p sorted l r moves k e lt f);
 }
 
 -- the same of what the code keeps
-sorted_reaches : (xs : List Reached) → IsSortedBy (λ (a b : Reached). is_lt (play_cmp (hops_of b.play) (hops_of a.play))) xs → IsSortedBy (λ (a b : Reach). is_lt (play_cmp b.play a.play)) (map reach_of xs)
+sorted_reaches : (xs : List Reached)
+    → IsSortedBy (λ (a b : Reached). is_lt (play_cmp (hops_of b.play) (hops_of a.play))) xs
+    → IsSortedBy (λ (a b : Reach). is_lt (play_cmp b.play a.play)) (map reach_of xs)
 sorted_reaches [] order = λ k d lo hi. absurd (omega arith)
 sorted_reaches (x ∷ xs) order = λ k d lo hi.
     let long : length (map reach_of (x ∷ xs)) ≡ length (x ∷ xs) = length-map (x ∷ xs) reach_of in
-    rw (get_or-map reach_of (x ∷ xs) k x d (omega arith), get_or-map reach_of (x ∷ xs) (k + 1) x d (omega arith)) (order k x lo (omega arith))
+    rw (get_or-map reach_of (x ∷ xs) k x d (omega arith), get_or-map reach_of (x ∷ xs) (k + 1) x d (omega arith))
+    (order k x lo (omega arith))
 
 -- the plays alone, as values
-plays_reached : (xs : List Reached) → map (λ (r : Reach). r.play) (map reach_of xs) ≡ map hops_of (map (λ (r : Reached). r.play) xs)
+plays_reached : (xs : List Reached)
+    → map (λ (r : Reach). r.play) (map reach_of xs) ≡ map hops_of (map (λ (r : Reached). r.play) xs)
 plays_reached [] = refl
 plays_reached (x ∷ xs) = ap (λ ys. hops_of x.play ∷ ys) (plays_reached xs)
 
 -- so they are as the code has them
-pub listed : (p : Standing) (old sorted : List Reached) (plays : List Play) → p.first ≤ 6 → p.second ≤ 6 → map reach_of old ≡ fold noted [] (all_of p) → IsPermutation old sorted
-    → IsSortedBy (λ (a b : Reached). is_lt (play_cmp (hops_of b.play) (hops_of a.play))) sorted → plays ≡ map (λ (r : Reached). r.play) sorted → PlayList p (map hops_of plays)
+pub listed : (p : Standing) (old sorted : List Reached) (plays : List Play) → p.first ≤ 6 → p.second ≤ 6
+    → map reach_of old ≡ fold noted [] (all_of p) → IsPermutation old sorted
+    → IsSortedBy (λ (a b : Reached). is_lt (play_cmp (hops_of b.play) (hops_of a.play))) sorted
+    → plays ≡ map (λ (r : Reached). r.play) sorted → PlayList p (map hops_of plays)
 listed p old sorted plays l r e moves order is =
-    let found = plays_list p (map reach_of sorted) l r (subst (λ xs. IsPermutation xs (map reach_of sorted)) e (IsPermutation-map reach_of old sorted moves)) (sorted_reaches sorted order) in
+    let found =
+    plays_list p (map reach_of sorted) l r
+    (subst (λ xs. IsPermutation xs (map reach_of sorted)) e (IsPermutation-map reach_of old sorted moves))
+    (sorted_reaches sorted order) in
     subst (PlayList p) (plays_reached sorted ∙ sym (ap (map hops_of) is)) found

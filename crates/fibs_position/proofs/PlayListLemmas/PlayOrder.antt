@@ -29,14 +29,18 @@ play_total = lists_total hop_total
 
 -- steps that are level are one
 hop_exact : (x y : Hop) → hop_cmp x y ≡ Equal → x ≡ y
-hop_exact x y e = ap (λ (p : ℕ × ℕ). record { source = p.0; target = p.1 }) (exact_pairs nat_cmp nat_cmp exact_unsigned exact_unsigned (x.source, x.target) (y.source, y.target) e)
+hop_exact x y e =
+    ap (λ (p : ℕ × ℕ). record { source = p.0; target = p.1 })
+    (exact_pairs nat_cmp nat_cmp exact_unsigned exact_unsigned (x.source, x.target) (y.source, y.target) e)
 
 -- plays that compare alike are one
 pub play_exact : (x y : List Hop) → play_cmp x y ≡ Equal → x ≡ y
 play_exact = slice_cmp-IsAntisymmetric {R = hop_cmp} hop_exact
 
 -- how steps compare, as their places do
-pub cmp_hops : (xs ys : List Step) → slice_cmp (λ (a b : Step). ordering_then (nat_cmp a.source b.source) (nat_cmp a.target b.target)) xs ys ≡ play_cmp (map hop_of xs) (map hop_of ys)
+pub cmp_hops : (xs ys : List Step)
+    → slice_cmp (λ (a b : Step). ordering_then (nat_cmp a.source b.source) (nat_cmp a.target b.target)) xs ys ≡ play_cmp
+    (map hop_of xs) (map hop_of ys)
 cmp_hops [] [] = refl
 cmp_hops [] (y ∷ ys) = refl
 cmp_hops (x ∷ xs) [] = refl
@@ -44,7 +48,9 @@ cmp_hops (x ∷ xs) (y ∷ ys) = ap (ordering_then (hop_cmp (hop_of x) (hop_of y
 
 -- the order of a sort that puts the greatest play first
 pub descending_order : IsStrictWeakOrder (λ (a b : Reached). is_lt (play_cmp (hops_of b.play) (hops_of a.play)))
-descending_order = IsStrictWeakOrder-flip (λ (a b : Reached). is_lt (play_cmp (hops_of a.play) (hops_of b.play))) (ranks_by play_total (λ (r : Reached). hops_of r.play))
+descending_order =
+    IsStrictWeakOrder-flip (λ (a b : Reached). is_lt (play_cmp (hops_of a.play) (hops_of b.play)))
+    (ranks_by play_total (λ (r : Reached). hops_of r.play))
 
 -- the other way round, less is greater
 reversed : (a b : Ordering) → a ≡ ordering_reverse b → is_lt a ≡ is_gt b
@@ -65,17 +71,21 @@ itself a = ap is_gt (tied_itself play_total a)
 -- of two plays, the one that is kept is no less than either
 pub greater_kept : (kept found : Reach) → is_gt (play_cmp kept.play (greater kept found).play) ≡ false
 greater_kept kept found =
-    cond_both (is_lt (play_cmp kept.play found.play)) found kept (λ r. is_gt (play_cmp kept.play r.play) ≡ false) (λ e. lt_not_gt _ e) (λ e. itself kept.play)
+    cond_both (is_lt (play_cmp kept.play found.play)) found kept (λ r. is_gt (play_cmp kept.play r.play) ≡ false)
+    (λ e. lt_not_gt _ e) (λ e. itself kept.play)
 
 -- the play found is not above the greater of both
 pub greater_found : (kept found : Reach) → is_gt (play_cmp found.play (greater kept found).play) ≡ false
 greater_found kept found =
-    cond_both (is_lt (play_cmp kept.play found.play)) found kept (λ r. is_gt (play_cmp found.play r.play) ≡ false) (λ e. itself found.play)
+    cond_both (is_lt (play_cmp kept.play found.play)) found kept (λ r. is_gt (play_cmp found.play r.play) ≡ false)
+    (λ e. itself found.play)
     (λ e. sym (reversed _ _ (play_total.antisymm kept.play found.play)) ∙ e)
 
 -- one of the two
 pub greater_which : (kept found : Reach) → (greater kept found ≡ kept) ⊎ (greater kept found ≡ found)
-greater_which kept found = cond_both (is_lt (play_cmp kept.play found.play)) found kept (λ r. (r ≡ kept) ⊎ (r ≡ found)) (λ e. inr refl) (λ e. inl refl)
+greater_which kept found =
+    cond_both (is_lt (play_cmp kept.play found.play)) found kept (λ r. (r ≡ kept) ⊎ (r ≡ found)) (λ e. inr refl)
+    (λ e. inl refl)
 
 -- a test that fails tells it
 pub not_greater : (o : Ordering) → is_gt o ≡ false → o ≢ Greater

@@ -21,9 +21,11 @@ not_empty [] after die e = cc
 not_empty (x ∷ before) after die e = cc
 
 -- of equal dice one is picked, and the others are left
-picked_equal : (before after : List ℕ) (die a n : ℕ) → before ++ die ∷ after ≡ replicate (suc n) a → (die ≡ a) × (before ++ after ≡ replicate n a)
+picked_equal : (before after : List ℕ) (die a n : ℕ) → before ++ die ∷ after ≡ replicate (suc n) a
+    → (die ≡ a) × (before ++ after ≡ replicate n a)
 picked_equal [] after die a n e = (cc, cc)
-picked_equal (x ∷ before) after die a zero e = let f : before ++ die ∷ after ≡ [] = cc in absurd (not_empty before after die f)
+picked_equal (x ∷ before) after die a zero e =
+    let f : before ++ die ∷ after ≡ [] = cc in absurd (not_empty before after die f)
 picked_equal (x ∷ before) after die a (suc n) e =
     let f : before ++ die ∷ after ≡ replicate (suc n) a = cc in
     let ih = picked_equal before after die a n f in
@@ -60,7 +62,8 @@ two_front a b (die ∷ dice) (x ∷ [], after, e, h) =
     let f : after ≡ [] = cc in
     let x_is : x ≡ a = cc in
     let (rest, g) = one_front a dice (rw (f, x_is) at h) in inr (rest, cc)
-two_front a b (die ∷ dice) (x ∷ y ∷ before, after, e, h) = let f : before ++ die ∷ after ≡ [] = cc in absurd (not_empty before after die f)
+two_front a b (die ∷ dice) (x ∷ y ∷ before, after, e, h) =
+    let f : before ++ die ∷ after ≡ [] = cc in absurd (not_empty before after die f)
 
 -- what two shown dice give, in either order
 pub data Held (a b : ℕ) : Type 0 where
@@ -72,7 +75,12 @@ pub data Held (a b : ℕ) : Type 0 where
 -- what the dice held are
 held : (a b : ℕ) → Held a b
 held a b = elim (cases_eq a b) [
-  | inl same ↦ elim (cases_eq a 0) [ inl nil ↦ none (grind (arith, nat_tests)) (grind (arith, nat_tests)) | inr some ↦ equal (omega arith) (grind (arith, nat_tests)) (grind (arith, nat_tests)) ]
+  | inl same ↦
+      elim (cases_eq a 0) [
+        | inl nil ↦ none (grind (arith, nat_tests)) (grind (arith, nat_tests))
+        | inr some ↦
+            equal (omega arith) (grind (arith, nat_tests)) (grind (arith, nat_tests))
+      ]
   | inr apart ↦ elim (cases_eq a 0) [
     | inl nil ↦ single b (inr refl) (omega arith) (grind (arith, nat_tests)) (grind (arith, nat_tests))
     | inr some ↦ elim (cases_eq b 0) [
@@ -83,7 +91,8 @@ held a b = elim (cases_eq a b) [
 ]
 
 -- each part of the dice held is a front of them in one of two orders
-pub front_from_part : (a b : ℕ) (dice : List ℕ) → IsPart dice (held_of a b) → IsFront dice (held_of a b) ⊎ IsFront dice (held_of b a)
+pub front_from_part : (a b : ℕ) (dice : List ℕ) → IsPart dice (held_of a b)
+    → IsFront dice (held_of a b) ⊎ IsFront dice (held_of b a)
 front_from_part a b dice h = elim (held a b) [
   | none e f ↦ inl (rw e (none_front dice (rw e at h)))
   | single d is pos e f ↦ inl (rw e (one_front d dice (rw e at h)))
@@ -138,7 +147,8 @@ held_long a b = elim (held a b) [
 ]
 
 -- where no two different dice are held, those that are held are equal
-pub alike : (a b : ℕ) → (0 < a → 0 < b → a ≢ b → ⊥) → (die n : ℕ) × (0 < die) × (held_of a b ≡ replicate n die) × (held_of b a ≡ replicate n die)
+pub alike : (a b : ℕ) → (0 < a → 0 < b → a ≢ b → ⊥)
+    → (die n : ℕ) × (0 < die) × (held_of a b ≡ replicate n die) × (held_of b a ≡ replicate n die)
 alike a b not_two = elim (held a b) [
   | none e f ↦ (1, 0, omega arith, e, f)
   | single d is pos e f ↦ (d, 1, pos, e, f)
@@ -150,7 +160,8 @@ alike a b not_two = elim (held a b) [
 first_held : (a b : ℕ) → 0 < a → IsFront (a ∷ []) (held_of a b)
 first_held a b pos = elim (cases_eq a b) [
   | inl same ↦ (a ∷ a ∷ a ∷ [], grind (arith, nat_tests))
-  | inr apart ↦ elim (cases_eq b 0) [ inl nil ↦ ([], grind (arith, nat_tests)) | inr some ↦ (b ∷ [], grind (arith, nat_tests)) ]
+  | inr apart ↦
+      elim (cases_eq b 0) [ inl nil ↦ ([], grind (arith, nat_tests)) | inr some ↦ (b ∷ [], grind (arith, nat_tests)) ]
 ]
 
 -- a die that is shown is a part of those held
@@ -162,7 +173,8 @@ shown_part a b die (inr e) pos = rw e (part_from_swapped a b (b ∷ []) (first_h
 pub held_shown : (a b die : ℕ) (rest : List ℕ) → die ∷ rest ≡ held_of a b → ((die ≡ a) ⊎ (die ≡ b)) × (0 < die)
 held_shown a b die rest h = elim (held a b) [
   | none e f ↦ absurd (cc)
-  | single d is pos e f ↦ let same : die ≡ d = cc in (elim is [ inl x ↦ inl (same ∙ x) | inr x ↦ inr (same ∙ x) ], omega arith)
+  | single d is pos e f ↦ let same : die ≡ d = cc in
+      (elim is [ inl x ↦ inl (same ∙ x) | inr x ↦ inr (same ∙ x) ], omega arith)
   | different apart l r e f ↦ let same : die ≡ a = cc in (inl same, omega arith)
   | equal pos e f ↦ let same : die ≡ a = cc in (inl same, omega arith)
 ]

@@ -39,19 +39,26 @@ shift_else : (x k f t : ℕ) → k ≢ f → k ≢ t → shift_at x k f t ≡ x
 shift_else x k f t n m = cond-false (k == f) _ _ (ne_eqb k f n) ∙ cond-false (k == t) _ _ (ne_eqb k t m)
 
 -- a count after a shift
-shifted_at : (xs : List ℕ) (f t k : ℕ) → f ≢ t → f < length xs → t < length xs → get_or (shifted xs f t) k 0 ≡ shift_at (get_or xs k 0) k f t
+shifted_at : (xs : List ℕ) (f t k : ℕ) → f ≢ t → f < length xs → t < length xs
+    → get_or (shifted xs f t) k 0 ≡ shift_at (get_or xs k 0) k f t
 shifted_at xs f t k apart l r = elim (cases_eq k f) [
   | inl e ↦
       let n : k ≢ t = omega arith in
       let a = get_or-set_other (set xs f (get_or xs f 0 - 1)) t k (get_or (set xs f (get_or xs f 0 - 1)) t 0 + 1) 0 n in
-      let b : get_or (set xs f (get_or xs f 0 - 1)) k 0 ≡ get_or xs k 0 - 1 = subst (λ j. get_or (set xs f (get_or xs f 0 - 1)) j 0 ≡ get_or xs j 0 - 1) (sym e) (get_or-set_same xs f (get_or xs f 0 - 1) 0 l) in
+      let b : get_or (set xs f (get_or xs f 0 - 1)) k 0 ≡ get_or xs k 0 - 1 =
+      subst (λ j. get_or (set xs f (get_or xs f 0 - 1)) j 0 ≡ get_or xs j 0 - 1) (sym e)
+      (get_or-set_same xs f (get_or xs f 0 - 1) 0 l) in
       a ∙ b ∙ sym (shift_from (get_or xs k 0) k f t e)
   | inr n ↦ elim (cases_eq k t) [
     | inl e ↦
         let m : t ≢ f = omega arith in
-        let a : get_or (shifted xs f t) t 0 ≡ get_or (set xs f (get_or xs f 0 - 1)) t 0 + 1 = get_or-set_same (set xs f (get_or xs f 0 - 1)) t (get_or (set xs f (get_or xs f 0 - 1)) t 0 + 1) 0 (rw length-set r) in
-        let b : get_or (shifted xs f t) t 0 ≡ get_or xs t 0 + 1 = a ∙ ap (λ x. x + 1) (get_or-set_other xs f t (get_or xs f 0 - 1) 0 m) in
-        subst (λ j. get_or (shifted xs f t) j 0 ≡ get_or xs j 0 + 1) (sym e) b ∙ sym (shift_to (get_or xs k 0) k f t n e)
+        let a : get_or (shifted xs f t) t 0 ≡ get_or (set xs f (get_or xs f 0 - 1)) t 0 + 1 =
+        get_or-set_same (set xs f (get_or xs f 0 - 1)) t (get_or (set xs f (get_or xs f 0 - 1)) t 0 + 1) 0
+        (rw length-set r) in
+        let b : get_or (shifted xs f t) t 0 ≡ get_or xs t 0 + 1 =
+        a ∙ ap (λ x. x + 1) (get_or-set_other xs f t (get_or xs f 0 - 1) 0 m) in
+        subst (λ j. get_or (shifted xs f t) j 0 ≡ get_or xs j 0 + 1) (sym e) b
+        ∙ sym (shift_to (get_or xs k 0) k f t n e)
     | inr m ↦
         get_or-set_other (set xs f (get_or xs f 0 - 1)) t k (get_or (set xs f (get_or xs f 0 - 1)) t 0 + 1) 0 m
         ∙ get_or-set_other xs f k (get_or xs f 0 - 1) 0 n ∙ sym (shift_else (get_or xs k 0) k f t n m)
@@ -59,19 +66,25 @@ shifted_at xs f t k apart l r = elim (cases_eq k f) [
 ]
 
 -- two shifts of one count swap
-shifts_swap : (x k f t g u : ℕ) → f ≢ t → g ≢ u → f ≢ g → (k ≡ f → 0 < x) → (k ≡ g → 0 < x) → shift_at (shift_at x k f t) k g u ≡ shift_at (shift_at x k g u) k f t
+shifts_swap : (x k f t g u : ℕ) → f ≢ t → g ≢ u → f ≢ g → (k ≡ f → 0 < x) → (k ≡ g → 0 < x)
+    → shift_at (shift_at x k f t) k g u ≡ shift_at (shift_at x k g u) k f t
 shifts_swap x k f t g u a b c some other = grind (arith, nat_tests)
 
 -- two shifts of a list swap
-shifted_swap : (xs : List ℕ) (f t g u : ℕ) → f ≢ t → g ≢ u → f ≢ g → f < length xs → t < length xs → g < length xs → u < length xs → 0 < get_or xs f 0 → 0 < get_or xs g 0
+shifted_swap : (xs : List ℕ) (f t g u : ℕ) → f ≢ t → g ≢ u → f ≢ g → f < length xs → t < length xs → g < length xs
+    → u < length xs → 0 < get_or xs f 0 → 0 < get_or xs g 0
     → shifted (shifted xs f t) g u ≡ shifted (shifted xs g u) f t
 shifted_swap xs f t g u a b c lf lt lg lu sf sg =
     let n = shifted_long xs f t in let m = shifted_long xs g u in
-    same_number_lists (shifted (shifted xs f t) g u) (shifted (shifted xs g u) f t) (shifted_long (shifted xs f t) g u ∙ n ∙ sym m ∙ sym (shifted_long (shifted xs g u) f t))
+    same_number_lists (shifted (shifted xs f t) g u) (shifted (shifted xs g u) f t)
+    (shifted_long (shifted xs f t) g u ∙ n ∙ sym m ∙ sym (shifted_long (shifted xs g u) f t))
     (λ k h.
-    shifted_at (shifted xs f t) g u k b (omega (arith, n)) (omega (arith, n)) ∙ ap (λ x. shift_at x k g u) (shifted_at xs f t k a lf lt)
-    ∙ shifts_swap (get_or xs k 0) k f t g u a b c (λ e. subst (λ j. 0 < get_or xs j 0) (sym e) sf) (λ e. subst (λ j. 0 < get_or xs j 0) (sym e) sg)
-    ∙ sym (shifted_at (shifted xs g u) f t k a (omega (arith, m)) (omega (arith, m)) ∙ ap (λ x. shift_at x k f t) (shifted_at xs g u k b lg lu)))
+    shifted_at (shifted xs f t) g u k b (omega (arith, n)) (omega (arith, n))
+    ∙ ap (λ x. shift_at x k g u) (shifted_at xs f t k a lf lt)
+    ∙ shifts_swap (get_or xs k 0) k f t g u a b c (λ e. subst (λ j. 0 < get_or xs j 0) (sym e) sf)
+    (λ e. subst (λ j. 0 < get_or xs j 0) (sym e) sg)
+    ∙ sym (shifted_at (shifted xs g u) f t k a (omega (arith, m)) (omega (arith, m))
+    ∙ ap (λ x. shift_at x k f t) (shifted_at xs g u k b lg lu)))
 
 -- a checker that comes to this place hits
 abbrev hits : List ℕ → ℕ → Bool
@@ -104,14 +117,16 @@ hit_no : (ys : List ℕ) (t : ℕ) → hits ys t ≡ false → hit ys t ≡ ys
 hit_no ys t e = cond-false (hits ys t) (shifted ys t 0) ys e
 
 -- two hits swap
-hits_swap : (ys : List ℕ) (t u : ℕ) → t ≢ u → hits ys t ≡ true → hits ys u ≡ true → shifted (shifted ys t 0) u 0 ≡ shifted (shifted ys u 0) t 0
+hits_swap : (ys : List ℕ) (t u : ℕ) → t ≢ u → hits ys t ≡ true → hits ys u ≡ true
+    → shifted (shifted ys t 0) u 0 ≡ shifted (shifted ys u 0) t 0
 hits_swap ys t u n a b =
     let (st, ot) = and_parts (nat_lt 0 t) (get_or ys t 0 == 1) a in
     let (su, ou) = and_parts (nat_lt 0 u) (get_or ys u 0 == 1) b in
     let lt = ltb-true 0 t st in let lu = ltb-true 0 u su in
     let et = eqb-true (get_or ys t 0) 1 ot in let eu = eqb-true (get_or ys u 0) 1 ou in
     let it = in_list ys t (omega (arith, et)) in let iu = in_list ys u (omega (arith, eu)) in
-    shifted_swap ys t 0 u 0 (omega (arith, lt)) (omega (arith, lu)) n it (omega (arith, it)) iu (omega (arith, iu)) (omega (arith, et)) (omega (arith, eu))
+    shifted_swap ys t 0 u 0 (omega (arith, lt)) (omega (arith, lu)) n it (omega (arith, it)) iu (omega (arith, iu))
+    (omega (arith, et)) (omega (arith, eu))
 
 -- so they do where one of them hits nothing
 hit_swap : (ys : List ℕ) (t u : ℕ) → t ≢ u → hit (hit ys t) u ≡ hit (hit ys u) t
@@ -133,36 +148,80 @@ record Low (p : Checkers) (f t d : ℕ) : Type 0 where
   bar : slice_index p.own 25 ≡ 0
   occupied : 0 < slice_index p.own f
   below : t < f
-  how : ((t + d ≡ f) × (0 < t)) ⊎ ((f ≡ d) × (t ≡ 0) × AllHome p) ⊎ ((f < d) × ((s : ℕ) → f < s → slice_index p.own s ≡ 0))
+  how : ((t + d ≡ f) × (0 < t)) ⊎ ((f ≡ d) × (t ≡ 0) × AllHome p)
+      ⊎ ((f < d) × ((s : ℕ) → f < s → slice_index p.own s ≡ 0))
 
 -- a step from below place 25 is one of these
 low : (p : Checkers) (f t d : ℕ) → 0 < d → 0 < f → f < 25 → Goes p f t d → Low p f t d
 low p f t d die pos lt (inl h) = absurd (let e = h.from_bar in omega (arith, e))
-low p f t d die pos lt (inr (inl h)) = record { bar = h.bar_empty; occupied = h.occupied; below = let e = h.onto in omega (arith, e); how = inl (h.onto, h.on_board) }
-low p f t d die pos lt (inr (inr (inl h))) = record { bar = h.home 25 (omega arith); occupied = h.occupied; below = let e = h.off in omega (arith, e); how = inr (inl (h.exact, h.off, h.home)) }
-low p f t d die pos lt (inr (inr (inr h))) = record { bar = h.home 25 (omega arith); occupied = h.occupied; below = let e = h.off in omega (arith, e); how = inr (inr (h.larger, h.highest)) }
+low p f t d die pos lt (inr (inl h)) =
+    record {
+      bar = h.bar_empty;
+      occupied = h.occupied;
+      below = let e = h.onto in omega (arith, e);
+      how =
+          inl (h.onto, h.on_board);
+    }
+low p f t d die pos lt (inr (inr (inl h))) =
+    record {
+      bar = h.home 25 (omega arith);
+      occupied = h.occupied;
+      below = let e = h.off in omega (arith, e);
+      how =
+          inr (inl (h.exact, h.off, h.home));
+    }
+low p f t d die pos lt (inr (inr (inr h))) =
+    record {
+      bar = h.home 25 (omega arith);
+      occupied = h.occupied;
+      below = let e = h.off in omega (arith, e);
+      how =
+          inr (inr (h.larger, h.highest));
+    }
 
 -- a place above a step keeps its count
-moved_above : (p : Checkers) (f t g : ℕ) → f < g → t < f → 0 < slice_index p.own f → slice_index (moved p f t).own g ≡ slice_index p.own g
+moved_above : (p : Checkers) (f t g : ℕ) → f < g → t < f → 0 < slice_index p.own f
+    → slice_index (moved p f t).own g ≡ slice_index p.own g
 moved_above p f t g lt below occ =
     let l = in_list p.own f occ in
-    shifted_at p.own f t g (omega arith) l (omega (arith, l)) ∙ shift_else (get_or p.own g 0) g f t (omega arith) (omega arith)
+    shifted_at p.own f t g (omega arith) l (omega (arith, l))
+    ∙ shift_else (get_or p.own g 0) g f t (omega arith) (omega arith)
 
 -- the second of two such steps moves on the board
-second_moves : (p : Checkers) (f t g u d : ℕ) → f < g → g ≤ 25 → Low p f t d → Goes (moved p f t) g u d → (0 < slice_index p.own g) × (u + d ≡ g) × (0 < u)
+second_moves : (p : Checkers) (f t g u d : ℕ) → f < g → g ≤ 25 → Low p f t d → Goes (moved p f t) g u d
+    → (0 < slice_index p.own g) × (u + d ≡ g) × (0 < u)
 second_moves p f t g u d lt hi a (inl h) =
-    let same = moved_above p f t 25 (omega arith) a.below a.occupied in let b = a.bar in let c = h.barred in absurd (omega (arith, same, b, c))
+    let same = moved_above p f t 25 (omega arith) a.below a.occupied in let b = a.bar in let c = h.barred in
+    absurd (omega (arith, same, b, c))
 second_moves p f t g u d lt hi a (inr (inl h)) =
-    let same = moved_above p f t g lt a.below a.occupied in let o = h.occupied in (omega (arith, same, o), h.onto, h.on_board)
+    let same = moved_above p f t g lt a.below a.occupied in let o = h.occupied in
+    (omega (arith, same, o), h.onto, h.on_board)
 second_moves p f t g u d lt hi a (inr (inr (inl h))) =
     let same = moved_above p f t g lt a.below a.occupied in let o = h.occupied in let e = h.exact in
-    elim a.how [ inl w ↦ let x = w.0 in absurd (omega (arith, e, x)) | inr v ↦ elim v [ inl w ↦ let x = w.0 in absurd (omega (arith, e, x)) | inr w ↦ let x = w.1 g lt in absurd (omega (arith, same, o, x)) ] ]
+    elim a.how [
+      | inl w ↦ let x = w.0 in absurd (omega (arith, e, x))
+      | inr v ↦
+          elim v [
+            | inl w ↦ let x = w.0 in absurd (omega (arith, e, x))
+            | inr w ↦ let x = w.1 g lt in
+                absurd (omega (arith, same, o, x))
+          ]
+    ]
 second_moves p f t g u d lt hi a (inr (inr (inr h))) =
     let same = moved_above p f t g lt a.below a.occupied in let o = h.occupied in let e = h.larger in
-    elim a.how [ inl w ↦ let x = w.0 in absurd (omega (arith, e, x)) | inr v ↦ elim v [ inl w ↦ let x = w.0 in absurd (omega (arith, e, x)) | inr w ↦ let x = w.1 g lt in absurd (omega (arith, same, o, x)) ] ]
+    elim a.how [
+      | inl w ↦ let x = w.0 in absurd (omega (arith, e, x))
+      | inr v ↦
+          elim v [
+            | inl w ↦ let x = w.0 in absurd (omega (arith, e, x))
+            | inr w ↦ let x = w.1 g lt in
+                absurd (omega (arith, same, o, x))
+          ]
+    ]
 
 -- the first step after the second
-first_after : (p : Checkers) (f t g u d : ℕ) → 0 < d → f < g → g < 25 → Low p f t d → 0 < slice_index p.own g → u + d ≡ g → Goes p f t d → Goes (moved p g u) f t d
+first_after : (p : Checkers) (f t g u d : ℕ) → 0 < d → f < g → g < 25 → Low p f t d → 0 < slice_index p.own g
+    → u + d ≡ g → Goes p f t d → Goes (moved p g u) f t d
 first_after p f t g u d die lt hi a occ onto goes = elim a.how [
   | inl w ↦ inr (inl (record { bar_empty = at_bar; occupied = still; onto = w.0; on_board = w.1 }))
   | inr v ↦ elim v [
@@ -196,24 +255,39 @@ first_after p f t g u d die lt hi a occ onto goes = elim a.how [
         ]
 
 -- both orders lead to one arrangement
-swapped : (p : Checkers) (f t g u d : ℕ) → 0 < d → f < g → Low p f t d → 0 < slice_index p.own g → u + d ≡ g → t ≢ u → moved (moved p f t) g u ≡ moved (moved p g u) f t
+swapped : (p : Checkers) (f t g u d : ℕ) → 0 < d → f < g → Low p f t d → 0 < slice_index p.own g → u + d ≡ g → t ≢ u
+    → moved (moved p f t) g u ≡ moved (moved p g u) f t
 swapped p f t g u d die lt a occ onto apart =
     let lf = in_list p.own f a.occupied in
     let lg = in_list p.own g occ in
     let below = a.below in
-    let own = shifted_swap p.own f t g u (omega (arith, below)) (omega arith) (omega arith) lf (omega (arith, lf, below)) lg (omega (arith, lg)) a.occupied occ in
+    let own =
+    shifted_swap p.own f t g u (omega (arith, below)) (omega arith) (omega arith) lf (omega (arith, lf, below)) lg
+    (omega (arith, lg)) a.occupied occ in
     let other = hit_swap p.other t u apart in
     λ i. record { own = own i; other = other i }
 
 -- the second step can be played first, and then the first
-steps_swap_at : (p q : Checkers) (f t g u d : ℕ) → 0 < d → f < g → One p f t d (moved p f t) → One (moved p f t) g u d q → (other : Checkers) × One p g u d other × One other f t d q
+steps_swap_at : (p q : Checkers) (f t g u d : ℕ) → 0 < d → f < g → One p f t d (moved p f t) → One (moved p f t) g u d q
+    → (other : Checkers) × One p g u d other × One other f t d q
 steps_swap_at p q f t g u d die lt one two =
     let s = one.source in let s2 = two.source in
     let a = low p f t d die s.0 (omega (arith, s2)) one.goes in
     let (occ, onto, pos) = second_moves p f t g u d lt s2.1 a two.goes in
     let bar = a.bar in let below = a.below in
-    let hi : g < 25 = elim (cases_eq g 25) [ inl e ↦ let x : slice_index p.own g ≡ 0 = subst (λ k. slice_index p.own k ≡ 0) (sym e) bar in absurd (omega (arith, x, occ)) | inr n ↦ omega (arith, s2) ] in
-    let apart : u ≢ t = elim a.how [ inl w ↦ let x = w.0 in omega (arith, x) | inr v ↦ elim v [ inl w ↦ let x = w.1 in omega (arith, x) | inr w ↦ let x = w.1 g lt in absurd (omega (arith, occ, x)) ] ] in
+    let hi : g < 25 =
+    elim (cases_eq g 25) [
+      | inl e ↦ let x : slice_index p.own g ≡ 0 = subst (λ k. slice_index p.own k ≡ 0) (sym e) bar in
+          absurd (omega (arith, x, occ))
+      | inr n ↦ omega (arith, s2)
+    ] in
+    let apart : u ≢ t =
+    elim a.how [
+      | inl w ↦ let x = w.0 in omega (arith, x)
+      | inr v ↦
+          elim v
+          [ inl w ↦ let x = w.1 in omega (arith, x) | inr w ↦ let x = w.1 g lt in absurd (omega (arith, occ, x)) ]
+    ] in
     let there : t ≢ u = λ e. apart (sym e) in (
       moved p g u,
       record {
@@ -233,4 +307,5 @@ steps_swap_at p q f t g u d die lt one two =
 -- so the law holds
 pub steps_swap : StepsSwap
 steps_swap p r q f t g u d die lt one two =
-    steps_swap_at p q f t g u d die lt (subst (λ c. One p f t d c) one.leads one) (subst (λ c. One c g u d q) one.leads two)
+    steps_swap_at p q f t g u d die lt (subst (λ c. One p f t d c) one.leads one)
+    (subst (λ c. One c g u d q) one.leads two)

@@ -8,4 +8,6 @@ pub returns-clause-says : goal.returns-clause-says
 returns-clause-says c = canonical_said
 
 pub returns-clause-tells : goal.returns-clause-tells
-returns-clause-tells c = λ l m a b same. one_message (canonical l) l m (canonical_said l a) (subst (MessageText m) (sym same) (canonical_said m b))
+returns-clause-tells c =
+    λ l m a b same. one_message (canonical l) l m (canonical_said l a)
+    (subst (MessageText m) (sym same) (canonical_said m b))

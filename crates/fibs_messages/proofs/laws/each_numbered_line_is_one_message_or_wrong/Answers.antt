@@ -12,4 +12,5 @@ pub returns-clause-one_message : goal.returns-clause-one_message
 returns-clause-one_message c = one_message
 
 pub returns-clause-one_fault : goal.returns-clause-one_fault
-returns-clause-one_fault c = λ line m n j k f g a b. let same = one_wrong line m n j k f g a b in (same.number, same.field, same.fault)
+returns-clause-one_fault c =
+    λ line m n j k f g a b. let same = one_wrong line m n j k f g a b in (same.number, same.field, same.fault)

@@ -27,7 +27,9 @@ unfolding field_values
 set-board-requires-4 c = refl
 
 pub set-requires : goal.set-requires
-set-requires c = let side = c.colour-turn.ensures.side in may_turn c.fields_have_their_ranges.ensures _ (omega (arith, ints)) (omega (arith, ints))
+set-requires c =
+    let side = c.colour-turn.ensures.side in
+    may_turn c.fields_have_their_ranges.ensures _ (omega (arith, ints)) (omega (arith, ints))
 
 pub returns : goal.returns
 returns c =
@@ -36,6 +38,9 @@ returns c =
     let range = c.field-cube.ensures.cube refl in
     let is = c.field-cube.ensures.value in
     let either = c.colour-turn.ensures.side in
-    let twice : cast_signed w32 (cast_unsigned w32 (cast_signed w32 (cast_unsigned w32 cube) +ℤ cast_signed w32 (cast_unsigned w32 cube))) ≡ field_of (fields_of c.args.board) 38 +ℤ field_of (fields_of c.args.board) 38 = omega (arith, ints) in
-    let turn : cast_signed w32 (cast_unsigned w32 (pos 0 -ℤ cast_signed w32 (cast_unsigned w32 side))) ≡ neg_ℤ (colour (fields_of c.args.board)) = omega (arith, ints) in
+    let twice : cast_signed w32
+    (cast_unsigned w32 (cast_signed w32 (cast_unsigned w32 cube) +ℤ cast_signed w32 (cast_unsigned w32 cube)))
+    ≡ field_of (fields_of c.args.board) 38 +ℤ field_of (fields_of c.args.board) 38 = omega (arith, ints) in
+    let turn : cast_signed w32 (cast_unsigned w32 (pos 0 -ℤ cast_signed w32 (cast_unsigned w32 side))) ≡ neg_ℤ
+    (colour (fields_of c.args.board)) = omega (arith, ints) in
     cc

@@ -10,7 +10,8 @@ use Rattle.fibs_position.proofs.BoardLemmas.SetFields.{may_turn, may_off, set_la
 use Rattle.fibs_position.proofs.carrying_out.after_move.Goals as goal
 
 pub set-after-requires : goal.set-after-requires
-set-after-requires c = let is = c.from.ensures in may_off c.fields_have_their_ranges.ensures _ (omega (arith, ints)) (omega (arith, ints))
+set-after-requires c =
+    let is = c.from.ensures in may_off c.fields_have_their_ranges.ensures _ (omega (arith, ints)) (omega (arith, ints))
 
 pub set-after-requires-2 : goal.set-after-requires-2
 unfolding field_values
@@ -35,6 +36,9 @@ returns c =
     let low = c.turn_after-turn.ensures.low in
     let high = c.turn_after-turn.ensures.high in
     let off : cast_signed w32 (cast_unsigned w32 c.from.result) ≡ pos (slice_index q.own 0) = omega (arith, ints) in
-    let turn : cast_signed w32 (cast_unsigned w32 c.turn_after-turn.result) ≡ c.turn_after-turn.result = omega (arith, ints) in
-    let next : c.turn_after-turn.result ≡ (if slice_index q.own 0 == 15 then pos 0 else neg_ℤ (colour b)) = c.turn_after-turn.ensures.value ∙ ap (λ k. if k == 15 then pos 0 else neg_ℤ (colour b)) count in
-    set_last b _ _ _ _ _ (placed b q) _ _ _ _ c.placed-after.ensures c.set-after.ensures c.set-after-2.ensures c.set-after-3.ensures c.set.ensures off (turn ∙ next)
+    let turn : cast_signed w32 (cast_unsigned w32 c.turn_after-turn.result) ≡ c.turn_after-turn.result =
+    omega (arith, ints) in
+    let next : c.turn_after-turn.result ≡ (if slice_index q.own 0 == 15 then pos 0 else neg_ℤ (colour b)) =
+    c.turn_after-turn.ensures.value ∙ ap (λ k. if k == 15 then pos 0 else neg_ℤ (colour b)) count in
+    set_last b _ _ _ _ _ (placed b q) _ _ _ _ c.placed-after.ensures c.set-after.ensures c.set-after-2.ensures
+    c.set-after-3.ensures c.set.ensures off (turn ∙ next)

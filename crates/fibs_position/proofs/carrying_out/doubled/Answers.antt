@@ -4,4 +4,6 @@ use Rattle.fibs_position.proofs.BoardLemmas.SetFields.{may_turn}
 use Rattle.fibs_position.proofs.carrying_out.doubled.Goals as goal
 
 pub set-requires : goal.set-requires
-set-requires c = let side = c.colour.ensures.side in may_turn c.fields_have_their_ranges.ensures _ (omega (arith, ints)) (omega (arith, ints))
+set-requires c =
+    let side = c.colour.ensures.side in
+    may_turn c.fields_have_their_ranges.ensures _ (omega (arith, ints)) (omega (arith, ints))

@@ -13,7 +13,8 @@ pub set-after-requires : goal.set-after-requires
 set-after-requires c =
     let low = c.value_of-value.ensures.low in
     let high = c.value_of-value.ensures.high in
-    may_stand c.fields_have_their_ranges.ensures _ _ (omega arith) (omega arith) (omega (arith, ints)) (omega (arith, ints))
+    may_stand c.fields_have_their_ranges.ensures _ _ (omega arith) (omega arith) (omega (arith, ints))
+    (omega (arith, ints))
 
 pub loop-place-preserved : goal.loop-place-preserved
 loop-place-preserved c =
@@ -22,13 +23,17 @@ loop-place-preserved c =
     let z = c.value_of-value.result in
     let side_fits : FitsSigned w32 side = search rules in
     let fits : FitsSigned w32 z = search rules in
-    let says : cast_signed w32 (cast_unsigned w32 z) ≡ value_of (colour b) (slice_index c.args.reached.now.own c.loop-place.place) (slice_index c.args.reached.now.other c.loop-place.place) =
+    let says : cast_signed w32 (cast_unsigned w32 z) ≡ value_of (colour b)
+    (slice_index c.args.reached.now.own c.loop-place.place)
+    (slice_index c.args.reached.now.other c.loop-place.place) =
     to_z-of_z w32 z fits
     ∙ c.value_of-value.ensures.value
-    ∙ ap (λ (s : ℤ). value_of s c.own.result c.other.result) (to_z-of_z w32 side side_fits ∙ c.colour-side.ensures.value)
+    ∙ ap (λ (s : ℤ). value_of s c.own.result c.other.result)
+    (to_z-of_z w32 side side_fits ∙ c.colour-side.ensures.value)
     ∙ ap (λ k. value_of (colour b) k c.other.result) c.own.ensures.value
     ∙ ap (λ k. value_of (colour b) (slice_index c.args.reached.now.own c.loop-place.place) k) c.other.ensures.value in
-    set_more b (place_says b c.args.reached.now) _ _ c.loop-place.place _ _ c.loop-place.auto.place c.loop-place.invariant c.place_field.ensures.value says c.set-after.ensures
+    set_more b (place_says b c.args.reached.now) _ _ c.loop-place.place _ _ c.loop-place.auto.place
+    c.loop-place.invariant c.place_field.ensures.value says c.set-after.ensures
 
 pub returns : goal.returns
 returns c =

@@ -6,4 +6,6 @@ use Rattle.fibs_position.specs.BoardEffect.{set_fields, place_says}
 use Rattle.fibs_position.proofs.carrying_out.placed.Given as goal
 
 abbrev pub invariant-loop-place : goal.invariant-loop-place
-invariant-loop-place l = fields_of l.after ≡ set_fields (fields_of l.board) (map (place_says (fields_of l.board) l.reached) (range_with_len 1 (l.place - 1)))
+invariant-loop-place l =
+    fields_of l.after ≡ set_fields (fields_of l.board)
+    (map (place_says (fields_of l.board) l.reached) (range_with_len 1 (l.place - 1)))

@@ -12,7 +12,12 @@ returns-then-field c =
     let b = field_of (fields_of c.args.b.now) in
     let n = c.loop-n.n in (
       λ t. absurd cc,
-      λ same. absurd (c.if-field.true (ap (cast_unsigned w32) (c.field.ensures.value ∙ agree_at a b c.args.first (c.args.last + 1 - c.args.first) n c.loop-n.auto.n (omega arith) same ∙ sym c.field-in-loop-n.ensures.value))),
+      λ same. absurd
+          (c.if-field.true
+          (ap (cast_unsigned w32)
+          (c.field.ensures.value
+          ∙ agree_at a b c.args.first (c.args.last + 1 - c.args.first) n c.loop-n.auto.n (omega arith) same
+          ∙ sym c.field-in-loop-n.ensures.value))),
     )
 
 pub loop-n-preserved : goal.loop-n-preserved

@@ -6,4 +6,6 @@ use Rattle.fibs_messages.specs.StoredBoard.{fields_of}
 use Rattle.fibs_position.proofs.game_part.agree.Given as goal
 
 abbrev pub invariant-loop-n : goal.invariant-loop-n
-invariant-loop-n l = map (field_of (fields_of l.a)) (range_with_len l.first (l.n - l.first)) ≡ map (field_of (fields_of l.b)) (range_with_len l.first (l.n - l.first))
+invariant-loop-n l =
+    map (field_of (fields_of l.a)) (range_with_len l.first (l.n - l.first)) ≡ map (field_of (fields_of l.b))
+    (range_with_len l.first (l.n - l.first))

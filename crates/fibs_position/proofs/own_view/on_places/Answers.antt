@@ -15,7 +15,8 @@ loop-i-preserved c =
     let i = c.loop-i.i in
     let side = cast_signed w32 (cast_unsigned w32 c.args.side) in
     let at : ℕ → ℕ = λ k. stand_on (fields_of c.args.board.now) side (1 + k) in
-    let found : c.stand_on.result ≡ at i = c.stand_on.ensures.value ∙ ap (stand_on (fields_of c.args.board.now) side) (omega arith) in
+    let found : c.stand_on.result ≡ at i = c.stand_on.ensures.value
+    ∙ ap (stand_on (fields_of c.args.board.now) side) (omega arith) in
     let within : i < length c.loop-i.counts = omega arith in
     (simp length-set c.loop-i.invariant.0, rw found (fill_by_more at c.loop-i.counts i 0 within c.loop-i.invariant.1))
 
@@ -24,6 +25,8 @@ unfolding places
 returns c =
     let side = cast_signed w32 (cast_unsigned w32 c.args.side) in
     let same : side ≡ c.args.side = to_z-of_z w32 c.args.side c.ranges.side in
-    let full = filled_from (stand_on (fields_of c.args.board.now) side) 1 c.loop-i.counts (λ k within. c.loop-i.invariant.1 k (omega arith)) in
+    let full =
+    filled_from (stand_on (fields_of c.args.board.now) side) 1 c.loop-i.counts
+    (λ k within. c.loop-i.invariant.1 k (omega arith)) in
     full ∙ ap (λ n. map (stand_on (fields_of c.args.board.now) side) (range_with_len 1 n)) c.loop-i.invariant.0
     ∙ ap (λ s. map (stand_on (fields_of c.args.board.now) s) (range_with_len 1 24)) same

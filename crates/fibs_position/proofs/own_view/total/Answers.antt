@@ -6,6 +6,8 @@ use Rattle.fibs_position.proofs.own_view.total.Goals as goal
 pub returns-clause-small : goal.returns-clause-small
 returns-clause-small c =
     let counts = c.args.counts.now in
-    let small = sum_by-le (λ x. x) 255 counts (λ k d within. let e = get_or_default_zero counts k d within in let f = c.type_inv.counts k in omega arith) in
+    let small =
+    sum_by-le (λ x. x) 255 counts
+    (λ k d within. let e = get_or_default_zero counts k d within in let f = c.type_inv.counts k in omega arith) in
     let is : c.sum.result ≡ sum counts = search rules in
     omega arith

@@ -12,7 +12,8 @@ visit-requires t c =
     let some : 0 < length c.args.dice.now = search rules in (
       search rules,
       (
-        room_left (hops_of c.args.play) (hops_of c.with-longer.result) (hop_of c.by.result) c.args.dice.now c.with-longer.ensures some c.requires.room,
+        room_left (hops_of c.args.play) (hops_of c.with-longer.result) (hop_of c.by.result) c.args.dice.now
+            c.with-longer.ensures some c.requires.room,
         (dice_rest c.args.dice.now c.requires.dice, c.next_top.ensures.high),
       ),
     )
@@ -23,8 +24,17 @@ loop-place-preserved t c =
     let kept = map reach_of c.args.kept.now.items in
     let play = hops_of c.args.play in
     elim c.match-one.branch [
-      | in-Some+in_ok-visit w ↦ rw w.kept-is (visited kept (map reach_of c.loop-place.kept.items) (map reach_of w.visit.new.kept.items) c.args.p.now w.in-Some.next die c.args.dice.now play
+      | in-Some+in_ok-visit w ↦
+          rw w.kept-is
+          (visited kept (map reach_of c.loop-place.kept.items) (map reach_of w.visit.new.kept.items) c.args.p.now
+          w.in-Some.next die c.args.dice.now play
           (hops_of w.with-longer.result) (hop_of w.by.result) c.loop-place.place w.next_top.result
-          (sym w.in-Some.ensures) w.by.ensures w.with-longer.ensures w.next_top.ensures.value c.loop-place.invariant w.in_ok-visit.ensures.ok)
-      | in_default w ↦ rw w.kept-is (c.loop-place.invariant ∙ sym (visit_skip kept c.args.p.now die (drop 1 c.args.dice.now) play c.loop-place.place (sym w.in_default.ensures)))
+          (sym w.in-Some.ensures) w.by.ensures w.with-longer.ensures w.next_top.ensures.value c.loop-place.invariant
+          w.in_ok-visit.ensures.ok)
+      | in_default w ↦
+          rw w.kept-is
+          (c.loop-place.invariant
+          ∙ sym
+          (visit_skip kept c.args.p.now die (drop 1 c.args.dice.now) play c.loop-place.place
+          (sym w.in_default.ensures)))
     ]

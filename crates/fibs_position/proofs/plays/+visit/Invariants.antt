@@ -9,4 +9,6 @@ abbrev pub decreases-visit : goal.decreases-visit
 decreases-visit l = length l.dice.now
 
 abbrev pub invariant-loop-place : goal.invariant-loop-place
-invariant-loop-place l = map reach_of l.kept.items ≡ fold noted (map reach_of l.fn.kept.items) (reaches_by l.p (get_or l.dice 0 0) (drop 1 l.dice) (hops_of l.play) l.place)
+invariant-loop-place l =
+    map reach_of l.kept.items ≡ fold noted (map reach_of l.fn.kept.items)
+    (reaches_by l.p (get_or l.dice 0 0) (drop 1 l.dice) (hops_of l.play) l.place)

@@ -9,4 +9,5 @@ use Rattle.fibs_position.proofs.plays.sort.Goals as goal
 
 pub returns-clause-sorted : goal.returns-clause-sorted
 returns-clause-sorted c =
-    c.sort_unstable_by.ensures.sorted (λ (a b : Reached). is_lt (play_cmp (hops_of b.play) (hops_of a.play))) descending_order (answers_always _ _ _ (λ f a r g k. search rules))
+    c.sort_unstable_by.ensures.sorted (λ (a b : Reached). is_lt (play_cmp (hops_of b.play) (hops_of a.play)))
+    descending_order (answers_always _ _ _ (λ f a r g k. search rules))

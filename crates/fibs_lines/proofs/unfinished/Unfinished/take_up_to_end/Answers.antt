@@ -16,7 +16,8 @@ returns-then-piece-at-eq10-clause-end c =
     let new = kept c.take_run-at.new.self in
     let taken = subst (λ l. Advances (kept c.loop-at.self) new (take run l)) whole c.take_run-at.ensures.advances in
     record {
-      in_range = omega (arith, c.take_run-at.ensures.in_range, ap length whole, length-drop at piece, c.if-at-piece.false);
+      in_range =
+          omega (arith, c.take_run-at.ensures.in_range, ap length whole, length-drop at piece, c.if-at-piece.false);
       advances = Advances-taken _ _ _ piece at run c.loop-at.invariant.advances taken;
       no_command = c.take_run-at.ensures.telnet;
       end = c.if-piece-at-eq10.true;
@@ -32,12 +33,17 @@ loop-at-preserved c = elim c.if-eq.branch [
       let mid = kept w.take_run-at.new.self in
       let taken = subst (λ l. Advances (kept c.loop-at.self) mid (take run l)) whole w.take_run-at.ensures.advances in
       let more = Advances-taken _ _ _ piece at run c.loop-at.invariant.advances taken in
-      let within : at + run < length piece = omega (arith, w.take_run-at.ensures.in_range, ap length whole, length-drop at piece, w.if-at-piece.false) in
-      let stops : ends_run (get_or piece (at + run) 0) ≡ true = subst (λ b. ends_run b ≡ true) (ap (λ l. get_or l run 0) whole ∙ get_or-drop at piece run 0) (w.take_run-at.ensures.stops (omega (arith, ap length whole, length-drop at piece))) in
+      let within : at + run < length piece =
+      omega (arith, w.take_run-at.ensures.in_range, ap length whole, length-drop at piece, w.if-at-piece.false) in
+      let stops : ends_run (get_or piece (at + run) 0) ≡ true =
+      subst (λ b. ends_run b ≡ true) (ap (λ l. get_or l run 0) whole ∙ get_or-drop at piece run 0)
+      (w.take_run-at.ensures.stops (omega (arith, ap length whole, length-drop at piece))) in
       let opens : get_or piece (at + run) 0 ≡ 255 = grind (arith, stops, w.if-piece-at-eq10.false) in
       rw (w.self-is, w.at-is) (record {
         in_range = omega arith;
-        advances = Advances-next _ _ _ piece (at + run) within more (Advances-opened _ _ _ opens w.take_run-at.ensures.telnet refl refl refl);
+        advances =
+            Advances-next _ _ _ piece (at + run) within more
+            (Advances-opened _ _ _ opens w.take_run-at.ensures.telnet refl refl refl);
       })
   | else-eq w ↦
       let at = c.loop-at.at in

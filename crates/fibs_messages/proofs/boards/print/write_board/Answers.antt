@@ -5,7 +5,8 @@ use Rattle.fibs_messages.proofs.boards.print.write_board.Goals as goal
 
 pub returns-clause-written : goal.returns-clause-written
 returns-clause-written c =
-    let b : BoardFields = record { player = c.args.player.now; opponent = c.args.opponent.now; numbers = c.args.numbers.now } in
+    let b : BoardFields =
+    record { player = c.args.player.now; opponent = c.args.opponent.now; numbers = c.args.numbers.now } in
     written_backward b
     (drop c.write_numbers-start.result c.write_numbers-start.new.text)
     (drop c.write_before-start.result c.write_before-start.new.text)

@@ -14,7 +14,9 @@ use Rattle.fibs_messages.proofs.boards.print.write_numbers.Goals as goal
 pub loop-left-init : goal.loop-left-init
 loop-left-init c =
     let all : take 50 field_values ≡ field_values = take_all 50 field_values (omega (arith, table_long)) in
-    let none : drop 50 c.args.numbers.now ≡ [] = drop_of_length-le c.args.numbers.now {i = 50} (omega (arith, fit_long field_values c.args.numbers.now c.requires, table_long)) in
+    let none : drop 50 c.args.numbers.now ≡ [] =
+    drop_of_length-le c.args.numbers.now {i = 50}
+    (omega (arith, fit_long field_values c.args.numbers.now c.requires, table_long)) in
     let end : drop 329 c.args.text.now ≡ [] = drop_of_length-le c.args.text.now {i = 329} (omega arith) in
     record {
       count = omega arith;
@@ -28,7 +30,9 @@ write_number-start-requires-clause-room c =
     let i = c.loop-left.left - 1 in
     let z = get_or c.args.numbers.now i (pos 0) in
     let fits : FitsSigned w32 z = search rules in
-    let room = room_left 135 c.args.numbers.now i c.loop-left.left c.loop-left.start _ c.requires (omega arith) c.loop-left.invariant.count c.loop-left.invariant.room (to_z-of_z w32 z fits) in
+    let room =
+    room_left 135 c.args.numbers.now i c.loop-left.left c.loop-left.start _ c.requires (omega arith)
+    c.loop-left.invariant.count c.loop-left.invariant.room (to_z-of_z w32 z fits) in
     omega (arith, room)
 
 pub loop-left-preserved : goal.loop-left-preserved
@@ -38,10 +42,14 @@ loop-left-preserved c =
     let fits : FitsSigned w32 z = search rules in
     let same = to_z-of_z w32 z fits in
     let there : i + 1 ≡ c.loop-left.left = omega arith in
-    let room = room_left 135 c.args.numbers.now i c.loop-left.left c.loop-left.start _ c.requires there c.loop-left.invariant.count c.loop-left.invariant.room same in
+    let room =
+    room_left 135 c.args.numbers.now i c.loop-left.left c.loop-left.start _ c.requires there
+    c.loop-left.invariant.count c.loop-left.invariant.room same in
     record {
       count = omega arith;
       within = omega (arith, c.write_number-start.ensures.start);
       room = omega (arith, room, c.write_number-start.ensures.start);
-      text = text_left c.args.numbers.now i c.loop-left.left c.loop-left.start c.write_number-start.result _ c.loop-left.text c.write_number-start.new.text c.requires there c.loop-left.invariant.count same c.loop-left.invariant.text c.write_number-start.ensures.written;
+      text = text_left c.args.numbers.now i c.loop-left.left c.loop-left.start c.write_number-start.result _
+          c.loop-left.text c.write_number-start.new.text c.requires there c.loop-left.invariant.count same
+          c.loop-left.invariant.text c.write_number-start.ensures.written;
     }

@@ -23,23 +23,31 @@ returns-in_err-numbers-clause-err c =
     let i = c.loop-i.i in
     let v = c.values_of.result in
     rw (p.1, p.2)
-    (c.loop-i.invariant.fault ∙ ap (λ l. first_fault (i + 4) (map a_number_of l) (pieces_left (left_of c.loop-i.fields))) (drop_next field_values i v c.values_of.ensures.value)
-    ∙ was_wrong (number_in v) (a_number_of v) (i + 4) (left_of c.loop-i.fields) c.in_err-numbers.field-0.0 (map a_number_of (drop (i + 1) field_values)) (reads_number v) c.loop-i.invariant.colon c.in_err-numbers.ensures)
+    (c.loop-i.invariant.fault
+    ∙ ap (λ l. first_fault (i + 4) (map a_number_of l) (pieces_left (left_of c.loop-i.fields)))
+    (drop_next field_values i v c.values_of.ensures.value)
+    ∙ was_wrong (number_in v) (a_number_of v) (i + 4) (left_of c.loop-i.fields) c.in_err-numbers.field-0.0
+    (map a_number_of (drop (i + 1) field_values)) (reads_number v) c.loop-i.invariant.colon
+    c.in_err-numbers.ensures)
 
 pub loop-i-preserved : goal.loop-i-preserved
 loop-i-preserved c =
     let i = c.loop-i.i in
     let z = c.in_ok-numbers.field-0 in
     let v = c.values_of.result in
-    let read = number_was_read v (i + 4) (left_of c.loop-i.fields) (left_of c.number_of.new.self) z c.values_of.ensures.narrow c.loop-i.invariant.colon c.in_ok-numbers.ensures in
+    let read =
+    number_was_read v (i + 4) (left_of c.loop-i.fields) (left_of c.number_of.new.self) z c.values_of.ensures.narrow
+    c.loop-i.invariant.colon c.in_ok-numbers.ensures in
     let fits : FitsSigned w32 z = search rules in
     let same : cast_signed w32 (cast_unsigned w32 z) ≡ z = to_z-of_z w32 z fits in
     let within : i < length c.loop-i.numbers = omega (arith, c.loop-i.invariant.long, c.loop-i-test.true) in
     record {
       long = length-set c.loop-i.numbers i _ ∙ c.loop-i.invariant.long;
       colon = read.colon;
-      read = read_more c.loop-i.numbers i _ _ _ _ within c.loop-i.invariant.read (read.pieces ∙ ap (λ y. signed_decimal y ∷ pieces_left (left_of c.number_of.new.self)) (sym same));
-      fit = fit_more field_values c.loop-i.numbers i v _ within c.values_of.ensures.value (ap (allows v) same ∙ read.allowed) c.loop-i.invariant.fit;
+      read = read_more c.loop-i.numbers i _ _ _ _ within c.loop-i.invariant.read
+          (read.pieces ∙ ap (λ y. signed_decimal y ∷ pieces_left (left_of c.number_of.new.self)) (sym same));
+      fit = fit_more field_values c.loop-i.numbers i v _ within c.values_of.ensures.value
+          (ap (allows v) same ∙ read.allowed) c.loop-i.invariant.fit;
       fault = c.loop-i.invariant.fault ∙ fault_more field_values i v _ _ c.values_of.ensures.value read.later;
     }
 
@@ -51,14 +59,18 @@ returns-in_err-end-clause-err c =
     let there : i + 4 ≡ 54 = omega (arith, c.loop-i.auto.i-end) in
     let end : drop i field_values ≡ [] = drop_of_length-le field_values {i = i} (omega (arith, table_long)) in
     rw (p.1, p.2)
-    (c.loop-i.invariant.fault ∙ ap (λ l. first_fault (i + 4) (map a_number_of l) (pieces_left (left_of c.loop-i.fields))) end ∙ ap (λ n. first_fault n [] (pieces_left (left_of c.loop-i.fields))) there
+    (c.loop-i.invariant.fault
+    ∙ ap (λ l. first_fault (i + 4) (map a_number_of l) (pieces_left (left_of c.loop-i.fields))) end
+    ∙ ap (λ n. first_fault n [] (pieces_left (left_of c.loop-i.fields))) there
     ∙ end_wrong 54 (left_of c.loop-i.fields) c.in_err-end.field-0.0 c.in_err-end.ensures)
 
 pub returns-clause-ok : goal.returns-clause-ok
 returns-clause-ok c =
     let i = c.loop-i.i in
     let past : 50 ≤ i = c.loop-i-test.false in
-    c.loop-i.invariant.read ∙ ap (λ ps. map signed_decimal (take i c.loop-i.numbers) ++ ps) (end_right 54 (left_of c.loop-i.fields) [] c.in_ok-end.ensures) ∙ append-nil (map signed_decimal (take i c.loop-i.numbers))
+    c.loop-i.invariant.read ∙ ap (λ ps. map signed_decimal (take i c.loop-i.numbers) ++ ps)
+    (end_right 54 (left_of c.loop-i.fields) [] c.in_ok-end.ensures)
+    ∙ append-nil (map signed_decimal (take i c.loop-i.numbers))
     ∙ ap (map signed_decimal) (take_all i c.loop-i.numbers (omega (arith, c.loop-i.invariant.long)))
 
 pub returns-clause-fit : goal.returns-clause-fit
@@ -66,5 +78,6 @@ returns-clause-fit c =
     let i = c.loop-i.i in
     let past : 50 ≤ i = c.loop-i-test.false in
     let all_values : take i field_values ≡ field_values = take_all i field_values (omega (arith, table_long)) in
-    let all_numbers : take i c.loop-i.numbers ≡ c.loop-i.numbers = take_all i c.loop-i.numbers (omega (arith, c.loop-i.invariant.long)) in
+    let all_numbers : take i c.loop-i.numbers ≡ c.loop-i.numbers =
+    take_all i c.loop-i.numbers (omega (arith, c.loop-i.invariant.long)) in
     rw all_values at (rw all_numbers at c.loop-i.invariant.fit)

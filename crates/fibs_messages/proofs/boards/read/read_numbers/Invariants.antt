@@ -12,5 +12,6 @@ invariant-loop-i l = record {
   colon : (left_of l.fields).separator ≡ 58;
   read : pieces_left (left_of l.fn.fields) ≡ map signed_decimal (take l.i l.numbers) ++ pieces_left (left_of l.fields);
   fit : Fit (take l.i field_values) (take l.i l.numbers);
-  fault : first_fault 4 (map a_number_of field_values) (pieces_left (left_of l.fn.fields)) ≡ first_fault (l.i + 4) (map a_number_of (drop l.i field_values)) (pieces_left (left_of l.fields));
+  fault : first_fault 4 (map a_number_of field_values) (pieces_left (left_of l.fn.fields)) ≡ first_fault (l.i + 4)
+      (map a_number_of (drop l.i field_values)) (pieces_left (left_of l.fields));
 }

@@ -10,15 +10,22 @@ use Rattle.fibs_messages.proofs.fields.decimal.in_range.Goals as goal
 pub returns-then-allows-clause-value : goal.returns-then-allows-clause-value
 returns-then-allows-clause-value c =
     let fits : FitsSigned w64 c.in-Some.number = search rules in
-    let same : cast_signed w64 (cast_unsigned w64 c.in-Some.number) ≡ c.in-Some.number = to_z-of_z w64 c.in-Some.number fits in
-    let test : allows c.args.values c.in-Some.number ≡ true = ap (allows c.args.values) (sym same) ∙ sym c.allows.ensures.test ∙ c.if-allows.true in
-    let narrow : FitsSigned w32 c.in-Some.number = allowed_narrow c.args.values c.in-Some.number c.allows.ensures.narrow test in
+    let same : cast_signed w64 (cast_unsigned w64 c.in-Some.number) ≡ c.in-Some.number =
+    to_z-of_z w64 c.in-Some.number fits in
+    let test : allows c.args.values c.in-Some.number ≡ true =
+    ap (allows c.args.values) (sym same) ∙ sym c.allows.ensures.test ∙ c.if-allows.true in
+    let narrow : FitsSigned w32 c.in-Some.number =
+    allowed_narrow c.args.values c.in-Some.number c.allows.ensures.narrow test in
     ap (λ z. Ok (cast_signed w32 (cast_unsigned w32 z))) same ∙ ap Ok (to_z-of_z w32 c.in-Some.number narrow)
-    ∙ sym (ap (number_if_allowed c.args.values) c.in-Some.is ∙ ap (λ b. cond b (Ok c.in-Some.number) (Err OutOfRange)) test)
+    ∙ sym (ap (number_if_allowed c.args.values) c.in-Some.is
+    ∙ ap (λ b. cond b (Ok c.in-Some.number) (Err OutOfRange)) test)
 
 pub returns-else-allows-clause-value : goal.returns-else-allows-clause-value
 returns-else-allows-clause-value c =
     let fits : FitsSigned w64 c.in-Some.number = search rules in
-    let same : cast_signed w64 (cast_unsigned w64 c.in-Some.number) ≡ c.in-Some.number = to_z-of_z w64 c.in-Some.number fits in
-    let test : allows c.args.values c.in-Some.number ≡ false = ap (allows c.args.values) (sym same) ∙ sym c.allows.ensures.test ∙ c.if-allows.false in
-    sym (ap (number_if_allowed c.args.values) c.in-Some.is ∙ ap (λ b. cond b (Ok c.in-Some.number) (Err OutOfRange)) test)
+    let same : cast_signed w64 (cast_unsigned w64 c.in-Some.number) ≡ c.in-Some.number =
+    to_z-of_z w64 c.in-Some.number fits in
+    let test : allows c.args.values c.in-Some.number ≡ false =
+    ap (allows c.args.values) (sym same) ∙ sym c.allows.ensures.test ∙ c.if-allows.false in
+    sym (ap (number_if_allowed c.args.values) c.in-Some.is
+    ∙ ap (λ b. cond b (Ok c.in-Some.number) (Err OutOfRange)) test)

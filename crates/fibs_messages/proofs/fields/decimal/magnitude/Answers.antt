@@ -15,9 +15,11 @@ loop-digit-preserved c =
 pub returns-in_err-tens : goal.returns-in_err-tens
 returns-in_err-tens c =
     rw c.from_residual.ensures
-    (too_large 18446744073709551616 c.loop-digit.digit-index c.args.digits.now c.requires c.loop-digit-test.true (omega (arith, c.in_err-tens.ensures, c.loop-digit.invariant)))
+    (too_large 18446744073709551616 c.loop-digit.digit-index c.args.digits.now c.requires c.loop-digit-test.true
+    (omega (arith, c.in_err-tens.ensures, c.loop-digit.invariant)))
 
 pub returns-in_err-value : goal.returns-in_err-value
 returns-in_err-value c =
     rw c.from_residual-in_err-value.ensures
-    (too_large 18446744073709551616 c.loop-digit.digit-index c.args.digits.now c.requires c.loop-digit-test.true (omega (arith, c.in_err-value.ensures, c.loop-digit.invariant)))
+    (too_large 18446744073709551616 c.loop-digit.digit-index c.args.digits.now c.requires c.loop-digit-test.true
+    (omega (arith, c.in_err-value.ensures, c.loop-digit.invariant)))

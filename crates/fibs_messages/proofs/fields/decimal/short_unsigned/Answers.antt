@@ -5,12 +5,16 @@ use Rattle.fibs_messages.proofs.fields.decimal.short_unsigned.Goals as goal
 
 pub overflow_mul-value : goal.overflow_mul-value
 overflow_mul-value c =
-    let room = front_room c.args.text.now c.loop-byte.byte-index c.loop-byte.invariant.0 (search arith) c.loop-byte-test.true in
+    let room =
+    front_room c.args.text.now c.loop-byte.byte-index c.loop-byte.invariant.0 (search arith)
+    c.loop-byte-test.true in
     omega (arith, room, c.loop-byte.invariant.1)
 
 pub overflow_add-value : goal.overflow_add-value
 overflow_add-value c =
-    let room = front_room c.args.text.now c.loop-byte.byte-index c.loop-byte.invariant.0 (search arith) c.loop-byte-test.true in
+    let room =
+    front_room c.args.text.now c.loop-byte.byte-index c.loop-byte.invariant.0 (search arith)
+    c.loop-byte-test.true in
     omega (arith, room, c.loop-byte.invariant.1)
 
 pub loop-byte-preserved : goal.loop-byte-preserved

@@ -6,7 +6,8 @@ use Rattle.fibs_messages.proofs.fields.split.split.Goals as goal
 pub returns-in-Some-clause-before : goal.returns-in-Some-clause-before
 returns-in-Some-clause-before c =
     let e = c.in-Some.ensures in
-    (split_at c.args.byte c.args.text.now c.in-Some.at e.0.high (λ j l is. e.0.before j (omega arith) l (eq-eqb _ _ is)) (eqb-true _ _ e.1)).0
+    (split_at c.args.byte c.args.text.now c.in-Some.at e.0.high (λ j l is. e.0.before j (omega arith) l (eq-eqb _ _ is))
+    (eqb-true _ _ e.1)).0
 
 pub returns-in-Some-clause-after : goal.returns-in-Some-clause-after
 returns-in-Some-clause-after c =
@@ -16,7 +17,8 @@ returns-in-Some-clause-after c =
     let more : k + 1 ≡ suc k = add-one k in
     let all = take_all (length text - (k + 1)) (drop (k + 1) text) (omega (arith, length-drop (k + 1) text)) in
     ap Some (all ∙ ap (λ n. drop n text) more)
-    ∙ (split_at c.args.byte text k e.0.high (λ j l is. e.0.before j (omega arith) l (eq-eqb _ _ is)) (eqb-true _ _ e.1)).1
+    ∙ (split_at c.args.byte text k e.0.high (λ j l is. e.0.before j (omega arith) l (eq-eqb _ _ is))
+    (eqb-true _ _ e.1)).1
 
 pub returns-in-None-clause-before : goal.returns-in-None-clause-before
 returns-in-None-clause-before c =

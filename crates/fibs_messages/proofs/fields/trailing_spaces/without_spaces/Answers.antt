@@ -16,15 +16,24 @@ returns-in-Some-clause-value c =
 pub returns-in-Some-clause-spaces : goal.returns-in-Some-clause-spaces
 returns-in-Some-clause-spaces c =
     let line = c.args.line.now in
-    let k = c.in-Some.last in
-    (length line - (k + 1), spaces_at line (k + 1) (omega (arith, c.in-Some.ensures.0.high)) (λ j after within. space_from_not_in (get_or line j 0) (c.in-Some.ensures.0.after j after within)))
+    let k = c.in-Some.last in (
+      length line - (k + 1),
+      spaces_at line (k + 1) (omega (arith, c.in-Some.ensures.0.high))
+          (λ j after within. space_from_not_in (get_or line j 0) (c.in-Some.ensures.0.after j after within)),
+    )
 
 pub returns-in-None-clause-value : goal.returns-in-None-clause-value
 returns-in-None-clause-value c =
     let line = c.args.line.now in
-    sym (without_spaces_at line 0 (omega arith) (λ j after within. space_from_not_in (get_or line j 0) (c.in-None.ensures j after within)) (λ some. absurd (omega arith)))
+    sym
+    (without_spaces_at line 0 (omega arith)
+    (λ j after within. space_from_not_in (get_or line j 0) (c.in-None.ensures j after within))
+    (λ some. absurd (omega arith)))
 
 pub returns-in-None-clause-spaces : goal.returns-in-None-clause-spaces
 returns-in-None-clause-spaces c =
-    let line = c.args.line.now in
-    (length line - 0, spaces_at line 0 (omega arith) (λ j after within. space_from_not_in (get_or line j 0) (c.in-None.ensures j after within)))
+    let line = c.args.line.now in (
+      length line - 0,
+      spaces_at line 0 (omega arith)
+          (λ j after within. space_from_not_in (get_or line j 0) (c.in-None.ensures j after within)),
+    )

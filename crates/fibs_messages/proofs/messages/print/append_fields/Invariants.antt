@@ -5,4 +5,5 @@ use Rattle.fibs_messages.specs.Message.{canonical_field}
 use Rattle.fibs_messages.proofs.messages.print.append_fields.Given as goal
 
 abbrev pub invariant-loop-field : goal.invariant-loop-field
-invariant-loop-field l = l.out.items ≡ l.initial.out.items ++ flat_map canonical_field (values_of (take l.field-index l.fields))
+invariant-loop-field l =
+    l.out.items ≡ l.initial.out.items ++ flat_map canonical_field (values_of (take l.field-index l.fields))

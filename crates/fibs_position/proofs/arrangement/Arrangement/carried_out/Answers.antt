@@ -7,12 +7,14 @@ use Rattle.fibs_position.proofs.arrangement.Arrangement.carried_out.Goals as goa
 pub returns-in-None : goal.returns-in-None
 returns-in-None c =
     let lt : c.loop-step.step-index < length c.args.steps.now = search rules in
-    lax_stuck c.loop-step.at (lax_of c.args.self.now (map hop_of c.args.steps.now)) c.args.steps.now c.step-item.result c.loop-step.step-index lt c.step-item.is c.loop-step.invariant c.in-None.ensures
+    lax_stuck c.loop-step.at (lax_of c.args.self.now (map hop_of c.args.steps.now)) c.args.steps.now c.step-item.result
+    c.loop-step.step-index lt c.step-item.is c.loop-step.invariant c.in-None.ensures
 
 pub loop-step-preserved : goal.loop-step-preserved
 loop-step-preserved c =
     let lt : c.loop-step.step-index < length c.args.steps.now = search rules in
-    lax_on c.loop-step.at c.in-Some.next (lax_of c.args.self.now (map hop_of c.args.steps.now)) c.args.steps.now c.step-item.result c.loop-step.step-index lt c.step-item.is c.loop-step.invariant c.in-Some.ensures
+    lax_on c.loop-step.at c.in-Some.next (lax_of c.args.self.now (map hop_of c.args.steps.now)) c.args.steps.now
+    c.step-item.result c.loop-step.step-index lt c.step-item.is c.loop-step.invariant c.in-Some.ensures
 
 pub returns : goal.returns
 returns c =

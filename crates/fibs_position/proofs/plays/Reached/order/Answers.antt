@@ -4,4 +4,6 @@ use Rattle.fibs_position.proofs.PlayListLemmas.PlayOrder.{cmp_hops}
 use Rattle.fibs_position.proofs.plays.Reached.order.Goals as goal
 
 pub returns : goal.returns
-returns c = c.cmp.ensures ∙ cmp_hops c.steps.result.now c.steps-2.result.now ∙ ap₂ play_cmp c.steps.ensures.value c.steps-2.ensures.value
+returns c =
+    c.cmp.ensures ∙ cmp_hops c.steps.result.now c.steps-2.result.now
+    ∙ ap₂ play_cmp c.steps.ensures.value c.steps-2.ensures.value

@@ -14,13 +14,15 @@ returns-then-not-is_you-clause-good c = (λ e. absurd cc, λ g. sym c.if-not-is_
 pub returns-then-not-is_you-clause-fault : goal.returns-then-not-is_you-clause-fault
 returns-then-not-is_you-clause-fault c =
     let b = fields_of c.args.board.now in
-    λ f. err_first (HasFault b) NotYou (TooManyOwn ∷ TooManyOther ∷ []) f (λ you. let e = c.is_you.ensures.1 you in absurd cc)
+    λ f. err_first (HasFault b) NotYou (TooManyOwn ∷ TooManyOther ∷ []) f
+    (λ you. let e = c.is_you.ensures.1 you in absurd cc)
 
 pub returns-then-own_placed-gt15-clause-fault : goal.returns-then-own_placed-gt15-clause-fault
 returns-then-own_placed-gt15-clause-fault c =
     let b = fields_of c.args.board.now in
     let many : 15 < own_placed b = omega arith in
-    λ f. skip_first (HasFault b) NotYou (TooManyOwn ∷ TooManyOther ∷ []) f (λ not_you. not_you (c.is_you.ensures.0 c.if-not-is_you.false))
+    λ f. skip_first (HasFault b) NotYou (TooManyOwn ∷ TooManyOther ∷ []) f
+    (λ not_you. not_you (c.is_you.ensures.0 c.if-not-is_you.false))
     (err_first (HasFault b) TooManyOwn (TooManyOther ∷ []) f many)
 
 pub returns-then-other_placed-gt15-clause-fault : goal.returns-then-other_placed-gt15-clause-fault
@@ -28,8 +30,10 @@ returns-then-other_placed-gt15-clause-fault c =
     let b = fields_of c.args.board.now in
     let few : own_placed b ≤ 15 = omega arith in
     let many : 15 < other_placed b = omega arith in
-    λ f. skip_first (HasFault b) NotYou (TooManyOwn ∷ TooManyOther ∷ []) f (λ not_you. not_you (c.is_you.ensures.0 c.if-not-is_you.false))
-    (skip_first (HasFault b) TooManyOwn (TooManyOther ∷ []) f (λ more. absurd (omega arith)) (err_first (HasFault b) TooManyOther [] f many))
+    λ f. skip_first (HasFault b) NotYou (TooManyOwn ∷ TooManyOther ∷ []) f
+    (λ not_you. not_you (c.is_you.ensures.0 c.if-not-is_you.false))
+    (skip_first (HasFault b) TooManyOwn (TooManyOther ∷ []) f (λ more. absurd (omega arith))
+    (err_first (HasFault b) TooManyOther [] f many))
 
 pub invariant_of-result : goal.invariant_of-result
 invariant_of-result c =
@@ -37,14 +41,17 @@ invariant_of-result c =
     let board = c.args.board.now.valid in
     let dice = board_dice c.fields_have_their_ranges.ensures b board in
     record {
-      good = record { board = board; plays = c.is_you.ensures.0 c.if-not-is_you.false; own = omega arith; other = omega arith };
+      good =
+          record
+          { board = board; plays = c.is_you.ensures.0 c.if-not-is_you.false; own = omega arith; other = omega arith };
       first = dice.first;
       second = dice.second;
     }
 
 pub returns-then-not-is_you-clause-test : goal.returns-then-not-is_you-clause-test
 returns-then-not-is_you-clause-test c =
-    sym (good_fails c.is_board_is_exact.ensures (fields_of c.args.board.now) (λ g. let e = c.is_you.ensures.1 g.plays in absurd cc))
+    sym (good_fails c.is_board_is_exact.ensures (fields_of c.args.board.now)
+    (λ g. let e = c.is_you.ensures.1 g.plays in absurd cc))
 
 pub returns-then-own_placed-gt15-clause-test : goal.returns-then-own_placed-gt15-clause-test
 returns-then-own_placed-gt15-clause-test c =

@@ -21,7 +21,8 @@ not_doubled : (c : Else-field-eq1) → phase_fits (position_value c.args.self.no
 unfolding position_value
 not_doubled c =
     let found = c.field.ensures.value in
-    let apart : (position_value c.args.self.now).was_doubled ≢ pos 1 = λ e. c.if-field-eq1.false (omega (arith, ints)) in
+    let apart : (position_value c.args.self.now).was_doubled ≢ pos 1 =
+    λ e. c.if-field-eq1.false (omega (arith, ints)) in
     other_int _ _ apart
 
 own_turn : (c : Else-turn-field) → phase_fits (position_value c.args.self.now) OpponentActs ≡ false
@@ -44,30 +45,38 @@ unfolding position_value
 returns-then-field-eq1 c =
     let found = c.field.ensures.value in
     let here : (position_value c.args.self.now).was_doubled ≡ pos 1 = omega (arith, ints) in
-    sym (phase_answer (position_value c.args.self.now) (not_over (goal.at.returns-then-field-eq1 c).Else-turn-eq0) (same_int _ _ here))
+    sym (phase_answer (position_value c.args.self.now) (not_over (goal.at.returns-then-field-eq1 c).Else-turn-eq0)
+    (same_int _ _ here))
 
 pub returns-then-turn-field : goal.returns-then-turn-field
 unfolding position_value
 returns-then-turn-field c =
     let found = c.field-turn.ensures.value in
     let side = c.field-2.ensures.value in
-    let apart : (position_value c.args.self.now).turn ≢ (position_value c.args.self.now).colour = λ e. c.if-turn-field.true (omega (arith, ints)) in
-    sym (phase_opponent (position_value c.args.self.now) (not_over (goal.at.returns-then-turn-field c).Else-turn-eq0) (not_doubled (goal.at.returns-then-turn-field c).Else-field-eq1) (ap not (other_int _ _ apart)))
+    let apart : (position_value c.args.self.now).turn ≢ (position_value c.args.self.now).colour =
+    λ e. c.if-turn-field.true (omega (arith, ints)) in
+    sym (phase_opponent (position_value c.args.self.now) (not_over (goal.at.returns-then-turn-field c).Else-turn-eq0)
+    (not_doubled (goal.at.returns-then-turn-field c).Else-field-eq1) (ap not (other_int _ _ apart)))
 
 pub returns-then-no_dice : goal.returns-then-no_dice
 unfolding position_value
 returns-then-no_dice c =
-    sym (phase_roll (position_value c.args.self.now) (not_over (goal.at.returns-then-no_dice c).Else-turn-eq0) (not_doubled (goal.at.returns-then-no_dice c).Else-field-eq1) (own_turn (goal.at.returns-then-no_dice c).Else-turn-field)
+    sym (phase_roll (position_value c.args.self.now) (not_over (goal.at.returns-then-no_dice c).Else-turn-eq0)
+    (not_doubled (goal.at.returns-then-no_dice c).Else-field-eq1)
+    (own_turn (goal.at.returns-then-no_dice c).Else-turn-field)
     (sym c.no_dice.ensures ∙ c.if-no_dice.true))
 
 pub returns-then-can_move : goal.returns-then-can_move
 unfolding position_value
 returns-then-can_move c =
-    sym (phase_move (position_value c.args.self.now) (not_over (goal.at.returns-then-can_move c).Else-turn-eq0) (not_doubled (goal.at.returns-then-can_move c).Else-field-eq1) (own_turn (goal.at.returns-then-can_move c).Else-turn-field)
+    sym (phase_move (position_value c.args.self.now) (not_over (goal.at.returns-then-can_move c).Else-turn-eq0)
+    (not_doubled (goal.at.returns-then-can_move c).Else-field-eq1)
+    (own_turn (goal.at.returns-then-can_move c).Else-turn-field)
     (sym c.no_dice.ensures ∙ c.if-no_dice.false) (sym c.can_move.ensures ∙ c.if-can_move.true))
 
 pub returns : goal.returns
 unfolding position_value
 returns c =
-    sym (phase_passing (position_value c.args.self.now) (not_over (goal.at.returns c).Else-turn-eq0) (not_doubled (goal.at.returns c).Else-field-eq1) (own_turn (goal.at.returns c).Else-turn-field)
+    sym (phase_passing (position_value c.args.self.now) (not_over (goal.at.returns c).Else-turn-eq0)
+    (not_doubled (goal.at.returns c).Else-field-eq1) (own_turn (goal.at.returns c).Else-turn-field)
     (sym c.no_dice.ensures ∙ c.if-no_dice.false) (sym c.can_move.ensures ∙ c.if-can_move.false))

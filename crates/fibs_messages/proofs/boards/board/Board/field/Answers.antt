@@ -9,13 +9,18 @@ use Rattle.fibs_messages.proofs.BoardLemmas.OneNumberMore.{fit_at}
 use Rattle.fibs_messages.proofs.BoardLemmas.FieldTable.{table_long}
 use Rattle.fibs_messages.proofs.boards.board.Board.field.Goals as goal
 
-allowed : (c : goal.After-result-1) → can_have c.args.n (cast_signed w32 (cast_unsigned w32 (get_or c.args.self.now.numbers (c.args.n - 4) (pos 0)))) ≡ true
+allowed : (c : goal.After-result-1)
+    → can_have c.args.n (cast_signed w32 (cast_unsigned w32 (get_or c.args.self.now.numbers (c.args.n - 4) (pos 0))))
+    ≡ true
 allowed c =
     let i = c.args.n - 4 in
     let z = get_or c.args.self.now.numbers i (pos 0) in
     let fits : FitsSigned w32 z = search rules in
     let same : cast_signed w32 (cast_unsigned w32 z) ≡ z = to_z-of_z w32 z fits in
-    ap (can_have c.args.n) same ∙ can_have_by c.args.n z c.requires.low (fit_at field_values c.args.self.now.numbers i (pos 0) c.args.self.now.valid.2 (omega (arith, table_long, c.requires.low, c.requires.high)))
+    ap (can_have c.args.n) same
+    ∙ can_have_by c.args.n z c.requires.low
+    (fit_at field_values c.args.self.now.numbers i (pos 0) c.args.self.now.valid.2
+    (omega (arith, table_long, c.requires.low, c.requires.high)))
 
 pub returns-clause-allowed : goal.returns-clause-allowed
 returns-clause-allowed c = allowed c
