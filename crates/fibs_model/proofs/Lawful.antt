@@ -26,10 +26,12 @@ pub record IsQuiet (t : List ℕ) : Type 0 where
   pub text : NoReturn t
   pub quiet : (b : BoardFields) → decision_in b t ≡ None
 
+-- commands of which none is a decision
 abbrev pub AllQuiet : List (List ℕ) → Type 0
 AllQuiet [] = Unit {0}
 AllQuiet (t ∷ ts) = IsQuiet t × AllQuiet ts
 
+-- what the layers below keep, each named by what it says
 pub record Lawful : Type 0 where
   -- lines of a stream
   pub empty : EmptyStreamHasNoLine
@@ -39,13 +41,16 @@ pub record Lawful : Type 0 where
   pub likeness : IsLikeness same_game
   -- an allowed decision is the user's, and it has an effect, which is seen
   pub allowed_decides : (b : BoardFields) (d : DecisionValue) → allows b d ≡ None → user_decides b ≡ true
-  pub allowed_acts : (b : BoardFields) (d : DecisionValue) (d1 d2 : ℕ) → good b ≡ true → allows b d ≡ None → is_die d1 ≡ true → is_die d2 ≡ true →
+  pub allowed_acts : (b : BoardFields) (d : DecisionValue) (d1 d2 : ℕ) → good b ≡ true → allows b d ≡ None
+      → is_die d1 ≡ true → is_die d2 ≡ true →
       (b' : BoardFields) × (effect b d d1 d2 ≡ Some b') × (good b' ≡ true) × (same_game b b' ≡ false)
   -- a decision's text is read as that decision, and no other command's text as one
-  pub reads_back : (b : BoardFields) (d : DecisionValue) → good b ≡ true → allows b d ≡ None → decision_in b (command b d) ≡ Some d
+  pub reads_back : (b : BoardFields) (d : DecisionValue) → good b ≡ true → allows b d ≡ None
+      → decision_in b (command b d) ≡ Some d
   pub decision_text : (b : BoardFields) (d : DecisionValue) → good b ≡ true → allows b d ≡ None → NoReturn (command b d)
   pub style_quiet : IsQuiet style_text
   pub plain_quiet : (p : PlainValue) → plain_fault_of p ≡ None → IsQuiet (plain_of p)
   pub info_quiet : (m : MessageValue) → AllQuiet (initial_commands m)
   -- a printed board gives one line, which reads as that board
-  pub prints_line : (b : BoardFields) → good b ≡ true → (l : ReadLine) × (lines_of (on_wire (spelling b)) ≡ l ∷ []) × (line_reading l ≡ board_line b)
+  pub prints_line : (b : BoardFields) → good b ≡ true
+      → (l : ReadLine) × (lines_of (on_wire (spelling b)) ≡ l ∷ []) × (line_reading l ≡ board_line b)

@@ -1,10 +1,11 @@
 -- The headline: what holds after every list of events. It speaks of the log of the whole list and of real boards, equal
 -- in all 53 fields (the project's own).
 --
---     The decisions that take effect on each connection, with the positions that they change, are a prefix of those sent
---     there with the boards then shown: each legal, each answering its own click there, at most the last missing, none
---     once a differing board is shown.
-use Rattle.std.specs.Prelude.{◌≡◌, ℕ, ◌+◌, ◌<◌, ◌≤◌, Bool, true, false, List, [], ◌∷◌, ◌++◌, Option, Some, None, if◌then◌else◌, nat_eq, length, slice_index}
+--     The decisions that take effect on each connection, with the positions that they change, are a prefix of those
+--     sent there with the boards then shown: each legal, each answering its own click there, at most the last missing,
+--     none once a differing board is shown.
+use Rattle.std.specs.Prelude.{◌≡◌, ℕ, ◌+◌, ◌<◌, ◌≤◌, Bool, true, false, List, [], ◌∷◌, ◌++◌, Option, Some, None}
+use Rattle.std.specs.Prelude.{if◌then◌else◌, nat_eq, length, slice_index}
 use Rattle.fibs_messages.specs.Board.{BoardFields}
 use Rattle.fibs_position.specs.DecisionValue.{DecisionValue}
 use Rattle.fibs_position.specs.GamePart.{same_game}
@@ -16,7 +17,7 @@ use Rattle.fibs_model.specs.Wires.{next_line}
 use Rattle.fibs_model.specs.Moving.{has_moved_on}
 use Rattle.fibs_model.specs.World.{World}
 
--- `sent c log` and `took c log` are the lists of pairs (board, decision) of the Sent and of the Took entries of c, in order.
+-- `sent c log` and `took c log` are the pairs (board, decision) of the Sent and of the Took entries of c, in order.
 
 -- the first list is a prefix of the second
 abbrev pub IsPrefixOf : List Ask → List Ask → Type 0
@@ -90,8 +91,8 @@ pub record Headline (w : World) : Type 0 where
   pub on_shown : AllOnShown w.log
   -- each is legal;
   pub legal : (c : ℕ) → AllLegal (sent c w.log)
-  -- each answers its own click there: it stands directly after it, and each click answered by yes is directly followed by
-  -- its decision;
+  -- each answers its own click there: it stands directly after it, and each click answered by yes is directly followed
+  -- by its decision;
   pub own_click : InPairs w.log
   -- at most the last is missing;
   pub at_most_one : (c : ℕ) → length (sent c w.log) ≤ length (took c w.log) + 1

@@ -1,4 +1,4 @@
--- What the layers below promise, as the headline needs it: their laws in one record. No public contract rests on this file.
+-- What the layers below promise, as the headline needs it: their laws in one record. No public contract rests on it.
 use Rattle.std.specs.Prelude.{◌≡◌, ℕ, ◌≤◌, List, length, All}
 use Rattle.fibs_lines.specs.StreamLaws.{EmptyStreamHasNoLine, LinesOnlyGrow, WhatFollowsALineEndReadsAlone}
 use Rattle.fibs_lines.specs.StreamLaws.{SendableTextIsItsLine}

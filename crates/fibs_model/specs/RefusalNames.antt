@@ -1,7 +1,9 @@
 -- The numbers and names of what may not be (the project's own).
 use Rattle.std.specs.Prelude.{ℕ, List, codes}
 use Rattle.fibs_model.specs.declared.refusal.WorldRefusal.{WorldRefusal}
-use Rattle.fibs_model.specs.declared.refusal.WorldRefusal.TheVariants.{Memory, AlreadyOpen, NotOpen, NoSuchConnection, NothingToServe, UserDecides, BoardAsText, BadBoard, BadDice}
+use Rattle.fibs_model.specs.declared.refusal.WorldRefusal.TheVariants.{Memory, AlreadyOpen, NotOpen, NoSuchConnection}
+use Rattle.fibs_model.specs.declared.refusal.WorldRefusal.TheVariants.{NothingToServe, UserDecides, BoardAsText}
+use Rattle.fibs_model.specs.declared.refusal.WorldRefusal.TheVariants.{BadBoard, BadDice}
 
 abbrev pub refusal_number : WorldRefusal → ℕ
 refusal_number Memory = 1

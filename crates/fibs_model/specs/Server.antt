@@ -1,5 +1,6 @@
 -- The model server: what it answers to a line, by its board and by the number of the connection that is logged in.
-use Rattle.std.specs.Prelude.{ℕ, Bool, true, false, not, ◌&&◌, List, [], ◌∷◌, Option, Some, None, if◌then◌else◌, nat_eq, nat_lt}
+use Rattle.std.specs.Prelude.{ℕ, Bool, true, false, not, ◌&&◌, List, [], ◌∷◌, Option, Some, None, if◌then◌else◌, nat_eq}
+use Rattle.std.specs.Prelude.{nat_lt}
 use Rattle.fibs_messages.specs.Board.{BoardFields}
 use Rattle.fibs_position.specs.DecisionValue.{DecisionValue}
 use Rattle.fibs_position.specs.DirectionOf.{direction_of}
@@ -61,4 +62,5 @@ obeyed now d1 d2 (Some d) = carried d (effect now d d1 d2)
 -- a line of the connection c, on the board `now`, with two dice: the first line of a connection is its login
 abbrev pub answered : BoardFields → ℕ → ℕ → Bool → List ℕ → ℕ → ℕ → Served
 answered now logged_in c true text d1 d2 = if nat_lt c logged_in then Stale else LoggedIn
-answered now logged_in c false text d1 d2 = if nat_eq c logged_in then obeyed now d1 d2 (decision_in now text) else Stale
+answered now logged_in c false text d1 d2 =
+    if nat_eq c logged_in then obeyed now d1 d2 (decision_in now text) else Stale

@@ -1,6 +1,7 @@
 -- The world as a machine over events: a server, the wires to its connections, and the log of what happened. It holds no
 -- client: what a client answers is read from the log and from the commands handed out, by the client's own definitions.
-use Rattle.std.specs.Prelude.{ℕ, ◌+◌, Bool, not, ◌&&◌, List, [], ◌∷◌, ◌++◌, Option, Some, None, if◌then◌else◌, nat_eq, flat_map, take, drop}
+use Rattle.std.specs.Prelude.{ℕ, ◌+◌, Bool, not, ◌&&◌, List, [], ◌∷◌, ◌++◌, Option, Some, None, if◌then◌else◌, nat_eq}
+use Rattle.std.specs.Prelude.{flat_map, take, drop}
 use Rattle.fibs_lines.specs.Lines.{ReadLine}
 use Rattle.fibs_messages.specs.Board.{BoardFields, spelling}
 use Rattle.fibs_messages.specs.Line.{ReadingValue}

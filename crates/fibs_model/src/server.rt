@@ -93,7 +93,8 @@ pub(crate) fn is_good(board: &Board) -> bool
 impl Server {
     ghost use Rattle.fibs_model.specs.ServerOf.{served_of, after_line};
 
-    /// A server with a good board, and no connection logged in. Any other board is refused, with the first of its faults.
+    /// A server with a good board, and no connection logged in. Any other board is refused, with the first of its
+    /// faults.
     pub fn new(board: Board) -> Result<Server, PositionFault>
         ensures good { IsOk result ↔ IsGood (fields_of board) }
         ensures fault { (f : PositionFault) →
@@ -147,8 +148,9 @@ impl Server {
     /// `dice` are those of a roll.
     ///
     /// `Stale` for a line of a connection below the one logged in, and for a later line of one that isn't logged in;
-    /// otherwise a first line makes its connection the one logged in, and a later one is `Took` where it is a decision in
-    /// the numbers of the board that `effect` carries out, `Undone` where it is another decision, and else `Answered`.
+    /// otherwise a first line makes its connection the one logged in, and a later one is `Took` where it is a decision
+    /// in the numbers of the board that `effect` carries out, `Undone` where it is another decision, and else
+    /// `Answered`.
     pub fn serve(&mut self, conn: usize, first: bool, text: &[u8], dice: [u8; 2]) -> Served
         requires { 1 ≤ conn }
         ensures answer { served_of result self.new.board ≡

@@ -47,7 +47,8 @@ only_none c n = if_fact (λ l. l ≡ []) (nat_eq c n) _ _ (λ z. refl) (λ z. re
 -- other words for the same acts
 pub kept_is : (acts acts' : ℕ → List Act) (w : World) → ((c : ℕ) → acts' c ≡ acts c) → Kept acts w → Kept acts' w
 kept_is acts acts' w h k = record {
-  carried = λ c some. subst (λ l. Carried (put_by l) (nat_eq (open_now w.log) c) (w.links c)) (sym (h c)) (k.carried c some);
+  carried =
+      λ c some. subst (λ l. Carried (put_by l) (nat_eq (open_now w.log) c) (w.links c)) (sym (h c)) (k.carried c some);
   older = λ c low. subst Steady (sym (h c)) (k.older c low);
   now = subst (SteadyTo w.board) (sym (h w.logged_in)) k.now;
   newer = λ c high. h c ∙ k.newer c high;
@@ -55,7 +56,8 @@ kept_is acts acts' w h k = record {
 
 -- an event without acts
 pub kept_quiet : (acts : ℕ → List Act) (w w' : World) → w'.board ≡ w.board → w'.logged_in ≡ w.logged_in
-    → ((c : ℕ) → 0 < c → Carried (put_by (acts c)) (nat_eq (open_now w'.log) c) (w'.links c)) → Kept acts w → Kept acts w'
+    → ((c : ℕ) → 0 < c → Carried (put_by (acts c)) (nat_eq (open_now w'.log) c) (w'.links c)) → Kept acts w
+    → Kept acts w'
 kept_quiet acts w w' b l carried k = record {
   carried = carried;
   older = λ c low. let low' : c < w.logged_in = rw l at low in k.older c low';
@@ -79,10 +81,13 @@ pub kept_more : (acts : ℕ → List Act) (more : List Act) (w w' : World) → w
     → Kept acts w → Kept (λ c. acts c ++ only c w.logged_in more) w'
 kept_more acts more w w' l o other carried steady k = record {
   carried = λ c some. elim (eqb_tells c w.logged_in) [
-    | inl e ↦ subst (λ d. Carried (put_by (acts d ++ only d w.logged_in more)) (nat_eq (open_now w'.log) d) (w'.links d)) (sym e.1)
+    | inl e ↦
+        subst (λ d. Carried (put_by (acts d ++ only d w.logged_in more)) (nat_eq (open_now w'.log) d) (w'.links d))
+        (sym e.1)
         (let some' : 0 < w.logged_in = subst (λ d. 0 < d) e.1 some in
         carried_is _ _ _ _ _ _
-        (ap (λ l. put_by (acts w.logged_in ++ l)) (only_here w.logged_in more) ∙ flat_map-append bytes_of (acts w.logged_in) more)
+        (ap (λ l. put_by (acts w.logged_in ++ l)) (only_here w.logged_in more)
+        ∙ flat_map-append bytes_of (acts w.logged_in) more)
         (ap (λ n. nat_eq n w.logged_in) o) refl refl (carried some'))
     | inr n ↦ carried_is _ _ _ _ _ _ (ap put_by (same c n.1)) (ap (λ n. nat_eq n c) o)
         (ap (λ (x : Link). x.heard) (other c n.1)) (ap (λ (x : Link). x.coming) (other c n.1)) (k.carried c some)
@@ -124,7 +129,8 @@ kept_sends acts w b a t is silent said k = go (is_talking w) refl
         said k
     go false e =
         kept_more acts [] w w' refl refl (λ c n. refl)
-        (λ some. carried_is _ _ _ _ _ _ (append-nil (put_by (acts w.logged_in))) refl refl refl (k.carried w.logged_in some))
+        (λ some. carried_is _ _ _ _ _ _ (append-nil (put_by (acts w.logged_in))) refl refl refl
+        (k.carried w.logged_in some))
         (subst (SteadyTo b) (sym (append-nil (acts w.logged_in))) silent) k
 
 -- a decision is served, by which the server's board may become another
@@ -132,13 +138,16 @@ pub kept_serves : (acts : ℕ → List Act) (w : World) (b : Board) (d : Decisio
     → open_from (open_now w.log) (e ∷ []) ≡ open_now w.log
     → Kept acts w → Kept (λ c. acts c ++ only c w.logged_in (Serves d ∷ [])) (noted (record w { board = b }) (e ∷ []))
 kept_serves acts w b d e o k =
-    kept_more acts (Serves d ∷ []) w (noted (record w { board = b }) (e ∷ [])) refl (open_append 0 w.log (e ∷ []) ∙ o) (λ c n. refl)
-    (λ some. carried_is _ _ _ _ _ _ (append-nil (put_by (acts w.logged_in))) refl refl refl (k.carried w.logged_in some))
+    kept_more acts (Serves d ∷ []) w (noted (record w { board = b }) (e ∷ [])) refl (open_append 0 w.log (e ∷ []) ∙ o)
+    (λ c n. refl)
+    (λ some. carried_is _ _ _ _ _ _ (append-nil (put_by (acts w.logged_in))) refl refl refl
+    (k.carried w.logged_in some))
     (steady_serves w.board b d (acts w.logged_in) k.now) k
 
 -- a connection logs in
 pub kept_login : (acts : ℕ → List Act) (w w' : World) → w'.board ≡ w.board → w.logged_in ≤ w'.logged_in
-    → ((c : ℕ) → 0 < c → Carried (put_by (acts c)) (nat_eq (open_now w'.log) c) (w'.links c)) → Kept acts w → Kept acts w'
+    → ((c : ℕ) → 0 < c → Carried (put_by (acts c)) (nat_eq (open_now w'.log) c) (w'.links c)) → Kept acts w
+    → Kept acts w'
 kept_login acts w w' b low carried k = record {
   carried = carried;
   older = λ c lt. elim (eqb_tells c w.logged_in) [

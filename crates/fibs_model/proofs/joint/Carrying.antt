@@ -17,7 +17,8 @@ use Rattle.fibs_session.specs.declared.refusal.Refusal.{Refusal}
 use Rattle.fibs_messages.specs.Board.{BoardFields as Board}
 use Rattle.fibs_model.specs.Joint.{Carried}
 use Rattle.fibs_model.specs.Wires.{Link}
-use Rattle.fibs_model.specs.World.{World, noted, linked, asks, does_heard, hears, hears_all, sends_out, clicks, sends_plain}
+use Rattle.fibs_model.specs.World.{World, noted, linked, asks, does_heard, hears, hears_all, sends_out, clicks}
+use Rattle.fibs_model.specs.World.{sends_plain}
 use Rattle.fibs_model.proofs.log.Past.{open_append}
 use Rattle.fibs_model.proofs.joint.Joint.{linked_same, linked_other}
 use Rattle.fibs_model.proofs.joint.Sending.{if_fact}
@@ -30,9 +31,11 @@ pub record Alike (w w' : World) : Type 0 where
   pub heard : (c : ℕ) → (w'.links c).heard ≡ (w.links c).heard
   pub coming : (c : ℕ) → (w'.links c).coming ≡ (w.links c).coming
 
+-- a world is alike itself
 pub alike_same : (w : World) → Alike w w
 alike_same w = record { board = refl; logged_in = refl; here = refl; heard = λ c. refl; coming = λ c. refl }
 
+-- and alike what is alike one that is alike it
 pub alike_then : (u v w : World) → Alike u v → Alike v w → Alike u w
 alike_then u v w a b = record {
   board = b.board ∙ a.board;
@@ -86,7 +89,8 @@ alike_asks w c ts =
 -- entries are noted and commands handed out
 alike_does : (w : World) (c : ℕ) (es : List Entry) (ts : List (List ℕ)) → open_from (open_now w.log) es ≡ open_now w.log
     → Alike w (asks (noted w es) c ts)
-alike_does w c es ts h = alike_then w (noted w es) (asks (noted w es) c ts) (alike_noted w es h) (alike_asks (noted w es) c ts)
+alike_does w c es ts h =
+    alike_then w (noted w es) (asks (noted w es) c ts) (alike_noted w es h) (alike_asks (noted w es) c ts)
 
 -- a line is heard
 pub alike_hears : (c : ℕ) (w : World) (x : ReadingValue) → Alike w (hears c w x)
@@ -113,6 +117,7 @@ alike_sends_out : (c : ℕ) (w : World) (d : Decision) (o : Option Board) → Al
 alike_sends_out c w d None = alike_same w
 alike_sends_out c w d (Some b) = alike_does w c (Clicked c d None ∷ Sent c b d ∷ []) _ refl
 
+-- with its answer
 pub alike_clicks : (c : ℕ) (w : World) (d : Decision) (o : Option Refusal) → Alike w (clicks c w d o)
 alike_clicks c w d (Some x) = alike_noted w (Clicked c d (Some x) ∷ []) refl
 alike_clicks c w d None = alike_sends_out c w d (last (shown c w.log))
@@ -127,13 +132,16 @@ pub carried_is : (put put' : List ℕ) (z z' : Bool) (l l' : Link) → put' ≡ 
     → l'.coming ≡ l.coming → Carried put z l → Carried put' z' l'
 carried_is put put' z z' l l' p o h c k = record {
   dropped = k.dropped;
-  all = p ∙ k.all ∙ ap (λ bytes. bytes ++ (l.coming ++ k.dropped)) (sym h) ∙ ap (λ bytes. l'.heard ++ (bytes ++ k.dropped)) (sym c);
+  all =
+      p ∙ k.all ∙ ap (λ bytes. bytes ++ (l.coming ++ k.dropped)) (sym h)
+      ∙ ap (λ bytes. l'.heard ++ (bytes ++ k.dropped)) (sym c);
   none_dropped = λ y. k.none_dropped (sym o ∙ y);
   none_coming = λ y. c ∙ k.none_coming (sym o ∙ y);
 }
 
 -- bytes are delivered
-pub carried_delivered : (put : List ℕ) (z : Bool) (l l' : Link) (n : ℕ) → z ≡ true → l'.heard ≡ l.heard ++ take n l.coming
+pub carried_delivered : (put : List ℕ) (z : Bool) (l l' : Link) (n : ℕ) → z ≡ true
+    → l'.heard ≡ l.heard ++ take n l.coming
     → l'.coming ≡ drop n l.coming → Carried put z l → Carried put z l'
 carried_delivered put z l l' n t h c k = record {
   dropped = k.dropped;

@@ -1,5 +1,7 @@
 -- Each event keeps the joint statement.
-use Rattle.std.proofs.Common.{◌≡◌, ℕ, ◌<◌, ◌≤◌, Bool, true, false, not, ◌&&◌, ◌||◌, List, [], ◌∷◌, Option, Some, None, nat_eq, nat_lt, refl, sym, zero, suc, subst, inl, inr, true≢false, arith, if◌then◌else◌, is_some}
+use Rattle.std.proofs.Common.{◌≡◌, ℕ, ◌<◌, ◌≤◌, Bool, true, false, not, ◌&&◌, ◌||◌, List, [], ◌∷◌, Option, Some, None}
+use Rattle.std.proofs.Common.{nat_eq, nat_lt, refl, sym, zero, suc, subst, inl, inr, true≢false, arith, if◌then◌else◌}
+use Rattle.std.proofs.Common.{is_some}
 use Rattle.std.proofs.lemmas.Bool.Decides.{nat_tests}
 use Rattle.std.proofs.lemmas.Bool.{eqb-true}
 use Rattle.fibs_messages.specs.Board.{BoardFields as Board}
@@ -32,24 +34,30 @@ use Rattle.fibs_session.specs.PlainCommands.{plain_of}
 use Rattle.fibs_position.specs.GoodBoard.{good as is_good}
 
 -- nothing refused: each test failed
-pub not_refused : (z : Bool) (x : WorldRefusal) (o : Option WorldRefusal) → (if z then Some x else o) ≡ None → (z ≡ false) × (o ≡ None)
+pub not_refused : (z : Bool) (x : WorldRefusal) (o : Option WorldRefusal) → (if z then Some x else o) ≡ None
+    → (z ≡ false) × (o ≡ None)
 not_refused true x o h = cc
 not_refused false x o h = (refl, h)
 
+-- where neither of two holds, each of them fails
 pub or_false : (a b : Bool) → (a || b) ≡ false → (a ≡ false) × (b ≡ false)
 or_false true b h = absurd (true≢false h)
 or_false false b h = (refl, h)
 
+-- a number that is not 0
 pub number_of : (n : ℕ) → nat_eq n 0 ≡ false → 0 < n
 number_of zero h = absurd (true≢false h)
 number_of (suc n) h = omega arith
 
+-- a number that is not less than another
 pub not_less : (a b : ℕ) → nat_lt a b ≡ false → b ≤ a
 not_less a b h = grind (arith, nat_tests)
 
+-- where no connection is missing, one is open
 pub is_open : (x : WorldRefusal) (n : ℕ) → (if nat_eq n 0 then Some x else None) ≡ None → 0 < n
 is_open x n h = number_of n (not_refused (nat_eq n 0) x None h).0
 
+-- what is not false is true
 pub not_false : (a : Bool) → not a ≡ false → a ≡ true
 not_false true h = refl
 not_false false h = absurd (true≢false h)
@@ -64,6 +72,7 @@ pub record Served (w : World) (c d1 d2 : ℕ) : Type 0 where
   pub line : List ℕ × List ℕ
   pub next : next_line (w.links c).asked ≡ Some line
 
+-- what a Serve says that is not refused
 pub served : (w : World) (c d1 d2 : ℕ) → refusal w (Serve c d1 d2) ≡ None → Served w c d1 d2
 served w c d1 d2 h =
     let s1 = not_refused (nat_eq c 0 || nat_lt w.count c) _ _ h in
@@ -73,31 +82,49 @@ served w c d1 d2 h =
     let t2 = not_false _ s2.0 in
     let t3 = or_false _ _ s3.0 in
     let l = line_of (next_line (w.links c).asked) (not_false _ t3.1) in
-    record { some = number_of c t1.0; known = not_less _ _ t1.1; die1 = and_left _ _ t2; die2 = and_right _ _ t2; recent = not_less _ _ t3.0; line = l.0; next = l.1 }
+    record {
+      some = number_of c t1.0;
+      known = not_less _ _ t1.1;
+      die1 = and_left _ _ t2;
+      die2 = and_right _ _ t2;
+      recent = not_less _ _ t3.0;
+      line = l.0;
+      next = l.1;
+    }
   where
     line_of : (o : Option (List ℕ × List ℕ)) → is_some o ≡ true → (p : List ℕ × List ℕ) × (o ≡ Some p)
     line_of None h = absurd (true≢false (sym h))
     line_of (Some p) h = (p, refl)
 
 -- a plain command that is not refused is sent online, and has no fault
-said_if : (z m : Bool) (f : Option PlainFault) → (if not (not z) then Some P.Offline else (if not m then Some P.NotOn else option_map P.Fault f)) ≡ None → (z ≡ false) × (f ≡ None)
+said_if : (z m : Bool) (f : Option PlainFault)
+    → (if not (not z) then Some P.Offline else (if not m then Some P.NotOn else option_map P.Fault f)) ≡ None
+    → (z ≡ false) × (f ≡ None)
 said_if true m f h = cc
 said_if false false f h = cc
 said_if false true None h = (refl, refl)
 said_if false true (Some x) h = cc
 
-pub said : (login : List ℕ) (w : World) (p : PlainValue) → plain_refusal (talk_of login w) p ≡ None → (0 < open_now w.log) × (plain_fault_of p ≡ None)
+-- what a plain command says that is not refused
+pub said : (login : List ℕ) (w : World) (p : PlainValue) → plain_refusal (talk_of login w) p ≡ None
+    → (0 < open_now w.log) × (plain_fault_of p ≡ None)
 said login w p h =
     let s = said_if (nat_eq (open_now w.log) 0) (may_send (talk_of login w) p) (plain_fault_of p) h in
     (number_of _ s.0, s.1)
 
 module _ (law : Lawful) where
-  joint_said : (w : World) (p : PlainValue) (o : Option PlainRefusal) → (o ≡ None → (0 < open_now w.log) × (plain_fault_of p ≡ None)) → Joint [] w → Joint [] (sends_plain w p o)
+  -- a plain command keeps the joint statement
+  joint_said : (w : World) (p : PlainValue) (o : Option PlainRefusal)
+      → (o ≡ None → (0 < open_now w.log) × (plain_fault_of p ≡ None)) → Joint [] w → Joint [] (sends_plain w p o)
   joint_said w p (Some why) f j = j
-  joint_said w p None f j = joint_asks law [] w (open_now w.log) (plain_of p ∷ []) j refl (f refl).0 (law.plain_quiet p (f refl).1, tt)
+  joint_said w p None f j =
+      joint_asks law [] w (open_now w.log) (plain_of p ∷ []) j refl (f refl).0 (law.plain_quiet p (f refl).1, tt)
 
-  pub joint_after : (login : List ℕ) → IsQuiet login → (w : World) (e : Event) → Joint [] w → refusal w e ≡ None → Joint [] (after login w e)
-  joint_after login quiet w Open j h = joint_open law login quiet w j (eqb-true _ _ (closed (nat_eq (open_now w.log) 0) h))
+  -- each event that is accepted keeps the joint statement
+  pub joint_after : (login : List ℕ) → IsQuiet login → (w : World) (e : Event) → Joint [] w → refusal w e ≡ None
+      → Joint [] (after login w e)
+  joint_after login quiet w Open j h =
+      joint_open law login quiet w j (eqb-true _ _ (closed (nat_eq (open_now w.log) 0) h))
     where
       closed : (z : Bool) → (if z then None else Some AlreadyOpen) ≡ None → z ≡ true
       closed true h = refl
@@ -115,14 +142,27 @@ module _ (law : Lawful) where
       let s2 = not_refused (user_decides w.board) _ _ s1.1 in
       joint_board law w b j (not_false _ s1.0) (inr s2.0)
   joint_after login quiet w Repeat j h = joint_board law w w.board j j.good (inl refl)
-  joint_after login quiet w (Text t) j h = joint_text law w t j (text_boards law (lines_of (on_wire t)) (not_refused (is_board_text (lines_of (on_wire t))) _ _ h).0)
+  joint_after login quiet w (Text t) j h =
+      joint_text law w t j
+      (text_boards law (lines_of (on_wire t)) (not_refused (is_board_text (lines_of (on_wire t))) _ _ h).0)
 
+  -- it holds of the world at first, which has a good board
   pub joint_start : (b : Board) → is_good b ≡ true → Joint [] (start b)
   joint_start b g = record {
     good = g;
     low = omega arith;
     who = inl refl;
-    ahead = λ c h. record { seen = refl; sends = refl; takes = refl; fresh = refl; served = refl; heard = refl; coming = refl; way = way_none law _ };
+    ahead =
+        λ c h. record {
+          seen = refl;
+          sends = refl;
+          takes = refl;
+          fresh = refl;
+          served = refl;
+          heard = refl;
+          coming = refl;
+          way = way_none law _;
+        };
     unopened = λ c h. refl;
     settled = λ c. record { p = None; owed = refl };
     current = λ h. absurd (omega arith);

@@ -1,9 +1,11 @@
 -- The joint statement that each event keeps.
-use Rattle.std.proofs.Common.{◌≡◌, ℕ, ◌<◌, ◌≤◌, Bool, true, false, List, [], ◌∷◌, ◌++◌, Option, Some, None, nat_eq, refl, sym, ◌∙◌, ap, subst, inl, inr, ◌⊎◌, arith}
+use Rattle.std.proofs.Common.{◌≡◌, ℕ, ◌<◌, ◌≤◌, Bool, true, false, List, [], ◌∷◌, ◌++◌, Option, Some, None, nat_eq}
+use Rattle.std.proofs.Common.{refl, sym, ◌∙◌, ap, subst, inl, inr, ◌⊎◌, arith}
 use Rattle.std.proofs.lemmas.Bool.Decides.{eqb_tells}
 use Rattle.fibs_messages.specs.Board.{BoardFields as Board}
 use Rattle.fibs_session.specs.History.Log.{Entry}
-use Rattle.fibs_session.specs.History.Words.{Ask, is_empty, last, each, open_now, shown_by, sent_by, took_by, shown, sent, took, is_spent}
+use Rattle.fibs_session.specs.History.Words.{Ask, is_empty, last, each, open_now, shown_by, sent_by, took_by, shown}
+use Rattle.fibs_session.specs.History.Words.{sent, took, is_spent}
 use Rattle.fibs_model.specs.Wires.{Link}
 use Rattle.fibs_model.specs.Server.{user_decides}
 use Rattle.fibs_model.specs.World.{World, linked}
@@ -25,13 +27,24 @@ pub record View : Type 0 where
   pub moved : Bool
   pub link : Link
 
+-- what is said of a connection in a world
 abbrev pub view : World → ℕ → View
-view w c = record { seen = shown c w.log; sends = sent c w.log; takes = took c w.log; spent = is_spent same_game c w.log; moved = has_moved_on same_game c w.log; link = w.links c }
+view w c =
+    record {
+      seen = shown c w.log;
+      sends = sent c w.log;
+      takes = took c w.log;
+      spent = is_spent same_game c w.log;
+      moved = has_moved_on same_game c w.log;
+      link = w.links c;
+    }
 
+-- a list of one, or none
 abbrev pub to_list : {A : Type 0} → Option A → List A
 to_list None = []
 to_list (Some x) = x ∷ []
 
+-- all boards are this one
 abbrev pub AllAre : Board → List Board → Type 0
 AllAre b [] = Unit {0}
 AllAre b (x ∷ xs) = (x ≡ b) × AllAre b xs
@@ -65,6 +78,7 @@ pub record Asked (v : View) (now : Board) (ws : List Board) (a : Ask) : Type 0 w
   pub is_last : last v.seen ≡ Some a.0
   pub calm : Calm now (a.0 ∷ ws)
 
+-- where nothing waits to be served, nothing was sent in this stretch, or its effect is on its way
 abbrev pub Live : View → Board → List Board → Option Ask → Type 0
 Live v now ws None = Free v now ws ⊎ Done v now ws
 Live v now ws (Some a) = Asked v now ws a
@@ -99,6 +113,7 @@ pub record Settled (v : View) : Type 0 where
   pub p : Option Ask
   pub owed : v.sends ≡ v.takes ++ to_list p
 
+-- once a board that differs is shown, all that was sent took effect
 abbrev pub Moved : View → Type 0
 Moved v = v.moved ≡ true → v.takes ≡ v.sends
 
@@ -110,17 +125,22 @@ pub record Joint (hearing : List Board) (w : World) : Type 0 where
   pub ahead : (c : ℕ) → w.logged_in < c → Ahead (nat_eq (open_now w.log) c) (view w c)
   pub unopened : (c : ℕ) → w.count < c → (w.links c).asked ≡ []
   pub settled : (c : ℕ) → Settled (view w c)
-  pub current : 0 < w.logged_in → Current (nat_eq (open_now w.log) w.logged_in) (view w w.logged_in) w.board (waiting hearing (w.links w.logged_in))
+  pub current : 0 < w.logged_in
+      → Current (nat_eq (open_now w.log) w.logged_in) (view w w.logged_in) w.board
+      (waiting hearing (w.links w.logged_in))
   pub moved : (c : ℕ) → Moved (view w c)
   pub wire : (c : ℕ) → open_now w.log ≡ c → 0 < c → Whole ((w.links c).heard ++ (w.links c).coming)
 
 -- equal views
-pub view_path : {a a' : List Board} {b b' c c' : List Ask} {d d' e e' : Bool} {l l' : Link} → a ≡ a' → b ≡ b' → c ≡ c' → d ≡ d' → e ≡ e' → l ≡ l' →
-    ◌≡◌ {A = View} (record { seen = a; sends = b; takes = c; spent = d; moved = e; link = l }) (record { seen = a'; sends = b'; takes = c'; spent = d'; moved = e'; link = l' })
+pub view_path : {a a' : List Board} {b b' c c' : List Ask} {d d' e e' : Bool} {l l' : Link} → a ≡ a' → b ≡ b' → c ≡ c'
+    → d ≡ d' → e ≡ e' → l ≡ l' →
+    ◌≡◌ {A = View} (record { seen = a; sends = b; takes = c; spent = d; moved = e; link = l })
+    (record { seen = a'; sends = b'; takes = c'; spent = d'; moved = e'; link = l' })
 view_path h1 h2 h3 h4 h5 h6 = cc
 
 -- entries that are not of c leave its view alone, and so do changes of other wires
-pub same_view : (w : World) (w' : World) (es : List Entry) (c : ℕ) → w'.log ≡ w.log ++ es → shown c es ≡ [] → sent c es ≡ [] → took c es ≡ [] → w'.links c ≡ w.links c
+pub same_view : (w : World) (w' : World) (es : List Entry) (c : ℕ) → w'.log ≡ w.log ++ es → shown c es ≡ []
+    → sent c es ≡ [] → took c es ≡ [] → w'.links c ≡ w.links c
     → view w' c ≡ view w c
 same_view w w' es c e h k m l = view_path
     (ap (shown c) e ∙ map_no_more (shown_by c) w.log es h)
@@ -130,9 +150,11 @@ same_view w w' es c e h k m l = view_path
     (ap (has_moved_on same_game c) e ∙ moved_quiet same_game c w.log es h k)
     l
 
+-- a wire that is set is there
 pub linked_same : (w : World) (c : ℕ) (l : Link) → (linked w c l).links c ≡ l
 linked_same w c l = rw (same_number c) refl
 
+-- and no other is changed
 pub linked_other : (w : World) (c d : ℕ) (l : Link) → (d ≡ c → ⊥) → (linked w c l).links d ≡ w.links d
 linked_other w c d l h = rw (other_number d c h) refl
 
@@ -140,6 +162,7 @@ linked_other w c d l h = rw (other_number d c h) refl
 abbrev pub with_link : View → Link → View
 with_link v l = record { seen = v.seen; sends = v.sends; takes = v.takes; spent = v.spent; moved = v.moved; link = l }
 
+-- the view of a connection whose wire is set
 pub view_linked : (w : World) (c : ℕ) (l : Link) → view (linked w c l) c ≡ with_link (view w c) l
 view_linked w c l = view_path refl refl refl refl refl (linked_same w c l)
 
@@ -165,7 +188,9 @@ joint_current x x' w w' j some el ec eo same good cur mov wire =
           let n : c ≡ w.logged_in → ⊥ = λ e. absurd (omega arith) in
           ap (λ (v : View). v.link.asked) (same c n) ∙ j.unopened c h';
       settled = λ c. elim (eqb_tells c w.logged_in) [
-        | inl e ↦ subst (λ d. Settled (view w' d)) (sym e.1) (let s : Settled (view w' w.logged_in) = record { p = cur.p; owed = cur.owed } in s)
+        | inl e ↦
+            subst (λ d. Settled (view w' d)) (sym e.1)
+            (let s : Settled (view w' w.logged_in) = record { p = cur.p; owed = cur.owed } in s)
         | inr n ↦ subst Settled (sym (same c n.1)) (j.settled c)
       ];
       current = λ h. rw (el, eo) cur;

@@ -1,5 +1,6 @@
 -- The four facts of the joint statement hold after every list of events.
-use Rattle.std.proofs.Common.{◌≡◌, ℕ, ◌+◌, ◌<◌, ◌≤◌, Bool, true, false, not, ◌&&◌, List, [], ◌∷◌, ◌++◌, Option, Some, None}
+use Rattle.std.proofs.Common.{◌≡◌, ℕ, ◌+◌, ◌<◌, ◌≤◌, Bool, true, false, not, ◌&&◌, List, [], ◌∷◌, ◌++◌, Option, Some}
+use Rattle.std.proofs.Common.{None}
 use Rattle.std.proofs.Common.{nat_eq, take, drop, refl, sym, ◌∙◌, ap, subst, inl, inr, append-nil, append_assoc}
 use Rattle.std.proofs.Common.{true≢false, arith, if◌then◌else◌}
 use Rattle.std.proofs.lemmas.Bool.{cases_lt, eqb-true}
@@ -28,7 +29,8 @@ use Rattle.fibs_model.proofs.Lawful.{Lawful, IsQuiet}
 use Rattle.fibs_model.proofs.Final.{kept, told_start}
 use Rattle.fibs_model.proofs.log.Lists.{other_number}
 use Rattle.fibs_model.proofs.log.Past.{open_append}
-use Rattle.fibs_model.proofs.joint.Acting.{Kept, only, only_none, kept_is, kept_quiet, kept_alike, kept_sends, kept_serves, kept_login}
+use Rattle.fibs_model.proofs.joint.Acting.{Kept, only, only_none, kept_is, kept_quiet, kept_alike, kept_sends}
+use Rattle.fibs_model.proofs.joint.Acting.{kept_serves, kept_login}
 use Rattle.fibs_model.proofs.joint.Carrying.{alike_linked, alike_asks, alike_hears_all, alike_clicks, alike_plain}
 use Rattle.fibs_model.proofs.joint.Carrying.{carried_is, carried_delivered, carried_lost, carried_none}
 use Rattle.fibs_model.proofs.joint.EachEvent.{served, joint_after, joint_start, not_refused, is_open}
@@ -58,7 +60,8 @@ kept_no_acts acts w w' k =
     (λ c. ap (λ l. acts c ++ l) (only_none c w.logged_in) ∙ append-nil (acts c)) k
 
 -- a decision is served, and a board is sent
-kept_decision : (acts : ℕ → List Act) (w : World) (b : Board) (d : Decision) (e : Entry) → open_now (w.log ++ e ∷ []) ≡ open_now w.log
+kept_decision : (acts : ℕ → List Act) (w : World) (b : Board) (d : Decision) (e : Entry)
+    → open_now (w.log ++ e ∷ []) ≡ open_now w.log
     → Kept (λ c. acts c ++ only c w.logged_in (Serves d ∷ [])) (noted (record w { board = b }) (e ∷ []))
     → Kept (λ c. acts c ++ only c w.logged_in (Serves d ∷ sending w (Shows b)))
     (sends (noted (record w { board = b }) (e ∷ [])) (spelling b))
@@ -81,7 +84,8 @@ kept_served acts c w V.LoggedIn low k =
     let w' : World = noted (record w { logged_in = c }) (L.LoggedIn c ∷ []) in
     kept_no_acts acts w w'
     (kept_login acts w w' refl low
-    (λ d some. carried_is _ _ _ _ _ _ refl (ap (λ n. nat_eq n d) (open_append 0 w.log (L.LoggedIn c ∷ []))) refl refl (k.carried d some)) k)
+    (λ d some. carried_is _ _ _ _ _ _ refl (ap (λ n. nat_eq n d) (open_append 0 w.log (L.LoggedIn c ∷ []))) refl refl
+    (k.carried d some)) k)
 kept_served acts c w (V.Took d b) low k =
     kept_decision acts w b d (Took c w.board d) (open_append 0 w.log (Took c w.board d ∷ []))
     (kept_serves acts w b d (Took c w.board d) refl k)
@@ -89,7 +93,8 @@ kept_served acts c w (V.Undone d) low k =
     kept_decision acts w w.board d (Undone c w.board d) (open_append 0 w.log (Undone c w.board d ∷ []))
     (kept_serves acts w w.board d (Undone c w.board d) refl k)
 kept_served acts c w V.Answered low k =
-    kept_sends acts w w.board (Shows w.board) (spelling w.board) refl k.now (steady_shows w.board (acts w.logged_in) k.now) k
+    kept_sends acts w w.board (Shows w.board) (spelling w.board) refl k.now
+    (steady_shows w.board (acts w.logged_in) k.now) k
 
 -- a connection that isn't the one that was open, nor the one that is
 other_connection : (put : List ℕ) (n m c : ℕ) (l l' : Link) → (c ≡ n → ⊥) → (c ≡ m → ⊥) → l' ≡ l
@@ -193,7 +198,8 @@ kept_line acts w c d1 d2 line low k =
     (kept_alike acts w (linked w c l) (alike_linked w c l refl refl) k)
 
 -- each event keeps what is said of the server's acts
-kept_after : (acts : ℕ → List Act) (login : List ℕ) (w : World) (e : Event) → Joint [] w → refusal w e ≡ None → Kept acts w
+kept_after : (acts : ℕ → List Act) (login : List ℕ) (w : World) (e : Event) → Joint [] w → refusal w e ≡ None
+    → Kept acts w
     → Kept (λ c. acts c ++ acts_on w e c) (after login w e)
 kept_after acts login w Open j h k =
     kept_no_acts acts w _ (kept_opened acts login w j (eqb-true _ _ (closed (nat_eq (open_now w.log) 0) h)) k)
@@ -269,13 +275,15 @@ steady_on acts w c k = elim (eqb_tells c w.logged_in) [
 
 module _ (law : Lawful) where
   -- over a list of events
-  kept_all : (acts : ℕ → List Act) (login : List ℕ) → IsQuiet login → (es : List Event) (w : World) → AllAccepted login w es
+  kept_all : (acts : ℕ → List Act) (login : List ℕ) → IsQuiet login → (es : List Event) (w : World)
+      → AllAccepted login w es
       → Joint [] w → Kept acts w → Kept (λ c. acts c ++ acts_from login w es c) (after_all login w es)
   kept_all acts login quiet [] w a j k = kept_is acts (λ c. acts c ++ []) w (λ c. append-nil (acts c)) k
   kept_all acts login quiet (e ∷ es) w a j k =
       let w' : World = after login w e in
       let first : ℕ → List Act = λ c. acts c ++ acts_on w e c in
-      kept_is (λ c. first c ++ acts_from login w' es c) (λ c. acts c ++ acts_from login w (e ∷ es) c) (after_all login w' es)
+      kept_is (λ c. first c ++ acts_from login w' es c) (λ c. acts c ++ acts_from login w (e ∷ es) c)
+      (after_all login w' es)
       (λ c. sym (append_assoc (acts c) (acts_on w e c) (acts_from login w' es c)))
       (kept_all first login quiet es w' a.1 (joint_after law login quiet w e j a.0) (kept_after acts login w e j a.0 k))
 

@@ -31,6 +31,7 @@ same_rest now b (Shows x ∷ later) h = (h.0, same_rest now b later h.1)
 same_rest now b (Says t ∷ later) h = same_rest now b later h
 same_rest now b (Serves d ∷ later) h = tt
 
+-- the boards are steady without it too
 pub steady_rest : (now : Board) (acts : List Act) → SteadyTo now acts → Steady acts
 steady_rest now [] h = tt
 steady_rest now (Shows b ∷ later) h = (λ z. same_rest now b later (h.0 z), steady_rest now later h.1)
@@ -45,6 +46,7 @@ same_becomes now next b (Shows x ∷ later) m z h = (h.0, same_becomes now next 
 same_becomes now next b (Says t ∷ later) m z h = same_becomes now next b later m z h
 same_becomes now next b (Serves d ∷ later) m z h = tt
 
+-- and the boards stay steady, where the user does not decide
 pub steady_becomes : (now next : Board) (acts : List Act) → Becomes now next → SteadyTo now acts → SteadyTo next acts
 steady_becomes now next [] m h = tt
 steady_becomes now next (Shows b ∷ later) m h =
@@ -59,6 +61,7 @@ same_shows now b (Shows x ∷ later) h = (h.0, same_shows now b later h.1)
 same_shows now b (Says t ∷ later) h = same_shows now b later h
 same_shows now b (Serves d ∷ later) h = tt
 
+-- and the boards stay steady
 pub steady_shows : (now : Board) (acts : List Act) → SteadyTo now acts → SteadyTo now (acts ++ Shows now ∷ [])
 steady_shows now [] h = (λ z. refl, tt)
 steady_shows now (Shows b ∷ later) h = (λ z. same_shows now b later (h.0 z), steady_shows now later h.1)
@@ -72,6 +75,7 @@ same_says now b t (Shows x ∷ later) h = (h.0, same_says now b t later h.1)
 same_says now b t (Says u ∷ later) h = same_says now b t later h
 same_says now b t (Serves d ∷ later) h = tt
 
+-- and the boards stay steady with it
 pub steady_says : (now : Board) (t : List ℕ) (acts : List Act) → SteadyTo now acts → SteadyTo now (acts ++ Says t ∷ [])
 steady_says now t [] h = tt
 steady_says now t (Shows b ∷ later) h = (λ z. same_says now b t later (h.0 z), steady_says now t later h.1)
@@ -86,6 +90,7 @@ same_serves now next b d (Shows x ∷ later) h = (h.0, same_serves now next b d 
 same_serves now next b d (Says t ∷ later) h = same_serves now next b d later h
 same_serves now next b d (Serves e ∷ later) h = tt
 
+-- and from then on the boards may differ
 pub steady_serves : (now next : Board) (d : Decision) (acts : List Act) → SteadyTo now acts
     → SteadyTo next (acts ++ Serves d ∷ [])
 steady_serves now next d [] h = tt

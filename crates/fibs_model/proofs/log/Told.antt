@@ -1,5 +1,7 @@
 -- What the log keeps as it grows.
-use Rattle.std.proofs.Common.{◌≡◌, ℕ, ◌+◌, ◌<◌, ◌≤◌, Bool, true, false, List, [], ◌∷◌, ◌++◌, Some, None, nat_eq, length, get_or, slice_index, refl, sym, ◌∙◌, zero, suc, ap, subst, inl, inr, append-nil, append_assoc, arith, if◌then◌else◌, length-append}
+use Rattle.std.proofs.Common.{◌≡◌, ℕ, ◌+◌, ◌<◌, ◌≤◌, Bool, true, false, List, [], ◌∷◌, ◌++◌, Some, None, nat_eq, length}
+use Rattle.std.proofs.Common.{get_or, slice_index, refl, sym, ◌∙◌, zero, suc, ap, subst, inl, inr, append-nil}
+use Rattle.std.proofs.Common.{append_assoc, arith, if◌then◌else◌, length-append}
 use Rattle.std.proofs.Math.ListN.{get_or-append}
 use Rattle.std.proofs.Math.Seq.{get_or-append_seam}
 use Rattle.std.proofs.lemmas.Bool.Decides.{eqb_tells}
@@ -8,9 +10,12 @@ use Rattle.fibs_messages.specs.Board.{BoardFields as Board}
 use Rattle.fibs_position.specs.DecisionValue.{DecisionValue as Decision}
 use Rattle.fibs_session.specs.declared.refusal.Refusal.{Refusal}
 use Rattle.fibs_session.specs.History.Log.{Entry}
-use Rattle.fibs_session.specs.History.Log.{Opened, LoggedIn, Welcomed, Informed, Shown, Clicked, Sent, Took, Undone, Lost}
-use Rattle.fibs_session.specs.History.Words.{Ask, one_if, last, shown, shown_by, open_now, sent, took, sent_by, took_by, answer}
-use Rattle.fibs_model.specs.Headline.{InPairs, NoneUndone, AllLegal, InOrder, AllAnswered, AllOnShown, places, is_sent, is_took}
+use Rattle.fibs_session.specs.History.Log.{Opened, LoggedIn, Welcomed, Informed, Shown, Clicked, Sent, Took, Undone}
+use Rattle.fibs_session.specs.History.Log.{Lost}
+use Rattle.fibs_session.specs.History.Words.{Ask, one_if, last, shown, shown_by, open_now, sent, took, sent_by, took_by}
+use Rattle.fibs_session.specs.History.Words.{answer}
+use Rattle.fibs_model.specs.Headline.{InPairs, NoneUndone, AllLegal, InOrder, AllAnswered, AllOnShown, places, is_sent}
+use Rattle.fibs_model.specs.Headline.{is_took}
 use Rattle.fibs_model.proofs.log.Lists.{same_number, other_number, map_no_more, map_more, one_of_true, one_of_false}
 use Rattle.fibs_session.specs.History.Machine.{allows}
 use Rattle.fibs_position.specs.GamePart.{same_game}
@@ -18,7 +23,8 @@ use Rattle.fibs_position.specs.GamePart.{same_game}
 -- by recursion: the clicks of later, after before
 abbrev pub Answers : List Entry → List Entry → Type 0
 Answers before [] = Unit {0}
-Answers before (Clicked c d a ∷ later) = (c ≡ open_now before) × (a ≡ answer same_game allows before d) × Answers (before ++ Clicked c d a ∷ []) later
+Answers before (Clicked c d a ∷ later) =
+    (c ≡ open_now before) × (a ≡ answer same_game allows before d) × Answers (before ++ Clicked c d a ∷ []) later
 Answers before (e ∷ later) = Answers (before ++ e ∷ []) later
 
 -- by recursion: the decisions sent later, after before
@@ -27,20 +33,32 @@ OnShown before [] = Unit {0}
 OnShown before (Sent c b d ∷ later) = (last (shown c before) ≡ Some b) × OnShown (before ++ Sent c b d ∷ []) later
 OnShown before (e ∷ later) = OnShown (before ++ e ∷ []) later
 
+-- decisions on boards shown, in two parts of a log
 on_append : (before xs ys : List Entry) → OnShown before xs → OnShown (before ++ xs) ys → OnShown before (xs ++ ys)
 on_append before [] ys h k = subst (λ l. OnShown l ys) (append-nil before) k
-on_append before (Sent c b d ∷ later) ys h k = (h.0, on_append (before ++ Sent c b d ∷ []) later ys h.1 (subst (λ l. OnShown l ys) (sym (append_assoc before (Sent c b d ∷ []) later)) k))
-on_append before (e ∷ later) ys h k = on_append (before ++ e ∷ []) later ys h (subst (λ l. OnShown l ys) (sym (append_assoc before (e ∷ []) later)) k)
+on_append before (Sent c b d ∷ later) ys h k = (
+  h.0,
+  on_append (before ++ Sent c b d ∷ []) later ys h.1
+      (subst (λ l. OnShown l ys) (sym (append_assoc before (Sent c b d ∷ []) later)) k),
+)
+on_append before (e ∷ later) ys h k =
+    on_append (before ++ e ∷ []) later ys h (subst (λ l. OnShown l ys) (sym (append_assoc before (e ∷ []) later)) k)
 
 -- the clause, from the recursion
 pub on_shown : (log : List Entry) → OnShown [] log → AllOnShown log
 on_shown log h before later c b d e = go [] before later (subst (OnShown []) e h)
   where
-    go : (first before later : List Entry) → OnShown first (before ++ Sent c b d ∷ later) → last (shown c (first ++ before)) ≡ Some b
+    go : (first before later : List Entry) → OnShown first (before ++ Sent c b d ∷ later)
+        → last (shown c (first ++ before)) ≡ Some b
     go first [] later h = subst (λ l. last (shown c l) ≡ Some b) (sym (append-nil first)) h.0
-    go first (Sent c' b' d' ∷ before) later h = subst (λ l. last (shown c l) ≡ Some b) (append_assoc first (Sent c' b' d' ∷ []) before) (go (first ++ Sent c' b' d' ∷ []) before later h.1)
-    go first (x ∷ before) later h = subst (λ l. last (shown c l) ≡ Some b) (append_assoc first (x ∷ []) before) (go (first ++ x ∷ []) before later h)
+    go first (Sent c' b' d' ∷ before) later h =
+        subst (λ l. last (shown c l) ≡ Some b) (append_assoc first (Sent c' b' d' ∷ []) before)
+        (go (first ++ Sent c' b' d' ∷ []) before later h.1)
+    go first (x ∷ before) later h =
+        subst (λ l. last (shown c l) ≡ Some b) (append_assoc first (x ∷ []) before)
+        (go (first ++ x ∷ []) before later h)
 
+-- what is told of a log
 pub record Told (log : List Entry) : Type 0 where
   pub legal : (c : ℕ) → AllLegal (sent c log)
   pub pairs : InPairs log
@@ -49,6 +67,7 @@ pub record Told (log : List Entry) : Type 0 where
   pub boards : OnShown [] log
   pub order : (c : ℕ) → InOrder c log
 
+-- clicks and decisions in pairs, in two parts of a log
 pairs_append : (xs ys : List Entry) → InPairs xs → InPairs ys → InPairs (xs ++ ys)
 pairs_append [] ys h k = k
 pairs_append (Clicked c d None ∷ Sent c' b d' ∷ later) ys h k = (h.0, h.1, pairs_append later ys h.2 k)
@@ -64,46 +83,69 @@ pairs_append (Undone c b d ∷ later) ys h k = pairs_append later ys h k
 pairs_append (Lost c u ∷ later) ys h k = pairs_append later ys h k
 pairs_append (Clicked c d None ∷ later) ys h k = absurd h
 
+-- none is Undone, in two parts of a log
 undone_append : (xs ys : List Entry) → NoneUndone xs → NoneUndone ys → NoneUndone (xs ++ ys)
 undone_append [] ys h k = k
 undone_append (Undone c b d ∷ later) ys h k = absurd h
 undone_append (e ∷ later) ys h k = undone_append later ys h k
 
+-- all are legal, in two lists
 legal_append : (xs ys : List Ask) → AllLegal xs → AllLegal ys → AllLegal (xs ++ ys)
 legal_append [] ys h k = k
 legal_append (a ∷ xs) ys h k = (h.0, legal_append xs ys h.1 k)
 
+-- all clicks carry their answers, in two parts of a log
 answers_append : (before xs ys : List Entry) → Answers before xs → Answers (before ++ xs) ys → Answers before (xs ++ ys)
 answers_append before [] ys h k = subst (λ l. Answers l ys) (append-nil before) k
-answers_append before (Clicked c d a ∷ later) ys h k = (h.0, h.1, answers_append (before ++ Clicked c d a ∷ []) later ys h.2 (subst (λ l. Answers l ys) (sym (append_assoc before (Clicked c d a ∷ []) later)) k))
-answers_append before (e ∷ later) ys h k = answers_append (before ++ e ∷ []) later ys h (subst (λ l. Answers l ys) (sym (append_assoc before (e ∷ []) later)) k)
+answers_append before (Clicked c d a ∷ later) ys h k = (
+  h.0,
+  h.1,
+  answers_append (before ++ Clicked c d a ∷ []) later ys h.2
+      (subst (λ l. Answers l ys) (sym (append_assoc before (Clicked c d a ∷ []) later)) k),
+)
+answers_append before (e ∷ later) ys h k =
+    answers_append (before ++ e ∷ []) later ys h
+    (subst (λ l. Answers l ys) (sym (append_assoc before (e ∷ []) later)) k)
 
 -- the clause, from the recursion
 pub answered : (log : List Entry) → Answers [] log → AllAnswered log
 answered log h before later c d a e =
     go [] before later (subst (Answers []) e h)
   where
-    go : (first before later : List Entry) → Answers first (before ++ Clicked c d a ∷ later) → (c ≡ open_now (first ++ before)) × (a ≡ answer same_game allows (first ++ before) d)
-    go first [] later h = subst (λ l. (c ≡ open_now l) × (a ≡ answer same_game allows l d)) (sym (append-nil first)) (h.0, h.1)
-    go first (Clicked c' d' a' ∷ before) later h = subst (λ l. (c ≡ open_now l) × (a ≡ answer same_game allows l d)) (append_assoc first (Clicked c' d' a' ∷ []) before) (go (first ++ Clicked c' d' a' ∷ []) before later h.2)
-    go first (x ∷ before) later h = subst (λ l. (c ≡ open_now l) × (a ≡ answer same_game allows l d)) (append_assoc first (x ∷ []) before) (go (first ++ x ∷ []) before later h)
+    go : (first before later : List Entry) → Answers first (before ++ Clicked c d a ∷ later)
+        → (c ≡ open_now (first ++ before)) × (a ≡ answer same_game allows (first ++ before) d)
+    go first [] later h =
+        subst (λ l. (c ≡ open_now l) × (a ≡ answer same_game allows l d)) (sym (append-nil first)) (h.0, h.1)
+    go first (Clicked c' d' a' ∷ before) later h =
+        subst (λ l. (c ≡ open_now l) × (a ≡ answer same_game allows l d))
+        (append_assoc first (Clicked c' d' a' ∷ []) before) (go (first ++ Clicked c' d' a' ∷ []) before later h.2)
+    go first (x ∷ before) later h =
+        subst (λ l. (c ≡ open_now l) × (a ≡ answer same_game allows l d)) (append_assoc first (x ∷ []) before)
+        (go (first ++ x ∷ []) before later h)
 
 -- places
 
-places_step : (t : Bool) (n : ℕ) (a b c : List ℕ) → a ≡ b ++ c → (if t then n ∷ a else a) ≡ (if t then n ∷ b else b) ++ c
+-- one more place, or none, in front of others
+places_step : (t : Bool) (n : ℕ) (a b c : List ℕ) → a ≡ b ++ c
+    → (if t then n ∷ a else a) ≡ (if t then n ∷ b else b) ++ c
 places_step true n a b c h = ap (λ l. n ∷ l) h
 places_step false n a b c h = h
 
-places_append : (p : Entry → Bool) (n : ℕ) (xs ys : List Entry) → places p n (xs ++ ys) ≡ places p n xs ++ places p (n + length xs) ys
+-- the places in two parts of a log
+places_append : (p : Entry → Bool) (n : ℕ) (xs ys : List Entry)
+    → places p n (xs ++ ys) ≡ places p n xs ++ places p (n + length xs) ys
 places_append p n [] ys = let e : n ≡ n + 0 = omega arith in ap (λ k. places p k ys) e
 places_append p n (e ∷ xs) ys =
     let k : (n + 1) + length xs ≡ n + length (e ∷ xs) = omega arith in
     places_step (p e) n _ _ _ (places_append p (n + 1) xs ys ∙ ap (λ m. places p (n + 1) xs ++ places p m ys) k)
 
-places_below : (p : Entry → Bool) (n : ℕ) (xs : List Entry) (i : ℕ) → i < length (places p n xs) → get_or (places p n xs) i 0 < n + length xs
+-- each place is in the log
+places_below : (p : Entry → Bool) (n : ℕ) (xs : List Entry) (i : ℕ) → i < length (places p n xs)
+    → get_or (places p n xs) i 0 < n + length xs
 places_below p n [] i h = absurd (omega arith)
 places_below p n (e ∷ xs) i h =
-    step (p e) i h (λ k z. let g = places_below p (n + 1) xs k z in let g' : get_or (places p (n + 1) xs) k 0 < n + length (e ∷ xs) = omega arith in g')
+    step (p e) i h (λ k z. let g = places_below p (n + 1) xs k z in
+    let g' : get_or (places p (n + 1) xs) k 0 < n + length (e ∷ xs) = omega arith in g')
   where
     step : (t : Bool) (i : ℕ) → i < length (if t then n ∷ places p (n + 1) xs else places p (n + 1) xs)
         → ((k : ℕ) → k < length (places p (n + 1) xs) → get_or (places p (n + 1) xs) k 0 < n + length (e ∷ xs))
@@ -112,26 +154,35 @@ places_below p n (e ∷ xs) i h =
     step true (suc i) h g = g i (omega arith)
     step false i h g = g i h
 
-count_step : {A : Type 0} (t : Bool) (n : ℕ) (x : A) (a : List ℕ) (b : List A) → length a ≡ length b → length (if t then n ∷ a else a) ≡ length (one_if t x ++ b)
+-- one more place and one more element, or none
+count_step : {A : Type 0} (t : Bool) (n : ℕ) (x : A) (a : List ℕ) (b : List A) → length a ≡ length b
+    → length (if t then n ∷ a else a) ≡ length (one_if t x ++ b)
 count_step true n x a b h = ap suc h
 count_step false n x a b h = h
 
+-- the places of what was sent are as many as that
 count_sent : (c n : ℕ) (xs : List Entry) → length (places (is_sent c) n xs) ≡ length (sent c xs)
 count_sent c n [] = refl
-count_sent c n (Sent d b m ∷ xs) = count_step (nat_eq d c) n (b, m) (places (is_sent c) (n + 1) xs) (sent c xs) (count_sent c (n + 1) xs)
+count_sent c n (Sent d b m ∷ xs) =
+    count_step (nat_eq d c) n (b, m) (places (is_sent c) (n + 1) xs) (sent c xs) (count_sent c (n + 1) xs)
 count_sent c n (e ∷ xs) = count_sent c (n + 1) xs
 
+-- the places of what took effect are as many as that
 count_took : (c n : ℕ) (xs : List Entry) → length (places (is_took c) n xs) ≡ length (took c xs)
 count_took c n [] = refl
-count_took c n (Took d b m ∷ xs) = count_step (nat_eq d c) n (b, m) (places (is_took c) (n + 1) xs) (took c xs) (count_took c (n + 1) xs)
+count_took c n (Took d b m ∷ xs) =
+    count_step (nat_eq d c) n (b, m) (places (is_took c) (n + 1) xs) (took c xs) (count_took c (n + 1) xs)
 count_took c n (e ∷ xs) = count_took c (n + 1) xs
 
 -- an entry that stood keeps its place
-front_at : (p : Entry → Bool) (xs ys : List Entry) (i : ℕ) → i < length (places p 0 xs) → get_or (places p 0 (xs ++ ys)) i 0 ≡ get_or (places p 0 xs) i 0
+front_at : (p : Entry → Bool) (xs ys : List Entry) (i : ℕ) → i < length (places p 0 xs)
+    → get_or (places p 0 (xs ++ ys)) i 0 ≡ get_or (places p 0 xs) i 0
 front_at p xs ys i h = ap (λ l. get_or l i 0) (places_append p 0 xs ys) ∙ get_or-append (places p 0 xs) _ 0 i h
 
+-- the places in the first part of a log stay
 order_front : (c : ℕ) (xs ys : List Entry) → InOrder c xs → (i : ℕ) → i < length (took c xs)
-    → (i < length (sent c (xs ++ ys))) × (slice_index (places (is_sent c) 0 (xs ++ ys)) i < slice_index (places (is_took c) 0 (xs ++ ys)) i)
+    → (i < length (sent c (xs ++ ys)))
+    × (slice_index (places (is_sent c) 0 (xs ++ ys)) i < slice_index (places (is_took c) 0 (xs ++ ys)) i)
 order_front c xs ys o i h =
     let q = o i h in
     let q0 = q.0 in
@@ -140,14 +191,21 @@ order_front c xs ys o i h =
     let t = count_took c 0 xs in
     let a = front_at (is_sent c) xs ys i (omega arith) in
     let b = front_at (is_took c) xs ys i (omega arith) in
-    let l : length (sent c (xs ++ ys)) ≡ length (sent c xs) + length (sent c ys) = ap length (map_more (sent_by c) xs ys (sent c ys) refl) ∙ length-append (sent c xs) (sent c ys) in
+    let l : length (sent c (xs ++ ys)) ≡ length (sent c xs) + length (sent c ys) =
+    ap length (map_more (sent_by c) xs ys (sent c ys) refl) ∙ length-append (sent c xs) (sent c ys) in
     (omega arith, omega arith)
 
+-- entries of which none took effect keep the order
 order_more : (c : ℕ) (xs ys : List Entry) → InOrder c xs → took c ys ≡ [] → InOrder c (xs ++ ys)
-order_more c xs ys o k i h = order_front c xs ys o i (let e : took c (xs ++ ys) ≡ took c xs = map_no_more (took_by c) xs ys k in subst (λ (l : List Ask). i < length l) e h)
+order_more c xs ys o k i h =
+    order_front c xs ys o i (let e : took c (xs ++ ys) ≡ took c xs = map_no_more (took_by c) xs ys k in
+    subst (λ (l : List Ask). i < length l) e h)
 
-order_took : (c : ℕ) (xs : List Entry) (b : Board) (d : Decision) → InOrder c xs → length (took c xs) < length (sent c xs) → InOrder c (xs ++ Took c b d ∷ [])
-order_took c xs b d o lt i h = elim (cases_lt i (length (took c xs))) [ inl z ↦ order_front c xs (Took c b d ∷ []) o i z | inr z ↦ final z ]
+-- one more takes effect, where fewer took effect than were sent
+order_took : (c : ℕ) (xs : List Entry) (b : Board) (d : Decision) → InOrder c xs
+    → length (took c xs) < length (sent c xs) → InOrder c (xs ++ Took c b d ∷ [])
+order_took c xs b d o lt i h =
+    elim (cases_lt i (length (took c xs))) [ inl z ↦ order_front c xs (Took c b d ∷ []) o i z | inr z ↦ final z ]
   where
     one : took c (Took c b d ∷ []) ≡ (b, d) ∷ []
     one = ap (λ l. l ++ []) (one_of_true (nat_eq c c) (b, d) (same_number c))
@@ -155,10 +213,15 @@ order_took c xs b d o lt i h = elim (cases_lt i (length (took c xs))) [ inl z �
     two : places (is_took c) (0 + length xs) (Took c b d ∷ []) ≡ (0 + length xs) ∷ []
     two = rw (same_number c) refl
 
-    final : length (took c xs) ≤ i → (i < length (sent c (xs ++ Took c b d ∷ []))) × (slice_index (places (is_sent c) 0 (xs ++ Took c b d ∷ [])) i < slice_index (places (is_took c) 0 (xs ++ Took c b d ∷ [])) i)
+    final : length (took c xs) ≤ i
+        → (i < length (sent c (xs ++ Took c b d ∷ [])))
+        × (slice_index (places (is_sent c) 0 (xs ++ Took c b d ∷ [])) i < slice_index
+        (places (is_took c) 0 (xs ++ Took c b d ∷ [])) i)
     final z =
-        let e : took c (xs ++ Took c b d ∷ []) ≡ took c xs ++ (b, d) ∷ [] = map_more (took_by c) xs (Took c b d ∷ []) ((b, d) ∷ []) one in
-        let ln : length (took c (xs ++ Took c b d ∷ [])) ≡ length (took c xs) + 1 = ap length e ∙ length-append (took c xs) ((b, d) ∷ []) in
+        let e : took c (xs ++ Took c b d ∷ []) ≡ took c xs ++ (b, d) ∷ [] =
+        map_more (took_by c) xs (Took c b d ∷ []) ((b, d) ∷ []) one in
+        let ln : length (took c (xs ++ Took c b d ∷ [])) ≡ length (took c xs) + 1 =
+        ap length e ∙ length-append (took c xs) ((b, d) ∷ []) in
         let es : sent c (xs ++ Took c b d ∷ []) ≡ sent c xs = map_no_more (sent_by c) xs (Took c b d ∷ []) refl in
         let ls : length (sent c (xs ++ Took c b d ∷ [])) ≡ length (sent c xs) = ap length es in
         let s = count_sent c 0 xs in
@@ -166,10 +229,13 @@ order_took c xs b d o lt i h = elim (cases_lt i (length (took c xs))) [ inl z �
         let ie : length (places (is_took c) 0 xs) ≡ i = omega arith in
         let a = front_at (is_sent c) xs (Took c b d ∷ []) i (omega arith) in
         let below = places_below (is_sent c) 0 xs i (omega arith) in
-        let at : get_or (places (is_took c) 0 (xs ++ Took c b d ∷ [])) (length (places (is_took c) 0 xs)) 0 ≡ 0 + length xs =
-        ap (λ l. get_or l (length (places (is_took c) 0 xs)) 0) (places_append (is_took c) 0 xs (Took c b d ∷ []) ∙ ap (λ l. places (is_took c) 0 xs ++ l) two)
+        let at : get_or (places (is_took c) 0 (xs ++ Took c b d ∷ [])) (length (places (is_took c) 0 xs)) 0
+        ≡ 0 + length xs =
+        ap (λ l. get_or l (length (places (is_took c) 0 xs)) 0) (places_append (is_took c) 0 xs (Took c b d ∷ [])
+        ∙ ap (λ l. places (is_took c) 0 xs ++ l) two)
         ∙ get_or-append_seam (places (is_took c) 0 xs) (0 + length xs) [] 0 in
-        let at' : get_or (places (is_took c) 0 (xs ++ Took c b d ∷ [])) i 0 ≡ 0 + length xs = subst (λ k. get_or (places (is_took c) 0 (xs ++ Took c b d ∷ [])) k 0 ≡ 0 + length xs) ie at in
+        let at' : get_or (places (is_took c) 0 (xs ++ Took c b d ∷ [])) i 0 ≡ 0 + length xs =
+        subst (λ k. get_or (places (is_took c) 0 (xs ++ Took c b d ∷ [])) k 0 ≡ 0 + length xs) ie at in
         (omega arith, omega arith)
 
 -- entries that are neither a click, a Sent, a Took nor an Undone
@@ -180,7 +246,10 @@ IsPlain (Took c b d) = ⊥
 IsPlain (Undone c b d) = ⊥
 IsPlain e = Unit {0}
 
-plain_told : (log : List Entry) (e : Entry) → IsPlain e → InPairs (e ∷ []) × NoneUndone (e ∷ []) × Answers log (e ∷ []) × OnShown log (e ∷ []) × ((c : ℕ) → (sent c (e ∷ []) ≡ []) × (took c (e ∷ []) ≡ []))
+-- what is told of a plain entry alone
+plain_told : (log : List Entry) (e : Entry) → IsPlain e
+    → InPairs (e ∷ []) × NoneUndone (e ∷ []) × Answers log (e ∷ []) × OnShown log (e ∷ [])
+    × ((c : ℕ) → (sent c (e ∷ []) ≡ []) × (took c (e ∷ []) ≡ []))
 plain_told log (Opened c) h = (tt, tt, tt, tt, λ c. (refl, refl))
 plain_told log (LoggedIn c) h = (tt, tt, tt, tt, λ c. (refl, refl))
 plain_told log (Welcomed c) h = (tt, tt, tt, tt, λ c. (refl, refl))
@@ -192,9 +261,13 @@ plain_told log (Sent c b d) h = absurd h
 plain_told log (Took c b d) h = absurd h
 plain_told log (Undone c b d) h = absurd h
 
-grown : (log es : List Entry) → Told log → InPairs es → NoneUndone es → Answers log es → OnShown log es → ((c : ℕ) → AllLegal (sent c es)) → ((c : ℕ) → InOrder c (log ++ es)) → Told (log ++ es)
+-- what is told of a log and of more entries is told of both
+grown : (log es : List Entry) → Told log → InPairs es → NoneUndone es → Answers log es → OnShown log es
+    → ((c : ℕ) → AllLegal (sent c es)) → ((c : ℕ) → InOrder c (log ++ es)) → Told (log ++ es)
 grown log es t p u a s l o = record {
-  legal = λ c. subst (AllLegal) (sym (map_more (sent_by c) log es (sent c es) refl)) (legal_append (sent c log) (sent c es) (t.legal c) (l c));
+  legal =
+      λ c. subst (AllLegal) (sym (map_more (sent_by c) log es (sent c es) refl))
+      (legal_append (sent c log) (sent c es) (t.legal c) (l c));
   pairs = pairs_append log es t.pairs p;
   undone = undone_append log es t.undone u;
   answers = answers_append [] log es t.answers a;
@@ -202,23 +275,37 @@ grown log es t p u a s l o = record {
   order = o;
 }
 
+-- a plain entry is noted
 pub told_plain : (log : List Entry) (e : Entry) → IsPlain e → Told log → Told (log ++ e ∷ [])
 told_plain log e h t =
     let q = plain_told log e h in
-    grown log (e ∷ []) t q.0 q.1 q.2 q.3 (λ c. subst (AllLegal) (sym (q.4 c).0) tt) (λ c. order_more c log (e ∷ []) (t.order c) (q.4 c).1)
+    grown log (e ∷ []) t q.0 q.1 q.2 q.3 (λ c. subst (AllLegal) (sym (q.4 c).0) tt)
+    (λ c. order_more c log (e ∷ []) (t.order c) (q.4 c).1)
 
-pub told_no : (log : List Entry) (d : Decision) (x : Refusal) → answer same_game allows log d ≡ Some x → Told log → Told (log ++ Clicked (open_now log) d (Some x) ∷ [])
+-- a click is noted that is refused
+pub told_no : (log : List Entry) (d : Decision) (x : Refusal) → answer same_game allows log d ≡ Some x → Told log
+    → Told (log ++ Clicked (open_now log) d (Some x) ∷ [])
 told_no log d x h t = grown log _ t tt tt (refl, sym h, tt) tt (λ c. tt) (λ c. order_more c log _ (t.order c) refl)
 
-pub told_yes : (log : List Entry) (d : Decision) (b : Board) → answer same_game allows log d ≡ None → allows b d ≡ None → last (shown (open_now log) log) ≡ Some b → Told log → Told (log ++ Clicked (open_now log) d None ∷ Sent (open_now log) b d ∷ [])
-told_yes log d b h k la t = grown log _ t (refl, refl, tt) tt (refl, sym h, tt) (ap last (map_no_more (shown_by (open_now log)) log (Clicked (open_now log) d None ∷ []) refl) ∙ la, tt) (λ c. one (nat_eq (open_now log) c)) (λ c. order_more c log _ (t.order c) refl)
+-- a click is noted that is answered by yes, with what is sent
+pub told_yes : (log : List Entry) (d : Decision) (b : Board) → answer same_game allows log d ≡ None → allows b d ≡ None
+    → last (shown (open_now log) log) ≡ Some b → Told log
+    → Told (log ++ Clicked (open_now log) d None ∷ Sent (open_now log) b d ∷ [])
+told_yes log d b h k la t =
+    grown log _ t (refl, refl, tt) tt (refl, sym h, tt)
+    (ap last (map_no_more (shown_by (open_now log)) log (Clicked (open_now log) d None ∷ []) refl) ∙ la, tt)
+    (λ c. one (nat_eq (open_now log) c)) (λ c. order_more c log _ (t.order c) refl)
   where
     one : (z : Bool) → AllLegal (one_if z (b, d) ++ [])
     one true = (k, tt)
     one false = tt
 
-pub told_took : (log : List Entry) (c : ℕ) (b : Board) (d : Decision) → length (took c log) < length (sent c log) → Told log → Told (log ++ Took c b d ∷ [])
+-- a decision took effect that was sent and had not yet
+pub told_took : (log : List Entry) (c : ℕ) (b : Board) (d : Decision) → length (took c log) < length (sent c log)
+    → Told log → Told (log ++ Took c b d ∷ [])
 told_took log c b d lt t = grown log _ t tt tt tt tt (λ e. tt) (λ e. elim (eqb_tells e c) [
   | inl q ↦ subst (λ e. InOrder e (log ++ Took c b d ∷ [])) (sym q.1) (order_took c log b d (t.order c) lt)
-  | inr q ↦ order_more e log _ (t.order e) (ap (λ l. l ++ []) (one_of_false (nat_eq c e) (b, d) (other_number c e (λ z. q.1 (sym z)))))
+  | inr q ↦
+      order_more e log _ (t.order e)
+      (ap (λ l. l ++ []) (one_of_false (nat_eq c e) (b, d) (other_number c e (λ z. q.1 (sym z)))))
 ])

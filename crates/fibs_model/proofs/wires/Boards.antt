@@ -1,5 +1,6 @@
 -- What the client hears of the lines that the server sends, in whatever pieces their bytes come.
-use Rattle.std.proofs.Common.{◌≡◌, ℕ, true, false, List, [], ◌∷◌, ◌++◌, flat_map, take, drop, length, refl, sym, ◌∙◌, ap, append-nil, append_assoc, true≢false, take-append-drop}
+use Rattle.std.proofs.Common.{◌≡◌, ℕ, true, false, List, [], ◌∷◌, ◌++◌, flat_map, take, drop, length, refl, sym, ◌∙◌}
+use Rattle.std.proofs.Common.{ap, append-nil, append_assoc, true≢false, take-append-drop}
 use Rattle.std.proofs.Math.Seq.{drop-append_seam}
 use Rattle.std.proofs.lemmas.List.Concat.{flat_map-append}
 use Rattle.fibs_messages.specs.Board.{BoardFields as Board}
@@ -21,6 +22,7 @@ board_of (numbered_line m) = []
 board_of (text_line t) = []
 board_of (malformed_line n k f) = []
 
+-- the good boards of lines
 abbrev pub boards : List Line → List Board
 boards ls = flat_map (λ l. board_of (line_reading l)) ls
 
@@ -32,20 +34,25 @@ Whole bytes = (ts : List (List ℕ)) × (bytes ≡ flat_map on_wire ts)
 abbrev pub waiting : List Board → Link → List Board
 waiting hearing l = hearing ++ boards (gained l.heard l.coming)
 
+-- no bytes are whole lines
 pub whole_none : Whole []
 whole_none = ([], refl)
 
 module _ (law : Lawful) where
+  -- the lines of more bytes are those before and those gained
   pub lines_gained : (a b : List ℕ) → lines_of (a ++ b) ≡ lines_of a ++ gained a b
   lines_gained a b =
       let f = law.grow a b in
       let d : gained a b ≡ f.0 = ap (drop (length (lines_of a))) f.1 ∙ drop-append_seam (lines_of a) f.0 in
       f.1 ∙ ap (λ l. lines_of a ++ l) (sym d)
 
+  -- and only they are gained
   gained_is : (a b : List ℕ) (ls : List Line) → lines_of (a ++ b) ≡ lines_of a ++ ls → gained a b ≡ ls
   gained_is a b ls h = ap (drop (length (lines_of a))) h ∙ drop-append_seam (lines_of a) ls
 
-  whole_then : (ts : List (List ℕ)) (y : List ℕ) → lines_of (flat_map on_wire ts ++ y) ≡ lines_of (flat_map on_wire ts) ++ lines_of y
+  -- what follows whole lines is read as if it stood alone
+  whole_then : (ts : List (List ℕ)) (y : List ℕ)
+      → lines_of (flat_map on_wire ts ++ y) ≡ lines_of (flat_map on_wire ts) ++ lines_of y
   whole_then [] y = ap (λ l. l ++ lines_of y) (sym law.empty.0)
   whole_then (t ∷ ts) y =
       ap lines_of (append_assoc (on_wire t) (flat_map on_wire ts) y)
@@ -54,6 +61,7 @@ module _ (law : Lawful) where
       ∙ sym (append_assoc (lines_of (on_wire t)) (lines_of (flat_map on_wire ts)) (lines_of y))
       ∙ ap (λ l. l ++ lines_of y) (sym (law.alone t (flat_map on_wire ts)).lines)
 
+  -- one more line on the wire is gained behind the others
   pub gained_more : (a b t : List ℕ) → Whole (a ++ b) → gained a (b ++ on_wire t) ≡ gained a b ++ lines_of (on_wire t)
   gained_more a b t h = gained_is a (b ++ on_wire t) _
       (ap lines_of (sym (append_assoc a b (on_wire t)))
@@ -63,6 +71,7 @@ module _ (law : Lawful) where
       ∙ ap (λ l. l ++ lines_of (on_wire t)) (lines_gained a b)
       ∙ append_assoc (lines_of a) (gained a b) (lines_of (on_wire t)))
 
+  -- what is gained in two pieces
   pub gained_split : (a b : List ℕ) (n : ℕ) → gained a b ≡ gained a (take n b) ++ gained (a ++ take n b) (drop n b)
   gained_split a b n = gained_is a b _
       (ap (λ l. lines_of (a ++ l)) (sym (take-append-drop n b))
@@ -71,16 +80,20 @@ module _ (law : Lawful) where
       ∙ ap (λ l. l ++ gained (a ++ take n b) (drop n b)) (lines_gained a (take n b))
       ∙ append_assoc (lines_of a) (gained a (take n b)) (gained (a ++ take n b) (drop n b)))
 
+  -- no bytes gain no line
   pub gained_none : (a : List ℕ) → gained a [] ≡ []
   gained_none a = gained_is a [] [] (ap lines_of (append-nil a) ∙ sym (append-nil (lines_of a)))
 
+  -- one more line behind whole lines
   pub whole_more : (a b t : List ℕ) → Whole (a ++ b) → Whole (a ++ (b ++ on_wire t))
   whole_more a b t h = (
     h.0 ++ t ∷ [],
     sym (append_assoc a b (on_wire t)) ∙ ap (λ l. l ++ on_wire t) h.1
-        ∙ ap (λ l. flat_map on_wire h.0 ++ l) (sym (append-nil (on_wire t))) ∙ sym (flat_map-append on_wire h.0 (t ∷ [])),
+        ∙ ap (λ l. flat_map on_wire h.0 ++ l) (sym (append-nil (on_wire t)))
+        ∙ sym (flat_map-append on_wire h.0 (t ∷ [])),
   )
 
+  -- the same bytes, more of them delivered
   pub whole_split : (a b : List ℕ) (n : ℕ) → Whole (a ++ b) → Whole ((a ++ take n b) ++ drop n b)
   whole_split a b n h = (h.0, append_assoc a (take n b) (drop n b) ∙ ap (λ l. a ++ l) (take-append-drop n b) ∙ h.1)
 
@@ -92,7 +105,9 @@ module _ (law : Lawful) where
       ∙ flat_map-append (λ l. board_of (line_reading l)) (gained a b) (lines_of (on_wire t))
       ∙ ap (λ l. boards (gained a b) ++ l) k
 
-  pub boards_split : (a b : List ℕ) (n : ℕ) → boards (gained a b) ≡ boards (gained a (take n b)) ++ boards (gained (a ++ take n b) (drop n b))
+  -- the boards gained in two pieces
+  pub boards_split : (a b : List ℕ) (n : ℕ)
+      → boards (gained a b) ≡ boards (gained a (take n b)) ++ boards (gained (a ++ take n b) (drop n b))
   boards_split a b n = ap (boards) (gained_split a b n)
       ∙ flat_map-append (λ l. board_of (line_reading l)) (gained a (take n b)) (gained (a ++ take n b) (drop n b))
 
@@ -102,6 +117,7 @@ module _ (law : Lawful) where
       let p = law.prints_line b h in
       ap (boards) p.1 ∙ append-nil _ ∙ ap (board_of) p.2 ∙ ap (λ t. one_if t b) h
 
+  -- what does not read as a good board is none
   no_board : (x : ReadingValue) → reads_as_board x ≡ false → board_of x ≡ []
   no_board (board_line b) h = ap (λ t. one_if t b) h
   no_board (numbered_line m) h = refl

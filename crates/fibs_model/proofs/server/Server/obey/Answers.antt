@@ -5,4 +5,5 @@ use Rattle.fibs_model.proofs.server.Server.obey.Goals as goal
 
 pub invariant_of-self : goal.invariant_of-self
 invariant_of-self c =
-    (c.good_is_exact.ensures _).1 (c.effect_is_good.ensures _ _ _ _ ((c.effect.ensures.carried _).0 (ap (option_map fields_of) c.in-Some.is))).0
+    (c.good_is_exact.ensures _).1
+    (c.effect_is_good.ensures _ _ _ _ ((c.effect.ensures.carried _).0 (ap (option_map fields_of) c.in-Some.is))).0
