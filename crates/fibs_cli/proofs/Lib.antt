@@ -4,3 +4,4 @@ pub mod ShowLemmas
 pub mod PlaysLemmas
 pub mod ProgramLemmas
 pub mod TurnLemmas
+pub mod ConverseLemmas

@@ -6,3 +6,4 @@ pub mod Reads
 pub mod Plays
 pub mod Program
 pub mod Turns
+pub mod Converse

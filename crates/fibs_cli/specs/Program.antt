@@ -5,13 +5,14 @@ use Rattle.std.specs.Prelude.{string_bytes}
 use Rattle.fibs_messages.specs.Board.{BoardFields}
 use Rattle.fibs_messages.specs.Line.{ReadingValue, board_line, IsReading}
 use Rattle.fibs_position.specs.GoodBoard.{IsGood}
+use Rattle.fibs_cli.specs.Converse.Ending.{Conversed}
 use Rattle.fibs_cli.specs.Plays.{PlaysText, Refusal}
 use Rattle.fibs_cli.specs.Show.{WroteAll, WroteRead, WroteLines, WroteFront}
 use Rattle.fibs_cli.specs.Writing.{GainedFront}
 use Rattle.fibs_cli.specs.declared.arguments.Answer.{Answer}
 use Rattle.fibs_cli.specs.declared.arguments.Answer.TheVariants.{Engine, Help, Refused, Memory}
 use Rattle.fibs_cli.specs.declared.arguments.Request.{Request}
-use Rattle.fibs_cli.specs.declared.arguments.Request.TheVariants.{Show, Plays}
+use Rattle.fibs_cli.specs.declared.arguments.Request.TheVariants.{Show, Plays, Connect}
 use Rattle.fibs_cli.specs.declared.fault.EngineFault.{EngineFault}
 use Rattle.fibs_cli.specs.declared.fault.EngineFault.TheVariants as fault
 
@@ -46,6 +47,7 @@ Played line result held now other then =
 abbrev pub Served : Request → Result ℕ EngineFault → Option (List ℕ) → Option (List ℕ) → Option (List ℕ) → Option (List ℕ) → Option (List ℕ) → Option (List ℕ) → Type 0
 Served Show result left still held now other then = Showed result left still held now × Keeps other then
 Served (Plays line) result left still held now other then = Played line.now result held now other then × Keeps left still
+Served (Connect host port name) result left still held now other then = Conversed name.now result left held now other then
 
 -- a command line is answered so: help is printed on standard output with status 0, and what is wrong with it on standard error
 -- with status 2

@@ -2,6 +2,7 @@
 ghost use Rattle.std.specs.Prelude.{◌≡◌, ◌≢◌};
 
 use clap::error::ErrorKind;
+use clap::builder::ValueParser;
 use clap::{Arg, ArgMatches, Command, Error};
 use std::alloc::{AllocError, Global};
 
@@ -12,6 +13,7 @@ Examples:
   fibs show < session.log        print what each line of a saved session says
   nc fibs.com 4321 | fibs show   the same of a connection, as its lines come
   fibs plays board:You:...       list the plays of a board
+  fibs connect HOST PORT NAME    log in, and play
 
 Exit status: 0 done, 2 wrong arguments, 3 refused input, 4 a device failed, 5 out of memory";
 
@@ -59,6 +61,51 @@ For any other LINE it prints nothing, says why on standard error, and ends with 
   position WHY            it is not a board of one who plays: WHY is NotYou (field 2),
                           TooManyOwn or TooManyOther (more than 15 checkers)";
 
+const CONNECT: &str = "Log in at a server, and play";
+
+const CONNECT_LONG: &str = "\
+Log in at a server, and play.
+
+HOST is a name or an address, PORT 1 to 65535. The first line of standard input is the password: it is
+never printed, but a terminal shows what is typed. This hides it, and shows what is typed after it:
+
+  stty -echo; { head -n 1; stty echo; cat; } | fibs connect fibs.com 4321 ann
+
+Then each line that is typed is one of
+
+  roll                    roll the dice
+  move 8-5 6-5            play, in the places of the board line; `move bar-20`, `move 3-off`
+  double, accept, reject  offer the cube, take it, give the game up
+  board                   ask for the board again
+  who                     ask for the list of players
+  say good luck           to the opponent; so `kibitz TEXT` and `whisper TEXT` to those who watch
+  tell bob hello          to a player; `message bob hello` leaves it, `shout hello` is for all
+  invite bob 5            to a match of 5 points; `invite bob` to resume one
+  join bob                the match to which bob invites; `join` too
+  toggle ready            whether you are ready to play
+  toggle automove         turn off what the server plays by itself; so `toggle greedy`
+  bye                     leave the server
+  an empty line           hear what the server has sent meanwhile
+  players                 list the players that are known
+  open                    connect again
+  quit                    end; so does the end of the input
+
+and is answered by one of
+
+  sent COMMAND            it went to the server
+  refused NUMBER WHY      it can't be sent now, or is against the rules: nothing was sent
+  fault NUMBER WHY        a name or a text is none
+  unknown                 it is no command, or has more than 4096 bytes
+  player NAME RATING      for `players`, a line for each
+  no connection           the server can't be reached
+
+After each line the server is heard until it is quiet for half a second. What it sends is printed as
+by `fibs show`, after a board `phase PHASE`, and `confirmed COMMAND` where it shows that a move was made.
+`lost`, or `lost COMMAND` with what was not confirmed, says that the connection is over: nothing is
+sent again by itself, and `open` shows where the game stands.
+
+A password or NAME that is none ends it with status 3, and `fault NUMBER WHY` on standard error.";
+
 /// What the command line asks for.
 #[derive(Clone, Copy, Debug, PartialEq, Eq)]
 pub enum Request<'a> {
@@ -66,6 +113,15 @@ pub enum Request<'a> {
     Show,
     /// To list the plays of a board line.
     Plays(&'a str),
+    /// To talk with a server.
+    Connect {
+        /// The server's name or address.
+        host: &'a str,
+        /// Its port.
+        port: u16,
+        /// The player's name.
+        name: &'a str,
+    },
 }
 
 /// What a command line is answered by.
@@ -128,7 +184,8 @@ fn command<'a>(alloc: Global) -> Result<Command<'a>, AllocError> {
         .after_help(EXAMPLES)
         .subcommand_required(true)
         .subcommand(show(alloc))?
-        .subcommand(plays(alloc)?)
+        .subcommand(plays(alloc)?)?
+        .subcommand(connect(alloc)?)
 }
 
 fn show<'a>(alloc: Global) -> Command<'a> {
@@ -144,11 +201,26 @@ fn plays<'a>(alloc: Global) -> Result<Command<'a>, AllocError> {
         .arg(Arg::new(alloc, "LINE").required(true))
 }
 
+fn connect<'a>(alloc: Global) -> Result<Command<'a>, AllocError> {
+    let port = Arg::new(alloc, "PORT").value_parser(ValueParser::unsigned(1, 65535));
+    Command::new(alloc, "connect")
+        .about(CONNECT)
+        .long_about(CONNECT_LONG)
+        .arg(Arg::new(alloc, "HOST").required(true))?
+        .arg(port.required(true))?
+        .arg(Arg::new(alloc, "NAME").required(true))
+}
+
 fn request_of<'a>(matches: &ArgMatches<'a>) -> Option<Request<'a>> {
     let (word, matches) = matches.subcommand()?;
     match word {
         "show" => Some(Request::Show),
         "plays" => Some(Request::Plays(matches.get_str("LINE")?)),
+        "connect" => Some(Request::Connect {
+            host: matches.get_str("HOST")?,
+            port: matches.get_one("PORT")?,
+            name: matches.get_str("NAME")?,
+        }),
         _ => None,
     }
 }

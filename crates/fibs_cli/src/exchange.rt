@@ -10,8 +10,8 @@ ghost use Rattle.fibs_cli.specs.declared.writing.Progress.{Progress};
 
 mod hearing;
 pub mod link;
-mod printing;
-mod sending;
+pub(crate) mod printing;
+pub(crate) mod sending;
 mod typing;
 
 use crate::writing::Progress;
@@ -49,7 +49,7 @@ pub enum ExchangeFault {
 }
 
 /// The connection is over.
-fn end_connection<W: Write>(client: &mut Client, out: &mut W) -> Result<Ending, ExchangeFault>
+pub(crate) fn end_connection<W: Write>(client: &mut Client, out: &mut W) -> Result<Ending, ExchangeFault>
     ensures { IfOk result (λ e. (p : Progress) → (t : Talk) → StandsAfter client.old t → (wrote : Option (List ℕ)) →
         (players : List MessageValue) → Ended p t client.new (outside wrote (W.contents out.old) players)
         (outside wrote (W.contents out.new) players) e) }

@@ -1,7 +1,9 @@
 //! Why an engine stopped before its end.
 ghost use Rattle.std.specs.Prelude.{◌≡◌};
-ghost use Rattle.fibs_cli.specs.declared.fault.EngineFault.TheVariants.{Memory};
+ghost use Rattle.fibs_cli.specs.declared.fault.EngineFault.TheVariants.{Device, Memory};
 
+use crate::connect::TypedFault;
+use crate::exchange::ExchangeFault;
 use std::alloc::{AllocError, AllocFailed};
 use thiserror::Error;
 
@@ -34,6 +36,22 @@ impl From<AllocError> for EngineFault {
 
     fn from(_error: AllocError) -> EngineFault {
         EngineFault::Memory
+    }
+}
+
+impl From<ExchangeFault> for EngineFault {
+    ghost from_gives = { λ _ e. e ≡ Device };
+
+    fn from(_fault: ExchangeFault) -> EngineFault {
+        EngineFault::Device
+    }
+}
+
+impl From<TypedFault> for EngineFault {
+    ghost from_gives = { λ _ e. e ≡ Device };
+
+    fn from(_fault: TypedFault) -> EngineFault {
+        EngineFault::Device
     }
 }
 

@@ -2,6 +2,7 @@
 #![tactic(auto)]
 
 mod arguments;
+mod connect;
 mod exchange;
 mod fault;
 pub mod laws;
@@ -36,6 +37,7 @@ fn run(rt: &HostRuntime) -> Result<u8, EngineFault> {
         None => Answer::Refused(String::from_str(alloc, UNREADABLE)?),
     };
     program::answer(
+        rt,
         alloc,
         &answer,
         &mut rt.stdin(),

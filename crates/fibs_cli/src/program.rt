@@ -4,12 +4,14 @@ ghost use Rattle.std.specs.Io.KnownBytes.{Keeps};
 ghost use Rattle.fibs_cli.specs.Program.{Answered, Printed, Served, status_of};
 
 use crate::arguments::{Answer, Request};
+use crate::connect::converse;
 use crate::fault::EngineFault;
 use crate::plays::plays;
 use crate::show::show;
 use crate::writing::{Progress, write_bytes};
 use std::alloc::Global;
 use std::io::{Read, Write};
+use std::net::{Net, TcpStream};
 
 /// The exit status of a command line that is served, and of help.
 const DONE: u8 = 0;
@@ -18,7 +20,8 @@ const DONE: u8 = 0;
 const WRONG_LINE: u8 = 2;
 
 /// Does what a command line calls for: it runs an engine, prints help on `out`, or says on `err` what is wrong.
-pub fn answer<R: Read, W: Write, E: Write>(
+pub fn answer<N: Net<Stream = TcpStream>, R: Read, W: Write, E: Write>(
+    rt: &N,
     alloc: Global,
     answer: &Answer<'_>,
     input: &mut R,
@@ -29,7 +32,7 @@ pub fn answer<R: Read, W: Write, E: Write>(
         (W.contents out.old) (W.contents out.new) (E.contents err.old) (E.contents err.new) }
 {
     match answer {
-        Answer::Engine(request) => serve(alloc, *request, input, out, err),
+        Answer::Engine(request) => serve(rt, alloc, *request, input, out, err),
         Answer::Help(text) => print_text(text.as_bytes(), DONE, out),
         Answer::Refused(text) => print_text(text.as_bytes(), WRONG_LINE, err),
         Answer::Memory => Err(EngineFault::Memory),
@@ -37,7 +40,8 @@ pub fn answer<R: Read, W: Write, E: Write>(
 }
 
 /// Runs the engine that a request asks for.
-fn serve<R: Read, W: Write, E: Write>(
+fn serve<N: Net<Stream = TcpStream>, R: Read, W: Write, E: Write>(
+    rt: &N,
     alloc: Global,
     request: Request<'_>,
     input: &mut R,
@@ -50,6 +54,9 @@ fn serve<R: Read, W: Write, E: Write>(
     match request {
         Request::Show => show(alloc, input, out),
         Request::Plays(line) => plays(alloc, line.as_bytes(), out, err),
+        Request::Connect { host, port, name } => {
+            converse(rt, alloc, host, port, name.as_bytes(), input, out, err)
+        }
     }
 }
 

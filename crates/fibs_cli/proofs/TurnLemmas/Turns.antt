@@ -187,7 +187,7 @@ turned_nothing t c a empty at =
 
 -- ---- the next turn
 
-loses_offline : (t : Talk) → is_online (step t Lose).talk ≡ false
+pub loses_offline : (t : Talk) → is_online (step t Lose).talk ≡ false
 loses_offline t = go (is_online t) refl
   where
     go : (b : Bool) → is_online t ≡ b → is_online (step t Lose).talk ≡ false

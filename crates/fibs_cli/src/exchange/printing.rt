@@ -22,14 +22,14 @@ use std::io::Write;
 const DIRECTION_FIELD: usize = 43;
 
 /// Prints bytes.
-pub(super) fn print<W: Write>(bytes: &[u8], out: &mut W) -> Result<(), ExchangeFault>
+pub(crate) fn print<W: Write>(bytes: &[u8], out: &mut W) -> Result<(), ExchangeFault>
     ensures { OnOk result (Appends (W.contents out.old) (W.contents out.new) bytes.now) }
 {
     out.write_all(bytes).map_err(|_| ExchangeFault::Output)
 }
 
 /// Prints a number.
-pub(super) fn print_number<I: Integer, W: Write>(
+pub(crate) fn print_number<I: Integer, W: Write>(
     number: I,
     out: &mut W,
 ) -> Result<(), ExchangeFault>
@@ -39,7 +39,7 @@ pub(super) fn print_number<I: Integer, W: Write>(
 }
 
 /// Prints a line of a label and a text.
-pub(super) fn print_line<W: Write>(
+pub(crate) fn print_line<W: Write>(
     label: &[u8],
     text: &[u8],
     out: &mut W,
@@ -59,7 +59,7 @@ fn print_name<T: Display + Drop, W: Write>(name: T, out: &mut W) -> Result<(), E
 }
 
 /// Prints a line that says why something was not done: a label, and the number and the name of the reason.
-pub(super) fn print_reason<T: Display + Drop, W: Write>(
+pub(crate) fn print_reason<T: Display + Drop, W: Write>(
     label: &[u8],
     number: u8,
     name: T,

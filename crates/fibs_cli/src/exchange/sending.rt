@@ -34,7 +34,7 @@ pub(super) fn text_bytes(command: &CommandText) -> &[u8]
 }
 
 /// Writes a command and its line end.
-pub(super) fn send_command<S: Link>(command: &CommandText, stream: &mut S) -> Progress
+pub(crate) fn send_command<S: Link>(command: &CommandText, stream: &mut S) -> Progress
     ensures wrote { Wrote result (S.contents stream.old) (S.contents stream.new) (on_wire (text_of command.now)) }
     ensures apart { Keeps (S.remaining stream.old) (S.remaining stream.new) }
 {

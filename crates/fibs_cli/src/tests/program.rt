@@ -74,7 +74,7 @@ fn serves_each_request(rt: HostRuntime) -> Result<(), Fail> {
         let mut out = Pipe::new(b"", 1, After::End, 512);
         let mut err = Pipe::new(b"", 1, After::End, 512);
         let called = arguments::read(rt.alloc(), words.as_slice());
-        let ending = answer(rt.alloc(), &called, &mut input, &mut out, &mut err);
+        let ending = answer(&rt, rt.alloc(), &called, &mut input, &mut out, &mut err);
         assert_eq!(rt; ending, Ok(case.status), "{}", case.name);
         assert_eq!(rt; out.output(), case.out, "{}", case.name);
         assert_eq!(rt; err.output(), case.err, "{}", case.name);
@@ -100,7 +100,7 @@ fn answers_each_other_line(rt: HostRuntime) -> Result<(), Fail> {
         let mut out = Pipe::new(b"", 1, After::End, 4096);
         let mut err = Pipe::new(b"", 1, After::End, 4096);
         let called = arguments::read(rt.alloc(), line.as_slice());
-        let ending = answer(rt.alloc(), &called, &mut input, &mut out, &mut err);
+        let ending = answer(&rt, rt.alloc(), &called, &mut input, &mut out, &mut err);
         assert_eq!(rt; ending, Ok(wanted), "at {words:?}");
         assert_eq!(rt; out.output().is_empty(), wanted == 2, "at {words:?}");
         assert_eq!(rt; err.output().is_empty(), wanted == 0, "at {words:?}");
