@@ -49,7 +49,10 @@ pub enum ExchangeFault {
 }
 
 /// The connection is over.
-pub(crate) fn end_connection<W: Write>(client: &mut Client, out: &mut W) -> Result<Ending, ExchangeFault>
+pub(crate) fn end_connection<W: Write>(
+    client: &mut Client,
+    out: &mut W,
+) -> Result<Ending, ExchangeFault>
     ensures { IfOk result (λ e. (p : Progress) → (t : Talk) → StandsAfter client.old t → (wrote : Option (List ℕ)) →
         (players : List MessageValue) → Ended p t client.new (outside wrote (W.contents out.old) players)
         (outside wrote (W.contents out.new) players) e) }

@@ -59,13 +59,14 @@ parts_end start left line waiting new whole rest k found grows strips = go start
     go (Some typed) (Some xs) h =
         let cut : after 10 typed ≡ Some (rest ++ xs) = ap (after 10) h ∙ after-more 10 k.part (waiting ++ xs) k.endless ∙ after-front 10 waiting xs rest (sym found) in
         let front : before 10 typed ≡ k.part ++ before 10 waiting =
-            ap (before 10) h ∙ before-more 10 k.part (waiting ++ xs) k.endless ∙ ap (λ (l : List ℕ). k.part ++ l) (before-front 10 waiting xs rest (sym found)) in
+        ap (before 10) h ∙ before-more 10 k.part (waiting ++ xs) k.endless ∙ ap (λ (l : List ℕ). k.part ++ l) (before-front 10 waiting xs rest (sym found)) in
         let kept : new ≡ take 4098 (before 10 typed) = more_kept start (prepend_known waiting left) line (before 10 waiting) new k grows ∙ ap (take 4098) (sym front) in
         let some = cut-length 10 waiting rest (sym found) in
-        let long = ap (λ (l : List ℕ). length l) h in
-        (ap (take 4097) (strips ∙ ap strip_carriage_return kept) ∙ kept-line 4097 (before 10 typed) ∙ ap (λ (o : Option (List ℕ)). take 4097 (without_end (before 10 typed) o)) (sym cut),
-        ap rest_or_nothing (sym cut),
-        grind (arith, nat_tests, some, long, length-append))
+        let long = ap (λ (l : List ℕ). length l) h in (
+          ap (take 4097) (strips ∙ ap strip_carriage_return kept) ∙ kept-line 4097 (before 10 typed) ∙ ap (λ (o : Option (List ℕ)). take 4097 (without_end (before 10 typed) o)) (sym cut),
+          ap rest_or_nothing (sym cut),
+          grind (arith, nat_tests, some, long, length-append),
+        )
 
 longer_by : (n : ℕ) (l : List ℕ) → 0 < n → nat_lt 0 (length (take n l)) ≡ nat_lt 0 (length l)
 longer_by n l some = grind (arith, nat_tests, length-take n l)
@@ -81,19 +82,22 @@ parts_last start left line waiting new found k none grows over some = go start l
   where
     all : new ≡ take 4098 (k.part ++ waiting)
     all = more_kept start (prepend_known waiting left) line waiting new k (grows ∙ ap (λ (l : List ℕ). line ++ take (4098 - length line) l) (before-all 10 waiting none))
+
     endless : after 10 (k.part ++ waiting) ≡ None
     endless = after-more 10 k.part waiting k.endless ∙ none
+
     go : (a b : Option (List ℕ)) → Consumes a (prepend_known waiting b) k.part → IsAtEnd b → TakesLine a (prepend_known [] b) (kept_typed new) found
     go None b h o = tt
     go (Some typed) None h o = absurd h
     go (Some typed) (Some xs) h o =
         let whole : typed ≡ k.part ++ waiting = h ∙ ap (λ (l : List ℕ). k.part ++ (waiting ++ l)) o ∙ ap (λ (l : List ℕ). k.part ++ l) (append-nil waiting) in
         let cut : after 10 typed ≡ None = ap (after 10) whole ∙ endless in
-        let front : before 10 typed ≡ k.part ++ waiting = ap (before 10) whole ∙ before-all 10 (k.part ++ waiting) endless in
-        (ap (take 4097) (all ∙ ap (take 4098) (sym front)) ∙ take-take 4097 4098 (before 10 typed) (omega arith)
-        ∙ ap (λ (o : Option (List ℕ)). take 4097 (without_end (before 10 typed) o)) (sym cut),
-        o ∙ ap rest_or_nothing (sym cut),
-        some ∙ ap (λ (l : List ℕ). nat_lt 0 (length l)) all ∙ longer (k.part ++ waiting) ∙ ap (λ (l : List ℕ). nat_lt 0 (length l)) (sym whole))
+        let front : before 10 typed ≡ k.part ++ waiting = ap (before 10) whole ∙ before-all 10 (k.part ++ waiting) endless in (
+          ap (take 4097) (all ∙ ap (take 4098) (sym front)) ∙ take-take 4097 4098 (before 10 typed) (omega arith)
+              ∙ ap (λ (o : Option (List ℕ)). take 4097 (without_end (before 10 typed) o)) (sym cut),
+          o ∙ ap rest_or_nothing (sym cut),
+          some ∙ ap (λ (l : List ℕ). nat_lt 0 (length l)) all ∙ longer (k.part ++ waiting) ∙ ap (λ (l : List ℕ). nat_lt 0 (length l)) (sym whole),
+        )
 
 none_of : (o : Option (List ℕ)) → false ≡ is_some o → o ≡ None
 none_of None e = refl

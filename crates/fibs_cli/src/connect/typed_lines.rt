@@ -50,9 +50,9 @@ impl Model for TypedLines {
     ghost Value = { TypedValue };
 
     ghost view = { λ t. record {
-        waiting = take (t.filled - t.taken) (drop t.taken t.portion);
-        reads = t.reads;
-        ended = t.ended;
+      waiting = take (t.filled - t.taken) (drop t.taken t.portion);
+      reads = t.reads;
+      ended = t.ended;
     } };
 
     ghost invariant = { λ t. (t.taken ≤ t.filled) × (t.filled ≤ 1024) };

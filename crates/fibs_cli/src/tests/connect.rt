@@ -271,7 +271,10 @@ fn a_port_where_nothing_listens_gives_no_connection(rt: HostRuntime) -> Result<(
         &mut err,
     );
     assert_eq!(rt; ending, Ok(0));
-    assert_eq!(rt; out.output(), b"no connection\nrefused 2 Offline\n".as_slice());
+    assert_eq!(rt;
+        out.output(),
+        b"no connection\nrefused 2 Offline\n".as_slice()
+    );
     assert!(rt; err.output().is_empty());
     Ok(())
 }
@@ -298,7 +301,10 @@ fn a_socket_is_given_the_login_and_no_more(rt: HostRuntime) -> Result<(), Fail> 
     let (mut far, _peer) = listener.accept()?;
     let mut received = [0u8; 100];
     let count = far.read(&mut received)?;
-    assert_eq!(rt; &received[..count], b"login fibs_client 1008 ann secret\r\n".as_slice());
+    assert_eq!(rt;
+        &received[..count],
+        b"login fibs_client 1008 ann secret\r\n".as_slice()
+    );
     assert_eq!(rt; far.read(&mut received)?, 0);
     Ok(())
 }

@@ -17,8 +17,9 @@ returns-then-self-clause-takes g c = λ fits.
     c.if-take_to_end.ensures.found c.take_to_end.ensures.waiting c.take_to_end.ensures.line over c.is_empty.ensures
 
 pub loop-line-preserved : goal.loop-line-preserved
-loop-line-preserved g c = λ fits.
-    (λ e. (c.in_ok-read_portion.ensures.end e).1,
-    line_goes_on (ahead c.args.self.now (g.R.Read.remaining c.args.reader.now)) (g.R.Read.remaining c.loop-line.reader) (g.R.Read.remaining c.read_portion.new.reader)
-    c.loop-line.line.items c.loop-line.self.waiting c.take_to_end.new.line.items c.read_portion.new.self.waiting (c.loop-line.invariant fits).1
-    c.if-take_to_end.ensures.found c.take_to_end.ensures.line c.in_ok-read_portion.ensures.bytes)
+loop-line-preserved g c = λ fits. (
+  λ e. (c.in_ok-read_portion.ensures.end e).1,
+  line_goes_on (ahead c.args.self.now (g.R.Read.remaining c.args.reader.now)) (g.R.Read.remaining c.loop-line.reader) (g.R.Read.remaining c.read_portion.new.reader)
+      c.loop-line.line.items c.loop-line.self.waiting c.take_to_end.new.line.items c.read_portion.new.self.waiting (c.loop-line.invariant fits).1
+      c.if-take_to_end.ensures.found c.take_to_end.ensures.line c.in_ok-read_portion.ensures.bytes,
+)

@@ -6,9 +6,11 @@ use Rattle.fibs_cli.proofs.connect.typed_lines.TypedLines.take_to_end.Goals as g
 
 pub invariant_of-self-in-Some : goal.invariant_of-self-in-Some
 invariant_of-self-in-Some c =
-    let i = c.self.inside in
-    (window-fits i.taken i.filled i.portion c.split.result.0.now c.in-Some.field-0.now c.self.invariant.0 c.split.ensures.before
-    (ap seen (sym c.in-Some.is) ∙ c.split.ensures.after), c.self.invariant.1)
+    let i = c.self.inside in (
+      window-fits i.taken i.filled i.portion c.split.result.0.now c.in-Some.field-0.now c.self.invariant.0 c.split.ensures.before
+          (ap seen (sym c.in-Some.is) ∙ c.split.ensures.after),
+      c.self.invariant.1,
+    )
 
 pub returns-in-None-clause-found : goal.returns-in-None-clause-found
 returns-in-None-clause-found c =
