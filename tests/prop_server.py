@@ -1,5 +1,5 @@
 #!/usr/bin/env python3
-"""A small model of a backgammon server: a prop of the tests, and a server to try the program on. No part of the product.
+"""A small model of a backgammon server: a prop of the tests, and a server to try the program on. It is no product.
 
     prop_server.py [PORT [DICE..]]
 

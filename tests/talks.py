@@ -1,8 +1,8 @@
 #!/usr/bin/env python3
 """Tests the built program's `connect` on real sockets: tests/talks.py PROGRAM
 
-It plays both ends: it types what a player types, and is the server. It goes on where a line was printed, and never by the
-clock, so that a busy machine changes nothing. Prints a line for each case, and then `N passed, M failed`.
+It plays both ends: it types what a player types, and is the server. It goes on where a line was printed, and never by
+the clock, so that a busy machine changes nothing. Prints a line for each case, and then `N passed, M failed`.
 """
 
 import os
@@ -157,8 +157,8 @@ def a_game_from_login_to_the_end_with_a_lost_connection_in_the_middle(server):
     player.type('players')
     player.sees('player ann 1500.00', 'player bob 1623.50')
     for typed, answer in (
-            ('open', 'refused 1 AlreadyOpen'), ('double', 'refused 8 WrongKind'), ('move 5-3 3-2', 'refused 8 WrongKind'),
-            ('dance', 'unknown'), ('say ' + 'a' * 401, 'fault 3 TooLong'), ('toggle greedy', 'refused 10 NotOn')):
+            ('open', 'refused 1 AlreadyOpen'), ('double', 'refused 8 WrongKind'),
+            ('move 5-3 3-2', 'refused 8 WrongKind'), ('dance', 'unknown'), ('say ' + 'a' * 401, 'fault 3 TooLong'), ('toggle greedy', 'refused 10 NotOn')):
         player.type(typed)
         player.sees(answer)
     player.type('roll')
@@ -308,7 +308,8 @@ def passwords_and_names_that_are_none(server):
         ('a' * 65, b'secret\n', 'fault 1 BadName\n'),
     ]
     for name, typed, said in rows:
-        same('the run of %r, %r' % (name[:9], typed[:9]), run(['127.0.0.1', str(server.port), name], typed), (3, '', said))
+        same('the run of %r, %r' % (name[:9], typed[:9]), run(['127.0.0.1', str(server.port), name], typed),
+             (3, '', said))
     server.listener.setblocking(False)
     try:
         server.listener.accept()
@@ -452,8 +453,8 @@ def a_line_that_is_typed_in_parts(server):
 
 def output_that_cannot_be_written(server):
     with open('/dev/full', 'wb') as full:
-        done = subprocess.run([PROGRAM, 'connect', '127.0.0.1', str(free_port()), 'ann'], input=b'secret\n', stdout=full,
-                              stderr=subprocess.PIPE, timeout=PATIENCE)
+        done = subprocess.run([PROGRAM, 'connect', '127.0.0.1', str(free_port()), 'ann'], input=b'secret\n',
+                              stdout=full, stderr=subprocess.PIPE, timeout=PATIENCE)
         same('the run', (done.returncode, done.stderr), (4, b'fibs: device\n'))
     read_end, write_end = os.pipe()
     program = subprocess.Popen([PROGRAM, 'connect', '127.0.0.1', str(server.port), 'ann'], stdin=subprocess.PIPE,

@@ -1,6 +1,5 @@
 //! The engines and the program over streams in memory.
 
-mod connect;
 mod devices;
 mod exchange;
 mod pipe;

@@ -5,8 +5,8 @@ use Rattle.fibs_cli.specs.declared.connect.wish.Wish.{Wish}
 use Rattle.fibs_cli.specs.declared.connect.wish.Wish.TheVariants as W
 use Rattle.fibs_cli.specs.Converse.Typing.{typed_limit}
 
--- the conversation connects again, lists the players or ends; the line is too long; or the client takes a turn, with this
--- line or without one
+-- the conversation connects again, lists the players or ends; the line is too long; or the client takes a turn, with
+-- this line or without one
 pub data WishValue : Type 0 where
   connects : WishValue
   lists_players : WishValue

@@ -107,8 +107,10 @@ impl TypedLines {
         line: &mut TypedLine,
     ) -> Result<bool, TypedFault>
         ensures takes { IfOk result (λ found. FitsDevice self.old (R.remaining reader.old) →
-            TakesLine (ahead self.old (R.remaining reader.old)) (ahead self.new (R.remaining reader.new)) line.new.items found) }
-        ensures fits { OnOk result (FitsDevice self.old (R.remaining reader.old) → FitsDevice self.new (R.remaining reader.new)) }
+            TakesLine (ahead self.old (R.remaining reader.old)) (ahead self.new (R.remaining reader.new))
+            line.new.items found) }
+        ensures fits { OnOk result (FitsDevice self.old (R.remaining reader.old) →
+            FitsDevice self.new (R.remaining reader.new)) }
     {
         let found = self.read_to_end(reader, line)?;
         line.truncate(KEPT);
@@ -122,8 +124,10 @@ impl TypedLines {
         line: &mut TypedLine,
     ) -> Result<bool, TypedFault>
         ensures takes { IfOk result (λ found. FitsDevice self.old (R.remaining reader.old) →
-            TakesLine (ahead self.old (R.remaining reader.old)) (ahead self.new (R.remaining reader.new)) (kept_typed line.new.items) found) }
-        ensures fits { OnOk result (FitsDevice self.old (R.remaining reader.old) → FitsDevice self.new (R.remaining reader.new)) }
+            TakesLine (ahead self.old (R.remaining reader.old)) (ahead self.new (R.remaining reader.new))
+            (kept_typed line.new.items) found) }
+        ensures fits { OnOk result (FitsDevice self.old (R.remaining reader.old) →
+            FitsDevice self.new (R.remaining reader.new)) }
     {
         line.clear();
         loop {
@@ -163,7 +167,8 @@ impl TypedLines {
     fn take_to_end(&mut self, line: &mut TypedLine) -> bool
         ensures found { result ≡ is_some (after 10 self.old.waiting) }
         ensures waiting { self.new.waiting ≡ rest_or_nothing (after 10 self.old.waiting) }
-        ensures line { line.new.items ≡ line.old.items ++ take (4098 - length line.old.items) (before 10 self.old.waiting) }
+        ensures line { line.new.items ≡ line.old.items
+            ++ take (4098 - length line.old.items) (before 10 self.old.waiting) }
         ensures reads { self.new.reads ≡ self.old.reads }
         ensures ended { self.new.ended ≡ self.old.ended }
     {
