@@ -5,3 +5,5 @@ pub mod wires
 pub mod joint
 pub mod Final
 pub mod RealLaws
+pub mod Projection
+pub mod Likeness

@@ -15,3 +15,10 @@ pub mod Acts
 pub mod Joint
 pub mod Owed
 pub mod Laws
+pub mod Clients
+pub mod WireLinks
+pub mod LinksOf
+pub mod WorldOf
+pub mod Calls
+pub mod HearingOf
+pub mod WorldCalls

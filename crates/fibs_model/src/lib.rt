@@ -14,9 +14,11 @@ mod test_server;
 #[cfg(test)]
 mod test_wire;
 mod wire;
+mod world;
 
 pub use entry::Entry;
 pub use event::Event;
 pub use refusal::WorldRefusal;
 pub use run_end::RunEnd;
 pub use server::{Served, Server};
+pub use world::World;

@@ -1,0 +1,41 @@
+use Rattle.std.proofs.Common.{sym, refl, ◌∙◌}
+use Rattle.fibs_session.specs.Logins.{login_text}
+use Rattle.fibs_model.specs.EventOf.{event_of}
+use Rattle.fibs_model.specs.WorldCalls.{machine_after}
+use Rattle.fibs_model.proofs.Likeness.Stepping.{tells, told, stands_for, stands_more, stands_still}
+use Rattle.fibs_model.proofs.Likeness.Running.{headline_of}
+use Rattle.fibs_model.proofs.world.World.step.Goals as goal
+
+pub returns-in-Some-clause-refusal : goal.returns-in-Some-clause-refusal
+returns-in-Some-clause-refusal c = λ name password first events h.
+    tells c.in-Some.why _ (told (machine_after name password first events) (event_of c.args.event.now))
+    (sym c.in-Some.is ∙ c.refusal.ensures (login_text name password) (machine_after name password first events) (stands_for c.args.self.now name password first events h))
+
+pub returns-in-Some-clause-headline : goal.returns-in-Some-clause-headline
+returns-in-Some-clause-headline c = λ name password first events h.
+    headline_of c.headline.ensures.headline c.args.self.now name password first _ (stands_still c.args.self.now c.args.self.now name password first events refl h)
+
+pub returns-in-Ok-clause-refusal : goal.returns-in-Ok-clause-refusal
+returns-in-Ok-clause-refusal c = λ name password first events h.
+    sym (c.refusal.ensures (login_text name password) (machine_after name password first events) (stands_for c.args.self.now name password first events h)) ∙ c.in-None.is
+
+pub returns-in-Ok-clause-stands : goal.returns-in-Ok-clause-stands
+returns-in-Ok-clause-stands c = λ name password first events h.
+    stands_more c.args.self.now c.take.new.self name password first events (event_of c.args.event.now) h
+    (sym (c.refusal.ensures (login_text name password) (machine_after name password first events) (stands_for c.args.self.now name password first events h)) ∙ c.in-None.is)
+    c.in-Ok.ensures.ok
+
+pub returns-in-Ok-clause-headline : goal.returns-in-Ok-clause-headline
+returns-in-Ok-clause-headline c = λ name password first events h.
+    headline_of c.headline.ensures.headline c.take.new.self name password first _
+    (stands_more c.args.self.now c.take.new.self name password first events (event_of c.args.event.now) h
+    (sym (c.refusal.ensures (login_text name password) (machine_after name password first events) (stands_for c.args.self.now name password first events h)) ∙ c.in-None.is)
+    c.in-Ok.ensures.ok)
+
+pub returns-in-Err-clause-refusal : goal.returns-in-Err-clause-refusal
+returns-in-Err-clause-refusal c = λ name password first events h.
+    sym (c.refusal.ensures (login_text name password) (machine_after name password first events) (stands_for c.args.self.now name password first events h)) ∙ c.in-None.is
+
+pub returns-in-Err-clause-headline : goal.returns-in-Err-clause-headline
+returns-in-Err-clause-headline c = λ name password first events h.
+    headline_of c.headline.ensures.headline c.args.self.now name password first _ (stands_still c.args.self.now c.args.self.now name password first events refl h)

@@ -1,0 +1,17 @@
+use Rattle.std.proofs.Common.{arith}
+use Rattle.fibs_model.proofs.Likeness.Delivering.{heard_next, owed_at_most}
+use Rattle.fibs_model.proofs.world.delivering.hear_next.Goals as goal
+
+pub hear_link-requires-clause-bytes : goal.hear_link-requires-clause-bytes
+hear_link-requires-clause-bytes c =
+    let t = c.requires.talks.0 in
+    let room = c.requires.room c.index_mut.result.now c.index_mut.ensures.value in
+    (t, c.requires.talks.1, omega (arith, room, owed_at_most t))
+
+pub returns-clause-hears : goal.returns-clause-hears
+returns-clause-hears c =
+    let l = c.index_mut.result.now in
+    let all = c.args.links.now.ok.0 in
+    let own = l.to_server.ok.0 in
+    heard_next c.args.links.now.items c.args.conn l _ c.requires.some (omega (arith, all, c.requires.known)) c.index_mut.ensures.value
+    c.args.client.now _ c.args.n _ _ c.hear_link.ensures.hears c.hear_link.ensures.delivered c.hear_link.ensures.to_client c.hear_link.ensures.served (omega (arith, own, l.served_within))

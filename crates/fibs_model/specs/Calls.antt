@@ -1,0 +1,73 @@
+-- What the calls of a world do to its log and its wires.
+use Rattle.std.specs.Prelude.{◌≡◌, ℕ, ◌+◌, take, drop, Bool, true, false, not, ◌&&◌, ◌||◌, List, [], ◌∷◌, length, Option, Some, None, if◌then◌else◌, nat_eq, nat_lt, is_some}
+use Rattle.fibs_messages.specs.Board.{BoardFields}
+use Rattle.fibs_position.specs.DecisionValue.{DecisionValue}
+use Rattle.fibs_session.specs.declared.refusal.Refusal.{Refusal}
+use Rattle.fibs_session.specs.History.Log as L
+use Rattle.fibs_session.specs.History.Words.{is_empty}
+use Rattle.fibs_session.specs.History.Machine.{on_wire, wire_of}
+use Rattle.fibs_model.specs.LinksOf.{link_at, set_link}
+use Rattle.fibs_model.specs.Server as V
+use Rattle.fibs_model.specs.Server.{is_die}
+use Rattle.fibs_model.specs.WireLinks.{more_asked, more_coming, taken}
+use Rattle.fibs_model.specs.Wires.{Link, next_line}
+use Rattle.fibs_model.specs.ServerOf.{ServerValue, after_line}
+use Rattle.fibs_model.specs.declared.world.link.Link as C
+use Rattle.fibs_model.specs.declared.refusal.WorldRefusal.{WorldRefusal}
+use Rattle.fibs_model.specs.declared.refusal.WorldRefusal.TheVariants.{NoSuchConnection, BadDice, NothingToServe}
+
+-- commands go on the wire to the server
+abbrev pub ask_links : List Link → ℕ → List (List ℕ) → List Link
+ask_links links c [] = links
+ask_links links c (t ∷ ts) = set_link links c (more_asked (link_at links c) (wire_of (t ∷ ts)))
+
+-- a line goes to the connection logged in, where that is the open one
+abbrev pub send_links : ℕ → ℕ → List Link → List ℕ → List Link
+send_links logged_in c links line =
+    if nat_eq c logged_in && not (nat_eq logged_in 0) then set_link links c (more_coming (link_at links c) (on_wire line)) else links
+
+-- what is noted of a click with its answer, on the board shown
+abbrev pub click_entries : ℕ → DecisionValue → Option Refusal → Option BoardFields → List L.Entry
+click_entries c d (Some why) b = L.Clicked c d (Some why) ∷ []
+click_entries c d None None = L.Clicked c d None ∷ []
+click_entries c d None (Some b) = L.Clicked c d None ∷ L.Sent c b d ∷ []
+
+-- what is noted of a line that the server took, with its board before
+abbrev pub served_entries : ℕ → BoardFields → V.Served → List L.Entry
+served_entries c before V.Stale = []
+served_entries c before V.LoggedIn = L.LoggedIn c ∷ []
+served_entries c before (V.Took d b) = L.Took c before d ∷ []
+served_entries c before (V.Undone d) = L.Undone c before d ∷ []
+served_entries c before V.Answered = []
+
+-- the line is answered by the board
+abbrev pub is_answered : V.Served → Bool
+is_answered V.Stale = false
+is_answered V.LoggedIn = false
+is_answered (V.Took d b) = true
+is_answered (V.Undone d) = true
+is_answered V.Answered = true
+
+-- why a line of a connection may not be served
+abbrev pub serve_refusal : List Link → ℕ → ℕ → ℕ → ℕ → Option WorldRefusal
+serve_refusal links logged_in c d1 d2 =
+    if nat_eq c 0 || nat_lt (length links) c then Some NoSuchConnection
+    else (if not (is_die d1 && is_die d2) then Some BadDice
+    else (if nat_lt c logged_in || not (is_some (next_line (link_at links c).asked)) then Some NothingToServe else None))
+
+-- the server took the first len bytes that are on their way, with their line end, and this came of it
+pub record TakesLine (old new : ServerValue) (before after : C.Link) (c len d1 d2 : ℕ) (served : V.Served) : Type 0 where
+  pub answer : served ≡ V.answered old.board old.logged_in c (nat_eq before.served 0) (take len (drop before.served before.to_server.items)) d1 d2
+  pub server : new ≡ after_line old c served
+  pub wire : after.served ≡ before.served + (len + 2)
+  pub bytes : after.to_server.items ≡ before.to_server.items
+  pub delivered : after.delivered ≡ before.delivered
+  pub others : after.to_client.items ≡ before.to_client.items
+
+-- the server took the next line of a connection: it, and what is left
+pub record TakesNext (old new : ServerValue) (before after : List Link) (c d1 d2 : ℕ) (served : V.Served) : Type 0 where
+  pub line : List ℕ × List ℕ
+  pub next : next_line (link_at before c).asked ≡ Some line
+  pub answer : served ≡ V.answered old.board old.logged_in c (is_empty (link_at before c).served) line.0 d1 d2
+  pub server : new ≡ after_line old c served
+  pub links : after ≡ set_link before c (taken (link_at before c) (on_wire line.0) line.1)

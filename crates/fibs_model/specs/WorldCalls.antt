@@ -1,0 +1,48 @@
+-- What the calls of a world promise, in the words of the machine.
+use Rattle.std.specs.Prelude.{◌≡◌, ℕ, List, [], ◌∷◌, Option, None, Some, Result, Ok, Err}
+use Rattle.fibs_messages.specs.Board.{BoardFields}
+use Rattle.fibs_position.specs.GoodBoard.{IsGood}
+use Rattle.fibs_session.specs.Logins.{IsLogin, login_text}
+use Rattle.fibs_model.specs.Events.{Event}
+use Rattle.fibs_model.specs.Refusals.{refusal}
+use Rattle.fibs_model.specs.Runs.{MayBe, world_after}
+use Rattle.fibs_model.specs.World.{World}
+use Rattle.fibs_model.specs.WorldOf.{WorldValue, StandsFor}
+use Rattle.fibs_model.specs.declared.refusal.WorldRefusal.{WorldRefusal}
+use Rattle.fibs_model.specs.declared.refusal.WorldRefusal.TheVariants.{Memory}
+
+-- the machine's world after the events, from the first board on, for the login of a name and a password
+abbrev pub machine_after : List ℕ → List ℕ → BoardFields → List Event → World
+machine_after name password first events = world_after (login_text name password) first events
+
+pub record IsAfter (v : WorldValue) (name password : List ℕ) (first : BoardFields) (events : List Event) : Type 0 where
+  pub is_login : IsLogin name password
+  pub is_good : IsGood first
+  pub may_be : MayBe (login_text name password) first events
+  pub stands : StandsFor v (login_text name password) (machine_after name password first events)
+
+-- The world stands after the events: the name and the password are a login, the first board is good, the events may all be,
+-- one after another, and the world is what they make of it. Callers name it by this word, and never open it.
+unfoldable pub WorldStandsAfter : WorldValue → List ℕ → List ℕ → BoardFields → List Event → Type 0
+WorldStandsAfter v name password first events = IsAfter v name password first events
+
+-- why an event was refused, beside the table's answer: want of memory is told only where the table refuses nothing
+abbrev pub Tells : WorldRefusal → Option WorldRefusal → Type 0
+Tells Memory answer = answer ≡ None
+Tells why answer = answer ≡ Some why
+
+-- no refusal exactly where the table has none, but for want of memory
+abbrev pub Agrees : Option WorldRefusal → Option WorldRefusal → Type 0
+Agrees None answer = answer ≡ None
+Agrees (Some why) answer = Tells why answer
+
+-- the event, where it was accepted
+abbrev pub accepted : {E : Type 0} → Result (Unit {0}) E → Event → List Event
+accepted (Ok done) e = e ∷ []
+accepted (Err why) e = []
+
+-- a run stopped at the first event that is left: the table refuses it there, or there was no memory
+abbrev pub Stops : Option WorldRefusal → World → List Event → Type 0
+Stops None w left = left ≡ []
+Stops (Some why) w [] = ⊥
+Stops (Some why) w (e ∷ later) = Tells why (refusal w e)

@@ -1,0 +1,60 @@
+-- The world of the program, and the world of the machine for which it stands.
+use Rattle.std.specs.Prelude.{◌≡◌, ◌≤◌, ℕ, List, length, map, vec_len, None}
+use Rattle.fibs_session.specs.Calls.Standing.{ClientValue, StandsAfter}
+use Rattle.fibs_session.specs.History.Log.{Entry}
+use Rattle.fibs_session.specs.History.Words.{open_now}
+use Rattle.fibs_model.specs.Clients.{IsWorld}
+use Rattle.fibs_model.specs.EntryOf.{entry_of}
+use Rattle.fibs_model.specs.Events.{Event}
+use Rattle.fibs_model.specs.LinksOf.{seen, link_at}
+use Rattle.fibs_model.specs.Refusals.{refusal}
+use Rattle.fibs_model.specs.ServerOf.{ServerValue}
+use Rattle.fibs_model.specs.Wires.{Link}
+use Rattle.fibs_model.specs.World.{World, talk_of, after}
+use Rattle.fibs_model.specs.declared.world.World.TheInside.{Inside}
+
+-- what the program keeps of a world
+pub record WorldValue : Type 0 where
+  pub server : ServerValue
+  pub client : ClientValue
+  -- those of the connections, from 1 on
+  pub links : List Link
+  pub log : List Entry
+  -- the connection that is open, or 0
+  pub current : ℕ
+
+abbrev pub world_of : Inside → WorldValue
+world_of w = record {
+  server = w.server;
+  client = w.client;
+  links = seen w.links.items;
+  log = map entry_of w.log.items;
+  current = w.current;
+}
+
+-- It stands for a world of the machine, for the command that logs the user in: all that the machine holds is read from
+-- it, connection by connection.
+pub record StandsFor (v : WorldValue) (login : List ℕ) (w : World) : Type 0 where
+  pub board : v.server.board ≡ w.board
+  pub logged_in : v.server.logged_in ≡ w.logged_in
+  pub count : length v.links ≡ w.count
+  pub log : v.log ≡ w.log
+  pub current : v.current ≡ open_now w.log
+  pub links : (c : ℕ) → w.links c ≡ link_at v.links c
+  pub client : StandsAfter v.client (talk_of login w)
+  pub sound : IsWorld w
+
+-- it stands for some world
+pub record IsKept (w : Inside) : Type 0 where
+  pub known : w.current ≤ vec_len w.links
+  pub login : List ℕ
+  pub world : World
+  pub stands : StandsFor (world_of w) login world
+
+-- the event may be in each world for which it stands
+abbrev pub May : WorldValue → Event → Type 0
+May v e = (login : List ℕ) (w : World) → StandsFor v login w → refusal w e ≡ None
+
+-- for each world for which it stood, it stands for the world after the event
+abbrev pub Goes : WorldValue → WorldValue → Event → Type 0
+Goes old new e = (login : List ℕ) (w : World) → StandsFor old login w → StandsFor new login (after login w e)

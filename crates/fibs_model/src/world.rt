@@ -1,0 +1,175 @@
+//! The world: a server, a client, and the wires between them.
+
+ghost use Rattle.std.specs.Prelude.{◌≡◌, ◌≤◌, ◌≢◌, ◌↔◌, ◌++◌, ℕ, List, [], None, Some, Option, IsOk, IfOk, OnErr, length, map, take, drop, option_map, if◌then◌else◌};
+ghost use Rattle.std.specs.Option.{option_copied};
+ghost use Rattle.std.specs.Result.{result_err};
+ghost use Rattle.fibs_messages.specs.Board.{BoardFields};
+ghost use Rattle.fibs_messages.specs.StoredBoard.{fields_of};
+ghost use Rattle.fibs_position.specs.GoodBoard.{IsGood, good};
+ghost use Rattle.fibs_session.specs.History.Words.{last, shown, open_now};
+ghost use Rattle.fibs_session.specs.LoginOf.{name_of, password_of};
+ghost use Rattle.fibs_model.specs.EntryOf.{entry_of};
+ghost use Rattle.fibs_model.specs.EventOf.{event_of};
+ghost use Rattle.fibs_model.specs.Events as E;
+ghost use Rattle.fibs_model.specs.Headline.{Headline};
+ghost use Rattle.fibs_model.specs.Refusals.{refusal};
+ghost use Rattle.fibs_model.specs.WorldCalls.{WorldStandsAfter, machine_after, Agrees, Stops, accepted};
+
+mod clicking;
+mod delivering;
+mod hearing;
+mod link;
+mod links;
+mod losing;
+mod opening;
+mod refusing;
+mod sending;
+mod serving;
+mod stepping;
+
+use crate::entry::Entry;
+use crate::event::Event;
+use crate::laws;
+use crate::refusal::WorldRefusal;
+use crate::run_end::RunEnd;
+use crate::server::Server;
+use fibs_messages::Board;
+use fibs_session::{Client, Login};
+use link::Link;
+use std::alloc::Global;
+use std::marker::Model;
+
+/// A model of a server, a client, the wires of each of their connections, and the log of what happened.
+///
+/// `new` makes one, `step` and `run` do events, and `log` tells what they led to: a function of the first board and of the
+/// events, in which all choices stand. Of every list of events the headline holds.
+#[derive(Drop)]
+pub struct World {
+    alloc: Global,
+    server: Server,
+    client: Client,
+    links: Vec<Link>,
+    log: Vec<Entry>,
+    /// The connection that is open, or 0.
+    current: usize,
+}
+
+impl Model for World {
+    ghost use Rattle.fibs_model.specs.WorldOf.{WorldValue, world_of, IsKept};
+
+    ghost Value = { WorldValue };
+
+    ghost view = { world_of };
+
+    ghost invariant = { IsKept };
+}
+
+impl World {
+    ghost use Rattle.fibs_model.specs.declared.refusal.WorldRefusal.TheVariants.{BadBoard};
+
+    /// A world in which nothing has happened, with a first board of the server and the login of the user.
+    ///
+    /// `BadBoard` where the board is not good, and no other refusal.
+    pub fn new(alloc: Global, board: Board, login: Login) -> Result<World, WorldRefusal>
+        ensures refusal { result_err result ≡ (if good (fields_of board) then None else Some BadBoard) }
+        ensures stands { IfOk result (λ world.
+            WorldStandsAfter world (name_of login) (password_of login) (fields_of board) []) }
+    {
+        fibs_position::laws::good_is_exact();
+        match Server::new(board) {
+            Err(_) => Err(WorldRefusal::BadBoard),
+            Ok(server) => Ok(World {
+                alloc,
+                server,
+                client: Client::new(login),
+                links: Vec::new(alloc),
+                log: Vec::new(alloc),
+                current: 0,
+            }),
+        }
+    }
+
+    /// Does one event, or says why it may not be: the first refusal of the event's line, and `Memory` only where no other
+    /// holds. A refused event changes nothing.
+    pub fn step(&mut self, event: &Event<'_>) -> Result<(), WorldRefusal>
+        ensures refusal { (name password : List ℕ) (first : BoardFields) (events : List E.Event) →
+            WorldStandsAfter self.old name password first events →
+            Agrees (result_err result) (refusal (machine_after name password first events) (event_of event.now)) }
+        ensures refused { OnErr result (self.new ≡ self.old) }
+        ensures stands { (name password : List ℕ) (first : BoardFields) (events : List E.Event) →
+            WorldStandsAfter self.old name password first events →
+            WorldStandsAfter self.new name password first (events ++ accepted result (event_of event.now)) }
+        ensures headline { (name password : List ℕ) (first : BoardFields) (events : List E.Event) →
+            WorldStandsAfter self.old name password first events →
+            Headline (machine_after name password first (events ++ accepted result (event_of event.now))) }
+    {
+        laws::headline();
+        match self.refusal(event) {
+            Some(why) => Err(why),
+            None => match self.take(event) {
+                Ok(()) => Ok(()),
+                Err(_) => Err(WorldRefusal::Memory),
+            },
+        }
+    }
+
+    /// Does the events, one after another, up to the first that may not be; says how many it did, and why it stopped.
+    ///
+    /// The world then stands after the events before and those done, and of this whole list the headline holds.
+    pub fn run(&mut self, events: &[Event<'_>]) -> RunEnd
+        ensures within { result.done ≤ length events.now }
+        ensures all { result.refusal ≡ None ↔ result.done ≡ length events.now }
+        ensures stops { (name password : List ℕ) (first : BoardFields) (before : List E.Event) →
+            WorldStandsAfter self.old name password first before →
+            Stops result.refusal (machine_after name password first (before ++ take result.done (map event_of events.now)))
+            (drop result.done (map event_of events.now)) }
+        ensures stands { (name password : List ℕ) (first : BoardFields) (before : List E.Event) →
+            WorldStandsAfter self.old name password first before →
+            WorldStandsAfter self.new name password first (before ++ take result.done (map event_of events.now)) }
+        ensures log { (name password : List ℕ) (first : BoardFields) (before : List E.Event) →
+            WorldStandsAfter self.old name password first before →
+            self.new.log
+            ≡ (machine_after name password first (before ++ take result.done (map event_of events.now))).log }
+        ensures headline { (name password : List ℕ) (first : BoardFields) (before : List E.Event) →
+            WorldStandsAfter self.old name password first before →
+            Headline (machine_after name password first (before ++ take result.done (map event_of events.now))) }
+    {
+        laws::headline();
+        let mut done = 0;
+        for event in events {
+            match self.step(event) {
+                Ok(()) => done += 1,
+                Err(why) => {
+                    return RunEnd {
+                        done,
+                        refusal: Some(why),
+                    };
+                }
+            }
+        }
+        RunEnd {
+            done,
+            refusal: None,
+        }
+    }
+
+    /// The board that the client shows.
+    pub fn shown(&self) -> Option<&Board>
+        ensures { (name password : List ℕ) (first : BoardFields) (events : List E.Event) →
+            WorldStandsAfter self.now name password first events →
+            option_map fields_of (option_copied result)
+            ≡ last (shown (open_now (machine_after name password first events).log) (machine_after name password first events).log) }
+    {
+        self.client.shown()
+    }
+
+    /// What happened, the oldest first.
+    pub fn log(&self) -> &[Entry]
+        ensures value { map entry_of result.now ≡ self.now.log }
+        ensures log { (name password : List ℕ) (first : BoardFields) (events : List E.Event) →
+            WorldStandsAfter self.now name password first events →
+            map entry_of result.now ≡ (machine_after name password first events).log }
+    {
+        &self.log
+    }
+}

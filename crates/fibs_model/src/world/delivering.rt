@@ -1,0 +1,109 @@
+//! Bytes go to the client.
+
+ghost use Rattle.std.specs.Prelude.{◌≡◌, ◌≤◌, ◌<◌, ◌+◌, ◌++◌, count_by, length, map, take, drop, vec_len, vec_capacity, OnOk, OnErr};
+ghost use Rattle.fibs_lines.specs.Lines.{is_line_end};
+ghost use Rattle.fibs_session.specs.History.Machine.{Talk};
+ghost use Rattle.fibs_session.specs.History.Owing.{owed};
+ghost use Rattle.fibs_model.specs.EntryOf.{entry_of};
+ghost use Rattle.fibs_model.specs.Events as E;
+ghost use Rattle.fibs_model.specs.HearingOf.{HearsPiece, HearsNext, IsTalking};
+ghost use Rattle.fibs_model.specs.LinksOf.{seen, link_at, RoomToServer};
+ghost use Rattle.fibs_model.specs.WorldOf.{May, Goes};
+
+use super::World;
+use super::hearing::hear_all;
+use super::link::Link;
+use super::links::make_room;
+use crate::entry::Entry;
+use crate::wire::line_ends;
+use fibs_session::Client;
+use std::alloc::AllocError;
+
+/// The most bytes of commands that the lines of a connection make the client hand out.
+const OWED: usize = 62;
+
+/// The next `n` bytes to the client, or all if they are fewer.
+fn next_bytes(link: &Link, n: usize) -> &[u8]
+    ensures { result.now ≡ take n (drop link.now.delivered link.now.to_client.items) }
+{
+    let ahead = &link.to_client[link.delivered..];
+    &ahead[..n.min(ahead.len())]
+}
+
+/// How many line ends there are among the next bytes to the client of a connection.
+fn ends_ahead(links: &[Link], conn: usize, n: usize) -> usize
+    requires some { 0 < conn }
+    requires known { conn ≤ length links.now }
+    ensures { result ≡ count_by is_line_end (take n (link_at (seen links.now) conn).coming) }
+{
+    line_ends(next_bytes(&links[conn - 1], n))
+}
+
+/// The next bytes go to the client, which has room for all that they add.
+fn hear_link(client: &mut Client, conn: usize, link: &mut Link, n: usize, log: &mut Vec<Entry>)
+    requires some { 0 < conn }
+    requires entries { vec_len log.old
+        + count_by is_line_end (take n (drop link.old.delivered link.old.to_client.items)) ≤ vec_capacity log.old }
+    requires bytes { (t : Talk) × IsTalking client.old conn t
+        × (vec_len link.old.to_server + owed t ≤ vec_capacity link.old.to_server) }
+    ensures hears { HearsPiece client.old client.new conn (take n (drop link.old.delivered link.old.to_client.items))
+        (map entry_of log.old.items) (map entry_of log.new.items) link.old.to_server.items link.new.to_server.items }
+    ensures delivered { link.new.delivered
+        ≡ link.old.delivered + length (take n (drop link.old.delivered link.old.to_client.items)) }
+    ensures to_client { link.new.to_client.items ≡ link.old.to_client.items }
+    ensures served { link.new.served ≡ link.old.served }
+{
+    let len = next_bytes(link, n).len();
+    let to = link.delivered + len;
+    hear_all(
+        client,
+        conn,
+        &link.to_client[link.delivered..to],
+        log,
+        &mut link.to_server,
+    );
+    link.delivered = to;
+}
+
+/// The next bytes of a connection go to the client.
+fn hear_next(
+    client: &mut Client,
+    links: &mut Vec<Link>,
+    conn: usize,
+    n: usize,
+    log: &mut Vec<Entry>,
+)
+    requires some { 0 < conn }
+    requires known { conn ≤ vec_len links.old }
+    requires entries { vec_len log.old
+        + count_by is_line_end (take n (link_at (seen links.old.items) conn).coming) ≤ vec_capacity log.old }
+    requires room { RoomToServer links.old.items conn 62 }
+    requires talks { (t : Talk) × IsTalking client.old conn t }
+    ensures hears { HearsNext client.old client.new conn n (seen links.old.items) (seen links.new.items)
+        (map entry_of log.old.items) (map entry_of log.new.items) }
+    ensures len { vec_len links.new ≡ vec_len links.old }
+{
+    hear_link(client, conn, &mut links[conn - 1], n, log);
+}
+
+impl World {
+    /// The next `n` bytes go to the client, or all if they are fewer.
+    pub(super) fn deliver(&mut self, n: usize) -> Result<(), AllocError>
+        requires may { May self.old (E.Deliver n) }
+        ensures ok { OnOk result (Goes self.old self.new (E.Deliver n)) }
+        ensures err { OnErr result (self.new ≡ self.old) }
+    {
+        fibs_session::client::laws::servers_entries_are_silent();
+        make_room(&mut self.links, self.current, 0, OWED)?;
+        let ends = ends_ahead(&self.links, self.current, n);
+        self.log.reserve(ends)?;
+        hear_next(
+            &mut self.client,
+            &mut self.links,
+            self.current,
+            n,
+            &mut self.log,
+        );
+        Ok(())
+    }
+}

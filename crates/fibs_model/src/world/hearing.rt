@@ -1,0 +1,126 @@
+//! The client hears bytes, with room for all that they add.
+
+ghost use Rattle.std.specs.Prelude.{◌≡◌, ◌≤◌, ◌<◌, ◌+◌, ◌++◌, ℕ, List, length, count_by, map, take, drop, vec_len, vec_capacity};
+ghost use Rattle.fibs_lines.specs.Lines.{is_line_end};
+ghost use Rattle.fibs_messages.specs.Message.{message_of};
+ghost use Rattle.fibs_messages.specs.Line.{reading_of};
+ghost use Rattle.fibs_session.specs.Calls.SessionOf.{texts_of};
+ghost use Rattle.fibs_session.specs.Calls.Standing.{StandsAfter};
+ghost use Rattle.fibs_session.specs.History.Hearing.{heard, heard_message};
+ghost use Rattle.fibs_session.specs.History.Log as L;
+ghost use Rattle.fibs_session.specs.History.Machine.{Talk, Piece, step, wire_of};
+ghost use Rattle.fibs_session.specs.History.Owing.{owed};
+ghost use Rattle.fibs_model.specs.EntryOf.{entry_of};
+ghost use Rattle.fibs_model.specs.HearingOf.{HearsPiece, IsTalking};
+
+use crate::entry::Entry;
+use crate::server::is_good;
+use crate::wire::put;
+use fibs_messages::{Message, Reading};
+use fibs_session::{Client, CommandText};
+
+/// Notes a message.
+fn note_message(log: &mut Vec<Entry>, conn: usize, message: &Message<'_>)
+    requires room { vec_len log.old + 1 ≤ vec_capacity log.old }
+    ensures items { (before : List L.Entry) → map entry_of log.new.items
+        ≡ map entry_of log.old.items ++ (heard_message conn before (message_of message.now)).entries }
+    ensures len { vec_len log.new ≤ vec_len log.old + 1 }
+    ensures capacity { vec_capacity log.old ≤ vec_capacity log.new }
+{
+    match message {
+        Message::Welcome { .. } => log.push_reserved(Entry::Welcomed { conn }),
+        Message::OwnInfo(info) => log.push_reserved(Entry::Informed {
+            conn,
+            automove: info.automove,
+            greedy: info.greedy,
+        }),
+        _ => {}
+    }
+}
+
+/// Notes a line by its reading.
+fn note(log: &mut Vec<Entry>, conn: usize, reading: &Reading<'_>)
+    requires room { vec_len log.old + 1 ≤ vec_capacity log.old }
+    ensures items { (before : List L.Entry) → map entry_of log.new.items
+        ≡ map entry_of log.old.items ++ (heard conn before (reading_of reading.now)).entries }
+    ensures len { vec_len log.new ≤ vec_len log.old + 1 }
+    ensures capacity { vec_capacity log.old ≤ vec_capacity log.new }
+{
+    match reading {
+        Reading::Numbered(message) => note_message(log, conn, message),
+        Reading::Board(board) => {
+            if is_good(board) {
+                log.push_reserved(Entry::Shown {
+                    conn,
+                    board: *board,
+                });
+            }
+        }
+        Reading::Text(_) | Reading::Malformed { .. } => {}
+    }
+}
+
+/// Puts commands on a wire that has room for them.
+fn put_all(wire: &mut Vec<u8>, commands: &[CommandText])
+    requires room { vec_len wire.old + length (wire_of (texts_of commands.now)) ≤ vec_capacity wire.old }
+    ensures items { wire.new.items ≡ wire.old.items ++ wire_of (texts_of commands.now) }
+    ensures len { vec_len wire.new ≡ vec_len wire.old + length (wire_of (texts_of commands.now)) }
+    ensures capacity { vec_capacity wire.old ≤ vec_capacity wire.new }
+{
+    for command in commands {
+        put(wire, command.as_bytes());
+    }
+}
+
+/// Reads a front of the piece, and takes down what the line that ends with it gives. Says how long the front is.
+fn hear_line(
+    client: &mut Client,
+    conn: usize,
+    piece: &[u8],
+    log: &mut Vec<Entry>,
+    wire: &mut Vec<u8>,
+) -> usize
+    requires some { 0 < conn }
+    requires entries { vec_len log.old + count_by is_line_end piece.now ≤ vec_capacity log.old }
+    requires bytes { (t : Talk) × IsTalking client.old conn t × (vec_len wire.old + owed t ≤ vec_capacity wire.old) }
+    ensures in_range { result ≤ length piece.now }
+    ensures progress { 0 < length piece.now → 0 < result }
+    ensures hears { HearsPiece client.old client.new conn (take result piece.now)
+        (map entry_of log.old.items) (map entry_of log.new.items) wire.old.items wire.new.items }
+    ensures entries { vec_len log.new + count_by is_line_end (drop result piece.now) ≤ vec_capacity log.new }
+    ensures bytes { (t : Talk) → IsTalking client.old conn t → vec_len wire.old + owed t ≤ vec_capacity wire.old →
+        vec_len wire.new + owed (step t (Piece (take result piece.now))).talk ≤ vec_capacity wire.new }
+{
+    fibs_lines::laws::lines_are_at_most_the_line_ends();
+    fibs_session::client::laws::pieces_take_from_what_is_owed();
+    let heard = client.read(piece);
+    let got = client.got(heard);
+    if let Some(taken) = &got.taken {
+        note(log, conn, &taken.reading);
+        put_all(wire, taken.send.as_slice());
+    }
+    got.used
+}
+
+/// The client hears the whole piece.
+pub(super) fn hear_all(
+    client: &mut Client,
+    conn: usize,
+    piece: &[u8],
+    log: &mut Vec<Entry>,
+    wire: &mut Vec<u8>,
+)
+    requires some { 0 < conn }
+    requires entries { vec_len log.old + count_by is_line_end piece.now ≤ vec_capacity log.old }
+    requires bytes { (t : Talk) × IsTalking client.old conn t × (vec_len wire.old + owed t ≤ vec_capacity wire.old) }
+    ensures hears { HearsPiece client.old client.new conn piece.now
+        (map entry_of log.old.items) (map entry_of log.new.items) wire.old.items wire.new.items }
+{
+    fibs_session::client::laws::pieces_join();
+    fibs_session::client::laws::empty_piece_is_nothing();
+    let mut rest = piece;
+    while !rest.is_empty() {
+        let used = hear_line(client, conn, rest, log, wire);
+        rest = &rest[used..];
+    }
+}

@@ -1,0 +1,82 @@
+//! Which events may not be.
+
+ghost use Rattle.std.specs.Prelude.{◌≡◌, ℕ, List, length, slice_index};
+ghost use Rattle.fibs_model.specs.Calls.{serve_refusal};
+ghost use Rattle.fibs_model.specs.EventOf.{event_of};
+ghost use Rattle.fibs_model.specs.LinksOf.{seen, link_at};
+ghost use Rattle.fibs_model.specs.Refusals.{refusal};
+ghost use Rattle.fibs_model.specs.Server.{is_die};
+ghost use Rattle.fibs_model.specs.World as W;
+ghost use Rattle.fibs_model.specs.WorldOf.{StandsFor};
+
+use super::World;
+use super::link::Link;
+use crate::event::Event;
+use crate::refusal::WorldRefusal;
+use crate::wire::{is_board_text, whole_line};
+
+/// It is a number of a die.
+fn is_die(number: u8) -> bool
+    ensures { result ≡ is_die number }
+{
+    0 < number && number < 7
+}
+
+/// Why a line of a connection may not be served.
+#[tactic(auto, unfolding(crate::specs::Calls::serve_refusal))]
+fn serve_refusal(
+    links: &[Link],
+    logged_in: usize,
+    conn: usize,
+    dice: [u8; 2],
+) -> Option<WorldRefusal>
+    ensures { result ≡ serve_refusal (seen links.now) logged_in conn (slice_index dice 0) (slice_index dice 1) }
+{
+    if conn == 0 || links.len() < conn {
+        return Some(WorldRefusal::NoSuchConnection);
+    }
+    if !(is_die(dice[0]) && is_die(dice[1])) {
+        return Some(WorldRefusal::BadDice);
+    }
+    let link = &links[conn - 1];
+    if conn < logged_in || whole_line(&link.to_server[link.served..]).is_none() {
+        return Some(WorldRefusal::NothingToServe);
+    }
+    None
+}
+
+impl World {
+    /// Why the event may not be. Want of memory is no part of it.
+    pub(super) fn refusal(&self, event: &Event<'_>) -> Option<WorldRefusal>
+        ensures { (login : List ℕ) (w : W.World) → StandsFor self.now login w → result ≡ refusal w (event_of event.now) }
+    {
+        match event {
+            Event::Open => {
+                if self.current == 0 {
+                    None
+                } else {
+                    Some(WorldRefusal::AlreadyOpen)
+                }
+            }
+            Event::Deliver(_) | Event::Lose(_) => {
+                if self.current == 0 {
+                    Some(WorldRefusal::NotOpen)
+                } else {
+                    None
+                }
+            }
+            Event::Serve { conn, dice } => {
+                serve_refusal(&self.links, self.server.logged_in(), *conn, *dice)
+            }
+            Event::Own(board) => self.server.own_refusal(board),
+            Event::Text(line) => {
+                if is_board_text(line) {
+                    Some(WorldRefusal::BoardAsText)
+                } else {
+                    None
+                }
+            }
+            Event::Click(_) | Event::Plain(_) | Event::Repeat => None,
+        }
+    }
+}

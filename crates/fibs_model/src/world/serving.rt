@@ -1,0 +1,115 @@
+//! The server takes a line.
+
+ghost use Rattle.std.specs.Prelude.{◌≡◌, ◌≤◌, ◌<◌, ◌+◌, ◌++◌, ℕ, List, Some, OnOk, OnErr, IfSome, IsSome, map, vec_len, vec_capacity, slice_index, if◌then◌else◌};
+ghost use Rattle.fibs_messages.specs.Board.{BoardFields, spelling};
+ghost use Rattle.fibs_messages.specs.StoredBoard.{fields_of};
+ghost use Rattle.fibs_model.specs.Calls.{served_entries, is_answered, send_links, TakesLine, TakesNext};
+ghost use Rattle.fibs_model.specs.EntryOf.{entry_of};
+ghost use Rattle.fibs_model.specs.Events as E;
+ghost use Rattle.fibs_model.specs.LinksOf.{seen, link_at, RoomToClient};
+ghost use Rattle.fibs_model.specs.ServerOf.{served_of};
+ghost use Rattle.fibs_model.specs.Wires.{next_line};
+ghost use Rattle.fibs_model.specs.WorldOf.{May, Goes};
+
+use super::World;
+use super::link::Link;
+use super::links::{BOARD, make_room, send_line};
+use crate::entry::Entry;
+use crate::server::{Served, Server};
+use crate::wire::whole_line;
+use fibs_messages::Board;
+use std::alloc::AllocError;
+
+/// The server takes the next line of a connection.
+fn take_line(server: &mut Server, link: &mut Link, conn: usize, len: usize, dice: [u8; 2]) -> Served
+    requires some { 1 ≤ conn }
+    requires whole { link.old.served + len + 2 ≤ vec_len link.old.to_server }
+    ensures takes { TakesLine server.old server.new link.old link.new conn len (slice_index dice 0) (slice_index dice 1)
+        (served_of result server.new.board) }
+    ensures to_client { link.new.to_client ≡ link.old.to_client }
+{
+    let from = link.served;
+    let served = server.serve(conn, from == 0, &link.to_server[from..from + len], dice);
+    link.served = from + len + 2;
+    served
+}
+
+/// The server takes the next line of a connection, which is there.
+fn take_next(server: &mut Server, links: &mut Vec<Link>, conn: usize, dice: [u8; 2]) -> Served
+    requires some { 1 ≤ conn }
+    requires known { conn ≤ vec_len links.old }
+    requires whole { IsSome (next_line (link_at (seen links.old.items) conn).asked) }
+    ensures takes { TakesNext server.old server.new (seen links.old.items) (seen links.new.items) conn
+        (slice_index dice 0) (slice_index dice 1) (served_of result server.new.board) }
+    ensures len { vec_len links.new ≡ vec_len links.old }
+    ensures room { (c n : ℕ) → 0 < c → RoomToClient links.old.items c n → RoomToClient links.new.items c n }
+{
+    let link = &mut links[conn - 1];
+    let len = whole_line(&link.to_server[link.served..]).unwrap();
+    take_line(server, link, conn, len, dice)
+}
+
+/// Answers a line by the board, where it is answered.
+fn answer_line(server: &Server, links: &mut Vec<Link>, conn: usize, served: Served)
+    requires known { conn ≤ vec_len links.old }
+    requires room { 0 < conn → RoomToClient links.old.items conn 331 }
+    ensures value { seen links.new.items ≡ (if is_answered (served_of served server.now.board)
+        then send_links server.now.logged_in conn (seen links.old.items) (spelling server.now.board)
+        else seen links.old.items) }
+    ensures len { vec_len links.new ≡ vec_len links.old }
+{
+    if is_answered(served) {
+        let line = server.board().print();
+        send_line(links, conn, server.logged_in(), &line);
+    }
+}
+
+/// Notes what came of a line, on the board before it.
+fn note_served(log: &mut Vec<Entry>, conn: usize, board: Board, served: Served)
+    requires room { vec_len log.old + 1 ≤ vec_capacity log.old }
+    ensures { (after : BoardFields) → map entry_of log.new.items
+        ≡ map entry_of log.old.items ++ served_entries conn (fields_of board) (served_of served after) }
+{
+    match served {
+        Served::Stale | Served::Answered => {}
+        Served::LoggedIn => log.push_reserved(Entry::LoggedIn { conn }),
+        Served::Took(decision) => log.push_reserved(Entry::Took {
+            conn,
+            board,
+            decision,
+        }),
+        Served::Undone(decision) => log.push_reserved(Entry::Undone {
+            conn,
+            board,
+            decision,
+        }),
+    }
+}
+
+/// The line is answered by the board.
+fn is_answered(served: Served) -> bool
+    ensures { (after : BoardFields) → result ≡ is_answered (served_of served after) }
+{
+    match served {
+        Served::Stale | Served::LoggedIn => false,
+        Served::Took(_) | Served::Undone(_) | Served::Answered => true,
+    }
+}
+
+impl World {
+    /// The server takes the next whole line of a connection.
+    pub(super) fn serve(&mut self, conn: usize, dice: [u8; 2]) -> Result<(), AllocError>
+        requires may { May self.old (E.Serve conn (slice_index dice 0) (slice_index dice 1)) }
+        ensures ok { OnOk result (Goes self.old self.new (E.Serve conn (slice_index dice 0) (slice_index dice 1))) }
+        ensures err { OnErr result (self.new ≡ self.old) }
+    {
+        fibs_session::client::laws::servers_entries_are_silent();
+        self.log.reserve(1)?;
+        make_room(&mut self.links, self.current, BOARD, 0)?;
+        let board = *self.server.board();
+        let served = take_next(&mut self.server, &mut self.links, conn, dice);
+        note_served(&mut self.log, conn, board, served);
+        answer_line(&self.server, &mut self.links, self.current, served);
+        Ok(())
+    }
+}
