@@ -13,6 +13,8 @@ mod test_boards;
 mod test_server;
 #[cfg(test)]
 mod test_wire;
+#[cfg(test)]
+mod test_world;
 mod wire;
 mod world;
 
