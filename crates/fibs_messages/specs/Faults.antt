@@ -1,5 +1,6 @@
--- What a fault of a field is called (the project's own names and numbers).
-use Rattle.std.specs.Prelude.{ℕ, List, codes}
+-- What a fault of a field is called, and how it is printed (the project's own names and numbers).
+use Rattle.std.specs.Prelude.{ℕ, List, ◌++◌, codes, decimal}
+use Rattle.fibs_messages.specs.declared.fields.fault.FieldFault.{FieldFault}
 use Rattle.fibs_messages.specs.declared.fields.fault.Fault.{Fault}
 use Rattle.fibs_messages.specs.declared.fields.fault.Fault.TheVariants.{Missing, Extra, NotANumber, OutOfRange, BadName}
 
@@ -18,3 +19,7 @@ fault_number Extra = 2
 fault_number NotANumber = 3
 fault_number OutOfRange = 4
 fault_number BadName = 5
+
+-- a wrong field as it is printed: `field`, its number, a colon, and the name of what is wrong
+abbrev pub field_fault_text : FieldFault → List ℕ
+field_fault_text e = codes "field " ++ decimal e.field ++ codes ": " ++ fault_name e.fault

@@ -70,6 +70,10 @@ pub struct FieldFault {
 }
 
 impl fmt::Display for FieldFault {
+    ghost use Rattle.fibs_messages.specs.Faults.{field_fault_text};
+
+    ghost output = { λ e. Some (field_fault_text e) };
+
     fn fmt<W: fmt::Write>(&self, f: &mut fmt::Formatter<W>) -> fmt::Result {
         write!(f, "field {}: {}", self.field, self.fault)
     }
