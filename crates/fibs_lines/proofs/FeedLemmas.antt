@@ -3,12 +3,10 @@ use Rattle.std.proofs.Common.{◌≡◌, ℕ, ◌+◌, min, Bool, true, false, L
 use Rattle.std.proofs.Common.{true≢false, refl, sym, ap, subst, ◌∙◌, arith, append_assoc}
 use Rattle.std.specs.Prelude.{nat_lt}
 use Rattle.std.proofs.lemmas.List.{take_more, take_all, append-nil, length-take}
-use Rattle.fibs_lines.specs.Lines.{plain, lines_of, rest_of, line_of, kept_limit}
+use Rattle.fibs_lines.specs.Lines.{plain, lines_of, rest_of, line_of, kept_limit, value_of}
 use Rattle.fibs_lines.specs.Standing.{telnet_of, AtLineStart}
 use Rattle.fibs_lines.specs.Progress.{Kept, KeptAfter, Advances, AdvancesToEnd}
-use Rattle.fibs_lines.specs.Lines.{value_of}
-use Rattle.fibs_lines.specs.LinesValue.{LinesValue, StandsAfter}
-use Rattle.fibs_lines.specs.LinesValue.{kept_line, lines_value}
+use Rattle.fibs_lines.specs.LinesValue.{LinesValue, StandsAfter, kept_line, lines_value}
 use Rattle.fibs_lines.specs.declared.unfinished.Unfinished.{Unfinished}
 use Rattle.fibs_lines.specs.Feeding.{Feeds}
 use Rattle.fibs_lines.specs.declared.line.Line.{Line}

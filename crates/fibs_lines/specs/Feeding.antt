@@ -1,8 +1,7 @@
 -- What `feed` answers.
 use Rattle.std.specs.Prelude.{◌≡◌, ℕ, ◌<◌, ◌≤◌, List, [], ◌∷◌, ◌++◌, length, take, Option, None, Some, IsNone, IsSome}
-use Rattle.fibs_lines.specs.Lines.{ReadLine, lines_of}
+use Rattle.fibs_lines.specs.Lines.{ReadLine, lines_of, value_of}
 use Rattle.fibs_lines.specs.Standing.{AtLineStart}
-use Rattle.fibs_lines.specs.Lines.{value_of}
 use Rattle.fibs_lines.specs.declared.line.Line.{Line}
 use Rattle.fibs_lines.specs.declared.lines.Fed.{Fed}
 

@@ -3,13 +3,11 @@
 //! The functions without parameters do nothing: the contract is the law, stated in `specs/StreamLaws.antt`.
 
 ghost use Rattle.std.specs.Prelude.{◌≡◌, ◌↔◌, IsTrue};
-ghost use Rattle.fibs_lines.specs.Lines.{value_of, line_value};
-ghost use Rattle.fibs_lines.specs.Lines.{kept_limit};
+ghost use Rattle.fibs_lines.specs.Lines.{value_of, line_value, kept_limit};
 ghost use Rattle.fibs_lines.specs.StreamLaws.{PartsAreLinesAndRest, EmptyStreamHasNoLine, LinesOnlyGrow};
-ghost use Rattle.fibs_lines.specs.StreamLaws.{LinesAreAtMostTheLineEnds, LineEndIsALineStart};
-ghost use Rattle.fibs_lines.specs.StreamLaws.{LineEndEndsALine, LineStartReadsAlone};
-ghost use Rattle.fibs_lines.specs.StreamLaws.{WhatFollowsALineEndReadsAlone, LinesFit, SendableTextIsItsLine};
-ghost use Rattle.fibs_lines.specs.StreamLaws.{PromptsAreRemoved};
+ghost use Rattle.fibs_lines.specs.StreamLaws.{LinesAreAtMostTheLineEnds, LineEndIsALineStart, LineEndEndsALine};
+ghost use Rattle.fibs_lines.specs.StreamLaws.{LineStartReadsAlone, WhatFollowsALineEndReadsAlone, LinesFit};
+ghost use Rattle.fibs_lines.specs.StreamLaws.{SendableTextIsItsLine, PromptsAreRemoved};
 
 use crate::{Fed, LIMIT, Line};
 

@@ -82,13 +82,14 @@ Fit = AllZip (λ values z. allows values z ≡ true)
 abbrev pub IsBoard : BoardFields → Type 0
 IsBoard b = (is_name b.player ≡ true) × (is_name b.opponent ≡ true) × Fit field_values b.numbers
 
--- the same as tests
+-- each number is one that its field may have, as a test
 abbrev pub fit : List Values → List ℤ → Bool
 fit [] [] = true
 fit [] (z ∷ zs) = false
 fit (v ∷ vs) [] = false
 fit (v ∷ vs) (z ∷ zs) = allows v z && fit vs zs
 
+-- the fields are a board, as a test
 unfoldable pub is_board : BoardFields → Bool
 is_board b = is_name b.player && (is_name b.opponent && fit field_values b.numbers)
 

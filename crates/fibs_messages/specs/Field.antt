@@ -1,6 +1,6 @@
 -- The fields of a board and of a message: their kinds, how a value is spelled, and what is wrong with other texts.
-use Rattle.std.specs.Prelude.{◌≡◌, ℕ, ◌+◌, ◌-◌, ◌<◌, Bool, true, false, List, [], ◌∷◌, Option, Some, None}
-use Rattle.std.specs.Prelude.{decimal, pos, slice_get, if◌then◌else◌, cond}
+use Rattle.std.specs.Prelude.{◌≡◌, ℕ, ◌+◌, ◌-◌, ◌<◌, Bool, true, false, List, [], ◌∷◌, Option, Some, None, decimal, pos}
+use Rattle.std.specs.Prelude.{slice_get, if◌then◌else◌, cond}
 use Rattle.std.specs.Result.{result_err}
 use Rattle.std.specs.Str.{bytes_eq}
 use Rattle.fibs_messages.specs.declared.fields.fault.Fault.{Fault}

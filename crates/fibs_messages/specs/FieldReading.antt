@@ -8,9 +8,8 @@ use Rattle.fibs_messages.specs.declared.fields.fault.Fault.TheVariants.{Missing,
 use Rattle.fibs_messages.specs.declared.fields.reader.Fields.{Fields}
 use Rattle.fibs_messages.specs.Decimal.{number_in}
 use Rattle.fibs_messages.specs.Field.{Kind, the_word, a_number_of, a_name, a_word, a_tail, a_flag, a_number, a_rating}
-use Rattle.fibs_messages.specs.Field.{a_text, FieldValue}
-use Rattle.fibs_messages.specs.Field.{NameField, WordField, TailField, FlagField, NumberField, RatingField, TextField}
-use Rattle.fibs_messages.specs.Field.{takes_rest, may_be_absent, flag_values, number_values}
+use Rattle.fibs_messages.specs.Field.{a_text, FieldValue, NameField, WordField, TailField, FlagField, NumberField}
+use Rattle.fibs_messages.specs.Field.{RatingField, TextField, takes_rest, may_be_absent, flag_values, number_values}
 use Rattle.fibs_messages.specs.Name.{is_name}
 use Rattle.fibs_messages.specs.Rating.{rating_in}
 use Rattle.fibs_messages.specs.Split.{before, after, seen}

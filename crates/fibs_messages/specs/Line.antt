@@ -44,7 +44,7 @@ IsReading line (board_line b) = IsBoardLine line × BoardText b line
 IsReading line (text_line text) = IsText line × (text ≡ line)
 IsReading line (malformed_line number k f) = IsMalformed line number k f
 
--- ---- the same as a function
+-- ---- the same as functions
 
 -- the numbers that the texts spell, each one that its field may have
 abbrev pub number_or_0 : Result ℤ Fault → ℤ

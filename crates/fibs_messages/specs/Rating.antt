@@ -1,7 +1,6 @@
 -- Ratings, which are kept as hundredths.
 use Rattle.std.specs.Prelude.{◌≡◌, ℕ, ◌+◌, ◌*◌, ◌/◌, ◌%◌, ◌<◌, ◌-◌, ◌&&◌, ◌||◌, Bool, true, false, cond, List, [], ◌∷◌}
-use Rattle.std.specs.Prelude.{◌++◌}
-use Rattle.std.specs.Prelude.{Option, Some, None, Result, Ok, Err, decimal, nat_lt}
+use Rattle.std.specs.Prelude.{◌++◌, Option, Some, None, Result, Ok, Err, decimal, nat_lt}
 use Rattle.std.specs.Char.{is_ascii_digit}
 use Rattle.std.specs.Str.Parse.{digits_value}
 use Rattle.fibs_messages.specs.declared.fields.fault.Fault.{Fault}

@@ -71,7 +71,7 @@ IsAllowed b decision = MayDecide (position_of b) decision
 abbrev pub IsDisallowed : BoardFields → DecisionValue → Disallowed → Type 0
 IsDisallowed b decision why = IsRefused (position_of b) decision why
 
--- the same as functions
+-- ---- the same as functions
 
 abbrev pub is_for : DecisionValue → Phase → Bool
 is_for roll RollOrDouble = true

@@ -99,7 +99,7 @@ Carries b (move steps) dice after =
 abbrev pub Effect : BoardFields → DecisionValue → List ℕ → BoardFields → Type 0
 Effect b decision dice after = IsGood b × Carries b decision dice after
 
--- the same as functions
+-- ---- the same as functions
 
 abbrev pub is_die : ℕ → Bool
 is_die die = nat_lt 0 die && nat_le die 6

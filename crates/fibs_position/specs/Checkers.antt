@@ -30,7 +30,7 @@ IsOpen p to = 0 < to → slice_index p.other to < 2
 abbrev pub AllHome : Checkers → Type 0
 AllHome p = (place : ℕ) → 6 < place → slice_index p.own place ≡ 0
 
--- the same as functions
+-- ---- the same as functions
 
 -- no own checker stands at this place or above it
 abbrev pub is_empty_from : Checkers → ℕ → Bool

@@ -29,7 +29,7 @@ Differ a b = game_part a ≢ game_part b
 abbrev pub Agree : BoardFields → BoardFields → ℕ → ℕ → Type 0
 Agree a b first last = map (field_of a) (from_to first last) ≡ map (field_of b) (from_to first last)
 
--- the same as a test
+-- ---- the same as a test
 
 abbrev pub ints_eq : List ℤ → List ℤ → Bool
 ints_eq [] [] = true

@@ -10,8 +10,7 @@ use Rattle.fibs_position.specs.LegalPlays.{LegalPlay}
 use Rattle.fibs_position.specs.GoodBoard.{IsGood, good}
 use Rattle.fibs_position.specs.GamePart.{Differ, same_game}
 use Rattle.fibs_position.specs.Phases.{IsPhase, decides, phase_of}
-use Rattle.fibs_position.specs.DecisionValue.{DecisionValue, IsPlay, IsDecision}
-use Rattle.fibs_position.specs.DecisionValue.{decision_of}
+use Rattle.fibs_position.specs.DecisionValue.{DecisionValue, IsPlay, IsDecision, decision_of}
 use Rattle.fibs_position.specs.Allowed.{IsAllowed, IsDisallowed, allowed_of}
 use Rattle.fibs_position.specs.BoardEffect.{AreThrown, Effect, effect_of}
 use Rattle.fibs_position.specs.declared.decision.Decision.{Decision}

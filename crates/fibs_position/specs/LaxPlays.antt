@@ -14,7 +14,7 @@ abbrev pub LaxRun : Checkers → List Hop → Checkers → Type 0
 LaxRun p [] q = p ≡ q
 LaxRun p (step ∷ steps) q = (r : Checkers) × LaxOne p step r × LaxRun r steps q
 
--- the same as functions
+-- ---- the same as functions
 
 -- one step as the server carries it out
 abbrev pub lax_one : Checkers → Hop → Option Checkers

@@ -45,7 +45,7 @@ pub record PlayList (p : Standing) (plays : List (List Hop)) : Type 0 where
   pub each : (steps : List Hop) → Contains plays steps ↔ IsGreatest p steps
   pub descending : AllAdjacentBelow (λ a b. play_cmp a b ≡ Greater) plays (length plays)
 
--- the rule of legal plays as a function
+-- ---- the rule of legal plays as a function
 
 -- two different dice are held
 abbrev pub are_two : ℕ → ℕ → Bool

@@ -38,7 +38,7 @@ pub record One (p : Checkers) (from to die : ℕ) (q : Checkers) : Type 0 where
   pub free : IsOpen p to
   pub leads : q ≡ moved p from to
 
--- the same as a function
+-- ---- the same as functions
 
 -- a checker may leave this place by this die, wherever it comes to
 abbrev pub can_leave : Checkers → ℕ → ℕ → Bool

@@ -39,7 +39,7 @@ decides RollOrDouble = true
 decides Move = true
 decides Passing = false
 
--- the same as functions
+-- ---- the same as functions
 
 abbrev pub phase_fits : PositionValue → Phase → Bool
 phase_fits p Over = int_eq p.turn (pos 0)

@@ -1,7 +1,6 @@
 -- Plays as values.
 use Rattle.std.specs.Prelude.{List, take, map}
-use Rattle.fibs_position.specs.Hop.{Hop}
-use Rattle.fibs_position.specs.Hop.{hop_of}
+use Rattle.fibs_position.specs.Hop.{Hop, hop_of}
 use Rattle.fibs_position.specs.declared.play.Play.{Play}
 
 -- the steps in use

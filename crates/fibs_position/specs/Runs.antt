@@ -49,7 +49,7 @@ pub record IsMost (p : Standing) (n : ℕ) : Type 0 where
   pub reached : (steps : List Hop) × (q : Checkers) × RunOf p.checkers (held p) steps q × (length steps ≡ n)
   pub most : (steps : List Hop) (q : Checkers) → RunOf p.checkers (held p) steps q → length steps ≤ n
 
--- the same as functions
+-- ---- the same as functions
 
 -- what an arrangement is worth, and 0 for none
 abbrev pub score : (Checkers → ℕ) → Option Checkers → ℕ

@@ -5,9 +5,8 @@ ghost use Rattle.std.specs.List.{fold};
 ghost use Rattle.std.specs.List.Sorted.{IsSortedBy};
 ghost use Rattle.std.specs.Ordering.{is_lt};
 ghost use Rattle.fibs_position.specs.PlayValue.{hops_of};
-ghost use Rattle.fibs_position.specs.Search.{reach_of};
+ghost use Rattle.fibs_position.specs.Search.{reach_of, AreDice, same, greater, noted, next_top, reaches};
 ghost use Rattle.fibs_position.specs.LegalPlays.{play_cmp};
-ghost use Rattle.fibs_position.specs.Search.{AreDice, same, greater, noted, next_top, reaches};
 
 use crate::arrangement::Arrangement;
 use crate::play::Play;

@@ -4,11 +4,10 @@ ghost use Rattle.std.specs.Prelude.{◌≡◌, ◌-◌, ◌<◌, ◌≤◌, ◌�
 ghost use Rattle.std.specs.List.{fold};
 ghost use Rattle.fibs_position.specs.Hop.{hop_of};
 ghost use Rattle.fibs_position.specs.PlayValue.{hops_of};
-ghost use Rattle.fibs_position.specs.Search.{reach_of};
+ghost use Rattle.fibs_position.specs.Search.{reach_of, AreDice, noted, all_in_order, all_of};
 ghost use Rattle.fibs_position.specs.Runs.{Standing, held_of, IsMost, CanMove, most_of, longest, follows, can_play};
 ghost use Rattle.fibs_position.specs.Runs.{can_move};
 ghost use Rattle.fibs_position.specs.LegalPlays.{LegalPlay, PlayList, are_two, larger_first, legal_of};
-ghost use Rattle.fibs_position.specs.Search.{AreDice, noted, all_in_order, all_of};
 
 use crate::arrangement::Arrangement;
 use crate::play::Play;

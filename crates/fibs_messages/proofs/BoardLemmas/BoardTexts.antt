@@ -9,9 +9,9 @@ use Rattle.std.proofs.lemmas.Fmt.{signed_decimal_injective}
 use Rattle.std.proofs.lemmas.List.Elements.{All-head, All-tail}
 use Rattle.std.proofs.lemmas.List.{append-nil}
 use Rattle.std.proofs.lemmas.List.Splits.{join_with_byte-slice_split}
-use Rattle.fibs_messages.specs.Board.{BoardFields, IsBoard, BoardText, Fit, field_values, kinds, texts}
+use Rattle.fibs_messages.specs.Board.{BoardFields, IsBoard, BoardText, Fit, field_values, kinds, texts, spelling}
+use Rattle.fibs_messages.specs.Board.{pieces, without_spaces, Wrong}
 use Rattle.fibs_messages.specs.Field.{a_number_of}
-use Rattle.fibs_messages.specs.Board.{spelling, pieces, without_spaces, Wrong}
 use Rattle.fibs_messages.specs.Numerals.{after_colons}
 use Rattle.fibs_messages.specs.Decimal.{allows}
 use Rattle.fibs_messages.specs.DecimalReading.{IsNarrow}

@@ -10,8 +10,8 @@ use Rattle.std.specs.Str.{bytes_eq}
 use Rattle.std.proofs.lemmas.Bool.{cases_Bool}
 use Rattle.std.proofs.lemmas.List.Elements.{All-head, All-tail}
 use Rattle.std.proofs.lemmas.Slice.Eq.{bytes_eq-Decides}
-use Rattle.fibs_messages.specs.Board.{BoardFields, IsBoard, BoardText, Fit, Wrong, field_values, kinds, pieces}
-use Rattle.fibs_messages.specs.Board.{texts, without_spaces}
+use Rattle.fibs_messages.specs.Board.{BoardFields, IsBoard, BoardText, Fit, Wrong, field_values, kinds, pieces, texts}
+use Rattle.fibs_messages.specs.Board.{without_spaces}
 use Rattle.fibs_messages.specs.Decimal.{number_in}
 use Rattle.fibs_messages.specs.DecimalReading.{IsNarrow}
 use Rattle.fibs_messages.specs.Field.{a_number_of, bad_name_unless}

@@ -7,9 +7,8 @@ use Rattle.std.proofs.lemmas.Bool.{and_parts, and_from, leb-true, cases_Bool, no
 use Rattle.std.proofs.lemmas.List.{append-nil}
 use Rattle.fibs_messages.specs.declared.fields.fault.Fault.{Fault}
 use Rattle.fibs_messages.specs.Field.{Kind, the_word, a_number_of, a_name, a_word, a_tail, a_flag, a_number, a_rating}
-use Rattle.fibs_messages.specs.Field.{a_text, FieldValue}
-use Rattle.fibs_messages.specs.Field.{NameField, WordField, TailField, FlagField, NumberField, RatingField, TextField}
-use Rattle.fibs_messages.specs.Field.{kind_of, takes_rest, Spells}
+use Rattle.fibs_messages.specs.Field.{a_text, FieldValue, NameField, WordField, TailField, FlagField, NumberField}
+use Rattle.fibs_messages.specs.Field.{RatingField, TextField, kind_of, takes_rest, Spells}
 use Rattle.fibs_messages.specs.FieldReading.{Left, left, ◌>>=◌, numbered, value_in, text_at, field_at, end_at}
 use Rattle.fibs_messages.specs.FieldReading.{fields_at}
 use Rattle.fibs_messages.specs.Message.{FieldText, spelled, no_text, FieldsText, no_fields, more_fields}
@@ -18,8 +17,7 @@ use Rattle.fibs_messages.specs.Rating.{FractionText}
 use Rattle.fibs_messages.specs.Rating as rating
 use Rattle.fibs_messages.specs.Split.{before, after}
 use Rattle.fibs_messages.proofs.FieldLemmas.FieldValues.{has_values, bind_ok, ok_is, value_sound, value_complete}
-use Rattle.fibs_messages.proofs.FieldLemmas.FieldValues.{all_weaker}
-use Rattle.fibs_messages.proofs.FieldLemmas.FieldValues.{decimal_has_no}
+use Rattle.fibs_messages.proofs.FieldLemmas.FieldValues.{all_weaker, decimal_has_no}
 use Rattle.fibs_messages.proofs.FieldLemmas.Splits.{behind, opened, HeadIs, before-behind, has_no, cut_off}
 
 -- a fault that gets its field was there before

@@ -15,9 +15,8 @@ use Rattle.std.proofs.lemmas.Fmt.{digits_decimal, decimal_digit, digits_value-de
 use Rattle.fibs_messages.specs.Decimal.{numbers_of_32_bits, is_positive, is_zero, allows, number_in}
 use Rattle.fibs_messages.specs.DecimalReading.{IsNarrow}
 use Rattle.fibs_messages.specs.Field.{Kind, the_word, a_number_of, a_name, a_word, a_tail, a_flag, a_number, a_rating}
-use Rattle.fibs_messages.specs.Field.{a_text, FieldValue}
-use Rattle.fibs_messages.specs.Field.{NameField, WordField, TailField, FlagField, NumberField, RatingField, TextField}
-use Rattle.fibs_messages.specs.Field.{kind_of, Spells, flag_text, flag_values, number_values}
+use Rattle.fibs_messages.specs.Field.{a_text, FieldValue, NameField, WordField, TailField, FlagField, NumberField}
+use Rattle.fibs_messages.specs.Field.{RatingField, TextField, kind_of, Spells, flag_text, flag_values, number_values}
 use Rattle.fibs_messages.specs.FieldReading.{◌>>=◌, good, natural, value_in}
 use Rattle.fibs_messages.specs.Name.{is_name}
 use Rattle.fibs_messages.specs.Rating.{RatingText, FractionText, no_fraction, tenths, is_fraction, hundredths_of}

@@ -9,12 +9,11 @@ use Rattle.fibs_messages.specs.declared.fields.fault.Fault.{Fault}
 use Rattle.fibs_messages.specs.declared.fields.fault.Fault.TheVariants.{Missing}
 use Rattle.fibs_messages.specs.Decimal.{number_in}
 use Rattle.fibs_messages.specs.Field.{Kind, the_word, a_number_of, a_name, a_word, a_tail, a_flag, a_number, a_rating}
-use Rattle.fibs_messages.specs.Field.{a_text, FieldValue}
-use Rattle.fibs_messages.specs.Field.{FlagField, NumberField, RatingField, TextField, takes_rest, may_be_absent}
-use Rattle.fibs_messages.specs.Field.{flag_values, number_values, fault_in, texts_for, fault_at}
+use Rattle.fibs_messages.specs.Field.{a_text, FieldValue, FlagField, NumberField, RatingField, TextField, takes_rest}
+use Rattle.fibs_messages.specs.Field.{may_be_absent, flag_values, number_values, fault_in, texts_for, fault_at}
+use Rattle.fibs_messages.specs.Field.{bad_name_unless}
 use Rattle.fibs_messages.specs.FieldReading.{Left, left, ◌>>=◌, good, natural, numbered, fault_of_field, value_in}
 use Rattle.fibs_messages.specs.FieldReading.{text_at, field_at, end_at, fields_at}
-use Rattle.fibs_messages.specs.Field.{bad_name_unless}
 use Rattle.fibs_messages.specs.Name.{is_name}
 use Rattle.fibs_messages.specs.Rating.{rating_in}
 use Rattle.fibs_messages.specs.Split.{before, after}

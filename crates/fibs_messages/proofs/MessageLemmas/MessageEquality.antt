@@ -8,13 +8,11 @@ use Rattle.fibs_messages.specs.Message.{MessageValue, message, message_of, own_i
 use Rattle.fibs_messages.specs.contracts.messages.message.MessagePartialEq.TheImpl.{eq-value}
 use Rattle.fibs_messages.specs.declared.messages.message.Message.{Message}
 use Rattle.fibs_messages.specs.declared.messages.message.Message.TheVariants.{Welcome, OwnInfo, MotdBegin, MotdEnd}
-use Rattle.fibs_messages.specs.declared.messages.message.Message.TheVariants.{WhoInfo}
-use Rattle.fibs_messages.specs.declared.messages.message.Message.TheVariants.{WhoInfoEnd, Login, Logout}
-use Rattle.fibs_messages.specs.declared.messages.message.Message.TheVariants.{MessageReceived}
-use Rattle.fibs_messages.specs.declared.messages.message.Message.TheVariants.{MessageDelivered, MessageSaved, Says}
-use Rattle.fibs_messages.specs.declared.messages.message.Message.TheVariants.{Shouts}
-use Rattle.fibs_messages.specs.declared.messages.message.Message.TheVariants.{Whispers, Kibitzes, YouSay, YouShout}
-use Rattle.fibs_messages.specs.declared.messages.message.Message.TheVariants.{YouWhisper, YouKibitz}
+use Rattle.fibs_messages.specs.declared.messages.message.Message.TheVariants.{WhoInfo, WhoInfoEnd, Login, Logout}
+use Rattle.fibs_messages.specs.declared.messages.message.Message.TheVariants.{MessageReceived, MessageDelivered}
+use Rattle.fibs_messages.specs.declared.messages.message.Message.TheVariants.{MessageSaved, Says, Shouts, Whispers}
+use Rattle.fibs_messages.specs.declared.messages.message.Message.TheVariants.{Kibitzes, YouSay, YouShout, YouWhisper}
+use Rattle.fibs_messages.specs.declared.messages.message.Message.TheVariants.{YouKibitz}
 use Rattle.fibs_messages.proofs.FieldLemmas.Equality.{never, same_values, same_values_decides}
 
 -- messages of one number are equal exactly where their fields are

@@ -9,8 +9,7 @@ use Rattle.fibs_messages.specs.declared.messages.message.Message.TheVariants.{Ki
 use Rattle.fibs_messages.specs.declared.messages.message.Message.TheVariants.{YouKibitz}
 use Rattle.fibs_messages.specs.Field.{IsValue, kind_of}
 use Rattle.std.specs.List.{AllByRecursion}
-use Rattle.fibs_messages.specs.Message.{table, kinds_of, IsNumber, IsMessage}
-use Rattle.fibs_messages.specs.Message.{message_of}
+use Rattle.fibs_messages.specs.Message.{table, kinds_of, IsNumber, IsMessage, message_of}
 use Rattle.fibs_messages.specs.Bits.{HasBits}
 
 -- each message has a number of the table

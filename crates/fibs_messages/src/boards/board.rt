@@ -2,10 +2,9 @@
 
 ghost use Rattle.std.specs.Prelude.{◌≡◌, ◌≢◌, ◌≤◌, IfSome, IsSome, ◌↔◌, ◌≤ℤ◌, ◌⊎◌, pos, negsuc, ◌++◌, ◌+◌, ℕ, true};
 ghost use Rattle.std.specs.Prelude.{length, IfOk, IfErr, OnOk, OnErr, drop, option_map, Ok, Err};
-ghost use Rattle.fibs_messages.specs.Bytes.{parts};
+ghost use Rattle.fibs_messages.specs.Bytes.{parts, name_bytes};
 ghost use Rattle.fibs_messages.specs.BoardProp.{IsBoard-prop};
 ghost use Rattle.fibs_messages.specs.Name.{is_name};
-ghost use Rattle.fibs_messages.specs.Bytes.{name_bytes};
 ghost use Rattle.arrayvec.specs.ArrayVec.{array_vec_len};
 ghost use Rattle.fibs_messages.specs.Board.{BoardFields, IsBoard, Fit, field_values, spelling, BoardText, Wrong};
 ghost use Rattle.fibs_messages.specs.Board.{field_of, can_have, with_field};

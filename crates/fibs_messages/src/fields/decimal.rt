@@ -1,15 +1,14 @@
 //! Numbers of fields, as they are spelled.
 
-ghost use Rattle.std.specs.Prelude.{◌≡◌, ◌↔◌, ◌-◌, ◌≤◌, ◌&&◌, ◌||◌, ℕ, cond, decimal, length, min, nat_le, pos};
-ghost use Rattle.std.specs.Prelude.{true, drop, [], ◌∷◌, option_map, Some, None, MatchOption, if◌then◌else◌};
+ghost use Rattle.std.specs.Prelude.{◌≡◌, ◌↔◌, ◌-◌, ◌≤◌, ◌&&◌, ◌||◌, ℕ, cond, decimal, length, min, nat_le, pos, true};
+ghost use Rattle.std.specs.Prelude.{drop, [], ◌∷◌, option_map, Some, None, MatchOption, if◌then◌else◌};
 ghost use Rattle.std.specs.Char.{is_ascii_digit};
 ghost use Rattle.std.specs.List.{list_all};
 ghost use Rattle.std.specs.Str.Parse.{digits_value, starts_with_minus};
 ghost use Rattle.fibs_messages.specs.Field.{flag_values, number_values};
 ghost use Rattle.fibs_messages.specs.FieldReading.{Gives};
 ghost use Rattle.fibs_messages.specs.Decimal.{is_positive, is_zero, decimal_up_to, decimal_value, number_if_allowed};
-ghost use Rattle.fibs_messages.specs.Decimal.{numbers_of_32_bits, numbers_of_64_bits};
-ghost use Rattle.fibs_messages.specs.Decimal.{number_in};
+ghost use Rattle.fibs_messages.specs.Decimal.{numbers_of_32_bits, numbers_of_64_bits, number_in};
 ghost use Rattle.fibs_messages.specs.DecimalReading.{IsNarrow, capped, unsigned_value};
 
 use crate::fields::fault::Fault;

@@ -6,8 +6,7 @@ ghost use Rattle.fibs_messages.specs.Field.{TextField, a_name, a_word, a_tail, a
 ghost use Rattle.fibs_messages.specs.FieldReading.{Gives, left, left_of, text_at, field_at, next_at, this_word, end_at};
 ghost use Rattle.fibs_messages.specs.Split.{seen};
 ghost use Rattle.fibs_messages.specs.Decimal.{number_in};
-ghost use Rattle.fibs_messages.specs.Bytes.{name_bytes};
-ghost use Rattle.fibs_messages.specs.Bytes.{word_bytes, tail_bytes};
+ghost use Rattle.fibs_messages.specs.Bytes.{name_bytes, word_bytes, tail_bytes};
 
 use crate::fields::decimal::{flag_in, number_in, unsigned_in};
 use crate::fields::fault::{Fault, FieldFault};

@@ -4,8 +4,8 @@ ghost use Rattle.std.specs.Prelude.{◌≡◌, ◌∷◌, [], ◌++◌, decimal,
 ghost use Rattle.std.specs.List.{flat_map};
 ghost use Rattle.fibs_messages.specs.Field.{NameField, FlagField, NumberField, RatingField, TextField};
 ghost use Rattle.fibs_messages.specs.FieldOf.{value_of, values_of};
-ghost use Rattle.fibs_messages.specs.Message.{MessageText, canonical, canonical_field};
-ghost use Rattle.fibs_messages.specs.Message.{message_of, own_info_fields, who_info_fields};
+ghost use Rattle.fibs_messages.specs.Message.{MessageText, canonical, canonical_field, message_of, own_info_fields};
+ghost use Rattle.fibs_messages.specs.Message.{who_info_fields};
 ghost use Rattle.fibs_messages.specs.Bytes.{name_bytes};
 
 use crate::fields::name::Name;

@@ -5,9 +5,8 @@ ghost use Rattle.std.specs.Prelude.{◌≡◌, [], ◌∷◌, IfOk};
 ghost use Rattle.fibs_messages.specs.Field.{NameField, TextField, a_name, a_text};
 ghost use Rattle.fibs_messages.specs.FieldReading.{Gives, fields_at, left};
 ghost use Rattle.fibs_messages.specs.Split.{seen};
-ghost use Rattle.fibs_messages.specs.Message.{IsNumber, kinds_of};
+ghost use Rattle.fibs_messages.specs.Message.{IsNumber, kinds_of, message_of, own_info_fields, who_info_fields};
 ghost use Rattle.fibs_messages.specs.Bytes.{name_bytes};
-ghost use Rattle.fibs_messages.specs.Message.{message_of, own_info_fields, who_info_fields};
 
 use crate::fields::fault::FieldFault;
 use crate::fields::name::Name;

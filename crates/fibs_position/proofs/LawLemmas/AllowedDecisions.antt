@@ -9,8 +9,7 @@ use Rattle.std.proofs.lemmas.List.{length-map}
 use Rattle.std.proofs.lemmas.List.Elements.{All-from_recursion, All-map}
 use Rattle.fibs_messages.specs.Board.{BoardFields}
 use Rattle.fibs_messages.specs.FieldRanges.{FieldRanges}
-use Rattle.fibs_position.specs.Hop.{Hop, IsStep}
-use Rattle.fibs_position.specs.Hop.{hop_of}
+use Rattle.fibs_position.specs.Hop.{Hop, IsStep, hop_of}
 use Rattle.fibs_position.specs.Checkers.{Checkers}
 use Rattle.fibs_position.specs.OneChecker.{One}
 use Rattle.fibs_position.specs.Runs.{Run, RunOf, IsPart, held_of, held}

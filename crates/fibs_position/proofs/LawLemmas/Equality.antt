@@ -9,11 +9,9 @@ use Rattle.std.specs.List.{list_all}
 use Rattle.std.specs.Cmp.Lexicographic.{pointwise}
 use Rattle.std.proofs.lemmas.Bool.{and_parts, and_from, eqb-true}
 use Rattle.std.proofs.lemmas.Slice.Eq.{slice_eq-Decides}
-use Rattle.fibs_position.specs.Hop.{Hop}
-use Rattle.fibs_position.specs.Hop.{hop_of, is_blank}
+use Rattle.fibs_position.specs.Hop.{Hop, hop_of, is_blank}
 use Rattle.fibs_position.specs.PlayValue.{hops_of}
-use Rattle.fibs_position.specs.DecisionValue.{DecisionValue, roll, double, accept, reject, move}
-use Rattle.fibs_position.specs.DecisionValue.{decision_of}
+use Rattle.fibs_position.specs.DecisionValue.{DecisionValue, roll, double, accept, reject, move, decision_of}
 use Rattle.fibs_position.specs.declared.decision.Decision.{Decision}
 use Rattle.fibs_position.specs.declared.decision.Decision.TheVariants.{Roll, Double, Accept, Reject, Move}
 use Rattle.fibs_position.specs.declared.step.Step.{Step}

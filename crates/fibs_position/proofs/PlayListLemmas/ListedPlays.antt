@@ -13,13 +13,12 @@ use Rattle.std.proofs.lemmas.List.Sorted.{sum_by-IsPermutation}
 use Rattle.std.proofs.lemmas.Cmp.{upto}
 use Rattle.fibs_position.specs.Hop.{Hop}
 use Rattle.fibs_position.specs.PlayValue.{hops_of}
-use Rattle.fibs_position.specs.Search.{reach_of}
+use Rattle.fibs_position.specs.Search.{reach_of, Reach, same, noted, all_of}
 use Rattle.fibs_position.specs.declared.play.Play.{Play}
 use Rattle.fibs_position.specs.declared.plays.Reached.{Reached}
 use Rattle.fibs_position.specs.Checkers.{Checkers}
 use Rattle.fibs_position.specs.Runs.{Run, Standing}
 use Rattle.fibs_position.specs.LegalPlays.{play_cmp, Leads, IsGreatest, PlayList}
-use Rattle.fibs_position.specs.Search.{Reach, same, noted, all_of}
 use Rattle.fibs_position.proofs.PlayListLemmas.PlayOrder.{play_total, not_greater, gt_from, play_same, play_exact}
 use Rattle.fibs_position.proofs.PlayListLemmas.PlayOrder.{no_less}
 use Rattle.fibs_position.proofs.PlayListLemmas.Reaches.{In}

@@ -2,8 +2,7 @@
 use Rattle.std.proofs.Common.{◌≡◌, ℕ, suc, zero, ◌<◌, List, [], ◌∷◌, ◌++◌, length, map, get_or, set, true, false, refl}
 use Rattle.std.proofs.Common.{sym, ap, ◌∙◌, arith}
 use Rattle.std.proofs.lemmas.Bool.{cond-true, cond-false}
-use Rattle.fibs_position.specs.Search.{reach_of}
-use Rattle.fibs_position.specs.Search.{same, greater, noted}
+use Rattle.fibs_position.specs.Search.{reach_of, same, greater, noted}
 use Rattle.fibs_position.specs.declared.plays.Reached.{Reached}
 
 -- none of the first i leads to where what is found leads

@@ -4,8 +4,7 @@ use Rattle.std.proofs.Common.{Some, None, Bool, refl, sym, ap, subst, ◌∙◌,
 use Rattle.std.proofs.lemmas.List.{drop_all}
 use Rattle.std.specs.Prelude.{◌&&◌, ◌||◌, ◌==◌, nat_lt, slice_index}
 use Rattle.std.proofs.lemmas.Bool.{and_parts, and_from, cond-true, ltb-true, lt-ltb}
-use Rattle.fibs_position.specs.Hop.{Hop}
-use Rattle.fibs_position.specs.Hop.{hop_of}
+use Rattle.fibs_position.specs.Hop.{Hop, hop_of}
 use Rattle.fibs_position.specs.declared.step.Step.{Step}
 use Rattle.fibs_position.specs.Checkers.{Checkers, moved}
 use Rattle.fibs_position.specs.Runs.{Run}

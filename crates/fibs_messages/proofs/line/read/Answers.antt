@@ -1,6 +1,5 @@
 use Rattle.std.proofs.Common.{refl}
-use Rattle.fibs_messages.specs.Line.{text_line, reading_value}
-use Rattle.fibs_messages.specs.Line.{reading_of}
+use Rattle.fibs_messages.specs.Line.{text_line, reading_value, reading_of}
 use Rattle.fibs_messages.proofs.LineLemmas.ReadingValues.{reading_is_exact}
 use Rattle.fibs_messages.proofs.LineLemmas.Readings.{exactly, is_reading}
 use Rattle.fibs_messages.proofs.line.read.Goals as goal

@@ -1,8 +1,7 @@
 use Rattle.std.proofs.Common.{length, ◌≡◌, map, drop, get_or}
 use Rattle.std.specs.List.{fold}
 use Rattle.fibs_position.specs.PlayValue.{hops_of}
-use Rattle.fibs_position.specs.Search.{reach_of}
-use Rattle.fibs_position.specs.Search.{noted, reaches_by}
+use Rattle.fibs_position.specs.Search.{reach_of, noted, reaches_by}
 use Rattle.fibs_position.proofs.plays.+visit.Given as goal
 
 abbrev pub decreases-visit : goal.decreases-visit

@@ -1,6 +1,5 @@
 use Rattle.std.proofs.Common.{◌<◌, length, map, ap, sym, ◌∙◌, rules}
-use Rattle.fibs_position.specs.Search.{reach_of}
-use Rattle.fibs_position.specs.Search.{noted}
+use Rattle.fibs_position.specs.Search.{reach_of, noted}
 use Rattle.fibs_position.proofs.PlayListLemmas.NoteLoop.{noted_at}
 use Rattle.fibs_position.proofs.plays.note.Goals as goal
 

@@ -1,8 +1,7 @@
 use Rattle.std.proofs.Common.{◌≡◌, true, false, min, sym, ap, subst, ◌∙◌}
 use Rattle.fibs_lines.specs.Lines.{kept_limit}
 use Rattle.fibs_lines.specs.Progress.{kept}
-use Rattle.fibs_lines.specs.LinesValue.{StandsAfter}
-use Rattle.fibs_lines.specs.LinesValue.{lines_value}
+use Rattle.fibs_lines.specs.LinesValue.{StandsAfter, lines_value}
 use Rattle.fibs_lines.proofs.FeedLemmas.{kept_of, KeptAfter-from_stands, value_where_lent, value_where_not_lent}
 use Rattle.fibs_lines.proofs.FeedLemmas.{held_of_front}
 use Rattle.fibs_lines.proofs.lines.Lines.held.Goals as goal
