@@ -41,6 +41,7 @@ pub record ReadsAlone (s t : List ℕ) : Type 0 where
   pub rest : rest_of (s ++ t) ≡ rest_of t
   pub start : AtLineStart t → AtLineStart (s ++ t)
 
+-- so it is at every line's start
 abbrev pub LineStartReadsAlone : Type 0
 LineStartReadsAlone = (s t : List ℕ) → AtLineStart s → ReadsAlone s t
 

@@ -37,6 +37,7 @@ place = Between (negsuc 14) (pos 15)
 abbrev pub checkers : Values
 checkers = Between (pos 0) (pos 15)
 
+-- a count that has no limit of its own
 abbrev pub count : Values
 count = Between (pos 0) (pos 9999)
 

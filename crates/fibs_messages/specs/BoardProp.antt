@@ -6,14 +6,17 @@ use Rattle.fibs_messages.specs.Decimal.{allows}
 use Rattle.fibs_messages.specs.declared.fields.values.Values.{Values}
 use Rattle.fibs_messages.specs.Board.{BoardFields, Fit, IsBoard}
 
+-- that a test passes has one proof
 true-prop : (b : Bool) → IsProp (b ≡ true)
 true-prop b = Coded-set coded_bool b true
 
+-- that numbers fit their fields has one proof
 pub Fit-prop : (vs : List Values) (zs : List ℤ) → IsProp (Fit vs zs)
 Fit-prop [] [] = Unit-prop
 Fit-prop [] (z ∷ zs) = λ a b. absurd (a)
 Fit-prop (v ∷ vs) [] = λ a b. absurd (a)
 Fit-prop (v ∷ vs) (z ∷ zs) = ×_prop (true-prop (allows v z)) (Fit-prop vs zs)
 
+-- that fields are a board has one proof
 pub IsBoard-prop : (b : BoardFields) → IsProp (IsBoard b)
 IsBoard-prop b = Prim.hlevel (props, Fit-prop)

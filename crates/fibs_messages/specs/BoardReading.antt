@@ -12,9 +12,11 @@ abbrev pub pieces_of : Option (List ℕ) → List (List ℕ)
 pieces_of None = []
 pieces_of (Some rest) = pieces rest
 
+-- the same of what is left of a line
 abbrev pub pieces_left : Left → List (List ℕ)
 pieces_left l = pieces_of l.rest
 
+-- the fault of field n, where it has one, else a later one
 abbrev pub fault_or : ℕ → Option Fault → Option FieldFault → Option FieldFault
 fault_or n None later = later
 fault_or n (Some f) later = Some (record { field = n; fault = f })

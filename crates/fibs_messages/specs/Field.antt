@@ -40,6 +40,7 @@ pub data FieldValue : Type 0 where
   RatingField : ℕ → FieldValue
   TextField : List ℕ → FieldValue
 
+-- the kind of a value
 abbrev pub kind_of : FieldValue → Kind
 kind_of (NameField s) = a_name
 kind_of (WordField s) = a_word
@@ -93,10 +94,11 @@ IsSpelling v text = text ≡ canonical_text v
 abbrev pub Spells : FieldValue → List ℕ → Type 0
 Spells v text = IsValue v × IsSpelling v text
 
--- the numbers of a flag, and those of 64 bits
+-- the numbers of a flag
 abbrev pub flag_values : Values
 flag_values = Between (pos 0) (pos 1)
 
+-- the numbers of 64 bits
 abbrev pub number_values : Values
 number_values = Between (pos 0) (pos (numbers_of_64_bits - 1))
 

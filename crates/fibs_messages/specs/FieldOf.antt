@@ -6,6 +6,7 @@ use Rattle.fibs_messages.specs.Field.{FieldValue, NameField, WordField, TailFiel
 use Rattle.fibs_messages.specs.Field.{TextField}
 use Rattle.fibs_messages.specs.Bytes.{name_bytes, word_bytes, tail_bytes}
 
+-- a field that is printed
 abbrev pub value_of : Field → FieldValue
 value_of (Name name) = NameField (name_bytes name)
 value_of (Word word) = WordField (word_bytes word)
@@ -15,5 +16,6 @@ value_of (Number number) = NumberField number
 value_of (Rating rating) = RatingField rating
 value_of (Text text) = TextField text.now
 
+-- all fields that are printed
 abbrev pub values_of : List Field → List FieldValue
 values_of fields = map value_of fields

@@ -20,20 +20,25 @@ pub record Left : Type 0 where
   pub separator : ℕ
   pub rest : Option (List ℕ)
 
+-- what a reader of fields has left
 abbrev pub left_of : Fields → Left
 left_of f = record { separator = f.separator; rest = seen f.rest }
 
+-- what is left, by its parts
 abbrev pub left : ℕ → Option (List ℕ) → Left
 left c rest = record { separator = c; rest = rest }
 
+-- one step, and then another where the first did not fail
 infixl 10 ◌>>=◌
 abbrev pub ◌>>=◌ : {A B E : Type 0} → Result A E → (A → Result B E) → Result B E
 (Ok x) >>= f = f x
 (Err e) >>= f = Err e
 
+-- a value where a test passes, and else no name
 abbrev pub good : {A : Type 0} → Bool → A → Result A Fault
 good test value = cond test (Ok value) (Err BadName)
 
+-- a number, and 0 for one below 0
 abbrev pub natural : ℤ → ℕ
 natural (pos n) = n
 natural (negsuc n) = 0
@@ -50,9 +55,11 @@ value_in a_number text = number_in number_values text >>= λ z. Ok (NumberField 
 value_in a_rating text = rating_in text >>= λ r. Ok (RatingField r)
 value_in a_text text = Ok (TextField text)
 
+-- what is wrong with a field, with the number of the field
 abbrev pub fault_of_field : {A : Type 0} → ℕ → Fault → Result A FieldFault
 fault_of_field i f = Err (record { field = i; fault = f })
 
+-- the same, where something is wrong
 abbrev pub numbered : {A : Type 0} → ℕ → Result A Fault → Result A FieldFault
 numbered i (Ok x) = Ok x
 numbered i (Err f) = fault_of_field i f
@@ -62,6 +69,7 @@ abbrev pub text_in : Kind → ℕ → ℕ → Option (List ℕ) → Result (List
 text_in k i c None = if may_be_absent k then Ok ([], left c None) else fault_of_field i Missing
 text_in k i c (Some s) = if takes_rest k then Ok (s, left c None) else Ok (before c s, left c (after c s))
 
+-- the same of what is left of a line
 unfoldable pub text_at : Kind → ℕ → Left → Result (List ℕ × Left) FieldFault
 text_at k i l = text_in k i l.separator l.rest
 
@@ -83,10 +91,12 @@ next_at read i l = do
   x ← numbered i (read t.0)
   Ok (x, t.1)
 
+-- nothing may be left, else the field is surplus
 abbrev pub end_in : ℕ → Option (List ℕ) → Result (List FieldValue) FieldFault
 end_in i None = Ok []
 end_in i (Some s) = fault_of_field i Extra
 
+-- the same of what is left of a line
 unfoldable pub end_at : ℕ → Left → Result (List FieldValue) FieldFault
 end_at i l = end_in i l.rest
 

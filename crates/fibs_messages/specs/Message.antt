@@ -26,6 +26,7 @@ pub record Row : Type 0 where
   pub number : ℕ
   pub kinds : List Kind
 
+-- a row, by its parts
 abbrev pub row : ℕ → List Kind → Row
 row n ks = record { number = n; kinds = ks }
 
@@ -71,9 +72,11 @@ table =
     ∷ row 19 (a_text ∷ [])
     ∷ []
 
+-- a number of the table
 abbrev pub IsNumber : ℕ → Type 0
 IsNumber n = (1 ≤ n) × (n ≤ 19)
 
+-- the kinds of the fields of a number in some rows
 abbrev pub kinds_in : List Row → ℕ → List Kind
 kinds_in [] n = []
 kinds_in (r ∷ rows) n = if r.number == n then r.kinds else kinds_in rows n
@@ -96,6 +99,7 @@ pub data FieldText : FieldValue → List ℕ → Type 0 where
   spelled : {v : FieldValue} {text : List ℕ} → Spells v text → FieldText v (32 ∷ text)
   no_text : FieldText (TextField []) []
 
+-- fields in a line, one after another
 pub data FieldsText : List FieldValue → List ℕ → Type 0 where
   no_fields : FieldsText [] []
   more_fields : {v : FieldValue} {vs : List FieldValue} {text texts : List ℕ} →
@@ -122,6 +126,7 @@ number_word (d ∷ []) = if is_in_range 49 57 d then Some (d - 48) else None
 number_word (d ∷ e ∷ []) = if d == 49 && is_in_range 48 57 e then Some (10 + (e - 48)) else None
 number_word (d ∷ e ∷ f ∷ s) = None
 
+-- the line begins with a number of the table
 abbrev pub IsNumbered : List ℕ → Type 0
 IsNumbered line = (n : ℕ) × HasNumber line n
 
@@ -134,6 +139,7 @@ abbrev pub WrongMessage : List ℕ → ℕ → ℕ → Fault → Type 0
 WrongMessage line n k f = HasNumber line n
     × IsFirstFault (fault_at (kinds_of n) (texts_for (kinds_of n) 32 (after 32 (kept n line)))) k f
 
+-- a text and a space before it, where it is not empty
 abbrev pub space_before : List ℕ → List ℕ
 space_before [] = []
 space_before (b ∷ s) = 32 ∷ b ∷ s
@@ -156,9 +162,11 @@ pub record IsMessage (m : MessageValue) : Type 0 where
 
 -- ---- the messages of the program as values
 
+-- a message, by its parts
 abbrev pub message : ℕ → List FieldValue → MessageValue
 message n fields = record { number = n; fields = fields }
 
+-- the fields of message 2
 abbrev pub own_info_fields : OwnInfo → List FieldValue
 own_info_fields i = NameField (name_bytes i.name)
     ∷ FlagField i.allowpip ∷ FlagField i.autoboard ∷ FlagField i.autodouble ∷ FlagField i.automove
@@ -169,6 +177,7 @@ own_info_fields i = NameField (name_bytes i.name)
     ∷ WordField (word_bytes i.redoubles) ∷ FlagField i.report ∷ FlagField i.silent
     ∷ WordField (word_bytes i.timezone) ∷ []
 
+-- the fields of message 5
 abbrev pub who_info_fields : WhoInfo → List FieldValue
 who_info_fields w = NameField (name_bytes w.name)
     ∷ NameField (name_bytes w.opponent) ∷ NameField (name_bytes w.watching)
@@ -177,6 +186,7 @@ who_info_fields w = NameField (name_bytes w.name)
     ∷ WordField (word_bytes w.hostname) ∷ WordField (word_bytes w.client)
     ∷ TailField (tail_bytes w.email) ∷ []
 
+-- the number and the fields of a message
 abbrev pub message_of : Message → MessageValue
 message_of (Welcome name last_login last_host) =
     message 1 (NameField (name_bytes name) ∷ NumberField last_login ∷ WordField (word_bytes last_host) ∷ [])

@@ -31,6 +31,7 @@ is_fraction (Some (d ∷ [])) = is_ascii_digit d
 is_fraction (Some (d ∷ e ∷ [])) = is_ascii_digit d && is_ascii_digit e
 is_fraction (Some (d ∷ e ∷ f ∷ s)) = false
 
+-- the hundredths of it
 abbrev pub hundredths_of : Option (List ℕ) → ℕ
 hundredths_of None = 0
 hundredths_of (Some []) = 0

@@ -68,11 +68,13 @@ pub record MayDecide (p : PositionValue) (decision : DecisionValue) : Type 0 whe
 abbrev pub IsAllowed : BoardFields → DecisionValue → Type 0
 IsAllowed b decision = MayDecide (position_of b) decision
 
+-- what is refused on a board is what is refused in its position
 abbrev pub IsDisallowed : BoardFields → DecisionValue → Disallowed → Type 0
 IsDisallowed b decision why = IsRefused (position_of b) decision why
 
 -- ---- the same as functions
 
+-- a decision is of the kind of a phase
 abbrev pub is_for : DecisionValue → Phase → Bool
 is_for roll RollOrDouble = true
 is_for double RollOrDouble = true
@@ -81,6 +83,7 @@ is_for reject AnswerDouble = true
 is_for (move steps) Move = true
 is_for decision phase = false
 
+-- the cube allows a decision
 abbrev pub cube_allows : PositionValue → DecisionValue → Bool
 cube_allows p roll = true
 cube_allows p double = not (int_eq p.may_double (pos 0)) && int_le p.cube (pos 524288)
@@ -88,6 +91,7 @@ cube_allows p accept = int_le p.cube (pos 524288)
 cube_allows p reject = true
 cube_allows p (move steps) = true
 
+-- a decision is no move, or a legal one
 abbrev pub is_legal : PositionValue → DecisionValue → Bool
 is_legal p roll = true
 is_legal p double = true
@@ -95,6 +99,7 @@ is_legal p accept = true
 is_legal p reject = true
 is_legal p (move steps) = legal_of p.standing steps
 
+-- a reason against a decision holds
 abbrev pub forbids : PositionValue → DecisionValue → Disallowed → Bool
 forbids p decision NotYours = not (decides (phase_in p))
 forbids p decision WrongKind = not (is_for decision (phase_in p) && cube_allows p decision)

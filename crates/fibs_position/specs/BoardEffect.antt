@@ -101,18 +101,23 @@ Effect b decision dice after = IsGood b × Carries b decision dice after
 
 -- ---- the same as functions
 
+-- a number of a die
 abbrev pub is_die : ℕ → Bool
 is_die die = nat_lt 0 die && nat_le die 6
 
+-- both dice are dice
 abbrev pub are_thrown : List ℕ → Bool
 are_thrown dice = is_die (slice_index dice 0) && is_die (slice_index dice 1)
 
+-- the player has the turn, and no double is to be answered
 abbrev pub has_turn : BoardFields → Bool
 has_turn b = int_eq (turn b) (colour b) && int_eq (field_of b 41) (pos 0)
 
+-- the opponent has just doubled
 abbrev pub is_doubled : BoardFields → Bool
 is_doubled b = not (int_eq (turn b) (pos 0)) && int_eq (field_of b 41) (pos 1)
 
+-- the board afterwards, where the condition of the decision holds
 abbrev pub carried : BoardFields → DecisionValue → List ℕ → Option BoardFields
 carried b roll dice = if (has_turn b && no_dice b) && are_thrown dice then Some (rolled b dice) else None
 carried b double dice = if has_turn b && no_dice b then Some (doubled b) else None
@@ -121,5 +126,6 @@ carried b reject dice = if is_doubled b then Some (rejected b) else None
 carried b (move steps) dice =
     if has_turn b && not (no_dice b) then option_map (after_move b) (lax_of (own_view b) steps) else None
 
+-- the same on a good board, and none on any other
 unfoldable pub effect_of : BoardFields → DecisionValue → List ℕ → Option BoardFields
 effect_of b decision dice = if good b then carried b decision dice else None

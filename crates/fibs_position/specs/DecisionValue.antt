@@ -5,6 +5,7 @@ use Rattle.fibs_position.specs.PlayValue.{hops_of}
 use Rattle.fibs_position.specs.declared.decision.Decision.{Decision}
 use Rattle.fibs_position.specs.declared.decision.Decision.TheVariants.{Roll, Double, Accept, Reject, Move}
 
+-- to roll, to double, to accept or to reject a double, to move
 pub data DecisionValue : Type 0 where
   roll : DecisionValue
   double : DecisionValue
@@ -26,6 +27,7 @@ IsDecision (move steps) = IsPlay steps
 
 -- ---- the decisions of the program as values
 
+-- a decision and its steps
 abbrev pub decision_of : Decision → DecisionValue
 decision_of Roll = roll
 decision_of Double = double

@@ -14,10 +14,12 @@ from_to first last = range_with_len first (last + 1 - first)
 unfoldable pub game_fields : List ℕ
 game_fields = from_to 4 6 ++ from_to 8 31 ++ from_to 33 43 ++ from_to 46 47
 
+-- the opponent and the numbers of these fields
 pub record GamePart : Type 0 where
   pub opponent : List ℕ
   pub numbers : List ℤ
 
+-- the game part of a board
 abbrev pub game_part : BoardFields → GamePart
 game_part b = record { opponent = b.opponent; numbers = map (field_of b) game_fields }
 
@@ -31,12 +33,14 @@ Agree a b first last = map (field_of a) (from_to first last) ≡ map (field_of b
 
 -- ---- the same as a test
 
+-- two lists of numbers are one
 abbrev pub ints_eq : List ℤ → List ℤ → Bool
 ints_eq [] [] = true
 ints_eq [] (y ∷ ys) = false
 ints_eq (x ∷ xs) [] = false
 ints_eq (x ∷ xs) (y ∷ ys) = int_eq x y && ints_eq xs ys
 
+-- two game parts are one
 abbrev pub same_part : GamePart → GamePart → Bool
 same_part p q = bytes_eq p.opponent q.opponent && ints_eq p.numbers q.numbers
 

@@ -55,6 +55,7 @@ are_two a b = nat_lt 0 a && (nat_lt 0 b && not (a == b))
 abbrev pub larger_first : Standing → Bool
 larger_first p = are_two p.first p.second && can_play p.checkers (max p.first p.second)
 
+-- the steps are as many as can be played, and can be played by the dice that the rule leaves
 abbrev pub legal_of : Standing → List Hop → Bool
 legal_of p steps =
     (length steps == most_of p)

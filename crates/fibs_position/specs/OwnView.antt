@@ -41,23 +41,27 @@ places = range_with_len 1 24
 abbrev pub on_places : BoardFields → ℤ → List ℕ
 on_places b side = map (stand_on b side) places
 
+-- the player's checkers on places 1 to 24
 abbrev pub own_on_places : BoardFields → List ℕ
 own_on_places b = on_places b (colour b)
 
+-- the other side's checkers on places 1 to 24
 abbrev pub other_on_places : BoardFields → List ℕ
 other_on_places b = on_places b (neg_ℤ (colour b))
 
--- the checkers borne off
+-- the player's checkers borne off
 abbrev pub own_off : BoardFields → ℕ
 own_off b = natural (field_of b 46)
 
+-- the other side's checkers borne off
 abbrev pub other_off : BoardFields → ℕ
 other_off b = natural (field_of b 47)
 
--- the checkers on places 1 to 24 and off: those of fifteen that are not on the bar
+-- the player's checkers on places 1 to 24 and off: those of fifteen that are not on the bar
 abbrev pub own_placed : BoardFields → ℕ
 own_placed b = sum (own_on_places b) + own_off b
 
+-- the same of the other side
 abbrev pub other_placed : BoardFields → ℕ
 other_placed b = sum (other_on_places b) + other_off b
 
@@ -69,10 +73,11 @@ own_view b = record {
   other = (15 - other_placed b) ∷ (other_on_places b ++ other_off b ∷ []);
 }
 
--- the player's two dice, 0 for none
+-- the player's first die, 0 for none
 abbrev pub first_die : BoardFields → ℕ
 first_die b = natural (field_of b 34)
 
+-- the player's second die, 0 for none
 abbrev pub second_die : BoardFields → ℕ
 second_die b = natural (field_of b 35)
 
@@ -80,6 +85,7 @@ second_die b = natural (field_of b 35)
 abbrev pub NoDice : BoardFields → Type 0
 NoDice b = (first_die b ≡ 0) × (second_die b ≡ 0)
 
+-- the same as a test
 abbrev pub no_dice : BoardFields → Bool
 no_dice b = (first_die b == 0) && (second_die b == 0)
 

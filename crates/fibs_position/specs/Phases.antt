@@ -41,6 +41,7 @@ decides Passing = false
 
 -- ---- the same as functions
 
+-- a line of the table fits
 abbrev pub phase_fits : PositionValue → Phase → Bool
 phase_fits p Over = int_eq p.turn (pos 0)
 phase_fits p AnswerDouble = int_eq p.was_doubled (pos 1)
@@ -49,8 +50,10 @@ phase_fits p RollOrDouble = (p.standing.first == 0) && (p.standing.second == 0)
 phase_fits p Move = can_move p.standing
 phase_fits p Passing = true
 
+-- the phase of a position
 unfoldable pub phase_in : PositionValue → Phase
 phase_in p = unwrap_or (find (phase_fits p) phases) Passing
 
+-- the phase of a board
 abbrev pub phase_of : BoardFields → Phase
 phase_of b = phase_in (position_of b)

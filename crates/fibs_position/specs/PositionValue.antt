@@ -8,6 +8,7 @@ use Rattle.fibs_position.specs.declared.direction.Direction.{Direction}
 use Rattle.fibs_messages.specs.StoredBoard.{fields_of}
 use Rattle.fibs_position.specs.declared.position.Position.{Position}
 
+-- what the rules read of a board
 pub record PositionValue : Type 0 where
   -- the checkers of both sides, and the player's dice
   pub standing : Standing

@@ -33,6 +33,7 @@ pub record Standing : Type 0 where
   pub first : ℕ
   pub second : ℕ
 
+-- the dice that are held
 abbrev pub held : Standing → List ℕ
 held p = held_of p.first p.second
 

@@ -53,6 +53,7 @@ unfoldable pub reaches_by : Checkers → ℕ → List ℕ → List Hop → ℕ �
 reaches_by p die dice play n =
     reach_by (λ hop q. reaches q dice (next_top die dice hop.source) (play ++ hop ∷ [])) p die n
 
+-- two arrangements are one
 abbrev pub same : Checkers → Checkers → Bool
 same p q = pointwise nat_eq p.own q.own && pointwise nat_eq p.other q.other
 
