@@ -5,3 +5,4 @@ pub mod PlaysLemmas
 pub mod ProgramLemmas
 pub mod TurnLemmas
 pub mod ConverseLemmas
+pub mod ReplayLemmas

@@ -7,3 +7,4 @@ pub mod Plays
 pub mod Program
 pub mod Turns
 pub mod Converse
+pub mod Replay

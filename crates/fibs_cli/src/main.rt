@@ -9,6 +9,7 @@ pub mod laws;
 mod plays;
 mod printing;
 mod program;
+mod replay;
 mod show;
 #[cfg(test)]
 mod tests;

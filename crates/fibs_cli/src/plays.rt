@@ -15,6 +15,7 @@ ghost use Rattle.fibs_cli.specs.Show.{reading_text};
 ghost use Rattle.fibs_cli.specs.Writing.{GainedFront};
 
 use crate::fault::EngineFault;
+use crate::printing::fixed::append;
 use crate::writing::{Progress, write_bytes};
 use arrayvec::ArrayVec;
 use fibs_messages::{Fault, Reading, read};
@@ -80,14 +81,6 @@ fn position_of(line: &[u8]) -> Result<Position, RefusalLine>
         } => Err(malformed(field, fault)),
         _ => Err(one_line(b"not a board", b"")),
     }
-}
-
-/// Appends bytes for which there is room.
-fn append(line: &mut RefusalLine, bytes: &[u8])
-    requires { array_vec_len line.old + length bytes.now ≤ 64 }
-    ensures { line.new.items ≡ line.old.items ++ bytes.now }
-{
-    let _fits = line.try_extend_from_slice(bytes);
 }
 
 /// A line of these two parts.

@@ -5,4 +5,5 @@ mod exchange;
 mod pipe;
 mod plays;
 mod program;
+mod scripts;
 mod show;

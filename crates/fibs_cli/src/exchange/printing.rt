@@ -109,7 +109,7 @@ pub(super) fn print_labelled<W: Write>(
 }
 
 /// The direction of a board.
-pub(super) fn direction_of(board: &Board) -> Direction
+pub(crate) fn direction_of(board: &Board) -> Direction
     ensures { result ≡ direction_of (fields_of board.now) }
 {
     if board.field(DIRECTION_FIELD) == -1 {
