@@ -1,5 +1,6 @@
 //! The engines and the program over streams in memory.
 
+mod connect;
 mod devices;
 mod exchange;
 mod pipe;

@@ -1,0 +1,310 @@
+//! Conversations, with streams in memory and on real sockets.
+
+use super::devices::Endless;
+use super::pipe::{After, Pipe};
+use crate::connect::dial::Dial;
+use crate::connect::{converse, converse_with};
+use crate::fault::EngineFault;
+use std::io;
+use std::io::Read;
+use std::net::{Net, OpenListener, TcpListener};
+use std::test::Fail;
+
+/// A server in memory: what each connection gives, how many bytes it takes, and how many connections there are.
+#[derive(Drop)]
+struct Door<'a> {
+    input: &'a [u8],
+    room: usize,
+    connections: u32,
+}
+
+impl<'a> Dial for Door<'a> {
+    type Stream = Pipe<'a>;
+
+    fn dial(&mut self) -> Option<Pipe<'a>> {
+        if self.connections == 0 {
+            return None;
+        }
+        self.connections -= 1;
+        Some(Pipe::new(self.input, 7, After::WouldBlock, self.room))
+    }
+}
+
+/// What is typed, how often one can connect, and what comes of it.
+struct Case {
+    name: &'static str,
+    typed: &'static [u8],
+    connections: u32,
+    status: u8,
+    out: &'static [u8],
+    err: &'static [u8],
+}
+
+const WELCOME: &[u8] = b"1 ann 1041253132 localhost\r\n\
+    5 someplayer mgnu_advanced - 0 0 1912.15 827 8 1040515752 192.168.143.5 3DFiBs -\r\n\
+    5 bob - - 1 0 1500.5 0 3 1040515752 host - -\r\n";
+
+static CASES: [Case; 8] = [
+    Case {
+        name: "nothing is typed",
+        typed: b"",
+        connections: 1,
+        status: 3,
+        out: b"",
+        err: b"fault 2 BadText\n",
+    },
+    Case {
+        name: "the password is the empty line",
+        typed: b"\r\nroll\n",
+        connections: 1,
+        status: 3,
+        out: b"",
+        err: b"fault 2 BadText\n",
+    },
+    Case {
+        name: "the password keeps a return without a line end",
+        typed: b"secret\r",
+        connections: 1,
+        status: 3,
+        out: b"",
+        err: b"fault 2 BadText\n",
+    },
+    Case {
+        name: "only the password is typed",
+        typed: b"secret",
+        connections: 1,
+        status: 0,
+        out: b"",
+        err: b"",
+    },
+    Case {
+        name: "nobody answers",
+        typed: b"secret\n\nroll\r\nplayers\nopen\nquit",
+        connections: 0,
+        status: 0,
+        out: b"no connection\nrefused 2 Offline\nno connection\n",
+        err: b"",
+    },
+    Case {
+        name: "players are listed, and lines after quit are not answered",
+        typed: b"secret\n\nopen\nplayers\nquit\ndance\n",
+        connections: 1,
+        status: 0,
+        out: b"message 1 ann 1041253132 localhost\n\
+            message 5 someplayer mgnu_advanced - 0 0 1912.15 827 8 1040515752 192.168.143.5 3DFiBs -\n\
+            message 5 bob - - 1 0 1500.5 0 3 1040515752 host - -\n\
+            refused 1 AlreadyOpen\nplayer someplayer 1912.15\nplayer bob 1500.50\n",
+        err: b"",
+    },
+    Case {
+        name: "a line is typed that is no command",
+        typed: b"secret\nplayers \nOpen\nquit",
+        connections: 0,
+        status: 0,
+        out: b"no connection\nunknown\nunknown\n",
+        err: b"",
+    },
+    Case {
+        name: "the last line has no end",
+        typed: b"secret\nroll",
+        connections: 0,
+        status: 0,
+        out: b"no connection\nrefused 2 Offline\n",
+        err: b"",
+    },
+];
+
+/// However the typed bytes come.
+#[test]
+fn answers_what_is_typed(rt: HostRuntime) {
+    for case in &CASES {
+        for most in [1, 2, 7, 1000] {
+            let mut door = Door {
+                input: WELCOME,
+                room: 4096,
+                connections: case.connections,
+            };
+            let mut typed = Pipe::new(case.typed, most, After::End, 0);
+            let mut out = Pipe::new(b"", 1, After::End, 4096);
+            let mut err = Pipe::new(b"", 1, After::End, 4096);
+            let ending = converse_with(
+                &mut door,
+                rt.alloc(),
+                b"ann",
+                1000,
+                &mut typed,
+                &mut out,
+                &mut err,
+            );
+            assert_eq!(rt; ending, Ok(case.status), "{}", case.name);
+            assert_eq!(rt; out.output(), case.out, "{}", case.name);
+            assert_eq!(rt; err.output(), case.err, "{}", case.name);
+        }
+    }
+}
+
+/// A login that can't be written whole ends its connection, and the next one is another.
+#[test]
+fn each_write_of_a_login_that_fails_loses_the_connection(rt: HostRuntime) {
+    let login = b"login fibs_client 1008 ann secret\r\n";
+    for room in 0..login.len() + 1 {
+        let mut door = Door {
+            input: b"",
+            room,
+            connections: 2,
+        };
+        let mut typed = Pipe::new(b"secret\nroll\nopen\n", 100, After::End, 0);
+        let mut out = Pipe::new(b"", 1, After::End, 4096);
+        let mut err = Pipe::new(b"", 1, After::End, 4096);
+        let ending = converse_with(
+            &mut door,
+            rt.alloc(),
+            b"ann",
+            1000,
+            &mut typed,
+            &mut out,
+            &mut err,
+        );
+        let wanted: &[u8] = if room < login.len() {
+            b"lost\nrefused 2 Offline\nlost\n"
+        } else {
+            b"refused 3 NotReady\nrefused 1 AlreadyOpen\n"
+        };
+        assert_eq!(rt; ending, Ok(0), "at {room}");
+        assert_eq!(rt; out.output(), wanted, "at {room}");
+    }
+}
+
+/// Each device that fails ends the conversation.
+#[test]
+fn a_device_that_fails_is_a_fault(rt: HostRuntime) {
+    let wanted: &[u8] = b"no connection\nrefused 2 Offline\n";
+    for room in 0..wanted.len() {
+        let mut door = Door {
+            input: b"",
+            room: 0,
+            connections: 0,
+        };
+        let mut typed = Pipe::new(b"secret\nroll\n", 100, After::End, 0);
+        let mut out = Pipe::new(b"", 1, After::End, room);
+        let mut err = Pipe::new(b"", 1, After::End, 0);
+        let ending = converse_with(
+            &mut door,
+            rt.alloc(),
+            b"ann",
+            1000,
+            &mut typed,
+            &mut out,
+            &mut err,
+        );
+        assert_eq!(rt; ending, Err(EngineFault::Device), "at {room}");
+        assert_eq!(rt; out.output(), &wanted[..room], "at {room}");
+    }
+    for length in 0..12 {
+        let mut door = Door {
+            input: b"",
+            room: 0,
+            connections: 0,
+        };
+        let mut typed = Pipe::new(&b"secret\nroll\n"[..length], 100, After::Fault, 0);
+        let mut out = Pipe::new(b"", 1, After::End, 100);
+        let mut err = Pipe::new(b"", 1, After::End, 0);
+        let ending = converse_with(
+            &mut door,
+            rt.alloc(),
+            b"ann",
+            1000,
+            &mut typed,
+            &mut out,
+            &mut err,
+        );
+        assert_eq!(rt; ending, Err(EngineFault::Device), "at {length}");
+    }
+}
+
+/// What is typed is read so often, and no more.
+#[test]
+fn typed_lines_without_end_end(rt: HostRuntime) {
+    for reads in [0, 1, 5] {
+        let mut door = Door {
+            input: b"",
+            room: 0,
+            connections: 0,
+        };
+        let mut typed = Endless::new();
+        let mut out = Pipe::new(b"", 1, After::End, 4096);
+        let mut err = Pipe::new(b"", 1, After::End, 0);
+        let ending = converse_with(
+            &mut door,
+            rt.alloc(),
+            b"ann",
+            reads,
+            &mut typed,
+            &mut out,
+            &mut err,
+        );
+        assert_eq!(rt; ending, Err(EngineFault::Device), "at {reads}");
+        assert_eq!(rt; typed.asked(), reads, "at {reads}");
+    }
+}
+
+/// A port of this machine on which nothing listens.
+fn free_port<N: Net>(rt: &N) -> io::Result<u16> {
+    let listener = TcpListener::bind(rt, "127.0.0.1:0")?;
+    Ok(listener.local_addr()?.port())
+}
+
+#[test]
+fn a_port_where_nothing_listens_gives_no_connection(rt: HostRuntime) -> Result<(), Fail> {
+    let port = free_port(&rt)?;
+    let mut typed = Pipe::new(b"secret\nroll\nquit\n", 100, After::End, 0);
+    let mut out = Pipe::new(b"", 1, After::End, 100);
+    let mut err = Pipe::new(b"", 1, After::End, 100);
+    let ending = converse(
+        &rt,
+        rt.alloc(),
+        "127.0.0.1",
+        port,
+        b"ann",
+        &mut typed,
+        &mut out,
+        &mut err,
+    );
+    assert_eq!(rt; ending, Ok(0));
+    assert_eq!(rt;
+        out.output(),
+        b"no connection\nrefused 2 Offline\n".as_slice()
+    );
+    assert!(rt; err.output().is_empty());
+    Ok(())
+}
+
+#[test]
+fn a_socket_is_given_the_login_and_no_more(rt: HostRuntime) -> Result<(), Fail> {
+    let listener = TcpListener::bind(&rt, "127.0.0.1:0")?;
+    let port = listener.local_addr()?.port();
+    let mut typed = Pipe::new(b"secret\n\nquit\n", 100, After::End, 0);
+    let mut out = Pipe::new(b"", 1, After::End, 100);
+    let mut err = Pipe::new(b"", 1, After::End, 100);
+    let ending = converse(
+        &rt,
+        rt.alloc(),
+        "127.0.0.1",
+        port,
+        b"ann",
+        &mut typed,
+        &mut out,
+        &mut err,
+    );
+    assert_eq!(rt; ending, Ok(0));
+    assert!(rt; out.output().is_empty() && err.output().is_empty());
+    let (mut far, _peer) = listener.accept()?;
+    let mut received = [0u8; 100];
+    let count = far.read(&mut received)?;
+    assert_eq!(rt;
+        &received[..count],
+        b"login fibs_client 1008 ann secret\r\n".as_slice()
+    );
+    assert_eq!(rt; far.read(&mut received)?, 0);
+    Ok(())
+}
