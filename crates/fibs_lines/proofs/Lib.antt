@@ -1,3 +1,4 @@
+-- Why the definitions of lines and the code agree.
 pub mod Parts
 pub mod Streams
 pub mod RunLemmas

@@ -1,7 +1,7 @@
 -- The lines of a byte stream: telnet commands (RFC 854), line ends, the limit and the prompts. Each definition cuts a
 -- whole list.
 use Rattle.std.specs.Prelude.{ℕ, zero, suc, Bool, ◌&&◌, ◌==◌, nat_le, nat_lt, nat_eq, List, [], ◌∷◌, length, take, drop}
-use Rattle.std.specs.Prelude.{map, count_by, if◌then◌else◌, Option, None, Some}
+use Rattle.std.specs.Prelude.{map, codes, count_by, if◌then◌else◌, Option, None, Some}
 use Rattle.std.specs.List.{starts_with, slice_split, after_last}
 use Rattle.std.specs.Str.Lines.{strip_carriage_return}
 use Rattle.fibs_lines.specs.declared.line.Line.{Line}
@@ -35,13 +35,13 @@ is_line_end b = b == 10
 abbrev pub finished_parts : List ℕ → List (List ℕ)
 finished_parts p = take (count_by is_line_end p) (slice_split is_line_end p)
 
--- `login: `
+-- the prompt of a server that wants a login
 abbrev pub login_prompt : List ℕ
-login_prompt = 108 ∷ 111 ∷ 103 ∷ 105 ∷ 110 ∷ 58 ∷ 32 ∷ []
+login_prompt = codes "login: "
 
--- `> `
+-- the prompt of a server that wants a command
 abbrev pub command_prompt : List ℕ
-command_prompt = 62 ∷ 32 ∷ []
+command_prompt = codes "> "
 
 -- the line without at most n prompts at its start
 unfoldable pub without_some_prompts : ℕ → List ℕ → List ℕ

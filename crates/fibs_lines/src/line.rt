@@ -1,3 +1,5 @@
+//! A line that was read, as it is lent.
+
 ghost use Rattle.std.specs.Prelude.{◌≡◌};
 ghost use Rattle.std.specs.Str.Lines.{strip_carriage_return};
 

@@ -1,3 +1,5 @@
+//! The prompts of the server at a line's start.
+
 ghost use Rattle.std.specs.Prelude.{◌≡◌, ◌≤◌, length, drop};
 ghost use Rattle.fibs_lines.specs.Lines.{without_prompts};
 

@@ -1,3 +1,5 @@
+//! The telnet commands of a stream.
+
 /// How much of a telnet command has come.
 #[derive(Clone, Copy, Debug, PartialEq, Eq)]
 pub(crate) enum Telnet {

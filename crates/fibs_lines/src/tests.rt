@@ -1,3 +1,5 @@
+//! Tests of lines by worked streams, by every cut, and under refused memory.
+
 use crate::{LIMIT, Line, Lines};
 use std::alloc::{AllocError, Allocator};
 use std::test::Fail;

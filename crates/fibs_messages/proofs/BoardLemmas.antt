@@ -1,3 +1,4 @@
+-- Boards: their fields, their lines, their faults.
 pub mod Backward
 pub mod BoardEquality
 pub mod BoardHeads

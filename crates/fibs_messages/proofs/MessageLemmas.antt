@@ -1,3 +1,4 @@
+-- Messages: their table, their lines, their faults.
 pub mod CanonicalLines
 pub mod FieldFaults
 pub mod MessageEquality

@@ -1,3 +1,4 @@
+-- Numbers and the texts that spell them.
 pub mod CappedNumbers
 pub mod Digits
 pub mod Naturals

@@ -1,3 +1,4 @@
+-- Boards and what they say of a position.
 pub mod CountLines
 pub mod SetFields
 pub mod ChangedFields

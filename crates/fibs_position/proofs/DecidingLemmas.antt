@@ -1,3 +1,4 @@
+-- Phases and what a player may decide.
 pub mod FirstFit
 pub mod PhaseLines
 pub mod PhaseTable

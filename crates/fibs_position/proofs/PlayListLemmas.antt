@@ -1,3 +1,4 @@
+-- The list of plays.
 pub mod NoteLoop
 pub mod VisitLoop
 pub mod PlayOrder

@@ -1,3 +1,4 @@
+-- The rules of steps and plays.
 pub mod OneChecker
 pub mod DiceParts
 pub mod StepsSwap

@@ -1,3 +1,4 @@
+-- The search for runs of steps.
 pub mod LongestLoop
 pub mod LongestRuns
 pub mod MostDice

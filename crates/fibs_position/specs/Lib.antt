@@ -1,3 +1,4 @@
+-- What a caller reads: the rules of play over boards of style 3, from one step up to the effect of a decision.
 pub mod First
 pub mod Hop
 pub mod PlayValue
@@ -6,11 +7,9 @@ pub mod OneChecker
 pub mod Runs
 pub mod LegalPlays
 pub mod LaxPlays
-pub mod Search
 pub mod DirectionOf
 pub mod OwnView
 pub mod GoodBoard
-pub mod GoodBoardProp
 pub mod GamePart
 pub mod PositionValue
 pub mod Phases
@@ -20,3 +19,6 @@ pub mod Allowed
 pub mod PlaysOf
 pub mod Names
 pub mod Laws
+-- What only private functions and proofs say.
+pub mod GoodBoardProp
+pub mod Search

@@ -1,3 +1,5 @@
+//! What a user may decide.
+
 ghost use Rattle.std.specs.Prelude.{◌≡◌};
 
 use crate::phase::Phase;

@@ -1,3 +1,5 @@
+//! Which way a player goes.
+
 ghost use Rattle.std.specs.Prelude.{◌≡◌, ◌≤◌};
 
 /// Which way a player's checkers go by the numbers of the board line.

@@ -1,3 +1,5 @@
+//! Tests of what a player may choose.
+
 use crate::decision::Decision;
 use crate::play::Play;
 use crate::step::Step;

@@ -1,3 +1,5 @@
+//! Tests of boards by worked lines.
+
 use crate::laws::{print_reads_back, prints_tell_boards};
 use crate::{Board, Fault, FieldFault, Name, Reading, read, read_decimal, split};
 use arrayvec::ArrayVec;

@@ -1,3 +1,5 @@
+//! Tests of messages by worked lines.
+
 use crate::laws::{canonical_lines_read_back, messages_are_well_formed};
 use crate::{Fault, Message, Reading, Tail, Word, print_message, read};
 use std::alloc::{AllocError, Global};
