@@ -4,11 +4,12 @@ use Rattle.std.specs.Borrow.{Bor}
 use Rattle.std.specs.Io.KnownBytes.{Appends, Keeps, IsAtEnd}
 use Rattle.fibs_messages.specs.Board.{BoardFields}
 use Rattle.fibs_cli.specs.Plays.{PlaysText}
-use Rattle.fibs_cli.specs.Program.{Showed, Listed, Played, Printed, Served}
+use Rattle.fibs_cli.specs.Program.{Showed, Listed, Played, Printed, RanScript, Served}
+use Rattle.fibs_cli.specs.Replay.Output.{Replayed, ReplayFailed, ReplayedInPart}
 use Rattle.fibs_cli.specs.Show.{WroteAll, WroteRead, WroteLines, WroteFront}
 use Rattle.fibs_cli.specs.Writing.{GainedFront}
 use Rattle.fibs_cli.specs.declared.arguments.Request.{Request}
-use Rattle.fibs_cli.specs.declared.arguments.Request.TheVariants.{Show, Plays}
+use Rattle.fibs_cli.specs.declared.arguments.Request.TheVariants.{Show, Plays, Replay}
 use Rattle.fibs_cli.specs.declared.fault.EngineFault.{EngineFault}
 use Rattle.fibs_cli.specs.declared.fault.EngineFault.TheVariants.{Device, Memory}
 
@@ -34,6 +35,19 @@ pub printed : (r : Result ℕ EngineFault) (status : ℕ) (text : List ℕ) (hel
     → Printed status text r held now
 printed (Ok answered) status text held now told = told
 printed (Err fault) status text held now told = told
+
+-- the clauses of `replay` in one
+pub ran_script : (r : Result ℕ EngineFault) (left still held now : Option (List ℕ)) → IfOk r (λ status. Replayed status left still held now)
+    → (IsErrOf r Device → ReplayFailed left still held now) → (IsErrOf r Memory → ReplayedInPart left still held now) → RanScript r left still held now
+ran_script (Ok status) left still held now done device memory = done
+ran_script (Err Device) left still held now done device memory = device refl
+ran_script (Err Memory) left still held now done device memory = memory refl
+
+-- a request to replay is served so
+pub served_replay : (request : Request) (r : Result ℕ EngineFault) (left still held now other then : Option (List ℕ)) → request ≡ Replay
+    → RanScript r left still held now → Keeps other then → Served request r left still held now other then
+served_replay request r left still held now other then is ran kept =
+    subst (λ q. Served q r left still held now other then) (sym is) (ran, kept)
 
 -- a request to show is served so
 pub served_show : (request : Request) (r : Result ℕ EngineFault) (left still held now other then : Option (List ℕ)) → request ≡ Show

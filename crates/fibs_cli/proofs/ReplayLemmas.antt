@@ -5,3 +5,4 @@ pub mod Events
 pub mod Lines
 pub mod Scripts
 pub mod Outputs
+pub mod Runs

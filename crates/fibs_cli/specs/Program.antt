@@ -7,12 +7,13 @@ use Rattle.fibs_messages.specs.Line.{ReadingValue, board_line, IsReading}
 use Rattle.fibs_position.specs.GoodBoard.{IsGood}
 use Rattle.fibs_cli.specs.Converse.Ending.{Conversed}
 use Rattle.fibs_cli.specs.Plays.{PlaysText, Refusal}
+use Rattle.fibs_cli.specs.Replay.Output.{Replayed, ReplayFailed, ReplayedInPart}
 use Rattle.fibs_cli.specs.Show.{WroteAll, WroteRead, WroteLines, WroteFront}
 use Rattle.fibs_cli.specs.Writing.{GainedFront}
 use Rattle.fibs_cli.specs.declared.arguments.Answer.{Answer}
 use Rattle.fibs_cli.specs.declared.arguments.Answer.TheVariants.{Engine, Help, Refused, Memory}
 use Rattle.fibs_cli.specs.declared.arguments.Request.{Request}
-use Rattle.fibs_cli.specs.declared.arguments.Request.TheVariants.{Show, Plays, Connect}
+use Rattle.fibs_cli.specs.declared.arguments.Request.TheVariants.{Show, Plays, Replay, Connect}
 use Rattle.fibs_cli.specs.declared.fault.EngineFault.{EngineFault}
 use Rattle.fibs_cli.specs.declared.fault.EngineFault.TheVariants as fault
 
@@ -42,11 +43,18 @@ Played line result held now other then =
     ((b : BoardFields) → IsReading line (board_line b) → IsGood b → Listed b result held now × Keeps other then)
     × ((reading : ReadingValue) → (why : List ℕ) → IsReading line reading → Refusal reading why → Printed 3 (why ++ (10 ∷ [])) result other then × Keeps held now)
 
+-- the engine `replay` answered so, with what its reader has left and what its writer holds, before and after
+abbrev pub RanScript : Result ℕ EngineFault → Option (List ℕ) → Option (List ℕ) → Option (List ℕ) → Option (List ℕ) → Type 0
+RanScript (Ok status) left still held now = Replayed status left still held now
+RanScript (Err fault.Device) left still held now = ReplayFailed left still held now
+RanScript (Err fault.Memory) left still held now = ReplayedInPart left still held now
+
 -- an engine answered so for a request: with what the standard input has left, and what the standard output and the standard
 -- error hold, before and after
 abbrev pub Served : Request → Result ℕ EngineFault → Option (List ℕ) → Option (List ℕ) → Option (List ℕ) → Option (List ℕ) → Option (List ℕ) → Option (List ℕ) → Type 0
 Served Show result left still held now other then = Showed result left still held now × Keeps other then
 Served (Plays line) result left still held now other then = Played line.now result held now other then × Keeps left still
+Served Replay result left still held now other then = RanScript result left still held now × Keeps other then
 Served (Connect host port name) result left still held now other then = Conversed name.now result left held now other then
 
 -- a command line is answered so: help is printed on standard output with status 0, and what is wrong with it on standard error

@@ -5,3 +5,4 @@ pub mod Scripts
 pub mod LogLines
 pub mod Output
 pub mod Passing
+pub mod Running

@@ -13,6 +13,7 @@ Examples:
   fibs show < session.log        print what each line of a saved session says
   nc fibs.com 4321 | fibs show   the same of a connection, as its lines come
   fibs plays board:You:...       list the plays of a board
+  fibs replay < double-click.txt run a script of clicks, cuts and losses, and print what happened
   fibs connect HOST PORT NAME    log in, and play
 
 Exit status: 0 done, 2 wrong arguments, 3 refused input, 4 a device failed, 5 out of memory";
@@ -60,6 +61,50 @@ For any other LINE it prints nothing, says why on standard error, and ends with 
   malformed 0 FIELD WHY   a field is wrong, as for `fibs show`
   position WHY            it is not a board of one who plays: WHY is NotYou (field 2),
                           TooManyOwn or TooManyOther (more than 15 checkers)";
+
+const REPLAY: &str = "Run a script of events, and print what happened";
+
+const REPLAY_LONG: &str = "\
+Run a script of events between a client and a model of the server, and print what happened.
+
+Reads the script from standard input, at most 1048576 bytes. Its first line is the server's first board.
+Each other line is one event:
+
+  open                    the client connects; it logs in as ann, with the password secret
+  click COMMAND           the player decides, as in `click roll` and `click move 24-18`
+  plain COMMAND           the player sends another command, as in `plain say hello`
+  deliver N               the next N bytes reach the client, or all that are on their way
+  lose K                  the connection breaks; of what is on its way to the server K bytes arrive
+  serve C D1 D2           the server takes the next line of connection C, and rolls D1 and D2
+  own BOARD               the server's board becomes this one, and is sent
+  repeat                  the server sends its board again
+  text LINE               the server sends a line
+
+For example, a player who clicks twice before the answer comes:
+
+  $ fibs replay < examples/double-click.txt
+  opened 1
+  loggedin 1
+  welcomed 1
+  informed 1 0 0
+  shown 1 board:...
+  shown 1 board:...
+  clicked 1 ok
+  sent 1 board:... roll
+  clicked 1 Waiting
+  took 1 board:... roll
+  shown 1 board:...
+  end 12
+
+It prints what the client and the server noted, a line each: opened C, loggedin C, welcomed C,
+informed C AUTOMOVE GREEDY, shown C BOARD, clicked C ok or clicked C WHY, sent C BOARD COMMAND,
+took C BOARD COMMAND, undone C BOARD COMMAND, and lost C, or lost C BOARD COMMAND with what was not
+confirmed; C is the connection. The last line is one of
+
+  end DONE                each event was done, and DONE is how many
+  refused DONE N WHY      the event after DONE ones may not be, with status 3
+  script LINE             nothing was run: this line is unreadable, or, where it is 0, the script is
+                          too long; with status 3";
 
 const CONNECT: &str = "Log in at a server, and play";
 
@@ -113,6 +158,8 @@ pub enum Request<'a> {
     Show,
     /// To list the plays of a board line.
     Plays(&'a str),
+    /// To run the script on the standard input.
+    Replay,
     /// To talk with a server.
     Connect {
         /// The server's name or address.
@@ -185,6 +232,7 @@ fn command<'a>(alloc: Global) -> Result<Command<'a>, AllocError> {
         .subcommand_required(true)
         .subcommand(show(alloc))?
         .subcommand(plays(alloc)?)?
+        .subcommand(replay(alloc))?
         .subcommand(connect(alloc)?)
 }
 
@@ -199,6 +247,12 @@ fn plays<'a>(alloc: Global) -> Result<Command<'a>, AllocError> {
         .about(PLAYS)
         .long_about(PLAYS_LONG)
         .arg(Arg::new(alloc, "LINE").required(true))
+}
+
+fn replay<'a>(alloc: Global) -> Command<'a> {
+    Command::new(alloc, "replay")
+        .about(REPLAY)
+        .long_about(REPLAY_LONG)
 }
 
 fn connect<'a>(alloc: Global) -> Result<Command<'a>, AllocError> {
@@ -216,6 +270,7 @@ fn request_of<'a>(matches: &ArgMatches<'a>) -> Option<Request<'a>> {
     match word {
         "show" => Some(Request::Show),
         "plays" => Some(Request::Plays(matches.get_str("LINE")?)),
+        "replay" => Some(Request::Replay),
         "connect" => Some(Request::Connect {
             host: matches.get_str("HOST")?,
             port: matches.get_one("PORT")?,

@@ -7,6 +7,7 @@ use crate::arguments::{Answer, Request};
 use crate::connect::converse;
 use crate::fault::EngineFault;
 use crate::plays::plays;
+use crate::replay::replay;
 use crate::show::show;
 use crate::writing::{Progress, write_bytes};
 use std::alloc::Global;
@@ -54,6 +55,7 @@ fn serve<N: Net<Stream = TcpStream>, R: Read, W: Write, E: Write>(
     match request {
         Request::Show => show(alloc, input, out),
         Request::Plays(line) => plays(alloc, line.as_bytes(), out, err),
+        Request::Replay => replay(alloc, input, out),
         Request::Connect { host, port, name } => {
             converse(rt, alloc, host, port, name.as_bytes(), input, out, err)
         }

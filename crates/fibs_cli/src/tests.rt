@@ -6,5 +6,6 @@ mod exchange;
 mod pipe;
 mod plays;
 mod program;
+mod replay;
 mod scripts;
 mod show;

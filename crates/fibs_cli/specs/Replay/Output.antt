@@ -10,6 +10,7 @@ use Rattle.fibs_model.specs.Events.{Event}
 use Rattle.fibs_model.specs.RefusalNames.{refusal_number, refusal_name}
 use Rattle.fibs_model.specs.Refusals.{refusal}
 use Rattle.fibs_model.specs.Runs.{MayBe, world_after}
+use Rattle.fibs_cli.specs.Writing.{GainedFront}
 use Rattle.fibs_cli.specs.Turns.Acts.{line_bytes}
 use Rattle.fibs_cli.specs.Replay.LogLines.{log_text}
 use Rattle.fibs_cli.specs.Replay.Scripts.{script_limit, script_lines, SayScript, FirstUnreadable}
@@ -57,7 +58,7 @@ pub data ReplayText : (script text : List ℕ) → (status : ℕ) → Type 0 whe
       → ReplayText script (log_after first events ++ end_text (length events)) 0
 
 -- What a reader has left, and what a writer holds, is Some list where it tells its bytes, and None where it tells
--- nothing: of the latter the next two say nothing.
+-- nothing: of the latter the next ones say nothing.
 
 -- a reader was read to its end, or past the limit of a script, and a writer gained all that is printed for its bytes
 abbrev pub Replayed : ℕ → Option (List ℕ) → Option (List ℕ) → Option (List ℕ) → Option (List ℕ) → Type 0
@@ -69,6 +70,15 @@ abbrev pub LogOf : List ℕ → List ℕ → Type 0
 LogOf script text = (first : BoardFields) × (before later : List Event)
     × SayScript (script_lines script) first (before ++ later) × MayBe script_login first before
     × (text ≡ log_after first before)
+
+-- the text is for the script: what is printed for it, or the log so far
+abbrev pub IsFor : List ℕ → List ℕ → Type 0
+IsFor script text = ((status : ℕ) × ReplayText script text status) ⊎ LogOf script text
+
+-- a read failed, and nothing was written; or a write failed, and the writer gained a front of a text that is for the script
+abbrev pub ReplayFailed : Option (List ℕ) → Option (List ℕ) → Option (List ℕ) → Option (List ℕ) → Type 0
+ReplayFailed left still held now =
+    Keeps held now ⊎ ((script text : List ℕ) × Consumes left still script × IsFor script text × GainedFront held now text)
 
 -- memory ran out: nothing was written, or just the lines of the log so far
 abbrev pub ReplayedInPart : Option (List ℕ) → Option (List ℕ) → Option (List ℕ) → Option (List ℕ) → Type 0

@@ -21,7 +21,7 @@ const BOARD: &str =
     "board:You:bob:5:0:0:0:0:0:0:0:0:0:0:0:0:0:0:0:-2:0:0:0:0:0:0:0:0:0:0:1:0:1:6:5:0:0:1:1:1:0:1:-1:0:25:14:13:0:0:1:0:0:0";
 
 /// Command lines that run an engine.
-static SERVED: [Case; 4] = [
+static SERVED: [Case; 5] = [
     Case {
         name: "show prints on standard output",
         words: &["show"],
@@ -44,6 +44,14 @@ static SERVED: [Case; 4] = [
         input: b"a\n",
         status: 0,
         out: b"phase Move\nmove 24-18\n",
+        err: b"",
+    },
+    Case {
+        name: "replay reads its script from standard input",
+        words: &["replay"],
+        input: b"open\n",
+        status: 3,
+        out: b"script 1\n",
         err: b"",
     },
     Case {

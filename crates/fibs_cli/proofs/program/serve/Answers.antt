@@ -1,13 +1,19 @@
 use Rattle.std.proofs.Common.{◌++◌, ◌∷◌, [], subst}
 use Rattle.std.proofs.KnownBytes.{Keeps-refl}
 use Rattle.fibs_cli.specs.Program.{Played}
-use Rattle.fibs_cli.proofs.ProgramLemmas.{showed, listed, printed, served_show, served_plays}
+use Rattle.fibs_cli.proofs.ProgramLemmas.{showed, listed, printed, ran_script, served_replay, served_show, served_plays}
 use Rattle.fibs_cli.proofs.program.serve.Goals as goal
 
 pub returns-in-Show : goal.returns-in-Show
 returns-in-Show g c =
     served_show c.args.request c.show.result _ _ _ _ _ _ c.in-Show.is
     (showed c.show.result _ _ _ _ c.show.ensures.status c.show.ensures.whole c.show.ensures.end c.show.ensures.device c.show.ensures.memory)
+    (Keeps-refl (g.E.Write.contents c.args.err.now))
+
+pub returns-in-Replay : goal.returns-in-Replay
+returns-in-Replay g c =
+    served_replay c.args.request c.replay.result _ _ _ _ _ _ c.in-Replay.is
+    (ran_script c.replay.result _ _ _ _ c.replay.ensures.done c.replay.ensures.device c.replay.ensures.memory)
     (Keeps-refl (g.E.Write.contents c.args.err.now))
 
 pub returns-in-Plays : goal.returns-in-Plays

@@ -1,0 +1,375 @@
+//! Scripts from end to end: what is printed for them, and how they end.
+use super::devices::FailsOnce;
+use super::pipe::{After, Pipe};
+use crate::fault::EngineFault;
+use crate::replay::replay;
+use arrayvec::ArrayVec;
+use std::alloc::Global;
+use std::process::Abort;
+use std::test::Fail;
+
+/// A board on which the player rolls or doubles, and the same with the dice 6 and 2.
+const ROLL: &[u8] =
+    b"board:You:bob:3:0:1:0:-2:0:0:0:0:5:0:3:0:0:0:-5:5:0:0:0:-3:0:-5:0:0:0:0:2:0:1:0:0:0:0:1:1:1:0:1:-1:0:25:0:0:0:0:0:0:0:0";
+
+const DICE: &[u8] =
+    b"board:You:bob:3:0:1:0:-2:0:0:0:0:5:0:3:0:0:0:-5:5:0:0:0:-3:0:-5:0:0:0:0:2:0:1:6:2:0:0:1:1:1:0:1:-1:0:25:0:0:0:0:0:0:0:0";
+
+/// A board on which the larger die alone can be played, and the board after that play.
+const LARGER: &[u8] =
+    b"board:You:bob:5:0:0:0:0:0:0:0:0:0:0:0:0:0:0:0:-2:0:0:0:0:0:0:0:0:0:0:1:0:1:6:5:0:0:1:1:1:0:1:-1:0:25:14:13:0:0:1:0:0:0";
+
+const MOVED: &[u8] =
+    b"board:You:bob:5:0:0:0:0:0:0:0:0:0:0:0:0:0:0:0:-2:0:0:0:0:1:0:0:0:0:0:0:0:-1:0:0:0:0:1:1:1:0:1:-1:0:25:14:13:0:0:1:0:0:0";
+
+/// A board of which the player is not `You`.
+const OTHER: &[u8] =
+    b"board:ann:bob:3:0:1:0:-2:0:0:0:0:5:0:3:0:0:0:-5:5:0:0:0:-3:0:-5:0:0:0:0:2:0:1:0:0:0:0:1:1:1:0:1:-1:0:25:0:0:0:0:0:0:0:0";
+
+/// Eight events behind the first board: the client logs in, is welcomed and informed, and is shown the board twice.
+const LOGS_IN: &[u8] = b"
+open
+serve 1 1 1
+text 1 ann 1041253132 localhost
+text 2 ann 1 1 0 0 0 0 1 1 10 0 1 0 1 1500.00 0 0 0 0 0 UTC
+deliver 10000
+serve 1 1 1
+serve 1 1 1
+deliver 10000
+";
+
+/// The same on a second connection.
+const LOGS_IN_AGAIN: &[u8] = b"open
+serve 2 1 1
+text 1 ann 1041253132 localhost
+text 2 ann 1 1 0 0 0 0 1 1 10 0 1 0 1 1500.00 0 0 0 0 0 UTC
+deliver 10000
+serve 2 1 1
+serve 2 1 1
+deliver 10000
+";
+
+/// Parts of a script or of what is printed, one after another.
+type Text = ArrayVec<u8, 4096>;
+
+fn joined(parts: &[&[u8]]) -> Text {
+    let mut text = Text::new();
+    for part in parts {
+        let _fits = text.try_extend_from_slice(part);
+    }
+    text
+}
+
+/// How a script ends that is read in portions of at most so many bytes, and what is printed.
+fn replayed(alloc: Global, script: &[u8], most: usize) -> (Result<u8, EngineFault>, Text) {
+    let mut reader = Pipe::new(script, most, After::End, 0);
+    let mut writer = Pipe::new(b"", 1, After::End, 4096);
+    let ending = replay(alloc, &mut reader, &mut writer);
+    (ending, joined(&[writer.output()]))
+}
+
+/// Asserts how a script ends and what is printed, however it is cut.
+fn assert_replayed(rt: &(impl Abort + AllocGlobal), script: &Text, status: u8, wanted: &Text) {
+    for most in [1, 2, 7, 4096] {
+        let (ending, output) = replayed(rt.alloc(), script.as_slice(), most);
+        assert_eq!(rt; output.as_slice(), wanted.as_slice(), "portions of {most}");
+        assert_eq!(rt; ending, Ok(status), "portions of {most}");
+    }
+}
+
+/// A second click before the answer comes, and one after it; at the end nothing is left to serve.
+fn double_click() -> Text {
+    joined(&[
+        ROLL,
+        LOGS_IN,
+        b"click roll\nclick roll\nserve 1 6 2\ndeliver 10000\nclick roll\nserve 1 1 1\n",
+    ])
+}
+
+fn double_click_printed() -> Text {
+    joined(&[
+        b"opened 1\nloggedin 1\nwelcomed 1\ninformed 1 0 0\nshown 1 ",
+        ROLL,
+        b"\nshown 1 ",
+        ROLL,
+        b"\nclicked 1 ok\nsent 1 ",
+        ROLL,
+        b" roll\nclicked 1 Waiting\ntook 1 ",
+        ROLL,
+        b" roll\nshown 1 ",
+        DICE,
+        b"\nclicked 1 WrongKind\nrefused 13 5 NothingToServe\n",
+    ])
+}
+
+#[test]
+fn a_second_click_sends_nothing(rt: HostRuntime) {
+    assert_replayed(&rt, &double_click(), 3, &double_click_printed());
+}
+
+#[test]
+fn a_play_that_a_loss_leaves_on_its_way_is_served(rt: HostRuntime) {
+    let script = joined(&[
+        LARGER,
+        LOGS_IN,
+        b"click move 24-18\nlose 10000\nserve 1 1 1\n",
+        LOGS_IN_AGAIN,
+        b"click roll\n",
+    ]);
+    let wanted = joined(&[
+        b"opened 1\nloggedin 1\nwelcomed 1\ninformed 1 0 0\nshown 1 ",
+        LARGER,
+        b"\nshown 1 ",
+        LARGER,
+        b"\nclicked 1 ok\nsent 1 ",
+        LARGER,
+        b" move 24-18\nlost 1 ",
+        LARGER,
+        b" move 24-18\ntook 1 ",
+        LARGER,
+        b" move 24-18\nopened 2\nloggedin 2\nwelcomed 2\ninformed 2 0 0\nshown 2 ",
+        MOVED,
+        b"\nshown 2 ",
+        MOVED,
+        b"\nclicked 2 NotYours\nend 20\n",
+    ]);
+    assert_replayed(&rt, &script, 0, &wanted);
+}
+
+#[test]
+fn half_a_command_is_never_served(rt: HostRuntime) {
+    let script = joined(&[
+        LARGER,
+        LOGS_IN,
+        b"click move 24-18\nlose 3\n",
+        LOGS_IN_AGAIN,
+        b"click move 24-18\nserve 1 1 1\n",
+    ]);
+    let wanted = joined(&[
+        b"opened 1\nloggedin 1\nwelcomed 1\ninformed 1 0 0\nshown 1 ",
+        LARGER,
+        b"\nshown 1 ",
+        LARGER,
+        b"\nclicked 1 ok\nsent 1 ",
+        LARGER,
+        b" move 24-18\nlost 1 ",
+        LARGER,
+        b" move 24-18\nopened 2\nloggedin 2\nwelcomed 2\ninformed 2 0 0\nshown 2 ",
+        LARGER,
+        b"\nshown 2 ",
+        LARGER,
+        b"\nclicked 2 ok\nsent 2 ",
+        LARGER,
+        b" move 24-18\nrefused 19 5 NothingToServe\n",
+    ]);
+    assert_replayed(&rt, &script, 3, &wanted);
+}
+
+#[test]
+fn scripts_that_are_not_run(rt: HostRuntime) {
+    let first = |lines: &[u8]| joined(&[ROLL, lines]);
+    let line = |text: &[u8]| joined(&[text]);
+    assert_replayed(&rt, &line(b""), 3, &line(b"script 1\n"));
+    assert_replayed(&rt, &line(b"open\n"), 3, &line(b"script 1\n"));
+    assert_replayed(&rt, &first(b"\nopen\ndance"), 3, &line(b"script 3\n"));
+    assert_replayed(&rt, &first(b"\r\nopen\r\nopen\r"), 3, &line(b"script 3\n"));
+    assert_replayed(
+        &rt,
+        &joined(&[OTHER, b"\nopen\n"]),
+        3,
+        &line(b"refused 0 8 BadBoard\n"),
+    );
+    assert_replayed(
+        &rt,
+        &joined(&[OTHER, b"\nopen\n\n"]),
+        3,
+        &line(b"script 3\n"),
+    );
+}
+
+#[test]
+fn events_that_may_not_be(rt: HostRuntime) {
+    let first = |lines: &[u8]| joined(&[ROLL, lines]);
+    let line = |text: &[u8]| joined(&[text]);
+    assert_replayed(&rt, &first(b""), 0, &line(b"end 0\n"));
+    assert_replayed(&rt, &first(b"\r\nopen\r\n"), 0, &line(b"opened 1\nend 1\n"));
+    assert_replayed(
+        &rt,
+        &first(b"\nopen\nopen"),
+        3,
+        &line(b"opened 1\nrefused 1 2 AlreadyOpen\n"),
+    );
+    assert_replayed(
+        &rt,
+        &first(b"\ndeliver 0\n"),
+        3,
+        &line(b"refused 0 3 NotOpen\n"),
+    );
+    assert_replayed(
+        &rt,
+        &first(b"\nlose 1\n"),
+        3,
+        &line(b"refused 0 3 NotOpen\n"),
+    );
+    assert_replayed(
+        &rt,
+        &first(b"\nserve 0 1 1\n"),
+        3,
+        &line(b"refused 0 4 NoSuchConnection\n"),
+    );
+    assert_replayed(
+        &rt,
+        &first(b"\nserve 1 0 0\n"),
+        3,
+        &line(b"refused 0 4 NoSuchConnection\n"),
+    );
+    assert_replayed(
+        &rt,
+        &first(b"\nopen\nserve 1 0 7\n"),
+        3,
+        &line(b"opened 1\nrefused 1 9 BadDice\n"),
+    );
+    let served = line(b"opened 1\nloggedin 1\nrefused 2 5 NothingToServe\n");
+    assert_replayed(
+        &rt,
+        &first(b"\nopen\nserve 1 1 1\nserve 1 1 1\n"),
+        3,
+        &served,
+    );
+    assert_replayed(
+        &rt,
+        &joined(&[ROLL, b"\nown ", DICE]),
+        3,
+        &line(b"refused 0 6 UserDecides\n"),
+    );
+    assert_replayed(
+        &rt,
+        &joined(&[ROLL, b"\nown ", OTHER]),
+        3,
+        &line(b"refused 0 8 BadBoard\n"),
+    );
+    assert_replayed(
+        &rt,
+        &joined(&[MOVED, b"\nown ", OTHER]),
+        3,
+        &line(b"refused 0 8 BadBoard\n"),
+    );
+    assert_replayed(
+        &rt,
+        &joined(&[MOVED, b"\nown ", DICE]),
+        0,
+        &line(b"end 1\n"),
+    );
+    assert_replayed(
+        &rt,
+        &joined(&[ROLL, b"\ntext ", ROLL]),
+        3,
+        &line(b"refused 0 7 BoardAsText\n"),
+    );
+    assert_replayed(
+        &rt,
+        &joined(&[ROLL, b"\ntext ", OTHER]),
+        0,
+        &line(b"end 1\n"),
+    );
+    assert_replayed(
+        &rt,
+        &first(b"\nclick roll\nplain who\n"),
+        0,
+        &line(b"clicked 0 Offline\nend 2\n"),
+    );
+}
+
+#[test]
+fn a_long_script_is_not_run(rt: HostRuntime) -> Result<(), Fail> {
+    let mut script = Vec::from_slice(rt.alloc(), ROLL)?;
+    script.push(b'\n')?;
+    for _ in 0..149_779 {
+        script.extend_from_slice(b"repeat\n")?;
+    }
+    for _ in 0..3 {
+        script.push(b'\n')?;
+    }
+    let (ending, output) = replayed(rt.alloc(), script.as_slice(), 4096);
+    assert_eq!(rt;
+        output.as_slice(),
+        b"script 149781\n".as_slice(),
+        "as many bytes as may be"
+    );
+    assert_eq!(rt; ending, Ok(3));
+    script.push(b'\n')?;
+    let (ending, output) = replayed(rt.alloc(), script.as_slice(), 4096);
+    assert_eq!(rt;
+        output.as_slice(),
+        b"script 0\n".as_slice(),
+        "one byte more"
+    );
+    assert_eq!(rt; ending, Ok(3));
+    Ok(())
+}
+
+#[test]
+fn nothing_is_printed_after_a_failed_read(rt: HostRuntime) {
+    let mut reader = Pipe::new(ROLL, 50, After::Fault, 0);
+    let mut writer = Pipe::new(b"", 1, After::End, 4096);
+    let ending = replay(rt.alloc(), &mut reader, &mut writer);
+    assert_eq!(rt; ending, Err(EngineFault::Device));
+    assert_eq!(rt; writer.output(), b"".as_slice());
+}
+
+#[test]
+fn a_front_is_printed_before_a_failed_write(rt: HostRuntime) {
+    let script = double_click();
+    let wanted = double_click_printed();
+    for room in 0..wanted.len() {
+        let mut reader = Pipe::new(script.as_slice(), 4096, After::End, 0);
+        let mut writer = Pipe::new(b"", 1, After::End, room);
+        let ending = replay(rt.alloc(), &mut reader, &mut writer);
+        assert_eq!(rt; ending, Err(EngineFault::Device), "room for {room} bytes");
+        assert_eq!(rt;
+            writer.output(),
+            &wanted.as_slice()[..room],
+            "room for {room} bytes"
+        );
+    }
+}
+
+#[test]
+fn nothing_is_written_after_a_failed_write_of_a_log(rt: HostRuntime) {
+    let script = joined(&[ROLL, b"\nopen\nlose 1\nopen\nlose 1\n"]);
+    let wanted = b"opened 1\nlost 1\nopened 2\nlost 2\nend 4\n";
+    for before in 0..10 {
+        let mut reader = Pipe::new(script.as_slice(), 4096, After::End, 0);
+        let mut writer = FailsOnce::new(before, 3);
+        let ending = replay(rt.alloc(), &mut reader, &mut writer);
+        assert_eq!(rt; ending, Err(EngineFault::Device), "after {before} writes");
+        assert_eq!(rt;
+            writer.output(),
+            &wanted[..3 * before],
+            "after {before} writes"
+        );
+    }
+}
+
+/// Where memory runs out the whole lines of the log so far are printed, and nothing else.
+#[test]
+fn replays_under_refused_memory(rt: HostRuntime) {
+    let script = double_click();
+    let wanted = double_click_printed();
+    let (ending, output) = replayed(rt.alloc(), script.as_slice(), 64);
+    if ending == Err(EngineFault::Memory) {
+        let written = output.as_slice();
+        assert!(rt; wanted.as_slice().starts_with(written), "{written:?}");
+        assert!(rt;
+            written.is_empty() || written.ends_with(b"\n"),
+            "{written:?}"
+        );
+        assert!(rt; written.len() < wanted.len(), "{written:?}");
+        let (ending, output) = replayed(rt.alloc(), script.as_slice(), 64);
+        assert_eq!(rt; ending, Ok(3));
+        assert_eq!(rt; output.as_slice(), wanted.as_slice());
+    } else {
+        assert_eq!(rt; ending, Ok(3));
+        assert_eq!(rt; output.as_slice(), wanted.as_slice());
+    }
+}
