@@ -3,13 +3,14 @@ use Rattle.std.proofs.Common.{◌≡◌, ◌⊎◌, ◌++◌, ◌∷◌, [], ℕ
 use Rattle.std.specs.Borrow.{Bor}
 use Rattle.std.specs.Io.KnownBytes.{Appends, Keeps, IsAtEnd}
 use Rattle.fibs_messages.specs.Board.{BoardFields}
+use Rattle.fibs_cli.specs.Looping.{EndsScript}
 use Rattle.fibs_cli.specs.Plays.{PlaysText}
 use Rattle.fibs_cli.specs.Program.{Showed, Listed, Played, Printed, RanScript, Served}
 use Rattle.fibs_cli.specs.Replay.Output.{Replayed, ReplayFailed, ReplayedInPart}
 use Rattle.fibs_cli.specs.Show.{WroteAll, WroteRead, WroteLines, WroteFront}
 use Rattle.fibs_cli.specs.Writing.{GainedFront}
 use Rattle.fibs_cli.specs.declared.arguments.Request.{Request}
-use Rattle.fibs_cli.specs.declared.arguments.Request.TheVariants.{Show, Plays, Replay}
+use Rattle.fibs_cli.specs.declared.arguments.Request.TheVariants.{Show, Plays, Replay, Loop}
 use Rattle.fibs_cli.specs.declared.fault.EngineFault.{EngineFault}
 use Rattle.fibs_cli.specs.declared.fault.EngineFault.TheVariants.{Device, Memory}
 
@@ -60,3 +61,9 @@ pub served_plays : (request : Request) (line : Bor (List ℕ)) (r : Result ℕ E
     → Played line.now r held now other then → Keeps left still → Served request r left still held now other then
 served_plays request line r left still held now other then is played kept =
     subst (λ q. Served q r left still held now other then) (sym is) (played, kept)
+
+-- a request to play a script over sockets is served so
+pub served_loop : (request : Request) (r : Result ℕ EngineFault) (left still held now other then : Option (List ℕ))
+    → request ≡ Loop → EndsScript r → Keeps other then → Served request r left still held now other then
+served_loop request r left still held now other then is ends kept =
+    subst (λ q. Served q r left still held now other then) (sym is) (ends, kept)

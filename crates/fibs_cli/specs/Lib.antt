@@ -4,6 +4,7 @@ pub mod Show
 pub mod Shows
 pub mod Reads
 pub mod Plays
+pub mod Looping
 pub mod Program
 pub mod Turns
 pub mod Converse

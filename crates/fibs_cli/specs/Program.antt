@@ -6,6 +6,7 @@ use Rattle.fibs_messages.specs.Board.{BoardFields}
 use Rattle.fibs_messages.specs.Line.{ReadingValue, board_line, IsReading}
 use Rattle.fibs_position.specs.GoodBoard.{IsGood}
 use Rattle.fibs_cli.specs.Converse.Ending.{Conversed}
+use Rattle.fibs_cli.specs.Looping.{EndsScript}
 use Rattle.fibs_cli.specs.Plays.{PlaysText, Refusal}
 use Rattle.fibs_cli.specs.Replay.Output.{Replayed, ReplayFailed, ReplayedInPart}
 use Rattle.fibs_cli.specs.Show.{WroteAll, WroteRead, WroteLines, WroteFront}
@@ -13,7 +14,7 @@ use Rattle.fibs_cli.specs.Writing.{GainedFront}
 use Rattle.fibs_cli.specs.declared.arguments.Answer.{Answer}
 use Rattle.fibs_cli.specs.declared.arguments.Answer.TheVariants.{Engine, Help, Refused, Memory}
 use Rattle.fibs_cli.specs.declared.arguments.Request.{Request}
-use Rattle.fibs_cli.specs.declared.arguments.Request.TheVariants.{Show, Plays, Replay, Connect}
+use Rattle.fibs_cli.specs.declared.arguments.Request.TheVariants.{Show, Plays, Replay, Connect, Loop}
 use Rattle.fibs_cli.specs.declared.fault.EngineFault.{EngineFault}
 use Rattle.fibs_cli.specs.declared.fault.EngineFault.TheVariants as fault
 
@@ -56,6 +57,7 @@ Served Show result left still held now other then = Showed result left still hel
 Served (Plays line) result left still held now other then = Played line.now result held now other then × Keeps left still
 Served Replay result left still held now other then = RanScript result left still held now × Keeps other then
 Served (Connect host port name) result left still held now other then = Conversed name.now result left held now other then
+Served Loop result left still held now other then = EndsScript result × Keeps other then
 
 -- a command line is answered so: help is printed on standard output with status 0, and what is wrong with it on standard error
 -- with status 2

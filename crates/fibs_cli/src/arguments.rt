@@ -15,6 +15,7 @@ Examples:
   fibs plays board:You:...       list the plays of a board
   fibs replay < double-click.txt run a script of clicks, cuts and losses, and print what happened
   fibs connect HOST PORT NAME    log in, and play
+  fibs loop < double-click.txt   play the same over sockets of this machine
 
 Exit status: 0 done, 2 wrong arguments, 3 refused input, 4 a device failed, 5 out of memory";
 
@@ -151,6 +152,18 @@ sent again by itself, and `open` shows where the game stands.
 
 A password or NAME that is none ends it with status 3, and `fault NUMBER WHY` on standard error.";
 
+const LOOP: &str = "Play a script over sockets of this machine";
+
+const LOOP_LONG: &str = "\
+Play a script over sockets of this machine.
+
+Reads a script from standard input, and prints, as `fibs replay` does and with its status; `fibs help replay`
+has the lines of both. A client and a model server play it in one process, over a TCP connection of
+127.0.0.1 for each `open`. What one of them sends waits there until `deliver`, `serve` or `lose` moves it
+across, in portions of at most 1024 bytes.
+
+A socket that fails is a device that failed: the status is 4, after the log so far.";
+
 /// What the command line asks for.
 #[derive(Clone, Copy, Debug, PartialEq, Eq)]
 pub enum Request<'a> {
@@ -169,6 +182,8 @@ pub enum Request<'a> {
         /// The player's name.
         name: &'a str,
     },
+    /// To play a script over sockets of this machine.
+    Loop,
 }
 
 /// What a command line is answered by.
@@ -233,7 +248,8 @@ fn command<'a>(alloc: Global) -> Result<Command<'a>, AllocError> {
         .subcommand(show(alloc))?
         .subcommand(plays(alloc)?)?
         .subcommand(replay(alloc))?
-        .subcommand(connect(alloc)?)
+        .subcommand(connect(alloc)?)?
+        .subcommand(play_loop(alloc))
 }
 
 fn show<'a>(alloc: Global) -> Command<'a> {
@@ -265,6 +281,12 @@ fn connect<'a>(alloc: Global) -> Result<Command<'a>, AllocError> {
         .arg(Arg::new(alloc, "NAME").required(true))
 }
 
+fn play_loop<'a>(alloc: Global) -> Command<'a> {
+    Command::new(alloc, "loop")
+        .about(LOOP)
+        .long_about(LOOP_LONG)
+}
+
 fn request_of<'a>(matches: &ArgMatches<'a>) -> Option<Request<'a>> {
     let (word, matches) = matches.subcommand()?;
     match word {
@@ -276,6 +298,7 @@ fn request_of<'a>(matches: &ArgMatches<'a>) -> Option<Request<'a>> {
             port: matches.get_one("PORT")?,
             name: matches.get_str("NAME")?,
         }),
+        "loop" => Some(Request::Loop),
         _ => None,
     }
 }

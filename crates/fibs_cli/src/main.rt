@@ -6,6 +6,7 @@ mod connect;
 mod exchange;
 mod fault;
 pub mod laws;
+mod play_loop;
 mod plays;
 mod printing;
 mod program;

@@ -2,17 +2,19 @@
 ghost use Rattle.std.specs.Prelude.{◌≡◌, OnOk};
 ghost use Rattle.std.specs.Io.KnownBytes.{Keeps};
 ghost use Rattle.fibs_cli.specs.Program.{Answered, Printed, Served, status_of};
+ghost use Rattle.fibs_cli.specs.Looping.{EndsScript};
 
 use crate::arguments::{Answer, Request};
 use crate::connect::converse;
 use crate::fault::EngineFault;
+use crate::play_loop::play_loop;
 use crate::plays::plays;
 use crate::replay::replay;
 use crate::show::show;
 use crate::writing::{Progress, write_bytes};
 use std::alloc::Global;
 use std::io::{Read, Write};
-use std::net::{Net, TcpStream};
+use std::net::{Net, TcpListener, TcpStream};
 
 /// The exit status of a command line that is served, and of help.
 const DONE: u8 = 0;
@@ -21,7 +23,7 @@ const DONE: u8 = 0;
 const WRONG_LINE: u8 = 2;
 
 /// Does what a command line calls for: it runs an engine, prints help on `out`, or says on `err` what is wrong.
-pub fn answer<N: Net<Stream = TcpStream>, R: Read, W: Write, E: Write>(
+pub fn answer<N: Net<Listener = TcpListener, Stream = TcpStream>, R: Read, W: Write, E: Write>(
     rt: &N,
     alloc: Global,
     answer: &Answer<'_>,
@@ -41,7 +43,7 @@ pub fn answer<N: Net<Stream = TcpStream>, R: Read, W: Write, E: Write>(
 }
 
 /// Runs the engine that a request asks for.
-fn serve<N: Net<Stream = TcpStream>, R: Read, W: Write, E: Write>(
+fn serve<N: Net<Listener = TcpListener, Stream = TcpStream>, R: Read, W: Write, E: Write>(
     rt: &N,
     alloc: Global,
     request: Request<'_>,
@@ -59,6 +61,22 @@ fn serve<N: Net<Stream = TcpStream>, R: Read, W: Write, E: Write>(
         Request::Connect { host, port, name } => {
             converse(rt, alloc, host, port, name.as_bytes(), input, out, err)
         }
+        Request::Loop => play_here(rt, alloc, input, out),
+    }
+}
+
+/// Plays a script over sockets to a free port of this machine.
+fn play_here<N: Net<Listener = TcpListener, Stream = TcpStream>, R: Read, W: Write>(
+    rt: &N,
+    alloc: Global,
+    input: &mut R,
+    out: &mut W,
+) -> Result<u8, EngineFault>
+    ensures { EndsScript result }
+{
+    match TcpListener::bind(rt, "127.0.0.1:0") {
+        Ok(listener) => play_loop(rt, alloc, &listener, input, out),
+        Err(_) => Err(EngineFault::Device),
     }
 }
 

@@ -1,5 +1,6 @@
 -- What is kept of a line whose bytes come in parts.
-use Rattle.std.proofs.Common.{◌≡◌, ℕ, zero, suc, ◌<◌, ◌≤◌, ◌-◌, Bool, true, false, eqb, cond, List, [], ◌∷◌, ◌++◌, length, length-take, take, get_or, refl, ap, ◌∙◌, sym, arith, inl, inr}
+use Rattle.std.proofs.Common.{◌≡◌, ℕ, zero, suc, ◌<◌, ◌≤◌, ◌-◌, Bool, true, false, eqb, cond, List, [], ◌∷◌, ◌++◌}
+use Rattle.std.proofs.Common.{length, length-take, take, get_or, refl, ap, ◌∙◌, sym, arith, inl, inr}
 use Rattle.std.proofs.lemmas.Bool.{cases_lt}
 use Rattle.std.proofs.lemmas.List.{take_all, take-take}
 use Rattle.std.specs.Str.Lines.{strip_carriage_return}
@@ -18,10 +19,12 @@ stripped n l true h = take-take n (length l - 1) l (omega arith)
 stripped n l false h = refl
 
 -- one byte more than is kept is enough to know what is kept without a CR
-pub kept-line : (n : ℕ) (part : List ℕ) → take n (strip_carriage_return (take (suc n) part)) ≡ take n (strip_carriage_return part)
+pub kept-line : (n : ℕ) (part : List ℕ) → take n (strip_carriage_return (take (suc n) part))
+    ≡ take n (strip_carriage_return part)
 kept-line n part = elim (cases_lt (length part) (suc (suc n))) [
   | inl h ↦ ap (λ (l : List ℕ). take n (strip_carriage_return l)) (take_all (suc n) part (omega arith))
-  | inr h ↦ stripped n (take (suc n) part) (eqb (get_or (take (suc n) part) (length (take (suc n) part) - 1) 0) 13) (omega (arith, length-take (suc n) part))
+  | inr h ↦ stripped n (take (suc n) part) (eqb (get_or (take (suc n) part) (length (take (suc n) part) - 1) 0) 13)
+      (omega (arith, length-take (suc n) part))
       ∙ take-take n (suc n) part (omega arith)
       ∙ sym (stripped n part (eqb (get_or part (length part - 1) 0) 13) (omega arith))
 ]

@@ -1,7 +1,7 @@
 use Rattle.std.proofs.Common.{◌++◌, ◌∷◌, [], subst}
 use Rattle.std.proofs.KnownBytes.{Keeps-refl}
 use Rattle.fibs_cli.specs.Program.{Played}
-use Rattle.fibs_cli.proofs.ProgramLemmas.{showed, listed, printed, ran_script, served_replay, served_show, served_plays}
+use Rattle.fibs_cli.proofs.ProgramLemmas.{showed, listed, printed, ran_script, served_replay, served_show, served_plays, served_loop}
 use Rattle.fibs_cli.proofs.program.serve.Goals as goal
 
 pub returns-in-Show : goal.returns-in-Show
@@ -29,3 +29,8 @@ returns-in-Plays g c =
     ) in
     served_plays c.args.request c.in-Plays.line c.plays.result _ _ _ _ _ _ c.in-Plays.is
     (subst (λ line. Played line c.plays.result held now other then) c.as_bytes.ensures.value played) (Keeps-refl (g.R.Read.remaining c.args.input.now))
+
+pub returns-in-Loop : goal.returns-in-Loop
+returns-in-Loop g c =
+    served_loop c.args.request c.play_here.result _ _ _ _ _ _ c.in-Loop.is c.play_here.ensures
+    (Keeps-refl (g.E.Write.contents c.args.err.now))

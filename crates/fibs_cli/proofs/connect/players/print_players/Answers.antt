@@ -13,5 +13,7 @@ loop-place-preserved g c =
     let place = c.loop-place.place in
     let told = player_value c.in-Some.player.now in
     let found = sym c.at.ensures ∙ ap (option_map (λ player. player_value player.now)) c.in-Some.is in
-    subst (Appends (g.W.Write.contents c.args.out.now) (g.W.Write.contents c.print_player.new.out)) (sym (listed-more place entries told found))
-    (Appends-trans _ _ _ (listed place entries) (line_bytes (player_line told)) c.loop-place.invariant c.in_ok-print_player-in-Some.ensures)
+    subst (Appends (g.W.Write.contents c.args.out.now) (g.W.Write.contents c.print_player.new.out))
+    (sym (listed-more place entries told found))
+    (Appends-trans _ _ _ (listed place entries) (line_bytes (player_line told)) c.loop-place.invariant
+    c.in_ok-print_player-in-Some.ensures)

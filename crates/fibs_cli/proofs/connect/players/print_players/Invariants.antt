@@ -5,4 +5,5 @@ use Rattle.fibs_cli.proofs.connect.players.print_players.Given as goal
 
 -- the first players are printed
 abbrev pub invariant-loop-place : goal.invariant-loop-place
-invariant-loop-place g l = Appends (g.W.Write.contents l.initial.out) (g.W.Write.contents l.out) (listed l.place l.directory)
+invariant-loop-place g l = Appends (g.W.Write.contents l.initial.out) (g.W.Write.contents l.out)
+    (listed l.place l.directory)

@@ -7,7 +7,8 @@ use Rattle.fibs_cli.proofs.connect.typed_lines.TypedLines.read_to_end.Given as g
 abbrev pub invariant-loop-line : goal.invariant-loop-line
 invariant-loop-line g l = FitsDevice l.initial.self (g.R.Read.remaining l.initial.reader) →
     FitsDevice l.self (g.R.Read.remaining l.reader)
-    × Parts (ahead l.initial.self (g.R.Read.remaining l.initial.reader)) (ahead l.self (g.R.Read.remaining l.reader)) l.line.items
+    × Parts (ahead l.initial.self (g.R.Read.remaining l.initial.reader))
+    (ahead l.self (g.R.Read.remaining l.reader)) l.line.items
 
 abbrev pub decreases-loop-line : goal.decreases-loop-line
 decreases-loop-line g l = l.self.reads

@@ -1,0 +1,9 @@
+use Rattle.std.proofs.Common.{◌≡◌, ◌+◌, length}
+use Rattle.fibs_cli.proofs.play_loop.play_lines.Given as goal
+
+-- each line so far was an event
+abbrev pub invariant-loop-line : goal.invariant-loop-line
+invariant-loop-line g l = l.done + length l.lines ≡ length l.initial.lines
+
+abbrev pub decreases-loop-line : goal.decreases-loop-line
+decreases-loop-line g l = length l.lines
