@@ -32,6 +32,7 @@ bench: all $(PEER)
 	cd crates/fibs_bench && rt run > /dev/null < /dev/null
 	PEER=$(PEER) bench/show bin/fibs $(MEGABYTES) $(ROUNDS)
 	bench/loops crates/fibs_bench/out/fibs_bench $(MEGABYTES) $(ROUNDS)
+	bench/replay bin/fibs $(ROUNDS)
 
 clean:
 	rm -rf bin crates/*/out
