@@ -4,6 +4,7 @@ mod connect;
 mod devices;
 mod exchange;
 mod pipe;
+mod play_loop;
 mod plays;
 mod program;
 mod replay;
