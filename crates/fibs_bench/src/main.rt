@@ -1,6 +1,6 @@
-//! Loops to measure, over standard input: how many lines a stream has, how many of them are read, taken by a client or noted
-//! by a directory, and how many legal plays their boards have; and how many of a million typed texts are commands. Nothing
-//! stands on them.
+//! Loops to measure, over standard input: how many lines a stream has, how many of them are read, taken by a client or
+//! noted by a directory, and how many legal plays their boards have; and how many of a million typed texts are
+//! commands. Nothing stands on them.
 #![tactic(auto)]
 
 use fibs_lines::{Line, Lines};
@@ -164,7 +164,8 @@ fn count_commands() -> u64 {
     count
 }
 
-/// Counts what the first argument names: `lines`, `readings`, `notes`, `plays`, `client` or `commands`; without one, lines.
+/// Counts what the first argument names: `lines`, `readings`, `notes`, `plays`, `client` or `commands`; without one,
+/// lines.
 fn main(rt: HostRuntime) -> io::Result<()> {
     let words: Vec<String> = env::args(&rt)?.collect(rt.alloc())?;
     let word = match words.get(1) {

@@ -1,5 +1,6 @@
 -- The lines of `fibs plays`.
-use Rattle.std.proofs.Common.{◌≡◌, ℕ, List, [], ◌∷◌, ◌++◌, ap, sym, ◌∙◌, append_assoc, arith, refl, subst, inl, inr, Result, Ok, Err, IsErrOf, MatchResult}
+use Rattle.std.proofs.Common.{◌≡◌, ℕ, List, [], ◌∷◌, ◌++◌, ap, sym, ◌∙◌, append_assoc, arith, refl, subst, inl, inr}
+use Rattle.std.proofs.Common.{Result, Ok, Err, IsErrOf, MatchResult}
 use Rattle.std.specs.Prelude.{codes, decimal}
 use Rattle.std.proofs.lemmas.Fmt.{decimal_digit}
 use Rattle.fibs_messages.specs.Board.{BoardFields}

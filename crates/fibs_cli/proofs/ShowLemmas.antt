@@ -1,5 +1,7 @@
 -- The lines that are printed, one after the other.
-use Rattle.std.proofs.Common.{◌≡◌, ℕ, ◌≤◌, List, [], ◌∷◌, ◌++◌, Bool, true, false, Option, None, Some, Result, Ok, Err, OnOk, refl, sym, ap, subst, ◌∙◌, append_assoc, append-nil, take, drop, take-append-drop, length, codes, is_ok, if◌then◌else◌, ◌≢◌, min, arith, ◌<◌, ◌+◌, ◌*◌, length-append}
+use Rattle.std.proofs.Common.{◌≡◌, ℕ, ◌≤◌, List, [], ◌∷◌, ◌++◌, Bool, true, false, Option, None, Some, Result, Ok, Err}
+use Rattle.std.proofs.Common.{OnOk, refl, sym, ap, subst, ◌∙◌, append_assoc, append-nil, take, drop, take-append-drop}
+use Rattle.std.proofs.Common.{length, codes, is_ok, if◌then◌else◌, ◌≢◌, min, arith, ◌<◌, ◌+◌, ◌*◌, length-append}
 use Rattle.std.proofs.lemmas.List.{length-take}
 use Rattle.std.proofs.Math.Nat.{mul-le-mul_right}
 use Rattle.std.specs.Io.KnownBytes.{Appends, Consumes, Keeps}
@@ -13,7 +15,8 @@ use Rattle.fibs_lines.specs.declared.lines.Fed.{Fed}
 use Rattle.fibs_lines.specs.declared.line.Line.{Line}
 use Rattle.fibs_messages.specs.Line.{ReadingValue, IsReading}
 use Rattle.fibs_cli.specs.Escape.{escaped}
-use Rattle.fibs_cli.specs.Show.{reading_text, ShownAs, ShownLine, ShownLines, ShowText, WroteLinesOf, WroteRead, WroteFront, WroteAll, unfinished_text}
+use Rattle.fibs_cli.specs.Show.{reading_text, ShownAs, ShownLine, ShownLines, ShowText, WroteLinesOf, WroteRead}
+use Rattle.fibs_cli.specs.Show.{WroteFront, WroteAll, unfinished_text}
 use Rattle.fibs_cli.specs.Shows.{Shows, EndsText}
 use Rattle.fibs_cli.specs.Reads.{LostAtLeast, LostAtMost}
 use Rattle.fibs_cli.specs.Writing.{GainedFront}
@@ -100,8 +103,8 @@ kept_consumes None still h = tt
 kept_consumes (Some xs) None h = h
 kept_consumes (Some xs) (Some ys) h = sym h
 
--- what the loop over portions keeps after so many reads of at most `size` bytes: the bytes that were read, what is printed
--- for their lines, and that this was written
+-- what the loop over portions keeps after so many reads of at most `size` bytes: the bytes that were read, what is
+-- printed for their lines, and that this was written
 pub record Passed (left still held now : Option (List ℕ)) (lines : LinesValue) (text : List ℕ) (reads size : ℕ) : Type 0 where
   pub stream : List ℕ
   pub shown : List ℕ

@@ -37,6 +37,8 @@ PlaysText b text = PositionText (position_of b) text
 -- the line that says why a word gives no position: the board's first fault; the first wrong field of a board line;
 -- or that it is no board line
 abbrev pub Refusal : ReadingValue → List ℕ → Type 0
-Refusal (board_line b) why = (fault : PositionFault) × IsFirst (HasFault b) faults fault × (why ≡ codes "position " ++ position_fault_name fault)
+Refusal (board_line b) why =
+    (fault : PositionFault) × IsFirst (HasFault b) faults fault
+    × (why ≡ codes "position " ++ position_fault_name fault)
 Refusal (malformed_line zero field fault) why = why ≡ reading_text (malformed_line zero field fault)
 Refusal _ why = why ≡ codes "not a board"

@@ -189,7 +189,8 @@ pub fn exchange<S: Link, W: Write>(
         (known_before S.remaining stream.entry) (known_after S.remaining stream.exit)
         (outside (known_before S.contents stream.entry) (W.contents out.old) directory.old)
         (outside (known_after S.contents stream.exit) (W.contents out.new) directory.new) e) }
-    ensures few { LostAtMost (4096 * 1024) (known_before S.remaining stream.entry) (known_after S.remaining stream.exit) }
+    ensures few {
+        LostAtMost (4096 * 1024) (known_before S.remaining stream.entry) (known_after S.remaining stream.exit) }
 {
     match stream {
         None => talk_offline(client, typed, out),

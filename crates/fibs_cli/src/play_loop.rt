@@ -36,8 +36,8 @@ const REFUSED: u8 = 3;
 /// Reads a script and plays it: a client at one end of a connection and a model server at the other, in turn, over a
 /// socket to the listener for each connection that is opened. It prints what `replay` prints, and has its status.
 ///
-/// What one end sends waits there until an event takes it; then it crosses the socket in portions of at most 1024 bytes,
-/// each written and then read, so that no write waits for a reader.
+/// What one end sends waits there until an event takes it; then it crosses the socket in portions of at most 1024
+/// bytes, each written and then read, so that no write waits for a reader.
 ///
 /// Errors: `Device` where the script can't be read, what is printed can't be written, or a socket fails; `Memory` where
 /// it runs out. After a socket's failure and without memory the log so far is printed.

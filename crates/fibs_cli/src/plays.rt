@@ -1,5 +1,6 @@
 //! `fibs plays`: prints the phase of a board and its plays.
-ghost use Rattle.std.specs.Prelude.{◌≡◌, ◌≤◌, ◌+◌, ◌++◌, ◌∷◌, [], ℕ, List, length, map, codes, IfOk, IfErr, IsErrOf, OnErr, OnOk, MatchResult};
+ghost use Rattle.std.specs.Prelude.{◌≡◌, ◌≤◌, ◌+◌, ◌++◌, ◌∷◌, [], ℕ, List, length, map, codes, IfOk, IfErr, IsErrOf};
+ghost use Rattle.std.specs.Prelude.{OnErr, OnOk, MatchResult};
 ghost use Rattle.std.specs.Io.KnownBytes.{Appends, Keeps};
 ghost use Rattle.arrayvec.specs.ArrayVec.{array_vec_len};
 ghost use Rattle.fibs_messages.specs.Board.{BoardFields};
@@ -30,10 +31,10 @@ type RefusalLine = ArrayVec<u8, 64>;
 
 /// Prints what a player can play on the board of `line`, which is not cut whatever its length.
 ///
-/// For the line of a good board `out` is given `phase NAME`, and in the phase Move the command of each play, in the numbers
-/// of the board, each on a line of its own; the status is 0. For every other line `out` is given nothing, `err` one line,
-/// and the status is 3: `not a board`; `malformed 0 FIELD FAULT` for a board line with a wrong field; or `position NAME`
-/// for a board without a position. After a failed write nothing more is written.
+/// For the line of a good board `out` is given `phase NAME`, and in the phase Move the command of each play, in the
+/// numbers of the board, each on a line of its own; the status is 0. For every other line `out` is given nothing, `err`
+/// one line, and the status is 3: `not a board`; `malformed 0 FIELD FAULT` for a board line with a wrong field; or
+/// `position NAME` for a board without a position. After a failed write nothing more is written.
 pub fn plays<W: Write, E: Write>(
     alloc: Global,
     line: &[u8],
@@ -41,16 +42,21 @@ pub fn plays<W: Write, E: Write>(
     err: &mut E,
 ) -> Result<u8, EngineFault>
     ensures good { (b : BoardFields) → IsReading line.now (board_line b) → IsGood b
-        → IfOk result (λ status. (status ≡ 0) × ((text : List ℕ) × PlaysText b text × Appends (W.contents out.old) (W.contents out.new) text)) }
-    ensures good_device { (b : BoardFields) → IsReading line.now (board_line b) → IsGood b → IsErrOf result EngineFault.Device
+        → IfOk result (λ status. (status ≡ 0)
+        × ((text : List ℕ) × PlaysText b text × Appends (W.contents out.old) (W.contents out.new) text)) }
+    ensures good_device { (b : BoardFields) → IsReading line.now (board_line b) → IsGood b
+        → IsErrOf result EngineFault.Device
         → (text : List ℕ) × PlaysText b text × GainedFront (W.contents out.old) (W.contents out.new) text }
     ensures good_silent { (b : BoardFields) → IsReading line.now (board_line b) → IsGood b
         → Keeps (E.contents err.old) (E.contents err.new) }
     // Of a refused line no memory is asked.
     ensures refused { (reading : ReadingValue) → (why : List ℕ) → IsReading line.now reading → Refusal reading why
-        → MatchResult result (λ status. (status ≡ 3) × Appends (E.contents err.old) (E.contents err.new) (why ++ (10 ∷ [])))
-        (λ fault. (fault ≡ EngineFault.Device) × GainedFront (E.contents err.old) (E.contents err.new) (why ++ (10 ∷ []))) }
-    ensures refused_silent { (reading : ReadingValue) → (why : List ℕ) → IsReading line.now reading → Refusal reading why
+        → MatchResult result
+        (λ status. (status ≡ 3) × Appends (E.contents err.old) (E.contents err.new) (why ++ (10 ∷ [])))
+        (λ fault. (fault ≡ EngineFault.Device)
+        × GainedFront (E.contents err.old) (E.contents err.new) (why ++ (10 ∷ []))) }
+    ensures refused_silent { (reading : ReadingValue) → (why : List ℕ) → IsReading line.now reading
+        → Refusal reading why
         → Keeps (W.contents out.old) (W.contents out.new) }
     ensures memory { IsErrOf result EngineFault.Memory
         → Keeps (W.contents out.old) (W.contents out.new) × Keeps (E.contents err.old) (E.contents err.new) }
@@ -63,9 +69,12 @@ pub fn plays<W: Write, E: Write>(
 
 /// The position of a board line, or the line that says why there is none.
 fn position_of(line: &[u8]) -> Result<Position, RefusalLine>
-    ensures good { IfOk result (λ position. (b : BoardFields) → IsReading line.now (board_line b) → position_value position ≡ position_of b) }
-    ensures kept { OnOk result ((reading : ReadingValue) → (why : List ℕ) → IsReading line.now reading → Refusal reading why → ⊥) }
-    ensures refused { IfErr result (λ text. (reading : ReadingValue) → (why : List ℕ) → IsReading line.now reading → Refusal reading why
+    ensures good { IfOk result (λ position. (b : BoardFields) → IsReading line.now (board_line b)
+        → position_value position ≡ position_of b) }
+    ensures kept { OnOk result ((reading : ReadingValue) → (why : List ℕ) → IsReading line.now reading
+        → Refusal reading why → ⊥) }
+    ensures refused { IfErr result (λ text. (reading : ReadingValue) → (why : List ℕ) → IsReading line.now reading
+        → Refusal reading why
         → text.items ≡ why ++ (10 ∷ [])) }
     ensures bad { OnErr result ((b : BoardFields) → IsReading line.now (board_line b) → IsGood b → ⊥) }
 {
@@ -129,9 +138,11 @@ fn print_refusal<E: Write>(line: &[u8], err: &mut E) -> Result<u8, EngineFault>
 /// Prints the phase of a position and its plays.
 fn print_plays<W: Write>(alloc: Global, position: &Position, out: &mut W) -> Result<u8, EngineFault>
     ensures ok { IfOk result (λ status. (status ≡ 0)
-        × ((text : List ℕ) × PositionText (position_value position.now) text × Appends (W.contents out.old) (W.contents out.new) text)) }
+        × ((text : List ℕ) × PositionText (position_value position.now) text
+        × Appends (W.contents out.old) (W.contents out.new) text)) }
     ensures device { IsErrOf result EngineFault.Device
-        → (text : List ℕ) × PositionText (position_value position.now) text × GainedFront (W.contents out.old) (W.contents out.new) text }
+        → (text : List ℕ) × PositionText (position_value position.now) text
+        × GainedFront (W.contents out.old) (W.contents out.new) text }
     ensures memory { IsErrOf result EngineFault.Memory → Keeps (W.contents out.old) (W.contents out.new) }
 {
     let text = listing_of(alloc, position)?;

@@ -32,8 +32,8 @@ use std::io::{Read, Write};
 const PORTION: usize = 4096;
 
 /// Reads a script, runs it, and prints the log of the world, and then how it ended: `end DONE` with status 0; or, with
-/// status 3, `refused DONE NUMBER NAME` at the first event that is refused, or `script N` of a script that is not run, N
-/// being its first line that is unreadable, or 0 where it has more than 1,048,576 bytes.
+/// status 3, `refused DONE NUMBER NAME` at the first event that is refused, or `script N` of a script that is not run,
+/// N being its first line that is unreadable, or 0 where it has more than 1,048,576 bytes.
 ///
 /// Where memory runs out it has printed the log so far. After a failed write it makes no other.
 pub fn replay<R: Read, W: Write>(
@@ -42,11 +42,13 @@ pub fn replay<R: Read, W: Write>(
     writer: &mut W,
 ) -> Result<u8, EngineFault>
     ensures done { IfOk result (λ status.
-        Replayed status (R.remaining reader.old) (R.remaining reader.new) (W.contents writer.old) (W.contents writer.new)) }
+        Replayed status (R.remaining reader.old) (R.remaining reader.new)
+        (W.contents writer.old) (W.contents writer.new)) }
     ensures device { IsErrOf result EngineFault.Device →
         ReplayFailed (R.remaining reader.old) (R.remaining reader.new) (W.contents writer.old) (W.contents writer.new) }
     ensures memory { IsErrOf result EngineFault.Memory →
-        ReplayedInPart (R.remaining reader.old) (R.remaining reader.new) (W.contents writer.old) (W.contents writer.new) }
+        ReplayedInPart (R.remaining reader.old) (R.remaining reader.new)
+        (W.contents writer.old) (W.contents writer.new) }
 {
     match read_script(alloc, &mut [0; PORTION], reader)? {
         None => print_unrun(&unread_line(0), writer),
@@ -77,7 +79,8 @@ fn replay_script<W: Write>(alloc: Global, script: &[u8], writer: &mut W) -> Resu
 
 /// The board that the first of the lines says, which is taken from them.
 fn first_board(lines: &mut Lines<'_>) -> Option<Board>
-    ensures some { IfSome result (λ board. (line : List ℕ) × (lines.old ≡ line ∷ lines.new) × BoardText (fields_of board) line) }
+    ensures some { IfSome result (λ board. (line : List ℕ) × (lines.old ≡ line ∷ lines.new)
+        × BoardText (fields_of board) line) }
     ensures none { IfNone result ((b : BoardFields) (events : List Event) → ¬ SayScript lines.old b events) }
 {
     read_board(lines.next()?)

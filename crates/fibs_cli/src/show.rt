@@ -1,5 +1,6 @@
 //! `fibs show`: prints what each line of a stream says.
-ghost use Rattle.std.specs.Prelude.{◌≡◌, ◌≤◌, ◌<◌, ◌*◌, ◌⊎◌, ◌++◌, ℕ, List, [], length, IfOk, OnOk, IfErr, IsErrOf, MatchResult};
+ghost use Rattle.std.specs.Prelude.{◌≡◌, ◌≤◌, ◌<◌, ◌*◌, ◌⊎◌, ◌++◌, ℕ, List, [], length, IfOk, OnOk, IfErr, IsErrOf};
+ghost use Rattle.std.specs.Prelude.{MatchResult};
 ghost use Rattle.std.specs.Io.KnownBytes.{Appends, IsAtEnd};
 ghost use Rattle.fibs_cli.specs.Show.{unfinished_text, WroteAll, WroteRead, WroteLines, WroteLinesOf, WroteFront};
 ghost use Rattle.fibs_cli.specs.Reads.{LostAtLeast, LostAtMost};
@@ -59,15 +60,17 @@ impl From<AllocError> for StreamFault {
 
 /// Prints what each line that is read says, to the reader's end.
 ///
-/// After a device's fault the writer has either all that is printed for the lines that were read, where the reader failed
-/// or did not end; or a front of what is printed for what was read, where the writer failed, and then nothing after it.
+/// After a device's fault the writer has either all that is printed for the lines that were read, where the reader
+/// failed or did not end; or a front of what is printed for what was read, where the writer failed, and then nothing
+/// after it.
 pub fn show<R: Read, W: Write>(
     alloc: Global,
     reader: &mut R,
     writer: &mut W,
 ) -> Result<u8, EngineFault>
     ensures status { IfOk result (λ status. status ≡ 0) }
-    ensures whole { OnOk result (WroteAll (R.remaining reader.old) (R.remaining reader.new) (W.contents writer.old) (W.contents writer.new)) }
+    ensures whole { OnOk result (WroteAll (R.remaining reader.old) (R.remaining reader.new)
+        (W.contents writer.old) (W.contents writer.new)) }
     ensures end { OnOk result (IsAtEnd (R.remaining reader.new)) }
     ensures device { IsErrOf result EngineFault.Device →
         WroteRead (R.remaining reader.old) (R.remaining reader.new) (W.contents writer.old) (W.contents writer.new)
@@ -87,7 +90,8 @@ pub fn show_stream<R: Read, W: Write>(
     reader: &mut R,
     writer: &mut W,
 ) -> Result<(), StreamFault>
-    ensures whole { OnOk result (WroteAll (R.remaining reader.old) (R.remaining reader.new) (W.contents writer.old) (W.contents writer.new)) }
+    ensures whole { OnOk result (WroteAll (R.remaining reader.old) (R.remaining reader.new)
+        (W.contents writer.old) (W.contents writer.new)) }
     ensures end { OnOk result (IsAtEnd (R.remaining reader.new)) }
     ensures reader { IsErrOf result StreamFault.Reader →
         WroteRead (R.remaining reader.old) (R.remaining reader.new) (W.contents writer.old) (W.contents writer.new) }
@@ -112,7 +116,8 @@ pub fn show_portions<R: Read, W: Write>(
     writer: &mut W,
 ) -> Result<(), StreamFault>
     requires { 0 < length portion.old }
-    ensures whole { OnOk result (WroteAll (R.remaining reader.old) (R.remaining reader.new) (W.contents writer.old) (W.contents writer.new)) }
+    ensures whole { OnOk result (WroteAll (R.remaining reader.old) (R.remaining reader.new)
+        (W.contents writer.old) (W.contents writer.new)) }
     ensures end { OnOk result (IsAtEnd (R.remaining reader.new)) }
     ensures reader { IsErrOf result StreamFault.Reader →
         WroteRead (R.remaining reader.old) (R.remaining reader.new) (W.contents writer.old) (W.contents writer.new) }
@@ -121,8 +126,10 @@ pub fn show_portions<R: Read, W: Write>(
     ensures writer { IsErrOf result StreamFault.Writer →
         WroteFront (R.remaining reader.old) (R.remaining reader.new) (W.contents writer.old) (W.contents writer.new) }
     ensures memory { IsErrOf result StreamFault.Memory → (s more : List ℕ) × (length more ≤ length portion.old)
-        × WroteLinesOf s more (R.remaining reader.old) (R.remaining reader.new) (W.contents writer.old) (W.contents writer.new) }
-    ensures enough { IsErrOf result StreamFault.Endless → LostAtLeast reads (R.remaining reader.old) (R.remaining reader.new) }
+        × WroteLinesOf s more (R.remaining reader.old) (R.remaining reader.new)
+        (W.contents writer.old) (W.contents writer.new) }
+    ensures enough { IsErrOf result StreamFault.Endless
+        → LostAtLeast reads (R.remaining reader.old) (R.remaining reader.new) }
     ensures few { LostAtMost (reads * length portion.old) (R.remaining reader.old) (R.remaining reader.new) }
 {
     let mut lines = Lines::new();
@@ -144,7 +151,8 @@ pub fn show_portions<R: Read, W: Write>(
 /// Writes the whole text.
 fn write_text<W: Write>(text: &Vec<u8>, writer: &mut W) -> Result<(), StreamFault>
     ensures { MatchResult result (λ _. Appends (W.contents writer.old) (W.contents writer.new) text.now.items)
-        (λ fault. (fault ≡ StreamFault.Writer) × GainedFront (W.contents writer.old) (W.contents writer.new) text.now.items) }
+        (λ fault. (fault ≡ StreamFault.Writer)
+        × GainedFront (W.contents writer.old) (W.contents writer.new) text.now.items) }
 {
     match write_bytes(text.as_slice(), writer) {
         Progress::Whole => Ok(()),
@@ -155,9 +163,11 @@ fn write_text<W: Write>(text: &Vec<u8>, writer: &mut W) -> Result<(), StreamFaul
 /// Writes what is printed for the bytes after the last line end.
 fn finish<W: Write>(lines: &Lines, text: &mut Vec<u8>, writer: &mut W) -> Result<(), StreamFault>
     requires { text.old.items ≡ [] }
-    ensures ok { OnOk result ((ending : List ℕ) × EndsText lines.now ending × Appends (W.contents writer.old) (W.contents writer.new) ending) }
+    ensures ok { OnOk result ((ending : List ℕ) × EndsText lines.now ending
+        × Appends (W.contents writer.old) (W.contents writer.new) ending) }
     ensures writer { IsErrOf result StreamFault.Writer →
-        (ending : List ℕ) × EndsText lines.now ending × GainedFront (W.contents writer.old) (W.contents writer.new) ending }
+        (ending : List ℕ) × EndsText lines.now ending
+        × GainedFront (W.contents writer.old) (W.contents writer.new) ending }
     ensures memory { IsErrOf result StreamFault.Memory → W.contents writer.new ≡ W.contents writer.old }
     ensures others { IfErr result (λ fault. (fault ≡ StreamFault.Writer) ⊎ (fault ≡ StreamFault.Memory)) }
 {
@@ -185,7 +195,8 @@ fn append_portion(
     portion: &[u8],
     text: &mut Vec<u8>,
 ) -> Result<(), AllocError>
-    ensures { OnOk result ((added : List ℕ) × (text.new.items ≡ text.old.items ++ added) × Shows lines.old lines.new portion.now added) }
+    ensures { OnOk result ((added : List ℕ) × (text.new.items ≡ text.old.items ++ added)
+        × Shows lines.old lines.new portion.now added) }
 {
     let mut rest = portion;
     while !rest.is_empty() {

@@ -12,8 +12,8 @@ pub enum Progress {
     Broken,
 }
 
-/// Writes the bytes in order, and stops at a write that fails or takes nothing: what the writer gained is then a front of
-/// them. After a failed write it makes no other.
+/// Writes the bytes in order, and stops at a write that fails or takes nothing: what the writer gained is then a front
+/// of them. After a failed write it makes no other.
 pub fn write_bytes<W: Write>(bytes: &[u8], writer: &mut W) -> Progress
     ensures { Wrote result (W.contents writer.old) (W.contents writer.new) bytes.now }
 {

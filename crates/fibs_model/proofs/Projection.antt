@@ -1,5 +1,7 @@
 -- The client's machine is a projection of the world's.
-use Rattle.std.proofs.Common.{◌≡◌, ℕ, ◌+◌, ◌<◌, Bool, true, false, not, List, [], ◌∷◌, ◌++◌, Option, Some, None, nat_eq, flat_map, take, drop, length, refl, sym, ◌∙◌, suc, ap, subst, inl, inr, append-nil, append_assoc, length-append, arith, if◌then◌else◌}
+use Rattle.std.proofs.Common.{◌≡◌, ℕ, ◌+◌, ◌<◌, Bool, true, false, not, List, [], ◌∷◌, ◌++◌, Option, Some, None, nat_eq}
+use Rattle.std.proofs.Common.{flat_map, take, drop, length, refl, sym, ◌∙◌, suc, ap, subst, inl, inr, append-nil}
+use Rattle.std.proofs.Common.{append_assoc, length-append, arith, if◌then◌else◌}
 use Rattle.std.proofs.lemmas.Bool.Decides.{eqb_tells}
 use Rattle.std.proofs.lemmas.List.Concat.{flat_map-append}
 use Rattle.fibs_lines.specs.Lines.{ReadLine}
@@ -15,17 +17,23 @@ use Rattle.fibs_session.specs.History.Log.{Entry}
 use Rattle.fibs_session.specs.History.Log as L
 use Rattle.fibs_session.specs.History.Words.{is_empty, open_from, open_now, opened_by, connections, unconfirmed, answer}
 use Rattle.fibs_session.specs.History.Hearing.{Heard, heard, line_reading}
-use Rattle.fibs_session.specs.History.Machine.{Talk, Step, InputValue, step, noted as talk_noted, does, stays, is_online, opens, opened, loses, reads, with_bytes, hears_all as talk_hears_all, clicks_by, decides_on, sends_plain as talk_sends_plain, plain_refusal, unconfirmed_now, allows, gained, on_wire, wire_of}
+use Rattle.fibs_session.specs.History.Machine.{Talk, Step, InputValue, step, noted as talk_noted, does, stays}
+use Rattle.fibs_session.specs.History.Machine.{is_online, opens, opened, loses, reads, with_bytes}
+use Rattle.fibs_session.specs.History.Machine.{hears_all as talk_hears_all, clicks_by, decides_on}
+use Rattle.fibs_session.specs.History.Machine.{sends_plain as talk_sends_plain, plain_refusal, unconfirmed_now, allows}
+use Rattle.fibs_session.specs.History.Machine.{gained, on_wire, wire_of}
 use Rattle.fibs_session.specs.History.Machine as M
 use Rattle.fibs_session.specs.Calls.Standing.{ClientValue, StandsAfter}
 use Rattle.fibs_session.specs.History.MachineLaws.{ServersEntriesAreSilent, IsServers, logs_in, takes, undoes}
 use Rattle.fibs_model.specs.Wires.{Link, next_line}
 use Rattle.fibs_model.specs.Server.{Served, Stale, LoggedIn, Took, Undone, Answered, answered, command}
 use Rattle.fibs_model.specs.Events.{Event, Open, Click, Plain, Deliver, Lose, Serve, Own, Repeat, Text}
-use Rattle.fibs_model.specs.World.{World, noted, linked, asks, is_talking, sends, does_heard, hears_all, sends_out, clicks, sends_plain, does_served, serves, after, talk_of}
+use Rattle.fibs_model.specs.World.{World, noted, linked, asks, is_talking, sends, does_heard, hears_all, sends_out}
+use Rattle.fibs_model.specs.World.{clicks, sends_plain, does_served, serves, after, talk_of}
 use Rattle.fibs_model.specs.declared.refusal.WorldRefusal.TheVariants.{AlreadyOpen, NotOpen}
 use Rattle.fibs_model.specs.Refusals.{refusal}
-use Rattle.fibs_model.specs.Clients.{IsWorld, AllServers, Steps, Silence, Follows, input_of, left_of, TalkIsProjected, ClientFollows}
+use Rattle.fibs_model.specs.Clients.{IsWorld, AllServers, Steps, Silence, Follows, input_of, left_of, TalkIsProjected}
+use Rattle.fibs_model.specs.Clients.{ClientFollows}
 use Rattle.fibs_model.proofs.log.Lists.{same_number, other_number, map_no_more}
 use Rattle.fibs_model.proofs.log.Past.{open_append}
 use Rattle.fibs_model.proofs.joint.Joint.{linked_same, linked_other}

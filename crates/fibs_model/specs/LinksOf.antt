@@ -1,5 +1,6 @@
 -- The wires of the program's connections as those of the machine.
-use Rattle.std.specs.Prelude.{◌≡◌, ◌≤◌, ◌+◌, ◌-◌, ℕ, List, ◌∷◌, map, take, drop, get_or, slice_set, vec_len, vec_capacity}
+use Rattle.std.specs.Prelude.{◌≡◌, ◌≤◌, ◌+◌, ◌-◌, ℕ, List, ◌∷◌, map, take, drop, get_or, slice_set, vec_len}
+use Rattle.std.specs.Prelude.{vec_capacity}
 use Rattle.fibs_model.specs.Wires as W
 use Rattle.fibs_model.specs.declared.world.link.Link.{Link}
 

@@ -21,8 +21,8 @@ pub record IsAfter (v : WorldValue) (name password : List ℕ) (first : BoardFie
   pub may_be : MayBe (login_text name password) first events
   pub stands : StandsFor v (login_text name password) (machine_after name password first events)
 
--- The world stands after the events: the name and the password are a login, the first board is good, the events may all be,
--- one after another, and the world is what they make of it. Callers name it by this word, and never open it.
+-- The world stands after the events: the name and the password are a login, the first board is good, the events may all
+-- be, one after another, and the world is what they make of it. Callers name it by this word, and never open it.
 unfoldable pub WorldStandsAfter : WorldValue → List ℕ → List ℕ → BoardFields → List Event → Type 0
 WorldStandsAfter v name password first events = IsAfter v name password first events
 

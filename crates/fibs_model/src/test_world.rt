@@ -340,8 +340,8 @@ fn are_alike(a: &World, b: &World) -> bool {
     a.log() == b.log() && a.shown() == b.shown()
 }
 
-/// Where a growth is refused, the event says so and changes nothing that is seen, and once more it is done: in the end the
-/// world is as one that met no refusal.
+/// Where a growth is refused, the event says so and changes nothing that is seen, and once more it is done: in the end
+/// the world is as one that met no refusal.
 #[test]
 fn events_are_done_under_refused_memory(rt: HostRuntime) -> Result<(), Fail> {
     let mut first = world(rt.alloc(), TO_ROLL)?;

@@ -1,6 +1,7 @@
 //! The world: a server, a client, and the wires between them.
 
-ghost use Rattle.std.specs.Prelude.{◌≡◌, ◌≤◌, ◌≢◌, ◌↔◌, ◌++◌, ℕ, List, [], None, Some, Option, IsOk, IfOk, OnErr, length, map, take, drop, option_map, if◌then◌else◌};
+ghost use Rattle.std.specs.Prelude.{◌≡◌, ◌≤◌, ◌≢◌, ◌↔◌, ◌++◌, ℕ, List, [], None, Some, Option, IsOk, IfOk, OnErr};
+ghost use Rattle.std.specs.Prelude.{length, map, take, drop, option_map, if◌then◌else◌};
 ghost use Rattle.std.specs.Option.{option_copied};
 ghost use Rattle.std.specs.Result.{result_err};
 ghost use Rattle.fibs_messages.specs.Board.{BoardFields};
@@ -41,8 +42,8 @@ use std::marker::Model;
 
 /// A model of a server, a client, the wires of each of their connections, and the log of what happened.
 ///
-/// `new` makes one, `step` and `run` do events, and `log` tells what they led to: a function of the first board and of the
-/// events, in which all choices stand. Of every list of events the headline holds.
+/// `new` makes one, `step` and `run` do events, and `log` tells what they led to: a function of the first board and of
+/// the events, in which all choices stand. Of every list of events the headline holds.
 #[derive(Drop)]
 pub struct World {
     alloc: Global,
@@ -89,8 +90,8 @@ impl World {
         }
     }
 
-    /// Does one event, or says why it may not be: the first refusal of the event's line, and `Memory` only where no other
-    /// holds. A refused event changes nothing.
+    /// Does one event, or says why it may not be: the first refusal of the event's line, and `Memory` only where no
+    /// other holds. A refused event changes nothing.
     pub fn step(&mut self, event: &Event<'_>) -> Result<(), WorldRefusal>
         ensures refusal { (name password : List ℕ) (first : BoardFields) (events : List E.Event) →
             WorldStandsAfter self.old name password first events →
@@ -121,7 +122,8 @@ impl World {
         ensures all { result.refusal ≡ None ↔ result.done ≡ length events.now }
         ensures stops { (name password : List ℕ) (first : BoardFields) (before : List E.Event) →
             WorldStandsAfter self.old name password first before →
-            Stops result.refusal (machine_after name password first (before ++ take result.done (map event_of events.now)))
+            Stops result.refusal
+            (machine_after name password first (before ++ take result.done (map event_of events.now)))
             (drop result.done (map event_of events.now)) }
         ensures stands { (name password : List ℕ) (first : BoardFields) (before : List E.Event) →
             WorldStandsAfter self.old name password first before →
@@ -158,7 +160,8 @@ impl World {
         ensures { (name password : List ℕ) (first : BoardFields) (events : List E.Event) →
             WorldStandsAfter self.now name password first events →
             option_map fields_of (option_copied result)
-            ≡ last (shown (open_now (machine_after name password first events).log) (machine_after name password first events).log) }
+            ≡ last (shown (open_now (machine_after name password first events).log)
+            (machine_after name password first events).log) }
     {
         self.client.shown()
     }

@@ -1,8 +1,10 @@
 -- What a plain command without a fault is made of: a name, a printed text, and points of 16 bits.
-use Rattle.std.proofs.Common.{◌≡◌, ℕ, ◌<◌, ◌≤◌, ◌&&◌, Bool, true, false, cond, nat_le, nat_lt, List, length, Option, Some, None, refl, ap, sym, ◌∙◌, arith}
+use Rattle.std.proofs.Common.{◌≡◌, ℕ, ◌<◌, ◌≤◌, ◌&&◌, Bool, true, false, cond, nat_le, nat_lt, List, length, Option}
+use Rattle.std.proofs.Common.{Some, None, refl, ap, sym, ◌∙◌, arith}
 use Rattle.std.proofs.lemmas.Bool.Decides.{nat_tests}
 use Rattle.fibs_messages.specs.Name.{is_name}
-use Rattle.fibs_session.specs.PlainCommands.{PlainValue, first_of, name_fault, text_fault, points_fault, is_printed, plain_fault_of}
+use Rattle.fibs_session.specs.PlainCommands.{PlainValue, first_of, name_fault, text_fault, points_fault, is_printed}
+use Rattle.fibs_session.specs.PlainCommands.{plain_fault_of}
 use Rattle.fibs_session.specs.declared.commands.plain.PlainFault.{PlainFault}
 use Rattle.fibs_session.specs.declared.commands.plain.PlainFault.TheVariants.{BadName, BadText, TooLong}
 

@@ -1,5 +1,8 @@
 -- A text is read as a decision exactly where it is the command of that one.
-use Rattle.std.proofs.Common.{◌≡◌, ◌≢◌, ℕ, zero, suc, ◌+◌, ◌^◌, ◌-◌, ◌<◌, ◌≤◌, ◌==◌, ◌&&◌, ◌↔◌, Bool, true, false, cond, not, nat_le, nat_lt, nat_eq, List, [], ◌∷◌, ◌++◌, length, map, codes, decimal, Option, Some, None, option_map, refl, ap, sym, ◌∙◌, subst, arith, append_assoc, append-nil, true≢false}
+use Rattle.std.proofs.Common.{◌≡◌, ◌≢◌, ℕ, zero, suc, ◌+◌, ◌^◌, ◌-◌, ◌<◌, ◌≤◌, ◌==◌, ◌&&◌, ◌↔◌, Bool, true, false, cond}
+use Rattle.std.proofs.Common.{not, nat_le, nat_lt, nat_eq, List, [], ◌∷◌, ◌++◌, length, map, codes, decimal, Option}
+use Rattle.std.proofs.Common.{Some, None, option_map, refl, ap, sym, ◌∙◌, subst, arith, append_assoc, append-nil}
+use Rattle.std.proofs.Common.{true≢false}
 use Rattle.std.specs.Prelude.{All}
 use Rattle.std.specs.List.{flat_map, slice_split, join_with_byte}
 use Rattle.std.specs.Str.{bytes_eq}
@@ -17,9 +20,12 @@ use Rattle.fibs_position.specs.DecisionValue.{DecisionValue, roll, double, accep
 use Rattle.fibs_position.specs.declared.direction.Direction.{Direction}
 use Rattle.fibs_position.specs.declared.direction.Direction.TheVariants.{Down, Up}
 use Rattle.fibs_session.specs.Commands.{place_text, step_text, steps_text, command_of}
-use Rattle.fibs_session.specs.CommandReading.{ReadCommand, numbered_place, place_in, place_after, step_between, step_in, step_then, steps_in, play_from, turn_in, decision_in, words_after, read_command}
+use Rattle.fibs_session.specs.CommandReading.{ReadCommand, numbered_place, place_in, place_after, step_between, step_in}
+use Rattle.fibs_session.specs.CommandReading.{step_then, steps_in, play_from, turn_in, decision_in, words_after}
+use Rattle.fibs_session.specs.CommandReading.{read_command}
 use Rattle.fibs_session.specs.CommandLaws.{ReadCommandIsExact}
-use Rattle.fibs_session.proofs.PlaceLemmas.{place_cases, on_bar, borne_off, numbered, place_number, line_place_low, word_differs}
+use Rattle.fibs_session.proofs.PlaceLemmas.{place_cases, on_bar, borne_off, numbered, place_number, line_place_low}
+use Rattle.fibs_session.proofs.PlaceLemmas.{word_differs}
 use Rattle.fibs_session.proofs.StepLemmas.{place_no_dash, step_no_space}
 use Rattle.fibs_session.proofs.SplitLemmas.{from, before_and_from, Without, split_there, words_of}
 

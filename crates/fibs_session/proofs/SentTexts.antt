@@ -1,5 +1,7 @@
 -- Every command is sent as the one line that it is.
-use Rattle.std.proofs.Common.{◌≡◌, ◌≢◌, ℕ, ◌+◌, ◌*◌, ◌^◌, ◌<◌, ◌≤◌, ◌==◌, ◌&&◌, Bool, true, false, not, nat_le, nat_lt, nat_eq, List, [], ◌∷◌, ◌++◌, length, codes, decimal, refl, ap, sym, ◌∙◌, arith, rules, length-append}
+use Rattle.std.proofs.Common.{◌≡◌, ◌≢◌, ℕ, ◌+◌, ◌*◌, ◌^◌, ◌<◌, ◌≤◌, ◌==◌, ◌&&◌, Bool, true, false, not, nat_le, nat_lt}
+use Rattle.std.proofs.Common.{nat_eq, List, [], ◌∷◌, ◌++◌, length, codes, decimal, refl, ap, sym, ◌∙◌, arith, rules}
+use Rattle.std.proofs.Common.{length-append}
 use Rattle.std.specs.Prelude.{All}
 use Rattle.std.specs.List.{list_all, starts_with}
 use Rattle.std.proofs.lemmas.Bool.{and_parts}
@@ -16,8 +18,12 @@ use Rattle.fibs_position.specs.declared.direction.Direction.{Direction}
 use Rattle.fibs_session.specs.Commands.{command_of, steps_text}
 use Rattle.fibs_session.specs.FirstCommands.{style_text, autoboard_text, moreboards_text, board_text}
 use Rattle.fibs_session.specs.Logins.{IsLogin, login_text, is_password, is_password_byte}
-use Rattle.fibs_session.specs.PlainCommands.{PlainValue, board_again, who, say, tell, shout, whisper, kibitz, leave_message, invite, invite_to, join, join_with, toggle_ready, automove_off, greedy_off, bye, plain_of, plain_fault_of, is_printed, is_text_byte}
-use Rattle.fibs_session.specs.CommandLaws.{CommandsAreShort, CommandsArePrinted, IsSent, DecisionsAreSent, PlainIsSent, LoginsAreSent, FirstAreSent}
+use Rattle.fibs_session.specs.PlainCommands.{PlainValue, board_again, who, say, tell, shout, whisper, kibitz}
+use Rattle.fibs_session.specs.PlainCommands.{leave_message, invite, invite_to, join, join_with, toggle_ready}
+use Rattle.fibs_session.specs.PlainCommands.{automove_off, greedy_off, bye, plain_of, plain_fault_of, is_printed}
+use Rattle.fibs_session.specs.PlainCommands.{is_text_byte}
+use Rattle.fibs_session.specs.CommandLaws.{CommandsAreShort, CommandsArePrinted, IsSent, DecisionsAreSent, PlainIsSent}
+use Rattle.fibs_session.specs.CommandLaws.{LoginsAreSent, FirstAreSent}
 use Rattle.fibs_session.proofs.PlainTexts.{IsText, name_in_it, text_in_it, both_in_it, points_in_it}
 use Rattle.fibs_session.proofs.PrintedLemmas.{bytes_printed, name_is_printed, secret_is_printed}
 

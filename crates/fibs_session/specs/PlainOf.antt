@@ -1,8 +1,12 @@
 -- Plain commands of the program as values.
 use Rattle.std.specs.Prelude.{Some, None}
-use Rattle.fibs_session.specs.PlainCommands.{PlainValue, board_again, who, say, tell, shout, whisper, kibitz, leave_message, invite, invite_to, join, join_with, toggle_ready, automove_off, greedy_off, bye}
+use Rattle.fibs_session.specs.PlainCommands.{PlainValue, board_again, who, say, tell, shout, whisper, kibitz}
+use Rattle.fibs_session.specs.PlainCommands.{leave_message, invite, invite_to, join, join_with, toggle_ready}
+use Rattle.fibs_session.specs.PlainCommands.{automove_off, greedy_off, bye}
 use Rattle.fibs_session.specs.declared.commands.plain.Plain.{Plain}
-use Rattle.fibs_session.specs.declared.commands.plain.Plain.TheVariants.{Board, Who, Say, Tell, Shout, Whisper, Kibitz, Message, Invite, Join, ToggleReady, AutomoveOff, GreedyOff, Bye}
+use Rattle.fibs_session.specs.declared.commands.plain.Plain.TheVariants.{Board, Who, Say, Tell, Shout, Whisper, Kibitz}
+use Rattle.fibs_session.specs.declared.commands.plain.Plain.TheVariants.{Message, Invite, Join, ToggleReady}
+use Rattle.fibs_session.specs.declared.commands.plain.Plain.TheVariants.{AutomoveOff, GreedyOff, Bye}
 
 -- what the command says, with no address in it
 abbrev pub plain_value : Plain → PlainValue

@@ -8,7 +8,8 @@ ghost use Rattle.fibs_messages.specs.StoredBoard.{fields_of};
 ghost use Rattle.fibs_position.specs.DecisionValue.{decision_of};
 ghost use Rattle.fibs_session.specs.Calls.Doing.{Does};
 ghost use Rattle.fibs_session.specs.Calls.Standing.{StandsAfter};
-ghost use Rattle.fibs_session.specs.History.Machine.{Talk, start, Open, Lose, Piece, Click, PlainInput, open_refusal, unconfirmed_now, answer_now, plain_refusal, shown_now};
+ghost use Rattle.fibs_session.specs.History.Machine.{Talk, start, Open, Lose, Piece, Click, PlainInput, open_refusal};
+ghost use Rattle.fibs_session.specs.History.Machine.{unconfirmed_now, answer_now, plain_refusal, shown_now};
 ghost use Rattle.fibs_session.specs.LoginOf.{login_of};
 ghost use Rattle.fibs_session.specs.PlainOf.{plain_value};
 
@@ -33,7 +34,8 @@ use kept::Kept;
 pub use run::run_client;
 use std::marker::Model;
 
-/// A client of the server: it is given the bytes that come, in any pieces, and hands out the commands that are to be sent.
+/// A client of the server: it is given the bytes that come, in any pieces, and hands out the commands that are to be
+/// sent.
 ///
 /// It opens and loses connections with `open` and `lose`; `feed` takes what the server sends, `decide` and `plain` what
 /// the user says. What it answers is a function of what has happened alone. No call takes memory.
@@ -87,8 +89,8 @@ impl Client {
         }
     }
 
-    /// The connection is lost: nothing of it is kept. Gives the decision that waited, with the board on which it was made.
-    /// None where none waited, or where no connection was open.
+    /// The connection is lost: nothing of it is kept. Gives the decision that waited, with the board on which it was
+    /// made. None where none waited, or where no connection was open.
     pub fn lose(&mut self) -> Option<Outstanding>
         ensures does { Does self.old self.new Lose [] }
         ensures unconfirmed { (t : Talk) → StandsAfter self.old t → option_map ask_of result ≡ unconfirmed_now t }
@@ -171,8 +173,8 @@ impl Client {
         }
     }
 
-    /// The first half of `feed`: reads `piece` up to and with the next line end, and hears the line that ends there. `got`
-    /// lends it.
+    /// The first half of `feed`: reads `piece` up to and with the next line end, and hears the line that ends there.
+    /// `got` lends it.
     pub fn read(&mut self, piece: &[u8]) -> HeardLine
         ensures in_range { result.used ≤ length piece.now }
         ensures progress { 0 < length piece.now → 0 < result.used }
@@ -187,8 +189,8 @@ impl Client {
         self.take_piece(piece)
     }
 
-    /// The second half of `feed`: what `read` has heard, with its line. To be called before anything else is done with the
-    /// client.
+    /// The second half of `feed`: what `read` has heard, with its line. To be called before anything else is done with
+    /// the client.
     #[tactic(auto, unfolding(crate::specs::Calls::Feeding::Keeps, crate::specs::Calls::Feeding::Shows))]
     pub fn got(&self, heard: HeardLine) -> Got<'_>
         ensures used { result.used ≡ heard.used }
@@ -218,9 +220,9 @@ impl Client {
         }
     }
 
-    /// Reads `piece` up to and with the next line end, and lends the line that ends there, with the answer to it. Without
-    /// a line end it reads all of it, and lends none. Call it again with what is left of the piece, until nothing is.
-    /// Offline all bytes are dropped.
+    /// Reads `piece` up to and with the next line end, and lends the line that ends there, with the answer to it.
+    /// Without a line end it reads all of it, and lends none. Call it again with what is left of the piece, until
+    /// nothing is. Offline all bytes are dropped.
     pub fn feed(&mut self, piece: &[u8]) -> Got<'_>
         ensures in_range { result.used ≤ length piece.now }
         ensures progress { 0 < length piece.now → 0 < result.used }

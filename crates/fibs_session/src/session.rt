@@ -10,7 +10,8 @@ ghost use Rattle.fibs_session.specs.Calls.FieldSteps.{shown_good};
 ghost use Rattle.fibs_session.specs.Calls.Doing.{SessionDoes, SessionHears};
 ghost use Rattle.fibs_session.specs.Calls.Standing.{SessionStandsAfter};
 ghost use Rattle.fibs_session.specs.History.Hearing.{line_reading};
-ghost use Rattle.fibs_session.specs.History.Machine.{Talk, start, Open, Lose, Click, PlainInput, open_refusal, unconfirmed_now, answer_now, plain_refusal, shown_now, is_online};
+ghost use Rattle.fibs_session.specs.History.Machine.{Talk, start, Open, Lose, Click, PlainInput, open_refusal};
+ghost use Rattle.fibs_session.specs.History.Machine.{unconfirmed_now, answer_now, plain_refusal, shown_now, is_online};
 ghost use Rattle.fibs_session.specs.LoginOf.{login_of};
 ghost use Rattle.fibs_session.specs.PlainOf.{plain_value};
 
@@ -74,8 +75,8 @@ impl Session {
         self.note_open()
     }
 
-    /// The connection is lost: nothing of it is kept. Gives the decision that waited, with the board on which it was made.
-    /// None where none waited, or where no connection was open.
+    /// The connection is lost: nothing of it is kept. Gives the decision that waited, with the board on which it was
+    /// made. None where none waited, or where no connection was open.
     pub fn lose(&mut self) -> Option<Outstanding>
         ensures does { SessionDoes (session_of self.old) (session_of self.new) Lose [] }
         ensures unconfirmed { (t : Talk) → SessionStandsAfter (session_of self.old) t →
@@ -88,7 +89,8 @@ impl Session {
     ///
     /// The first message 1 of a connection is answered by `set boardstyle 3`; the first message 2 by `toggle autoboard`
     /// and `toggle moreboards`, each where that setting is 0, and then by `board`. A board that has a position is shown
-    /// from now on; where its game part differs from that of the board shown before, a decision that waits is confirmed.
+    /// from now on; where its game part differs from that of the board shown before, a decision that waits is
+    /// confirmed.
     pub fn line<'a>(&mut self, line: &Line<'a>) -> Taken<'a>
         ensures line { value_of result.line ≡ value_of line.now }
         ensures reading { reading_of result.reading ≡ line_reading (value_of line.now) }
@@ -133,9 +135,9 @@ impl Session {
 
     /// Hands out a command that decides nothing in the game.
     ///
-    /// The first refusal of: `Offline`; `NotOn`, where `AutomoveOff` or `GreedyOff` would turn off what is 0 in the latest
-    /// message 2 of this connection, or was sent on it before; the command's fault. After a refusal the session is as
-    /// before.
+    /// The first refusal of: `Offline`; `NotOn`, where `AutomoveOff` or `GreedyOff` would turn off what is 0 in the
+    /// latest message 2 of this connection, or was sent on it before; the command's fault. After a refusal the session
+    /// is as before.
     pub fn plain(&mut self, plain: &Plain<'_>) -> Result<CommandText, PlainRefusal>
         ensures does { SessionDoes (session_of self.old) (session_of self.new) (PlainInput (plain_value plain.now))
             (handed result) }

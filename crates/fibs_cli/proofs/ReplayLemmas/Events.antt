@@ -1,5 +1,6 @@
 -- A line is read as an event exactly where it says so.
-use Rattle.std.proofs.Common.{◌≡◌, ℕ, ◌≤◌, Bool, true, false, cond, List, [], ◌∷◌, ◌++◌, codes, decimal, Option, Some, None, option_map, refl, ap, sym, ◌∙◌, subst, arith}
+use Rattle.std.proofs.Common.{◌≡◌, ℕ, ◌≤◌, Bool, true, false, cond, List, [], ◌∷◌, ◌++◌, codes, decimal, Option, Some}
+use Rattle.std.proofs.Common.{None, option_map, refl, ap, sym, ◌∙◌, subst, arith}
 use Rattle.std.specs.Str.{bytes_eq}
 use Rattle.std.proofs.lemmas.Slice.Eq.{bytes_eq-Decides}
 use Rattle.fibs_messages.specs.Decimal.{decimal_up_to}
@@ -9,8 +10,10 @@ use Rattle.fibs_session.specs.CommandReading.{read_command}
 use Rattle.fibs_session.specs.CommandLaws.{ReadCommandIsExact, ReadPlainIsExact}
 use Rattle.fibs_session.specs.PlainReading.{TextField, no_text, rest_of_line, read_plain}
 use Rattle.fibs_model.specs.Events.{Event, Open, Click, Plain, Deliver, Lose, Serve, Own, Repeat, Text}
-use Rattle.fibs_cli.specs.Replay.EventLines.{SaysEvent, says_open, says_click, says_plain, says_deliver, says_lose, says_serve, says_own, says_repeat, says_text, count_limit, die_limit}
-use Rattle.fibs_cli.specs.Replay.EventReading.{alone_in, board_in, second_die, serve_of, served_with, serving_in, joined_in, event_of_word, event_in, EventsAreExact}
+use Rattle.fibs_cli.specs.Replay.EventLines.{SaysEvent, says_open, says_click, says_plain, says_deliver, says_lose}
+use Rattle.fibs_cli.specs.Replay.EventLines.{says_serve, says_own, says_repeat, says_text, count_limit, die_limit}
+use Rattle.fibs_cli.specs.Replay.EventReading.{alone_in, board_in, second_die, serve_of, served_with, serving_in}
+use Rattle.fibs_cli.specs.Replay.EventReading.{joined_in, event_of_word, event_in, EventsAreExact}
 use Rattle.fibs_cli.proofs.ReplayLemmas.Splits.{from, before_and_from, split_there}
 use Rattle.fibs_cli.proofs.ReplayLemmas.EventTexts.{DecimalsAreExact, BoardsAreExact, number_apart}
 

@@ -1,5 +1,7 @@
 -- The lines of a script are run on a world, and what they led to is printed.
-use Rattle.std.proofs.Common.{◌≡◌, ◌↔◌, Bool, true, false, if◌then◌else◌, ℕ, ◌+◌, ◌≤◌, List, [], ◌∷◌, ◌++◌, ◌⊎◌, length, codes, Option, Some, None, option_map, Result, Ok, Err, IfOk, refl, ap, sym, ◌∙◌, subst, arith, append_assoc, append-nil, length-append, inl, inr}
+use Rattle.std.proofs.Common.{◌≡◌, ◌↔◌, Bool, true, false, if◌then◌else◌, ℕ, ◌+◌, ◌≤◌, List, [], ◌∷◌, ◌++◌, ◌⊎◌, length}
+use Rattle.std.proofs.Common.{codes, Option, Some, None, option_map, Result, Ok, Err, IfOk, refl, ap, sym, ◌∙◌, subst}
+use Rattle.std.proofs.Common.{arith, append_assoc, append-nil, length-append, inl, inr}
 use Rattle.std.specs.Result.{IsErrOf}
 use Rattle.std.specs.Io.KnownBytes.{Appends}
 use Rattle.fibs_messages.specs.Board.{BoardFields, BoardText}
@@ -22,7 +24,8 @@ use Rattle.fibs_cli.specs.Program.{Printed}
 use Rattle.fibs_cli.specs.Writing.{GainedFront}
 use Rattle.fibs_cli.specs.Replay.EventLines.{SaysEvent}
 use Rattle.fibs_cli.specs.Replay.LogLines.{log_text}
-use Rattle.fibs_cli.specs.Replay.Output.{script_login, unread_text, end_text, refused_text, log_after, ReplayText, too_long, refused, to_the_end, LogOf, IsFor, Replayed, ReplayFailed, ReadWhole}
+use Rattle.fibs_cli.specs.Replay.Output.{script_login, unread_text, end_text, refused_text, log_after, ReplayText}
+use Rattle.fibs_cli.specs.Replay.Output.{too_long, refused, to_the_end, LogOf, IsFor, Replayed, ReplayFailed, ReadWhole}
 use Rattle.fibs_cli.specs.Replay.Running.{StandsFrom, RanTo, RunPrinted, PrintedFor}
 use Rattle.fibs_cli.specs.Replay.Scripts.{script_limit, script_lines, SayEvents, SayScript, IsNoEvent}
 use Rattle.fibs_cli.proofs.ReplayLemmas.Scripts.{ReadsLine}

@@ -1,5 +1,6 @@
 -- The lines that a turn prints, the directory's left aside.
-use Rattle.std.proofs.Common.{◌≡◌, ℕ, Bool, true, false, cond, if◌then◌else◌, List, [], ◌∷◌, ◌++◌, map, codes, Option, None, Some, refl, sym, ap, subst, ◌∙◌, append_assoc, append-nil}
+use Rattle.std.proofs.Common.{◌≡◌, ℕ, Bool, true, false, cond, if◌then◌else◌, List, [], ◌∷◌, ◌++◌, map, codes, Option}
+use Rattle.std.proofs.Common.{None, Some, refl, sym, ap, subst, ◌∙◌, append_assoc, append-nil}
 use Rattle.std.proofs.lemmas.List.{map-append}
 use Rattle.std.proofs.lemmas.List.Concat.{flat_map-append}
 use Rattle.std.specs.List.{flat_map}
@@ -16,7 +17,8 @@ use Rattle.fibs_session.specs.declared.refusal.PlainRefusal.TheVariants as P
 use Rattle.fibs_session.specs.History.Log.{Entry}
 use Rattle.fibs_session.specs.History.Words.{Ask, open_now}
 use Rattle.fibs_session.specs.History.Hearing.{heard, line_reading}
-use Rattle.fibs_session.specs.History.Machine.{Talk, Step, Click, PlainInput, step, answer_now, plain_refusal, is_online, gained}
+use Rattle.fibs_session.specs.History.Machine.{Talk, Step, Click, PlainInput, step, answer_now, plain_refusal}
+use Rattle.fibs_session.specs.History.Machine.{is_online, gained}
 use Rattle.fibs_session.specs.Calls.SessionOf.{ask_of}
 use Rattle.fibs_session.specs.Calls.Standing.{ClientValue}
 use Rattle.fibs_session.specs.declared.directory.fault.DirectoryFault.{DirectoryFault}
@@ -27,8 +29,10 @@ use Rattle.fibs_position.specs.Names.{phase_name}
 use Rattle.fibs_cli.specs.Escape.{escaped}
 use Rattle.fibs_position.specs.Phases.{phase_of}
 use Rattle.fibs_cli.specs.Turns.Acts.{Act, text_of_lines, line_bytes, answer_act, lost_line}
-use Rattle.fibs_cli.specs.Turns.Lines.{heard_text, said_text, phase_lines, confirmed_lines, line_act, line_acts, piece_acts}
-use Rattle.fibs_cli.specs.Turns.Typing.{TypedValue, typed_decision, typed_plain, typed_neither, refused_line, plain_line, typed_act, typed_acts, typed_now, talk_after}
+use Rattle.fibs_cli.specs.Turns.Lines.{heard_text, said_text, phase_lines, confirmed_lines, line_act, line_acts}
+use Rattle.fibs_cli.specs.Turns.Lines.{piece_acts}
+use Rattle.fibs_cli.specs.Turns.Typing.{TypedValue, typed_decision, typed_plain, typed_neither, refused_line}
+use Rattle.fibs_cli.specs.Turns.Typing.{plain_line, typed_act, typed_acts, typed_now, talk_after}
 use Rattle.fibs_cli.specs.Turns.Script.{Outside, Done, directory_lines, done_lines, acts_of, prints_of, Did}
 use Rattle.fibs_cli.specs.Turns.Turn.{Turned, end_acts}
 use Rattle.fibs_cli.specs.Turns.PrintLaw.{is_directory_line, without_directory, lines_of_acts, TurnsPrintTheirActs}

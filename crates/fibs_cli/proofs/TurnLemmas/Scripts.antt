@@ -1,5 +1,6 @@
 -- What was done of a script, act by act.
-use Rattle.std.proofs.Common.{◌≡◌, ℕ, List, [], ◌∷◌, ◌++◌, map, Option, None, Some, refl, sym, ap, subst, ◌∙◌, append_assoc, append-nil}
+use Rattle.std.proofs.Common.{◌≡◌, ℕ, List, [], ◌∷◌, ◌++◌, map, Option, None, Some, refl, sym, ap, subst, ◌∙◌}
+use Rattle.std.proofs.Common.{append_assoc, append-nil}
 use Rattle.std.proofs.lemmas.List.{map-append}
 use Rattle.std.proofs.lemmas.List.Concat.{flat_map-append}
 use Rattle.std.specs.Io.KnownBytes.{Appends, Keeps}
@@ -11,7 +12,8 @@ use Rattle.fibs_cli.specs.Writing.{Wrote}
 use Rattle.fibs_cli.specs.declared.writing.Progress.{Progress}
 use Rattle.fibs_cli.specs.declared.writing.Progress.TheVariants.{Whole, Broken}
 use Rattle.fibs_cli.specs.Turns.Acts.{Act, line_bytes, text_of_lines}
-use Rattle.fibs_cli.specs.Turns.Script.{Outside, outside, Done, directory_lines, done_lines, noted_unless, acts_of, writes_of, prints_of, notes_of, Notes, InHand, Did}
+use Rattle.fibs_cli.specs.Turns.Script.{Outside, outside, Done, directory_lines, done_lines, noted_unless, acts_of}
+use Rattle.fibs_cli.specs.Turns.Script.{writes_of, prints_of, notes_of, Notes, InHand, Did}
 
 -- the directory stays
 pub notes_nothing : (d : List MessageValue) → Notes d d []

@@ -1,11 +1,14 @@
 -- What was heard and done, portion by portion, makes up a turn.
-use Rattle.std.proofs.Common.{◌≡◌, ◌<◌, ◌≤◌, ℕ, Bool, true, false, not, if◌then◌else◌, nat_eq, List, [], ◌∷◌, ◌++◌, length, take, drop, Option, None, Some, refl, sym, ap, subst, ◌∙◌, append_assoc, append-nil, arith, length-append}
+use Rattle.std.proofs.Common.{◌≡◌, ◌<◌, ◌≤◌, ℕ, Bool, true, false, not, if◌then◌else◌, nat_eq, List, [], ◌∷◌, ◌++◌}
+use Rattle.std.proofs.Common.{length, take, drop, Option, None, Some, refl, sym, ap, subst, ◌∙◌, append_assoc}
+use Rattle.std.proofs.Common.{append-nil, arith, length-append}
 use Rattle.std.specs.Io.KnownBytes.{Consumes, Keeps}
 use Rattle.std.proofs.KnownBytes.{Consumes-nil, Consumes-trans, Consumes-kept}
 use Rattle.fibs_lines.specs.StreamLaws.{LinesOnlyGrow}
 use Rattle.fibs_session.specs.History.Log.{Lost as LostEntry}
 use Rattle.fibs_session.specs.History.Words.{open_now}
-use Rattle.fibs_session.specs.History.Machine.{Talk, Step, Piece, Lose, step, stays, does, is_online, then_also, unconfirmed_now}
+use Rattle.fibs_session.specs.History.Machine.{Talk, Step, Piece, Lose, step, stays, does, is_online, then_also}
+use Rattle.fibs_session.specs.History.Machine.{unconfirmed_now}
 use Rattle.fibs_session.specs.History.MachineLaws.{PiecesJoin, EmptyPieceIsNothing}
 use Rattle.fibs_session.specs.Calls.Standing.{ClientValue, StandsAfter}
 use Rattle.fibs_cli.specs.declared.exchange.Ending.{Ending}

@@ -1,5 +1,6 @@
 -- What a typed line leaves as it is.
-use Rattle.std.proofs.Common.{◌≡◌, ℕ, Bool, true, false, not, if◌then◌else◌, nat_eq, List, [], ◌∷◌, ◌++◌, map, Option, None, Some, Result, Ok, Err, refl, sym, ap, subst, ◌∙◌, append-nil}
+use Rattle.std.proofs.Common.{◌≡◌, ℕ, Bool, true, false, not, if◌then◌else◌, nat_eq, List, [], ◌∷◌, ◌++◌, map, Option}
+use Rattle.std.proofs.Common.{None, Some, Result, Ok, Err, refl, sym, ap, subst, ◌∙◌, append-nil}
 use Rattle.std.specs.Prelude.{option_map, codes}
 use Rattle.std.specs.Io.KnownBytes.{Appends}
 use Rattle.fibs_messages.specs.Board.{BoardFields}
@@ -11,7 +12,8 @@ use Rattle.fibs_session.specs.declared.refusal.Refusal.{Refusal}
 use Rattle.fibs_session.specs.declared.refusal.PlainRefusal.{PlainRefusal}
 use Rattle.fibs_session.specs.History.Log.{Entry, Clicked, Sent}
 use Rattle.fibs_session.specs.History.Words.{last, open_now, shown}
-use Rattle.fibs_session.specs.History.Machine.{Talk, Step, Click, PlainInput, step, stays, is_online, answer_now, plain_refusal, on_wire, clicks_by, decides_on, sends_plain}
+use Rattle.fibs_session.specs.History.Machine.{Talk, Step, Click, PlainInput, step, stays, is_online, answer_now}
+use Rattle.fibs_session.specs.History.Machine.{plain_refusal, on_wire, clicks_by, decides_on, sends_plain}
 use Rattle.fibs_session.specs.Calls.SessionOf.{handed, refusal_in}
 use Rattle.fibs_messages.specs.Message.{MessageValue}
 use Rattle.fibs_cli.specs.Writing.{Wrote}

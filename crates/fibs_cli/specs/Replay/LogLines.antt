@@ -3,7 +3,8 @@
 use Rattle.std.specs.Prelude.{◌++◌, ℕ, Bool, List, ◌∷◌, [], codes, decimal, Option, Some, None, flat_map, if◌then◌else◌}
 use Rattle.fibs_messages.specs.Board.{spelling}
 use Rattle.fibs_session.specs.declared.refusal.Refusal.{Refusal}
-use Rattle.fibs_session.specs.History.Log.{Entry, Opened, LoggedIn, Welcomed, Informed, Shown, Clicked, Sent, Took, Undone, Lost}
+use Rattle.fibs_session.specs.History.Log.{Entry, Opened, LoggedIn, Welcomed, Informed, Shown, Clicked, Sent, Took}
+use Rattle.fibs_session.specs.History.Log.{Undone, Lost}
 use Rattle.fibs_session.specs.History.Refusals.{refusal_name}
 use Rattle.fibs_session.specs.History.Words.{Ask}
 use Rattle.fibs_cli.specs.Turns.Acts.{asked_text, line_bytes}

@@ -75,10 +75,12 @@ LogOf script text = (first : BoardFields) × (before later : List Event)
 abbrev pub IsFor : List ℕ → List ℕ → Type 0
 IsFor script text = ((status : ℕ) × ReplayText script text status) ⊎ LogOf script text
 
--- a read failed, and nothing was written; or a write failed, and the writer gained a front of a text that is for the script
+-- a read failed, and nothing was written; or a write failed, and the writer gained a front of a text that is for the
+-- script
 abbrev pub ReplayFailed : Option (List ℕ) → Option (List ℕ) → Option (List ℕ) → Option (List ℕ) → Type 0
 ReplayFailed left still held now =
-    Keeps held now ⊎ ((script text : List ℕ) × Consumes left still script × IsFor script text × GainedFront held now text)
+    Keeps held now
+    ⊎ ((script text : List ℕ) × Consumes left still script × IsFor script text × GainedFront held now text)
 
 -- memory ran out: nothing was written, or just the lines of the log so far
 abbrev pub ReplayedInPart : Option (List ℕ) → Option (List ℕ) → Option (List ℕ) → Option (List ℕ) → Type 0

@@ -19,7 +19,8 @@ abbrev pub StandsFrom : WorldValue → BoardFields → List Event → Type 0
 StandsFrom world first events = WorldStandsAfter world (codes "ann") (codes "secret") first events
 
 -- so many of the events were done, and the next one was refused for this reason; none is left where there is no reason
-pub record RanTo (first : BoardFields) (events : List Event) (world : WorldValue) (done : ℕ) (why : Option WorldRefusal) : Type 0 where
+pub record RanTo (first : BoardFields) (events : List Event) (world : WorldValue) (done : ℕ)
+    (why : Option WorldRefusal) : Type 0 where
   pub before : List Event
   pub later : List Event
   pub cut : events ≡ before ++ later
@@ -35,7 +36,8 @@ GaveUp text (Err fault.Device) held now = GainedFront held now text
 GaveUp text (Err fault.Memory) held now = Appends held now text
 
 -- what is printed after a run that ended so: its log, and a last line
-abbrev pub RunPrinted : Option WorldRefusal → ℕ → List ℕ → Result ℕ EngineFault → Option (List ℕ) → Option (List ℕ) → Type 0
+abbrev pub RunPrinted : Option WorldRefusal → ℕ → List ℕ → Result ℕ EngineFault → Option (List ℕ) → Option (List ℕ)
+    → Type 0
 RunPrinted None done log result held now = Printed 0 (log ++ end_text done) result held now
 RunPrinted (Some W.Memory) done log result held now = GaveUp log result held now
 RunPrinted (Some why) done log result held now = Printed 3 (log ++ refused_text done why) result held now

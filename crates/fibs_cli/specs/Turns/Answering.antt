@@ -10,7 +10,8 @@ use Rattle.fibs_cli.specs.declared.exchange.typing.Answer.TheVariants as A
 use Rattle.fibs_cli.specs.declared.exchange.typing.Complaint.{Complaint}
 use Rattle.fibs_cli.specs.declared.exchange.typing.Complaint.TheVariants as C
 use Rattle.fibs_cli.specs.Turns.Acts.{Act, answer_act}
-use Rattle.fibs_cli.specs.Turns.Typing.{TypedValue, typed_decision, typed_plain, typed_neither, refused_line, plain_line}
+use Rattle.fibs_cli.specs.Turns.Typing.{TypedValue, typed_decision, typed_plain, typed_neither, refused_line}
+use Rattle.fibs_cli.specs.Turns.Typing.{plain_line}
 
 abbrev pub typed_value : Typed → TypedValue
 typed_value (T.Decision d) = typed_decision (decision_of d)

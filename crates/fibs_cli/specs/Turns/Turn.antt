@@ -1,5 +1,6 @@
 -- One turn of a client with its stream: the typed line, the lines that are heard, and the end of the connection.
-use Rattle.std.specs.Prelude.{◌≡◌, ◌≢◌, ◌<◌, ◌≤◌, ◌*◌, ℕ, Bool, true, false, List, [], ◌∷◌, ◌++◌, length, take, Option, Some, None, option_map}
+use Rattle.std.specs.Prelude.{◌≡◌, ◌≢◌, ◌<◌, ◌≤◌, ◌*◌, ℕ, Bool, true, false, List, [], ◌∷◌, ◌++◌, length, take, Option}
+use Rattle.std.specs.Prelude.{Some, None, option_map}
 use Rattle.std.specs.Borrow.{Bor}
 use Rattle.std.specs.Io.KnownBytes.{Consumes}
 use Rattle.fibs_lines.specs.Lines.{lines_of}
@@ -80,7 +81,8 @@ ReadExtent Broken stream fed rest = EndsALine stream fed
 
 -- a client that stood after t made the typed call, then it was fed the bytes that were read, and then it lost its
 -- connection where it is lost; what that calls for was done, in this order
-pub record Turned (t : Talk) (new : ClientValue) (typed left still : Option (List ℕ)) (a b : Outside) (e : Ending) : Type 0 where
+pub record Turned (t : Talk) (new : ClientValue) (typed left still : Option (List ℕ)) (a b : Outside) (e : Ending)
+    : Type 0 where
   pub read : List ℕ
   pub took : Consumes left still read
   pub fed : List ℕ

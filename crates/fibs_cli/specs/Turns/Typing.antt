@@ -10,7 +10,8 @@ use Rattle.fibs_session.specs.PlainCommands.{PlainValue}
 use Rattle.fibs_session.specs.declared.refusal.Refusal.{Refusal}
 use Rattle.fibs_session.specs.declared.refusal.PlainRefusal.{PlainRefusal}
 use Rattle.fibs_session.specs.declared.refusal.PlainRefusal.TheVariants as P
-use Rattle.fibs_session.specs.History.Machine.{Talk, Step, Click, PlainInput, step, stays, shown_now, answer_now, plain_refusal}
+use Rattle.fibs_session.specs.History.Machine.{Talk, Step, Click, PlainInput, step, stays, shown_now, answer_now}
+use Rattle.fibs_session.specs.History.Machine.{plain_refusal}
 use Rattle.fibs_session.specs.History.Refusals.{refusal_number, refusal_name, plain_refusal_number, plain_refusal_name}
 use Rattle.fibs_session.specs.CommandReading.{read_command}
 use Rattle.fibs_session.specs.PlainReading.{read_plain}

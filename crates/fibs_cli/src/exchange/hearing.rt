@@ -1,5 +1,6 @@
 //! Lines of the server are heard.
-ghost use Rattle.std.specs.Prelude.{◌≡◌, ◌++◌, ◌∷◌, [], List, Option, Some, None, if◌then◌else◌, option_map, IfOk, OnOk};
+ghost use Rattle.std.specs.Prelude.{◌≡◌, ◌++◌, ◌∷◌, [], List, Option, Some, None, if◌then◌else◌, option_map, IfOk};
+ghost use Rattle.std.specs.Prelude.{OnOk};
 ghost use Rattle.std.specs.Io.KnownBytes.{Appends, Keeps};
 ghost use Rattle.fibs_lines.specs.Lines.{value_of};
 ghost use Rattle.fibs_messages.specs.Line.{reading_of};
@@ -12,7 +13,8 @@ ghost use Rattle.fibs_session.specs.History.Machine.{Talk};
 ghost use Rattle.fibs_session.specs.Calls.SessionOf.{ask_of, taken_of};
 ghost use Rattle.fibs_session.specs.Calls.Standing.{StandsAfter};
 ghost use Rattle.fibs_cli.specs.Turns.Acts.{line_bytes, text_of_lines};
-ghost use Rattle.fibs_cli.specs.Turns.Lines.{said_text, heard_text, phase_lines, confirmed_lines, messages_in, taken_act};
+ghost use Rattle.fibs_cli.specs.Turns.Lines.{said_text, heard_text, phase_lines, confirmed_lines, messages_in};
+ghost use Rattle.fibs_cli.specs.Turns.Lines.{taken_act};
 ghost use Rattle.fibs_cli.specs.Turns.Script.{Did, Notes, outside, directory_lines, noted_unless};
 ghost use Rattle.fibs_cli.specs.Turns.Turn.{Talked};
 ghost use Rattle.fibs_session.specs.declared.directory.fault.DirectoryFault.{DirectoryFault};

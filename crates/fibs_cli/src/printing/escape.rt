@@ -61,7 +61,8 @@ fn append_runs(bytes: &[u8], text: &mut Vec<u8>) -> Result<(), AllocError>
     text.extend_from_slice(rest)
 }
 
-/// Appends the bytes, each that is not shown as it is by its escape. Where none is, which is the rule, it appends all at once.
+/// Appends the bytes, each that is not shown as it is by its escape. Where none is, which is the rule, it appends all
+/// at once.
 pub fn append_escaped(bytes: &[u8], text: &mut Vec<u8>) -> Result<(), AllocError>
     ensures { OnOk result (text.new.items ≡ text.old.items ++ escaped bytes.now) }
 {

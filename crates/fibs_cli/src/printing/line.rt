@@ -49,7 +49,8 @@ fn append_message(
     message: &Message<'_>,
     text: &mut Vec<u8>,
 ) -> Result<(), AllocError>
-    ensures { OnOk result (text.new.items ≡ text.old.items ++ (codes "message " ++ escaped (canonical (message_of message.now)))) }
+    ensures { OnOk result (text.new.items
+        ≡ text.old.items ++ (codes "message " ++ escaped (canonical (message_of message.now)))) }
 {
     text.extend_from_slice(b"message ")?;
     let start = text.len();

@@ -9,7 +9,8 @@ ghost use Rattle.fibs_position.specs.DecisionValue.{decision_of};
 ghost use Rattle.fibs_session.specs.Calls.SessionOf.{ask_of};
 ghost use Rattle.fibs_model.specs.EntryOf.{entry_of};
 ghost use Rattle.fibs_cli.specs.Turns.Acts.{line_bytes};
-ghost use Rattle.fibs_cli.specs.Replay.LogLines.{answer_text, ask_text, entry_line, flag_text, of_connection, unconfirmed_text};
+ghost use Rattle.fibs_cli.specs.Replay.LogLines.{answer_text, ask_text, entry_line, flag_text, of_connection};
+ghost use Rattle.fibs_cli.specs.Replay.LogLines.{unconfirmed_text};
 
 use crate::exchange::printing::direction_of;
 use crate::printing::fixed::append;

@@ -74,7 +74,8 @@ fn make_room<W: Write>(text: &mut Portion, room: usize, writer: &mut W) -> Progr
 /// Writes the line of each entry, in portions, and then a last line. After a failed write it makes no other.
 pub fn print_log<W: Write>(entries: &[Entry], last: &[u8], writer: &mut W) -> Progress
     requires { length last.now ≤ 8192 }
-    ensures { Wrote result (W.contents writer.old) (W.contents writer.new) (log_text (map entry_of entries.now) ++ last.now) }
+    ensures { Wrote result (W.contents writer.old) (W.contents writer.new)
+        (log_text (map entry_of entries.now) ++ last.now) }
 {
     let mut text = Portion::new();
     for entry in entries {

@@ -1,5 +1,6 @@
 -- The client hands out commands.
-use Rattle.std.proofs.Common.{◌≡◌, ◌<◌, ℕ, List, [], ◌∷◌, ◌++◌, Option, Some, None, length, refl, sym, ap, subst, ◌∙◌, arith, append-nil, map}
+use Rattle.std.proofs.Common.{◌≡◌, ◌<◌, ℕ, List, [], ◌∷◌, ◌++◌, Option, Some, None, length, refl, sym, ap, subst, ◌∙◌}
+use Rattle.std.proofs.Common.{arith, append-nil, map}
 use Rattle.fibs_messages.specs.Board.{BoardFields}
 use Rattle.fibs_position.specs.DecisionValue.{DecisionValue}
 use Rattle.fibs_position.specs.GamePart.{same_game}
@@ -8,7 +9,8 @@ use Rattle.fibs_session.specs.declared.refusal.Refusal.{Refusal}
 use Rattle.fibs_session.specs.declared.refusal.PlainRefusal.{PlainRefusal}
 use Rattle.fibs_session.specs.History.Log.{Entry, Clicked, Sent}
 use Rattle.fibs_session.specs.History.Words.{open_now, answer}
-use Rattle.fibs_session.specs.History.Machine.{Talk, Step, answer_now, shown_now, allows, clicks_by, decides_on, plain_refusal, sends_plain as talk_sends_plain, wire_of}
+use Rattle.fibs_session.specs.History.Machine.{Talk, Step, answer_now, shown_now, allows, clicks_by, decides_on}
+use Rattle.fibs_session.specs.History.Machine.{plain_refusal, sends_plain as talk_sends_plain, wire_of}
 use Rattle.fibs_session.specs.History.Machine as M
 use Rattle.fibs_session.specs.History.MachineLaws.{ServersEntriesAreSilent}
 use Rattle.fibs_session.specs.Calls.Standing.{StandsAfter}

@@ -1,8 +1,10 @@
 -- The wires of the connections, where those of one are changed in place.
-use Rattle.std.proofs.Common.{◌≡◌, ℕ, ◌+◌, ◌-◌, ◌<◌, ◌≤◌, true, List, [], ◌∷◌, ◌++◌, length, take, drop, get_or, min, nat_eq, zero, suc, refl, sym, ap, subst, ◌∙◌, arith, inl, inr, if◌then◌else◌}
+use Rattle.std.proofs.Common.{◌≡◌, ℕ, ◌+◌, ◌-◌, ◌<◌, ◌≤◌, true, List, [], ◌∷◌, ◌++◌, length, take, drop, get_or, min}
+use Rattle.std.proofs.Common.{nat_eq, zero, suc, refl, sym, ap, subst, ◌∙◌, arith, inl, inr, if◌then◌else◌}
 use Rattle.std.specs.Prelude.{slice_set}
 use Rattle.std.proofs.Math.Seq.{map-set_same}
-use Rattle.std.proofs.lemmas.List.{map-set, get_or-map, get_or-set_same, get_or-set_other, length-set, take-append-le, drop-append-le, take_min, length-drop, drop-take}
+use Rattle.std.proofs.lemmas.List.{map-set, get_or-map, get_or-set_same, get_or-set_other, length-set, take-append-le}
+use Rattle.std.proofs.lemmas.List.{drop-append-le, take_min, length-drop, drop-take}
 use Rattle.std.proofs.lemmas.Bool.Decides.{eqb_tells}
 use Rattle.fibs_model.specs.Wires as W
 use Rattle.fibs_model.specs.LinksOf.{link_of, seen, link_at, set_link}
@@ -141,7 +143,8 @@ module _ (links : List Link) (c : ℕ) (l k : Link) (some : 0 < c) (known : c �
       (ap (λ n. drop n k.to_server.items) s ∙ ap (drop l.served) j ∙ drop-append-le l.served l.to_server.items t within)
       ∙ ap (λ v. more_asked v t) (sym was))
 
-  -- the wires are cut: the wire to the client after what was delivered, the one to the server n bytes after what was served
+  -- the wires are cut: the wire to the client after what was delivered, the one to the server n bytes after what was
+  -- served
   pub cut_seen : (kept n : ℕ) → k.delivered ≡ l.delivered → k.to_client.items ≡ take l.delivered l.to_client.items → k.served ≡ l.served
       → k.to_server.items ≡ take (l.served + n) l.to_server.items → n ≡ min kept (length l.to_server.items - l.served)
       → l.delivered ≤ length l.to_client.items → l.served ≤ length l.to_server.items

@@ -1,5 +1,6 @@
 -- The server takes a line, and answers it.
-use Rattle.std.proofs.Common.{◌≡◌, ◌≤◌, ℕ, List, [], ◌∷◌, ◌++◌, Some, length, if◌then◌else◌, refl, sym, ap, subst, ◌∙◌, arith, append-nil, map}
+use Rattle.std.proofs.Common.{◌≡◌, ◌≤◌, ℕ, List, [], ◌∷◌, ◌++◌, Some, length, if◌then◌else◌, refl, sym, ap, subst, ◌∙◌}
+use Rattle.std.proofs.Common.{arith, append-nil, map}
 use Rattle.fibs_messages.specs.Board.{BoardFields, spelling}
 use Rattle.fibs_session.specs.History.Log as L
 use Rattle.fibs_session.specs.History.Log.{Entry}

@@ -1,5 +1,6 @@
 -- One event after others.
-use Rattle.std.proofs.Common.{◌≡◌, ℕ, Bool, true, false, not, ◌&&◌, ◌||◌, List, [], ◌∷◌, ◌++◌, Option, Some, None, nat_eq, nat_lt, if◌then◌else◌, is_some, refl, sym, ap, subst, ◌∙◌, append-nil}
+use Rattle.std.proofs.Common.{◌≡◌, ℕ, Bool, true, false, not, ◌&&◌, ◌||◌, List, [], ◌∷◌, ◌++◌, Option, Some, None}
+use Rattle.std.proofs.Common.{nat_eq, nat_lt, if◌then◌else◌, is_some, refl, sym, ap, subst, ◌∙◌, append-nil}
 use Rattle.fibs_messages.specs.Board.{BoardFields}
 use Rattle.fibs_position.specs.GoodBoard.{good}
 use Rattle.fibs_session.specs.History.Words.{open_now}
@@ -17,7 +18,9 @@ use Rattle.fibs_model.specs.World.{World, after, start}
 use Rattle.fibs_model.specs.WorldCalls.{WorldStandsAfter, machine_after, Agrees}
 use Rattle.fibs_model.specs.WorldOf.{WorldValue, StandsFor, Goes}
 use Rattle.fibs_model.specs.declared.refusal.WorldRefusal.{WorldRefusal}
-use Rattle.fibs_model.specs.declared.refusal.WorldRefusal.TheVariants.{Memory, AlreadyOpen, NotOpen, NoSuchConnection, NothingToServe, UserDecides, BoardAsText, BadBoard, BadDice}
+use Rattle.fibs_model.specs.declared.refusal.WorldRefusal.TheVariants.{Memory, AlreadyOpen, NotOpen, NoSuchConnection}
+use Rattle.fibs_model.specs.declared.refusal.WorldRefusal.TheVariants.{NothingToServe, UserDecides, BoardAsText}
+use Rattle.fibs_model.specs.declared.refusal.WorldRefusal.TheVariants.{BadBoard, BadDice}
 
 -- The table of refusals has no want of memory.
 

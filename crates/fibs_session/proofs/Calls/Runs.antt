@@ -1,5 +1,6 @@
 -- How calls of a client make up a run.
-use Rattle.std.proofs.Common.{◌≡◌, ◌<◌, ◌≤◌, ◌+◌, suc, ℕ, ◌-◌, map, get_or, add-one, List, [], ◌∷◌, ◌++◌, length, take, drop, Option, None, sym, ap, subst, ◌∙◌, arith, append_assoc, append-nil}
+use Rattle.std.proofs.Common.{◌≡◌, ◌<◌, ◌≤◌, ◌+◌, suc, ℕ, ◌-◌, map, get_or, add-one, List, [], ◌∷◌, ◌++◌, length, take}
+use Rattle.std.proofs.Common.{drop, Option, None, sym, ap, subst, ◌∙◌, arith, append_assoc, append-nil}
 use Rattle.std.proofs.lemmas.List.{take-append-drop, length-drop, take_all}
 use Rattle.std.proofs.Math.Seq.{drop-cons}
 use Rattle.std.proofs.Math.ListN.{drop_of_length-le}
@@ -47,7 +48,8 @@ done_and_rest all done rest used e = e ∙ ap (λ r. done ++ r) (front_and_rest 
     front_and_rest used xs =
         sym (take-append-drop used xs) ∙ ap (λ ys. take used xs ++ ys) (sym (take_all (length xs - used) (drop used xs) (omega (arith, length-drop used xs))))
 
--- what is still to be done of a run: the client stands after some history, and the rest of the inputs gives the rest of the bytes
+-- what is still to be done of a run: the client stands after some history, and the rest of the inputs gives the rest of
+-- the bytes
 pub record Going (c : ClientValue) (out : List ℕ) (later : List InputValue) (all : List ℕ) : Type 0 where
   pub talk : Talk
   pub stands : StandsAfter c talk

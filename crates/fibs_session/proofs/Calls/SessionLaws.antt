@@ -1,5 +1,6 @@
 -- From the fields to the history, for each call of a session.
-use Rattle.std.proofs.Common.{◌≡◌, ℕ, Bool, true, false, List, [], ◌∷◌, Option, Some, None, is_some, if◌then◌else◌, refl, sym, ◌∙◌, ap, subst}
+use Rattle.std.proofs.Common.{◌≡◌, ℕ, Bool, true, false, List, [], ◌∷◌, Option, Some, None, is_some, if◌then◌else◌}
+use Rattle.std.proofs.Common.{refl, sym, ◌∙◌, ap, subst}
 use Rattle.fibs_lines.specs.Lines.{ReadLine}
 use Rattle.fibs_position.specs.DecisionValue.{DecisionValue}
 use Rattle.fibs_position.specs.GamePart.{same_game}
@@ -10,13 +11,20 @@ use Rattle.fibs_session.specs.declared.refusal.PlainRefusal.{PlainRefusal}
 use Rattle.fibs_session.specs.History.Log.{Lost}
 use Rattle.fibs_session.specs.History.Words.{Ask, IsLikeness, last, open_now, shown, unconfirmed}
 use Rattle.fibs_session.specs.History.Hearing.{nothing_heard, line_reading}
-use Rattle.fibs_session.specs.History.Machine.{Talk, Step, Open, Lose, Click, PlainInput, start, stays, does, is_online, opened, opens, open_refusal, loses, unconfirmed_now, clicks, plains, answer_now, plain_refusal, heard_by, line_heard, hears, shown_now}
+use Rattle.fibs_session.specs.History.Machine.{Talk, Step, Open, Lose, Click, PlainInput, start, stays, does, is_online}
+use Rattle.fibs_session.specs.History.Machine.{opened, opens, open_refusal, loses, unconfirmed_now, clicks, plains}
+use Rattle.fibs_session.specs.History.Machine.{answer_now, plain_refusal, heard_by, line_heard, hears, shown_now}
 use Rattle.fibs_session.specs.Calls.SessionValue.{SessionValue, IsNoToggle, At}
-use Rattle.fibs_session.specs.Calls.FieldSteps.{fresh, lost, unheard, line_fields, heard_fields, answer_of, with_ask, open_fields, open_send, open_refusal_of, lose_fields, decide_fields, decide_send, command_for, plain_refusal_of, with_plain, plain_fields, plain_send}
+use Rattle.fibs_session.specs.Calls.FieldSteps.{fresh, lost, unheard, line_fields, heard_fields, answer_of, with_ask}
+use Rattle.fibs_session.specs.Calls.FieldSteps.{open_fields, open_send, open_refusal_of, lose_fields, decide_fields}
+use Rattle.fibs_session.specs.Calls.FieldSteps.{decide_send, command_for, plain_refusal_of, with_plain, plain_fields}
+use Rattle.fibs_session.specs.Calls.FieldSteps.{plain_send}
 use Rattle.fibs_session.specs.Logins.{login_text}
 use Rattle.fibs_session.specs.Calls.Standing.{SessionStandsAfter}
 use Rattle.fibs_session.specs.Calls.Doing.{SessionDoes, SessionHears}
-use Rattle.fibs_session.proofs.History.Fields.{at_start, online_law, at_opened, at_lost, heard_law, unheard_law, HeardIs, answer_law, refused_law, sent_law, plain_law, plain_sent_law, plain_refused_law}
+use Rattle.fibs_session.proofs.History.Fields.{at_start, online_law, at_opened, at_lost, heard_law, unheard_law}
+use Rattle.fibs_session.proofs.History.Fields.{HeardIs, answer_law, refused_law, sent_law, plain_law, plain_sent_law}
+use Rattle.fibs_session.proofs.History.Fields.{plain_refused_law}
 
 both : (b : Bool) (v w : SessionValue) (s u : Step) → (b ≡ true → At v s.talk) → (b ≡ false → At w u.talk) → At (if b then v else w) (if b then s else u).talk
 both true v w s u f g = f refl

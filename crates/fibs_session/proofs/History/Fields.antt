@@ -1,5 +1,7 @@
 -- The fields of a session are what its history says.
-use Rattle.std.proofs.Common.{◌≡◌, ◌<◌, ◌≤◌, ℕ, zero, suc, Bool, true, false, not, ◌&&◌, List, [], ◌∷◌, ◌++◌, Option, Some, None, is_some, if◌then◌else◌, nat_eq, flat_map, refl, sym, ◌∙◌, ap, subst, inl, inr, append_assoc, append-nil, arith, true≢false}
+use Rattle.std.proofs.Common.{◌≡◌, ◌<◌, ◌≤◌, ℕ, zero, suc, Bool, true, false, not, ◌&&◌, List, [], ◌∷◌, ◌++◌, Option}
+use Rattle.std.proofs.Common.{Some, None, is_some, if◌then◌else◌, nat_eq, flat_map, refl, sym, ◌∙◌, ap, subst, inl, inr}
+use Rattle.std.proofs.Common.{append_assoc, append-nil, arith, true≢false}
 use Rattle.std.proofs.lemmas.Bool.{cases_Bool}
 use Rattle.fibs_messages.specs.Board.{BoardFields as Board}
 use Rattle.fibs_messages.specs.Message.{MessageValue}
@@ -9,20 +11,33 @@ use Rattle.fibs_position.specs.DirectionOf.{direction_of}
 use Rattle.fibs_session.specs.Commands.{command_of}
 use Rattle.fibs_position.specs.GoodBoard.{good}
 use Rattle.fibs_position.specs.GamePart.{same_game}
-use Rattle.fibs_session.specs.PlainCommands.{PlainValue, automove_off, greedy_off, board_again, who, say, tell, shout, whisper, kibitz, leave_message, invite, invite_to, join, join_with, toggle_ready, bye, plain_of}
+use Rattle.fibs_session.specs.PlainCommands.{PlainValue, automove_off, greedy_off, board_again, who, say, tell, shout}
+use Rattle.fibs_session.specs.PlainCommands.{whisper, kibitz, leave_message, invite, invite_to, join, join_with}
+use Rattle.fibs_session.specs.PlainCommands.{toggle_ready, bye, plain_of}
 use Rattle.fibs_session.specs.FirstCommands.{style_text}
 use Rattle.fibs_session.specs.declared.refusal.Refusal.{Refusal}
 use Rattle.fibs_session.specs.History.Log.{Entry, Flags, Opened, Welcomed, Informed, Shown, Clicked, Sent, Lost}
-use Rattle.fibs_session.specs.History.Words.{Ask, is_empty, last, open_now, opened_by, connections, shown, sent, welcomed, informed, welcomed_by, informed_by, shown_by, sent_by, is_spent, unconfirmed, IsLikeness}
+use Rattle.fibs_session.specs.History.Words.{Ask, is_empty, last, open_now, opened_by, connections, shown, sent}
+use Rattle.fibs_session.specs.History.Words.{welcomed, informed, welcomed_by, informed_by, shown_by, sent_by, is_spent}
+use Rattle.fibs_session.specs.History.Words.{unconfirmed, IsLikeness}
 use Rattle.fibs_session.specs.History.Hearing.{Heard, heard, flags_of, initial_commands, confirmed_by_board}
 use Rattle.fibs_session.specs.declared.refusal.PlainRefusal.{PlainRefusal}
-use Rattle.fibs_session.specs.History.Machine.{Talk, start, noted, opened, was_sent, allows, answer_now, clicks, clicks_by, decides_on, says, is_online, heard_by, may_send, plain_refusal, plains, sends_plain}
+use Rattle.fibs_session.specs.History.Machine.{Talk, start, noted, opened, was_sent, allows, answer_now, clicks}
+use Rattle.fibs_session.specs.History.Machine.{clicks_by, decides_on, says, is_online, heard_by, may_send}
+use Rattle.fibs_session.specs.History.Machine.{plain_refusal, plains, sends_plain}
 use Rattle.fibs_session.specs.Calls.SessionValue.{SessionValue, IsNoToggle, Quiet, At}
-use Rattle.fibs_session.specs.Calls.FieldSteps.{HeardFields, fresh, lost, heard_fields, may_send_of, plain_refusal_of, with_plain, with_board, still_waiting, confirmed_of, answer_of, with_ask}
-use Rattle.fibs_session.proofs.History.Lists.{other_number, last_snoc, before_last, map_more, map_no_more, snoc_not_empty}
-use Rattle.fibs_session.proofs.History.Past.{open_append, shown_more, sent_more, spent_first, spent_same, spent_other, spent_sent}
-use Rattle.fibs_session.proofs.History.Texts.{NoToggles, no_texts, one_text, if_texts, not_gone, gone_now, style_texts, initial_texts, decision_no_toggle}
-use Rattle.fibs_session.proofs.History.Words.{yes, own, quiet_welcomed, quiet_informed, quiet_shown, quiet_sent, numbered_silent, numbered_own, numbered_opened, unconfirmed_quiet, unconfirmed_none, some_last, some_spent, none_last}
+use Rattle.fibs_session.specs.Calls.FieldSteps.{HeardFields, fresh, lost, heard_fields, may_send_of, plain_refusal_of}
+use Rattle.fibs_session.specs.Calls.FieldSteps.{with_plain, with_board, still_waiting, confirmed_of, answer_of}
+use Rattle.fibs_session.specs.Calls.FieldSteps.{with_ask}
+use Rattle.fibs_session.proofs.History.Lists.{other_number, last_snoc, before_last, map_more, map_no_more}
+use Rattle.fibs_session.proofs.History.Lists.{snoc_not_empty}
+use Rattle.fibs_session.proofs.History.Past.{open_append, shown_more, sent_more, spent_first, spent_same, spent_other}
+use Rattle.fibs_session.proofs.History.Past.{spent_sent}
+use Rattle.fibs_session.proofs.History.Texts.{NoToggles, no_texts, one_text, if_texts, not_gone, gone_now, style_texts}
+use Rattle.fibs_session.proofs.History.Texts.{initial_texts, decision_no_toggle}
+use Rattle.fibs_session.proofs.History.Words.{yes, own, quiet_welcomed, quiet_informed, quiet_shown, quiet_sent}
+use Rattle.fibs_session.proofs.History.Words.{numbered_silent, numbered_own, numbered_opened, unconfirmed_quiet}
+use Rattle.fibs_session.proofs.History.Words.{unconfirmed_none, some_last, some_spent, none_last}
 
 silent : (c : ℕ) → Quiet c []
 silent c = record { no_welcome = refl; no_flags = refl; no_board = refl; no_sent = refl }

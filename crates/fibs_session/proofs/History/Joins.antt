@@ -1,5 +1,6 @@
 -- Bytes may come in any pieces.
-use Rattle.std.proofs.Common.{◌≡◌, ℕ, Bool, true, false, not, List, [], ◌∷◌, ◌++◌, length, drop, if◌then◌else◌, nat_eq, refl, sym, ◌∙◌, ap, subst, append_assoc, append-nil}
+use Rattle.std.proofs.Common.{◌≡◌, ℕ, Bool, true, false, not, List, [], ◌∷◌, ◌++◌, length, drop, if◌then◌else◌, nat_eq}
+use Rattle.std.proofs.Common.{refl, sym, ◌∙◌, ap, subst, append_assoc, append-nil}
 use Rattle.std.proofs.Math.Seq.{drop-append_seam, drop-length}
 use Rattle.fibs_lines.specs.Lines.{ReadLine, lines_of}
 use Rattle.fibs_lines.specs.StreamLaws.{LinesOnlyGrow}
@@ -8,10 +9,12 @@ use Rattle.fibs_position.specs.GoodBoard.{good}
 use Rattle.fibs_session.specs.History.Log.{Entry}
 use Rattle.fibs_session.specs.History.Words.{open_from, open_now}
 use Rattle.fibs_session.specs.History.Hearing.{Heard, heard, line_reading}
-use Rattle.fibs_session.specs.History.Machine.{Talk, Step, InputValue, start, run, step, stays, noted, is_online, reads, hears, hears_all, heard_by, then_also, with_bytes, gained}
+use Rattle.fibs_session.specs.History.Machine.{Talk, Step, InputValue, start, run, step, stays, noted, is_online, reads}
+use Rattle.fibs_session.specs.History.Machine.{hears, hears_all, heard_by, then_also, with_bytes, gained}
 use Rattle.fibs_session.specs.Calls.SessionValue.{At}
 use Rattle.fibs_session.specs.Calls.Standing.{StandsAfter}
-use Rattle.fibs_session.specs.History.MachineLaws.{PiecesJoin, EmptyPieceIsNothing, IsServers, logs_in, takes, undoes, ServersEntriesAreSilent, InputsGoOn}
+use Rattle.fibs_session.specs.History.MachineLaws.{PiecesJoin, EmptyPieceIsNothing, IsServers, logs_in, takes, undoes}
+use Rattle.fibs_session.specs.History.MachineLaws.{ServersEntriesAreSilent, InputsGoOn}
 use Rattle.fibs_session.proofs.History.Past.{open_append}
 use Rattle.fibs_session.proofs.History.Texts.{no_texts}
 use Rattle.fibs_session.proofs.History.Fields.{at_silent}

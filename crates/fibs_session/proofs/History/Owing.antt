@@ -1,5 +1,6 @@
 -- What a piece makes a client hand out is taken from what is owed.
-use Rattle.std.proofs.Common.{◌≡◌, ◌≤◌, ◌+◌, ℕ, Bool, true, false, List, [], ◌∷◌, ◌++◌, length, None, if◌then◌else◌, nat_eq, refl, sym, ◌∙◌, ap, subst, arith, append-nil}
+use Rattle.std.proofs.Common.{◌≡◌, ◌≤◌, ◌+◌, ℕ, Bool, true, false, List, [], ◌∷◌, ◌++◌, length, None, if◌then◌else◌}
+use Rattle.std.proofs.Common.{nat_eq, refl, sym, ◌∙◌, ap, subst, arith, append-nil}
 use Rattle.std.proofs.lemmas.List.{length-append}
 use Rattle.std.proofs.lemmas.List.Concat.{flat_map-append}
 use Rattle.fibs_lines.specs.Lines.{ReadLine}
@@ -9,9 +10,11 @@ use Rattle.fibs_messages.specs.Line.{ReadingValue, numbered_line, board_line, te
 use Rattle.fibs_messages.specs.Message.{MessageValue}
 use Rattle.fibs_position.specs.GoodBoard.{good}
 use Rattle.fibs_session.specs.FirstCommands.{style_text, autoboard_text, moreboards_text, board_text}
-use Rattle.fibs_session.specs.History.Hearing.{Heard, heard, flags_of, initial_commands, confirmed_by_board, line_reading, nothing_heard}
+use Rattle.fibs_session.specs.History.Hearing.{Heard, heard, flags_of, initial_commands, confirmed_by_board}
+use Rattle.fibs_session.specs.History.Hearing.{line_reading, nothing_heard}
 use Rattle.fibs_session.specs.History.Log.{Entry, Welcomed, Informed, Shown}
-use Rattle.fibs_session.specs.History.Machine.{Talk, stays, reads, hears, hears_all, heard_by, is_online, with_bytes, gained, on_wire, wire_of}
+use Rattle.fibs_session.specs.History.Machine.{Talk, stays, reads, hears, hears_all, heard_by, is_online, with_bytes}
+use Rattle.fibs_session.specs.History.Machine.{gained, on_wire, wire_of}
 use Rattle.fibs_session.specs.History.Owing.{owed_on, owed, PiecesTakeFromWhatIsOwed}
 use Rattle.fibs_session.specs.History.Words.{is_empty, open_now, welcomed, informed, welcomed_by, informed_by}
 use Rattle.fibs_session.proofs.History.Joins.{hears_open}

@@ -6,13 +6,15 @@ use Rattle.fibs_session.specs.History.Machine.{Talk, InputValue, step, line_hear
 use Rattle.fibs_session.specs.Calls.SessionValue.{SessionValue}
 use Rattle.fibs_session.specs.Calls.Standing.{SessionStandsAfter, ClientValue, StandsAfter}
 
--- after each history that it stood after, it stands after that history with the input, and these commands are handed out
+-- after each history that it stood after, it stands after that history with the input, and these commands are handed
+-- out
 pub record SessionDoes (old new : SessionValue) (i : InputValue) (send : List (List ℕ)) : Type 0 where
   pub stands : (t : Talk) → SessionStandsAfter old t → SessionStandsAfter new (step t i).talk
   pub hands : (t : Talk) → SessionStandsAfter old t → send ≡ (step t i).send
 
 -- the same of a whole line
-pub record SessionHears (old new : SessionValue) (l : ReadLine) (send : List (List ℕ)) (confirmed : Option Ask) : Type 0 where
+pub record SessionHears (old new : SessionValue) (l : ReadLine) (send : List (List ℕ)) (confirmed : Option Ask)
+    : Type 0 where
   pub stands : (t : Talk) → SessionStandsAfter old t → SessionStandsAfter new (hears t (line_heard t l)).talk
   pub hands : (t : Talk) → SessionStandsAfter old t → send ≡ (line_heard t l).send
   pub confirms : (t : Talk) → SessionStandsAfter old t → confirmed ≡ (line_heard t l).confirmed

@@ -1,5 +1,6 @@
 -- What the two halves of `feed` do.
-use Rattle.std.specs.Prelude.{◌≡◌, ℕ, ◌<◌, true, false, List, [], ◌∷◌, ◌++◌, length, take, Option, None, Some, option_map, IsNone}
+use Rattle.std.specs.Prelude.{◌≡◌, ℕ, ◌<◌, true, false, List, [], ◌∷◌, ◌++◌, length, take, Option, None, Some}
+use Rattle.std.specs.Prelude.{option_map, IsNone}
 use Rattle.fibs_lines.specs.Lines.{ReadLine, lines_of}
 use Rattle.fibs_lines.specs.LinesValue.{StandsAfter as LinesStandAfter}
 use Rattle.fibs_session.specs.History.Words.{Ask}
@@ -29,7 +30,9 @@ abbrev pub AnswersLine : SessionValue → Option ReadLine → Option Answer → 
 AnswersLine v None None v' = v' ≡ v
 AnswersLine v None (Some a) v' = ⊥
 AnswersLine v (Some line) None v' = ⊥
-AnswersLine v (Some line) (Some a) v' = SessionHears v v' line (texts_of a.send.items) (option_map ask_of a.confirmed) × (kept_reading a.kept line ≡ line_reading line)
+AnswersLine v (Some line) (Some a) v' =
+    SessionHears v v' line (texts_of a.send.items) (option_map ask_of a.confirmed)
+    × (kept_reading a.kept line ≡ line_reading line)
 
 -- by lines and session, while a connection is open
 pub record ReadsOnline (old new : ClientValue) (piece : List ℕ) (h : HeardLine) : Type 0 where
@@ -67,7 +70,13 @@ Keeps c h = KeepsLine c.lines.line h.answer
 abbrev pub ShowsLine : Option ReadLine → Option Answer → Option TakenValue → Type 0
 ShowsLine line None t = t ≡ None
 ShowsLine None (Some a) t = ⊥
-ShowsLine (Some line) (Some a) t = t ≡ Some (record { line = line; reading = line_reading line; send = texts_of a.send.items; confirmed = option_map ask_of a.confirmed })
+ShowsLine (Some line) (Some a) t =
+    t ≡ Some (record {
+      line = line;
+      reading = line_reading line;
+      send = texts_of a.send.items;
+      confirmed = option_map ask_of a.confirmed;
+    })
 
 -- what is taken is what was heard, with its line
 unfoldable pub Shows : ClientValue → HeardLine → Option TakenValue → Type 0
@@ -93,12 +102,13 @@ abbrev pub ReadsItself : Option TakenValue → Type 0
 ReadsItself None = Unit {0}
 ReadsItself (Some t) = t.reading ≡ line_reading t.line
 
--- what `feed` answers after each history that the client stood after: the commands that the machine hands out; while a connection is
--- open, the shortest front with which the stream has one line more, and that line, its reading and what it confirms; else the whole
--- piece, and no line
+-- what `feed` answers after each history that the client stood after: the commands that the machine hands out; while a
+-- connection is open, the shortest front with which the stream has one line more, and that line, its reading and what
+-- it confirms; else the whole piece, and no line
 pub record FeedAnswers (old : ClientValue) (piece : List ℕ) (used : ℕ) (taken : Option TakenValue) : Type 0 where
   pub hands : (t : Talk) → StandsAfter old t → commands_of taken ≡ (step t (Piece (take used piece))).send
   pub uses : (t : Talk) → StandsAfter old t → is_online t ≡ true → Gains t.stream piece used (line_of_taken taken)
   pub offline : (t : Talk) → StandsAfter old t → is_online t ≡ false → (used ≡ length piece) × (taken ≡ None)
   pub reading : ReadsItself taken
-  pub confirms : (t : Talk) → StandsAfter old t → is_online t ≡ true → confirmed_of_taken taken ≡ line_confirms t (line_of_taken taken)
+  pub confirms : (t : Talk) → StandsAfter old t → is_online t ≡ true
+      → confirmed_of_taken taken ≡ line_confirms t (line_of_taken taken)

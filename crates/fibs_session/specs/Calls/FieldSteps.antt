@@ -1,5 +1,6 @@
 -- What each call does to the fields of a session. No public contract rests on it: those speak of the history.
-use Rattle.std.specs.Prelude.{ℕ, Bool, true, false, not, ◌&&◌, ◌||◌, List, [], ◌∷◌, Option, Some, None, option_map, if◌then◌else◌, is_some, nat_eq}
+use Rattle.std.specs.Prelude.{ℕ, Bool, true, false, not, ◌&&◌, ◌||◌, List, [], ◌∷◌, Option, Some, None, option_map}
+use Rattle.std.specs.Prelude.{if◌then◌else◌, is_some, nat_eq}
 use Rattle.fibs_messages.specs.Board.{BoardFields}
 use Rattle.fibs_messages.specs.Message.{MessageValue}
 use Rattle.fibs_messages.specs.Line.{ReadingValue, numbered_line, board_line, text_line, malformed_line}
@@ -27,11 +28,29 @@ shown_good None = true
 shown_good (Some b) = good (fields_of b)
 
 abbrev pub fresh : List ℕ → Bool → SessionValue
-fresh login online = record { login = login; online = online; welcomed = false; flags = None; automove_sent = false; greedy_sent = false; shown = None; waiting = None }
+fresh login online = record {
+  login = login;
+  online = online;
+  welcomed = false;
+  flags = None;
+  automove_sent = false;
+  greedy_sent = false;
+  shown = None;
+  waiting = None;
+}
 
 -- the flags of what was sent stay until the next connection
 abbrev pub lost : SessionValue → SessionValue
-lost v = record { login = v.login; online = false; welcomed = false; flags = None; automove_sent = v.automove_sent; greedy_sent = v.greedy_sent; shown = None; waiting = None }
+lost v = record {
+  login = v.login;
+  online = false;
+  welcomed = false;
+  flags = None;
+  automove_sent = v.automove_sent;
+  greedy_sent = v.greedy_sent;
+  shown = None;
+  waiting = None;
+}
 
 pub record HeardFields : Type 0 where
   pub session : SessionValue
@@ -43,8 +62,16 @@ unheard v = record { session = v; send = []; confirmed = None }
 
 abbrev pub message_fields : SessionValue → MessageValue → HeardFields
 message_fields v m =
-    if nat_eq m.number 1 then record { session = record v { welcomed = true }; send = if v.welcomed then [] else style_text ∷ []; confirmed = None }
-    else (if nat_eq m.number 2 then record { session = record v { flags = Some (flags_of m) }; send = if is_some v.flags then [] else initial_commands m; confirmed = None }
+    if nat_eq m.number 1 then record {
+      session = record v { welcomed = true };
+      send = if v.welcomed then [] else style_text ∷ [];
+      confirmed = None;
+    }
+    else (if nat_eq m.number 2 then record {
+      session = record v { flags = Some (flags_of m) };
+      send = if is_some v.flags then [] else initial_commands m;
+      confirmed = None;
+    }
     else unheard v)
 
 -- a decision that waits does so no longer where the board is unlike the one before
@@ -59,7 +86,8 @@ abbrev pub with_board : SessionValue → BoardFields → SessionValue
 with_board v b = record v { shown = Some b; waiting = still_waiting v.shown b v.waiting }
 
 abbrev pub board_fields : SessionValue → BoardFields → HeardFields
-board_fields v b = if good b then record { session = with_board v b; send = []; confirmed = confirmed_of v b } else unheard v
+board_fields v b =
+    if good b then record { session = with_board v b; send = []; confirmed = confirmed_of v b } else unheard v
 
 abbrev pub heard_fields : SessionValue → ReadingValue → HeardFields
 heard_fields v (numbered_line m) = message_fields v m

@@ -56,4 +56,9 @@ pub record TakenValue : Type 0 where
   pub confirmed : Option Ask
 
 abbrev pub taken_of : Taken → TakenValue
-taken_of t = record { line = value_of t.line; reading = reading_of t.reading; send = texts_of t.send.items; confirmed = option_map ask_of t.confirmed }
+taken_of t = record {
+  line = value_of t.line;
+  reading = reading_of t.reading;
+  send = texts_of t.send.items;
+  confirmed = option_map ask_of t.confirmed;
+}

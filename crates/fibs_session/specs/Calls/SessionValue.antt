@@ -5,7 +5,8 @@ use Rattle.fibs_messages.specs.Board.{BoardFields}
 use Rattle.fibs_position.specs.GamePart.{same_game}
 use Rattle.fibs_session.specs.PlainCommands.{automove_off, greedy_off, plain_of}
 use Rattle.fibs_session.specs.History.Log.{Entry, Flags}
-use Rattle.fibs_session.specs.History.Words.{Ask, is_empty, last, open_now, connections, shown, sent, welcomed, informed, unconfirmed}
+use Rattle.fibs_session.specs.History.Words.{Ask, is_empty, last, open_now, connections, shown, sent, welcomed}
+use Rattle.fibs_session.specs.History.Words.{informed, unconfirmed}
 use Rattle.fibs_session.specs.History.Machine.{Talk, was_sent}
 
 -- what a session keeps

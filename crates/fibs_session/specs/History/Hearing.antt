@@ -12,7 +12,8 @@ use Rattle.fibs_messages.specs.Flags.{autoboard, automove, greedy, moreboards}
 use Rattle.fibs_session.specs.History.Log.{Entry, Flags, Welcomed, Informed, Shown}
 use Rattle.fibs_session.specs.History.Words.{Ask, is_empty, welcomed, informed, is_spent, unconfirmed}
 
--- what a line gives on a connection: the entries that are noted, the commands that are handed out, and the decision that is confirmed
+-- what a line gives on a connection: the entries that are noted, the commands that are handed out, and the decision
+-- that is confirmed
 pub record Heard : Type 0 where
   pub entries : List Entry
   pub send : List (List ℕ)
@@ -36,8 +37,16 @@ initial_commands m =
 -- message 1, at the connection's first with the style; message 2, at its first with the toggles and `board`
 abbrev pub heard_message : ℕ → List Entry → MessageValue → Heard
 heard_message c log m =
-    if nat_eq m.number 1 then record { entries = Welcomed c ∷ []; send = if is_empty (welcomed c log) then style_text ∷ [] else []; confirmed = None }
-    else (if nat_eq m.number 2 then record { entries = Informed c (flags_of m) ∷ []; send = if is_empty (informed c log) then initial_commands m else []; confirmed = None }
+    if nat_eq m.number 1 then record {
+      entries = Welcomed c ∷ [];
+      send = if is_empty (welcomed c log) then style_text ∷ [] else [];
+      confirmed = None;
+    }
+    else (if nat_eq m.number 2 then record {
+      entries = Informed c (flags_of m) ∷ [];
+      send = if is_empty (informed c log) then initial_commands m else [];
+      confirmed = None;
+    }
     else nothing_heard)
 
 -- what a board confirms: what was unconfirmed before it, where the stretch after it is not spent
@@ -46,7 +55,10 @@ confirmed_by_board c log b = if is_spent same_game c (log ++ Shown c b ∷ []) t
 
 -- a board that has a position is shown
 abbrev pub heard_board : ℕ → List Entry → BoardFields → Heard
-heard_board c log b = if good b then record { entries = Shown c b ∷ []; send = []; confirmed = confirmed_by_board c log b } else nothing_heard
+heard_board c log b =
+    if good b
+    then record { entries = Shown c b ∷ []; send = []; confirmed = confirmed_by_board c log b }
+    else nothing_heard
 
 -- of the connection, its log before the line, and the line's reading
 abbrev pub heard : ℕ → List Entry → ReadingValue → Heard

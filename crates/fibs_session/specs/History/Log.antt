@@ -1,4 +1,4 @@
--- What is noted as it happens, by a client and by the model server (the project's own). Connections are numbered from 1.
+-- What is noted as it happens, by a client and by the model server (the project's own). Connections count from 1.
 use Rattle.std.specs.Prelude.{ℕ, Bool, Option}
 use Rattle.fibs_messages.specs.Board.{BoardFields}
 use Rattle.fibs_position.specs.DecisionValue.{DecisionValue}
@@ -16,7 +16,8 @@ pub data Entry : Type 0 where
   Welcomed : ℕ → Entry  -- the client read a message 1
   Informed : ℕ → Flags → Entry  -- it read a message 2
   Shown : ℕ → BoardFields → Entry  -- it read a board that has a position
-  Clicked : ℕ → DecisionValue → Option Refusal → Entry  -- the user decided; no refusal is the yes. Offline the connection is 0
+  -- the user decided; no refusal is the yes. Offline the connection is 0
+  Clicked : ℕ → DecisionValue → Option Refusal → Entry
   Sent : ℕ → BoardFields → DecisionValue → Entry  -- directly after a click with a yes: the decision, on the board shown
   Took : ℕ → BoardFields → DecisionValue → Entry  -- the server carried a decision out, on its board
   Undone : ℕ → BoardFields → DecisionValue → Entry  -- it served a decision that changed nothing

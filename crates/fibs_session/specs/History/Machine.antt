@@ -1,6 +1,7 @@
--- The client as a machine over its inputs (the project's own): its history, the bytes of the open connection, and the commands
--- handed out on it.
-use Rattle.std.specs.Prelude.{ℕ, suc, Bool, true, false, not, ◌&&◌, ◌||◌, List, [], ◌∷◌, ◌++◌, length, drop, Option, Some, None, option_map, if◌then◌else◌, nat_eq, flat_map}
+-- The client as a machine over its inputs (the project's own): its history, the bytes of the open connection, and the
+-- commands handed out on it.
+use Rattle.std.specs.Prelude.{ℕ, suc, Bool, true, false, not, ◌&&◌, ◌||◌, List, [], ◌∷◌, ◌++◌, length, drop, Option}
+use Rattle.std.specs.Prelude.{Some, None, option_map, if◌then◌else◌, nat_eq, flat_map}
 use Rattle.std.specs.Str.{bytes_eq}
 use Rattle.fibs_lines.specs.Lines.{ReadLine, lines_of}
 use Rattle.fibs_messages.specs.Board.{BoardFields}
@@ -52,7 +53,8 @@ is_online t = not (nat_eq (open_now t.log) 0)
 
 -- entries are noted, and commands handed out
 abbrev pub noted : Talk → List Entry → List (List ℕ) → Talk
-noted t entries texts = record { login = t.login; log = t.log ++ entries; stream = t.stream; commands = t.commands ++ texts }
+noted t entries texts =
+    record { login = t.login; log = t.log ++ entries; stream = t.stream; commands = t.commands ++ texts }
 
 -- it notes and hands out
 abbrev pub does : Talk → List Entry → List (List ℕ) → Step
@@ -70,7 +72,12 @@ open_refusal t = if is_online t then Some R.AlreadyOpen else None
 
 -- a new connection has no bytes, and its first command is the login
 abbrev pub opened : Talk → Talk
-opened t = record { login = t.login; log = t.log ++ Opened (suc (connections t.log)) ∷ []; stream = []; commands = t.login ∷ [] }
+opened t = record {
+  login = t.login;
+  log = t.log ++ Opened (suc (connections t.log)) ∷ [];
+  stream = [];
+  commands = t.login ∷ [];
+}
 
 abbrev pub opens : Talk → Step
 opens t = if is_online t then stays t else record { talk = opened t; send = t.login ∷ [] }
@@ -100,7 +107,8 @@ then_also texts later = record { talk = later.talk; send = texts ++ later.send }
 -- the lines are heard, one after another
 unfoldable pub hears_all : Talk → List ReadLine → Step
 hears_all t [] = stays t
-hears_all t (l ∷ ls) = then_also (heard_by t (line_reading l)).send (hears_all (hears t (heard_by t (line_reading l))).talk ls)
+hears_all t (l ∷ ls) =
+    then_also (heard_by t (line_reading l)).send (hears_all (hears t (heard_by t (line_reading l))).talk ls)
 
 -- more bytes have come
 abbrev pub with_bytes : Talk → List ℕ → Talk
@@ -139,7 +147,8 @@ answer_now t d = answer same_game allows t.log d
 -- the decision is sent, in the numbers of the board shown last
 abbrev pub decides_on : Talk → DecisionValue → Option BoardFields → Step
 decides_on t d None = stays t
-decides_on t d (Some b) = does t (Clicked (open_now t.log) d None ∷ Sent (open_now t.log) b d ∷ []) (command_of (direction_of b) d ∷ [])
+decides_on t d (Some b) =
+    does t (Clicked (open_now t.log) d None ∷ Sent (open_now t.log) b d ∷ []) (command_of (direction_of b) d ∷ [])
 
 abbrev pub clicks_by : Talk → DecisionValue → Option Refusal → Step
 clicks_by t d (Some why) = does t (Clicked (open_now t.log) d (Some why) ∷ []) []

@@ -9,7 +9,9 @@ use Rattle.fibs_session.specs.Calls.Doing.{Does}
 
 -- bytes may come in any pieces
 abbrev pub PiecesJoin : Type 0
-PiecesJoin = (t : Talk) (p q : List ℕ) → step t (Piece (p ++ q)) ≡ then_also (step t (Piece p)).send (step (step t (Piece p)).talk (Piece q))
+PiecesJoin =
+    (t : Talk) (p q : List ℕ)
+    → step t (Piece (p ++ q)) ≡ then_also (step t (Piece p)).send (step (step t (Piece p)).talk (Piece q))
 
 abbrev pub EmptyPieceIsNothing : Type 0
 EmptyPieceIsNothing = (t : Talk) → step t (Piece []) ≡ stays t
@@ -22,10 +24,12 @@ pub data IsServers : Entry → Type 0 where
 
 -- it says nothing to a client
 abbrev pub ServersEntriesAreSilent : Type 0
-ServersEntriesAreSilent = (c : ClientValue) (t : Talk) (e : Entry) → IsServers e → StandsAfter c t → StandsAfter c (noted t (e ∷ []) [])
+ServersEntriesAreSilent =
+    (c : ClientValue) (t : Talk) (e : Entry) → IsServers e → StandsAfter c t → StandsAfter c (noted t (e ∷ []) [])
 
 -- a call leaves a client after its list of inputs with the call's
 abbrev pub InputsGoOn : Type 0
 InputsGoOn =
     (old new : ClientValue) (i : InputValue) (send : List (List ℕ)) → Does old new i send
-    → (login : List ℕ) (inputs : List InputValue) → StandsAfterInputs old login inputs → StandsAfterInputs new login (inputs ++ i ∷ [])
+    → (login : List ℕ) (inputs : List InputValue) → StandsAfterInputs old login inputs
+    → StandsAfterInputs new login (inputs ++ i ∷ [])

@@ -4,7 +4,9 @@ use Rattle.fibs_session.specs.PlainFaults.{plain_fault_number, plain_fault_name}
 use Rattle.fibs_session.specs.declared.refusal.PlainRefusal.{PlainRefusal}
 use Rattle.fibs_session.specs.declared.refusal.PlainRefusal.TheVariants as P
 use Rattle.fibs_session.specs.declared.refusal.Refusal.{Refusal}
-use Rattle.fibs_session.specs.declared.refusal.Refusal.TheVariants.{AlreadyOpen, Offline, NotReady, ServerPlays, NoBoard, Waiting, NotYours, WrongKind, IllegalPlay, NotOn}
+use Rattle.fibs_session.specs.declared.refusal.Refusal.TheVariants.{AlreadyOpen, Offline, NotReady, ServerPlays}
+use Rattle.fibs_session.specs.declared.refusal.Refusal.TheVariants.{NoBoard, Waiting, NotYours, WrongKind, IllegalPlay}
+use Rattle.fibs_session.specs.declared.refusal.Refusal.TheVariants.{NotOn}
 
 abbrev pub refusal_number : Refusal → ℕ
 refusal_number AlreadyOpen = 1

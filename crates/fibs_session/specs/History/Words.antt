@@ -1,5 +1,7 @@
--- What a history of entries, the oldest first, says of a connection (the project's own). Each word is of the whole list.
-use Rattle.std.specs.Prelude.{◌≡◌, ℕ, Bool, true, false, not, ◌&&◌, ◌||◌, List, [], ◌∷◌, length, Option, Some, None, if◌then◌else◌, nat_eq, flat_map}
+-- What a history of entries, the oldest first, says of a connection (the project's own). Each word is of the whole
+-- list.
+use Rattle.std.specs.Prelude.{◌≡◌, ℕ, Bool, true, false, not, ◌&&◌, ◌||◌, List, [], ◌∷◌, length, Option, Some, None}
+use Rattle.std.specs.Prelude.{if◌then◌else◌, nat_eq, flat_map}
 use Rattle.fibs_messages.specs.Board.{BoardFields as Board}
 use Rattle.fibs_position.specs.DecisionValue.{DecisionValue as Decision}
 use Rattle.fibs_session.specs.declared.refusal.Refusal.{Refusal}
@@ -116,7 +118,8 @@ plays_itself None = false
 plays_itself (Some f) = f.automove || f.greedy
 
 -- of a decision by the history: the first refusal that fits; None is the yes
-abbrev pub answer : (Board → Board → Bool) → (Board → Decision → Option Refusal) → List Entry → Decision → Option Refusal
+abbrev pub answer : (Board → Board → Bool) → (Board → Decision → Option Refusal) → List Entry → Decision
+    → Option Refusal
 answer like allows log d =
     let c : ℕ = open_now log in
     if nat_eq c 0 then Some Offline

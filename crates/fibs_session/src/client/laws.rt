@@ -2,7 +2,8 @@
 //! contract is the law, stated in `specs/History/MachineLaws.antt`.
 
 ghost use Rattle.fibs_session.specs.History.Owing.{PiecesTakeFromWhatIsOwed};
-ghost use Rattle.fibs_session.specs.History.MachineLaws.{PiecesJoin, EmptyPieceIsNothing, InputsGoOn, ServersEntriesAreSilent};
+ghost use Rattle.fibs_session.specs.History.MachineLaws.{PiecesJoin, EmptyPieceIsNothing, InputsGoOn};
+ghost use Rattle.fibs_session.specs.History.MachineLaws.{ServersEntriesAreSilent};
 
 /// Bytes may come in any pieces: two pieces after each other are one.
 pub fn pieces_join()

@@ -7,7 +7,8 @@ ghost use Rattle.fibs_position.specs.DecisionValue.{decision_of};
 ghost use Rattle.fibs_position.specs.DecisionValue.{DecisionValue};
 ghost use Rattle.fibs_position.specs.PlayValue.{hops_of};
 ghost use Rattle.fibs_position.specs.Hop.{hop_of};
-ghost use Rattle.fibs_session.specs.CommandReading.{ReadCommand, numbered_place, place_in, step_in, play_from, turn_in, words_after, read_command};
+ghost use Rattle.fibs_session.specs.CommandReading.{ReadCommand, numbered_place, place_in, step_in, play_from, turn_in};
+ghost use Rattle.fibs_session.specs.CommandReading.{words_after, read_command};
 
 use super::decisions::{BAR, OFF};
 use crate::laws::read_command_is_exact;

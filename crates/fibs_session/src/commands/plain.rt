@@ -3,7 +3,8 @@
 ghost use Rattle.std.specs.Prelude.{◌≡◌, ◌≤◌, ◌++◌, ◌∷◌, Some, IfOk, IsOk, codes, decimal, length, true};
 ghost use Rattle.std.specs.Result.{result_err};
 ghost use Rattle.fibs_messages.specs.Name.{is_name};
-ghost use Rattle.fibs_session.specs.PlainCommands.{first_of, is_printed, points_fault, name_fault, text_fault, plain_of, plain_fault_of};
+ghost use Rattle.fibs_session.specs.PlainCommands.{first_of, is_printed, points_fault, name_fault, text_fault};
+ghost use Rattle.fibs_session.specs.PlainCommands.{plain_of, plain_fault_of};
 ghost use Rattle.fibs_session.specs.PlainOf.{plain_value};
 ghost use Rattle.fibs_session.specs.TextOf.{text_of};
 
@@ -174,8 +175,8 @@ fn with_points(name: &[u8], points: u16) -> Result<CommandText, PlainFault>
 /// The text of a plain command: the word in small letters, then the name, the points and the text, each after one
 /// space.
 ///
-/// The first fault of: `BadName`, where a name is none; `TooLong`, where a text has more than 400 bytes; `BadText`, where
-/// it has none, or one outside 32 to 126.
+/// The first fault of: `BadName`, where a name is none; `TooLong`, where a text has more than 400 bytes; `BadText`,
+/// where it has none, or one outside 32 to 126.
 #[tactic(auto, unfolding(crate::specs::PlainCommands::plain_of, crate::specs::PlainCommands::plain_fault_of))]
 pub fn plain_text(plain: &Plain<'_>) -> Result<CommandText, PlainFault>
     ensures text { IfOk result (λ command. text_of command ≡ plain_of (plain_value plain.now)) }

@@ -5,7 +5,8 @@ ghost use Rattle.fibs_messages.specs.Decimal.{decimal_up_to};
 ghost use Rattle.fibs_messages.specs.Split.{seen};
 ghost use Rattle.fibs_session.specs.PlainCommands.{PlainValue};
 ghost use Rattle.fibs_session.specs.PlainOf.{plain_value};
-ghost use Rattle.fibs_session.specs.PlainReading.{ReadsAs, after_name, alone_in, invitation_in, joining_in, letter_in, name_in, plain_in, read_plain, saying_in, text_in, toggle_in};
+ghost use Rattle.fibs_session.specs.PlainReading.{ReadsAs, after_name, alone_in, invitation_in, joining_in, letter_in};
+ghost use Rattle.fibs_session.specs.PlainReading.{name_in, plain_in, read_plain, saying_in, text_in, toggle_in};
 
 use super::plain::Plain;
 use crate::laws::read_plain_is_exact;
@@ -160,9 +161,9 @@ fn read_fields<'a>(word: &[u8], rest: Option<&'a [u8]>) -> Option<Plain<'a>>
 ///
 /// The first word tells which command it is. A space behind a word or a name begins a next field, which may be empty: a
 /// name ends at the next space, a text is the rest, and an absent name or text is the empty one, but for `join`, which
-/// needs none. The points of an invitation are a decimal from 0 to 65535 without leading zero. A text with another first
-/// word, a field too many, points that are none, or another word behind `toggle` is no plain command. What stands in names
-/// and texts is not looked at: `plain_text` tells.
+/// needs none. The points of an invitation are a decimal from 0 to 65535 without leading zero. A text with another
+/// first word, a field too many, points that are none, or another word behind `toggle` is no plain command. What stands
+/// in names and texts is not looked at: `plain_text` tells.
 #[tactic(auto, unfolding(crate::specs::PlainReading::read_plain))]
 pub fn read_plain(text: &[u8]) -> Option<Plain<'_>>
     ensures exact { (plain : PlainValue) → (option_map plain_value result ≡ Some plain) ↔ ReadsAs text.now plain }

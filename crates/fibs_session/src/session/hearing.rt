@@ -6,7 +6,8 @@ ghost use Rattle.fibs_messages.specs.Message.{message_of};
 ghost use Rattle.fibs_messages.specs.Line.{reading_of};
 ghost use Rattle.fibs_messages.specs.StoredBoard.{fields_of};
 ghost use Rattle.fibs_messages.specs.declared.messages.message.Message.TheVariants.{OwnInfo as TheOwnInfo};
-ghost use Rattle.fibs_session.specs.Calls.FieldSteps.{message_fields, heard_fields, with_board, confirmed_of, line_fields, unheard};
+ghost use Rattle.fibs_session.specs.Calls.FieldSteps.{message_fields, heard_fields, with_board, confirmed_of};
+ghost use Rattle.fibs_session.specs.Calls.FieldSteps.{line_fields, unheard};
 ghost use Rattle.fibs_session.specs.Calls.SessionValue.{SessionValue};
 ghost use Rattle.fibs_session.specs.History.Hearing.{initial_commands, line_reading};
 ghost use Rattle.fibs_position.specs.GoodBoard.{good};
@@ -29,7 +30,8 @@ pub(crate) fn read_line<'a>(line: &Line<'a>) -> Reading<'a>
     read(line.bytes)
 }
 
-/// Whether a line is a message that says nothing to a session: each but message 1 and message 2. Its fields are not read.
+/// Whether a line is a message that says nothing to a session: each but message 1 and message 2. Its fields are not
+/// read.
 pub(super) fn is_unheard(line: &Line<'_>) -> bool
     ensures { result ≡ true → (v : SessionValue) → line_fields v (line_reading (value_of line.now)) ≡ unheard v }
 {

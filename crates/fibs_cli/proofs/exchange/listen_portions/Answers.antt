@@ -5,7 +5,8 @@ use Rattle.fibs_session.specs.History.Machine.{Piece, step}
 use Rattle.fibs_cli.specs.declared.exchange.Ending.TheVariants.{Quiet}
 use Rattle.fibs_cli.specs.declared.writing.Progress.TheVariants.{Whole, Broken}
 use Rattle.fibs_cli.proofs.TurnLemmas.Wrote.{if_ok_weaker, consumes_none}
-use Rattle.fibs_cli.proofs.TurnLemmas.Turns.{gone_nothing, gone_kept, gone_portion, broke_portion, still_open, turned, turned_whole}
+use Rattle.fibs_cli.proofs.TurnLemmas.Turns.{gone_nothing, gone_kept, gone_portion, broke_portion, still_open, turned}
+use Rattle.fibs_cli.proofs.TurnLemmas.Turns.{turned_whole}
 use Rattle.fibs_cli.proofs.TurnLemmas.Reads.{more_read, few_reads, few_and_none, few_and_portion}
 use Rattle.fibs_cli.proofs.exchange.listen_portions.Goals as goal
 

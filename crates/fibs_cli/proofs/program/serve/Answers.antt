@@ -1,7 +1,8 @@
 use Rattle.std.proofs.Common.{◌++◌, ◌∷◌, [], subst}
 use Rattle.std.proofs.KnownBytes.{Keeps-refl}
 use Rattle.fibs_cli.specs.Program.{Played}
-use Rattle.fibs_cli.proofs.ProgramLemmas.{showed, listed, printed, ran_script, served_replay, served_show, served_plays, served_loop}
+use Rattle.fibs_cli.proofs.ProgramLemmas.{showed, listed, printed, ran_script, served_replay, served_show, served_plays}
+use Rattle.fibs_cli.proofs.ProgramLemmas.{served_loop}
 use Rattle.fibs_cli.proofs.program.serve.Goals as goal
 
 pub returns-in-Show : goal.returns-in-Show

@@ -3,7 +3,8 @@ use Rattle.std.specs.Io.KnownBytes.{Appends, Consumes}
 use Rattle.std.proofs.lemmas.List.{length-take}
 use Rattle.fibs_cli.specs.Show.{WroteLinesOf}
 use Rattle.fibs_cli.specs.Writing.{GainedFront}
-use Rattle.fibs_cli.proofs.ShowLemmas.{passed_more, passed_part, passed_front, passed_whole, passed_whole_front, passed_few, kept_consumes, on_ok_weaker, portion_part, portion_some}
+use Rattle.fibs_cli.proofs.ShowLemmas.{passed_more, passed_part, passed_front, passed_whole, passed_whole_front}
+use Rattle.fibs_cli.proofs.ShowLemmas.{passed_few, kept_consumes, on_ok_weaker, portion_part, portion_some}
 use Rattle.fibs_cli.proofs.show.show_portions.Goals as goal
 
 pub returns-in-Ok-eq0-clause-whole : goal.returns-in-Ok-eq0-clause-whole

@@ -3,7 +3,8 @@ use Rattle.fibs_lines.specs.Lines.{value_of}
 use Rattle.fibs_cli.specs.Escape.{escaped}
 use Rattle.fibs_cli.specs.Show.{reading_text}
 use Rattle.fibs_cli.proofs.ShowLemmas.{cut_line, read_line, line_more}
-use Rattle.fibs_cli.proofs.printing.line.append_line.Goals.{then-line+in_ok-extend_from_slice+in_ok-append_escaped, else-line+in_ok-append_reading}
+use Rattle.fibs_cli.proofs.printing.line.append_line.Goals.{then-line+in_ok-extend_from_slice+in_ok-append_escaped}
+use Rattle.fibs_cli.proofs.printing.line.append_line.Goals.{else-line+in_ok-append_reading}
 use Rattle.fibs_cli.proofs.printing.line.append_line.Goals as goal
 
 pub returns : goal.returns

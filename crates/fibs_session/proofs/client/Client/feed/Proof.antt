@@ -27,7 +27,8 @@ use ghost.Rules.{Toks}
 use mir.Syntax.{named}
 use mir.Val.{Val, vptr}
 use types.ByLocal.{alloc_all, pass_all, free_all, look_at, get, through, sets, lands_as}
-use types.Kit.{‵, raw, ◌⊛◌, some, later, ◌$◌, ◌∵◌, !, qed, done, move, keep, use0, use1, use2, use3, split, join, fsplit, fsplit3, fjoin, feq_i, pick, await, suffices, group}
+use types.Kit.{‵, raw, ◌⊛◌, some, later, ◌$◌, ◌∵◌, !, qed, done, move, keep, use0, use1, use2, use3, split, join}
+use types.Kit.{fsplit, fsplit3, fjoin, feq_i, pick, await, suffices, group}
 use types.Logic.{lfts}
 use types.Run.{enter, addr, stop, no_more, and_then, returns}
 use types.Tokens.{lft_new, lft_end, name_done}
@@ -85,7 +86,8 @@ feed_spec 𝓤 𝓛 𝓜 𝓡 wired =
     await ! tt $ pick ! (λ e. split ! $ split ! $ split ! $ lft_end ! tt $ move ! (2 ∷ []) $ peeks ! H _ (shows 𝓛 H) e (v ∷ []) (λ is.
     lands_as ! refl refl (((heard-laws.the_row_laws).lawful 𝓛).typed e (v ∷ []) is).0 $
     move ! (3 ∷ []) $ pick ! (λ ws. split ! $ move ! (1 ∷ []) $ split ! $ heard ! _ (λ in_range. split ! $ heard ! _ (λ progress. heard ! _ (λ reads. fsplit ! $ fsplit ! $
-    -- [the loan's last value; its borrow; nothing; what was read; the loan is over; the piece's token; what the lender keeps]
+    -- [the loan's last value; its borrow; nothing; what was read; the loan is over; the piece's token; what the lender
+    -- keeps]
     let m = ws.0 in
     move ! (4 ∷ 6 ∷ 0 ∷ []) $ use3 𝓛 (later (‵ (Ref κ (record r { now = m })) ⊛ ‵ (flft κ q)))
     (comes_back 𝓛 R (named 0) κ (α ∷ []) q r.ghost_name b o δ r.now m) $ await ! tt $ split ! $
