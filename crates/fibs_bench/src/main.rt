@@ -1,11 +1,11 @@
 //! Loops to measure, over standard input: how many lines a stream has, how many of them are read, taken by a client or
-//! noted by a directory, and how many legal plays their boards have; and how many of a million typed texts are
-//! commands. Nothing stands on them.
+//! noted by a directory, how many legal plays their boards have, and how many clicks a client refuses; and how many of a
+//! million typed texts are commands. Nothing stands on them.
 #![tactic(auto)]
 
 use fibs_lines::{Line, Lines};
 use fibs_messages::{Reading, read};
-use fibs_position::{Direction, Position};
+use fibs_position::{Decision, Direction, Play, Position};
 use fibs_session::{Client, Directory, Login, read_command, read_plain};
 use std::alloc::{AllocError, Global};
 use std::io::Read;
@@ -16,6 +16,9 @@ const PORTION: usize = 65536;
 
 /// How many typed texts are read.
 const TEXTS: u32 = 1_000_000;
+
+/// How often a decision is clicked on.
+const CLICKS: u32 = 1_000_000;
 
 /// What is counted of the lines of a stream.
 #[derive(Clone, Copy, PartialEq, Eq)]
@@ -123,20 +126,47 @@ fn count_lines(rt: &HostRuntime, what: Count) -> io::Result<u64> {
     Ok(count)
 }
 
+/// Counts the lines of the standard input that the client takes.
+fn hear_input(rt: &HostRuntime, client: &mut Client) -> io::Result<u64> {
+    let mut portion = vec![in rt.alloc(); 0u8; PORTION]?;
+    let mut input = rt.stdin();
+    let mut count = 0u64;
+    for _ in 0..u64::MAX {
+        let used = input.read(&mut portion)?;
+        if used == 0 {
+            break;
+        }
+        count = count.wrapping_add(take_piece(client, &portion[..used]));
+    }
+    Ok(count)
+}
+
+/// A client that has a connection.
+fn online() -> Option<Client> {
+    let login = Login::new(b"ann", b"secret").ok()?;
+    let mut client = Client::new(login);
+    let _opened = client.open();
+    Some(client)
+}
+
 /// Counts the lines of the standard input that a client takes which has a connection.
 fn take_lines(rt: &HostRuntime) -> io::Result<u64> {
-    let mut portion = vec![in rt.alloc(); 0u8; PORTION]?;
+    match online() {
+        None => Ok(0),
+        Some(mut client) => hear_input(rt, &mut client),
+    }
+}
+
+/// Counts the clicks that a client refuses, of many on the empty play, after the lines of the standard input.
+fn count_clicks(rt: &HostRuntime) -> io::Result<u64> {
     let mut count = 0u64;
-    if let Ok(login) = Login::new(b"ann", b"secret") {
-        let mut client = Client::new(login);
-        let _opened = client.open();
-        let mut input = rt.stdin();
-        for _ in 0..u64::MAX {
-            let used = input.read(&mut portion)?;
-            if used == 0 {
-                break;
+    if let Some(mut client) = online() {
+        let _lines = hear_input(rt, &mut client)?;
+        let decision = Decision::Move(Play::new());
+        for _ in 0..CLICKS {
+            if client.decide(&decision).is_err() {
+                count = count.wrapping_add(1);
             }
-            count = count.wrapping_add(take_piece(&mut client, &portion[..used]));
         }
     }
     Ok(count)
@@ -164,8 +194,8 @@ fn count_commands() -> u64 {
     count
 }
 
-/// Counts what the first argument names: `lines`, `readings`, `notes`, `plays`, `client` or `commands`; without one,
-/// lines.
+/// Counts what the first argument names: `lines`, `readings`, `notes`, `plays`, `client`, `clicks` or `commands`;
+/// without one, lines.
 fn main(rt: HostRuntime) -> io::Result<()> {
     let words: Vec<String> = env::args(&rt)?.collect(rt.alloc())?;
     let word = match words.get(1) {
@@ -177,6 +207,7 @@ fn main(rt: HostRuntime) -> io::Result<()> {
         "notes" => count_lines(&rt, Count::Notes)?,
         "plays" => count_lines(&rt, Count::Plays)?,
         "client" => take_lines(&rt)?,
+        "clicks" => count_clicks(&rt)?,
         "commands" => count_commands(),
         _ => count_lines(&rt, Count::Lines)?,
     };
