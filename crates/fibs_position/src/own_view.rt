@@ -166,10 +166,12 @@ fn lined_up(low: u8, places: [u8; 24], high: u8) -> [u8; 26]
 pub fn arranged(own: &Placed, other: &Placed) -> Arrangement
     requires own { own.now.total ≤ 15 }
     requires other { other.now.total ≤ 15 }
-    ensures { result ≡ record {
+    ensures value { result ≡ record {
       own = own.now.off ∷ (own.now.places ++ (15 - own.now.total) ∷ []);
       other = (15 - other.now.total) ∷ (other.now.places ++ other.now.off ∷ []);
     } }
+    ensures own { sum result.own ≡ 15 }
+    ensures other { sum result.other ≡ 15 }
 {
     let own_bar = 15 - own.total as u8;
     let other_bar = 15 - other.total as u8;

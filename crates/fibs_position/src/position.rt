@@ -1,7 +1,7 @@
 //! Positions: boards seen from their players' side.
 #![tactic(auto, unfolding(crate::specs::PositionValue::position_value))]
 
-ghost use Rattle.std.specs.Prelude.{◌≡◌, ◌≤◌, ◌↔◌, ◌&&◌, IsOk, is_ok, IfOk, IsTrue, Err, codes, map, slice_index};
+ghost use Rattle.std.specs.Prelude.{◌≡◌, ◌≤◌, ◌↔◌, ◌&&◌, IsOk, is_ok, IfOk, IsTrue, Err, codes, map, sum, slice_index};
 ghost use Rattle.std.specs.Result.{result_err};
 ghost use Rattle.fibs_messages.specs.StoredBoard.{fields_of};
 ghost use Rattle.fibs_position.specs.OwnView.{own_view};
@@ -38,6 +38,8 @@ pub struct Position {
     cube: i32,
     /// Not 0 where the player may double.
     may_double: i32,
+    ghost own: { sum standing.checkers.own ≡ 15 },
+    ghost other: { sum standing.checkers.other ≡ 15 },
     ghost first: { standing.first ≤ 6 },
     ghost second: { standing.second ≤ 6 },
 }
@@ -85,7 +87,9 @@ impl Position {
 
     /// The position of a board whose checkers stand so.
     fn with_checkers(board: &Board, arrangement: Arrangement) -> Self
-        requires { arrangement ≡ own_view (fields_of board.now) }
+        requires view { arrangement ≡ own_view (fields_of board.now) }
+        requires own { sum arrangement.own ≡ 15 }
+        requires other { sum arrangement.other ≡ 15 }
         ensures { position_value result ≡ position_of (fields_of board.now) }
     {
         Position {

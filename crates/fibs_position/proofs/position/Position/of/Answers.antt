@@ -22,9 +22,9 @@ returns-then-other-gt15-clause-test c =
     let many : 15 < other_placed b = omega arith in
     sym (good_fails c.is_board_is_exact.ensures b (λ g. absurd (omega (arith, g.other))))
 
-pub with_checkers-requires : goal.with_checkers-requires
+pub with_checkers-requires-clause-view : goal.with_checkers-requires-clause-view
 unfolding own_view
-with_checkers-requires c = cc
+with_checkers-requires-clause-view c = cc
 
 pub returns-clause-test : goal.returns-clause-test
 returns-clause-test c =
