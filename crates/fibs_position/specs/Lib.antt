@@ -20,5 +20,4 @@ pub mod PlaysOf
 pub mod Names
 pub mod Laws
 -- What only private functions and proofs say.
-pub mod GoodBoardProp
 pub mod Search

@@ -5,7 +5,6 @@ use Rattle.fibs_position.specs.DirectionOf.{direction_of}
 use Rattle.fibs_position.specs.OwnView.{turn, colour, standing_of}
 use Rattle.fibs_position.specs.Runs.{Standing}
 use Rattle.fibs_position.specs.declared.direction.Direction.{Direction}
-use Rattle.fibs_messages.specs.StoredBoard.{fields_of}
 use Rattle.fibs_position.specs.declared.position.Position.{Position}
 
 -- what the rules read of a board
@@ -39,6 +38,14 @@ position_of b = record {
 
 -- ---- the positions of the program as values
 
--- what the rules read of the board that a position keeps
+-- what a position keeps
 unfoldable pub position_value : Position → PositionValue
-position_value p = position_of (fields_of p.board)
+position_value p = record {
+  standing = p.standing;
+  direction = p.direction;
+  turn = p.turn;
+  colour = p.colour;
+  was_doubled = p.was_doubled;
+  cube = p.cube;
+  may_double = p.may_double;
+}

@@ -1,10 +1,11 @@
 //! A board as its player sees it.
 
-ghost use Rattle.std.specs.Prelude.{◌≡◌, ◌⊎◌, ◌+◌, ◌*◌, ◌≤◌, ◌∷◌, ◌++◌, [], pos, negsuc, length, sum};
+ghost use Rattle.std.specs.Prelude.{◌≡◌, ◌⊎◌, ◌+◌, ◌-◌, ◌*◌, ◌≤◌, ◌∷◌, ◌++◌, [], pos, negsuc, length, sum};
 ghost use Rattle.fibs_messages.specs.StoredBoard.{fields_of};
 ghost use Rattle.fibs_position.specs.DirectionOf.{direction_of};
-ghost use Rattle.fibs_position.specs.OwnView.{colour, place_field, stand_on, on_places, own_off, other_off, own_placed};
-ghost use Rattle.fibs_position.specs.OwnView.{other_placed, own_view, first_die, second_die, no_dice};
+ghost use Rattle.fibs_position.specs.OwnView.{colour, place_field, stand_on, on_places, own_on_places, other_on_places};
+ghost use Rattle.fibs_position.specs.OwnView.{own_off, other_off, own_placed, other_placed, own_view};
+ghost use Rattle.fibs_position.specs.OwnView.{first_die, second_die, no_dice};
 
 use crate::arrangement::Arrangement;
 use crate::direction::Direction;
@@ -54,7 +55,7 @@ fn stand_on(board: &Board, side: i32, place: u8) -> u8
 }
 
 /// The checkers of a colour on places 1 to 24.
-pub fn on_places(board: &Board, side: i32) -> [u8; 24]
+fn on_places(board: &Board, side: i32) -> [u8; 24]
     ensures { result ≡ on_places (fields_of board.now) side }
 {
     let mut counts = [0; 24];
@@ -74,7 +75,7 @@ pub fn total(counts: &[u8]) -> u32
 }
 
 /// The player's checkers that are borne off.
-pub fn own_off(board: &Board) -> u8
+fn own_off(board: &Board) -> u8
     ensures value { result ≡ own_off (fields_of board.now) }
     ensures few { result ≤ 15 }
 {
@@ -82,7 +83,7 @@ pub fn own_off(board: &Board) -> u8
 }
 
 /// The opponent's checkers that are borne off.
-pub fn other_off(board: &Board) -> u8
+fn other_off(board: &Board) -> u8
     ensures value { result ≡ other_off (fields_of board.now) }
     ensures few { result ≤ 15 }
 {
@@ -112,22 +113,47 @@ pub fn no_dice(board: &Board) -> bool
     first_die(board) == 0 && second_die(board) == 0
 }
 
-/// The player's checkers that are not on the bar.
-pub fn own_placed(board: &Board) -> u32
-    ensures { result ≡ own_placed (fields_of board.now) }
+/// A side's checkers that are not on the bar: those on places 1 to 24, those off, and how many they all are.
+#[derive(Clone, Copy)]
+pub struct Placed {
+    places: [u8; 24],
+    off: u8,
+    pub total: u32,
+    ghost counted: { total ≡ sum places + off },
+}
+
+/// These checkers, counted.
+fn counted(places: [u8; 24], off: u8) -> Placed
+    ensures places { result.places ≡ places }
+    ensures off { result.off ≡ off }
 {
-    total(&on_places(board, colour(board))) + u32::from(own_off(board))
+    Placed {
+        places,
+        off,
+        total: total(&places) + u32::from(off),
+    }
+}
+
+/// The player's checkers that are not on the bar.
+pub fn own_placed(board: &Board) -> Placed
+    ensures places { result.places ≡ own_on_places (fields_of board.now) }
+    ensures off { result.off ≡ own_off (fields_of board.now) }
+    ensures total { result.total ≡ own_placed (fields_of board.now) }
+{
+    counted(on_places(board, colour(board)), own_off(board))
 }
 
 /// The opponent's checkers that are not on the bar.
-pub fn other_placed(board: &Board) -> u32
-    ensures { result ≡ other_placed (fields_of board.now) }
+pub fn other_placed(board: &Board) -> Placed
+    ensures places { result.places ≡ other_on_places (fields_of board.now) }
+    ensures off { result.off ≡ other_off (fields_of board.now) }
+    ensures total { result.total ≡ other_placed (fields_of board.now) }
 {
-    total(&on_places(board, -colour(board))) + u32::from(other_off(board))
+    counted(on_places(board, -colour(board)), other_off(board))
 }
 
 /// The counts of the 24 places between two others.
-pub fn lined_up(low: u8, places: [u8; 24], high: u8) -> [u8; 26]
+fn lined_up(low: u8, places: [u8; 24], high: u8) -> [u8; 26]
     ensures { result ≡ low ∷ (places ++ high ∷ []) }
 {
     let mut line = [low; 26];
@@ -136,18 +162,30 @@ pub fn lined_up(low: u8, places: [u8; 24], high: u8) -> [u8; 26]
     line
 }
 
+/// The checkers of both sides, fifteen each: those that are not placed are on the bar.
+pub fn arranged(own: &Placed, other: &Placed) -> Arrangement
+    requires own { own.now.total ≤ 15 }
+    requires other { other.now.total ≤ 15 }
+    ensures value { result ≡ record {
+      own = own.now.off ∷ (own.now.places ++ (15 - own.now.total) ∷ []);
+      other = (15 - other.now.total) ∷ (other.now.places ++ other.now.off ∷ []);
+    } }
+    ensures own { sum result.own ≡ 15 }
+    ensures other { sum result.other ≡ 15 }
+{
+    let own_bar = 15 - own.total as u8;
+    let other_bar = 15 - other.total as u8;
+    Arrangement::of_counts(
+        lined_up(own.off, own.places, own_bar),
+        lined_up(other_bar, other.places, other.off),
+    )
+}
+
 /// The checkers of both sides as the player sees them.
 pub fn arrangement_of(board: &Board) -> Arrangement
     requires own { own_placed (fields_of board.now) ≤ 15 }
     requires other { other_placed (fields_of board.now) ≤ 15 }
     ensures { result ≡ own_view (fields_of board.now) }
 {
-    let own_bar = 15 - own_placed(board) as u8;
-    let other_bar = 15 - other_placed(board) as u8;
-    let own = on_places(board, colour(board));
-    let other = on_places(board, -colour(board));
-    Arrangement::of_counts(
-        lined_up(own_off(board), own, own_bar),
-        lined_up(other_bar, other, other_off(board)),
-    )
+    arranged(&own_placed(board), &other_placed(board))
 }

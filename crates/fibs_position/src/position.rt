@@ -1,36 +1,47 @@
 //! Positions: boards seen from their players' side.
 #![tactic(auto, unfolding(crate::specs::PositionValue::position_value))]
 
-ghost use Rattle.std.specs.Prelude.{◌≡◌, ◌≤◌, ◌↔◌, ◌&&◌, IsOk, is_ok, IfOk, IsTrue, Err, codes, map, slice_index};
+ghost use Rattle.std.specs.Prelude.{◌≡◌, ◌≤◌, ◌↔◌, ◌&&◌, IsOk, is_ok, IfOk, IsTrue, Err, codes, map, sum, slice_index};
 ghost use Rattle.std.specs.Result.{result_err};
 ghost use Rattle.fibs_messages.specs.StoredBoard.{fields_of};
-ghost use Rattle.fibs_position.specs.OwnView.{first_die, second_die};
+ghost use Rattle.fibs_position.specs.OwnView.{own_view};
 ghost use Rattle.fibs_position.specs.GoodBoard.{IsGood};
-ghost use Rattle.fibs_position.specs.GoodBoardProp.{IsGood-prop};
 
 use crate::arrangement::Arrangement;
 use crate::decision::Decision;
 use crate::direction::Direction;
 use crate::disallowed::Disallowed;
 use crate::fields::{COLOUR, CUBE, MAY_DOUBLE, MOST_DOUBLED, TURN, WAS_DOUBLED};
-use crate::own_view::{
-    arrangement_of, direction, first_die, no_dice, other_placed, own_placed, second_die,
-};
+use crate::own_view::{arranged, direction, first_die, other_placed, own_placed, second_die};
 use crate::phase::Phase;
 use crate::play::Play;
 use crate::position_fault::PositionFault;
 use crate::turn::Turn;
 use fibs_messages::Board;
-use fibs_messages::laws::{fields_have_their_ranges, is_board_is_exact};
+use fibs_messages::laws::is_board_is_exact;
 use std::alloc::{AllocError, Global};
 
-/// A board of one who plays, seen from his own side.
+/// What the rules read of a board of one who plays, seen from his own side.
 #[derive(Clone, Copy, Debug)]
 pub struct Position {
-    board: Board,
-    ghost good: { IsGood (fields_of board) } by { IsGood-prop (fields_of board) },
-    ghost first: { first_die (fields_of board) ≤ 6 },
-    ghost second: { second_die (fields_of board) ≤ 6 },
+    /// The checkers of both sides, and the player's dice.
+    standing: Turn,
+    /// Which way the player's checkers go by the numbers of the board line.
+    direction: Direction,
+    /// Whose turn it is: 1 for O, -1 for X, 0 where the game is over.
+    turn: i32,
+    /// The player's colour: 1 for O, -1 for X.
+    colour: i32,
+    /// 1 where the opponent has just doubled.
+    was_doubled: i32,
+    /// What the doubling cube shows.
+    cube: i32,
+    /// Not 0 where the player may double.
+    may_double: i32,
+    ghost own: { sum standing.checkers.own ≡ 15 },
+    ghost other: { sum standing.checkers.other ≡ 15 },
+    ghost first: { standing.first ≤ 6 },
+    ghost second: { standing.second ≤ 6 },
 }
 
 /// The board's player is one who plays himself.
@@ -60,24 +71,36 @@ impl Position {
         ensures fault { (f : PositionFault) → (result ≡ Err f) ↔ IsFirst (HasFault (fields_of board.now)) faults f }
     {
         is_board_is_exact();
-        fields_have_their_ranges();
         if !is_you(board) {
             return Err(PositionFault::NotYou);
         }
-        if own_placed(board) > 15 {
+        let own = own_placed(board);
+        if own.total > 15 {
             return Err(PositionFault::TooManyOwn);
         }
-        if other_placed(board) > 15 {
+        let other = other_placed(board);
+        if other.total > 15 {
             return Err(PositionFault::TooManyOther);
         }
-        Ok(Position { board: *board })
+        Ok(Position::with_checkers(board, arranged(&own, &other)))
     }
 
-    /// The checkers of both sides.
-    fn arrangement(&self) -> Arrangement
-        ensures { let p = position_value self.now in result ≡ p.standing.checkers }
+    /// The position of a board whose checkers stand so.
+    fn with_checkers(board: &Board, arrangement: Arrangement) -> Self
+        requires view { arrangement ≡ own_view (fields_of board.now) }
+        requires own { sum arrangement.own ≡ 15 }
+        requires other { sum arrangement.other ≡ 15 }
+        ensures { position_value result ≡ position_of (fields_of board.now) }
     {
-        arrangement_of(&self.board)
+        Position {
+            standing: Turn::new(arrangement, first_die(board), second_die(board)),
+            direction: direction(board),
+            turn: board.field(TURN),
+            colour: board.field(COLOUR),
+            was_doubled: board.field(WAS_DOUBLED),
+            cube: board.field(CUBE),
+            may_double: board.field(MAY_DOUBLE),
+        }
     }
 
     /// The player's checkers on a place, counted so that he goes down: 1 to 24, or 25 for his bar, or 0 for those borne
@@ -87,7 +110,7 @@ impl Position {
         ensures value { result ≡ slice_index (position_value self.now).standing.checkers.own place }
         ensures few { result ≤ 15 }
     {
-        self.arrangement().own(place)
+        self.standing.arrangement().own(place)
     }
 
     /// The opponent's checkers on a place 1 to 24 of the player's numbering.
@@ -97,7 +120,7 @@ impl Position {
         ensures value { result ≡ slice_index (position_value self.now).standing.checkers.other place }
         ensures few { result ≤ 15 }
     {
-        self.arrangement().other(place)
+        self.standing.arrangement().other(place)
     }
 
     /// The opponent's checkers on the bar.
@@ -105,7 +128,7 @@ impl Position {
         ensures value { result ≡ slice_index (position_value self.now).standing.checkers.other 0 }
         ensures few { result ≤ 15 }
     {
-        self.arrangement().other(0)
+        self.standing.arrangement().other(0)
     }
 
     /// The opponent's checkers that are borne off.
@@ -113,49 +136,37 @@ impl Position {
         ensures value { result ≡ slice_index (position_value self.now).standing.checkers.other 25 }
         ensures few { result ≤ 15 }
     {
-        self.arrangement().other(25)
+        self.standing.arrangement().other(25)
     }
 
     /// Which way the player's checkers go by the numbers of the board line.
     pub fn direction(&self) -> Direction
         ensures { let p = position_value self.now in result ≡ p.direction }
     {
-        direction(&self.board)
-    }
-
-    /// The arrangement and the dice shown.
-    fn turn(&self) -> Turn
-        ensures { let p = position_value self.now in result ≡ p.standing }
-    {
-        Turn::new(
-            self.arrangement(),
-            first_die(&self.board),
-            second_die(&self.board),
-        )
+        self.direction
     }
 
     /// Some die that is shown can be played.
     fn can_move(&self) -> bool
         ensures { result ≡ can_move (position_value self.now).standing }
     {
-        self.turn().can_move()
+        self.standing.can_move()
     }
 
     /// The first line of the table of phases that fits.
     fn phase_by_table(&self) -> Phase
         ensures { result ≡ phase_in (position_value self.now) }
     {
-        let turn = self.board.field(TURN);
-        if turn == 0 {
+        if self.turn == 0 {
             return Phase::Over;
         }
-        if self.board.field(WAS_DOUBLED) == 1 {
+        if self.was_doubled == 1 {
             return Phase::AnswerDouble;
         }
-        if turn != self.board.field(COLOUR) {
+        if self.turn != self.colour {
             return Phase::OpponentActs;
         }
-        if no_dice(&self.board) {
+        if self.standing.no_dice() {
             return Phase::RollOrDouble;
         }
         if self.can_move() {
@@ -185,7 +196,7 @@ impl Position {
     pub fn most_dice(&self) -> u8
         ensures { IsMost (position_value self.now).standing result }
     {
-        self.turn().most_dice()
+        self.standing.most_dice()
     }
 
     /// The play is legal: a run of steps by the dice held than which no run is longer, and by the larger die where only
@@ -194,7 +205,7 @@ impl Position {
     pub fn is_legal(&self, play: &Play) -> bool
         ensures { IsTrue result ↔ LegalPlay (position_value self.now).standing (hops_of play.now) }
     {
-        self.turn().is_legal(play)
+        self.standing.is_legal(play)
     }
 
     /// In the phase `Move`, for each arrangement of checkers that some legal play reaches, the greatest such play
@@ -203,7 +214,7 @@ impl Position {
         ensures { IfOk result (λ plays. PlaysIn (position_value self.now) (map hops_of plays.items)) }
     {
         match self.phase() {
-            Phase::Move => self.turn().plays(alloc),
+            Phase::Move => self.standing.plays(alloc),
             _ => Ok(Vec::new(alloc)),
         }
     }
@@ -214,10 +225,8 @@ impl Position {
         ensures { result ≡ cube_allows (position_value self.now) (decision_of decision.now) }
     {
         match decision {
-            Decision::Double => {
-                self.board.field(MAY_DOUBLE) != 0 && self.board.field(CUBE) <= MOST_DOUBLED
-            }
-            Decision::Accept => self.board.field(CUBE) <= MOST_DOUBLED,
+            Decision::Double => self.may_double != 0 && self.cube <= MOST_DOUBLED,
+            Decision::Accept => self.cube <= MOST_DOUBLED,
             Decision::Roll | Decision::Reject | Decision::Move(_) => true,
         }
     }

@@ -203,6 +203,20 @@ fn slow_plays(alloc: Global, runs: &[Run]) -> Result<Vec<Run>, AllocError> {
     Ok(kept)
 }
 
+/// The plays of a position with these dice, in no order.
+pub fn slowly_listed(
+    alloc: Global,
+    position: &Position,
+    dice: [u8; 2],
+) -> Result<Vec<Play>, AllocError> {
+    let runs = legal(alloc, counts_of(position), dice[0], dice[1])?;
+    let mut plays = Vec::new(alloc);
+    for run in &slow_plays(alloc, runs.as_slice())? {
+        plays.push(run.play)?;
+    }
+    Ok(plays)
+}
+
 /// One of the runs has just these steps.
 fn has(runs: &[Run], play: &Play) -> bool {
     runs.iter().any(|run| run.play.steps() == play.steps())

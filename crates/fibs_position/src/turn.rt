@@ -1,6 +1,7 @@
 //! Turns: an arrangement to be played by the two dice shown.
 
 ghost use Rattle.std.specs.Prelude.{◌≡◌, ◌-◌, ◌<◌, ◌≤◌, ◌↔◌, ◌||◌, [], map, IsTrue, take, max, OnOk, IfOk};
+ghost use Rattle.std.specs.Prelude.{◌==◌, ◌&&◌};
 ghost use Rattle.std.specs.List.{fold};
 ghost use Rattle.fibs_position.specs.Hop.{hop_of};
 ghost use Rattle.fibs_position.specs.PlayValue.{hops_of};
@@ -18,7 +19,7 @@ use std::alloc::{AllocError, Global};
 use std::marker::Model;
 
 /// An arrangement, and the two dice shown, each 1 to 6, or 0 for none.
-#[derive(Clone, Copy)]
+#[derive(Clone, Copy, Debug)]
 pub(crate) struct Turn {
     arrangement: Arrangement,
     first: u8,
@@ -76,6 +77,19 @@ impl Turn {
             first,
             second,
         }
+    }
+
+    pub(crate) fn arrangement(&self) -> &Arrangement
+        ensures { result.now ≡ self.now.checkers }
+    {
+        &self.arrangement
+    }
+
+    /// No die is shown.
+    pub(crate) fn no_dice(&self) -> bool
+        ensures { result ≡ ((self.now.first == 0) && (self.now.second == 0)) }
+    {
+        self.first == 0 && self.second == 0
     }
 
     /// How many dice can be played in this order of the two shown.

@@ -9,5 +9,4 @@ unfolding position_value
 returns c =
     let p = (position_value c.args.self.now).standing in
     let small : SmallDice p = record { first = c.args.self.now.first; second = c.args.self.now.second } in
-    same_from_decides c.can_move.result (can_move p) (rw c.turn.ensures at c.can_move.ensures)
-    (can_move_decides p small)
+    same_from_decides c.can_move.result (can_move p) c.can_move.ensures (can_move_decides p small)

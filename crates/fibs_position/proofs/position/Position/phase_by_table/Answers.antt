@@ -7,76 +7,62 @@ use Rattle.fibs_position.specs.declared.phase.Phase.TheVariants.{Over, AnswerDou
 use Rattle.fibs_position.proofs.DecidingLemmas.PhaseLines.{same_int, other_int, phase_over, phase_answer}
 use Rattle.fibs_position.proofs.DecidingLemmas.PhaseLines.{phase_opponent, phase_roll, phase_move, phase_passing}
 use Rattle.fibs_position.proofs.position.Position.phase_by_table.Goals as goal
-use Rattle.fibs_position.proofs.position.Position.phase_by_table.Goals.{Else-turn-eq0, Else-field-eq1, Else-turn-field}
+use Rattle.fibs_position.proofs.position.Position.phase_by_table.Goals.{Else-self-eq0, Else-self-eq1, Else-self}
 
 -- the tests that failed before
-not_over : (c : Else-turn-eq0) → phase_fits (position_value c.args.self.now) Over ≡ false
+not_over : (c : Else-self-eq0) → phase_fits (position_value c.args.self.now) Over ≡ false
 unfolding position_value
 not_over c =
-    let found = c.field-turn.ensures.value in
-    let apart : (position_value c.args.self.now).turn ≢ pos 0 = λ e. c.if-turn-eq0.false (omega (arith, ints)) in
-    other_int _ _ apart
+    let apart : c.args.self.now.turn ≢ pos 0 = λ e. c.if-self-eq0.false (omega (arith, ints)) in other_int _ _ apart
 
-not_doubled : (c : Else-field-eq1) → phase_fits (position_value c.args.self.now) AnswerDouble ≡ false
+not_doubled : (c : Else-self-eq1) → phase_fits (position_value c.args.self.now) AnswerDouble ≡ false
 unfolding position_value
 not_doubled c =
-    let found = c.field.ensures.value in
-    let apart : (position_value c.args.self.now).was_doubled ≢ pos 1 =
-    λ e. c.if-field-eq1.false (omega (arith, ints)) in
+    let apart : c.args.self.now.was_doubled ≢ pos 1 = λ e. c.if-self-eq1.false (omega (arith, ints)) in
     other_int _ _ apart
 
-own_turn : (c : Else-turn-field) → phase_fits (position_value c.args.self.now) OpponentActs ≡ false
+own_turn : (c : Else-self) → phase_fits (position_value c.args.self.now) OpponentActs ≡ false
 unfolding position_value
 own_turn c =
-    let found = c.field-turn.ensures.value in
-    let side = c.field-2.ensures.value in
-    let same : (position_value c.args.self.now).turn ≡ (position_value c.args.self.now).colour = omega (arith, ints) in
-    ap not (same_int _ _ same)
+    let same : c.args.self.now.turn ≡ c.args.self.now.colour = omega (arith, ints) in ap not (same_int _ _ same)
 
-pub returns-then-turn-eq0 : goal.returns-then-turn-eq0
+pub returns-then-self-eq0 : goal.returns-then-self-eq0
 unfolding position_value
-returns-then-turn-eq0 c =
-    let found = c.field-turn.ensures.value in
-    let here : (position_value c.args.self.now).turn ≡ pos 0 = omega (arith, ints) in
+returns-then-self-eq0 c =
+    let here : c.args.self.now.turn ≡ pos 0 = omega (arith, ints) in
     sym (phase_over (position_value c.args.self.now) (same_int _ _ here))
 
-pub returns-then-field-eq1 : goal.returns-then-field-eq1
+pub returns-then-self-eq1 : goal.returns-then-self-eq1
 unfolding position_value
-returns-then-field-eq1 c =
-    let found = c.field.ensures.value in
-    let here : (position_value c.args.self.now).was_doubled ≡ pos 1 = omega (arith, ints) in
-    sym (phase_answer (position_value c.args.self.now) (not_over (goal.at.returns-then-field-eq1 c).Else-turn-eq0)
+returns-then-self-eq1 c =
+    let here : c.args.self.now.was_doubled ≡ pos 1 = omega (arith, ints) in
+    sym (phase_answer (position_value c.args.self.now) (not_over (goal.at.returns-then-self-eq1 c).Else-self-eq0)
     (same_int _ _ here))
 
-pub returns-then-turn-field : goal.returns-then-turn-field
+pub returns-then-self : goal.returns-then-self
 unfolding position_value
-returns-then-turn-field c =
-    let found = c.field-turn.ensures.value in
-    let side = c.field-2.ensures.value in
-    let apart : (position_value c.args.self.now).turn ≢ (position_value c.args.self.now).colour =
-    λ e. c.if-turn-field.true (omega (arith, ints)) in
-    sym (phase_opponent (position_value c.args.self.now) (not_over (goal.at.returns-then-turn-field c).Else-turn-eq0)
-    (not_doubled (goal.at.returns-then-turn-field c).Else-field-eq1) (ap not (other_int _ _ apart)))
+returns-then-self c =
+    let apart : c.args.self.now.turn ≢ c.args.self.now.colour = λ e. c.if-self.true (omega (arith, ints)) in
+    sym (phase_opponent (position_value c.args.self.now) (not_over (goal.at.returns-then-self c).Else-self-eq0)
+    (not_doubled (goal.at.returns-then-self c).Else-self-eq1) (ap not (other_int _ _ apart)))
 
 pub returns-then-no_dice : goal.returns-then-no_dice
 unfolding position_value
 returns-then-no_dice c =
-    sym (phase_roll (position_value c.args.self.now) (not_over (goal.at.returns-then-no_dice c).Else-turn-eq0)
-    (not_doubled (goal.at.returns-then-no_dice c).Else-field-eq1)
-    (own_turn (goal.at.returns-then-no_dice c).Else-turn-field)
+    sym (phase_roll (position_value c.args.self.now) (not_over (goal.at.returns-then-no_dice c).Else-self-eq0)
+    (not_doubled (goal.at.returns-then-no_dice c).Else-self-eq1) (own_turn (goal.at.returns-then-no_dice c).Else-self)
     (sym c.no_dice.ensures ∙ c.if-no_dice.true))
 
 pub returns-then-can_move : goal.returns-then-can_move
 unfolding position_value
 returns-then-can_move c =
-    sym (phase_move (position_value c.args.self.now) (not_over (goal.at.returns-then-can_move c).Else-turn-eq0)
-    (not_doubled (goal.at.returns-then-can_move c).Else-field-eq1)
-    (own_turn (goal.at.returns-then-can_move c).Else-turn-field)
+    sym (phase_move (position_value c.args.self.now) (not_over (goal.at.returns-then-can_move c).Else-self-eq0)
+    (not_doubled (goal.at.returns-then-can_move c).Else-self-eq1) (own_turn (goal.at.returns-then-can_move c).Else-self)
     (sym c.no_dice.ensures ∙ c.if-no_dice.false) (sym c.can_move.ensures ∙ c.if-can_move.true))
 
 pub returns : goal.returns
 unfolding position_value
 returns c =
-    sym (phase_passing (position_value c.args.self.now) (not_over (goal.at.returns c).Else-turn-eq0)
-    (not_doubled (goal.at.returns c).Else-field-eq1) (own_turn (goal.at.returns c).Else-turn-field)
+    sym (phase_passing (position_value c.args.self.now) (not_over (goal.at.returns c).Else-self-eq0)
+    (not_doubled (goal.at.returns c).Else-self-eq1) (own_turn (goal.at.returns c).Else-self)
     (sym c.no_dice.ensures ∙ c.if-no_dice.false) (sym c.can_move.ensures ∙ c.if-can_move.false))
