@@ -57,15 +57,15 @@ abbrev pub score : (Checkers → ℕ) → Option Checkers → ℕ
 score worth None = 0
 score worth (Some q) = worth q
 
--- the greatest worth of an arrangement that one step by this die leads to, from a place up to n
-unfoldable pub best_of : (Checkers → ℕ) → Checkers → ℕ → ℕ → ℕ
+-- the greatest worth of a place up to n and the arrangement that a step from it by this die leads to
+unfoldable pub best_of : (ℕ → Checkers → ℕ) → Checkers → ℕ → ℕ → ℕ
 best_of worth p die zero = 0
-best_of worth p die (suc n) = max (best_of worth p die n) (score worth (one_of p (suc n) die))
+best_of worth p die (suc n) = max (best_of worth p die n) (score (worth (suc n)) (one_of p (suc n) die))
 
 -- how many of these dice can be played one after another
 abbrev pub longest : Checkers → List ℕ → ℕ
 longest p [] = 0
-longest p (die ∷ dice) = best_of (λ q. suc (longest q dice)) p die 25
+longest p (die ∷ dice) = best_of (λ source q. suc (longest q dice)) p die 25
 
 -- the most dice that can be played, in either order
 abbrev pub most_of : Standing → ℕ

@@ -1,24 +1,22 @@
 -- What the code computes as it collects the plays. Only proofs use this file: no public clause rests on it.
-use Rattle.std.specs.Prelude.{ℕ, zero, suc, ◌-◌, ◌<◌, ◌≤◌, ◌==◌, ◌&&◌, nat_eq, max, Bool, List, [], ◌∷◌, ◌++◌, take}
-use Rattle.std.specs.Prelude.{Option, Some, None, if◌then◌else◌}
-use Rattle.std.specs.Ordering.{is_lt}
-use Rattle.std.specs.Cmp.Lexicographic.{pointwise}
+use Rattle.std.specs.Prelude.{ℕ, zero, suc, ◌-◌, ◌<◌, ◌≤◌, ◌==◌, ◌&&◌, max, List, [], ◌∷◌, ◌++◌, take, Option, Some}
+use Rattle.std.specs.Prelude.{None, if◌then◌else◌, option_map}
+use Rattle.std.specs.declared.cmp.Ordering.{Ordering}
+use Rattle.std.specs.Ordering.{ordering_then, is_lt, is_eq, nat_cmp}
+use Rattle.std.specs.Cmp.Lexicographic.{slice_cmp}
+use Rattle.std.specs.BTreeMap.{BTreeMap, get}
 use Rattle.fibs_position.specs.Hop.{Hop}
 use Rattle.fibs_position.specs.Checkers.{Checkers}
 use Rattle.fibs_position.specs.OneChecker.{one_of}
-use Rattle.fibs_position.specs.Runs.{Standing, held_of, best_of, longest, most_of}
+use Rattle.fibs_position.specs.Runs.{Standing, held_of, best_of, most_of}
 use Rattle.fibs_position.specs.LegalPlays.{play_cmp, are_two, larger_first}
 use Rattle.fibs_position.specs.PlayValue.{hops_of}
-use Rattle.fibs_position.specs.declared.plays.Reached.{Reached}
+use Rattle.fibs_position.specs.declared.play.Play.{Play}
 
 -- dice of a cube
 abbrev pub AreDice : List ℕ → Type 0
 AreDice [] = Unit {0}
 AreDice (die ∷ dice) = (0 < die) × (die ≤ 6) × AreDice dice
-
--- the most dice of a list that can be played, one die before them from a place up to n
-unfoldable pub best_by : Checkers → ℕ → List ℕ → ℕ → ℕ
-best_by p die dice n = best_of (λ q. suc (longest q dice)) p die n
 
 -- a play, and the arrangement that it leads to
 pub record Reach : Type 0 where
@@ -53,19 +51,41 @@ unfoldable pub reaches_by : Checkers → ℕ → List ℕ → List Hop → ℕ �
 reaches_by p die dice play n =
     reach_by (λ hop q. reaches q dice (next_top die dice hop.source) (play ++ hop ∷ [])) p die n
 
--- two arrangements are one
-abbrev pub same : Checkers → Checkers → Bool
-same p q = pointwise nat_eq p.own q.own && pointwise nat_eq p.other q.other
+-- how many of these dice can be played one after another by what is tried, the first step from a place up to top
+abbrev pub longest_tried : Checkers → List ℕ → ℕ → ℕ
+longest_tried p [] top = 0
+longest_tried p (die ∷ dice) top =
+    best_of (λ source q. suc (longest_tried q dice (next_top die dice source))) p die top
 
--- the greater of two plays that lead to one arrangement
-abbrev pub greater : Reach → Reach → Reach
-greater kept found = if is_lt (play_cmp kept.play found.play) then found else kept
+-- the same of one die and others, from a place up to n
+unfoldable pub longest_by : Checkers → ℕ → List ℕ → ℕ → ℕ
+longest_by p die dice n = best_of (λ source q. suc (longest_tried q dice (next_top die dice source))) p die n
 
--- a list that keeps the greatest play for each arrangement, and one more
-abbrev pub noted : List Reach → Reach → List Reach
-noted [] found = found ∷ []
-noted (kept ∷ others) found =
-    if same kept.leads found.leads then greater kept found ∷ others else kept ∷ noted others found
+-- the greater of a play that is kept, if there is one, and a play that is found
+abbrev pub greater : Option (List Hop) → List Hop → List Hop
+greater None found = found
+greater (Some kept) found = if is_lt (play_cmp kept found) then found else kept
+
+-- the order of arrangements, as they are kept in a map
+abbrev pub checkers_cmp : Checkers → Checkers → Ordering
+checkers_cmp p q = ordering_then (slice_cmp nat_cmp p.own q.own) (slice_cmp nat_cmp p.other q.other)
+
+-- a play for each arrangement that is reached
+abbrev pub Kept : Type 0
+Kept = Checkers → Option (List Hop)
+
+-- none yet
+abbrev pub nothing : Kept
+nothing q = None
+
+-- after one more is found, the greater is kept for the arrangement that it leads to
+abbrev pub noted : Kept → Reach → Kept
+noted kept found q =
+    if is_eq (checkers_cmp found.leads q) then Some (greater (kept q) found.play) else kept q
+
+-- what a map keeps
+abbrev pub kept_in : BTreeMap Checkers Play → Kept
+kept_in m q = option_map hops_of (get checkers_cmp m q)
 
 -- the runs of the greatest length that are tried in one order of the dice
 abbrev pub all_in_order : Standing → ℕ → ℕ → List Reach
@@ -79,7 +99,3 @@ all_of p =
     else (if are_two p.first p.second
     then all_in_order p p.first p.second ++ all_in_order p p.second p.first
     else all_in_order p p.first p.second)
-
--- what the search keeps, as a value
-abbrev pub reach_of : Reached → Reach
-reach_of found = record { play = hops_of found.play; leads = found.leads }

@@ -16,7 +16,7 @@ use std::marker::Model;
 ///
 /// `own` counts the player's on places 1 to 24, on the bar (25) and off (0); `other` those of the
 /// other side on the same places, on its bar (0) and off (25).
-#[derive(Clone, Copy, Debug, PartialEq, Eq)]
+#[derive(Clone, Copy, Debug, PartialEq, Eq, PartialOrd, Ord)]
 pub(crate) struct Arrangement {
     own: [u8; 26],
     other: [u8; 26],

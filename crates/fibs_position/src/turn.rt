@@ -1,18 +1,17 @@
 //! Turns: an arrangement to be played by the two dice shown.
 
-ghost use Rattle.std.specs.Prelude.{◌≡◌, ◌-◌, ◌<◌, ◌≤◌, ◌↔◌, ◌||◌, [], map, IsTrue, take, max, OnOk, IfOk};
-ghost use Rattle.std.specs.Prelude.{◌==◌, ◌&&◌};
+ghost use Rattle.std.specs.Prelude.{◌≡◌, ◌==◌, ◌&&◌, ◌-◌, ◌<◌, ◌≤◌, ◌↔◌, ◌||◌, map, IsTrue, take, max, OnOk, IfOk};
 ghost use Rattle.std.specs.List.{fold};
 ghost use Rattle.fibs_position.specs.Hop.{hop_of};
 ghost use Rattle.fibs_position.specs.PlayValue.{hops_of};
-ghost use Rattle.fibs_position.specs.Search.{reach_of, AreDice, noted, all_in_order, all_of};
+ghost use Rattle.fibs_position.specs.Search.{AreDice, kept_in, nothing, noted, all_in_order, all_of};
 ghost use Rattle.fibs_position.specs.Runs.{Standing, held_of, IsMost, CanMove, most_of, longest, follows, can_play};
 ghost use Rattle.fibs_position.specs.Runs.{can_move};
 ghost use Rattle.fibs_position.specs.LegalPlays.{LegalPlay, PlayList, are_two, larger_first, legal_of};
 
 use crate::arrangement::Arrangement;
 use crate::play::Play;
-use crate::plays::{Reached, descending, visit};
+use crate::plays::{Kept, descending, visit};
 use crate::search::{follows, longest};
 use crate::step::Step;
 use std::alloc::{AllocError, Global};
@@ -198,11 +197,10 @@ impl Turn {
     }
 
     /// Notes each run of this length in one order of the dice.
-    fn visit_order(&self, kept: &mut Vec<Reached>, a: u8, b: u8, most: u8) -> Result<(), AllocError>
+    fn visit_order(&self, kept: &mut Kept, a: u8, b: u8, most: u8) -> Result<(), AllocError>
         requires dice { AreDice (held_of a b) }
         requires most { most ≡ most_of self.now }
-        ensures ok { OnOk result (map reach_of kept.new.items
-            ≡ fold noted (map reach_of kept.old.items) (all_in_order self.now a b)) }
+        ensures ok { OnOk result (kept_in kept.new ≡ fold noted (kept_in kept.old) (all_in_order self.now a b)) }
     {
         let held = dice_given(a, b);
         let count = held.count.min(most as usize);
@@ -216,12 +214,12 @@ impl Turn {
     }
 
     /// The greatest play for each arrangement that a legal play reaches.
-    fn collected(&self, alloc: Global) -> Result<Vec<Reached>, AllocError>
-        ensures kept { IfOk result (λ v. map reach_of v.items ≡ fold noted [] (all_of self.now)) }
+    fn collected(&self, alloc: Global) -> Result<Kept, AllocError>
+        ensures kept { IfOk result (λ m. kept_in m ≡ fold noted nothing (all_of self.now)) }
         ensures first { self.now.first ≤ 6 }
         ensures second { self.now.second ≤ 6 }
     {
-        let mut kept = Vec::new(alloc);
+        let mut kept = Kept::new(alloc);
         let most = self.most();
         if most == 1 && self.larger_first() {
             visit(
@@ -245,7 +243,7 @@ impl Turn {
     pub(crate) fn plays(&self, alloc: Global) -> Result<Vec<Play>, AllocError>
         ensures { IfOk result (λ plays. PlayList self.now (map hops_of plays.items)) }
     {
-        let mut kept = self.collected(alloc)?;
-        descending(alloc, &mut kept)
+        let kept = self.collected(alloc)?;
+        descending(alloc, &kept)
     }
 }

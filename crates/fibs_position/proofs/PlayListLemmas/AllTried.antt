@@ -1,28 +1,28 @@
 -- The runs that are tried are legal, and each arrangement that a legal play reaches is reached by the greatest such
 -- play.
-use Rattle.std.proofs.Common.{◌≡◌, ◌≢◌, ℕ, suc, zero, ◌<◌, ◌≤◌, inl, inr, max, List, [], ◌∷◌, ◌++◌, length, take, drop}
-use Rattle.std.proofs.Common.{Bool, true, false, replicate, refl, sym, ap, ap₂, subst, ◌∙◌, arith, cond, eq-eqb}
+use Rattle.std.proofs.Common.{◌≡◌, ℕ, ◌≤◌, inl, inr, max, List, [], ◌∷◌, ◌++◌, length, take, drop, Bool, true}
+use Rattle.std.proofs.Common.{false, refl, sym, ap, subst, ◌∙◌, arith, cond, eq-eqb}
 use Rattle.std.proofs.Common.{length-append, length-take-le, take-append-drop, take_all}
 use Rattle.std.specs.Prelude.{◌&&◌, ◌==◌}
-use Rattle.std.proofs.lemmas.Bool.{and_parts, and_from, or_left, or_right, cond-true, cond-false, eqb-true, ne_eqb}
+use Rattle.std.specs.Ordering.{is_gt}
+use Rattle.std.proofs.lemmas.Bool.{and_parts, and_from, or_left, or_right, cond-true, cond-false, eqb-true}
 use Rattle.std.proofs.lemmas.Bool.{both_ways, cond_both}
 use Rattle.std.proofs.Math.Seq.{take-append_seam}
 use Rattle.fibs_position.specs.Hop.{Hop}
 use Rattle.fibs_position.specs.Checkers.{Checkers, moved}
 use Rattle.fibs_position.specs.Runs.{Run, RunOf, Standing, held, held_of, most_of, longest, follows}
-use Rattle.fibs_position.specs.LegalPlays.{Leads, are_two, larger_first}
-use Rattle.fibs_position.specs.Search.{AreDice, Reach, next_top, reaches, all_in_order, all_of}
-use Rattle.fibs_position.proofs.SearchLemmas.LongestRuns.{longest-reached}
+use Rattle.fibs_position.specs.LegalPlays.{Leads, are_two, larger_first, play_cmp}
+use Rattle.fibs_position.specs.Search.{AreDice, Reach, reaches, all_in_order, all_of}
+use Rattle.fibs_position.proofs.SearchLemmas.LongestRuns.{longest-reached, run_long}
 use Rattle.fibs_position.proofs.RuleLemmas.DiceParts.{IsFront, front_from_part, part_from_held, part_from_swapped}
-use Rattle.fibs_position.proofs.RuleLemmas.DiceParts.{dice_held, two_held, held_long, alike}
+use Rattle.fibs_position.proofs.RuleLemmas.DiceParts.{dice_held, held_long, alike}
 use Rattle.fibs_position.proofs.SearchLemmas.FollowSteps.{dice_front}
-use Rattle.fibs_position.proofs.SearchLemmas.LegalTest.{follows_complete, legal_sound, legal_complete, two_from, two_is}
+use Rattle.fibs_position.proofs.SearchLemmas.LegalTest.{follows_complete, legal_sound, legal_complete, two_is}
 use Rattle.fibs_position.proofs.SearchLemmas.LegalTest.{larger_from, part_of_larger, playable, in_order}
 use Rattle.fibs_position.proofs.PlayListLemmas.PlayOrder.{itself}
 use Rattle.fibs_position.proofs.PlayListLemmas.Reaches.{In, in_left, in_right, in_cases, Tried, reaches_sound}
 use Rattle.fibs_position.proofs.PlayListLemmas.Reaches.{reaches_complete}
-use Rattle.fibs_position.proofs.RuleLemmas.HighestFirst.{fallen, fallen_tried}
-use Rattle.fibs_position.proofs.PlayListLemmas.KeptPlays.{Covered}
+use Rattle.fibs_position.proofs.RuleLemmas.HighestFirst.{fallen, front_dice}
 
 -- the arrangement after these steps
 abbrev after : Checkers → List Hop → Checkers
@@ -41,13 +41,6 @@ run_after p q (die ∷ dice) (step ∷ steps) (r, one, run) =
 pub run_one : (p q r : Checkers) (dice others : List ℕ) (steps : List Hop) → Run p dice steps q → Run p others steps r
     → q ≡ r
 run_one p q r dice others steps h k = run_after p q dice steps h ∙ sym (run_after p r others steps k)
-
--- it has as many steps as dice
-run_long : (p q : Checkers) (dice : List ℕ) (steps : List Hop) → Run p dice steps q → length steps ≡ length dice
-run_long p q [] [] run = refl
-run_long p q [] (step ∷ steps) run = absurd run
-run_long p q (die ∷ dice) [] run = absurd run
-run_long p q (die ∷ dice) (step ∷ steps) (r, one, run) = ap suc (run_long r q dice steps run)
 
 -- no more dice are played than there are
 longest_short : (p : Checkers) (dice : List ℕ) → AreDice dice → longest p dice ≤ length dice
@@ -162,8 +155,12 @@ front_taken dice all n (rest, e) long =
     sym (ap (λ xs. take n xs) (sym e) ∙ ap (λ k. take k (dice ++ rest)) (sym long) ∙ take-append_seam dice rest)
 
 -- a play and where it leads
-abbrev reach : List Hop → Checkers → Reach
+abbrev pub reach : List Hop → Checkers → Reach
 reach steps q = record { play = steps; leads = q }
+
+-- some element of the list leads to the same arrangement by a play that is no less
+abbrev pub Covered : List Reach → Reach → Type 0
+Covered ys x = (y : Reach) × In y ys × (y.leads ≡ x.leads) × (is_gt (play_cmp x.play y.play) ≡ false)
 
 -- a list covers what is in it
 here : (xs : List Reach) (x : Reach) → In x xs → Covered xs x
@@ -177,97 +174,56 @@ covered_left xs ys x (y, h, e, g) = (y, in_left y xs ys h, e, g)
 covered_right : (xs ys : List Reach) (x : Reach) → Covered ys x → Covered (xs ++ ys) x
 covered_right xs ys x (y, h, e, g) = (y, in_right y xs ys h, e, g)
 
--- every run by two different dice is tried
-tried_two : (p q : Checkers) (a b : ℕ) (dice : List ℕ) (steps : List Hop) → a ≢ b → IsFront dice (a ∷ b ∷ [])
-    → Run p dice steps q → Tried 25 dice steps
-tried_two p q a b [] steps apart front run = tt
-tried_two p q a b (d ∷ dice) [] apart front run = absurd run
-tried_two p q a b (d ∷ []) (step ∷ steps) apart front (r, one, run) = (one.source.1, tt)
-tried_two p q a b (d ∷ e ∷ dice) (step ∷ []) apart front (r, one, run) = absurd run
-tried_two p q a b (d ∷ e ∷ []) (step ∷ next ∷ steps) apart (rest, f) (r, one, (s, two, run)) =
-    let first : d ≡ a = cc in
-    let second : e ≡ b = cc in
-    let top : next_top d (e ∷ []) step.source ≡ 25 =
-    cond-false (e == d) _ _ (ne_eqb e d (λ same. apart (sym first ∙ sym same ∙ second))) in
-    (one.source.1, (subst (λ k. next.source ≤ k) (sym top) two.source.1, tt))
-tried_two p q a b (d ∷ e ∷ c ∷ dice) (step ∷ next ∷ steps) apart (rest, f) run = absurd cc
-
--- a longest run by two dice in one order is covered
-two_covered : (p : Standing) (a b : ℕ) (dice : List ℕ) (steps : List Hop) (q : Checkers) → a ≢ b
-    → held_of a b ≡ a ∷ b ∷ [] → length steps ≡ most_of p → IsFront dice (held_of a b) → Run p.checkers dice steps q
+-- a longest run by a front of the dice in one order is covered
+front_covered : (p : Standing) (a b : ℕ) (dice : List ℕ) (steps : List Hop) (q : Checkers) → a ≤ 6 → b ≤ 6
+    → length steps ≡ most_of p → IsFront dice (held_of a b) → Run p.checkers dice steps q
     → Covered (all_in_order p a b) (reach steps q)
-two_covered p a b dice steps q apart two long front run =
+front_covered p a b dice steps q l r long front run =
     let n = sym (run_long p.checkers q dice steps run) ∙ long in
-    let tried = tried_two p.checkers q a b dice steps apart (subst (IsFront dice) two front) run in
-    here (all_in_order p a b) (reach steps q)
-    (subst (λ ds. In (reach steps q) (reaches p.checkers ds 25 []))
-    (front_taken dice (held_of a b) (most_of p) front n) (reaches_complete p.checkers q dice 25 [] steps run tried))
-
--- a front of equal dice is of equal dice
-equal_dice : (dice rest : List ℕ) (die k : ℕ) → dice ++ rest ≡ replicate k die → dice ≡ replicate (length dice) die
-equal_dice [] rest die k e = refl
-equal_dice (d ∷ dice) rest die zero e = absurd cc
-equal_dice (d ∷ dice) rest die (suc k) e =
-    let first : d ≡ die = cc in
-    let others : dice ++ rest ≡ replicate k die = cc in
-    ap₂ (λ x xs. x ∷ xs) first (equal_dice dice rest die k others)
-
--- each run by equal dice is covered by one that falls
-equal_covered : (p : Standing) (a b die k : ℕ) (dice : List ℕ) (steps : List Hop) (q : Checkers) → 0 < die
-    → held_of a b ≡ replicate k die → length steps ≡ most_of p → IsFront dice (held_of a b)
-    → Run p.checkers dice steps q → Covered (all_in_order p a b) (reach steps q)
-equal_covered p a b die k dice steps q pos equal long front run =
-    let n : length dice ≡ most_of p = sym (run_long p.checkers q dice steps run) ∙ long in
-    let same = equal_dice dice front.0 die k (front.1 ∙ equal) in
-    let f = fallen p.checkers q die (length dice) steps pos (subst (λ ds. Run p.checkers ds steps q) same run) in
-    let found =
-    reaches_complete p.checkers q (replicate (length dice) die) 25 [] f.play f.run
-    (fallen_tried die (length dice) 25 f.play f.falls) in (
+    let ok = front_dice dice front.0 (subst AreDice (sym front.1) (dice_held a b l r)) in
+    let f = fallen p.checkers q dice steps ok run in
+    let found = reaches_complete p.checkers q dice 25 [] f.play f.run f.tried in (
       reach f.play q,
       subst (λ ds. In (reach f.play q) (reaches p.checkers ds 25 []))
-          (sym same ∙ front_taken dice (held_of a b) (most_of p) front n) found,
+          (front_taken dice (held_of a b) (most_of p) front n) found,
       refl,
       f.no_less,
     )
 
 -- so is one by two different dice
-two_is_covered : (p : Standing) (steps : List Hop) (q : Checkers) → are_two p.first p.second ≡ true
+two_is_covered : (p : Standing) (steps : List Hop) (q : Checkers) → p.first ≤ 6 → p.second ≤ 6
     → length steps ≡ most_of p → RunOf p.checkers (held p) steps q
     → Covered (all_in_order p p.first p.second ++ all_in_order p p.second p.first) (reach steps q)
-two_is_covered p steps q two long (dice, part, run) =
-    let (l, r, apart) = two_from p.first p.second two in
-    let other : p.second ≢ p.first = λ e. apart (sym e) in
+two_is_covered p steps q l r long (dice, part, run) =
     elim (front_from_part p.first p.second dice part) [
       | inl front ↦
           covered_left (all_in_order p p.first p.second) (all_in_order p p.second p.first) (reach steps q)
-          (two_covered p p.first p.second dice steps q apart (two_held p.first p.second l r apart) long front run)
+          (front_covered p p.first p.second dice steps q l r long front run)
       | inr front ↦
           covered_right (all_in_order p p.first p.second) (all_in_order p p.second p.first) (reach steps q)
-          (two_covered p p.second p.first dice steps q other (two_held p.second p.first r l other) long front run)
+          (front_covered p p.second p.first dice steps q r l long front run)
     ]
 
 -- and one by equal dice, or by one
-one_is_covered : (p : Standing) (steps : List Hop) (q : Checkers) → are_two p.first p.second ≡ false
-    → length steps ≡ most_of p → RunOf p.checkers (held p) steps q
+one_is_covered : (p : Standing) (steps : List Hop) (q : Checkers) → p.first ≤ 6 → p.second ≤ 6
+    → are_two p.first p.second ≡ false → length steps ≡ most_of p → RunOf p.checkers (held p) steps q
     → Covered (all_in_order p p.first p.second) (reach steps q)
-one_is_covered p steps q one long (dice, part, run) =
-    let (die, k, pos, e, f) =
-    alike p.first p.second (λ l r apart. both_ways _ one (two_is p.first p.second l r apart)) in
+one_is_covered p steps q l r one long (dice, part, run) =
+    let turned = alike p.first p.second (λ l r apart. both_ways _ one (two_is p.first p.second l r apart)) in
     elim (front_from_part p.first p.second dice part) [
-      | inl front ↦ equal_covered p p.first p.second die k dice steps q pos e long front run
-      | inr front ↦
-          equal_covered p p.first p.second die k dice steps q pos e long (subst (IsFront dice) (f ∙ sym e) front) run
+      | inl front ↦ front_covered p p.first p.second dice steps q l r long front run
+      | inr front ↦ front_covered p p.first p.second dice steps q l r long (subst (IsFront dice) turned front) run
     ]
 
 -- where there is no such rule, each longest run is covered
-free_complete : (p : Standing) (steps : List Hop) (q : Checkers) → length steps ≡ most_of p
-    → RunOf p.checkers (held p) steps q → Covered (free_of p) (reach steps q)
-free_complete p steps q long run =
+free_complete : (p : Standing) (steps : List Hop) (q : Checkers) → p.first ≤ 6 → p.second ≤ 6
+    → length steps ≡ most_of p → RunOf p.checkers (held p) steps q → Covered (free_of p) (reach steps q)
+free_complete p steps q l r long run =
     let forward : List Reach = all_in_order p p.first p.second in
     cond_both (are_two p.first p.second) (forward ++ all_in_order p p.second p.first) forward
     (λ xs. Covered xs (reach steps q))
-    (λ e. two_is_covered p steps q e long run)
-    (λ e. one_is_covered p steps q e long run)
+    (λ e. two_is_covered p steps q l r long run)
+    (λ e. one_is_covered p steps q l r e long run)
 
 -- a step by one die is tried
 tried_single : (p q : Checkers) (die : ℕ) (steps : List Hop) → Run p (die ∷ []) steps q → Tried 25 (die ∷ []) steps
@@ -301,4 +257,4 @@ all_complete p steps q l r h =
     cond_both forced by_larger (free_of p) (λ xs. Covered xs (reach steps q))
     (λ e. let (one, larger) = and_parts (most_of p == 1) (larger_first p) e in
     here by_larger (reach steps q) (forced_complete p steps q l r (long ∙ eqb-true (most_of p) 1 one) larger h))
-    (λ e. free_complete p steps q long h.1)
+    (λ e. free_complete p steps q l r long h.1)

@@ -1,10 +1,11 @@
 -- The order of steps and of plays is a total one.
-use Rattle.std.proofs.Common.{◌≡◌, ◌≢◌, ℕ, List, [], ◌∷◌, map, true, false, refl, sym, ap, ◌∙◌, ◌⊎◌, inl, inr}
+use Rattle.std.proofs.Common.{◌≡◌, ◌≢◌, ℕ, List, [], ◌∷◌, map, true, false, refl, sym, ap, subst, ◌∙◌, ◌⊎◌, inl, inr}
+use Rattle.std.proofs.Common.{Option, Some, None, Bool}
 use Rattle.std.proofs.lemmas.Bool.{cond_both, false≢true}
 use Rattle.std.specs.declared.cmp.Ordering.{Ordering}
 use Rattle.std.specs.declared.cmp.Ordering.TheVariants.{Less, Equal, Greater}
-use Rattle.std.specs.Ordering.{ordering_then, is_lt, is_gt, nat_cmp, ordering_reverse}
-use Rattle.std.specs.Cmp.{IsTotalOrder, IsStrictWeakOrder}
+use Rattle.std.specs.Ordering.{ordering_then, is_lt, is_gt, is_eq, nat_cmp, ordering_reverse}
+use Rattle.std.specs.Cmp.{IsTotalOrder, IsStrictWeakOrder, Equal-is}
 use Rattle.std.specs.Cmp.Lexicographic.{lists_total, slice_cmp}
 use Rattle.std.specs.FinMap.{slice_cmp-IsAntisymmetric}
 use Rattle.std.proofs.lemmas.Cmp.{then_total, on_total, nat_cmp_total, tied_itself}
@@ -13,9 +14,9 @@ use Rattle.std.proofs.lemmas.Map.Lookups.{exact_pairs, exact_unsigned}
 use Rattle.fibs_position.specs.Hop.{Hop, hop_of}
 use Rattle.fibs_position.specs.PlayValue.{hops_of}
 use Rattle.fibs_position.specs.declared.step.Step.{Step}
-use Rattle.fibs_position.specs.declared.plays.Reached.{Reached}
+use Rattle.fibs_position.specs.declared.play.Play.{Play}
 use Rattle.fibs_position.specs.LegalPlays.{hop_cmp, play_cmp}
-use Rattle.fibs_position.specs.Search.{Reach, greater}
+use Rattle.fibs_position.specs.Search.{greater}
 
 -- the order of steps is total
 pub hop_total : IsTotalOrder hop_cmp
@@ -45,10 +46,9 @@ cmp_hops (x ∷ xs) [] = refl
 cmp_hops (x ∷ xs) (y ∷ ys) = ap (ordering_then (hop_cmp (hop_of x) (hop_of y))) (cmp_hops xs ys)
 
 -- the order of a sort that puts the greatest play first
-pub descending_order : IsStrictWeakOrder (λ (a b : Reached). is_lt (play_cmp (hops_of b.play) (hops_of a.play)))
+pub descending_order : IsStrictWeakOrder (λ (a b : Play). is_lt (play_cmp (hops_of b) (hops_of a)))
 descending_order =
-    IsStrictWeakOrder-flip (λ (a b : Reached). is_lt (play_cmp (hops_of a.play) (hops_of b.play)))
-    (ranks_by play_total (λ (r : Reached). hops_of r.play))
+    IsStrictWeakOrder-flip (λ (a b : Play). is_lt (play_cmp (hops_of a) (hops_of b))) (ranks_by play_total hops_of)
 
 -- the other way round, less is greater
 reversed : (a b : Ordering) → a ≡ ordering_reverse b → is_lt a ≡ is_gt b
@@ -66,24 +66,34 @@ lt_not_gt Greater e = sym e
 pub itself : (a : List Hop) → is_gt (play_cmp a a) ≡ false
 itself a = ap is_gt (tied_itself play_total a)
 
--- of two plays, the one that is kept is no less than either
-pub greater_kept : (kept found : Reach) → is_gt (play_cmp kept.play (greater kept found).play) ≡ false
-greater_kept kept found =
-    cond_both (is_lt (play_cmp kept.play found.play)) found kept (λ r. is_gt (play_cmp kept.play r.play) ≡ false)
-    (λ e. lt_not_gt _ e) (λ e. itself kept.play)
+-- the play that is kept is not above the greater of both
+pub greater_kept : (kept : Option (List Hop)) (best found : List Hop) → kept ≡ Some best
+    → is_gt (play_cmp best (greater kept found)) ≡ false
+greater_kept kept best found e =
+    subst (λ o. is_gt (play_cmp best (greater o found)) ≡ false) (sym e)
+    (cond_both (is_lt (play_cmp best found)) found best (λ r. is_gt (play_cmp best r) ≡ false)
+    (λ e. lt_not_gt _ e) (λ e. itself best))
 
--- the play found is not above the greater of both
-pub greater_found : (kept found : Reach) → is_gt (play_cmp found.play (greater kept found).play) ≡ false
-greater_found kept found =
-    cond_both (is_lt (play_cmp kept.play found.play)) found kept (λ r. is_gt (play_cmp found.play r.play) ≡ false)
-    (λ e. itself found.play)
-    (λ e. sym (reversed _ _ (play_total.antisymm kept.play found.play)) ∙ e)
+-- nor is the play that is found
+pub greater_found : (kept : Option (List Hop)) (found : List Hop) → is_gt (play_cmp found (greater kept found)) ≡ false
+greater_found None found = itself found
+greater_found (Some kept) found =
+    cond_both (is_lt (play_cmp kept found)) found kept (λ r. is_gt (play_cmp found r) ≡ false)
+    (λ e. itself found)
+    (λ e. sym (reversed _ _ (play_total.antisymm kept found)) ∙ e)
 
 -- one of the two
-pub greater_which : (kept found : Reach) → (greater kept found ≡ kept) ⊎ (greater kept found ≡ found)
-greater_which kept found =
-    cond_both (is_lt (play_cmp kept.play found.play)) found kept (λ r. (r ≡ kept) ⊎ (r ≡ found)) (λ e. inr refl)
+pub greater_which : (kept : Option (List Hop)) (found : List Hop)
+    → (kept ≡ Some (greater kept found)) ⊎ (greater kept found ≡ found)
+greater_which None found = inr refl
+greater_which (Some kept) found =
+    cond_both (is_lt (play_cmp kept found)) found kept (λ r. (Some kept ≡ Some r) ⊎ (r ≡ found)) (λ e. inr refl)
     (λ e. inl refl)
+
+-- the greater of a play and itself is that play
+pub greater_itself : (found : List Hop) → greater (Some found) found ≡ found
+greater_itself found =
+    cond_both (is_lt (play_cmp found found)) found found (λ r. r ≡ found) (λ e. refl) (λ e. refl)
 
 -- a test that fails tells it
 pub not_greater : (o : Ordering) → is_gt o ≡ false → o ≢ Greater
@@ -105,8 +115,26 @@ tied a Greater e f g = absurd (false≢true (sym g))
 pub play_same : (a b : List Hop) → is_gt (play_cmp a b) ≡ false → is_gt (play_cmp b a) ≡ false → a ≡ b
 play_same a b f g = play_exact a b (tied _ _ (play_total.antisymm a b) f g)
 
--- what is not less is level or greater
-pub no_less : (o : Ordering) → is_lt o ≡ false → (o ≡ Equal) ⊎ (o ≡ Greater)
-no_less Less e = absurd (false≢true (sym e))
-no_less Equal e = inl refl
-no_less Greater e = inr refl
+-- what is neither less nor level is greater
+pub above : (o : Ordering) → is_lt o ≡ false → is_eq o ≡ false → o ≡ Greater
+above Less e f = absurd (false≢true (sym e))
+above Equal e f = absurd (false≢true (sym f))
+above Greater e f = refl
+
+-- two plays are level
+abbrev pub level : Play → Play → Bool
+level a b = is_eq (play_cmp (hops_of a) (hops_of b))
+
+-- the other way round, level is level
+level_back : (a b : Ordering) → a ≡ ordering_reverse b → is_eq a ≡ is_eq b
+level_back a Less e = ap is_eq e
+level_back a Equal e = ap is_eq e
+level_back a Greater e = ap is_eq e
+
+-- in either order
+pub level_flips : (a b : Play) → level a b ≡ level b a
+level_flips a b = level_back _ _ (play_total.antisymm (hops_of a) (hops_of b))
+
+-- plays that are level have the same steps
+pub level_same : (a b : Play) → level a b ≡ true → hops_of a ≡ hops_of b
+level_same a b e = play_exact (hops_of a) (hops_of b) ((Equal-is (play_cmp (hops_of a) (hops_of b))).0 e)

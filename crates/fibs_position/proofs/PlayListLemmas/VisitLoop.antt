@@ -6,7 +6,7 @@ use Rattle.std.proofs.lemmas.List.Sums.{fold-append}
 use Rattle.fibs_position.specs.Hop.{Hop}
 use Rattle.fibs_position.specs.Checkers.{Checkers}
 use Rattle.fibs_position.specs.OneChecker.{one_of}
-use Rattle.fibs_position.specs.Search.{Reach, onward, reach_by, next_top, reaches, reaches_by, noted}
+use Rattle.fibs_position.specs.Search.{Kept, onward, reach_by, next_top, reaches, reaches_by, noted}
 use Rattle.fibs_position.proofs.SearchLemmas.LongestLoop.{rest_whole}
 
 -- without a die the play is reached
@@ -44,7 +44,7 @@ reaches_next p die dice play n o e =
     (rw (add-one n) at e))
 
 -- a step from it is gone on with
-visit_some : (kept : List Reach) (p q : Checkers) (die : ℕ) (dice : List ℕ) (play : List Hop) (n : ℕ)
+visit_some : (kept : Kept) (p q : Checkers) (die : ℕ) (dice : List ℕ) (play : List Hop) (n : ℕ)
     → one_of p (n + 1) die ≡ Some q
     → fold noted kept (reaches_by p die dice play (n + 1)) ≡ fold noted (fold noted kept (reaches_by p die dice play n))
     (reaches q dice (next_top die dice (n + 1)) (play ++ hop_by (n + 1) die ∷ []))
@@ -54,7 +54,7 @@ visit_some kept p q die dice play n e =
     (reaches q dice (next_top die dice (n + 1)) (play ++ hop_by (n + 1) die ∷ []))
 
 -- where there is none, nothing comes after
-pub visit_skip : (kept : List Reach) (p : Checkers) (die : ℕ) (dice : List ℕ) (play : List Hop) (n : ℕ)
+pub visit_skip : (kept : Kept) (p : Checkers) (die : ℕ) (dice : List ℕ) (play : List Hop) (n : ℕ)
     → one_of p (n + 1) die ≡ None
     → fold noted kept (reaches_by p die dice play (n + 1)) ≡ fold noted kept (reaches_by p die dice play n)
 visit_skip kept p die dice play n e = ap (fold noted kept) (reaches_next p die dice play n None e ∙ append-nil _)
@@ -67,7 +67,7 @@ room_left play longer hop dice e some room =
     omega (arith, l, r, length-append {A = Hop}, length-drop 1 dice)
 
 -- so the loop keeps what it is to keep
-pub visited : (kept before after : List Reach) (p q : Checkers) (die : ℕ) (dice : List ℕ) (play longer : List Hop)
+pub visited : (kept before after : Kept) (p q : Checkers) (die : ℕ) (dice : List ℕ) (play longer : List Hop)
     (hop : Hop) (n top : ℕ) → one_of p (n + 1) die ≡ Some q
     → hop ≡ hop_by (n + 1) die → longer ≡ play ++ hop ∷ []
     → top ≡ next_top die (take (length dice - 1) (drop 1 dice)) (n + 1)

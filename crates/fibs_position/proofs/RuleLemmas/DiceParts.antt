@@ -2,7 +2,7 @@
 use Rattle.std.proofs.lemmas.Bool.{cases_eq}
 use Rattle.std.proofs.lemmas.Bool.Decides.{nat_tests}
 use Rattle.std.proofs.Common.{◌≢◌, ◌≡◌, ℕ, suc, zero, ◌<◌, ◌≤◌, ◌⊎◌, inl, inr, List, [], ◌∷◌, ◌++◌, length, replicate}
-use Rattle.std.proofs.Common.{refl, ◌∙◌, arith}
+use Rattle.std.proofs.Common.{refl, sym, ◌∙◌, arith}
 use Rattle.fibs_position.specs.Runs.{IsPart, held_of}
 use Rattle.fibs_position.specs.Search.{AreDice}
 
@@ -146,14 +146,13 @@ held_long a b = elim (held a b) [
   | equal pos e f ↦ rw (e, f) refl
 ]
 
--- where no two different dice are held, those that are held are equal
-pub alike : (a b : ℕ) → (0 < a → 0 < b → a ≢ b → ⊥)
-    → (die n : ℕ) × (0 < die) × (held_of a b ≡ replicate n die) × (held_of b a ≡ replicate n die)
+-- where no two different dice are held, the order of the two does not matter
+pub alike : (a b : ℕ) → (0 < a → 0 < b → a ≢ b → ⊥) → held_of b a ≡ held_of a b
 alike a b not_two = elim (held a b) [
-  | none e f ↦ (1, 0, omega arith, e, f)
-  | single d is pos e f ↦ (d, 1, pos, e, f)
+  | none e f ↦ f ∙ sym e
+  | single d is pos e f ↦ f ∙ sym e
   | different apart l r e f ↦ absurd (not_two l r apart)
-  | equal pos e f ↦ (a, 4, pos, e, f)
+  | equal pos e f ↦ f ∙ sym e
 ]
 
 -- a die that is shown is held

@@ -1,7 +1,7 @@
-use Rattle.std.proofs.Common.{rules, ◌<◌, length, map, get_or, drop, sym, ◌∙◌}
+use Rattle.std.proofs.Common.{rules, ◌<◌, length, get_or, drop, sym, ◌∙◌}
 use Rattle.fibs_position.specs.Hop.{hop_of}
 use Rattle.fibs_position.specs.PlayValue.{hops_of}
-use Rattle.fibs_position.specs.Search.{reach_of}
+use Rattle.fibs_position.specs.Search.{kept_in}
 use Rattle.fibs_position.proofs.PlayListLemmas.VisitLoop.{room_left, visited, visit_skip}
 use Rattle.fibs_position.proofs.SearchLemmas.FollowSteps.{dice_rest}
 use Rattle.fibs_position.proofs.plays.+visit.Goals as goal
@@ -21,12 +21,12 @@ visit-requires t c =
 pub loop-place-preserved : goal.loop-place-preserved
 loop-place-preserved t c =
     let die = get_or c.args.dice.now 0 0 in
-    let kept = map reach_of c.args.kept.now.items in
+    let kept = kept_in c.args.kept.now in
     let play = hops_of c.args.play in
     elim c.match-one.branch [
       | in-Some+in_ok-visit w ↦
           rw w.kept-is
-          (visited kept (map reach_of c.loop-place.kept.items) (map reach_of w.visit.new.kept.items) c.args.p.now
+          (visited kept (kept_in c.loop-place.kept) (kept_in w.visit.new.kept) c.args.p.now
           w.in-Some.next die c.args.dice.now play
           (hops_of w.with-longer.result) (hop_of w.by.result) c.loop-place.place w.next_top.result
           (sym w.in-Some.ensures) w.by.ensures w.with-longer.ensures w.next_top.ensures.value c.loop-place.invariant

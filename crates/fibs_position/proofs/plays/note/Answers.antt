@@ -1,13 +1,11 @@
-use Rattle.std.proofs.Common.{◌<◌, length, map, ap, sym, ◌∙◌, rules}
-use Rattle.fibs_position.specs.Search.{reach_of, noted}
-use Rattle.fibs_position.proofs.PlayListLemmas.NoteLoop.{noted_at}
+use Rattle.std.proofs.Common.{rules, ap, ◌∙◌}
+use Rattle.std.specs.Prelude.{unwrap_or}
+use Rattle.fibs_position.proofs.PlayListLemmas.NotedMap.{written}
 use Rattle.fibs_position.proofs.plays.note.Goals as goal
 
-pub returns-then-leads_as : goal.returns-then-leads_as
-returns-then-leads_as c =
-    let lt : c.loop-i.i < length c.loop-i.kept.items = search rules in
-    record {
-      ok = noted_at c.loop-i.kept.items c.args.found c.index.result.now c.greater.result c.loop-i.i lt
-          c.loop-i.invariant.others c.index.ensures (sym c.leads_as.ensures ∙ c.if-leads_as.true) c.greater.ensures
-          ∙ ap (λ xs. noted (map reach_of xs) (reach_of c.args.found)) c.loop-i.invariant.unchanged;
-    }
+pub returns : goal.returns
+returns c = record {
+  ok = written c.args.kept.now _ c.args.leads.now c.or_insert-best.result.now c.greater.result c.args.found
+      (c.or_insert-best.ensures.value ∙ ap (λ o. unwrap_or o c.args.found) c.in_ok-kept.ensures.value)
+      c.greater.ensures (λ q. search (rules, (c.in_ok-kept.ensures.update.0 c.greater.result).0 q));
+}

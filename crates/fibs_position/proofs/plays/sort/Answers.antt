@@ -3,11 +3,11 @@ use Rattle.std.specs.Ordering.{is_lt}
 use Rattle.std.proofs.lemmas.List.Sorted.{answers_always}
 use Rattle.fibs_position.specs.PlayValue.{hops_of}
 use Rattle.fibs_position.specs.LegalPlays.{play_cmp}
-use Rattle.fibs_position.specs.declared.plays.Reached.{Reached}
+use Rattle.fibs_position.specs.declared.play.Play.{Play}
 use Rattle.fibs_position.proofs.PlayListLemmas.PlayOrder.{descending_order}
 use Rattle.fibs_position.proofs.plays.sort.Goals as goal
 
 pub returns-clause-sorted : goal.returns-clause-sorted
 returns-clause-sorted c =
-    c.sort_unstable_by.ensures.sorted (λ (a b : Reached). is_lt (play_cmp (hops_of b.play) (hops_of a.play)))
+    c.sort_unstable_by.ensures.sorted (λ (a b : Play). is_lt (play_cmp (hops_of b) (hops_of a)))
     descending_order (answers_always _ _ _ (λ f a r g k. search rules))

@@ -1,7 +1,7 @@
 use Rattle.std.proofs.Common.{ap₂, ◌∙◌}
 use Rattle.fibs_position.specs.LegalPlays.{play_cmp}
 use Rattle.fibs_position.proofs.PlayListLemmas.PlayOrder.{cmp_hops}
-use Rattle.fibs_position.proofs.plays.Reached.order.Goals as goal
+use Rattle.fibs_position.proofs.plays.order.Goals as goal
 
 pub returns : goal.returns
 returns c =
