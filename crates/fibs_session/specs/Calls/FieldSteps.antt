@@ -3,8 +3,6 @@ use Rattle.std.specs.Prelude.{ℕ, Bool, true, false, not, ◌&&◌, ◌||◌, L
 use Rattle.fibs_messages.specs.Board.{BoardFields}
 use Rattle.fibs_messages.specs.Message.{MessageValue}
 use Rattle.fibs_messages.specs.Line.{ReadingValue, numbered_line, board_line, text_line, malformed_line}
-use Rattle.fibs_messages.specs.StoredBoard.{fields_of}
-use Rattle.fibs_messages.specs.declared.boards.board.Board.{Board}
 use Rattle.fibs_position.specs.DecisionValue.{DecisionValue}
 use Rattle.fibs_position.specs.DirectionOf.{direction_of}
 use Rattle.fibs_session.specs.Commands.{command_of}
@@ -20,11 +18,6 @@ use Rattle.fibs_session.specs.History.Words.{Ask, if_board, plays_itself}
 use Rattle.fibs_session.specs.History.Hearing.{flags_of, initial_commands}
 use Rattle.fibs_session.specs.History.Machine.{allows, says}
 use Rattle.fibs_session.specs.Calls.SessionValue.{SessionValue}
-
--- a board that is shown is good
-abbrev pub shown_good : Option Board → Bool
-shown_good None = true
-shown_good (Some b) = good (fields_of b)
 
 abbrev pub fresh : List ℕ → Bool → SessionValue
 fresh login online = record { login = login; online = online; welcomed = false; flags = None; automove_sent = false; greedy_sent = false; shown = None; waiting = None }
