@@ -8,6 +8,7 @@ ghost use Rattle.fibs_position.specs.DirectionOf.{direction_of};
 ghost use Rattle.fibs_position.specs.First.{IsFirst};
 ghost use Rattle.fibs_position.specs.GoodBoard.{IsGood, HasFault, faults};
 ghost use Rattle.fibs_position.specs.GoodBoard.{good};
+ghost use Rattle.fibs_position.specs.PositionValue.{position_of, position_value};
 ghost use Rattle.fibs_model.specs.Server.{answered, obeyed, own_refusal, user_decides};
 
 use crate::refusal::WorldRefusal;
@@ -31,7 +32,8 @@ pub enum Served {
     Answered,
 }
 
-/// A model of the server: a good board, and the number of the connection that is logged in.
+/// A model of the server: a good board with its position, and the number of the connection that is logged in. The
+/// position is made once, where the board comes.
 ///
 /// Connections are numbered from 1. The first line of a connection is its login; from then on nothing of an older
 /// connection is served. Every later line that is a decision in the numbers of the board is carried out where `effect`
@@ -39,6 +41,7 @@ pub enum Served {
 #[derive(Drop)]
 pub struct Server {
     board: Board,
+    position: Position,
     logged_in: usize,
 }
 
@@ -46,40 +49,15 @@ impl Model for Server {
     ghost use Rattle.std.specs.Prelude.{◌≡◌, true};
     ghost use Rattle.fibs_messages.specs.StoredBoard.{fields_of};
     ghost use Rattle.fibs_position.specs.GoodBoard.{good};
+    ghost use Rattle.fibs_position.specs.PositionValue.{position_of, position_value};
     ghost use Rattle.fibs_model.specs.ServerOf.{ServerValue};
 
     ghost Value = { ServerValue };
 
     ghost view = { λ s. record { board = fields_of s.board; logged_in = s.logged_in } };
 
-    ghost invariant = { λ s. good (fields_of s.board) ≡ true };
-}
-
-/// The user decides on a good board.
-fn user_decides(board: &Board) -> bool
-    requires { good (fields_of board.now) ≡ true }
-    ensures { result ≡ user_decides (fields_of board.now) }
-{
-    fibs_position::laws::good_is_exact();
-    match Position::of(board) {
-        Err(_) => false,
-        Ok(position) => matches!(
-            position.phase(),
-            Phase::AnswerDouble | Phase::RollOrDouble | Phase::Move
-        ),
-    }
-}
-
-/// The direction of a good board.
-fn direction(board: &Board) -> Direction
-    requires { good (fields_of board.now) ≡ true }
-    ensures { result ≡ direction_of (fields_of board.now) }
-{
-    fibs_position::laws::good_is_exact();
-    match Position::of(board) {
-        Err(_) => Direction::Down,
-        Ok(position) => position.direction(),
-    }
+    ghost invariant = { λ s.
+        (good (fields_of s.board) ≡ true) × (position_value s.position ≡ position_of (fields_of s.board)) };
 }
 
 /// The board is good.
@@ -104,8 +82,9 @@ impl Server {
         fibs_position::laws::good_is_exact();
         match Position::of(&board) {
             Err(fault) => Err(fault),
-            Ok(_) => Ok(Server {
+            Ok(position) => Ok(Server {
                 board,
+                position,
                 logged_in: 0,
             }),
         }
@@ -126,6 +105,23 @@ impl Server {
         self.logged_in
     }
 
+    /// The direction of the board.
+    fn direction(&self) -> Direction
+        ensures { result ≡ direction_of self.now.board }
+    {
+        self.position.direction()
+    }
+
+    /// The user decides on the board.
+    fn user_decides(&self) -> bool
+        ensures { result ≡ user_decides self.now.board }
+    {
+        matches!(
+            self.position.phase(),
+            Phase::AnswerDouble | Phase::RollOrDouble | Phase::Move
+        )
+    }
+
     /// What comes of a decision.
     fn obey(&mut self, decision: Decision, dice: [u8; 2]) -> Served
         ensures answer { served_of result self.new.board ≡
@@ -138,6 +134,7 @@ impl Server {
         match effect(&self.board, &decision, dice) {
             None => Served::Undone(decision),
             Some(board) => {
+                self.position = Position::of(&board).unwrap();
                 self.board = board;
                 Served::Took(decision)
             }
@@ -168,9 +165,25 @@ impl Server {
         if conn != self.logged_in {
             return Served::Stale;
         }
-        match read_command(text, direction(&self.board)) {
+        match read_command(text, self.direction()) {
             None => Served::Answered,
             Some(decision) => self.obey(decision, dice),
+        }
+    }
+
+    /// The position of a board which the server's may become, or why it may not.
+    fn own_position(&self, board: &Board) -> Result<Position, WorldRefusal>
+        ensures refusal { result_err result ≡ own_refusal self.now.board (fields_of board.now) }
+        ensures position { IfOk result (λ p. position_value p ≡ position_of (fields_of board.now)) }
+    {
+        match Position::of(board) {
+            Err(_) => Err(WorldRefusal::BadBoard),
+            Ok(position) => {
+                if self.user_decides() {
+                    return Err(WorldRefusal::UserDecides);
+                }
+                Ok(position)
+            }
         }
     }
 
@@ -178,13 +191,7 @@ impl Server {
     pub(crate) fn own_refusal(&self, board: &Board) -> Option<WorldRefusal>
         ensures { result ≡ own_refusal self.now.board (fields_of board.now) }
     {
-        if !is_good(board) {
-            return Some(WorldRefusal::BadBoard);
-        }
-        if user_decides(&self.board) {
-            return Some(WorldRefusal::UserDecides);
-        }
-        None
+        self.own_position(board).err()
     }
 
     /// The board becomes another one, by what the server does itself.
@@ -196,10 +203,13 @@ impl Server {
         ensures ok { OnOk result (self.new ≡ record { board = fields_of board.now; logged_in = self.old.logged_in }) }
         ensures err { OnErr result (self.new ≡ self.old) }
     {
-        if let Some(why) = self.own_refusal(board) {
-            return Err(why);
+        match self.own_position(board) {
+            Err(why) => Err(why),
+            Ok(position) => {
+                self.board = *board;
+                self.position = position;
+                Ok(())
+            }
         }
-        self.board = *board;
-        Ok(())
     }
 }

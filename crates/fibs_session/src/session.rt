@@ -6,7 +6,6 @@ ghost use Rattle.fibs_lines.specs.Lines.{value_of};
 ghost use Rattle.fibs_messages.specs.Line.{reading_of};
 ghost use Rattle.fibs_messages.specs.StoredBoard.{fields_of};
 ghost use Rattle.fibs_position.specs.DecisionValue.{decision_of};
-ghost use Rattle.fibs_session.specs.Calls.FieldSteps.{shown_good};
 ghost use Rattle.fibs_session.specs.Calls.Doing.{SessionDoes, SessionHears};
 ghost use Rattle.fibs_session.specs.Calls.Standing.{SessionStandsAfter};
 ghost use Rattle.fibs_session.specs.History.Hearing.{line_reading};
@@ -18,6 +17,7 @@ ghost use Rattle.fibs_session.specs.PlainOf.{plain_value};
 mod connection;
 mod hearing;
 mod saying;
+mod shown_board;
 mod taken;
 
 use crate::commands::{CommandText, Login, Plain};
@@ -27,6 +27,7 @@ use fibs_messages::Board;
 use fibs_position::{Decision, laws};
 use hearing::is_unheard;
 pub(crate) use hearing::read_line;
+use shown_board::ShownBoard;
 pub use taken::{Outstanding, Taken};
 
 /// What the server does by itself, as a message 2 says.
@@ -51,9 +52,8 @@ pub struct Session {
     flags: Option<ServerFlags>,
     automove_sent: bool,
     greedy_sent: bool,
-    shown: Option<Board>,
+    shown: Option<ShownBoard>,
     waiting: Option<Outstanding>,
-    pub ghost shown_is_good: { shown_good shown ≡ true },
 }
 
 impl Session {
@@ -153,7 +153,10 @@ impl Session {
         ensures { (t : Talk) → SessionStandsAfter (session_of self.now) t →
             option_map fields_of (option_copied result) ≡ shown_now t }
     {
-        self.shown.as_ref()
+        match &self.shown {
+            None => None,
+            Some(shown) => Some(&shown.board),
+        }
     }
 
     /// The decision that waits, with the board on which it was made.

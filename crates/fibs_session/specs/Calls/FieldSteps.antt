@@ -4,8 +4,6 @@ use Rattle.std.specs.Prelude.{if◌then◌else◌, is_some, nat_eq}
 use Rattle.fibs_messages.specs.Board.{BoardFields}
 use Rattle.fibs_messages.specs.Message.{MessageValue}
 use Rattle.fibs_messages.specs.Line.{ReadingValue, numbered_line, board_line, text_line, malformed_line}
-use Rattle.fibs_messages.specs.StoredBoard.{fields_of}
-use Rattle.fibs_messages.specs.declared.boards.board.Board.{Board}
 use Rattle.fibs_position.specs.DecisionValue.{DecisionValue}
 use Rattle.fibs_position.specs.DirectionOf.{direction_of}
 use Rattle.fibs_session.specs.Commands.{command_of}
@@ -21,11 +19,6 @@ use Rattle.fibs_session.specs.History.Words.{Ask, if_board, plays_itself}
 use Rattle.fibs_session.specs.History.Hearing.{flags_of, initial_commands}
 use Rattle.fibs_session.specs.History.Machine.{allows, says}
 use Rattle.fibs_session.specs.Calls.SessionValue.{SessionValue}
-
--- a board that is shown is good
-abbrev pub shown_good : Option Board → Bool
-shown_good None = true
-shown_good (Some b) = good (fields_of b)
 
 abbrev pub fresh : List ℕ → Bool → SessionValue
 fresh login online = record {

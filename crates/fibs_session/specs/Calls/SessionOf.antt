@@ -4,10 +4,12 @@ use Rattle.fibs_lines.specs.Lines.{ReadLine}
 use Rattle.fibs_lines.specs.Lines.{value_of}
 use Rattle.fibs_messages.specs.Line.{ReadingValue}
 use Rattle.fibs_messages.specs.Line.{reading_of}
+use Rattle.fibs_messages.specs.Board.{BoardFields}
 use Rattle.fibs_messages.specs.StoredBoard.{fields_of}
 use Rattle.fibs_position.specs.DecisionValue.{decision_of}
 use Rattle.fibs_session.specs.TextOf.{text_of}
 use Rattle.arrayvec.specs.ArrayString.{ArrayString as CommandText}
+use Rattle.fibs_session.specs.declared.session.shown_board.ShownBoard.{ShownBoard}
 use Rattle.fibs_session.specs.declared.session.taken.Outstanding.{Outstanding}
 use Rattle.fibs_session.specs.declared.session.taken.Taken.{Taken}
 use Rattle.fibs_session.specs.declared.session.ServerFlags.{ServerFlags}
@@ -23,6 +25,10 @@ ask_of o = (fields_of o.board, decision_of o.decision)
 abbrev pub server_flags : ServerFlags → Flags
 server_flags f = record { automove = f.automove; greedy = f.greedy }
 
+-- the board that is shown
+abbrev pub shown_fields : ShownBoard → BoardFields
+shown_fields s = fields_of s.board
+
 abbrev pub texts_of : List CommandText → List (List ℕ)
 texts_of = map text_of
 
@@ -35,7 +41,7 @@ session_of s = record {
   flags = option_map server_flags s.flags;
   automove_sent = s.automove_sent;
   greedy_sent = s.greedy_sent;
-  shown = option_map fields_of s.shown;
+  shown = option_map shown_fields s.shown;
   waiting = option_map ask_of s.waiting;
 }
 

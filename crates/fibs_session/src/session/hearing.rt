@@ -10,15 +10,14 @@ ghost use Rattle.fibs_session.specs.Calls.FieldSteps.{message_fields, heard_fiel
 ghost use Rattle.fibs_session.specs.Calls.FieldSteps.{line_fields, unheard};
 ghost use Rattle.fibs_session.specs.Calls.SessionValue.{SessionValue};
 ghost use Rattle.fibs_session.specs.History.Hearing.{initial_commands, line_reading};
-ghost use Rattle.fibs_position.specs.GoodBoard.{good};
 ghost use Rattle.fibs_session.specs.TextOf.{text_of};
 
-use super::{Outstanding, ServerFlags, Session};
+use super::{Outstanding, ServerFlags, Session, ShownBoard};
 use crate::commands::{CommandText, autoboard_text, board_text, moreboards_text, style_text};
 use arrayvec::ArrayVec;
 use fibs_lines::Line;
-use fibs_messages::{Board, Message, OwnInfo, Reading, message_number, read};
-use fibs_position::{Position, differs};
+use fibs_messages::{Message, OwnInfo, Reading, message_number, read};
+use fibs_position::differs;
 
 /// The reading of a line. One that was cut is a text.
 pub(crate) fn read_line<'a>(line: &Line<'a>) -> Reading<'a>
@@ -59,30 +58,22 @@ fn first_commands(info: &OwnInfo<'_>) -> ArrayVec<CommandText, 3>
     send
 }
 
-/// Whether a board has a position.
-fn is_good(board: &Board) -> bool
-    ensures { result ≡ good (fields_of board.now) }
-{
-    Position::of(board).is_ok()
-}
-
 impl Session {
     ghost use Rattle.fibs_session.specs.Calls.SessionOf.{session_of, ask_of, texts_of};
 
-    /// A good board was heard.
-    fn note_board(&mut self, board: Board) -> Option<Outstanding>
-        requires { good (fields_of board) ≡ true }
-        ensures fields { session_of self.new ≡ with_board (session_of self.old) (fields_of board) }
-        ensures result { option_map ask_of result ≡ confirmed_of (session_of self.old) (fields_of board) }
+    /// A board that has a position was heard.
+    fn note_board(&mut self, heard: ShownBoard) -> Option<Outstanding>
+        ensures fields { session_of self.new ≡ with_board (session_of self.old) (fields_of heard.board) }
+        ensures result { option_map ask_of result ≡ confirmed_of (session_of self.old) (fields_of heard.board) }
     {
         let mut confirmed = None;
-        if let Some(shown) = self.shown {
-            if differs(&shown, &board) {
+        if let Some(shown) = &self.shown {
+            if differs(&shown.board, &heard.board) {
                 confirmed = self.waiting;
                 self.waiting = None;
             }
         }
-        self.shown = Some(board);
+        self.shown = Some(heard);
         confirmed
     }
 
@@ -125,13 +116,10 @@ impl Session {
                 let send = self.note_message(message);
                 (send, None)
             }
-            Reading::Board(board) => {
-                if !is_good(board) {
-                    return (ArrayVec::new(), None);
-                }
-                let confirmed = self.note_board(*board);
-                (ArrayVec::new(), confirmed)
-            }
+            Reading::Board(board) => match ShownBoard::of(board) {
+                None => (ArrayVec::new(), None),
+                Some(heard) => (ArrayVec::new(), self.note_board(heard)),
+            },
             Reading::Text(_) | Reading::Malformed { .. } => (ArrayVec::new(), None),
         }
     }

@@ -4,36 +4,23 @@ ghost use Rattle.std.specs.Prelude.{◌≡◌, IsErr, true};
 ghost use Rattle.fibs_messages.specs.StoredBoard.{fields_of};
 ghost use Rattle.fibs_position.specs.DecisionValue.{decision_of};
 ghost use Rattle.fibs_position.specs.DirectionOf.{direction_of};
-ghost use Rattle.fibs_position.specs.PositionValue.{position_of};
-ghost use Rattle.fibs_position.specs.PositionValue.{position_value};
 ghost use Rattle.fibs_session.specs.Calls.FieldSteps.{answer_of, decide_fields, decide_send, may_send_of};
 ghost use Rattle.fibs_session.specs.Calls.FieldSteps.{plain_refusal_of, plain_fields, plain_send, with_plain};
 ghost use Rattle.fibs_session.specs.Commands.{command_of};
 ghost use Rattle.fibs_session.specs.History.Machine.{allows, refusal_of};
-ghost use Rattle.fibs_position.specs.GoodBoard.{good};
 ghost use Rattle.fibs_session.specs.PlainOf.{plain_value};
 ghost use Rattle.fibs_session.specs.TextOf.{text_of};
 
-use super::{Outstanding, Session};
+use super::{Outstanding, Session, ShownBoard};
 use crate::commands::{CommandText, Plain, decision_text, plain_text};
 use crate::refusal::{PlainRefusal, Refusal};
-use fibs_messages::Board;
-use fibs_position::{Decision, Disallowed, Position};
+use fibs_position::{Decision, Disallowed};
 
-/// The position of a board that has one.
-fn position_of(board: &Board) -> Position
-    requires { good (fields_of board.now) ≡ true }
-    ensures { position_value result ≡ position_of (fields_of board.now) }
+/// The command of a decision on the board that is shown.
+fn command_on(shown: &ShownBoard, decision: &Decision) -> CommandText
+    ensures { text_of result ≡ command_of (direction_of (fields_of shown.now.board)) (decision_of decision.now) }
 {
-    Position::of(board).unwrap()
-}
-
-/// The command of a decision on a board that has a position.
-fn command_on(board: &Board, decision: &Decision) -> CommandText
-    requires { good (fields_of board.now) ≡ true }
-    ensures { text_of result ≡ command_of (direction_of (fields_of board.now)) (decision_of decision.now) }
-{
-    decision_text(decision, position_of(board).direction())
+    decision_text(decision, shown.position.direction())
 }
 
 /// The refusal of a decision that the board does not allow.
@@ -47,12 +34,11 @@ fn refusal_of(why: Disallowed) -> Refusal
     }
 }
 
-/// Why a board that has a position does not allow a decision, if it does not.
-fn refusal(board: &Board, decision: &Decision) -> Option<Refusal>
-    requires { good (fields_of board.now) ≡ true }
-    ensures { result ≡ allows (fields_of board.now) (decision_of decision.now) }
+/// Why the board that is shown does not allow a decision, if it does not.
+fn refusal(shown: &ShownBoard, decision: &Decision) -> Option<Refusal>
+    ensures { result ≡ allows (fields_of shown.now.board) (decision_of decision.now) }
 {
-    match position_of(board).allows(decision) {
+    match shown.position.allows(decision) {
         Ok(()) => None,
         Err(why) => Some(refusal_of(why)),
     }
@@ -79,11 +65,11 @@ impl Session {
                 }
                 match &self.shown {
                     None => Some(Refusal::NoBoard),
-                    Some(board) => {
+                    Some(shown) => {
                         if self.waiting.is_some() {
                             return Some(Refusal::Waiting);
                         }
-                        refusal(board, decision)
+                        refusal(shown, decision)
                     }
                 }
             }
@@ -99,14 +85,15 @@ impl Session {
     {
         match self.answer(decision) {
             Some(why) => Err(why),
-            None => match self.shown {
+            None => match &self.shown {
                 None => Err(Refusal::NoBoard),
-                Some(board) => {
+                Some(shown) => {
+                    let command = command_on(shown, decision);
                     self.waiting = Some(Outstanding {
-                        board,
+                        board: shown.board,
                         decision: *decision,
                     });
-                    Ok(command_on(&board, decision))
+                    Ok(command)
                 }
             },
         }

@@ -1,7 +1,10 @@
-use Rattle.std.proofs.Common.{◌∙◌, ap, option_map}
-use Rattle.fibs_messages.specs.StoredBoard.{fields_of}
+use Rattle.std.proofs.Common.{◌∙◌, ap, sym, option_map}
+use Rattle.fibs_session.specs.Calls.SessionOf.{shown_fields}
 use Rattle.fibs_session.proofs.Calls.SessionLaws.{shown_law}
 use Rattle.fibs_session.proofs.session.Session.shown.Goals as goal
 
-pub returns : goal.returns
-returns c = λ t at. ap (option_map fields_of) c.as_ref.ensures.value ∙ shown_law _ t at
+pub returns-in-None : goal.returns-in-None
+returns-in-None c = λ t at. ap (option_map shown_fields) (sym c.in-None.is) ∙ shown_law _ t at
+
+pub returns-in-Some : goal.returns-in-Some
+returns-in-Some c = λ t at. ap (option_map shown_fields) (sym c.in-Some.is) ∙ shown_law _ t at
