@@ -1,4 +1,5 @@
 -- That the world of the program goes on standing for the machine's.
+pub mod Whole
 pub mod Links
 pub mod Events
 pub mod Losing

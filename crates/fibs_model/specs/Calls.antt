@@ -5,25 +5,24 @@ use Rattle.fibs_messages.specs.Board.{BoardFields}
 use Rattle.fibs_position.specs.DecisionValue.{DecisionValue}
 use Rattle.fibs_session.specs.declared.refusal.Refusal.{Refusal}
 use Rattle.fibs_session.specs.History.Log as L
-use Rattle.fibs_session.specs.History.Words.{is_empty}
 use Rattle.fibs_session.specs.History.Machine.{on_wire, wire_of}
-use Rattle.fibs_model.specs.LinksOf.{link_at, set_link}
+use Rattle.fibs_model.specs.LinksOf.{LinkValue, link_at, set_link}
 use Rattle.fibs_model.specs.Server as V
 use Rattle.fibs_model.specs.Server.{is_die}
 use Rattle.fibs_model.specs.WireLinks.{more_asked, more_coming, taken}
-use Rattle.fibs_model.specs.Wires.{Link, next_line}
+use Rattle.fibs_model.specs.Wires.{next_line}
 use Rattle.fibs_model.specs.ServerOf.{ServerValue, after_line}
 use Rattle.fibs_model.specs.declared.world.link.Link as C
 use Rattle.fibs_model.specs.declared.refusal.WorldRefusal.{WorldRefusal}
 use Rattle.fibs_model.specs.declared.refusal.WorldRefusal.TheVariants.{NoSuchConnection, BadDice, NothingToServe}
 
 -- commands go on the wire to the server
-abbrev pub ask_links : List Link → ℕ → List (List ℕ) → List Link
+abbrev pub ask_links : List LinkValue → ℕ → List (List ℕ) → List LinkValue
 ask_links links c [] = links
 ask_links links c (t ∷ ts) = set_link links c (more_asked (link_at links c) (wire_of (t ∷ ts)))
 
 -- a line goes to the connection logged in, where that is the open one
-abbrev pub send_links : ℕ → ℕ → List Link → List ℕ → List Link
+abbrev pub send_links : ℕ → ℕ → List LinkValue → List ℕ → List LinkValue
 send_links logged_in c links line =
     if nat_eq c logged_in && not (nat_eq logged_in 0) then set_link links c (more_coming (link_at links c) (on_wire line)) else links
 
@@ -50,7 +49,7 @@ is_answered (V.Undone d) = true
 is_answered V.Answered = true
 
 -- why a line of a connection may not be served
-abbrev pub serve_refusal : List Link → ℕ → ℕ → ℕ → ℕ → Option WorldRefusal
+abbrev pub serve_refusal : List LinkValue → ℕ → ℕ → ℕ → ℕ → Option WorldRefusal
 serve_refusal links logged_in c d1 d2 =
     if nat_eq c 0 || nat_lt (length links) c then Some NoSuchConnection
     else (if not (is_die d1 && is_die d2) then Some BadDice
@@ -58,17 +57,16 @@ serve_refusal links logged_in c d1 d2 =
 
 -- the server took the first len bytes that are on their way, with their line end, and this came of it
 pub record TakesLine (old new : ServerValue) (before after : C.Link) (c len d1 d2 : ℕ) (served : V.Served) : Type 0 where
-  pub answer : served ≡ V.answered old.board old.logged_in c (nat_eq before.served 0) (take len (drop before.served before.to_server.items)) d1 d2
+  pub answer : served ≡ V.answered old.board old.logged_in c before.fresh (take len before.to_server.items) d1 d2
   pub server : new ≡ after_line old c served
-  pub wire : after.served ≡ before.served + (len + 2)
-  pub bytes : after.to_server.items ≡ before.to_server.items
-  pub delivered : after.delivered ≡ before.delivered
-  pub others : after.to_client.items ≡ before.to_client.items
+  pub wire : after.to_server.items ≡ drop (len + 2) before.to_server.items
+  pub begun : after.fresh ≡ false
+  pub others : after.to_client ≡ before.to_client
 
 -- the server took the next line of a connection: it, and what is left
-pub record TakesNext (old new : ServerValue) (before after : List Link) (c d1 d2 : ℕ) (served : V.Served) : Type 0 where
+pub record TakesNext (old new : ServerValue) (before after : List LinkValue) (c d1 d2 : ℕ) (served : V.Served) : Type 0 where
   pub line : List ℕ × List ℕ
   pub next : next_line (link_at before c).asked ≡ Some line
-  pub answer : served ≡ V.answered old.board old.logged_in c (is_empty (link_at before c).served) line.0 d1 d2
+  pub answer : served ≡ V.answered old.board old.logged_in c (link_at before c).fresh line.0 d1 d2
   pub server : new ≡ after_line old c served
-  pub links : after ≡ set_link before c (taken (link_at before c) (on_wire line.0) line.1)
+  pub links : after ≡ set_link before c (taken (link_at before c) line.1)

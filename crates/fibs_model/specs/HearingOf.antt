@@ -5,9 +5,8 @@ use Rattle.fibs_session.specs.Calls.Writing.{Writes}
 use Rattle.fibs_session.specs.History.Log.{Entry}
 use Rattle.fibs_session.specs.History.Machine.{Talk, Piece, step}
 use Rattle.fibs_session.specs.History.Words.{open_now}
-use Rattle.fibs_model.specs.LinksOf.{link_at, set_link}
+use Rattle.fibs_model.specs.LinksOf.{LinkValue, link_at, set_link}
 use Rattle.fibs_model.specs.WireLinks.{more_asked, delivered}
-use Rattle.fibs_model.specs.Wires.{Link}
 
 -- the client stands after what has happened, and this connection is open
 pub record IsTalking (client : ClientValue) (conn : ℕ) (t : Talk) : Type 0 where
@@ -20,7 +19,7 @@ pub record HearsPiece (old new : ClientValue) (conn : ℕ) (bytes : List ℕ) (l
   pub noted : (t : Talk) → IsTalking old conn t → log ≡ t.log → later ≡ (step t (Piece bytes)).talk.log
 
 -- the same of the next n bytes on a connection
-pub record HearsNext (old new : ClientValue) (conn n : ℕ) (before after : List Link) (log later : List Entry) : Type 0 where
+pub record HearsNext (old new : ClientValue) (conn n : ℕ) (before after : List LinkValue) (log later : List Entry) : Type 0 where
   pub asked : List ℕ
   pub links : after ≡ set_link before conn (more_asked (delivered (link_at before conn) n) asked)
   pub hears : HearsPiece old new conn (take n (link_at before conn).coming) log later [] asked

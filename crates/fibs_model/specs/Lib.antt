@@ -16,8 +16,9 @@ pub mod Joint
 pub mod Owed
 pub mod Laws
 pub mod Clients
-pub mod WireLinks
+pub mod WireOf
 pub mod LinksOf
+pub mod WireLinks
 pub mod WorldOf
 pub mod Calls
 pub mod HearingOf

@@ -1,32 +1,43 @@
--- The wires of the program's connections as those of the machine.
-use Rattle.std.specs.Prelude.{◌≡◌, ◌≤◌, ◌+◌, ◌-◌, ℕ, List, ◌∷◌, map, take, drop, get_or, slice_set, vec_len}
-use Rattle.std.specs.Prelude.{vec_capacity}
+-- The wires of the program's connections as values, and those of the machine for which they stand.
+use Rattle.std.specs.Prelude.{◌≡◌, ◌≤◌, ◌-◌, ℕ, Bool, true, List, [], ◌∷◌, map, get_or, slice_set}
+use Rattle.fibs_session.specs.History.Words.{is_empty}
 use Rattle.fibs_model.specs.Wires as W
 use Rattle.fibs_model.specs.declared.world.link.Link.{Link}
 
--- the bytes that were taken, and those on their way
-abbrev pub link_of : Link → W.Link
-link_of l = record {
-  heard = take l.delivered l.to_client.items;
-  coming = drop l.delivered l.to_client.items;
-  served = take l.served l.to_server.items;
-  asked = drop l.served l.to_server.items;
-}
+-- what the program keeps of the wires of a connection: the bytes on their way, and whether the server took no line yet
+pub record LinkValue : Type 0 where
+  -- to the client
+  pub coming : List ℕ
+  -- to the server
+  pub asked : List ℕ
+  pub fresh : Bool
 
-abbrev pub seen : List Link → List W.Link
+-- that of a connection that never was
+abbrev pub no_link : LinkValue
+no_link = record { coming = []; asked = []; fresh = true }
+
+-- that of wires of the machine, which keep all bytes
+abbrev pub kept_of : W.Link → LinkValue
+kept_of l = record { coming = l.coming; asked = l.asked; fresh = is_empty l.served }
+
+-- that of the program's
+abbrev pub link_of : Link → LinkValue
+link_of l = record { coming = l.to_client.items; asked = l.to_server.items; fresh = l.fresh }
+
+abbrev pub seen : List Link → List LinkValue
 seen links = map link_of links
 
 -- the wires of a connection, from the list of those of connection 1 on; of others they are empty
-abbrev pub link_at : List W.Link → ℕ → W.Link
-link_at links c = get_or (W.empty_link ∷ links) c W.empty_link
+abbrev pub link_at : List LinkValue → ℕ → LinkValue
+link_at links c = get_or (no_link ∷ links) c no_link
 
 -- the wires of one connection become these
-abbrev pub set_link : List W.Link → ℕ → W.Link → List W.Link
+abbrev pub set_link : List LinkValue → ℕ → LinkValue → List LinkValue
 set_link links c l = slice_set links (c - 1) l
 
 -- there is room for n bytes more on a wire of a connection
 abbrev pub RoomToClient : List Link → ℕ → ℕ → Type 0
-RoomToClient links c n = (l : Link) → l ≡ get_or links (c - 1) l → vec_len l.to_client + n ≤ vec_capacity l.to_client
+RoomToClient links c n = (l : Link) → l ≡ get_or links (c - 1) l → n ≤ l.to_client.room
 
 abbrev pub RoomToServer : List Link → ℕ → ℕ → Type 0
-RoomToServer links c n = (l : Link) → l ≡ get_or links (c - 1) l → vec_len l.to_server + n ≤ vec_capacity l.to_server
+RoomToServer links c n = (l : Link) → l ≡ get_or links (c - 1) l → n ≤ l.to_server.room

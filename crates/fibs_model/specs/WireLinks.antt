@@ -1,23 +1,23 @@
--- What is done to the wires of a connection.
-use Rattle.std.specs.Prelude.{ℕ, List, [], ◌++◌, take, drop}
-use Rattle.fibs_model.specs.Wires.{Link}
+-- What is done to the wires of a connection, by what the program keeps of them.
+use Rattle.std.specs.Prelude.{ℕ, false, List, [], ◌++◌, take, drop}
+use Rattle.fibs_model.specs.LinksOf.{LinkValue}
 
 -- bytes are put on the wire to the server
-abbrev pub more_asked : Link → List ℕ → Link
-more_asked l bytes = record { heard = l.heard; coming = l.coming; served = l.served; asked = l.asked ++ bytes }
+abbrev pub more_asked : LinkValue → List ℕ → LinkValue
+more_asked l bytes = record { coming = l.coming; asked = l.asked ++ bytes; fresh = l.fresh }
 
 -- bytes are put on the wire to the client
-abbrev pub more_coming : Link → List ℕ → Link
-more_coming l bytes = record { heard = l.heard; coming = l.coming ++ bytes; served = l.served; asked = l.asked }
+abbrev pub more_coming : LinkValue → List ℕ → LinkValue
+more_coming l bytes = record { coming = l.coming ++ bytes; asked = l.asked; fresh = l.fresh }
 
 -- the connection is lost: of the bytes on their way to the server the first k stay, of those to the client none
-abbrev pub cut_off : Link → ℕ → Link
-cut_off l k = record { heard = l.heard; coming = []; served = l.served; asked = take k l.asked }
+abbrev pub cut_off : LinkValue → ℕ → LinkValue
+cut_off l k = record { coming = []; asked = take k l.asked; fresh = l.fresh }
 
 -- the next n bytes go to the client
-abbrev pub delivered : Link → ℕ → Link
-delivered l n = record { heard = l.heard ++ take n l.coming; coming = drop n l.coming; served = l.served; asked = l.asked }
+abbrev pub delivered : LinkValue → ℕ → LinkValue
+delivered l n = record { coming = drop n l.coming; asked = l.asked; fresh = l.fresh }
 
 -- the server takes a line, with its line end, and this is left
-abbrev pub taken : Link → List ℕ → List ℕ → Link
-taken l line left = record { heard = l.heard; coming = l.coming; served = l.served ++ line; asked = left }
+abbrev pub taken : LinkValue → List ℕ → LinkValue
+taken l left = record { coming = l.coming; asked = left; fresh = false }

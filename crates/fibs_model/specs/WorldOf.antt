@@ -6,10 +6,9 @@ use Rattle.fibs_session.specs.History.Words.{open_now}
 use Rattle.fibs_model.specs.Clients.{IsWorld}
 use Rattle.fibs_model.specs.EntryOf.{entry_of}
 use Rattle.fibs_model.specs.Events.{Event}
-use Rattle.fibs_model.specs.LinksOf.{seen, link_at}
+use Rattle.fibs_model.specs.LinksOf.{LinkValue, kept_of, seen, link_at}
 use Rattle.fibs_model.specs.Refusals.{refusal}
 use Rattle.fibs_model.specs.ServerOf.{ServerValue}
-use Rattle.fibs_model.specs.Wires.{Link}
 use Rattle.fibs_model.specs.World.{World, talk_of, after}
 use Rattle.fibs_model.specs.declared.world.World.TheInside.{Inside}
 
@@ -18,7 +17,7 @@ pub record WorldValue : Type 0 where
   pub server : ServerValue
   pub client : ClientValue
   -- those of the connections, from 1 on
-  pub links : List Link
+  pub links : List LinkValue
   pub log : List Entry
   -- the connection that is open, or 0
   pub current : ℕ
@@ -32,15 +31,15 @@ world_of w = record {
   current = w.current;
 }
 
--- It stands for a world of the machine, for the command that logs the user in: all that the machine holds is read from
--- it, connection by connection.
+-- It stands for a world of the machine, for the command that logs the user in. Of each connection it has the bytes that
+-- the machine has on their way, and whether the machine's server took a line: bytes that were taken are not kept.
 pub record StandsFor (v : WorldValue) (login : List ℕ) (w : World) : Type 0 where
   pub board : v.server.board ≡ w.board
   pub logged_in : v.server.logged_in ≡ w.logged_in
   pub count : length v.links ≡ w.count
   pub log : v.log ≡ w.log
   pub current : v.current ≡ open_now w.log
-  pub links : (c : ℕ) → w.links c ≡ link_at v.links c
+  pub links : (c : ℕ) → kept_of (w.links c) ≡ link_at v.links c
   pub client : StandsAfter v.client (talk_of login w)
   pub sound : IsWorld w
 

@@ -1,8 +1,9 @@
 //! Bytes on the wires, by hand.
 
 use crate::test_boards::*;
-use crate::wire::{is_board_text, line_ends, put, whole_line};
+use crate::wire::{Wire, is_board_text, line_ends, whole_line};
 use std::alloc::Global;
+use std::process::Abort;
 use std::test::Fail;
 
 #[test]
@@ -38,11 +39,54 @@ fn line_ends_are_counted(rt: HostRuntime) {
 
 #[test]
 fn texts_are_put_with_cr_lf(rt: HostRuntime) -> Result<(), Fail> {
-    let mut wire = Vec::new(rt.alloc());
-    wire.reserve(8)?;
-    put(&mut wire, b"roll");
-    put(&mut wire, b"");
-    assert_eq!(rt; wire.as_slice(), b"roll\r\n\r\n".as_slice());
+    let mut wire = Wire::with_room(rt.alloc(), 8)?;
+    wire.put(b"roll");
+    wire.put(b"");
+    assert_eq!(rt; wire.bytes(), b"roll\r\n\r\n".as_slice());
+    Ok(())
+}
+
+/// Takes bytes from a wire, which has so many.
+fn take(rt: &impl Abort, wire: &mut Wire, count: usize) {
+    assert!(rt; count <= wire.bytes().len(), "so many bytes are there");
+    wire.take(count);
+}
+
+#[test]
+fn bytes_that_were_taken_are_on_a_wire_no_longer(rt: HostRuntime) -> Result<(), Fail> {
+    let mut wire = Wire::new(rt.alloc());
+    wire.reserve(6)?;
+    wire.put(b"move");
+    assert_eq!(rt; wire.next(3), b"mov".as_slice());
+    assert_eq!(rt; wire.next(7), b"move\r\n".as_slice());
+    let left: [&[u8]; 6] = [b"ove\r\n", b"ve\r\n", b"e\r\n", b"\r\n", b"\n", b""];
+    for bytes in left {
+        take(&rt, &mut wire, 1);
+        assert_eq!(rt; wire.bytes(), bytes);
+    }
+    wire.reserve(7)?;
+    wire.put(b"board");
+    take(&rt, &mut wire, 1);
+    wire.reserve(6)?;
+    wire.put(b"roll");
+    assert_eq!(rt; wire.bytes(), b"oard\r\nroll\r\n".as_slice());
+    take(&rt, &mut wire, 7);
+    assert_eq!(rt; wire.bytes(), b"oll\r\n".as_slice());
+    Ok(())
+}
+
+#[test]
+fn a_cut_leaves_the_first_bytes_on_their_way(rt: HostRuntime) -> Result<(), Fail> {
+    let mut wire = Wire::with_room(rt.alloc(), 6)?;
+    wire.put(b"roll");
+    take(&rt, &mut wire, 1);
+    wire.cut(9);
+    assert_eq!(rt; wire.bytes(), b"oll\r\n".as_slice());
+    take(&rt, &mut wire, 1);
+    wire.cut(2);
+    assert_eq!(rt; wire.bytes(), b"ll".as_slice());
+    wire.cut(0);
+    assert_eq!(rt; wire.bytes(), b"".as_slice());
     Ok(())
 }
 

@@ -1,7 +1,7 @@
-//! Bytes on the wires.
+//! Wires, and the bytes on them.
 
-ghost use Rattle.std.specs.Prelude.{◌≡◌, ◌≤◌, ◌+◌, ◌++◌, length, take, drop, count_by, option_map, IfSome};
-ghost use Rattle.std.specs.Prelude.{vec_len, vec_capacity};
+ghost use Rattle.std.specs.Prelude.{◌≡◌, ◌≤◌, ◌+◌, ◌++◌, [], length, take, drop, count_by, option_map};
+ghost use Rattle.std.specs.Prelude.{IfSome, IfOk, OnOk, vec_len, vec_capacity};
 ghost use Rattle.fibs_lines.specs.Lines.{value_of};
 ghost use Rattle.fibs_lines.specs.Lines.{is_line_end, lines_of};
 ghost use Rattle.fibs_session.specs.History.Hearing.{line_reading};
@@ -13,6 +13,30 @@ use crate::server::is_good;
 use fibs_lines::{Line, Lines};
 use fibs_messages::{Reading, read};
 use memchr::memmem;
+use std::alloc::{AllocError, Global};
+use std::marker::Model;
+
+/// A wire one way: bytes are put at its end and taken at its front, and it keeps those on their way.
+///
+/// Bytes that were taken go when they are more than those on their way, which are then moved to the front: fewer bytes
+/// than were taken since the last time. So all moves together are of fewer bytes than were taken, and a wire holds at
+/// most twice the bytes on their way.
+#[derive(Drop)]
+pub(crate) struct Wire {
+    bytes: Vec<u8>,
+    /// How many bytes at the front of `bytes` were taken.
+    taken: usize,
+}
+
+impl Model for Wire {
+    ghost use Rattle.fibs_model.specs.WireOf.{WireValue, wire_value, HoldsFewTaken};
+
+    ghost Value = { WireValue };
+
+    ghost view = { wire_value };
+
+    ghost invariant = { HoldsFewTaken };
+}
 
 /// The length of the text before the first CR LF.
 pub(crate) fn whole_line(bytes: &[u8]) -> Option<usize>
@@ -29,15 +53,104 @@ pub(crate) fn line_ends(bytes: &[u8]) -> usize
     bytes.iter().filter(|byte| **byte == b'\n').count()
 }
 
-/// Puts a text and CR LF on a wire that has room for them.
-pub(crate) fn put(wire: &mut Vec<u8>, text: &[u8])
-    requires { vec_len wire.old + (length text.now + 2) ≤ vec_capacity wire.old }
-    ensures items { wire.new.items ≡ wire.old.items ++ on_wire text.now }
-    ensures len { vec_len wire.new ≡ vec_len wire.old + (length text.now + 2) }
-    ensures capacity { vec_capacity wire.old ≤ vec_capacity wire.new }
+/// Puts a text and CR LF behind bytes that have room for them.
+fn append(bytes: &mut Vec<u8>, text: &[u8])
+    requires { vec_len bytes.old + (length text.now + 2) ≤ vec_capacity bytes.old }
+    ensures items { bytes.new.items ≡ bytes.old.items ++ on_wire text.now }
+    ensures len { vec_len bytes.new ≡ vec_len bytes.old + (length text.now + 2) }
+    ensures capacity { vec_capacity bytes.old ≤ vec_capacity bytes.new }
 {
-    wire.extend_from_slice(text).unwrap();
-    wire.extend_from_slice(b"\r\n").unwrap();
+    bytes.extend_from_slice(text).unwrap();
+    bytes.extend_from_slice(b"\r\n").unwrap();
+}
+
+/// Removes the first bytes, and moves the others to the front.
+fn remove_front(bytes: &mut Vec<u8>, count: usize)
+    requires { count ≤ vec_len bytes.old }
+    ensures items { bytes.new.items ≡ drop count bytes.old.items }
+    ensures len { vec_len bytes.new + count ≡ vec_len bytes.old }
+    ensures capacity { vec_capacity bytes.new ≡ vec_capacity bytes.old }
+{
+    let len = bytes.len();
+    bytes.copy_within(count..len, 0);
+    bytes.truncate(len - count);
+}
+
+impl Wire {
+    /// A wire with nothing on it.
+    pub(crate) fn new(alloc: Global) -> Wire
+        ensures items { result.items ≡ [] }
+    {
+        Wire {
+            bytes: Vec::new(alloc),
+            taken: 0,
+        }
+    }
+
+    /// A wire with nothing on it, and room for so many bytes.
+    pub(crate) fn with_room(alloc: Global, room: usize) -> Result<Wire, AllocError>
+        ensures items { IfOk result (λ wire. wire.items ≡ []) }
+        ensures room { IfOk result (λ wire. room ≤ wire.room) }
+    {
+        Ok(Wire {
+            bytes: Vec::with_capacity(alloc, room)?,
+            taken: 0,
+        })
+    }
+
+    /// Makes room for more bytes.
+    pub(crate) fn reserve(&mut self, more: usize) -> Result<(), AllocError>
+        ensures items { self.new.items ≡ self.old.items }
+        ensures room { OnOk result (more ≤ self.new.room) }
+    {
+        self.bytes.reserve(more)
+    }
+
+    /// The bytes on their way.
+    pub(crate) fn bytes(&self) -> &[u8]
+        ensures { result.now ≡ self.now.items }
+    {
+        &self.bytes[self.taken..]
+    }
+
+    /// The next `n` bytes, or all if they are fewer.
+    pub(crate) fn next(&self, n: usize) -> &[u8]
+        ensures { result.now ≡ take n self.now.items }
+    {
+        let bytes = self.bytes();
+        &bytes[..n.min(bytes.len())]
+    }
+
+    /// Puts a text and CR LF on the wire, which has room for them.
+    pub(crate) fn put(&mut self, text: &[u8])
+        requires { length text.now + 2 ≤ self.old.room }
+        ensures items { self.new.items ≡ self.old.items ++ on_wire text.now }
+        ensures room { self.old.room ≤ self.new.room + (length text.now + 2) }
+    {
+        append(&mut self.bytes, text);
+    }
+
+    /// Takes the first bytes from the wire.
+    pub(crate) fn take(&mut self, count: usize)
+        requires { count ≤ length self.old.items }
+        ensures { self.new.items ≡ drop count self.old.items }
+    {
+        self.taken += count;
+        if self.bytes.len() - self.taken < self.taken {
+            remove_front(&mut self.bytes, self.taken);
+            self.taken = 0;
+        }
+    }
+
+    /// All but the first `kept` bytes are lost, and their memory is given back.
+    pub(crate) fn cut(&mut self, kept: usize)
+        ensures { self.new.items ≡ take kept self.old.items }
+    {
+        remove_front(&mut self.bytes, self.taken);
+        self.taken = 0;
+        self.bytes.truncate(kept);
+        self.bytes.shrink_to_fit();
+    }
 }
 
 /// A line that was not cut, and reads as a good board.

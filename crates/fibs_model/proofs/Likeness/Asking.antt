@@ -21,19 +21,19 @@ use Rattle.fibs_model.specs.Clients.{input_of}
 use Rattle.fibs_model.specs.Refusals.{refusal}
 use Rattle.fibs_model.specs.Calls.{ask_links, click_entries}
 use Rattle.fibs_model.specs.Events.{Event, Click, Plain}
-use Rattle.fibs_model.specs.LinksOf.{link_at, set_link}
+use Rattle.fibs_model.specs.LinksOf.{LinkValue, kept_of, link_at, set_link}
 use Rattle.fibs_model.specs.Server.{command}
-use Rattle.fibs_model.specs.Wires.{Link}
 use Rattle.fibs_model.specs.WireLinks.{more_asked}
 use Rattle.fibs_model.specs.World.{World, after, noted, linked, asks, clicks, sends_out, sends_plain, talk_of}
 use Rattle.fibs_model.specs.WorldOf.{WorldValue, StandsFor, Goes}
 use Rattle.fibs_model.proofs.joint.Click.{yes}
 use Rattle.fibs_model.proofs.joint.EachEvent.{said}
 use Rattle.fibs_model.proofs.log.Past.{open_append}
+use Rattle.fibs_model.proofs.Likeness.Whole as whole
 use Rattle.fibs_model.proofs.Likeness.Links.{links_linked, length_set_link}
 use Rattle.fibs_model.proofs.Likeness.Events.{current_known, client_after, sound_after}
 
-length_asked : (links : List Link) (c : ℕ) (ts : List (List ℕ)) → length (ask_links links c ts) ≡ length links
+length_asked : (links : List LinkValue) (c : ℕ) (ts : List (List ℕ)) → length (ask_links links c ts) ≡ length links
 length_asked links c [] = refl
 length_asked links c (t ∷ ts) = length_set_link links c _
 
@@ -44,7 +44,7 @@ record Asks (v : WorldValue) (w w' : World) (send : List (List ℕ)) (entries : 
   count : w'.count ≡ w.count
   log : w'.log ≡ w.log ++ entries
   here : open_now w'.log ≡ open_now w.log
-  links : (d : ℕ) → w'.links d ≡ link_at (ask_links v.links v.current send) d
+  links : (d : ℕ) → kept_of (w'.links d) ≡ link_at (ask_links v.links v.current send) d
 
 -- nothing is handed out
 asks_nothing : (v : WorldValue) (login : List ℕ) (w : World) (e : Entry) (send : List (List ℕ)) → StandsFor v login w → send ≡ [] → open_now (w.log ++ e ∷ []) ≡ open_now w.log
@@ -68,9 +68,9 @@ asks_one v login w es send t s one some here = record {
   log = refl;
   here = here;
   links = λ d.
-      subst (λ ts. (asks (noted w es) (open_now w.log) (t ∷ [])).links d ≡ link_at (ask_links v.links v.current ts) d) (sym one)
-      (subst (λ c. (linked w c (more_asked (w.links c) (wire_of (t ∷ [])))).links d ≡ link_at (set_link v.links v.current (more_asked (link_at v.links v.current) (wire_of (t ∷ [])))) d) s.current
-      (links_linked w v.links v.current _ _ s.links (ap (λ l. more_asked l (wire_of (t ∷ []))) (sym (s.links v.current))) (omega (arith, some, s.current)) (current_known v login w s) d));
+      subst (λ ts. kept_of ((asks (noted w es) (open_now w.log) (t ∷ [])).links d) ≡ link_at (ask_links v.links v.current ts) d) (sym one)
+      (subst (λ c. kept_of ((linked w c (whole.more_asked (w.links c) (wire_of (t ∷ [])))).links d) ≡ link_at (set_link v.links v.current (more_asked (link_at v.links v.current) (wire_of (t ∷ [])))) d) s.current
+      (links_linked w v.links v.current _ (whole.more_asked (w.links v.current) (wire_of (t ∷ []))) s.links (ap (λ l. more_asked l (wire_of (t ∷ []))) (sym (s.links v.current))) (omega (arith, some, s.current)) (current_known v login w s) d));
 }
 
 module _ (law : ServersEntriesAreSilent) (v v' : WorldValue) (send : List (List ℕ))
@@ -130,7 +130,7 @@ module _ (law : ServersEntriesAreSilent) (v v' : WorldValue) (send : List (List 
           record { board = refl; logged_in = refl; count = refl; log = sym (append-nil w.log); here = refl; links = λ d. a.links d }
 
 -- after a growth
-pub asked_after : (links grown new : List Link) (c : ℕ) (send : List (List ℕ)) → grown ≡ links → new ≡ ask_links grown c send → new ≡ ask_links links c send
+pub asked_after : (links grown new : List LinkValue) (c : ℕ) (send : List (List ℕ)) → grown ≡ links → new ≡ ask_links grown c send → new ≡ ask_links links c send
 asked_after links grown new c send g n = n ∙ ap (λ ls. ask_links ls c send) g
 
 pub noted_after : (log grown new : List C.Entry) (entries : List Entry) → grown ≡ log → map entry_of new ≡ map entry_of grown ++ entries → map entry_of new ≡ map entry_of log ++ entries

@@ -8,7 +8,7 @@ use Rattle.fibs_position.specs.Laws.{GoodIsExact}
 use Rattle.fibs_session.specs.Calls.Standing.{StandsAfter}
 use Rattle.fibs_session.specs.History.Machine as M
 use Rattle.fibs_session.specs.Logins.{IsLogin, login_text}
-use Rattle.fibs_model.specs.LinksOf.{link_at}
+use Rattle.fibs_model.specs.LinksOf.{kept_of, link_at}
 use Rattle.fibs_model.specs.Runs.{MayBe, world_after}
 use Rattle.fibs_model.specs.Wires.{empty_link}
 use Rattle.fibs_model.specs.World.{start}
@@ -31,7 +31,7 @@ new_stands v login b board who links log current client = record {
   sound = talk_is_projected.starts b;
 }
   where
-    none : (c : ℕ) → empty_link ≡ link_at [] c
+    none : (c : ℕ) → kept_of empty_link ≡ link_at [] c
     none zero = refl
     none (suc c) = refl
 

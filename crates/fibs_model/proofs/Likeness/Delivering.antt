@@ -3,8 +3,7 @@ use Rattle.std.proofs.Common.{◌≡◌, ◌≤◌, ◌<◌, ◌+◌, ◌-◌, �
 use Rattle.std.proofs.Common.{length, take, drop, get_or, nat_eq, if◌then◌else◌, refl, sym, ap, subst, ◌∙◌, arith}
 use Rattle.std.proofs.Common.{append-nil, append_assoc}
 use Rattle.std.specs.Prelude.{slice_set}
-use Rattle.std.proofs.Math.Seq.{take-add}
-use Rattle.std.proofs.lemmas.List.{length-take, take_min, drop-drop, append_cancel_left, take-append-le, drop-append-le}
+use Rattle.std.proofs.lemmas.List.{append_cancel_left}
 use Rattle.std.proofs.lemmas.Bool.Decides.{eqb_tells}
 use Rattle.fibs_lines.specs.Lines.{ReadLine}
 use Rattle.fibs_session.specs.Calls.Doing.{Does}
@@ -19,9 +18,9 @@ use Rattle.fibs_session.specs.History.Words.{is_empty, open_now, welcomed, infor
 use Rattle.fibs_model.specs.Clients.{Steps}
 use Rattle.fibs_model.specs.Events.{Deliver}
 use Rattle.fibs_model.specs.HearingOf.{HearsPiece, HearsNext, IsTalking}
-use Rattle.fibs_model.specs.LinksOf.{link_of, seen, link_at, set_link}
+use Rattle.fibs_model.specs.LinksOf.{LinkValue, kept_of, link_of, seen, link_at, set_link}
 use Rattle.fibs_model.specs.Wires.{Link}
-use Rattle.fibs_model.specs.WireLinks.{more_asked, delivered}
+use Rattle.fibs_model.specs.WireLinks as value
 use Rattle.fibs_model.specs.World.{World, after, linked, hears_all, does_heard, talk_of}
 use Rattle.fibs_model.specs.WorldOf.{WorldValue, StandsFor, Goes, May}
 use Rattle.fibs_model.specs.declared.refusal.WorldRefusal.TheVariants.{NotOpen}
@@ -32,11 +31,8 @@ use Rattle.fibs_model.proofs.joint.Joint.{linked_same}
 use Rattle.fibs_model.proofs.log.Lists.{same_number, other_number}
 use Rattle.fibs_model.proofs.log.Past.{open_append}
 use Rattle.fibs_model.proofs.Likeness.Events.{current_known, client_after, sound_after}
-use Rattle.fibs_model.proofs.Likeness.Links.{links_linked, length_set_link, link_set, link_was, wires_path}
-
--- the next n bytes of a list, by their number
-pub take_len : (n : ℕ) (xs : List ℕ) → take (length (take n xs)) xs ≡ take n xs
-take_len n xs = ap (λ m. take m xs) (length-take n xs) ∙ take_min n xs
+use Rattle.fibs_model.proofs.Likeness.Links.{links_linked, length_set_link, link_set, link_was, value_path}
+use Rattle.fibs_model.proofs.Likeness.Whole.{more_asked, delivered, whole_path}
 
 -- what hearing lines does to the rest of the world
 record Heeds (c : ℕ) (w w' : World) : Type 0 where
@@ -51,13 +47,13 @@ more_more : (d c : ℕ) (l m x : Link) (a b : List ℕ) → m ≡ (if nat_eq d c
 more_more d c l m x a b e = go (nat_eq d c) e
   where
     go : (t : Bool) → m ≡ (if t then more_asked l a else x) → (if t then more_asked (more_asked l a) b else m) ≡ (if t then more_asked l (a ++ b) else x)
-    go true e = wires_path refl refl refl (append_assoc l.asked a b)
+    go true e = whole_path refl refl refl (append_assoc l.asked a b)
     go false e = e
 
 nothing_more : (d c : ℕ) (w : World) → w.links d ≡ (if nat_eq d c then more_asked (w.links c) [] else w.links d)
 nothing_more d c w = elim (eqb_tells d c) [
   | inl e ↦ subst (λ n. w.links d ≡ (if nat_eq d n then more_asked (w.links n) [] else w.links d)) e.1
-      (ap (λ b. if b then w.links d else w.links d) {x = true} {y = true} refl ∙ wires_path refl refl refl (sym (append-nil (w.links d).asked)) ∙ ap (λ b. if b then more_asked (w.links d) [] else w.links d) (sym (same_number d)))
+      (ap (λ b. if b then w.links d else w.links d) {x = true} {y = true} refl ∙ whole_path refl refl refl (sym (append-nil (w.links d).asked)) ∙ ap (λ b. if b then more_asked (w.links d) [] else w.links d) (sym (same_number d)))
   | inr m ↦ ap (λ b. if b then more_asked (w.links c) [] else w.links d) (sym (other_number d c m.1))
 ]
 
@@ -107,11 +103,11 @@ module _ (law : ServersEntriesAreSilent) (v v' : WorldValue) (n : ℕ) (server :
       let known = current_known v login w s in
       let newest : c ≡ w.count = elim s.sound.newest [ inl e ↦ absurd (omega (arith, e, some)) | inr e ↦ e ] in
       let l : Link = w.links c in
-      let mine : link_at v.links v.current ≡ l = ap (link_at v.links) s.current ∙ sym (s.links c) in
+      let mine : link_at v.links v.current ≡ kept_of l = ap (link_at v.links) s.current ∙ sym (s.links c) in
       let w1 : World = linked w c (delivered l n) in
       let ls : List ReadLine = gained l.heard (take n l.coming) in
       let k = heeds_all c ls w1 in
-      let piece : take n (link_at v.links v.current).coming ≡ take n (w.links w.count).coming = ap (λ (x : Link). take n x.coming) mine ∙ ap (λ d. take n (w.links d).coming) newest in
+      let piece : take n (link_at v.links v.current).coming ≡ take n (w.links w.count).coming = ap (λ (x : LinkValue). take n x.coming) mine ∙ ap (λ d. take n (w.links d).coming) newest in
       let does : Does v.client v'.client (Piece (take n (w.links w.count).coming)) next.hears.writes.send = subst (λ p. Does v.client v'.client (Piece p) next.hears.writes.send) piece next.hears.writes.does in
       let f : Steps login w (after login w (Deliver n)) (Deliver n) (M.Piece (take n (w.links w.count).coming)) = (talk_is_projected.goes_on login w (Deliver n) s.sound r).1 in
       let logged : v'.log ≡ (after login w (Deliver n)).log =
@@ -139,15 +135,18 @@ module _ (law : ServersEntriesAreSilent) (v v' : WorldValue) (n : ℕ) (server :
     where
       all_links : (d : ℕ) (asked : List ℕ) → (after login w (Deliver n)).links d ≡ (if nat_eq d (open_now w.log) then more_asked ((linked w (open_now w.log) (delivered (w.links (open_now w.log)) n)).links (open_now w.log)) asked else (linked w (open_now w.log) (delivered (w.links (open_now w.log)) n)).links d)
           → (linked w (open_now w.log) (delivered (w.links (open_now w.log)) n)).links (open_now w.log) ≡ delivered (w.links (open_now w.log)) n
-          → link_at v.links v.current ≡ w.links (open_now w.log) → next.asked ≡ asked → 0 < open_now w.log → v.current ≤ length v.links
-          → (after login w (Deliver n)).links d ≡ link_at v'.links d
+          → link_at v.links v.current ≡ kept_of (w.links (open_now w.log)) → next.asked ≡ asked → 0 < open_now w.log → v.current ≤ length v.links
+          → kept_of ((after login w (Deliver n)).links d) ≡ link_at v'.links d
       all_links d asked e here mine same some known =
           let c : ℕ = open_now w.log in
           let l1 : Link = more_asked (delivered (w.links c) n) asked in
-          e ∙ ap (λ x. if nat_eq d c then more_asked x asked else (if nat_eq d c then delivered (w.links c) n else w.links d)) here
-          ∙ twice (nat_eq d c) l1 (delivered (w.links c) n) (w.links d)
-          ∙ subst (λ m. (linked w m l1).links d ≡ link_at (set_link v.links v.current (more_asked (delivered (link_at v.links v.current) n) next.asked)) d) s.current
-          (links_linked w v.links v.current _ l1 s.links (ap (λ x. more_asked (delivered x n) next.asked) mine ∙ ap (more_asked (delivered (w.links c) n)) same) (omega (arith, some, s.current)) known d)
+          ap kept_of
+          (e ∙ ap (λ x. if nat_eq d c then more_asked x asked else (if nat_eq d c then delivered (w.links c) n else w.links d)) here
+          ∙ twice (nat_eq d c) l1 (delivered (w.links c) n) (w.links d))
+          ∙ subst (λ m. kept_of ((linked w m l1).links d) ≡ link_at (set_link v.links v.current (value.more_asked (value.delivered (link_at v.links v.current) n) next.asked)) d) s.current
+          (links_linked w v.links v.current _ l1 s.links
+          (ap (λ x. value.more_asked (value.delivered x n) next.asked) mine ∙ ap (value.more_asked (value.delivered (kept_of (w.links c)) n)) same)
+          (omega (arith, some, s.current)) known d)
           ∙ ap (λ ls. link_at ls d) (sym next.links)
         where
           twice : (b : Bool) (x y z : Link) → (if b then x else (if b then y else z)) ≡ (if b then x else z)
@@ -156,26 +155,18 @@ module _ (law : ServersEntriesAreSilent) (v v' : WorldValue) (n : ℕ) (server :
 
 -- The program's call on the wires l of a connection, which become k.
 module _ (links : List C.Link) (c : ℕ) (l k : C.Link) (some : 0 < c) (known : c ≤ length links) (is : l ≡ get_or links (c - 1) l) where
-  pub heard_next : (old new : ClientValue) (n : ℕ) (log later : List Entry) → HearsPiece old new c (take n (drop l.delivered l.to_client.items)) log later l.to_server.items k.to_server.items
-      → k.delivered ≡ l.delivered + length (take n (drop l.delivered l.to_client.items)) → k.to_client.items ≡ l.to_client.items → k.served ≡ l.served
-      → l.served ≤ length l.to_server.items
+  pub heard_next : (old new : ClientValue) (n : ℕ) (log later : List Entry) → HearsPiece old new c (take n l.to_client.items) log later l.to_server.items k.to_server.items
+      → k.to_client.items ≡ drop (length (take n l.to_client.items)) l.to_client.items → k.fresh ≡ l.fresh
       → HearsNext old new c n (seen links) (seen (slice_set links (c - 1) k)) log later
-  heard_next old new n log later h d i s within =
+  heard_next old new n log later h left f =
       let was : link_at (seen links) c ≡ link_of l = link_was links c l some known is in
-      let ahead : List ℕ = drop l.delivered l.to_client.items in
-      let len : ℕ = length (take n ahead) in
       record {
         asked = wire_of h.writes.send;
         links = link_set links c k _
-            (wires_path
-            (ap (λ m. take m k.to_client.items) d ∙ ap (take (l.delivered + len)) i ∙ take-add l.delivered len l.to_client.items ∙ ap (λ x. take l.delivered l.to_client.items ++ x) (take_len n ahead))
-            (ap (λ m. drop m k.to_client.items) d ∙ ap (drop (l.delivered + len)) i ∙ sym (drop-drop len l.delivered l.to_client.items) ∙ drop_len n ahead)
-            (ap (λ m. take m k.to_server.items) s ∙ ap (take l.served) h.writes.written ∙ take-append-le l.served l.to_server.items (wire_of h.writes.send) within)
-            (ap (λ m. drop m k.to_server.items) s ∙ ap (drop l.served) h.writes.written ∙ drop-append-le l.served l.to_server.items (wire_of h.writes.send) within)
-            ∙ ap (λ x. more_asked (delivered x n) (wire_of h.writes.send)) (sym was));
+            (value_path (left ∙ drop_len n l.to_client.items) h.writes.written f ∙ ap (λ x. value.more_asked (value.delivered x n) (wire_of h.writes.send)) (sym was));
         hears = record {
-          writes = record { send = h.writes.send; does = subst (λ p. Does old new (Piece p) h.writes.send) (sym (ap (λ (x : Link). take n x.coming) was)) h.writes.does; written = refl };
-          noted = λ t talks same. h.noted t talks same ∙ ap (λ p. (step t (Piece p)).talk.log) (sym (ap (λ (x : Link). take n x.coming) was));
+          writes = record { send = h.writes.send; does = subst (λ p. Does old new (Piece p) h.writes.send) (sym (ap (λ (x : LinkValue). take n x.coming) was)) h.writes.does; written = refl };
+          noted = λ t talks same. h.noted t talks same ∙ ap (λ p. (step t (Piece p)).talk.log) (sym (ap (λ (x : LinkValue). take n x.coming) was));
         };
       }
     where
@@ -185,7 +176,7 @@ module _ (links : List C.Link) (c : ℕ) (l k : C.Link) (some : 0 < c) (known : 
       drop_len (suc n) (x ∷ xs) = drop_len n xs
 
 -- after growths
-pub heard_after : (old new : ClientValue) (c n : ℕ) (links grown after : List Link) (log longer later : List Entry) → grown ≡ links → longer ≡ log → HearsNext old new c n grown after longer later
+pub heard_after : (old new : ClientValue) (c n : ℕ) (links grown after : List LinkValue) (log longer later : List Entry) → grown ≡ links → longer ≡ log → HearsNext old new c n grown after longer later
     → HearsNext old new c n links after log later
 heard_after old new c n links grown after log longer later g m h =
     subst (λ ls. HearsNext old new c n ls after log later) g (subst (λ l. HearsNext old new c n grown after l later) m h)

@@ -1,6 +1,5 @@
 -- A connection is opened.
-use Rattle.std.proofs.Common.{◌≡◌, ◌+◌, ℕ, Bool, true, false, not, List, [], ◌∷◌, ◌++◌, Some, None, length, take, drop}
-use Rattle.std.proofs.Common.{nat_eq, if◌then◌else◌, refl, sym, ap, subst, ◌∙◌, append-nil}
+use Rattle.std.proofs.Common.{◌≡◌, ◌+◌, ℕ, Bool, true, false, not, List, [], ◌∷◌, ◌++◌, Some, None, length, nat_eq, if◌then◌else◌, refl, sym, ap, subst, ◌∙◌, append-nil}
 use Rattle.std.proofs.lemmas.List.{length-append, map_push}
 use Rattle.fibs_model.specs.declared.world.link.Link as C
 use Rattle.fibs_session.specs.History.Log as L
@@ -10,19 +9,20 @@ use Rattle.fibs_session.specs.History.Machine as M
 use Rattle.fibs_session.specs.History.MachineLaws.{ServersEntriesAreSilent}
 use Rattle.fibs_session.specs.Calls.Doing.{Does}
 use Rattle.fibs_model.specs.Events.{Open}
-use Rattle.fibs_model.specs.LinksOf.{link_of, seen, link_at}
-use Rattle.fibs_model.specs.Wires.{Link, empty_link}
+use Rattle.fibs_model.specs.LinksOf.{LinkValue, no_link, kept_of, link_of, seen, link_at}
 use Rattle.fibs_model.specs.WireLinks.{more_asked}
 use Rattle.fibs_model.specs.World.{World, talk_of}
 use Rattle.fibs_model.specs.WorldOf.{WorldValue, StandsFor, Goes, May}
 use Rattle.fibs_model.specs.declared.refusal.WorldRefusal.TheVariants.{AlreadyOpen}
 use Rattle.fibs_model.proofs.log.Past.{open_append}
-use Rattle.fibs_model.proofs.Likeness.Links.{link_at_push, link_at_none, wires_path}
+use Rattle.fibs_model.proofs.Likeness.Whole as whole
+use Rattle.fibs_model.proofs.Likeness.Whole.{kept_if}
+use Rattle.fibs_model.proofs.Likeness.Links.{link_at_push, link_at_none, value_path}
 use Rattle.fibs_model.proofs.Likeness.Events.{client_after, sound_after}
 
 -- the new wires
-abbrev pub new_link : List ℕ → Link
-new_link text = record { heard = []; coming = []; served = []; asked = on_wire text }
+abbrev pub new_link : List ℕ → LinkValue
+new_link text = record { coming = []; asked = on_wire text; fresh = true }
 
 closed : (z : Bool) → (if z then None else Some AlreadyOpen) ≡ None → z ≡ true
 closed true h = refl
@@ -47,8 +47,8 @@ module _ (law : ServersEntriesAreSilent) (v v' : WorldValue) (text : List ℕ)
       let r = may login w s in
       let is : text ≡ login = is_login login w s (closed (nat_eq (open_now w.log) 0) r) in
       let number : length v.links + 1 ≡ w.count + 1 = ap (λ n. n + 1) s.count in
-      let none : w.links (w.count + 1) ≡ empty_link = s.links (w.count + 1) ∙ subst (λ n. link_at v.links n ≡ empty_link) number (link_at_none v.links) in
-      let wires : more_asked (w.links (w.count + 1)) (on_wire login ++ []) ≡ new_link text =
+      let none : kept_of (w.links (w.count + 1)) ≡ no_link = s.links (w.count + 1) ∙ subst (λ n. link_at v.links n ≡ no_link) number (link_at_none v.links) in
+      let wires : more_asked (kept_of (w.links (w.count + 1))) (on_wire login ++ []) ≡ new_link text =
       ap (λ l. more_asked l (on_wire login ++ [])) none ∙ ap new_asked (append-nil (on_wire login) ∙ ap on_wire (sym is)) in
       record {
         board = ap (λ x. x.board) server ∙ s.board;
@@ -57,7 +57,8 @@ module _ (law : ServersEntriesAreSilent) (v v' : WorldValue) (text : List ℕ)
         log = log ∙ ap (λ l. l ++ L.Opened (length v.links + 1) ∷ []) s.log ∙ ap (λ n. w.log ++ L.Opened n ∷ []) number;
         current = current ∙ number ∙ sym (open_append 0 w.log (L.Opened (w.count + 1) ∷ []));
         links = λ d.
-            ap (λ l. if nat_eq d (w.count + 1) then l else w.links d) wires
+            kept_if (nat_eq d (w.count + 1)) (whole.more_asked (w.links (w.count + 1)) (on_wire login ++ [])) (w.links d)
+            ∙ ap (λ l. if nat_eq d (w.count + 1) then l else kept_of (w.links d)) wires
             ∙ ap (λ l. if nat_eq d (w.count + 1) then new_link text else l) (s.links d)
             ∙ ap (λ n. if nat_eq d n then new_link text else link_at v.links d) (sym number)
             ∙ sym (link_at_push v.links d (new_link text))
@@ -66,17 +67,11 @@ module _ (law : ServersEntriesAreSilent) (v v' : WorldValue) (text : List ℕ)
         sound = sound_after login w Open s.sound r;
       }
     where
-      new_asked : List ℕ → Link
-      new_asked bytes = record { heard = []; coming = []; served = []; asked = bytes }
+      new_asked : List ℕ → LinkValue
+      new_asked bytes = record { coming = []; asked = bytes; fresh = true }
 
 -- the list of the wires
 pub opened_wires : (links grown new : List C.Link) (l : C.Link) (text : List ℕ) → grown ≡ links → new ≡ grown ++ l ∷ []
-    → l.to_client.items ≡ [] → l.delivered ≡ 0 → l.served ≡ 0 → l.to_server.items ≡ on_wire text → seen new ≡ seen links ++ new_link text ∷ []
-opened_wires links grown new l text g n c d s a =
-    ap seen (n ∙ ap (λ ls. ls ++ l ∷ []) g) ∙ map_push link_of links l
-    ∙ ap (λ x. seen links ++ x ∷ [])
-    (wires_path
-    (ap (λ m. take m l.to_client.items) d)
-    (ap (λ m. drop m l.to_client.items) d ∙ c)
-    (ap (λ m. take m l.to_server.items) s)
-    (ap (λ m. drop m l.to_server.items) s ∙ a))
+    → l.to_client.items ≡ [] → l.to_server.items ≡ on_wire text → l.fresh ≡ true → seen new ≡ seen links ++ new_link text ∷ []
+opened_wires links grown new l text g n c a f =
+    ap seen (n ∙ ap (λ ls. ls ++ l ∷ []) g) ∙ map_push link_of links l ∙ ap (λ x. seen links ++ x ∷ []) (value_path c a f)

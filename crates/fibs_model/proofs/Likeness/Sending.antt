@@ -14,14 +14,14 @@ use Rattle.fibs_session.specs.Calls.Standing.{StandsAfter}
 use Rattle.fibs_model.specs.Calls.{send_links}
 use Rattle.fibs_model.specs.Clients.{input_of}
 use Rattle.fibs_model.specs.Events.{Event, Own, Repeat, Text}
-use Rattle.fibs_model.specs.LinksOf.{link_at, set_link}
+use Rattle.fibs_model.specs.LinksOf.{LinkValue, kept_of, link_at, set_link}
 use Rattle.fibs_model.specs.Refusals.{refusal}
-use Rattle.fibs_model.specs.Wires.{Link}
 use Rattle.fibs_model.specs.WireLinks.{more_coming}
 use Rattle.fibs_model.specs.World.{World, after, linked, is_talking, sends, talk_of}
 use Rattle.fibs_model.specs.WorldOf.{WorldValue, StandsFor, Goes, May}
 use Rattle.fibs_model.proofs.joint.Sending.{if_fact, some_of}
 use Rattle.fibs_model.proofs.log.Lists.{and_left, and_right}
+use Rattle.fibs_model.proofs.Likeness.Whole as whole
 use Rattle.fibs_model.proofs.Likeness.Links.{links_linked, length_set_link}
 use Rattle.fibs_model.proofs.Likeness.Events.{current_known, client_waits, sound_after}
 
@@ -37,26 +37,27 @@ sends_rest w t = if_fact (Rest w) (is_talking w) _ _
     (λ z. record { board = refl; logged_in = refl; count = refl; log = refl })
     (λ z. record { board = refl; logged_in = refl; count = refl; log = refl })
 
-pub length_sent : (l c : ℕ) (links : List Link) (line : List ℕ) → length (send_links l c links line) ≡ length links
+pub length_sent : (l c : ℕ) (links : List LinkValue) (line : List ℕ) → length (send_links l c links line) ≡ length links
 length_sent l c links line = if_fact (λ ls. length ls ≡ length links) (nat_eq c l && not (nat_eq l 0)) _ _ (λ z. length_set_link links c _) (λ z. refl)
 
 -- the wires after it, where l is logged in, and c open
-pub sent_links : (w : World) (links : List Link) (l c : ℕ) (line : List ℕ) → ((d : ℕ) → w.links d ≡ link_at links d) → l ≡ w.logged_in → c ≡ open_now w.log → c ≤ length links
-    → (d : ℕ) → (sends w line).links d ≡ link_at (send_links l c links line) d
+pub sent_links : (w : World) (links : List LinkValue) (l c : ℕ) (line : List ℕ) → ((d : ℕ) → kept_of (w.links d) ≡ link_at links d) → l ≡ w.logged_in → c ≡ open_now w.log → c ≤ length links
+    → (d : ℕ) → kept_of ((sends w line).links d) ≡ link_at (send_links l c links line) d
 sent_links w links l c line same is here known d =
-    subst (λ n. (sends w line).links d ≡ link_at (send_links n c links line) d) (sym is)
-    (subst (λ n. (sends w line).links d ≡ link_at (send_links w.logged_in n links line) d) (sym here)
+    subst (λ n. kept_of ((sends w line).links d) ≡ link_at (send_links n c links line) d) (sym is)
+    (subst (λ n. kept_of ((sends w line).links d) ≡ link_at (send_links w.logged_in n links line) d) (sym here)
     (go (is_talking w) refl))
   where
     go : (b : Bool) → is_talking w ≡ b
-        → (if b then linked w w.logged_in (more_coming (w.links w.logged_in) (on_wire line)) else w).links d
+        → kept_of ((if b then linked w w.logged_in (whole.more_coming (w.links w.logged_in) (on_wire line)) else w).links d)
         ≡ link_at (if b then set_link links (open_now w.log) (more_coming (link_at links (open_now w.log)) (on_wire line)) else links) d
     go false e = same d
     go true e =
         let k : open_now w.log ≡ w.logged_in = eqb-true _ _ (and_left _ _ e) in
+        let within : w.logged_in ≤ length links = omega (arith, known, k, here) in
         let some : 0 < w.logged_in = some_of w.logged_in (and_right _ _ e) in
-        subst (λ n. (linked w w.logged_in (more_coming (w.links w.logged_in) (on_wire line))).links d ≡ link_at (set_link links n (more_coming (link_at links n) (on_wire line))) d) (sym k)
-        (links_linked w links w.logged_in _ _ same (ap (λ x. more_coming x (on_wire line)) (sym (same w.logged_in))) some (omega (arith, known, k, here)) d)
+        subst (λ n. kept_of ((linked w w.logged_in (whole.more_coming (w.links w.logged_in) (on_wire line))).links d) ≡ link_at (set_link links n (more_coming (link_at links n) (on_wire line))) d) (sym k)
+        (links_linked w links w.logged_in _ (whole.more_coming (w.links w.logged_in) (on_wire line)) same (ap (λ x. more_coming x (on_wire line)) (sym (same w.logged_in))) some within d)
 
 -- The server's board is b, and a line is sent: w' is the machine's world before the line.
 module _ (law : ServersEntriesAreSilent) (v v' : WorldValue) (line : List ℕ)
@@ -71,8 +72,8 @@ module _ (law : ServersEntriesAreSilent) (v v' : WorldValue) (line : List ℕ)
     count = ap length links ∙ length_sent v.server.logged_in v.current v.links line ∙ s.count ∙ sym many ∙ sym r.count;
     log = log ∙ s.log ∙ sym same ∙ sym r.log;
     current = current ∙ s.current ∙ ap open_now (sym same ∙ sym r.log);
-    links = λ d. wires d
-        ∙ sent_links w' v.links v.server.logged_in v.current line (λ x. old x ∙ s.links x) (s.logged_in ∙ sym who) (s.current ∙ ap open_now (sym same)) (current_known v login w s) d
+    links = λ d. ap kept_of (wires d)
+        ∙ sent_links w' v.links v.server.logged_in v.current line (λ x. ap kept_of (old x) ∙ s.links x) (s.logged_in ∙ sym who) (s.current ∙ ap open_now (sym same)) (current_known v login w s) d
         ∙ ap (λ ls. link_at ls d) (sym links);
     client = client_waits law login w e v'.client s.sound may waits (subst (λ x. StandsAfter x (talk_of login w)) (sym client) s.client);
     sound = sound_after login w e s.sound may;
@@ -106,5 +107,5 @@ of_ok (Ok x) is p = p
 of_ok (Err e) is p = absurd (true≢false (sym is))
 
 -- after a growth
-pub sent_after : (links grown new : List Link) (logged_in now c : ℕ) (line : List ℕ) → grown ≡ links → now ≡ logged_in → new ≡ send_links now c grown line → new ≡ send_links logged_in c links line
+pub sent_after : (links grown new : List LinkValue) (logged_in now c : ℕ) (line : List ℕ) → grown ≡ links → now ≡ logged_in → new ≡ send_links now c grown line → new ≡ send_links logged_in c links line
 sent_after links grown new logged_in now c line g i n = n ∙ ap (λ ls. send_links now c ls line) g ∙ ap (λ l. send_links l c links line) i

@@ -12,30 +12,33 @@ use Rattle.fibs_model.specs.Calls.{send_links, served_entries, is_answered, Take
 use Rattle.fibs_model.specs.EntryOf.{entry_of}
 use Rattle.fibs_model.specs.declared.entry.Entry as C
 use Rattle.fibs_model.specs.Events.{Serve}
-use Rattle.fibs_model.specs.LinksOf.{link_at}
+use Rattle.fibs_model.specs.LinksOf.{LinkValue, kept_of, link_at}
 use Rattle.fibs_model.specs.Server.{Served, Stale, LoggedIn, Took, Undone, Answered, answered}
 use Rattle.fibs_model.specs.ServerOf.{ServerValue, after_line}
-use Rattle.fibs_model.specs.Wires.{Link, next_line}
+use Rattle.fibs_model.specs.Wires as W
+use Rattle.fibs_model.specs.Wires.{next_line}
 use Rattle.fibs_model.specs.WireLinks.{taken}
 use Rattle.fibs_model.specs.World.{World, after, linked, noted, sends, serves, does_served, talk_of}
 use Rattle.fibs_model.specs.WorldOf.{WorldValue, StandsFor, Goes, May}
 use Rattle.fibs_model.proofs.joint.EachEvent.{served}
 use Rattle.fibs_model.proofs.log.Past.{open_append}
-use Rattle.fibs_model.proofs.Likeness.Links.{links_linked, length_set_link}
+use Rattle.fibs_model.proofs.Likeness.Whole as whole
+use Rattle.fibs_model.proofs.Likeness.Whole.{some_taken}
+use Rattle.fibs_model.proofs.Likeness.Links.{links_linked, length_set_link, value_path}
 use Rattle.fibs_model.proofs.Likeness.Sending.{sent_links, sends_rest, length_sent}
 use Rattle.fibs_model.proofs.Likeness.Events.{current_known, client_waits, sound_after}
 
 -- a server, wires, a log and the open connection are those of a world
-record Fits (holder : ServerValue) (wires : List Link) (entries : List Entry) (now : ℕ) (w : World) : Type 0 where
+record Fits (holder : ServerValue) (wires : List LinkValue) (entries : List Entry) (now : ℕ) (w : World) : Type 0 where
   board : holder.board ≡ w.board
   logged_in : holder.logged_in ≡ w.logged_in
   count : length wires ≡ w.count
   log : entries ≡ w.log
   current : now ≡ open_now w.log
-  links : (d : ℕ) → w.links d ≡ link_at wires d
+  links : (d : ℕ) → kept_of (w.links d) ≡ link_at wires d
 
 -- a line is sent
-fits_sends : (server : ServerValue) (links : List Link) (log : List Entry) (current : ℕ) (w : World) (line : List ℕ) → current ≤ length links → Fits server links log current w
+fits_sends : (server : ServerValue) (links : List LinkValue) (log : List Entry) (current : ℕ) (w : World) (line : List ℕ) → current ≤ length links → Fits server links log current w
     → Fits server (send_links server.logged_in current links line) log current (sends w line)
 fits_sends server links log current w line known f =
     let r = sends_rest w line in
@@ -49,7 +52,7 @@ fits_sends server links log current w line known f =
     }
 
 -- a line of c is answered, where w is the world without the line
-fits_served : (server : ServerValue) (links : List Link) (log : List Entry) (current c : ℕ) (w : World) (s : Served) → current ≤ length links → Fits server links log current w
+fits_served : (server : ServerValue) (links : List LinkValue) (log : List Entry) (current c : ℕ) (w : World) (s : Served) → current ≤ length links → Fits server links log current w
     → Fits (after_line server c s)
     (if is_answered s then send_links (after_line server c s).logged_in current links (spelling (after_line server c s).board) else links)
     (log ++ served_entries c server.board s) current (does_served c w s)
@@ -62,7 +65,8 @@ fits_served server links log current c w LoggedIn known f = record {
   current = f.current ∙ sym (open_append 0 w.log (L.LoggedIn c ∷ []));
   links = f.links;
 }
-fits_served server links log current c w (Took d b) known f = fits_sends _ links _ current _ (spelling b) known
+fits_served server links log current c w (Took d b) known f =
+    fits_sends (after_line server c (Took d b)) links (log ++ L.Took c server.board d ∷ []) current (noted (record w { board = b }) (L.Took c w.board d ∷ [])) (spelling b) known
     (record {
       board = refl;
       logged_in = f.logged_in;
@@ -87,15 +91,15 @@ fits_served server links log current c w Answered known f =
     (fits_sends server links _ current w (spelling server.board) known
     (record { board = f.board; logged_in = f.logged_in; count = f.count; log = append-nil log ∙ f.log; current = f.current; links = f.links }))
 
-module _ (law : ServersEntriesAreSilent) (v v' : WorldValue) (c d1 d2 : ℕ) (s : Served) (wires : List Link) (takes : TakesNext v.server v'.server v.links wires c d1 d2 s)
+module _ (law : ServersEntriesAreSilent) (v v' : WorldValue) (c d1 d2 : ℕ) (s : Served) (wires : List LinkValue) (takes : TakesNext v.server v'.server v.links wires c d1 d2 s)
     (links : v'.links ≡ (if is_answered s then send_links v'.server.logged_in v.current wires (spelling v'.server.board) else wires))
     (log : v'.log ≡ v.log ++ served_entries c v.server.board s) (current : v'.current ≡ v.current) (client : v'.client ≡ v.client) (may : May v (Serve c d1 d2)) where
   fits : (login : List ℕ) (w : World) → StandsFor v login w → Fits v'.server v'.links v'.log v'.current (after login w (Serve c d1 d2))
   fits login w h =
       let r = served w c d1 d2 (may login w h) in
       let p = takes.line in
-      let found : next_line (w.links c).asked ≡ Some p = ap (λ (l : Link). next_line l.asked) (h.links c) ∙ takes.next in
-      let l1 : Link = taken (w.links c) (on_wire p.0) p.1 in
+      let found : next_line (w.links c).asked ≡ Some p = ap (λ (l : LinkValue). next_line l.asked) (h.links c) ∙ takes.next in
+      let l1 : W.Link = whole.taken (w.links c) (on_wire p.0) p.1 in
       let w1 : World = linked w c l1 in
       let known = current_known v login w h in
       let before : Fits v.server wires v.log v.current w1 = record {
@@ -104,15 +108,15 @@ module _ (law : ServersEntriesAreSilent) (v v' : WorldValue) (c d1 d2 : ℕ) (s 
         count = ap length takes.links ∙ length_set_link v.links c _ ∙ h.count;
         log = h.log;
         current = h.current;
-        links = λ d. links_linked w v.links c _ l1 h.links (ap (λ x. taken x (on_wire p.0) p.1) (sym (h.links c))) r.some (omega (arith, r.known, h.count)) d ∙ ap (λ ls. link_at ls d) (sym takes.links);
+        links = λ d. links_linked w v.links c _ l1 h.links (ap (λ x. taken x p.1) (sym (h.links c)) ∙ value_path refl refl (sym (some_taken (w.links c).served p.0))) r.some (omega (arith, r.known, h.count)) d ∙ ap (λ ls. link_at ls d) (sym takes.links);
       } in
       let many : length wires ≡ length v.links = ap length takes.links ∙ length_set_link v.links c _ in
       let after_it = fits_served v.server wires v.log v.current c w1 s (omega (arith, many, known)) before in
       let is : s ≡ answered w.board w.logged_in c (is_empty (w.links c).served) p.0 d1 d2 =
       takes.answer
-      ∙ ap (λ b. answered b v.server.logged_in c (is_empty (link_at v.links c).served) p.0 d1 d2) h.board
-      ∙ ap (λ n. answered w.board n c (is_empty (link_at v.links c).served) p.0 d1 d2) h.logged_in
-      ∙ ap (λ (l : Link). answered w.board w.logged_in c (is_empty l.served) p.0 d1 d2) (sym (h.links c)) in
+      ∙ ap (λ b. answered b v.server.logged_in c (link_at v.links c).fresh p.0 d1 d2) h.board
+      ∙ ap (λ n. answered w.board n c (link_at v.links c).fresh p.0 d1 d2) h.logged_in
+      ∙ ap (λ (l : LinkValue). answered w.board w.logged_in c l.fresh p.0 d1 d2) (sym (h.links c)) in
       subst (λ o. Fits v'.server v'.links v'.log v'.current (serves c w d1 d2 o)) (sym found)
       (subst (λ x. Fits v'.server v'.links v'.log v'.current (does_served c w1 x)) is
       (subst (λ x. Fits v'.server v'.links v'.log x (does_served c w1 s)) (sym current)
@@ -140,7 +144,7 @@ pub serve_known : (v : WorldValue) (login : List ℕ) (w : World) (c d1 d2 : ℕ
 serve_known v login w c d1 d2 s may = let r = served w c d1 d2 (may login w s) in omega (arith, r.known, s.count)
 
 -- after a growth
-pub takes_after : (old new : ServerValue) (links grown after : List Link) (c d1 d2 : ℕ) (s : Served) → grown ≡ links → TakesNext old new grown after c d1 d2 s → TakesNext old new links after c d1 d2 s
+pub takes_after : (old new : ServerValue) (links grown after : List LinkValue) (c d1 d2 : ℕ) (s : Served) → grown ≡ links → TakesNext old new grown after c d1 d2 s → TakesNext old new links after c d1 d2 s
 takes_after old new links grown after c d1 d2 s g t = subst (λ ls. TakesNext old new ls after c d1 d2 s) g t
 
 pub note_after : (log grown new : List C.Entry) (board before : BoardFields) (c : ℕ) (s : Served) → grown ≡ log → board ≡ before

@@ -9,11 +9,11 @@ use Rattle.fibs_session.specs.History.Machine.{on_wire}
 use Rattle.fibs_lines.specs.Lines.{lines_of}
 use Rattle.fibs_model.specs.Calls.{serve_refusal}
 use Rattle.fibs_model.specs.Events.{Event, Open, Click, Plain, Deliver, Lose, Serve, Own, Repeat, Text}
-use Rattle.fibs_model.specs.LinksOf.{link_at}
+use Rattle.fibs_model.specs.LinksOf.{LinkValue, link_at}
 use Rattle.fibs_model.specs.Refusals.{refusal, is_board_text}
 use Rattle.fibs_model.specs.Runs.{AllAccepted, MayBe, after_all, world_after}
 use Rattle.fibs_model.specs.Server.{is_die, user_decides}
-use Rattle.fibs_model.specs.Wires.{Link, next_line}
+use Rattle.fibs_model.specs.Wires.{next_line}
 use Rattle.fibs_model.specs.World.{World, after, start}
 use Rattle.fibs_model.specs.WorldCalls.{WorldStandsAfter, machine_after, Agrees}
 use Rattle.fibs_model.specs.WorldOf.{WorldValue, StandsFor, Goes}
@@ -65,7 +65,7 @@ pub serve_agrees : (v : WorldValue) (login : List ℕ) (w : World) (c d1 d2 : �
 serve_agrees v login w c d1 d2 s =
     ap (λ n. table n v.server.logged_in (link_at v.links c)) s.count ∙ ap (λ n. table w.count n (link_at v.links c)) s.logged_in ∙ ap (table w.count w.logged_in) (sym (s.links c))
   where
-    table : ℕ → ℕ → Link → Option WorldRefusal
+    table : ℕ → ℕ → LinkValue → Option WorldRefusal
     table count logged_in l =
         if nat_eq c 0 || nat_lt count c then Some NoSuchConnection
         else (if not (is_die d1 && is_die d2) then Some BadDice

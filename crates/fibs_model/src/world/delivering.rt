@@ -1,7 +1,7 @@
 //! Bytes go to the client.
 
-ghost use Rattle.std.specs.Prelude.{◌≡◌, ◌≤◌, ◌<◌, ◌+◌, ◌++◌, count_by, length, map, take, drop, vec_len, vec_capacity};
-ghost use Rattle.std.specs.Prelude.{OnOk, OnErr};
+ghost use Rattle.std.specs.Prelude.{◌≡◌, ◌≤◌, ◌<◌, ◌+◌, ◌++◌, count_by, length, map, take, drop};
+ghost use Rattle.std.specs.Prelude.{vec_len, vec_capacity, OnOk, OnErr};
 ghost use Rattle.fibs_lines.specs.Lines.{is_line_end};
 ghost use Rattle.fibs_session.specs.History.Machine.{Talk};
 ghost use Rattle.fibs_session.specs.History.Owing.{owed};
@@ -23,47 +23,30 @@ use std::alloc::AllocError;
 /// The most bytes of commands that the lines of a connection make the client hand out.
 const OWED: usize = 62;
 
-/// The next `n` bytes to the client, or all if they are fewer.
-fn next_bytes(link: &Link, n: usize) -> &[u8]
-    ensures { result.now ≡ take n (drop link.now.delivered link.now.to_client.items) }
-{
-    let ahead = &link.to_client[link.delivered..];
-    &ahead[..n.min(ahead.len())]
-}
-
 /// How many line ends there are among the next bytes to the client of a connection.
 fn ends_ahead(links: &[Link], conn: usize, n: usize) -> usize
     requires some { 0 < conn }
     requires known { conn ≤ length links.now }
     ensures { result ≡ count_by is_line_end (take n (link_at (seen links.now) conn).coming) }
 {
-    line_ends(next_bytes(&links[conn - 1], n))
+    line_ends(links[conn - 1].to_client.next(n))
 }
 
 /// The next bytes go to the client, which has room for all that they add.
 fn hear_link(client: &mut Client, conn: usize, link: &mut Link, n: usize, log: &mut Vec<Entry>)
     requires some { 0 < conn }
-    requires entries { vec_len log.old
-        + count_by is_line_end (take n (drop link.old.delivered link.old.to_client.items)) ≤ vec_capacity log.old }
-    requires bytes { (t : Talk) × IsTalking client.old conn t
-        × (vec_len link.old.to_server + owed t ≤ vec_capacity link.old.to_server) }
-    ensures hears { HearsPiece client.old client.new conn (take n (drop link.old.delivered link.old.to_client.items))
+    requires entries { vec_len log.old + count_by is_line_end (take n link.old.to_client.items) ≤ vec_capacity log.old }
+    requires bytes { (t : Talk) × IsTalking client.old conn t × (owed t ≤ link.old.to_server.room) }
+    ensures hears { HearsPiece client.old client.new conn (take n link.old.to_client.items)
         (map entry_of log.old.items) (map entry_of log.new.items) link.old.to_server.items link.new.to_server.items }
-    ensures delivered { link.new.delivered
-        ≡ link.old.delivered + length (take n (drop link.old.delivered link.old.to_client.items)) }
-    ensures to_client { link.new.to_client.items ≡ link.old.to_client.items }
-    ensures served { link.new.served ≡ link.old.served }
+    ensures left { link.new.to_client.items
+        ≡ drop (length (take n link.old.to_client.items)) link.old.to_client.items }
+    ensures fresh { link.new.fresh ≡ link.old.fresh }
 {
-    let len = next_bytes(link, n).len();
-    let to = link.delivered + len;
-    hear_all(
-        client,
-        conn,
-        &link.to_client[link.delivered..to],
-        log,
-        &mut link.to_server,
-    );
-    link.delivered = to;
+    let piece = link.to_client.next(n);
+    let len = piece.len();
+    hear_all(client, conn, piece, log, &mut link.to_server);
+    link.to_client.take(len);
 }
 
 /// The next bytes of a connection go to the client.

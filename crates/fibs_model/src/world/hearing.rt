@@ -16,7 +16,7 @@ ghost use Rattle.fibs_model.specs.HearingOf.{HearsPiece, IsTalking};
 
 use crate::entry::Entry;
 use crate::server::is_good;
-use crate::wire::put;
+use crate::wire::Wire;
 use fibs_messages::{Message, Reading};
 use fibs_session::{Client, CommandText};
 
@@ -62,14 +62,13 @@ fn note(log: &mut Vec<Entry>, conn: usize, reading: &Reading<'_>)
 }
 
 /// Puts commands on a wire that has room for them.
-fn put_all(wire: &mut Vec<u8>, commands: &[CommandText])
-    requires room { vec_len wire.old + length (wire_of (texts_of commands.now)) ≤ vec_capacity wire.old }
+fn put_all(wire: &mut Wire, commands: &[CommandText])
+    requires room { length (wire_of (texts_of commands.now)) ≤ wire.old.room }
     ensures items { wire.new.items ≡ wire.old.items ++ wire_of (texts_of commands.now) }
-    ensures len { vec_len wire.new ≡ vec_len wire.old + length (wire_of (texts_of commands.now)) }
-    ensures capacity { vec_capacity wire.old ≤ vec_capacity wire.new }
+    ensures room { wire.old.room ≤ wire.new.room + length (wire_of (texts_of commands.now)) }
 {
     for command in commands {
-        put(wire, command.as_bytes());
+        wire.put(command.as_bytes());
     }
 }
 
@@ -79,18 +78,18 @@ fn hear_line(
     conn: usize,
     piece: &[u8],
     log: &mut Vec<Entry>,
-    wire: &mut Vec<u8>,
+    wire: &mut Wire,
 ) -> usize
     requires some { 0 < conn }
     requires entries { vec_len log.old + count_by is_line_end piece.now ≤ vec_capacity log.old }
-    requires bytes { (t : Talk) × IsTalking client.old conn t × (vec_len wire.old + owed t ≤ vec_capacity wire.old) }
+    requires bytes { (t : Talk) × IsTalking client.old conn t × (owed t ≤ wire.old.room) }
     ensures in_range { result ≤ length piece.now }
     ensures progress { 0 < length piece.now → 0 < result }
     ensures hears { HearsPiece client.old client.new conn (take result piece.now)
         (map entry_of log.old.items) (map entry_of log.new.items) wire.old.items wire.new.items }
     ensures entries { vec_len log.new + count_by is_line_end (drop result piece.now) ≤ vec_capacity log.new }
-    ensures bytes { (t : Talk) → IsTalking client.old conn t → vec_len wire.old + owed t ≤ vec_capacity wire.old →
-        vec_len wire.new + owed (step t (Piece (take result piece.now))).talk ≤ vec_capacity wire.new }
+    ensures bytes { (t : Talk) → IsTalking client.old conn t → owed t ≤ wire.old.room →
+        owed (step t (Piece (take result piece.now))).talk ≤ wire.new.room }
 {
     fibs_lines::laws::lines_are_at_most_the_line_ends();
     fibs_session::client::laws::pieces_take_from_what_is_owed();
@@ -109,11 +108,11 @@ pub(super) fn hear_all(
     conn: usize,
     piece: &[u8],
     log: &mut Vec<Entry>,
-    wire: &mut Vec<u8>,
+    wire: &mut Wire,
 )
     requires some { 0 < conn }
     requires entries { vec_len log.old + count_by is_line_end piece.now ≤ vec_capacity log.old }
-    requires bytes { (t : Talk) × IsTalking client.old conn t × (vec_len wire.old + owed t ≤ vec_capacity wire.old) }
+    requires bytes { (t : Talk) × IsTalking client.old conn t × (owed t ≤ wire.old.room) }
     ensures hears { HearsPiece client.old client.new conn piece.now
         (map entry_of log.old.items) (map entry_of log.new.items) wire.old.items wire.new.items }
 {

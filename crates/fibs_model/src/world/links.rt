@@ -1,6 +1,6 @@
 //! The wires of each connection.
 
-ghost use Rattle.std.specs.Prelude.{◌≡◌, ◌≤◌, ◌<◌, ◌+◌, ◌-◌, ◌++◌, length, vec_len, vec_capacity, OnOk, IsOk, get_or};
+ghost use Rattle.std.specs.Prelude.{◌≡◌, ◌≤◌, ◌<◌, ◌+◌, ◌-◌, ◌++◌, length, vec_len, OnOk, IsOk, get_or};
 ghost use Rattle.fibs_session.specs.Calls.SessionOf.{handed};
 ghost use Rattle.fibs_session.specs.History.Machine.{on_wire};
 ghost use Rattle.fibs_model.specs.Calls.{ask_links, send_links};
@@ -8,7 +8,6 @@ ghost use Rattle.fibs_model.specs.WireLinks.{more_asked, more_coming, cut_off};
 ghost use Rattle.fibs_model.specs.LinksOf.{link_of, seen, link_at, set_link, RoomToClient, RoomToServer};
 
 use super::link::Link;
-use crate::wire::put;
 use fibs_session::CommandText;
 use std::alloc::AllocError;
 
@@ -21,8 +20,8 @@ pub(super) const BOARD: usize = 331;
 /// Makes room for more bytes on both wires.
 fn widen(link: &mut Link, to_client: usize, to_server: usize) -> Result<(), AllocError>
     ensures same { link_of link.new ≡ link_of link.old }
-    ensures to_client { OnOk result (vec_len link.new.to_client + to_client ≤ vec_capacity link.new.to_client) }
-    ensures to_server { OnOk result (vec_len link.new.to_server + to_server ≤ vec_capacity link.new.to_server) }
+    ensures to_client { OnOk result (to_client ≤ link.new.to_client.room) }
+    ensures to_server { OnOk result (to_server ≤ link.new.to_server.room) }
 {
     link.to_client.reserve(to_client)?;
     link.to_server.reserve(to_server)?;
@@ -58,7 +57,7 @@ pub(super) fn put_to_client(links: &mut Vec<Link>, conn: usize, text: &[u8])
     ensures len { vec_len links.new ≡ vec_len links.old }
 {
     let link = &mut links[conn - 1];
-    put(&mut link.to_client, text);
+    link.to_client.put(text);
 }
 
 /// Puts a command on the wire to the server.
@@ -71,7 +70,7 @@ pub(super) fn put_to_server(links: &mut Vec<Link>, conn: usize, text: &[u8])
     ensures len { vec_len links.new ≡ vec_len links.old }
 {
     let link = &mut links[conn - 1];
-    put(&mut link.to_server, text);
+    link.to_server.put(text);
 }
 
 /// Of the bytes on their way to the server the first `kept` stay, of those on their way to the client none.
@@ -83,9 +82,8 @@ pub(super) fn cut(links: &mut Vec<Link>, conn: usize, kept: usize)
     ensures len { vec_len links.new ≡ vec_len links.old }
 {
     let link = &mut links[conn - 1];
-    let left = link.to_server.len() - link.served;
-    link.to_client.truncate(link.delivered);
-    link.to_server.truncate(link.served + kept.min(left));
+    link.to_client.cut(0);
+    link.to_server.cut(kept);
 }
 
 /// Puts the command that the client handed out, if it did, on the wire to the server.

@@ -8,7 +8,7 @@ use super::World;
 use super::link::Link;
 use super::links::COMMAND;
 use crate::entry::Entry;
-use crate::wire::put;
+use crate::wire::Wire;
 use std::alloc::AllocError;
 
 impl World {
@@ -21,14 +21,13 @@ impl World {
         fibs_session::client::laws::servers_entries_are_silent();
         self.log.reserve(1)?;
         self.links.reserve(1)?;
-        let mut to_server = Vec::with_capacity(self.alloc, COMMAND)?;
+        let mut to_server = Wire::with_room(self.alloc, COMMAND)?;
         let login = self.client.open().unwrap();
-        put(&mut to_server, login.as_bytes());
+        to_server.put(login.as_bytes());
         self.links.push_reserved(Link {
-            to_client: Vec::new(self.alloc),
-            delivered: 0,
+            to_client: Wire::new(self.alloc),
             to_server,
-            served: 0,
+            fresh: true,
         });
         self.current = self.links.len();
         self.log.push_reserved(Entry::Opened { conn: self.current });

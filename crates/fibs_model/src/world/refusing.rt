@@ -39,7 +39,7 @@ fn serve_refusal(
         return Some(WorldRefusal::BadDice);
     }
     let link = &links[conn - 1];
-    if conn < logged_in || whole_line(&link.to_server[link.served..]).is_none() {
+    if conn < logged_in || whole_line(link.to_server.bytes()).is_none() {
         return Some(WorldRefusal::NothingToServe);
     }
     None

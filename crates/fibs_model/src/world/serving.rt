@@ -1,7 +1,6 @@
 //! The server takes a line.
 
-ghost use Rattle.std.specs.Prelude.{◌≡◌, ◌≤◌, ◌<◌, ◌+◌, ◌++◌, ℕ, List, Some, OnOk, OnErr, IfSome, IsSome, map, vec_len};
-ghost use Rattle.std.specs.Prelude.{vec_capacity, slice_index, if◌then◌else◌};
+ghost use Rattle.std.specs.Prelude.{◌≡◌, ◌≤◌, ◌<◌, ◌+◌, ◌++◌, ℕ, List, Some, length, OnOk, OnErr, IfSome, IsSome, map, vec_len, vec_capacity, slice_index, if◌then◌else◌};
 ghost use Rattle.fibs_messages.specs.Board.{BoardFields, spelling};
 ghost use Rattle.fibs_messages.specs.StoredBoard.{fields_of};
 ghost use Rattle.fibs_model.specs.Calls.{served_entries, is_answered, send_links, TakesLine, TakesNext};
@@ -24,14 +23,14 @@ use std::alloc::AllocError;
 /// The server takes the next line of a connection.
 fn take_line(server: &mut Server, link: &mut Link, conn: usize, len: usize, dice: [u8; 2]) -> Served
     requires some { 1 ≤ conn }
-    requires whole { link.old.served + len + 2 ≤ vec_len link.old.to_server }
+    requires whole { len + 2 ≤ length link.old.to_server.items }
     ensures takes { TakesLine server.old server.new link.old link.new conn len (slice_index dice 0) (slice_index dice 1)
         (served_of result server.new.board) }
     ensures to_client { link.new.to_client ≡ link.old.to_client }
 {
-    let from = link.served;
-    let served = server.serve(conn, from == 0, &link.to_server[from..from + len], dice);
-    link.served = from + len + 2;
+    let served = server.serve(conn, link.fresh, &link.to_server.bytes()[..len], dice);
+    link.to_server.take(len + 2);
+    link.fresh = false;
     served
 }
 
@@ -46,7 +45,7 @@ fn take_next(server: &mut Server, links: &mut Vec<Link>, conn: usize, dice: [u8;
     ensures room { (c n : ℕ) → 0 < c → RoomToClient links.old.items c n → RoomToClient links.new.items c n }
 {
     let link = &mut links[conn - 1];
-    let len = whole_line(&link.to_server[link.served..]).unwrap();
+    let len = whole_line(link.to_server.bytes()).unwrap();
     take_line(server, link, conn, len, dice)
 }
 

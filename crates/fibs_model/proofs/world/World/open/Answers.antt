@@ -21,8 +21,8 @@ invariant_of-self-2 c =
     omega (arith, c.len-self-inside.ensures, c.push_reserved.ensures.len, c.reserve-2.ensures.len, before, length-map c.self.inside.links.items link_of) in
     kept_on c.self.inside _ Open c.self.invariant
     (opened_stands c.servers_entries_are_silent.ensures (world_of c.self.inside) _ c.unwrap-login.result.bytes refl
-    (opened_wires _ _ _ _ _ c.reserve-2.ensures.items c.push_reserved.ensures.items c.new.ensures.items refl refl
-    (c.put.ensures.items ∙ ap (λ xs. xs ++ on_wire c.as_bytes.result.now) c.in_ok-to_server.ensures.items ∙ ap on_wire (c.as_bytes.ensures.value ∙ c.deref.ensures.0)))
+    (opened_wires _ _ _ _ _ c.reserve-2.ensures.items c.push_reserved.ensures.items c.new.ensures.items
+    (c.put.ensures.items ∙ ap (λ xs. xs ++ on_wire c.as_bytes.result.now) c.in_ok-to_server.ensures.items ∙ ap on_wire (c.as_bytes.ensures.value ∙ c.deref.ensures.0)) refl)
     (logged _ _ _ _ c.reserve.ensures.items c.push_reserved-2.ensures.items ∙ ap (λ n. map entry_of c.self.inside.log.items ++ Opened n ∷ []) number)
     number
     (subst (λ r. Does c.self.inside.client c.open.new.self M.Open (handed r)) c.unwrap-login.ensures c.open.ensures.does)
@@ -36,8 +36,8 @@ returns-clause-ok c =
     omega (arith, c.len-self-inside.ensures, c.push_reserved.ensures.len, c.reserve-2.ensures.len, before, length-map c.self.inside.links.items link_of) in
     goes_seen _ _ _ Open c.self.view_is
     (opened_stands c.servers_entries_are_silent.ensures (world_of c.self.inside) _ c.unwrap-login.result.bytes refl
-    (opened_wires _ _ _ _ _ c.reserve-2.ensures.items c.push_reserved.ensures.items c.new.ensures.items refl refl
-    (c.put.ensures.items ∙ ap (λ xs. xs ++ on_wire c.as_bytes.result.now) c.in_ok-to_server.ensures.items ∙ ap on_wire (c.as_bytes.ensures.value ∙ c.deref.ensures.0)))
+    (opened_wires _ _ _ _ _ c.reserve-2.ensures.items c.push_reserved.ensures.items c.new.ensures.items
+    (c.put.ensures.items ∙ ap (λ xs. xs ++ on_wire c.as_bytes.result.now) c.in_ok-to_server.ensures.items ∙ ap on_wire (c.as_bytes.ensures.value ∙ c.deref.ensures.0)) refl)
     (logged _ _ _ _ c.reserve.ensures.items c.push_reserved-2.ensures.items ∙ ap (λ n. map entry_of c.self.inside.log.items ++ Opened n ∷ []) number)
     number
     (subst (λ r. Does c.self.inside.client c.open.new.self M.Open (handed r)) c.unwrap-login.ensures c.open.ensures.does)

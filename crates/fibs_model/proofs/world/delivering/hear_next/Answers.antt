@@ -10,8 +10,6 @@ hear_link-requires-clause-bytes c =
 
 pub returns-clause-hears : goal.returns-clause-hears
 returns-clause-hears c =
-    let l = c.index_mut.result.now in
     let all = c.args.links.now.ok.0 in
-    let own = l.to_server.ok.0 in
-    heard_next c.args.links.now.items c.args.conn l _ c.requires.some (omega (arith, all, c.requires.known)) c.index_mut.ensures.value
-    c.args.client.now _ c.args.n _ _ c.hear_link.ensures.hears c.hear_link.ensures.delivered c.hear_link.ensures.to_client c.hear_link.ensures.served (omega (arith, own, l.served_within))
+    heard_next c.args.links.now.items c.args.conn c.index_mut.result.now _ c.requires.some (omega (arith, all, c.requires.known)) c.index_mut.ensures.value
+    c.args.client.now _ c.args.n _ _ c.hear_link.ensures.hears c.hear_link.ensures.left c.hear_link.ensures.fresh

@@ -14,7 +14,7 @@ invariant-loop-rest l = record {
   whole : l.fn.piece ≡ done ++ l.rest;
   heard : HearsPiece l.fn.client l.client l.conn done (map entry_of l.fn.log.items) (map entry_of l.log.items) l.fn.wire.items l.wire.items;
   entries : vec_len l.log + count_by is_line_end l.rest ≤ vec_capacity l.log;
-  talks : (t : Talk) × IsTalking l.client l.conn t × (vec_len l.wire + owed t ≤ vec_capacity l.wire);
+  talks : (t : Talk) × IsTalking l.client l.conn t × (owed t ≤ l.wire.room);
 }
 
 abbrev pub decreases-loop-rest : goal.decreases-loop-rest

@@ -1,4 +1,4 @@
-use Rattle.std.proofs.Common.{◌≡◌, ◌≤◌, ◌+◌, ◌++◌, length, drop, vec_len, vec_capacity}
+use Rattle.std.proofs.Common.{◌≡◌, ◌≤◌, ◌+◌, ◌++◌, length, drop}
 use Rattle.fibs_session.specs.History.Machine.{wire_of}
 use Rattle.fibs_session.specs.Calls.SessionOf.{texts_of}
 use Rattle.fibs_model.proofs.world.hearing.put_all.Given as goal
@@ -7,7 +7,6 @@ use Rattle.fibs_model.proofs.world.hearing.put_all.Given as goal
 abbrev pub invariant-loop-command : goal.invariant-loop-command
 invariant-loop-command l = record {
   items : l.wire.items ++ wire_of (texts_of (drop l.command-index l.commands)) ≡ l.fn.wire.items ++ wire_of (texts_of l.commands);
-  len : vec_len l.wire + length (wire_of (texts_of (drop l.command-index l.commands))) ≡ vec_len l.fn.wire + length (wire_of (texts_of l.commands));
-  room : vec_len l.wire + length (wire_of (texts_of (drop l.command-index l.commands))) ≤ vec_capacity l.wire;
-  capacity : vec_capacity l.fn.wire ≤ vec_capacity l.wire;
+  room : length (wire_of (texts_of (drop l.command-index l.commands))) ≤ l.wire.room;
+  spent : l.fn.wire.room + length (wire_of (texts_of (drop l.command-index l.commands))) ≤ l.wire.room + length (wire_of (texts_of l.commands));
 }
