@@ -5,6 +5,7 @@ pub mod Scripts
 pub mod Hearing
 pub mod Typed
 pub mod Turns
+pub mod Stops
 pub mod Printed
 pub mod Noted
 pub mod Reads

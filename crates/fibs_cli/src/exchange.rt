@@ -1,10 +1,10 @@
 //! One turn of a client with its stream.
-ghost use Rattle.std.specs.Prelude.{◌≡◌, ◌++◌, ◌*◌, ℕ, List, Option, None, true, false, length, IfOk};
-ghost use Rattle.fibs_session.specs.History.Machine.{Talk, is_online};
+ghost use Rattle.std.specs.Prelude.{◌≡◌, ◌++◌, ◌*◌, ℕ, List, Option, None, true, false, length, IfOk, OnErr};
+ghost use Rattle.fibs_session.specs.History.Machine.{Talk, Lose, step, is_online};
 ghost use Rattle.fibs_session.specs.Calls.Standing.{StandsAfter};
 ghost use Rattle.fibs_messages.specs.Message.{MessageValue};
 ghost use Rattle.fibs_cli.specs.Turns.Script.{outside, known_before, known_after};
-ghost use Rattle.fibs_cli.specs.Turns.Turn.{Ended, Turned, FitsStream, bytes_of, is_there, still_given};
+ghost use Rattle.fibs_cli.specs.Turns.Turn.{Ended, Turned, Stopped, FitsStream, bytes_of, is_there, still_given};
 ghost use Rattle.fibs_cli.specs.Reads.{LostAtMost};
 ghost use Rattle.fibs_cli.specs.declared.writing.Progress.{Progress};
 
@@ -53,9 +53,11 @@ pub(crate) fn end_connection<W: Write>(
     client: &mut Client,
     out: &mut W,
 ) -> Result<Ending, ExchangeFault>
-    ensures { IfOk result (λ e. (p : Progress) → (t : Talk) → StandsAfter client.old t → (wrote : Option (List ℕ)) →
-        (players : List MessageValue) → Ended p t client.new (outside wrote (W.contents out.old) players)
+    ensures ended { IfOk result (λ e. (p : Progress) → (t : Talk) → StandsAfter client.old t →
+        (wrote : Option (List ℕ)) → (players : List MessageValue) →
+        Ended p t client.new (outside wrote (W.contents out.old) players)
         (outside wrote (W.contents out.new) players) e) }
+    ensures lost { (t : Talk) → StandsAfter client.old t → StandsAfter client.new (step t Lose).talk }
 {
     let waited = client.lose();
     match &waited {
@@ -81,6 +83,8 @@ fn listen<S: Link, W: Write>(
         Turned t client.new None (S.remaining stream.old) (S.remaining stream.new)
         (outside (S.contents stream.old) (W.contents out.old) directory.old)
         (outside (S.contents stream.new) (W.contents out.new) directory.new) e) }
+    ensures stopped { OnErr result ((t : Talk) → StandsAfter client.old t → is_online t ≡ true →
+        Stopped t client.new None (S.remaining stream.old) (S.remaining stream.new)) }
     ensures few { LostAtMost (4096 * 1024) (S.remaining stream.old) (S.remaining stream.new) }
 {
     listen_portions(client, directory, stream, out, MAX_READS, &mut [0; PORTION])
@@ -99,6 +103,8 @@ fn listen_portions<S: Link, W: Write>(
         Turned t client.new None (S.remaining stream.old) (S.remaining stream.new)
         (outside (S.contents stream.old) (W.contents out.old) directory.old)
         (outside (S.contents stream.new) (W.contents out.new) directory.new) e) }
+    ensures stopped { OnErr result ((t : Talk) → StandsAfter client.old t → is_online t ≡ true →
+        Stopped t client.new None (S.remaining stream.old) (S.remaining stream.new)) }
     ensures few { LostAtMost (reads * length portion.old) (S.remaining stream.old) (S.remaining stream.new) }
 {
     fibs_session::client::laws::pieces_join();
@@ -132,6 +138,8 @@ fn talk<S: Link, W: Write>(
         Turned t client.new (bytes_of typed.entry) (S.remaining stream.old) (S.remaining stream.new)
         (outside (S.contents stream.old) (W.contents out.old) directory.old)
         (outside (S.contents stream.new) (W.contents out.new) directory.new) e) }
+    ensures stopped { OnErr result ((t : Talk) → StandsAfter client.old t → is_online t ≡ true →
+        Stopped t client.new (bytes_of typed.entry) (S.remaining stream.old) (S.remaining stream.new)) }
     ensures few { LostAtMost (4096 * 1024) (S.remaining stream.old) (S.remaining stream.new) }
 {
     fibs_session::client::laws::empty_piece_is_nothing();
@@ -151,10 +159,12 @@ fn talk_offline<W: Write>(
     out: &mut W,
 ) -> Result<Ending, ExchangeFault>
     requires { FitsStream client.old false }
-    ensures { IfOk result (λ e. (t : Talk) → StandsAfter client.old t → is_online t ≡ false →
+    ensures turned { IfOk result (λ e. (t : Talk) → StandsAfter client.old t → is_online t ≡ false →
         (players : List MessageValue) →
         Turned t client.new (bytes_of typed.entry) None None
         (outside None (W.contents out.old) players) (outside None (W.contents out.new) players) e) }
+    ensures stopped { OnErr result ((t : Talk) → StandsAfter client.old t → is_online t ≡ false →
+        Stopped t client.new (bytes_of typed.entry) None None) }
 {
     fibs_session::client::laws::empty_piece_is_nothing();
     match typed {
@@ -174,7 +184,9 @@ fn talk_offline<W: Write>(
 /// place numbers of the board shown, else a plain command. For each line the commands that it calls for are written
 /// first, then it is printed, then the directory is told. Only the directory takes memory: what it refuses is printed.
 ///
-/// Errors: `Output` where what is printed can't be written. Nothing is said of the client then.
+/// Errors: `Output` where what is printed can't be written. The client is then as after its last finished call: it made
+/// the typed call, then it was fed what was read, all of it or up to the end of the line that is not printed, and then
+/// it lost its connection, where the end of the connection is what is not printed.
 pub fn exchange<S: Link, W: Write>(
     client: &mut Client,
     directory: &mut Directory,
@@ -189,8 +201,10 @@ pub fn exchange<S: Link, W: Write>(
         (known_before S.remaining stream.entry) (known_after S.remaining stream.exit)
         (outside (known_before S.contents stream.entry) (W.contents out.old) directory.old)
         (outside (known_after S.contents stream.exit) (W.contents out.new) directory.new) e) }
-    ensures few {
-        LostAtMost (4096 * 1024) (known_before S.remaining stream.entry) (known_after S.remaining stream.exit) }
+    ensures stopped { OnErr result ((t : Talk) → StandsAfter client.old t → is_online t ≡ is_there stream.entry →
+        Stopped t client.new (bytes_of typed.entry)
+        (known_before S.remaining stream.entry) (known_after S.remaining stream.exit)) }
+    ensures few { LostAtMost (4096 * 1024) (known_before S.remaining stream.entry) (known_after S.remaining stream.exit) }
 {
     match stream {
         None => talk_offline(client, typed, out),

@@ -105,6 +105,7 @@ turned p e t y z left still read a b c on took k end = record {
   did = k.did;
   ended = end;
   offline = never on;
+  quiet = never on;
 }
 
 -- and all that was read was heard
@@ -122,6 +123,7 @@ turned_whole e t y z left still read a b c on took g end = record {
   did = g.did;
   ended = end;
   offline = never on;
+  quiet = never on;
 }
 
 -- the typed line's act was done, and the turn goes on
@@ -139,12 +141,13 @@ turned_typed e t z text left mid still a b c on k d u = record {
   did = did_joined u.progress a b u.mid (typed_act t (typed_now t text) ∷ []) (piece_acts (typed_step t (typed_now t text)).talk u.fed) d u.did;
   ended = u.ended;
   offline = never on;
+  quiet = never on;
 }
 
 -- nothing was read after the typed line
 turned_here : (p : Progress) (e : Ending) (t : Talk) (z : ClientValue) (text : List ℕ) (left still : Option (List ℕ)) (a b c : Outside) → EmptyPieceIsNothing → Keeps left still → ReadExtent p t.stream [] []
-    → Did a b (typed_act t (typed_now t text) ∷ []) p → Ended p (typed_step t (typed_now t text)).talk z b c e → Turned t z (Some text) left still a c e
-turned_here p e t z text left still a b c empty k ext d end =
+    → (is_online t ≡ false → e ≡ Quiet) → Did a b (typed_act t (typed_now t text) ∷ []) p → Ended p (typed_step t (typed_now t text)).talk z b c e → Turned t z (Some text) left still a c e
+turned_here p e t z text left still a b c empty k ext quiet d end =
     let u : Talk = (typed_step t (typed_now t text)).talk in
     record {
       read = [];
@@ -158,17 +161,18 @@ turned_here p e t z text left still a b c empty k ext d end =
       did = did_same p a b (typed_act t (typed_now t text) ∷ []) (typed_act t (typed_now t text) ∷ piece_acts u []) (ap (λ l. typed_act t (typed_now t text) ∷ l) (sym (no_acts u))) d;
       ended = subst (λ s. Ended p s.talk z b c e) (sym (empty u)) end;
       offline = λ off. refl;
+      quiet = quiet;
     }
 
 -- its command was not written whole
-pub turned_broken : (e : Ending) (t : Talk) (z : ClientValue) (text : List ℕ) (left still : Option (List ℕ)) (a b c : Outside) → EmptyPieceIsNothing → Keeps left still
+pub turned_broken : (e : Ending) (t : Talk) (z : ClientValue) (text : List ℕ) (left still : Option (List ℕ)) (a b c : Outside) → is_online t ≡ true → EmptyPieceIsNothing → Keeps left still
     → Did a b (typed_act t (typed_now t text) ∷ []) Broken → Ended Broken (typed_step t (typed_now t text)).talk z b c e → Turned t z (Some text) left still a c e
-turned_broken e t z text left still a b c empty k d end = turned_here Broken e t z text left still a b c empty k (λ n lt same. omega (arith, lt)) d end
+turned_broken e t z text left still a b c on empty k d end = turned_here Broken e t z text left still a b c empty k (λ n lt same. omega (arith, lt)) (never on) d end
 
 -- offline it is answered, and nothing else is done
 pub turned_offline : (t : Talk) (z : ClientValue) (text : List ℕ) (a b : Outside) → EmptyPieceIsNothing → StandsAfter z (typed_step t (typed_now t text)).talk
     → Did a b (typed_act t (typed_now t text) ∷ []) Whole → Turned t z (Some text) None None a b Quiet
-turned_offline t z text a b empty at d = turned_here Whole Quiet t z text None None a b b empty tt refl d (still_open (typed_step t (typed_now t text)).talk z b at)
+turned_offline t z text a b empty at d = turned_here Whole Quiet t z text None None a b b empty tt refl (λ off. refl) d (still_open (typed_step t (typed_now t text)).talk z b at)
 
 -- nothing was typed, and nothing is there to read
 pub turned_nothing : (t : Talk) (c : ClientValue) (a : Outside) → EmptyPieceIsNothing → StandsAfter c t → Turned t c None None None a a Quiet
@@ -186,6 +190,7 @@ turned_nothing t c a empty at =
       did = g.did;
       ended = still_open (step t (Piece [])).talk c a g.stands;
       offline = λ off. refl;
+      quiet = λ off. refl;
     }
 
 -- ---- the next turn

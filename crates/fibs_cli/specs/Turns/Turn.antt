@@ -1,6 +1,6 @@
 -- One turn of a client with its stream: the typed line, the lines that are heard, and the end of the connection.
-use Rattle.std.specs.Prelude.{◌≡◌, ◌≢◌, ◌<◌, ◌≤◌, ◌*◌, ℕ, Bool, true, false, List, [], ◌∷◌, ◌++◌, length, take, Option}
-use Rattle.std.specs.Prelude.{Some, None, option_map}
+use Rattle.std.specs.Prelude.{◌≡◌, ◌≢◌, ◌<◌, ◌≤◌, ◌*◌, ℕ, Bool, true, false, List, [], ◌∷◌, ◌++◌, length, take}
+use Rattle.std.specs.Prelude.{Option, Some, None, option_map, ◌⊎◌}
 use Rattle.std.specs.Borrow.{Bor}
 use Rattle.std.specs.Io.KnownBytes.{Consumes}
 use Rattle.fibs_lines.specs.Lines.{lines_of}
@@ -93,4 +93,35 @@ pub record Turned (t : Talk) (new : ClientValue) (typed left still : Option (Lis
   pub mid : Outside
   pub did : Did a mid (typed_acts t typed ++ piece_acts (talk_after t typed) fed) progress
   pub ended : Ended progress (step (talk_after t typed) (Piece fed)).talk new mid b e
+  pub offline : is_online t ≡ false → read ≡ []
+  pub quiet : is_online t ≡ false → e ≡ Quiet
+
+-- ---- a print that fails
+
+-- no byte is left, or those that were fed end a line
+abbrev pub FedInLines : List ℕ → List ℕ → List ℕ → Type 0
+FedInLines stream fed rest = (rest ≡ []) ⊎ (EndsALine stream fed × (0 < length fed))
+
+-- of these bytes a front that ends a line was fed to a client that stood after t
+pub record FedToALine (t : Talk) (new : ClientValue) (bytes : List ℕ) : Type 0 where
+  pub fed : List ℕ
+  pub rest : List ℕ
+  pub cut : bytes ≡ fed ++ rest
+  pub ends : EndsALine t.stream fed × (0 < length fed)
+  pub stands : StandsAfter new (step t (Piece fed)).talk
+
+-- the client stands after t, or has then lost its connection
+abbrev pub StandsOrLost : ClientValue → Talk → Type 0
+StandsOrLost new t = StandsAfter new t ⊎ StandsAfter new (step t Lose).talk
+
+-- the client is as after its last finished call: one that stood after t made the typed call, then it was fed the bytes
+-- that were read, all or up to the end of a line, and then it may have lost its connection
+pub record Stopped (t : Talk) (new : ClientValue) (typed left still : Option (List ℕ)) : Type 0 where
+  pub read : List ℕ
+  pub took : Consumes left still read
+  pub fed : List ℕ
+  pub rest : List ℕ
+  pub cut : read ≡ fed ++ rest
+  pub extent : FedInLines t.stream fed rest
+  pub stands : StandsOrLost new (step (talk_after t typed) (Piece fed)).talk
   pub offline : is_online t ≡ false → read ≡ []

@@ -1,6 +1,6 @@
 //! Lines of the server are heard.
-ghost use Rattle.std.specs.Prelude.{◌≡◌, ◌++◌, ◌∷◌, [], List, Option, Some, None, if◌then◌else◌, option_map, IfOk};
-ghost use Rattle.std.specs.Prelude.{OnOk};
+ghost use Rattle.std.specs.Prelude.{◌≡◌, ◌++◌, ◌∷◌, [], List, Option, Some, None, if◌then◌else◌, option_map};
+ghost use Rattle.std.specs.Prelude.{IfOk, OnOk, OnErr};
 ghost use Rattle.std.specs.Io.KnownBytes.{Appends, Keeps};
 ghost use Rattle.fibs_lines.specs.Lines.{value_of};
 ghost use Rattle.fibs_messages.specs.Line.{reading_of};
@@ -16,7 +16,7 @@ ghost use Rattle.fibs_cli.specs.Turns.Acts.{line_bytes, text_of_lines};
 ghost use Rattle.fibs_cli.specs.Turns.Lines.{said_text, heard_text, phase_lines, confirmed_lines, messages_in};
 ghost use Rattle.fibs_cli.specs.Turns.Lines.{taken_act};
 ghost use Rattle.fibs_cli.specs.Turns.Script.{Did, Notes, outside, directory_lines, noted_unless};
-ghost use Rattle.fibs_cli.specs.Turns.Turn.{Talked};
+ghost use Rattle.fibs_cli.specs.Turns.Turn.{Talked, FedToALine};
 ghost use Rattle.fibs_session.specs.declared.directory.fault.DirectoryFault.{DirectoryFault};
 
 use super::ExchangeFault;
@@ -181,6 +181,7 @@ pub(super) fn hear_portion<S: Link, W: Write>(
     ensures talked { IfOk result (λ p. (t : Talk) → StandsAfter client.old t → Talked t client.new portion.now
         (outside (S.contents stream.old) (W.contents out.old) directory.old)
         (outside (S.contents stream.new) (W.contents out.new) directory.new) p) }
+    ensures stopped { OnErr result ((t : Talk) → StandsAfter client.old t → FedToALine t client.new portion.now) }
     ensures apart { Keeps (S.remaining stream.old) (S.remaining stream.new) }
 {
     fibs_session::client::laws::pieces_join();

@@ -485,11 +485,13 @@ fn each_read_that_fails_ends_the_connection(rt: HostRuntime) -> Result<(), Fail>
     Ok(())
 }
 
-/// The writer of the printed lines fails after each byte.
+/// The writer of the printed lines fails after each byte. The client has heard the lines up to the one that fails, so
+/// that it shows the board where the lines before it were printed.
 #[test]
 fn each_print_that_fails_stops_the_turn(rt: HostRuntime) -> Result<(), Fail> {
     let input = joined(rt.alloc(), READY)?;
     let wanted = joined(rt.alloc(), PRINTED)?;
+    let before = joined(rt.alloc(), &[b"message ", WELCOME, b"\nmessage ", INFO, LF])?;
     for room in 0..wanted.len() + 1 {
         let mut client = opened(&rt);
         let mut directory = Directory::new(rt.alloc());
@@ -499,6 +501,8 @@ fn each_print_that_fails_stops_the_turn(rt: HostRuntime) -> Result<(), Fail> {
         let failed = matches!(outcome, Err(ExchangeFault::Output));
         assert_eq!(rt; failed, room < wanted.len(), "at {room}");
         assert_eq!(rt; out.output(), &wanted[..room], "at {room}");
+        let is_shown = out.output().starts_with(before.as_slice());
+        assert_eq!(rt; client.shown().is_some(), is_shown, "at {room}");
     }
     Ok(())
 }

@@ -1,11 +1,18 @@
-use Rattle.std.proofs.Common.{None}
+use Rattle.std.proofs.Common.{None, inl}
 use Rattle.fibs_cli.proofs.TurnLemmas.Turns.{turned_nothing, turned_offline}
+use Rattle.fibs_cli.proofs.TurnLemmas.Stops.{on_any_err, stopped_here}
 use Rattle.fibs_cli.proofs.exchange.talk_offline.Goals as goal
 
-pub returns-in-None : goal.returns-in-None
-returns-in-None g c = λ t at off players. rw c.in-None.is (turned_nothing t _ _ c.empty_piece_is_nothing.ensures at)
+pub returns-in-None-clause-turned : goal.returns-in-None-clause-turned
+returns-in-None-clause-turned g c = λ t at off players. rw c.in-None.is (turned_nothing t _ _ c.empty_piece_is_nothing.ensures at)
 
-pub returns-in_ok-type_offline-in-Some : goal.returns-in_ok-type_offline-in-Some
-returns-in_ok-type_offline-in-Some g c = λ t at off players.
+pub returns-in_ok-type_offline-in-Some-clause-turned : goal.returns-in_ok-type_offline-in-Some-clause-turned
+returns-in_ok-type_offline-in-Some-clause-turned g c = λ t at off players.
     rw c.in-Some.is (turned_offline t _ c.in-Some.text.now _ _ c.empty_piece_is_nothing.ensures (c.type_offline.ensures.stands t at)
     (c.in_ok-type_offline-in-Some.ensures.did t at None players))
+
+pub returns-in_err-type_offline-in-Some-clause-stopped : goal.returns-in_err-type_offline-in-Some-clause-stopped
+returns-in_err-type_offline-in-Some-clause-stopped g c =
+    on_any_err c.from_residual.result
+    (λ t at off. rw c.in-Some.is (stopped_here t _ c.in-Some.text.now None None c.empty_piece_is_nothing.ensures tt
+    (inl (c.type_offline.ensures.stands t at))))

@@ -14,6 +14,7 @@ use Rattle.fibs_cli.proofs.TurnLemmas.Wrote.{front_more}
 use Rattle.fibs_cli.proofs.TurnLemmas.Scripts.{did_nothing}
 use Rattle.fibs_cli.proofs.TurnLemmas.Hearing.{taken_acts, acts_taken, taken_online, ends_taken, piece_online}
 use Rattle.fibs_cli.proofs.TurnLemmas.Turns.{gone_nothing, gone_more, broke_at}
+use Rattle.fibs_cli.proofs.TurnLemmas.Stops.{on_any_err, line_behind}
 use Rattle.fibs_cli.proofs.exchange.hearing.hear_portion.Goals.{in-Some+in_ok-hear_line-in-Some+in-Whole, in-None}
 use Rattle.fibs_cli.proofs.exchange.hearing.hear_portion.Goals as goal
 
@@ -39,6 +40,28 @@ returns-in-Broken-clause-talked g c = λ t at.
     (ends_taken c.loop-rest.client rest used k fed c.read-heard.ensures.in_range u gone.stands)
     (long used rest (c.read-heard.ensures.progress (grind (arith, c.is_empty.ensures, c.loop-rest-test.true))) c.read-heard.ensures.in_range)
     (rw c.in-Broken.is at c.in_ok-hear_line-in-Some.ensures.did)
+
+pub returns-in_err-hear_line-in-Some-clause-stopped : goal.returns-in_err-hear_line-in-Some-clause-stopped
+returns-in_err-hear_line-in-Some-clause-stopped g c =
+    on_any_err c.from_residual.result
+    (λ t at.
+    let i = c.loop-rest.invariant in
+    let rest = c.loop-rest.rest.now in
+    let used = c.read-heard.result.used in
+    let k = taken_of c.in-Some.taken in
+    let gone = i.2 t at in
+    let u = (step t (Piece i.0)).talk in
+    let shown =
+    subst (λ x. Shows c.read-heard.new.self c.read-heard.result (option_map taken_of x)) c.in-Some.is
+    (c.got-got.ensures.shows c.read-heard.ensures.keeps) in
+    let fed : FeedAnswers c.loop-rest.client rest used (Some k) = c.read-heard.ensures.answers (Some k) shown in
+    line_behind c.pieces_join.ensures c.lines_only_grow.ensures t c.read-heard.new.self i.0 (take used rest)
+    (drop used rest) c.args.portion.now (front_more c.args.portion.now i.0 rest used i.1)
+    (sym (piece_online t i.0) ∙ taken_online c.loop-rest.client rest used k fed u gone.stands)
+    (c.read-heard.ensures.does.stands u gone.stands)
+    (ends_taken c.loop-rest.client rest used k fed c.read-heard.ensures.in_range u gone.stands)
+    (long used rest (c.read-heard.ensures.progress (grind (arith, c.is_empty.ensures, c.loop-rest-test.true)))
+    c.read-heard.ensures.in_range))
 
 pub loop-rest-preserved : goal.loop-rest-preserved
 loop-rest-preserved g c =

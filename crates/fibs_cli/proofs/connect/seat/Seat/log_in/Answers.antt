@@ -11,6 +11,6 @@ returns-in-Whole g c = seat_opens _ _ (handed c.open.result) c.requires c.open.e
 pub returns-in_ok-_lost-in-Broken : goal.returns-in_ok-_lost-in-Broken
 returns-in_ok-_lost-in-Broken g c =
     let t = (step c.requires.0 Open).talk in
-    let ended = c.in_ok-_lost-in-Broken.ensures Broken t
+    let ended = c.in_ok-_lost-in-Broken.ensures.ended Broken t
     (c.open.ensures.does.stands c.requires.0 c.requires.1) None [] in
     seat_lost c.in_ok-_lost-in-Broken._lost t _ ended.leaves
