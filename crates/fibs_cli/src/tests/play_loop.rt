@@ -34,7 +34,7 @@ struct Case {
     end: &'static [u8],
 }
 
-static CASES: [Case; 12] = [
+static CASES: [Case; 13] = [
     Case {
         name: "a second click, and a line too few",
         board: TO_ROLL,
@@ -136,6 +136,14 @@ static CASES: [Case; 12] = [
         status: 3,
         end: b"refused 0 8 BadBoard\n",
     },
+    Case {
+        name: "a click before the connection",
+        board: TO_ROLL,
+        log_in: b"click roll\n",
+        events: LOG_IN,
+        status: 0,
+        end: b"end 9\n",
+    },
 ];
 
 /// A script, or what is printed for one.
@@ -220,4 +228,12 @@ fn a_second_click_is_played_under_refused_memory(rt: HostRuntime) -> Result<(), 
 #[test]
 fn a_lost_play_is_played_under_refused_memory(rt: HostRuntime) -> Result<(), Fail> {
     assert_played_again(&rt, &CASES[1])
+}
+
+/// The log grows between the two entries of one event, of which then none is printed.
+#[test]
+fn a_click_before_the_connection_is_played_under_refused_memory(
+    rt: HostRuntime,
+) -> Result<(), Fail> {
+    assert_played_again(&rt, &CASES[12])
 }
