@@ -7,6 +7,7 @@ mod pipe;
 mod play_loop;
 mod plays;
 mod program;
+mod refused_notes;
 mod replay;
 mod scripts;
 mod show;

@@ -1,5 +1,7 @@
 //! Histories of the world, worked out by hand.
 
+mod refused_memory;
+
 use crate::test_boards::*;
 use crate::{Entry, Event, World, WorldRefusal};
 use fibs_messages::Board;
@@ -304,67 +306,5 @@ fn what_may_not_be_is_refused(rt: HostRuntime) -> Result<(), Fail> {
         matches!(other, Err(WorldRefusal::BadBoard)),
         "no world begins with a board of another"
     );
-    Ok(())
-}
-
-/// The events that take memory, and an event again after each that found none.
-static GROWING: [Act; 24] = [
-    Open,
-    Serve(1, [1, 1]),
-    Text(WELCOME),
-    Text(INFO),
-    Deliver(20),
-    Deliver(10000),
-    Serve(1, [1, 1]),
-    Serve(1, [1, 1]),
-    Deliver(300),
-    Deliver(10000),
-    Click(b"roll"),
-    Say,
-    Serve(1, [6, 2]),
-    Repeat,
-    Deliver(10000),
-    Lose(2),
-    Open,
-    Serve(2, [1, 1]),
-    Text(WELCOME),
-    Text(INFO),
-    Repeat,
-    Deliver(10000),
-    Click(b"roll"),
-    Lose(10000),
-];
-
-/// Whether the worlds have the same log and show the same board.
-fn are_alike(a: &World, b: &World) -> bool {
-    a.log() == b.log() && a.shown() == b.shown()
-}
-
-/// Where a growth is refused, the event says so and changes nothing that is seen, and once more it is done: in the end
-/// the world is as one that met no refusal.
-#[test]
-fn events_are_done_under_refused_memory(rt: HostRuntime) -> Result<(), Fail> {
-    let mut first = world(rt.alloc(), TO_ROLL)?;
-    let mut second = world(rt.alloc(), TO_ROLL)?;
-    for act in &GROWING {
-        let event = event(*act)?;
-        let entries = first.log().len();
-        let mut answer = first.step(&event);
-        if answer == Err(WorldRefusal::Memory) {
-            assert!(rt;
-                first.log().len() == entries,
-                "a refused event notes nothing"
-            );
-            answer = first.step(&event);
-        }
-        assert!(rt; answer == Ok(()), "there is memory the second time");
-        let mut again = second.step(&event);
-        if again == Err(WorldRefusal::Memory) {
-            again = second.step(&event);
-        }
-        assert!(rt; again == Ok(()), "and for the other world");
-        assert!(rt; are_alike(&first, &second), "both worlds are alike");
-    }
-    assert!(rt; first.log().len() == 19, "as many entries as worked out");
     Ok(())
 }

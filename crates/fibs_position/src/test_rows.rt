@@ -7,6 +7,7 @@ use crate::decision::Decision;
 use crate::disallowed::Disallowed;
 use crate::game_part::differs;
 use crate::phase::Phase;
+use crate::play::Play;
 use crate::position::Position;
 use crate::position_fault::PositionFault;
 use crate::test_choices::{Choice, play};
@@ -236,18 +237,23 @@ fn position(line: &[u8]) -> Result<Position, Fail> {
 }
 
 impl Row {
-    /// The plays are these, in this order.
-    fn lists(&self, alloc: Global, position: &Position) -> Result<bool, Fail> {
-        let plays = position.plays(alloc)?;
+    /// The row has just these plays, in this order.
+    fn are(&self, plays: &[Play]) -> Result<bool, Fail> {
         if plays.len() != self.plays.len() {
             return Ok(false);
         }
         for (found, steps) in plays.iter().zip(self.plays) {
-            if *found != play(steps)? || !position.is_legal(found) {
+            if *found != play(steps)? {
                 return Ok(false);
             }
         }
         Ok(true)
+    }
+
+    /// The position has these plays, in this order, and each is legal.
+    fn lists(&self, alloc: Global, position: &Position) -> Result<bool, Fail> {
+        let plays = position.plays(alloc)?;
+        Ok(self.are(&plays)? && plays.iter().all(|found| position.is_legal(found)))
     }
 
     /// Each decision is answered so.
@@ -384,17 +390,40 @@ fn boards_differ_in_the_opponent(rt: HostRuntime) -> Result<(), Fail> {
     Ok(())
 }
 
-/// Where a growth is refused, the next call gives the list.
+/// Each reader answers the same of both.
+fn are_alike(a: &Position, b: &Position) -> bool {
+    for place in 0..26 {
+        if a.own(place) != b.own(place) {
+            return false;
+        }
+    }
+    for place in 1..25 {
+        if a.other(place) != b.other(place) {
+            return false;
+        }
+    }
+    a.other_bar() == b.other_bar()
+        && a.other_off() == b.other_off()
+        && a.direction() == b.direction()
+        && a.phase() == b.phase()
+        && a.most_dice() == b.most_dice()
+}
+
+/// Where a growth is refused, the position answers as one that was not asked, and the next call gives the list.
 #[test]
-fn lists_plays_under_refused_memory(rt: HostRuntime) -> Result<(), Fail> {
-    let board = board(
-        b"board:You:bob:5:0:0:0:0:0:0:1:0:0:0:1:0:0:0:0:0:0:0:0:0:0:0:0:0:0:0:-2:0:1:2:1:0:0:1:1:1:0:1:-1:0:25:13:13:0:0:2:0:0:0",
-    )?;
-    let position = Position::of(&board).ok().ok_or("no position")?;
-    let plays = match position.plays(rt.alloc()) {
-        Ok(plays) => plays,
-        Err(_) => position.plays(rt.alloc())?,
-    };
-    assert_eq!(rt; plays.len(), 4);
+fn plays_are_listed_under_refused_memory(rt: HostRuntime) -> Result<(), Fail> {
+    for row in &PLAYS {
+        let asked = position(row.board)?;
+        match asked.plays(rt.alloc()) {
+            Ok(plays) => assert!(rt; row.are(&plays)?, "{}", row.name),
+            Err(_refused) => {
+                let twin = position(row.board)?;
+                assert!(rt; are_alike(&asked, &twin), "{}", row.name);
+                assert!(rt; row.answers(&asked)?, "{}", row.name);
+                assert!(rt; row.lists(rt.alloc(), &asked)?, "{}", row.name);
+                assert!(rt; row.lists(rt.alloc(), &twin)?, "{}", row.name);
+            }
+        }
+    }
     Ok(())
 }

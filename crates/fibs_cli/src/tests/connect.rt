@@ -12,10 +12,10 @@ use std::test::Fail;
 
 /// A server in memory: what each connection gives, how many bytes it takes, and how many connections there are.
 #[derive(Drop)]
-struct Door<'a> {
-    input: &'a [u8],
-    room: usize,
-    connections: u32,
+pub struct Door<'a> {
+    pub input: &'a [u8],
+    pub room: usize,
+    pub connections: u32,
 }
 
 impl<'a> Dial for Door<'a> {

@@ -87,7 +87,7 @@ fn joined(alloc: Global, parts: &[&[u8]]) -> Result<Vec<u8>, AllocError> {
 }
 
 /// A client that has opened a connection.
-fn opened(rt: &impl Abort) -> Client
+pub fn opened(rt: &impl Abort) -> Client
     ensures { FitsStream result true }
 {
     let login = Login::new(b"ann", b"secret").expect(rt, "it is a login");
@@ -610,27 +610,6 @@ fn a_directory_that_is_full_says_so(rt: HostRuntime) -> Result<(), Fail> {
     );
     assert_eq!(rt; seat.directory.len(), 4096);
     Ok(())
-}
-
-/// Where the directory's growth is refused, it is said, and the turn goes on.
-#[test]
-fn notes_players_under_refused_memory(rt: HostRuntime) {
-    let input: &[u8] =
-        b"1 ann 1041253132 localhost\r\n5 bob - - 1 0 1500 0 3 1040515752 host - -\r\nhi\r\n";
-    let whole: &[u8] =
-        b"message 1 ann 1041253132 localhost\nmessage 5 bob - - 1 0 1500 0 3 1040515752 host - -\ntext hi\n";
-    let refused: &[u8] =
-        b"message 1 ann 1041253132 localhost\nmessage 5 bob - - 1 0 1500 0 3 1040515752 host - -\n\
-        directory 1 Memory\ntext hi\n";
-    let mut client = opened(&rt);
-    let mut directory = Directory::new(rt.alloc());
-    let mut pipe = Pipe::new(input, 1000, After::WouldBlock, 100);
-    let mut out = Pipe::new(b"", 1, After::End, 4096);
-    let outcome = exchange(&mut client, &mut directory, Some(&mut pipe), None, &mut out);
-    assert!(rt; matches!(outcome, Ok(Ending::Quiet)));
-    let wanted = if directory.is_empty() { refused } else { whole };
-    assert_eq!(rt; out.output(), wanted);
-    assert_eq!(rt; pipe.output(), b"set boardstyle 3\r\n".as_slice());
 }
 
 /// A stream of which one write fails, and which takes bytes before and after it.

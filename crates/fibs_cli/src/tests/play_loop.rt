@@ -1,11 +1,13 @@
 //! Scripts that are played over real sockets.
 
 use super::pipe::{After, Pipe};
+use super::replay::is_log_so_far;
 use crate::fault::EngineFault;
 use crate::play_loop::play_loop;
 use crate::replay::replay;
 use arrayvec::ArrayVec;
-use std::net::{TcpListener, TcpStream};
+use std::net::{Net, TcpListener, TcpStream};
+use std::process::Abort;
 use std::test::Fail;
 
 /// A board on which the player may roll.
@@ -32,7 +34,7 @@ struct Case {
     end: &'static [u8],
 }
 
-static CASES: [Case; 12] = [
+static CASES: [Case; 13] = [
     Case {
         name: "a second click, and a line too few",
         board: TO_ROLL,
@@ -134,6 +136,14 @@ static CASES: [Case; 12] = [
         status: 3,
         end: b"refused 0 8 BadBoard\n",
     },
+    Case {
+        name: "a click before the connection",
+        board: TO_ROLL,
+        log_in: b"click roll\n",
+        events: LOG_IN,
+        status: 0,
+        end: b"end 9\n",
+    },
 ];
 
 /// A script, or what is printed for one.
@@ -148,8 +158,8 @@ fn script_of(case: &Case) -> Text {
 }
 
 /// How a script ends that is played over sockets to the listener, and what is printed.
-fn played(
-    rt: &HostRuntime,
+fn played<N: Net<Stream = TcpStream> + AllocGlobal>(
+    rt: &N,
     listener: &TcpListener,
     script: &[u8],
 ) -> (Result<u8, EngineFault>, Text) {
@@ -189,22 +199,41 @@ fn bytes_cross_the_connection_that_is_accepted(rt: HostRuntime) -> Result<(), Fa
     Ok(())
 }
 
-/// Where memory runs out whole lines of the log are printed, and then the script can be played as before.
-#[test]
-fn scripts_are_played_under_refused_memory(rt: HostRuntime) -> Result<(), Fail> {
-    let listener = TcpListener::bind(&rt, "127.0.0.1:0")?;
-    for case in &CASES[..2] {
-        let script = script_of(case);
-        let (ending, printed) = played(&rt, &listener, script.as_slice());
-        let (again, whole) = played(&rt, &listener, script.as_slice());
-        let text = printed.as_slice();
-        assert!(rt; text.is_empty() || text.ends_with(b"\n"), "{}", case.name);
-        if ending == Err(EngineFault::Memory) {
-            assert!(rt; whole.as_slice().starts_with(text), "{}", case.name);
-            assert_eq!(rt; again, Ok(case.status), "{}", case.name);
-        } else {
-            assert_eq!(rt; ending, Ok(case.status), "{}", case.name);
-        }
+/// Where memory runs out, the log after the events done so far is printed, and the script can be played as before.
+fn assert_played_again<N: Net<Listener = TcpListener, Stream = TcpStream> + AllocGlobal + Abort>(
+    rt: &N,
+    case: &Case,
+) -> Result<(), Fail> {
+    let listener = TcpListener::bind(rt, "127.0.0.1:0")?;
+    let script = script_of(case);
+    let (mut ending, mut printed) = played(rt, &listener, script.as_slice());
+    if ending == Err(EngineFault::Memory) {
+        assert!(rt;
+            is_log_so_far(rt.alloc(), script.as_slice(), printed.as_slice()),
+            "{:?}",
+            printed.as_slice()
+        );
+        (ending, printed) = played(rt, &listener, script.as_slice());
     }
+    assert_eq!(rt; ending, Ok(case.status));
+    assert!(rt; printed.as_slice().ends_with(case.end));
     Ok(())
+}
+
+#[test]
+fn a_second_click_is_played_under_refused_memory(rt: HostRuntime) -> Result<(), Fail> {
+    assert_played_again(&rt, &CASES[0])
+}
+
+#[test]
+fn a_lost_play_is_played_under_refused_memory(rt: HostRuntime) -> Result<(), Fail> {
+    assert_played_again(&rt, &CASES[1])
+}
+
+/// The log grows between the two entries of one event, of which then none is printed.
+#[test]
+fn a_click_before_the_connection_is_played_under_refused_memory(
+    rt: HostRuntime,
+) -> Result<(), Fail> {
+    assert_played_again(&rt, &CASES[12])
 }

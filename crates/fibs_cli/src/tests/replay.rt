@@ -107,16 +107,19 @@ fn a_second_click_sends_nothing(rt: HostRuntime) {
     assert_replayed(&rt, &double_click(), 3, &double_click_printed());
 }
 
-#[test]
-fn a_play_that_a_loss_leaves_on_its_way_is_served(rt: HostRuntime) {
-    let script = joined(&[
+/// A play that a loss leaves on its way; the next connection is shown what came of it.
+fn lost_play() -> Text {
+    joined(&[
         LARGER,
         LOGS_IN,
         b"click move 24-18\nlose 10000\nserve 1 1 1\n",
         LOGS_IN_AGAIN,
         b"click roll\n",
-    ]);
-    let wanted = joined(&[
+    ])
+}
+
+fn lost_play_printed() -> Text {
+    joined(&[
         b"opened 1\nloggedin 1\nwelcomed 1\ninformed 1 0 0\nshown 1 ",
         LARGER,
         b"\nshown 1 ",
@@ -132,8 +135,12 @@ fn a_play_that_a_loss_leaves_on_its_way_is_served(rt: HostRuntime) {
         b"\nshown 2 ",
         MOVED,
         b"\nclicked 2 NotYours\nend 20\n",
-    ]);
-    assert_replayed(&rt, &script, 0, &wanted);
+    ])
+}
+
+#[test]
+fn a_play_that_a_loss_leaves_on_its_way_is_served(rt: HostRuntime) {
+    assert_replayed(&rt, &lost_play(), 0, &lost_play_printed());
 }
 
 #[test]
@@ -351,25 +358,58 @@ fn nothing_is_written_after_a_failed_write_of_a_log(rt: HostRuntime) {
     }
 }
 
-/// Where memory runs out the whole lines of the log so far are printed, and nothing else.
-#[test]
-fn replays_under_refused_memory(rt: HostRuntime) {
-    let script = double_click();
-    let wanted = double_click_printed();
-    let (ending, output) = replayed(rt.alloc(), script.as_slice(), 64);
-    if ending == Err(EngineFault::Memory) {
-        let written = output.as_slice();
-        assert!(rt; wanted.as_slice().starts_with(written), "{written:?}");
-        assert!(rt;
-            written.is_empty() || written.ends_with(b"\n"),
-            "{written:?}"
-        );
-        assert!(rt; written.len() < wanted.len(), "{written:?}");
-        let (ending, output) = replayed(rt.alloc(), script.as_slice(), 64);
-        assert_eq!(rt; ending, Ok(3));
-        assert_eq!(rt; output.as_slice(), wanted.as_slice());
-    } else {
-        assert_eq!(rt; ending, Ok(3));
+/// The lines of a text but its last.
+fn without_last_line(text: &[u8]) -> &[u8] {
+    let mut last = 0;
+    for at in 0..text.len().saturating_sub(1) {
+        if text[at] == b'\n' {
+            last = at + 1;
+        }
+    }
+    text.get(..last).unwrap_or(text)
+}
+
+/// Whether the text is the log after some of the script's events, the first ones, and nothing else.
+pub fn is_log_so_far(alloc: Global, script: &[u8], text: &[u8]) -> bool {
+    for end in 0..script.len() {
+        if script[end] == b'\n' {
+            let (_done, printed) = replayed(alloc, &script[..end], 4096);
+            if without_last_line(printed.as_slice()) == text {
+                return true;
+            }
+        }
+    }
+    false
+}
+
+/// Where memory runs out, the log after the events done so far is printed, and the script can be replayed as before.
+fn assert_replayed_again(
+    rt: &(impl Abort + AllocGlobal),
+    script: &Text,
+    status: u8,
+    wanted: &Text,
+) {
+    for most in [64, 4096] {
+        let (mut ending, mut output) = replayed(rt.alloc(), script.as_slice(), most);
+        if ending == Err(EngineFault::Memory) {
+            let written = output.as_slice();
+            assert!(rt;
+                is_log_so_far(rt.alloc(), script.as_slice(), written),
+                "{written:?}"
+            );
+            (ending, output) = replayed(rt.alloc(), script.as_slice(), most);
+        }
+        assert_eq!(rt; ending, Ok(status));
         assert_eq!(rt; output.as_slice(), wanted.as_slice());
     }
+}
+
+#[test]
+fn a_second_click_is_replayed_under_refused_memory(rt: HostRuntime) {
+    assert_replayed_again(&rt, &double_click(), 3, &double_click_printed());
+}
+
+#[test]
+fn a_lost_play_is_replayed_under_refused_memory(rt: HostRuntime) {
+    assert_replayed_again(&rt, &lost_play(), 0, &lost_play_printed());
 }

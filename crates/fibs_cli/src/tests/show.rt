@@ -3,6 +3,7 @@ use super::devices::{Endless, FailsOnce};
 use super::pipe::{After, Pipe};
 use crate::fault::EngineFault;
 use crate::show::{StreamFault, show, show_portions, show_stream};
+use arrayvec::ArrayVec;
 use std::alloc::{AllocError, Global};
 use std::process::Abort;
 use std::test::Fail;
@@ -198,33 +199,57 @@ fn shows_messages(rt: HostRuntime) {
     }
 }
 
-/// Where a growth is refused, what was written are whole lines, and another call succeeds.
-#[test]
-fn shows_under_refused_memory(rt: HostRuntime) {
-    let input = b"a\nboard:\nbcdefghijklmnopqrstuvwxyz\\\nd";
-    let wanted: [&[u8]; 5] = [
-        b"text a\nmalformed 0 2 BadName\ntext bcdefghijklmnopqrstuvwxyz\\x5c\nunfinished 1\n",
-        b"text a\nmalformed 0 2 BadName\ntext bcdefghijklmnopqrstuvwxyz\\x5c\n",
-        b"text a\nmalformed 0 2 BadName\n",
-        b"text a\n",
-        b"",
-    ];
-    let mut reader = Pipe::new(input, 2, After::End, 0);
-    let mut writer = Pipe::new(b"", 1, After::End, 512);
-    let ending = show(rt.alloc(), &mut reader, &mut writer);
-    if ending == Err(EngineFault::Memory) {
-        let written = writer.output();
-        assert!(rt;
-            wanted[1..].iter().any(|lines| *lines == written),
-            "{written:?}"
-        );
-        reader = Pipe::new(input, 2, After::End, 0);
-        writer = Pipe::new(b"", 1, After::End, 512);
-        assert_eq!(rt; show(rt.alloc(), &mut reader, &mut writer), Ok(0));
-    } else {
+/// Whether the text is some of these lines, the first ones, and not all.
+fn are_first_lines(text: &[u8], lines: &[u8]) -> bool {
+    lines.starts_with(text)
+        && text.len() < lines.len()
+        && (text.is_empty() || text.ends_with(b"\n"))
+}
+
+/// Where a growth is refused, what was written are the first lines, and another call writes all.
+fn assert_shown_again(rt: &(impl Abort + AllocGlobal), input: &[u8], wanted: &[u8]) {
+    for most in [2, 50, 5000] {
+        let mut reader = Pipe::new(input, most, After::End, 0);
+        let mut writer = Pipe::new(b"", 1, After::End, 1024);
+        let mut ending = show(rt.alloc(), &mut reader, &mut writer);
+        if ending == Err(EngineFault::Memory) {
+            let written = writer.output();
+            assert!(rt;
+                are_first_lines(written, wanted),
+                "{written:?} of {wanted:?}"
+            );
+            reader = Pipe::new(input, most, After::End, 0);
+            writer = Pipe::new(b"", 1, After::End, 1024);
+            ending = show(rt.alloc(), &mut reader, &mut writer);
+        }
         assert_eq!(rt; ending, Ok(0));
+        assert_eq!(rt; writer.output(), wanted);
     }
-    assert_eq!(rt; writer.output(), wanted[0]);
+}
+
+#[test]
+fn shows_lines_of_each_kind_under_refused_memory(rt: HostRuntime) {
+    assert_shown_again(
+        &rt,
+        b"a\nboard:\nbcdefghijklmnopqrstuvwxyz\\\nd",
+        b"text a\nmalformed 0 2 BadName\ntext bcdefghijklmnopqrstuvwxyz\\x5c\nunfinished 1\n",
+    );
+}
+
+/// The messages of a login, and a board.
+#[test]
+fn shows_messages_under_refused_memory(rt: HostRuntime) {
+    let mut input = ArrayVec::<u8, 1024>::new();
+    let mut wanted = ArrayVec::<u8, 1024>::new();
+    for (line, printed) in &MESSAGES[..4] {
+        let _fits = input.try_extend_from_slice(line);
+        let _fits = wanted.try_extend_from_slice(printed);
+    }
+    for part in [FRONT, MIDDLE, LAST, b"\n"] {
+        let _fits = input.try_extend_from_slice(part);
+        let _fits = wanted.try_extend_from_slice(part);
+    }
+    assert_shown_again(&rt, &input, &wanted);
 }
 
 /// A reader without end gives its bytes as often as it is asked, and no more often.

@@ -3,6 +3,7 @@
 use crate::laws::{canonical_lines_read_back, messages_are_well_formed};
 use crate::{Fault, Message, Reading, Tail, Word, print_message, read};
 use std::alloc::{AllocError, Global};
+use std::process::Abort;
 use std::test::Fail;
 
 /// What a line prints again, where it is a message.
@@ -251,33 +252,76 @@ fn words_and_tails(rt: HostRuntime) {
     assert!(rt; Tail::new(b"a ").is_none());
 }
 
-/// Where one allocation is refused, the text is as before, and the same call goes on from there.
+/// Appends what is printed for the line of a message.
+fn append_printed(alloc: Global, line: &[u8], out: &mut Vec<u8>) -> Result<(), AllocError> {
+    match read(line) {
+        Reading::Numbered(message) => print_message(alloc, &message, out),
+        _ => Ok(()),
+    }
+}
+
+/// The lines of messages as they are printed in a row. Where a growth is refused, the text is as one that was given the
+/// lines before it, and what is appended later is appended to both.
+fn assert_appended(
+    rt: &impl Abort,
+    alloc: Global,
+    lines: &[(&[u8], &[u8])],
+) -> Result<(), AllocError> {
+    let mut out = Vec::new(alloc);
+    for at in 0..lines.len() {
+        let (line, canonical) = lines[at];
+        let before = out.len();
+        if append_printed(alloc, line, &mut out).is_err() {
+            let mut twin = Vec::new(alloc);
+            for (line, _) in &lines[..at] {
+                append_printed(alloc, line, &mut twin)?;
+            }
+            assert_eq!(rt; out, twin, "after {line:?} was refused");
+            for (later, _) in &lines[at + 1..] {
+                append_printed(alloc, later, &mut out)?;
+                append_printed(alloc, later, &mut twin)?;
+                assert_eq!(rt; out, twin, "{later:?} after {line:?} was refused");
+            }
+            return Ok(());
+        }
+        let wanted = if canonical.is_empty() {
+            line
+        } else {
+            canonical
+        };
+        assert_eq!(rt; out.get(before..), Some(wanted), "{line:?}");
+    }
+    Ok(())
+}
+
+/// Messages of a login, one after another.
 #[test]
-fn prints_whole_lines_under_refused_memory(rt: HostRuntime) -> Result<(), Fail> {
-    let line = b"5 bob - - 1 0 1500.00 0 3 1040515752 host - -".as_slice();
+fn lines_of_a_login_are_appended_under_refused_memory(rt: HostRuntime) -> Result<(), Fail> {
+    let lines = [PRINTED[0], PRINTED[1], PRINTED[4], PRINTED[19]];
+    Ok(assert_appended(&rt, rt.alloc(), &lines)?)
+}
+
+/// Each message twice, so that each of its fields meets a text that is full, and then a whole one.
+#[test]
+fn each_message_is_appended_under_refused_memory(rt: HostRuntime) -> Result<(), Fail> {
+    for row in &PRINTED {
+        assert_appended(&rt, rt.alloc(), &[*row, *row])?;
+    }
+    Ok(())
+}
+
+/// What is printed of a message is read back as it.
+#[test]
+fn a_printed_message_is_read_back(rt: HostRuntime) {
+    let line = PRINTED[4].0;
     let Reading::Numbered(message) = read(line) else {
         assert!(rt; false, "the line is a message");
-        return Ok(());
+        return;
     };
     messages_are_well_formed(&message);
-    let alloc = rt.alloc();
-    let mut out = Vec::new(alloc);
-    let mut refused = 0u32;
-    for _ in 0..20u32 {
-        let before = out.len();
-        if print_message(alloc, &message, &mut out).is_err() {
-            refused = refused.saturating_add(1);
-            assert_eq!(rt; out.len(), before, "nothing of a refused line stays");
-            print_message(alloc, &message, &mut out)?;
-        }
-    }
-    assert!(rt; refused <= 1);
-    assert_eq!(rt; out.len(), 20 * line.len());
-    assert!(rt; out.as_slice().chunks(line.len()).all(|piece| piece == line));
     let is_read_back = match canonical_lines_read_back(line) {
         Reading::Numbered(again) => again == message,
         _ => false,
     };
     assert!(rt; is_read_back);
-    Ok(())
 }

@@ -4,6 +4,8 @@ ghost use Rattle.std.specs.Prelude.{◌<◌, length, IfSome};
 
 use crate::{Directory, DirectoryFault, Player};
 use fibs_messages::{Reading, read};
+use std::alloc::Global;
+use std::process::Abort;
 use std::test::Fail;
 
 /// Takes note of a line's message. A line that is none changes nothing.
@@ -102,34 +104,178 @@ fn players_come_and_go(rt: HostRuntime) {
     assert!(rt; directory.get(b"bob").is_none());
 }
 
-/// The players before a step: those after the step before it.
-fn before(steps: &[Noted], at: usize) -> &'static [(&'static [u8], u32)] {
-    if at == 0 || at > steps.len() {
-        return &[];
-    }
-    steps[at - 1].players
+/// Whether two players have the same twelve values.
+fn are_one(a: &Player, b: &Player) -> bool {
+    a.name == b.name
+        && a.opponent == b.opponent
+        && a.watching == b.watching
+        && a.ready == b.ready
+        && a.away == b.away
+        && a.rating == b.rating
+        && a.experience == b.experience
+        && a.idle == b.idle
+        && a.login == b.login
+        && a.hostname == b.hostname
+        && a.client == b.client
+        && a.email == b.email
 }
 
-/// What a refused allocation leaves is what stood before, and the same call goes on from there.
-#[test]
-fn notes_players_under_refused_memory(rt: HostRuntime) {
-    let steps = session();
-    let mut directory = Directory::new(rt.alloc());
-    let mut refused = 0u32;
-    for at in 0..steps.len() {
-        let step = steps[at];
-        if let Err(fault) = note(&mut directory, step.line) {
-            refused = refused.saturating_add(1);
-            assert_eq!(rt; fault, DirectoryFault::Memory);
-            assert!(rt;
-                shows(&directory, before(&steps, at)),
-                "refused at step {at}"
-            );
-            assert_eq!(rt; note(&mut directory, step.line), Ok(()));
-        }
-        assert!(rt; shows(&directory, step.players), "step {at}");
+/// Whether neither is there, or both are the same.
+fn are_equal(a: Option<&Player>, b: Option<&Player>) -> bool {
+    match (a, b) {
+        (Some(a), Some(b)) => are_one(a, b),
+        (None, None) => true,
+        _ => false,
     }
-    assert!(rt; refused <= 1);
+}
+
+/// Whether each reader answers the same of both.
+fn are_alike(a: &Directory, b: &Directory) -> bool {
+    for place in 0..a.len() {
+        let is_alike = match a.at(place) {
+            None => false,
+            Some(player) => {
+                let name = player.name.as_slice();
+                are_equal(Some(player), b.at(place)) && are_equal(a.get(name), b.get(name))
+            }
+        };
+        if !is_alike {
+            return false;
+        }
+    }
+    a.len() == b.len()
+        && a.is_empty() == b.is_empty()
+        && a.at(a.len()).is_none()
+        && are_equal(a.get(b"ann"), b.get(b"ann"))
+}
+
+/// A directory that takes note of these lines, and why it refuses the first that it refuses.
+fn told(alloc: Global, lines: &[&[u8]]) -> (Directory, Result<(), DirectoryFault>) {
+    let mut directory = Directory::new(alloc);
+    for line in lines {
+        if let Err(fault) = note(&mut directory, line) {
+            return (directory, Err(fault));
+        }
+    }
+    (directory, Ok(()))
+}
+
+/// Both directories answer these lines alike, and are alike after each.
+fn assert_alike(rt: &impl Abort, a: &mut Directory, b: &mut Directory, lines: &[&[u8]]) {
+    assert!(rt; are_alike(a, b));
+    for line in lines {
+        assert_eq!(rt; note(a, line), note(b, line), "{line:?}");
+        assert!(rt; are_alike(a, b), "{line:?}");
+    }
+}
+
+/// Both directories take new names until they are full, and then a name that they know.
+fn assert_filled_alike(
+    rt: &impl Abort,
+    alloc: Global,
+    a: &mut Directory,
+    b: &mut Directory,
+) -> Result<(), Fail> {
+    let known = a.len();
+    for name in known..4097 {
+        let line = format!(in alloc; "5 p{name} - - 1 0 1500 0 3 1040515752 host - -")?;
+        let wanted = if name < 4096 {
+            Ok(())
+        } else {
+            Err(DirectoryFault::Full)
+        };
+        assert_eq!(rt; note(a, line.as_bytes()), wanted, "{name}");
+        assert_eq!(rt; note(b, line.as_bytes()), wanted, "{name}");
+    }
+    assert_alike(
+        rt,
+        a,
+        b,
+        &[b"5 p4095 - - 1 0 1700 0 3 1040515752 host - -", b"8 p4000"],
+    );
+    Ok(())
+}
+
+/// The directory that takes note of these lines. Where a growth is refused, it is as its twin, which was told only the lines
+/// before, and both go on alike: from the next line on, or from the refused one on.
+fn noted_in_turn(
+    rt: &impl Abort,
+    alloc: Global,
+    lines: &[&[u8]],
+    is_left_out: bool,
+) -> (Directory, Option<Directory>) {
+    let mut directory = Directory::new(alloc);
+    for at in 0..lines.len() {
+        if let Err(fault) = note(&mut directory, lines[at]) {
+            assert_eq!(rt; fault, DirectoryFault::Memory);
+            let (mut twin, done) = told(alloc, &lines[..at]);
+            assert_eq!(rt; done, Ok(()), "one growth is refused");
+            let later = if is_left_out { at + 1 } else { at };
+            assert_alike(rt, &mut directory, &mut twin, &lines[later..]);
+            return (directory, Some(twin));
+        }
+    }
+    (directory, None)
+}
+
+/// Players that come, come again and go.
+static COMING_AND_GOING: [&[u8]; 6] = [
+    b"5 ann - - 1 0 1500.00 0 3 1040515752 host - -",
+    b"5 bob ann - 0 0 1600.5 9 0 1040515752 host - -",
+    b"5 ann bob - 0 0 1512.34 5 0 1040515752 host - -",
+    b"8 ann ann logs out.",
+    b"5 ann - - 1 0 1500.00 0 3 1040515752 host - -",
+    b"8 carl carl logs out.",
+];
+
+#[test]
+fn players_come_and_go_under_refused_memory(rt: HostRuntime) {
+    let (directory, _twin) = noted_in_turn(&rt, rt.alloc(), &COMING_AND_GOING, false);
+    assert!(rt; shows(&directory, &[(b"bob", 160050), (b"ann", 150000)]));
+}
+
+/// After a note that was refused and is left out, a directory takes as many names, and can be cleared.
+#[test]
+fn a_refused_note_is_left_out_under_refused_memory(rt: HostRuntime) -> Result<(), Fail> {
+    let (mut directory, twin) = noted_in_turn(&rt, rt.alloc(), &COMING_AND_GOING, true);
+    if let Some(mut twin) = twin {
+        assert_filled_alike(&rt, rt.alloc(), &mut directory, &mut twin)?;
+        directory.clear();
+        twin.clear();
+        assert_alike(&rt, &mut directory, &mut twin, &COMING_AND_GOING);
+    }
+    Ok(())
+}
+
+/// Players of whom the directory grows several times.
+static NEWCOMERS: [&[u8]; 20] = [
+    b"5 a - - 1 0 1500 0 3 1 h - -",
+    b"5 b - - 1 0 1500 0 3 1 h - -",
+    b"5 c - - 1 0 1500 0 3 1 h - -",
+    b"5 d - - 1 0 1500 0 3 1 h - -",
+    b"5 e - - 1 0 1500 0 3 1 h - -",
+    b"5 f - - 1 0 1500 0 3 1 h - -",
+    b"5 g - - 1 0 1500 0 3 1 h - -",
+    b"5 h - - 1 0 1500 0 3 1 h - -",
+    b"5 i - - 1 0 1500 0 3 1 h - -",
+    b"5 j - - 1 0 1500 0 3 1 h - -",
+    b"5 k - - 1 0 1500 0 3 1 h - -",
+    b"5 l - - 1 0 1500 0 3 1 h - -",
+    b"5 m - - 1 0 1500 0 3 1 h - -",
+    b"5 n - - 1 0 1500 0 3 1 h - -",
+    b"5 o - - 1 0 1500 0 3 1 h - -",
+    b"5 p - - 1 0 1500 0 3 1 h - -",
+    b"5 q - - 1 0 1500 0 3 1 h - -",
+    b"5 r - - 1 0 1500 0 3 1 h - -",
+    b"5 s - - 1 0 1500 0 3 1 h - -",
+    b"5 t - - 1 0 1500 0 3 1 h - -",
+];
+
+#[test]
+fn newcomers_are_noted_under_refused_memory(rt: HostRuntime) {
+    let (directory, _twin) = noted_in_turn(&rt, rt.alloc(), &NEWCOMERS, false);
+    assert_eq!(rt; directory.len(), 20);
+    assert!(rt; is(directory.at(19), b"t", 150000));
 }
 
 #[test]
