@@ -1,6 +1,6 @@
 //! Loops to measure, over standard input: how many lines a stream has, how many of them are read, taken by a client or
-//! noted by a directory, how many legal plays their boards have, and how many clicks a client refuses; and how many of a
-//! million typed texts are commands. Nothing stands on them.
+//! noted by a directory, how many legal plays their boards have, and how many clicks a client refuses; and how many of
+//! a million typed texts are commands. Nothing stands on them.
 #![tactic(auto)]
 
 use fibs_lines::{Line, Lines};

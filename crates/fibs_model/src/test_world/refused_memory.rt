@@ -1,5 +1,5 @@
-//! Worlds of which a growth is refused: what is refused changes nothing, so that such a world goes on as its twin, which
-//! was asked for the events before it alone.
+//! Worlds of which a growth is refused: what is refused changes nothing, so that such a world goes on as its twin,
+//! which was asked for the events before it alone.
 
 use super::Act::{Click, Deliver, Lose, Open, Own, Repeat, Say, Serve, Text};
 use super::{Act, CLICKED_TWICE, INFO, LOST, WELCOME, event, play, world};

@@ -196,8 +196,8 @@ fn assert_filled_alike(
     Ok(())
 }
 
-/// The directory that takes note of these lines. Where a growth is refused, it is as its twin, which was told only the lines
-/// before, and both go on alike: from the next line on, or from the refused one on.
+/// The directory that takes note of these lines. Where a growth is refused, it is as its twin, which was told only the
+/// lines before, and both go on alike: from the next line on, or from the refused one on.
 fn noted_in_turn(
     rt: &impl Abort,
     alloc: Global,
