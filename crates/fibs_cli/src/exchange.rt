@@ -204,7 +204,8 @@ pub fn exchange<S: Link, W: Write>(
     ensures stopped { OnErr result ((t : Talk) → StandsAfter client.old t → is_online t ≡ is_there stream.entry →
         Stopped t client.new (bytes_of typed.entry)
         (known_before S.remaining stream.entry) (known_after S.remaining stream.exit)) }
-    ensures few { LostAtMost (4096 * 1024) (known_before S.remaining stream.entry) (known_after S.remaining stream.exit) }
+    ensures few {
+        LostAtMost (4096 * 1024) (known_before S.remaining stream.entry) (known_after S.remaining stream.exit) }
 {
     match stream {
         None => talk_offline(client, typed, out),

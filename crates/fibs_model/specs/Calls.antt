@@ -24,7 +24,9 @@ ask_links links c (t ∷ ts) = set_link links c (more_asked (link_at links c) (w
 -- a line goes to the connection logged in, where that is the open one
 abbrev pub send_links : ℕ → ℕ → List LinkValue → List ℕ → List LinkValue
 send_links logged_in c links line =
-    if nat_eq c logged_in && not (nat_eq logged_in 0) then set_link links c (more_coming (link_at links c) (on_wire line)) else links
+    if nat_eq c logged_in && not (nat_eq logged_in 0)
+    then set_link links c (more_coming (link_at links c) (on_wire line))
+    else links
 
 -- what is noted of a click with its answer, on the board shown
 abbrev pub click_entries : ℕ → DecisionValue → Option Refusal → Option BoardFields → List L.Entry
@@ -53,10 +55,13 @@ abbrev pub serve_refusal : List LinkValue → ℕ → ℕ → ℕ → ℕ → Op
 serve_refusal links logged_in c d1 d2 =
     if nat_eq c 0 || nat_lt (length links) c then Some NoSuchConnection
     else (if not (is_die d1 && is_die d2) then Some BadDice
-    else (if nat_lt c logged_in || not (is_some (next_line (link_at links c).asked)) then Some NothingToServe else None))
+    else (if nat_lt c logged_in || not (is_some (next_line (link_at links c).asked))
+    then Some NothingToServe
+    else None))
 
 -- the server took the first len bytes that are on their way, with their line end, and this came of it
-pub record TakesLine (old new : ServerValue) (before after : C.Link) (c len d1 d2 : ℕ) (served : V.Served) : Type 0 where
+pub record TakesLine (old new : ServerValue) (before after : C.Link) (c len d1 d2 : ℕ) (served : V.Served)
+    : Type 0 where
   pub answer : served ≡ V.answered old.board old.logged_in c before.fresh (take len before.to_server.items) d1 d2
   pub server : new ≡ after_line old c served
   pub wire : after.to_server.items ≡ drop (len + 2) before.to_server.items
@@ -64,7 +69,8 @@ pub record TakesLine (old new : ServerValue) (before after : C.Link) (c len d1 d
   pub others : after.to_client ≡ before.to_client
 
 -- the server took the next line of a connection: it, and what is left
-pub record TakesNext (old new : ServerValue) (before after : List LinkValue) (c d1 d2 : ℕ) (served : V.Served) : Type 0 where
+pub record TakesNext (old new : ServerValue) (before after : List LinkValue) (c d1 d2 : ℕ) (served : V.Served)
+    : Type 0 where
   pub line : List ℕ × List ℕ
   pub next : next_line (link_at before c).asked ≡ Some line
   pub answer : served ≡ V.answered old.board old.logged_in c (link_at before c).fresh line.0 d1 d2
