@@ -189,7 +189,7 @@ fn talk_offline<W: Write>(
 ///
 /// Errors: `Output` where what is printed can't be written. The client is then as after its last finished call: it made
 /// the typed call, then it was fed what was read, all of it or up to the end of the line that is not printed, and then
-/// it lost its connection, where the end of the connection is what is not printed.
+/// it lost its connection, where that is what is not printed. The commands of these calls are written.
 pub fn exchange<S: Link, W: Write>(
     client: &mut Client,
     directory: &mut Directory,
