@@ -84,7 +84,8 @@ fn listen<S: Link, W: Write>(
         (outside (S.contents stream.old) (W.contents out.old) directory.old)
         (outside (S.contents stream.new) (W.contents out.new) directory.new) e) }
     ensures stopped { OnErr result ((t : Talk) → StandsAfter client.old t → is_online t ≡ true →
-        Stopped t client.new None (S.remaining stream.old) (S.remaining stream.new)) }
+        Stopped t client.new None (S.remaining stream.old) (S.remaining stream.new)
+        (S.contents stream.old) (S.contents stream.new)) }
     ensures few { LostAtMost (4096 * 1024) (S.remaining stream.old) (S.remaining stream.new) }
 {
     listen_portions(client, directory, stream, out, MAX_READS, &mut [0; PORTION])
@@ -104,7 +105,8 @@ fn listen_portions<S: Link, W: Write>(
         (outside (S.contents stream.old) (W.contents out.old) directory.old)
         (outside (S.contents stream.new) (W.contents out.new) directory.new) e) }
     ensures stopped { OnErr result ((t : Talk) → StandsAfter client.old t → is_online t ≡ true →
-        Stopped t client.new None (S.remaining stream.old) (S.remaining stream.new)) }
+        Stopped t client.new None (S.remaining stream.old) (S.remaining stream.new)
+        (S.contents stream.old) (S.contents stream.new)) }
     ensures few { LostAtMost (reads * length portion.old) (S.remaining stream.old) (S.remaining stream.new) }
 {
     fibs_session::client::laws::pieces_join();
@@ -139,7 +141,8 @@ fn talk<S: Link, W: Write>(
         (outside (S.contents stream.old) (W.contents out.old) directory.old)
         (outside (S.contents stream.new) (W.contents out.new) directory.new) e) }
     ensures stopped { OnErr result ((t : Talk) → StandsAfter client.old t → is_online t ≡ true →
-        Stopped t client.new (bytes_of typed.entry) (S.remaining stream.old) (S.remaining stream.new)) }
+        Stopped t client.new (bytes_of typed.entry) (S.remaining stream.old) (S.remaining stream.new)
+        (S.contents stream.old) (S.contents stream.new)) }
     ensures few { LostAtMost (4096 * 1024) (S.remaining stream.old) (S.remaining stream.new) }
 {
     fibs_session::client::laws::empty_piece_is_nothing();
@@ -164,7 +167,7 @@ fn talk_offline<W: Write>(
         Turned t client.new (bytes_of typed.entry) None None
         (outside None (W.contents out.old) players) (outside None (W.contents out.new) players) e) }
     ensures stopped { OnErr result ((t : Talk) → StandsAfter client.old t → is_online t ≡ false →
-        Stopped t client.new (bytes_of typed.entry) None None) }
+        Stopped t client.new (bytes_of typed.entry) None None None None) }
 {
     fibs_session::client::laws::empty_piece_is_nothing();
     match typed {
@@ -186,7 +189,7 @@ fn talk_offline<W: Write>(
 ///
 /// Errors: `Output` where what is printed can't be written. The client is then as after its last finished call: it made
 /// the typed call, then it was fed what was read, all of it or up to the end of the line that is not printed, and then
-/// it lost its connection, where the end of the connection is what is not printed.
+/// it lost its connection, where that is what is not printed. The commands of these calls are written.
 pub fn exchange<S: Link, W: Write>(
     client: &mut Client,
     directory: &mut Directory,
@@ -203,9 +206,9 @@ pub fn exchange<S: Link, W: Write>(
         (outside (known_after S.contents stream.exit) (W.contents out.new) directory.new) e) }
     ensures stopped { OnErr result ((t : Talk) → StandsAfter client.old t → is_online t ≡ is_there stream.entry →
         Stopped t client.new (bytes_of typed.entry)
-        (known_before S.remaining stream.entry) (known_after S.remaining stream.exit)) }
-    ensures few {
-        LostAtMost (4096 * 1024) (known_before S.remaining stream.entry) (known_after S.remaining stream.exit) }
+        (known_before S.remaining stream.entry) (known_after S.remaining stream.exit)
+        (known_before S.contents stream.entry) (known_after S.contents stream.exit)) }
+    ensures few { LostAtMost (4096 * 1024) (known_before S.remaining stream.entry) (known_after S.remaining stream.exit) }
 {
     match stream {
         None => talk_offline(client, typed, out),

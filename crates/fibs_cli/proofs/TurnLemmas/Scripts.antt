@@ -12,8 +12,7 @@ use Rattle.fibs_cli.specs.Writing.{Wrote}
 use Rattle.fibs_cli.specs.declared.writing.Progress.{Progress}
 use Rattle.fibs_cli.specs.declared.writing.Progress.TheVariants.{Whole, Broken}
 use Rattle.fibs_cli.specs.Turns.Acts.{Act, line_bytes, text_of_lines}
-use Rattle.fibs_cli.specs.Turns.Script.{Outside, outside, Done, directory_lines, done_lines, noted_unless, acts_of}
-use Rattle.fibs_cli.specs.Turns.Script.{writes_of, prints_of, notes_of, Notes, InHand, Did}
+use Rattle.fibs_cli.specs.Turns.Script.{Outside, outside, Done, directory_lines, done_lines, noted_unless, calls_of, acts_of, writes_of, prints_of, notes_of, Notes, InHand, Did}
 
 -- the directory stays
 pub notes_nothing : (d : List MessageValue) → Notes d d []
@@ -91,6 +90,30 @@ did_part a b act w printed players = record {
   printed = subst (λ o. Appends a.printed o []) (sym printed) (Appends-nil a.printed);
   noted = subst (λ d. Notes a.players d []) (sym players) (notes_nothing a.players);
 }
+
+-- the commands of acts that were done
+calls_done : (ds : List Done) → calls_of (acts_of ds) ≡ writes_of ds
+calls_done [] = refl
+calls_done (d ∷ ds) = ap (λ l. d.act.writes ++ l) (calls_done ds)
+
+-- what was written of a script are its commands, up to a front of the one at which a write failed
+pub did_wrote : (p : Progress) (a b : Outside) (script : List Act) → Did a b script p
+    → Wrote p a.wrote b.wrote (calls_of script)
+did_wrote Whole a b script d =
+    let same : calls_of script ≡ writes_of d.done =
+    ap calls_of d.acts ∙ ap (λ h. calls_of (acts_of d.done ++ h)) d.in_hand.0
+    ∙ ap calls_of (append-nil (acts_of d.done)) ∙ calls_done d.done in
+    subst (Appends a.wrote b.wrote)
+    (ap (λ h. writes_of d.done ++ h) d.in_hand.1 ∙ append-nil (writes_of d.done) ∙ sym same) d.wrote
+did_wrote Broken a b script d =
+    let h = d.in_hand in
+    let same : calls_of script ≡ (writes_of d.done ++ d.part) ++ (h.1 ∷ h.2) =
+    ap calls_of d.acts ∙ ap (λ l. calls_of (acts_of d.done ++ l)) h.3
+    ∙ flat_map-append (λ (x : Act). x.writes) (acts_of d.done) (h.0 ∷ [])
+    ∙ ap (λ l. l ++ (h.0.writes ++ [])) (calls_done d.done)
+    ∙ ap (λ l. writes_of d.done ++ l) (append-nil h.0.writes ∙ h.4)
+    ∙ sym (append_assoc (writes_of d.done) d.part (h.1 ∷ h.2)) in
+    (writes_of d.done ++ d.part, h.2, h.1, same, d.wrote)
 
 -- what was written and printed stays
 pub did_kept : (p : Progress) (a b c : Outside) (script : List Act) → Did a b script p → Keeps b.wrote c.wrote → Keeps b.printed c.printed → c.players ≡ b.players → Did a c script p

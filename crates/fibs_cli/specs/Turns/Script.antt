@@ -42,6 +42,10 @@ abbrev pub noted_unless : Option DirectoryFault → List MessageValue → List M
 noted_unless None messages = messages
 noted_unless (Some why) messages = []
 
+-- the bytes of the commands that acts call for
+abbrev pub calls_of : List Act → List ℕ
+calls_of = flat_map (λ act. act.writes)
+
 abbrev pub acts_of : List Done → List Act
 acts_of = map (λ d. d.act)
 

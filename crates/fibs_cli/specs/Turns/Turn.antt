@@ -2,7 +2,7 @@
 use Rattle.std.specs.Prelude.{◌≡◌, ◌≢◌, ◌<◌, ◌≤◌, ◌*◌, ℕ, Bool, true, false, List, [], ◌∷◌, ◌++◌, length, take}
 use Rattle.std.specs.Prelude.{Option, Some, None, option_map, ◌⊎◌}
 use Rattle.std.specs.Borrow.{Bor}
-use Rattle.std.specs.Io.KnownBytes.{Consumes}
+use Rattle.std.specs.Io.KnownBytes.{Appends, Consumes}
 use Rattle.fibs_lines.specs.Lines.{lines_of}
 use Rattle.fibs_session.specs.History.Words.{Ask}
 use Rattle.fibs_session.specs.History.Machine.{Talk, Lose, Piece, step, is_online, unconfirmed_now}
@@ -15,7 +15,8 @@ use Rattle.fibs_cli.specs.declared.writing.Progress.TheVariants.{Whole, Broken}
 use Rattle.fibs_cli.specs.Turns.Acts.{Act, only_print, lost_line}
 use Rattle.fibs_cli.specs.Turns.Lines.{piece_acts}
 use Rattle.fibs_cli.specs.Turns.Typing.{talk_after, typed_acts}
-use Rattle.fibs_cli.specs.Turns.Script.{Outside, Did}
+use Rattle.fibs_cli.specs.Turns.Script.{Outside, Did, calls_of}
+use Rattle.fibs_cli.specs.Writing.{Wrote}
 
 abbrev pub bytes_of : Option (Bor (List ℕ)) → Option (List ℕ)
 bytes_of None = None
@@ -98,30 +99,36 @@ pub record Turned (t : Talk) (new : ClientValue) (typed left still : Option (Lis
 
 -- ---- a print that fails
 
--- no byte is left, or those that were fed end a line
-abbrev pub FedInLines : List ℕ → List ℕ → List ℕ → Type 0
-FedInLines stream fed rest = (rest ≡ []) ⊎ (EndsALine stream fed × (0 < length fed))
-
--- of these bytes a front that ends a line was fed to a client that stood after t
-pub record FedToALine (t : Talk) (new : ClientValue) (bytes : List ℕ) : Type 0 where
+-- of these bytes a front that ends a line was fed to a client that stood after t, and its commands were written
+pub record FedToALine (t : Talk) (new : ClientValue) (bytes : List ℕ) (wrote now : Option (List ℕ)) : Type 0 where
   pub fed : List ℕ
   pub rest : List ℕ
   pub cut : bytes ≡ fed ++ rest
   pub ends : EndsALine t.stream fed × (0 < length fed)
+  pub calls : Appends wrote now (calls_of (piece_acts t fed))
   pub stands : StandsAfter new (step t (Piece fed)).talk
 
--- the client stands after t, or has then lost its connection
-abbrev pub StandsOrLost : ClientValue → Talk → Type 0
-StandsOrLost new t = StandsAfter new t ⊎ StandsAfter new (step t Lose).talk
+-- no byte is left, or those that were fed end a line
+abbrev pub FedInLines : List ℕ → List ℕ → List ℕ → Type 0
+FedInLines stream fed rest = (rest ≡ []) ⊎ (EndsALine stream fed × (0 < length fed))
+
+-- how the client that stood after t stands where a print failed. It lost its connection only where all is fed, or a
+-- write had failed before
+abbrev pub StopsAs : Progress → List ℕ → List ℕ → List ℕ → Talk → ClientValue → Type 0
+StopsAs p stream fed rest t new =
+    ((p ≡ Whole) × FedInLines stream fed rest × StandsAfter new t)
+    ⊎ (ReadExtent p stream fed rest × StandsAfter new (step t Lose).talk)
 
 -- the client is as after its last finished call: one that stood after t made the typed call, then it was fed the bytes
--- that were read, all or up to the end of a line, and then it may have lost its connection
-pub record Stopped (t : Talk) (new : ClientValue) (typed left still : Option (List ℕ)) : Type 0 where
+-- that were read, all or up to the end of a line, and then it may have lost its connection. The commands of these calls
+-- were written
+pub record Stopped (t : Talk) (new : ClientValue) (typed left still wrote now : Option (List ℕ)) : Type 0 where
   pub read : List ℕ
   pub took : Consumes left still read
   pub fed : List ℕ
   pub rest : List ℕ
   pub cut : read ≡ fed ++ rest
-  pub extent : FedInLines t.stream fed rest
-  pub stands : StandsOrLost new (step (talk_after t typed) (Piece fed)).talk
+  pub progress : Progress
+  pub calls : Wrote progress wrote now (calls_of (typed_acts t typed ++ piece_acts (talk_after t typed) fed))
+  pub stands : StopsAs progress t.stream fed rest (step (talk_after t typed) (Piece fed)).talk new
   pub offline : is_online t ≡ false → read ≡ []

@@ -158,6 +158,8 @@ fn hear_line<S: Link, W: Write>(
 ) -> Result<Progress, ExchangeFault>
     ensures did { IfOk result (λ p. Did (outside (S.contents stream.old) (W.contents out.old) directory.old)
         (outside (S.contents stream.new) (W.contents out.new) directory.new) (taken_act (taken_of taken.now) ∷ []) p) }
+    ensures stopped { OnErr result (Appends (S.contents stream.old) (S.contents stream.new)
+        (taken_act (taken_of taken.now)).writes) }
     ensures apart { Keeps (S.remaining stream.old) (S.remaining stream.new) }
 {
     match send_commands(taken.send.as_slice(), stream) {
@@ -181,7 +183,8 @@ pub(super) fn hear_portion<S: Link, W: Write>(
     ensures talked { IfOk result (λ p. (t : Talk) → StandsAfter client.old t → Talked t client.new portion.now
         (outside (S.contents stream.old) (W.contents out.old) directory.old)
         (outside (S.contents stream.new) (W.contents out.new) directory.new) p) }
-    ensures stopped { OnErr result ((t : Talk) → StandsAfter client.old t → FedToALine t client.new portion.now) }
+    ensures stopped { OnErr result ((t : Talk) → StandsAfter client.old t →
+        FedToALine t client.new portion.now (S.contents stream.old) (S.contents stream.new)) }
     ensures apart { Keeps (S.remaining stream.old) (S.remaining stream.new) }
 {
     fibs_session::client::laws::pieces_join();

@@ -1,5 +1,5 @@
 //! A typed line.
-ghost use Rattle.std.specs.Prelude.{◌≡◌, ◌++◌, ◌∷◌, [], ℕ, List, Option, IfOk, OnOk, false};
+ghost use Rattle.std.specs.Prelude.{◌≡◌, ◌++◌, ◌∷◌, [], ℕ, List, Option, IfOk, OnOk, OnErr, false};
 ghost use Rattle.std.specs.Io.KnownBytes.{Appends, Keeps};
 ghost use Rattle.fibs_session.specs.History.Machine.{Talk, shown_now, is_online};
 ghost use Rattle.fibs_session.specs.Calls.Standing.{StandsAfter};
@@ -138,6 +138,8 @@ pub(super) fn type_line<S: Link, W: Write>(
     ensures did { IfOk result (λ p. (t : Talk) → StandsAfter client.old t → (players : List MessageValue) →
         Did (outside (S.contents stream.old) (W.contents out.old) players)
         (outside (S.contents stream.new) (W.contents out.new) players) (typed_act t (typed_now t text.now) ∷ []) p) }
+    ensures stopped { OnErr result ((t : Talk) → StandsAfter client.old t →
+        Appends (S.contents stream.old) (S.contents stream.new) (typed_act t (typed_now t text.now)).writes) }
     ensures apart { Keeps (S.remaining stream.old) (S.remaining stream.new) }
 {
     match answer_text(client, text) {

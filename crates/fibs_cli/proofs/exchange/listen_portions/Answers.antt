@@ -4,6 +4,7 @@ use Rattle.std.proofs.KnownBytes.{Consumes-nil, Consumes-trans, Consumes-kept, K
 use Rattle.fibs_session.specs.History.Machine.{Piece, step}
 use Rattle.fibs_cli.specs.declared.exchange.Ending.TheVariants.{Quiet}
 use Rattle.fibs_cli.specs.declared.writing.Progress.TheVariants.{Whole, Broken}
+use Rattle.fibs_cli.specs.Turns.Script.{outside}
 use Rattle.fibs_cli.proofs.TurnLemmas.Wrote.{if_ok_weaker, consumes_none}
 use Rattle.fibs_cli.proofs.TurnLemmas.Turns.{gone_nothing, gone_kept, gone_portion, broke_portion, still_open, turned}
 use Rattle.fibs_cli.proofs.TurnLemmas.Turns.{turned_whole}
@@ -77,7 +78,8 @@ returns-in_err-map_err-clause-stopped g c =
     on_any_err c.from_residual.result
     (λ t at on.
     let i = c.loop-made.invariant in
-    stopped_whole t _ _ _ i.0 on i.1 (inl (i.2 t at).stands))
+    let gone = i.2 t at in
+    stopped_whole t _ _ _ _ i.0 _ _ on i.1 gone (inl (refl, inl refl, gone.stands)))
 
 pub returns-in-Ok-eq0-clause-stopped : goal.returns-in-Ok-eq0-clause-stopped
 returns-in-Ok-eq0-clause-stopped g c =
@@ -85,16 +87,23 @@ returns-in-Ok-eq0-clause-stopped g c =
     let bytes = rw c.in-Ok-eq0.is at c.receive.ensures.bytes in
     let took : Consumes (g.S.Read.remaining c.args.stream.now) (g.S.Read.remaining c.receive.new.self) i.0 =
     consumes_none _ _ _ i.0 c.in-Ok-eq0.field-0 c.receive.new.buf i.1 bytes.0 c.in-Ok-eq0.field-0-test in
+    let here = outside (g.S.Write.contents c.receive.new.self) (g.W.Write.contents c.loop-made.out) c.loop-made.directory in
     on_any_err c.end_connection.result
     (λ t at on.
-    stopped_whole t _ _ _ i.0 on took (inr (c.end_connection.ensures.lost (step t (Piece i.0)).talk (i.2 t at).stands)))
+    let gone = i.2 t at in
+    stopped_whole t _ _ _ _ i.0 _ here on took (gone_kept t _ i.0 _ _ here gone c.receive.ensures.apart (Keeps-refl _) refl)
+    (inr (refl, c.end_connection.ensures.lost (step t (Piece i.0)).talk gone.stands)))
 
 pub returns-in-Err-2-clause-stopped : goal.returns-in-Err-2-clause-stopped
 returns-in-Err-2-clause-stopped g c =
     let i = c.loop-made.invariant in
+    let here = outside (g.S.Write.contents c.receive.new.self) (g.W.Write.contents c.loop-made.out) c.loop-made.directory in
     on_any_err c.end_connection-in-Err-2.result
-    (λ t at on. stopped_whole t _ _ _ i.0 on (Consumes-kept _ _ _ i.0 i.1 c.in-Err-2.ensures.bytes)
-    (inr (c.end_connection-in-Err-2.ensures.lost (step t (Piece i.0)).talk (i.2 t at).stands)))
+    (λ t at on.
+    let gone = i.2 t at in
+    stopped_whole t _ _ _ _ i.0 _ here on (Consumes-kept _ _ _ i.0 i.1 c.in-Err-2.ensures.bytes)
+    (gone_kept t _ i.0 _ _ here gone c.receive.ensures.apart (Keeps-refl _) refl)
+    (inr (refl, c.end_connection-in-Err-2.ensures.lost (step t (Piece i.0)).talk gone.stands)))
 
 pub returns-in_err-hear_portion-clause-stopped : goal.returns-in_err-hear_portion-clause-stopped
 returns-in_err-hear_portion-clause-stopped g c =
@@ -104,8 +113,10 @@ returns-in_err-hear_portion-clause-stopped g c =
     let piece = take c.in-Ok.count c.receive.new.buf in
     let took =
     Consumes-trans _ _ _ i.0 piece i.1 (Consumes-kept _ _ _ piece c.in-Ok.ensures.bytes.0 c.hear_portion.ensures.apart) in
-    stopped_portion c.pieces_join.ensures c.lines_only_grow.ensures t _ _ _ i.0 piece on took
-    (c.in_err-hear_portion.ensures.stopped (step t (Piece i.0)).talk (i.2 t at).stands))
+    let here = outside (g.S.Write.contents c.receive.new.self) (g.W.Write.contents c.loop-made.out) c.loop-made.directory in
+    let gone = gone_kept t _ i.0 _ _ here (i.2 t at) c.receive.ensures.apart (Keeps-refl _) refl in
+    stopped_portion c.pieces_join.ensures c.lines_only_grow.ensures t _ _ _ _ i.0 piece _ here _ on took gone
+    (c.in_err-hear_portion.ensures.stopped (step t (Piece i.0)).talk gone.stands))
 
 pub returns-in-Broken-clause-stopped : goal.returns-in-Broken-clause-stopped
 returns-in-Broken-clause-stopped g c =
@@ -120,7 +131,7 @@ returns-in-Broken-clause-stopped g c =
     broke_portion c.pieces_join.ensures c.lines_only_grow.ensures t _ _ i.0 piece _ _ _ on gone
     (rw c.in-Broken.is at c.in_ok-hear_portion.ensures.talked (step t (Piece i.0)).talk gone.stands) in
     stopped_broken t _ _ _ _ (i.0 ++ piece) _ _ on took talked
-    (inr (c.end_connection-in-Broken.ensures.lost (step t (Piece talked.fed)).talk talked.stands)))
+    (c.end_connection-in-Broken.ensures.lost (step t (Piece talked.fed)).talk talked.stands))
 
 pub returns-in-Err-clause-few : goal.returns-in-Err-clause-few
 returns-in-Err-clause-few g c =

@@ -1,11 +1,11 @@
-use Rattle.std.proofs.Common.{◌≡◌, true, sym, ap, subst, ◌∙◌, Some, None, inl, inr}
+use Rattle.std.proofs.Common.{◌≡◌, true, sym, ap, subst, ◌∙◌, Some, None, inl, refl}
 use Rattle.fibs_cli.specs.declared.writing.Progress.TheVariants.{Whole, Broken}
 use Rattle.fibs_cli.specs.Turns.Typing.{typed_now, typed_step}
 use Rattle.fibs_cli.proofs.TurnLemmas.Wrote.{if_ok_weaker}
 use Rattle.fibs_cli.proofs.TurnLemmas.Typed.{typed_stays}
 use Rattle.fibs_cli.proofs.TurnLemmas.Turns.{turned_typed, turned_broken}
 use Rattle.std.proofs.lemmas.Result.{on_err_weaker}
-use Rattle.fibs_cli.proofs.TurnLemmas.Stops.{on_any_err, stopped_typed, stopped_here}
+use Rattle.fibs_cli.proofs.TurnLemmas.Stops.{on_any_err, stopped_typed, stopped_here, stopped_unsent}
 use Rattle.fibs_cli.proofs.exchange.talk.Goals as goal
 
 pub returns-in-Whole-clause-turned : goal.returns-in-Whole-clause-turned
@@ -29,8 +29,9 @@ pub returns-in_err-type_line-in-Some-clause-stopped : goal.returns-in_err-type_l
 returns-in_err-type_line-in-Some-clause-stopped g c =
     on_any_err c.from_residual.result
     (λ t at on.
-    rw c.in-Some.is (stopped_here t _ c.in-Some.text.now _ _ c.empty_piece_is_nothing.ensures c.type_line.ensures.apart
-    (inl (c.type_line.ensures.stands t at))))
+    rw c.in-Some.is (stopped_here Whole t _ c.in-Some.text.now _ _ _ _ c.empty_piece_is_nothing.ensures
+    c.type_line.ensures.apart (c.in_err-type_line-in-Some.ensures.stopped t at)
+    (inl (refl, inl refl, c.type_line.ensures.stands t at))))
 
 pub returns-in-Whole-clause-stopped : goal.returns-in-Whole-clause-stopped
 returns-in-Whole-clause-stopped g c =
@@ -38,14 +39,16 @@ returns-in-Whole-clause-stopped g c =
     (λ h t at on.
     let text = c.in-Some.text.now in
     let v = typed_now t text in
-    stopped_typed t _ text _ _ _ on c.type_line.ensures.apart
-    (h (typed_step t v).talk (c.type_line.ensures.stands t at) ((typed_stays t v).online ∙ on))) c.listen-in-Whole.ensures.stopped)
+    stopped_typed t _ text _ _ _ _ _ _ on c.type_line.ensures.apart
+    (rw c.in-Whole.is at c.in_ok-type_line-in-Some.ensures.did t at c.args.directory.now)
+    (h (typed_step t v).talk (c.type_line.ensures.stands t at) ((typed_stays t v).online ∙ on)))
+    c.listen-in-Whole.ensures.stopped)
 
 pub returns-in-Broken-clause-stopped : goal.returns-in-Broken-clause-stopped
 returns-in-Broken-clause-stopped g c =
     rw c.in-Some.is (on_any_err c.end_connection.result
     (λ t at on.
     let text = c.in-Some.text.now in
-    stopped_here t _ text _ _ c.empty_piece_is_nothing.ensures c.type_line.ensures.apart
-    (inr (c.end_connection.ensures.lost (typed_step t (typed_now t text)).talk
-    (c.type_line.ensures.stands t at)))))
+    stopped_unsent t _ text _ _ _ _ c.empty_piece_is_nothing.ensures c.type_line.ensures.apart
+    (rw c.in-Broken.is at c.in_ok-type_line-in-Some.ensures.did t at c.args.directory.now)
+    (c.end_connection.ensures.lost (typed_step t (typed_now t text)).talk (c.type_line.ensures.stands t at))))

@@ -1,4 +1,5 @@
-use Rattle.std.proofs.Common.{None, inl}
+use Rattle.std.proofs.Common.{None, inl, refl}
+use Rattle.fibs_cli.specs.declared.writing.Progress.TheVariants.{Whole}
 use Rattle.fibs_cli.proofs.TurnLemmas.Turns.{turned_nothing, turned_offline}
 use Rattle.fibs_cli.proofs.TurnLemmas.Stops.{on_any_err, stopped_here}
 use Rattle.fibs_cli.proofs.exchange.talk_offline.Goals as goal
@@ -14,5 +15,5 @@ returns-in_ok-type_offline-in-Some-clause-turned g c = λ t at off players.
 pub returns-in_err-type_offline-in-Some-clause-stopped : goal.returns-in_err-type_offline-in-Some-clause-stopped
 returns-in_err-type_offline-in-Some-clause-stopped g c =
     on_any_err c.from_residual.result
-    (λ t at off. rw c.in-Some.is (stopped_here t _ c.in-Some.text.now None None c.empty_piece_is_nothing.ensures tt
-    (inl (c.type_offline.ensures.stands t at))))
+    (λ t at off. rw c.in-Some.is (stopped_here Whole t _ c.in-Some.text.now None None None None
+    c.empty_piece_is_nothing.ensures tt tt (inl (refl, inl refl, c.type_offline.ensures.stands t at))))

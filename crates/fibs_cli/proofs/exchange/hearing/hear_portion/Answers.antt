@@ -1,14 +1,13 @@
-use Rattle.std.proofs.Common.{◌≡◌, ◌++◌, ◌<◌, ◌≤◌, ℕ, List, [], ◌∷◌, length, take, drop, Option, Some, None, arith}
-use Rattle.std.proofs.Common.{length-take, refl, sym, ap, subst, ◌∙◌}
+use Rattle.std.proofs.Common.{◌≡◌, ◌++◌, ◌<◌, ◌≤◌, ℕ, List, [], ◌∷◌, length, take, drop, Option, Some, None, arith, length-take, refl, sym, ap, subst, ◌∙◌, append-nil}
 use Rattle.std.proofs.lemmas.List.{take_rest}
 use Rattle.std.proofs.KnownBytes.{Keeps-refl, Keeps-trans}
 use Rattle.std.specs.Prelude.{option_map}
-use Rattle.std.specs.Io.KnownBytes.{Keeps}
+use Rattle.std.specs.Io.KnownBytes.{Appends, Keeps}
 use Rattle.fibs_session.specs.History.Machine.{Talk, Piece, step}
 use Rattle.fibs_session.specs.Calls.Feeding.{FeedAnswers, Shows}
 use Rattle.fibs_session.specs.Calls.SessionOf.{taken_of}
-use Rattle.fibs_cli.specs.Turns.Lines.{taken_act}
-use Rattle.fibs_cli.specs.Turns.Script.{Did, outside}
+use Rattle.fibs_cli.specs.Turns.Lines.{taken_act, piece_acts}
+use Rattle.fibs_cli.specs.Turns.Script.{Did, outside, calls_of}
 use Rattle.fibs_cli.specs.declared.writing.Progress.TheVariants.{Whole, Broken}
 use Rattle.fibs_cli.proofs.TurnLemmas.Wrote.{front_more}
 use Rattle.fibs_cli.proofs.TurnLemmas.Scripts.{did_nothing}
@@ -55,13 +54,18 @@ returns-in_err-hear_line-in-Some-clause-stopped g c =
     subst (λ x. Shows c.read-heard.new.self c.read-heard.result (option_map taken_of x)) c.in-Some.is
     (c.got-got.ensures.shows c.read-heard.ensures.keeps) in
     let fed : FeedAnswers c.loop-rest.client rest used (Some k) = c.read-heard.ensures.answers (Some k) shown in
+    let before = g.S.Write.contents c.loop-rest.stream in
+    let after = g.S.Write.contents c.hear_line.new.stream in
+    let calls : (taken_act k).writes ≡ calls_of (piece_acts u (take used rest)) =
+    sym (append-nil (taken_act k).writes)
+    ∙ ap calls_of (sym (acts_taken c.loop-rest.client rest used (Some k) fed u gone.stands)) in
     line_behind c.pieces_join.ensures c.lines_only_grow.ensures t c.read-heard.new.self i.0 (take used rest)
-    (drop used rest) c.args.portion.now (front_more c.args.portion.now i.0 rest used i.1)
-    (sym (piece_online t i.0) ∙ taken_online c.loop-rest.client rest used k fed u gone.stands)
+    (drop used rest) c.args.portion.now _ _ after (front_more c.args.portion.now i.0 rest used i.1)
+    (sym (piece_online t i.0) ∙ taken_online c.loop-rest.client rest used k fed u gone.stands) gone.did
     (c.read-heard.ensures.does.stands u gone.stands)
     (ends_taken c.loop-rest.client rest used k fed c.read-heard.ensures.in_range u gone.stands)
     (long used rest (c.read-heard.ensures.progress (grind (arith, c.is_empty.ensures, c.loop-rest-test.true)))
-    c.read-heard.ensures.in_range))
+    c.read-heard.ensures.in_range) (subst (Appends before after) calls c.in_err-hear_line-in-Some.ensures.stopped))
 
 pub loop-rest-preserved : goal.loop-rest-preserved
 loop-rest-preserved g c =
