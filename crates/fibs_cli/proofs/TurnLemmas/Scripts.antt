@@ -12,7 +12,8 @@ use Rattle.fibs_cli.specs.Writing.{Wrote}
 use Rattle.fibs_cli.specs.declared.writing.Progress.{Progress}
 use Rattle.fibs_cli.specs.declared.writing.Progress.TheVariants.{Whole, Broken}
 use Rattle.fibs_cli.specs.Turns.Acts.{Act, line_bytes, text_of_lines}
-use Rattle.fibs_cli.specs.Turns.Script.{Outside, outside, Done, directory_lines, done_lines, noted_unless, calls_of, acts_of, writes_of, prints_of, notes_of, Notes, InHand, Did}
+use Rattle.fibs_cli.specs.Turns.Script.{Outside, outside, Done, directory_lines, done_lines, noted_unless, calls_of}
+use Rattle.fibs_cli.specs.Turns.Script.{acts_of, writes_of, prints_of, notes_of, Notes, InHand, Did}
 
 -- the directory stays
 pub notes_nothing : (d : List MessageValue) → Notes d d []
