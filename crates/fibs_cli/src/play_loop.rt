@@ -7,7 +7,6 @@ mod queue;
 mod sockets;
 mod stop;
 mod table;
-mod texts;
 
 use crate::fault::EngineFault;
 use crate::replay::events::{read_board, read_event};

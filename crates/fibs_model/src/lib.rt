@@ -23,4 +23,5 @@ pub use event::Event;
 pub use refusal::WorldRefusal;
 pub use run_end::RunEnd;
 pub use server::{Served, Server};
+pub use wire::is_board_text;
 pub use world::World;

@@ -166,8 +166,9 @@ fn reads_as_board(line: &Line<'_>) -> bool
     }
 }
 
-/// With CR LF the text is more than one line, or one that reads as a good board.
-pub(crate) fn is_board_text(text: &[u8]) -> bool
+/// With CR LF the text is more than one line, or one that reads as a good board: a server that sends it as a text would
+/// show a board that is not its own.
+pub fn is_board_text(text: &[u8]) -> bool
     ensures { result ≡ is_board_text (lines_of (on_wire text.now)) }
 {
     fibs_lines::laws::empty_stream_has_no_line();
