@@ -33,6 +33,8 @@ bench: all $(PEER)
 	PEER=$(PEER) bench/show bin/fibs $(MEGABYTES) $(ROUNDS)
 	bench/loops crates/fibs_bench/out/fibs_bench $(MEGABYTES) $(ROUNDS)
 	bench/replay bin/fibs $(ROUNDS)
+	bench/loop bin/fibs $(ROUNDS)
+	bench/latency bin/fibs
 
 clean:
 	rm -rf bin crates/*/out

@@ -11,6 +11,7 @@ The game outlives its connections, as at the real server: who comes back finds t
 
 import random
 import socket
+import struct
 import sys
 
 # How many seconds a test waits for a player.
@@ -142,6 +143,15 @@ class Server:
     def drop(self):
         """Ends the connection."""
         self.connection.close()
+
+    def reset(self):
+        """Ends the connection at once: nothing that is on its way has to arrive."""
+        self.connection.setsockopt(socket.SOL_SOCKET, socket.SO_LINGER, struct.pack('ii', 1, 0))
+        self.connection.close()
+
+    def end_sending(self):
+        """Sends nothing more, but still reads."""
+        self.connection.shutdown(socket.SHUT_WR)
 
     def close(self):
         """Ends the connection and stops to listen."""

@@ -69,12 +69,19 @@ class Player:
         """Types a line."""
         self.type_bytes(line.encode('latin-1') + b'\n')
 
+    def line(self, seconds=PATIENCE):
+        """The next line that is printed within so many seconds."""
+        line = self.lines.get(timeout=seconds)
+        if line is None:
+            raise Failed('the program ended with the status %s' % self.program.wait(PATIENCE))
+        return line
+
     def next_line(self):
         """The next line that is printed. Where it is slow to come, an empty line hears the server once more."""
         end = time.monotonic() + PATIENCE
         while time.monotonic() < end:
             try:
-                return self.lines.get(timeout=2)
+                return self.line(2)
             except queue.Empty:
                 self.type('')
         raise Failed('no line came after %r' % self.printed[-3:])
@@ -93,6 +100,7 @@ class Player:
         self.reader.join(PATIENCE)
         same('printed at the end', self.lines.get(timeout=PATIENCE), None)
         same('said', self.program.stderr.read().decode('latin-1'), said)
+        self.stop()
 
     def quits(self):
         """The player leaves."""
@@ -356,8 +364,7 @@ def a_server_that_closes_at_once(server):
 
 def a_server_that_resets_the_connection(server):
     player = greeted(server)
-    server.connection.setsockopt(socket.SOL_SOCKET, socket.SO_LINGER, b'\1\0\0\0\0\0\0\0')
-    server.drop()
+    server.reset()
     player.type('')
     player.sees('lost')
     player.type('roll')
@@ -489,10 +496,10 @@ CASES = [
 ]
 
 
-def main():
-    """Runs each case against a server of its own."""
+def play(cases):
+    """Runs each case against a server of its own. The status."""
     failed = 0
-    for case in CASES:
+    for case in cases:
         name = 'connect: ' + case.__name__.replace('_', ' ')
         server = Server()
         Player.running.clear()
@@ -505,9 +512,9 @@ def main():
         for player in Player.running:
             player.stop()
         server.close()
-    print('%d passed, %d failed' % (len(CASES) - failed, failed))
+    print('%d passed, %d failed' % (len(cases) - failed, failed))
     return 1 if failed else 0
 
 
 if __name__ == '__main__':
-    sys.exit(main())
+    sys.exit(play(CASES))
