@@ -209,9 +209,15 @@ def a_flood_that_never_ends(server):
     sender = sending(send)
     for _ in range(3):
         player.type('dance')
-    answers = 0
+    answers, heard = 0, 0
     while answers < 3:
-        answers += next_line(player) == 'unknown'
+        line = next_line(player)
+        heard += len(line)
+        if line == 'unknown':
+            answers, heard = answers + 1, 0
+        # What is printed is at most four times as long as what was sent, and a little longer.
+        if heard > 5 * TURN:
+            raise Failed('no answer within %d bytes' % heard)
     holds_little(player)
     player.type('quit')
     same('the status', player.program.wait(PATIENCE), 0)
@@ -227,13 +233,11 @@ def a_server_that_sends_a_byte_whenever_one_was_read(server):
     player.type('')
     player.type('dance')
     heard, line = 0, player.line()
-    while line == 'text \n':
+    while line == 'text \n' and heard <= TURN_READS:
         heard += 1
         server.send_bytes(b'\n')
         line = player.line()
-    same('printed', line, 'unknown\n')
-    if heard > TURN_READS:
-        raise Failed('%d reads were made for one typed line' % heard)
+    same('printed after %d reads' % heard, line, 'unknown\n')
     player.sees('text ')
     leaves(player, server, LOGIN, STYLE)
 
@@ -248,8 +252,8 @@ def a_flood_of_which_nobody_reads_any_more(server):
 
     program = subprocess.Popen([PROGRAM, 'connect', '127.0.0.1', str(server.port), 'ann'], stdin=subprocess.PIPE,
                                stdout=subprocess.PIPE, stderr=subprocess.PIPE)
-    program.stdin.write(b'secret\n\n')
-    program.stdin.flush()
+    program.stdin.write(b'secret\n' + b'\n' * 100)
+    program.stdin.close()
     server.accept()
     same('received', server.line(), LOGIN)
     sender = sending(send)
