@@ -25,6 +25,12 @@ fn joined(parts: &[&[u8]]) -> Text {
     text
 }
 
+fn text_of(bytes: &[u8]) -> Text {
+    let mut text = Text::new();
+    let _fits = text.try_extend_from_slice(bytes);
+    text
+}
+
 /// What the server sends, and what is printed for it.
 static HEARD: [(&[u8], &[u8]); 8] = [
     (
@@ -95,7 +101,7 @@ impl Seat {
             &mut out,
         );
         match outcome {
-            Ok(Ending::Quiet) => Ok((joined(&[out.output()]), joined(&[pipe.output()]))),
+            Ok(Ending::Quiet) => Ok((text_of(out.output()), text_of(pipe.output()))),
             _ => Err(Fail::from("the turn is not quiet")),
         }
     }
@@ -180,7 +186,7 @@ fn conversed(alloc: Global, input: &[u8]) -> (Result<u8, EngineFault>, Text, Tex
     let ending = converse_with(
         &mut door, alloc, b"ann", 1000, &mut typed, &mut out, &mut err,
     );
-    (ending, joined(&[out.output()]), joined(&[err.output()]))
+    (ending, text_of(out.output()), text_of(err.output()))
 }
 
 /// What is printed of `HEARD` up to the second line of bob where the note of the line at `refused` is refused, and the
