@@ -208,8 +208,7 @@ pub fn exchange<S: Link, W: Write>(
         Stopped t client.new (bytes_of typed.entry)
         (known_before S.remaining stream.entry) (known_after S.remaining stream.exit)
         (known_before S.contents stream.entry) (known_after S.contents stream.exit)) }
-    ensures few {
-        LostAtMost (4096 * 1024) (known_before S.remaining stream.entry) (known_after S.remaining stream.exit) }
+    ensures few { LostAtMost (4096 * 1024) (known_before S.remaining stream.entry) (known_after S.remaining stream.exit) }
 {
     match stream {
         None => talk_offline(client, typed, out),

@@ -73,8 +73,10 @@ module _ (join : PiecesJoin) (grow : LinesOnlyGrow) where
         fed = front ++ piece;
         rest = back;
         cut = cut;
-        ends = (ends_joined grow t.stream front piece (subst (λ s. EndsALine s piece) (piece_stream t front on) ends) long,
-            omega (arith, long, length-append front piece));
+        ends = (
+          ends_joined grow t.stream front piece (subst (λ s. EndsALine s piece) (piece_stream t front on) ends) long,
+          omega (arith, long, length-append front piece),
+        );
         calls = subst (Appends a.wrote now)
             (sym (flat_map-append (λ (x : Act). x.writes) (piece_acts t front) later) ∙ ap calls_of (sym (acts_join grow t front piece)))
             (Appends-trans a.wrote b.wrote now (calls_of (piece_acts t front)) (calls_of later) (did_wrote Whole a b (piece_acts t front) did) calls);
