@@ -33,26 +33,32 @@ LINE = 4096
 TURN_READS = 4096
 TURN = TURN_READS * 1024
 
-# How many sessions are held at the same time.
+# How many sessions of a case are held at the same time, and how many cases are played so: they wait most of the time.
 MANY = 32
+BESIDE = 3
 
 OWN = OWN_INFO % 'ann'
 
 
 def at_once(trial, rows):
-    """Makes the trial with each of the rows, at a server of its own each, many at the same time."""
+    """Makes the trial with each of the rows, at a server of its own each, many at the same time, up to a failure."""
     def tried(row):
+        if failed:
+            return
         server = Server()
         try:
             trial(server, row)
         except Exception as error:
-            raise Failed('with %.40r: %s' % (row, error)) from error
+            failed.append(Failed('with %.40r: %s' % (row, error)))
         finally:
             server.close()
 
+    failed = []
     with concurrent.futures.ThreadPoolExecutor(MANY) as pool:
-        for done in [pool.submit(tried, row) for row in rows]:
-            done.result()
+        for row in rows:
+            pool.submit(tried, row)
+    if failed:
+        raise failed[0]
 
 
 def sending(send, *arguments):
@@ -76,9 +82,9 @@ def turn_is_over(player):
     return printed[:-1]
 
 
-def holds_little(player, most=MOST_MEMORY):
+def holds_little(program, most=MOST_MEMORY):
     """The program never held more than so much memory."""
-    with open('/proc/%d/status' % player.program.pid) as status:
+    with open('/proc/%d/status' % program.pid) as status:
         peaks = [int(line.split()[1]) for line in status if line.startswith('VmHWM:')]
     if not peaks or peaks[0] >= most:
         raise Failed('of the memory that was held this is told: %s kB' % peaks)
@@ -86,7 +92,7 @@ def holds_little(player, most=MOST_MEMORY):
 
 def leaves(player, server, *received, most=MOST_MEMORY):
     """The player quits. The server has received these lines, and not a byte more."""
-    holds_little(player, most)
+    holds_little(player.program, most)
     player.quits()
     while server.line() is not None:
         pass
@@ -97,7 +103,7 @@ def leaves_offline(player, server, *received):
     """The same where the connection is over."""
     player.type('roll')
     player.sees('refused 2 Offline')
-    holds_little(player)
+    holds_little(player.program)
     player.quits()
     same('all that was received', server.received, list(received))
 
@@ -218,7 +224,7 @@ def a_flood_that_never_ends(server):
         # What is printed is at most four times as long as what was sent, and a little longer.
         if heard > 5 * TURN:
             raise Failed('no answer within %d bytes' % heard)
-    holds_little(player)
+    holds_little(player.program)
     player.type('quit')
     same('the status', player.program.wait(PATIENCE), 0)
     sender.join(PATIENCE)
@@ -258,6 +264,7 @@ def a_flood_of_which_nobody_reads_any_more(server):
     same('received', server.line(), LOGIN)
     sender = sending(send)
     same('printed', program.stdout.readline(), b'text nice roll\n')
+    holds_little(program)
     program.stdout.close()
     same('the status', program.wait(PATIENCE), 4)
     same('said', program.stderr.read(), b'fibs: device\n')
@@ -669,4 +676,4 @@ CASES = [
 
 
 if __name__ == '__main__':
-    sys.exit(play(CASES))
+    sys.exit(play(CASES, BESIDE))

@@ -5,6 +5,7 @@ It plays both ends: it types what a player types, and is the server. It goes on 
 the clock, so that a busy machine changes nothing. Prints a line for each case, and then `N passed, M failed`.
 """
 
+import concurrent.futures
 import os
 import queue
 import socket
@@ -40,7 +41,7 @@ def same(what, found, wanted):
 class Player:
     """The program, and one who types at it."""
 
-    # Those of the case that runs.
+    # Those that were begun.
     running = []
 
     def __init__(self, port, host='127.0.0.1', name='ann', password='secret'):
@@ -496,22 +497,26 @@ CASES = [
 ]
 
 
-def play(cases):
-    """Runs each case against a server of its own. The status."""
-    failed = 0
-    for case in cases:
-        name = 'connect: ' + case.__name__.replace('_', ' ')
+def play(cases, beside=1):
+    """Runs each case against a server of its own, so many cases beside each other. The status."""
+    def tried(case):
         server = Server()
-        Player.running.clear()
         try:
             case(server)
-            print('ok      ' + name, flush=True)
+            return ''
         except (Failed, OSError, subprocess.TimeoutExpired, queue.Empty) as error:
-            failed += 1
-            print('FAILED  %s: %s' % (name, str(error)[:300]), flush=True)
-        for player in Player.running:
-            player.stop()
-        server.close()
+            return str(error)[:300] or repr(error)
+        finally:
+            server.close()
+
+    failed = 0
+    with concurrent.futures.ThreadPoolExecutor(beside) as pool:
+        for case, why in zip(cases, pool.map(tried, cases)):
+            name = 'connect: ' + case.__name__.replace('_', ' ')
+            print('FAILED  %s: %s' % (name, why) if why else 'ok      ' + name, flush=True)
+            failed += bool(why)
+    for player in Player.running:
+        player.stop()
     print('%d passed, %d failed' % (len(cases) - failed, failed))
     return 1 if failed else 0
 
