@@ -65,6 +65,7 @@ descends (x ∷ plays) order apart = λ k d h.
 
 module _ (p : Standing) (kept : BTreeMap Checkers Play) (l : p.first ≤ 6) (r : p.second ≤ 6)
     (ordered : IsOrdered checkers_cmp kept) (keeps : kept_in kept ≡ fold noted nothing (all_of p)) where
+  -- a play that is kept for an arrangement is legal, and leads there
   kept_leads : (q : Checkers) (steps : List Hop) → kept_in kept q ≡ Some steps → Leads p steps q
   kept_leads q steps e =
       elim (all_from (all_of p) nothing q steps (sym (ap (λ f. f q) keeps) ∙ e)) [
@@ -72,6 +73,7 @@ module _ (p : Standing) (kept : BTreeMap Checkers Play) (l : p.first ≤ 6) (r :
         | inr h ↦ all_sound p (reach steps q) l r h
       ]
 
+  -- for each legal play one that is no less is kept
   kept_covers : (steps : List Hop) (q : Checkers) → Leads p steps q → NoLess (kept_in kept q) steps
   kept_covers steps q h =
       let (x, m, leads, k) = all_complete p steps q l r h in
@@ -81,10 +83,12 @@ module _ (p : Standing) (kept : BTreeMap Checkers Play) (l : p.first ≤ 6) (r :
         upto play_total steps x.play best k g,
       )
 
+  -- the play of an entry is kept for its arrangement
   entry_kept : (q : Checkers) (play : Play) → Contains kept.entries (q, play) → kept_in kept q ≡ Some (hops_of play)
   entry_kept q play m =
       ap (option_map hops_of) ((btree_map_get_iff checkers_total checkers_exact kept ordered q play).1 m)
 
+  -- it is the greatest of those that lead there
   entry_greatest : (q : Checkers) (play : Play) → Contains kept.entries (q, play) → IsGreatest p (hops_of play)
   entry_greatest q play m = record {
     to = q;
@@ -95,6 +99,7 @@ module _ (p : Standing) (kept : BTreeMap Checkers Play) (l : p.first ≤ 6) (r :
         not_greater (play_cmp others (hops_of play)) (subst (λ ms. is_gt (play_cmp others ms) ≡ false) same g);
   }
 
+  -- each greatest play is the value of some entry
   greatest_kept : (steps : List Hop) → IsGreatest p steps → Contains (map hops_of (values kept)) steps
   greatest_kept steps g =
       let (best, is, no_less) = kept_covers steps g.to g.leads in
@@ -105,6 +110,7 @@ module _ (p : Standing) (kept : BTreeMap Checkers Play) (l : p.first ≤ 6) (r :
       subst (Contains (map hops_of (values kept))) (value ∙ sym same)
       (value_in (values kept) play (Contains-values_of kept.entries g.to play entry))
 
+  -- entries with the same steps are for one arrangement
   one_arrangement : (q s : Checkers) (a b : Play) → Contains kept.entries (q, a) → Contains kept.entries (s, b)
       → hops_of a ≡ hops_of b → q ≡ s
   one_arrangement q s a b m n e =
@@ -112,6 +118,7 @@ module _ (p : Standing) (kept : BTreeMap Checkers Play) (l : p.first ≤ 6) (r :
       let (others, parts, runs) = (kept_leads s (hops_of b) (entry_kept s b n)).1 in
       run_one p.checkers q s dice others (hops_of b) (subst (λ ms. Run p.checkers dice ms q) e run) runs
 
+  -- so no two values of the map are level
   values_apart : IsDistinct level (values kept)
   values_apart = IsDistinct-from_apart level (values kept) (λ i j d before lt.
       let e : Checkers × Play = (p.checkers, d) in
