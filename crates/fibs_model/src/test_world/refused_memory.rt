@@ -9,9 +9,6 @@ use std::alloc::Global;
 use std::process::Abort;
 use std::test::Fail;
 
-/// The most events of a story.
-const MOST: usize = 24;
-
 /// Bytes are delivered in pieces, other commands are given, boards are repeated, and connections are lost.
 static CUT_UP: [(Act, &[&str]); 24] = [
     (Open, &["opened 1"]),
@@ -120,13 +117,16 @@ fn assert_steps(
     Ok(())
 }
 
-/// The events of a story, and others behind them.
-fn events_of(story: &[(Act, &[&str])]) -> Result<[Event<'static>; 24], Fail> {
-    let mut events = [Event::Repeat; 24];
-    for at in 0..story.len().min(MOST) {
-        events[at] = event(story[at].0)?;
+/// The events of a story; none where there is no memory for them.
+fn events_of(alloc: Global, story: &[(Act, &[&str])]) -> Result<Option<Vec<Event<'static>>>, Fail> {
+    let mut events = Vec::new(alloc);
+    if events.reserve(story.len()).is_err() {
+        return Ok(None);
     }
-    Ok(events)
+    for (act, _) in story {
+        events.push(event(*act)?)?;
+    }
+    Ok(Some(events))
 }
 
 /// The events in a row. A run that meets a refused growth says how many were done, and stands as its twin, which did
@@ -139,9 +139,10 @@ fn assert_runs(
     wanted: RunEnd,
     is_left_out: bool,
 ) -> Result<(), Fail> {
-    let story = &story[..story.len().min(MOST)];
-    let all = events_of(story)?;
-    let events = &all[..story.len()];
+    let Some(all) = events_of(alloc, story)? else {
+        return Ok(());
+    };
+    let events = all.as_slice();
     let mut world = world(alloc, begins)?;
     let end = world.run(events);
     if end.refusal != Some(WorldRefusal::Memory) {
