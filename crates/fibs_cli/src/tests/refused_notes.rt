@@ -112,9 +112,10 @@ fn seat_after(rt: &(impl Abort + AllocGlobal), lines: &[(&[u8], &[u8])]) -> Resu
     ensures { IfOk result (λ seat. FitsStream seat.client true) }
 {
     let mut seat = Seat::new(rt);
-    for (line, printed) in lines {
+    for at in 0..lines.len() {
+        let (line, printed) = lines[at];
         let (text, _sent) = seat.turn(None, line)?;
-        assert_eq!(rt; text.as_slice(), *printed);
+        assert_eq!(rt; text.as_slice(), printed);
     }
     Ok(seat)
 }
@@ -141,9 +142,10 @@ fn assert_alike(
     requires twin { FitsStream twin.old.client true }
 {
     assert!(rt; know_the_same(rt.alloc(), &seat.directory, &twin.directory)?);
-    for (line, printed) in lines {
+    for at in 0..lines.len() {
+        let (line, printed) = lines[at];
         let (text, sent) = seat.turn(None, line)?;
-        assert_eq!(rt; text.as_slice(), *printed);
+        assert_eq!(rt; text.as_slice(), printed);
         assert_eq!(rt; (text, sent), twin.turn(None, line)?, "{line:?}");
         assert!(rt; know_the_same(rt.alloc(), &seat.directory, &twin.directory)?);
     }
