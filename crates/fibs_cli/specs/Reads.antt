@@ -1,6 +1,10 @@
 -- How much was read from a reader whose bytes are known.
-use Rattle.std.specs.Prelude.{◌≤◌, ℕ, List, length, Option}
+use Rattle.std.specs.Prelude.{◌≤◌, ◌*◌, ℕ, List, length, Option}
 use Rattle.std.specs.Io.KnownBytes.{Consumes}
+
+-- a turn of the client reads at most 4096 times, at most 1024 bytes at once
+abbrev pub turn_limit : ℕ
+turn_limit = 4096 * 1024
 
 -- a reader lost at most so many bytes
 abbrev pub LostAtMost : ℕ → Option (List ℕ) → Option (List ℕ) → Type 0

@@ -5,7 +5,7 @@ ghost use Rattle.fibs_session.specs.Calls.Standing.{StandsAfter};
 ghost use Rattle.fibs_messages.specs.Message.{MessageValue};
 ghost use Rattle.fibs_cli.specs.Turns.Script.{outside, known_before, known_after};
 ghost use Rattle.fibs_cli.specs.Turns.Turn.{Ended, Turned, Stopped, FitsStream, bytes_of, is_there, still_given};
-ghost use Rattle.fibs_cli.specs.Reads.{LostAtMost};
+ghost use Rattle.fibs_cli.specs.Reads.{LostAtMost, turn_limit};
 ghost use Rattle.fibs_cli.specs.declared.writing.Progress.{Progress};
 
 mod hearing;
@@ -86,7 +86,7 @@ fn listen<S: Link, W: Write>(
     ensures stopped { OnErr result ((t : Talk) → StandsAfter client.old t → is_online t ≡ true →
         Stopped t client.new None (S.remaining stream.old) (S.remaining stream.new)
         (S.contents stream.old) (S.contents stream.new)) }
-    ensures few { LostAtMost (4096 * 1024) (S.remaining stream.old) (S.remaining stream.new) }
+    ensures few { LostAtMost turn_limit (S.remaining stream.old) (S.remaining stream.new) }
 {
     listen_portions(client, directory, stream, out, MAX_READS, &mut [0; PORTION])
 }
@@ -143,7 +143,7 @@ fn talk<S: Link, W: Write>(
     ensures stopped { OnErr result ((t : Talk) → StandsAfter client.old t → is_online t ≡ true →
         Stopped t client.new (bytes_of typed.entry) (S.remaining stream.old) (S.remaining stream.new)
         (S.contents stream.old) (S.contents stream.new)) }
-    ensures few { LostAtMost (4096 * 1024) (S.remaining stream.old) (S.remaining stream.new) }
+    ensures few { LostAtMost turn_limit (S.remaining stream.old) (S.remaining stream.new) }
 {
     fibs_session::client::laws::empty_piece_is_nothing();
     match typed {
@@ -208,7 +208,7 @@ pub fn exchange<S: Link, W: Write>(
         Stopped t client.new (bytes_of typed.entry)
         (known_before S.remaining stream.entry) (known_after S.remaining stream.exit)
         (known_before S.contents stream.entry) (known_after S.contents stream.exit)) }
-    ensures few { LostAtMost (4096 * 1024) (known_before S.remaining stream.entry) (known_after S.remaining stream.exit) }
+    ensures few { LostAtMost turn_limit (known_before S.remaining stream.entry) (known_after S.remaining stream.exit) }
 {
     match stream {
         None => talk_offline(client, typed, out),

@@ -1,6 +1,9 @@
 //! `fibs loop`: a script of events, played by a client and a model server over real sockets.
-ghost use Rattle.std.specs.Prelude.{◌≡◌, ◌≤◌, ◌<◌, ◌^◌, length, IfOk};
+ghost use Rattle.std.specs.Prelude.{◌≡◌, ◌≤◌, ◌<◌, ◌^◌, List, length, IfOk};
+ghost use Rattle.fibs_messages.specs.Board.{BoardFields};
+ghost use Rattle.fibs_model.specs.Events.{Event};
 ghost use Rattle.fibs_cli.specs.Looping.{EndsScript};
+ghost use Rattle.fibs_cli.specs.Replay.Scripts.{SayEvents, SayScript, script_lines};
 
 mod hearing;
 mod queue;
@@ -9,7 +12,8 @@ mod stop;
 mod table;
 
 use crate::fault::EngineFault;
-use crate::replay::events::{read_board, read_event};
+use crate::replay::events::read_event;
+use crate::replay::first_board;
 use crate::replay::input::read_script;
 use crate::replay::output::{end_line, print_log, refused_line, unread_line};
 use crate::replay::run::script_login;
@@ -82,20 +86,21 @@ fn play_script<N: Net<Stream = TcpStream>, W: Write>(
     script: &[u8],
     writer: &mut W,
 ) -> Result<u8, EngineFault>
-    requires { length script.now < 2 ^ 63 }
+    requires short { length script.now < 2 ^ 63 }
+    requires readable { (b : BoardFields) × (events : List Event) × SayScript (script_lines script.now) b events }
     ensures { EndsScript result }
 {
     let mut lines = script_lines(script);
-    let first = lines.next().and_then(read_board);
-    match first {
-        None => finish(&[], &unread_line(1), REFUSED, writer),
-        Some(board) => match Table::new(alloc, board, script_login()) {
-            Err(why) => finish(&[], &refused_line(0, why), REFUSED, writer),
-            Ok(mut table) => {
-                let (done, stop) = play_lines(&mut table, rt, listener, &mut lines);
-                print_end(table.log(), done, stop, writer)
-            }
-        },
+    let board = match first_board(&mut lines) {
+        Some(board) => board,
+        None => unreachable!(),
+    };
+    match Table::new(alloc, board, script_login()) {
+        Err(why) => finish(&[], &refused_line(0, why), REFUSED, writer),
+        Ok(mut table) => {
+            let (done, stop) = play_lines(&mut table, rt, listener, &mut lines);
+            print_end(table.log(), done, stop, writer)
+        }
     }
 }
 
@@ -106,17 +111,19 @@ fn play_lines<N: Net<Stream = TcpStream>>(
     listener: &TcpListener,
     lines: &mut Lines<'_>,
 ) -> (usize, Option<Stop>)
-    requires { length lines.old < 2 ^ 63 }
+    requires few { length lines.old < 2 ^ 63 }
+    requires readable { (events : List Event) × SayEvents lines.old events }
 {
     let mut done = 0;
     while let Some(line) = lines.next() {
-        // Each line was found readable before the first event.
-        if let Some(event) = read_event(line) {
-            if let Err(stop) = table.step(rt, listener, &event) {
-                return (done, Some(stop));
-            }
+        let event = match read_event(line) {
+            Some(event) => event,
+            None => unreachable!(),
+        };
+        match table.step(rt, listener, &event) {
+            Ok(()) => done += 1,
+            Err(stop) => return (done, Some(stop)),
         }
-        done += 1;
     }
     (done, None)
 }

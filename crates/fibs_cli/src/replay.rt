@@ -78,7 +78,7 @@ fn replay_script<W: Write>(alloc: Global, script: &[u8], writer: &mut W) -> Resu
 }
 
 /// The board that the first of the lines says, which is taken from them.
-fn first_board(lines: &mut Lines<'_>) -> Option<Board>
+pub fn first_board(lines: &mut Lines<'_>) -> Option<Board>
     ensures some { IfSome result (λ board. (line : List ℕ) × (lines.old ≡ line ∷ lines.new)
         × BoardText (fields_of board) line) }
     ensures none { IfNone result ((b : BoardFields) (events : List Event) → ¬ SayScript lines.old b events) }

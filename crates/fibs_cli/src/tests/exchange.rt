@@ -8,7 +8,7 @@ use crate::exchange::link::Link;
 use crate::exchange::{Ending, ExchangeFault, exchange};
 use fibs_messages::{Reading, read as read_line};
 use fibs_session::{Client, Directory, Login};
-use std::alloc::{AllocError, Global};
+use std::alloc::Global;
 use std::io;
 use std::io::{Read, Write};
 use std::process::Abort;
@@ -43,23 +43,19 @@ const GOING_UP: &[u8] = b"board:You:bob:5:0:0:0:0:0:0:0:-1:0:0:0:0:0:0:0:0:0:0:0
 const WATCHED: &[u8] =
     b"board:ann:bob:3:0:1:0:-2:0:0:0:0:5:0:3:0:0:0:-5:5:0:0:0:-3:0:-5:0:0:0:0:2:0";
 
-/// What is sent and printed until the client is ready, which it is after `READY`.
+/// What the server sends until the client is ready, what is sent then, and what is printed.
+const READY: &[u8] = b"1 ann 1041253132 localhost\r\n\
+    2 ann 1 1 0 0 0 0 1 1 10 0 1 0 1 1500.00 0 0 0 0 0 UTC\r\n\
+    board:You:bob:3:0:1:0:-2:0:0:0:0:5:0:3:0:0:0:-5:5:0:0:0:-3:0:-5:0:0:0:0:2:0\
+    :1:0:0:0:0:1:1:1:0:1:-1:0:25:0:0:0:0:0:0:0:0\r\n";
+
 const SENT: &[u8] = b"set boardstyle 3\r\nboard\r\n";
 
-const READY: &[&[u8]] = &[WELCOME, END, INFO, END, BOARD, TO_ROLL, END];
-
-const PRINTED: &[&[u8]] = &[
-    b"message ",
-    WELCOME,
-    LF,
-    b"message ",
-    INFO,
-    LF,
-    BOARD,
-    TO_ROLL,
-    LF,
-    b"phase RollOrDouble\n",
-];
+const PRINTED: &[u8] = b"message 1 ann 1041253132 localhost\n\
+    message 2 ann 1 1 0 0 0 0 1 1 10 0 1 0 1 1500.00 0 0 0 0 0 UTC\n\
+    board:You:bob:3:0:1:0:-2:0:0:0:0:5:0:3:0:0:0:-5:5:0:0:0:-3:0:-5:0:0:0:0:2:0\
+    :1:0:0:0:0:1:1:1:0:1:-1:0:25:0:0:0:0:0:0:0:0\n\
+    phase RollOrDouble\n";
 
 /// How a turn ended, in a word.
 #[derive(Clone, Copy, Debug, PartialEq, Eq)]
@@ -77,13 +73,16 @@ fn kind_of(ending: &Ending) -> Kind {
     }
 }
 
-/// The parts one after another.
-fn joined(alloc: Global, parts: &[&[u8]]) -> Result<Vec<u8>, AllocError> {
-    let mut all = Vec::new(alloc);
+/// Whether the bytes are these parts, one after another.
+fn is_made_of(bytes: &[u8], parts: &[&[u8]]) -> bool {
+    let mut rest = bytes;
     for part in parts {
-        all.extend_from_slice(part)?;
+        match rest.strip_prefix(part) {
+            Some(after) => rest = after,
+            None => return false,
+        }
     }
-    Ok(all)
+    rest.is_empty()
 }
 
 /// A client that has opened a connection.
@@ -101,6 +100,7 @@ pub fn opened(rt: &impl Abort) -> Client
 struct Seat {
     client: Client,
     directory: Directory,
+    alloc: Global,
     most: usize,
     sent: Vec<u8>,
     printed: Vec<u8>,
@@ -114,6 +114,7 @@ impl Seat {
         Seat {
             client: opened(rt),
             directory: Directory::new(rt.alloc()),
+            alloc: rt.alloc(),
             most,
             sent: Vec::new(rt.alloc()),
             printed: Vec::new(rt.alloc()),
@@ -138,54 +139,82 @@ impl Seat {
         }
     }
 
-    /// One turn: what is typed, what the server sends, what follows that, and how many bytes the stream takes.
+    /// One turn: what is typed, what the server sends, in parts, what follows that, and how many bytes the stream takes.
     fn turn(
         &mut self,
         typed: Option<&[u8]>,
-        input: &[u8],
+        parts: &[&[u8]],
         after: After,
         room: usize,
     ) -> Result<Ending, Fail>
         requires { FitsStream self.old.client true }
         ensures { IfOk result (λ e. FitsStream self.new.client (still_given e true)) }
     {
-        let mut pipe = Pipe::new(input, self.most, after, room);
+        let input = parts.concat(self.alloc)?;
+        let mut pipe = Pipe::new(&input, self.most, after, room);
         let ending = self.turn_on(&mut pipe, typed)?;
         self.sent.extend_from_slice(pipe.output())?;
         Ok(ending)
     }
 
+    /// A turn that ends so.
+    fn turn_to(
+        &mut self,
+        kind: Kind,
+        typed: Option<&[u8]>,
+        parts: &[&[u8]],
+        after: After,
+        room: usize,
+    ) -> Result<(), Fail>
+        requires { FitsStream self.old.client true }
+    {
+        let ending = self.turn(typed, parts, after, room)?;
+        if kind_of(&ending) == kind {
+            Ok(())
+        } else {
+            Err(Fail::from("the turn ends otherwise"))
+        }
+    }
+
     /// A turn after which the connection goes on.
-    fn quiet_turn(&mut self, typed: Option<&[u8]>, input: &[u8]) -> Result<(), Fail>
+    fn quiet_turn(&mut self, typed: Option<&[u8]>, parts: &[&[u8]]) -> Result<(), Fail>
         requires { FitsStream self.old.client true }
         ensures { IfOk result (λ _. FitsStream self.new.client true) }
     {
-        match self.turn(typed, input, After::WouldBlock, 4096)? {
+        match self.turn(typed, parts, After::WouldBlock, 4096)? {
             Ending::Quiet => Ok(()),
             Ending::Lost(_) => Err(Fail::from("the turn is not quiet")),
         }
     }
 
     /// What the server sends, before it is quiet.
-    fn hears(&mut self, input: &[u8]) -> Result<(), Fail>
+    fn hears(&mut self, parts: &[&[u8]]) -> Result<(), Fail>
         requires { FitsStream self.old.client true }
         ensures { IfOk result (λ _. FitsStream self.new.client true) }
     {
-        self.quiet_turn(None, input)
+        self.quiet_turn(None, parts)
     }
 
     /// What is typed, and what the server sends then.
-    fn types(&mut self, typed: &[u8], input: &[u8]) -> Result<(), Fail>
+    fn types(&mut self, typed: &[u8], parts: &[&[u8]]) -> Result<(), Fail>
         requires { FitsStream self.old.client true }
         ensures { IfOk result (λ _. FitsStream self.new.client true) }
     {
-        self.quiet_turn(Some(typed), input)
+        self.quiet_turn(Some(typed), parts)
     }
 
-    /// Asserts what was sent and printed in all.
-    fn assert_did(&self, rt: &impl Abort, name: &str, sent: &[u8], printed: &[u8]) {
-        assert_eq!(rt; self.sent.as_slice(), sent, "{name}");
-        assert_eq!(rt; self.printed.as_slice(), printed, "{name}");
+    /// Asserts what was sent and printed in all, each in parts.
+    fn assert_did(&self, rt: &impl Abort, name: &str, sent: &[&[u8]], printed: &[&[u8]]) {
+        assert!(rt;
+            is_made_of(&self.sent, sent),
+            "{name}: sent {:?}",
+            self.sent
+        );
+        assert!(rt;
+            is_made_of(&self.printed, printed),
+            "{name}: printed {:?}",
+            self.printed
+        );
     }
 }
 
@@ -211,7 +240,7 @@ fn lines_are_answered_and_printed(rt: HostRuntime) -> Result<(), Fail> {
                 LF,
             ],
         ),
-        ("a board of one who plays", READY, SENT, PRINTED),
+        ("a board of one who plays", &[READY], SENT, &[PRINTED]),
         (
             "a board of a game that is watched",
             &[WATCHED, TO_ROLL, END],
@@ -239,15 +268,12 @@ fn lines_are_answered_and_printed(rt: HostRuntime) -> Result<(), Fail> {
             &[b"message 12 eve hi", BOARD, TO_ROLL, LF],
         ),
     ];
-    for (name, parts, sent, lines) in rows {
-        let input = joined(rt.alloc(), parts)?;
-        let printed = joined(rt.alloc(), lines)?;
+    for (name, parts, sent, printed) in rows {
         for most in [1, 2, 7, 1000] {
             for after in [After::WouldBlock, After::TimedOut] {
                 let mut seat = Seat::open(&rt, most);
-                let ending = seat.turn(None, &input, after, 4096)?;
-                assert_eq!(rt; kind_of(&ending), Kind::Quiet, "{name}");
-                seat.assert_did(&rt, name, sent, &printed);
+                seat.turn_to(Kind::Quiet, None, parts, after, 4096)?;
+                seat.assert_did(&rt, name, &[sent], printed);
             }
         }
     }
@@ -289,14 +315,12 @@ fn a_board_within_a_line_is_not_shown(rt: HostRuntime) -> Result<(), Fail> {
             ],
         ),
     ];
-    for (name, parts, sent, lines) in rows {
-        let input = joined(rt.alloc(), parts)?;
-        let printed = joined(rt.alloc(), lines)?;
+    for (name, parts, sent, printed) in rows {
         for most in [1, 2, 7, 1000] {
             let mut seat = Seat::open(&rt, most);
-            seat.hears(&input)?;
-            seat.types(b"roll", b"")?;
-            seat.assert_did(&rt, name, sent, &printed);
+            seat.hears(parts)?;
+            seat.types(b"roll", &[])?;
+            seat.assert_did(&rt, name, &[sent], printed);
         }
     }
     Ok(())
@@ -305,14 +329,14 @@ fn a_board_within_a_line_is_not_shown(rt: HostRuntime) -> Result<(), Fail> {
 #[test]
 fn a_line_may_come_in_three_turns(rt: HostRuntime) -> Result<(), Fail> {
     let mut seat = Seat::open(&rt, 1000);
-    seat.hears(b"1 ann 10412")?;
-    seat.hears(b"53132 local")?;
-    seat.hears(b"host\r\n")?;
+    seat.hears(&[b"1 ann 10412"])?;
+    seat.hears(&[b"53132 local"])?;
+    seat.hears(&[b"host\r\n"])?;
     seat.assert_did(
         &rt,
         "a line in three turns",
-        b"set boardstyle 3\r\n",
-        b"message 1 ann 1041253132 localhost\n",
+        &[b"set boardstyle 3\r\n"],
+        &[b"message 1 ann 1041253132 localhost\n"],
     );
     Ok(())
 }
@@ -337,17 +361,12 @@ fn typed_lines_are_answered(rt: HostRuntime) -> Result<(), Fail> {
         (b"toggle automove", b"", b"refused 10 NotOn\n"),
         (b"bye", b"bye\r\n", b"sent bye\n"),
     ];
-    let ready = joined(rt.alloc(), READY)?;
     for (typed, command, answer) in rows {
-        let mut sent = joined(rt.alloc(), &[SENT])?;
-        sent.extend_from_slice(command)?;
-        let mut printed = joined(rt.alloc(), PRINTED)?;
-        printed.extend_from_slice(answer)?;
         for most in [1, 2, 7, 1000] {
             let mut seat = Seat::open(&rt, most);
-            seat.hears(&ready)?;
-            seat.types(typed, b"")?;
-            seat.assert_did(&rt, "a typed line", &sent, &printed);
+            seat.hears(&[READY])?;
+            seat.types(typed, &[])?;
+            seat.assert_did(&rt, "a typed line", &[SENT, command], &[PRINTED, answer]);
         }
     }
     Ok(())
@@ -355,40 +374,43 @@ fn typed_lines_are_answered(rt: HostRuntime) -> Result<(), Fail> {
 
 #[test]
 fn a_decision_waits_for_its_board(rt: HostRuntime) -> Result<(), Fail> {
-    let ready = joined(rt.alloc(), READY)?;
-    let unmoved = joined(rt.alloc(), &[BOARD, TO_ROLL, END])?;
-    let rolled = joined(rt.alloc(), &[BOARD, ROLLED, END])?;
-    let sent = joined(rt.alloc(), &[SENT, b"roll\r\n"])?;
-    let mut printed = joined(rt.alloc(), PRINTED)?;
-    printed.extend_from_slice(b"sent roll\n")?;
-    printed.extend_from_slice(BOARD)?;
-    printed.extend_from_slice(TO_ROLL)?;
-    printed.extend_from_slice(b"\nphase RollOrDouble\nrefused 6 Waiting\n")?;
-    printed.extend_from_slice(BOARD)?;
-    printed.extend_from_slice(ROLLED)?;
-    printed.extend_from_slice(b"\nphase Move\nconfirmed roll\n")?;
+    let answers: &[&[u8]] = &[
+        PRINTED,
+        b"sent roll\n",
+        BOARD,
+        TO_ROLL,
+        b"\nphase RollOrDouble\nrefused 6 Waiting\n",
+        BOARD,
+        ROLLED,
+        b"\nphase Move\nconfirmed roll\n",
+    ];
     for most in [1, 2, 7, 1000] {
         let mut seat = Seat::open(&rt, most);
-        seat.hears(&ready)?;
-        seat.types(b"roll", &unmoved)?;
-        seat.types(b"roll", &rolled)?;
-        seat.assert_did(&rt, "a decision that is confirmed", &sent, &printed);
+        seat.hears(&[READY])?;
+        seat.types(b"roll", &[BOARD, TO_ROLL, END])?;
+        seat.types(b"roll", &[BOARD, ROLLED, END])?;
+        seat.assert_did(
+            &rt,
+            "a decision that is confirmed",
+            &[SENT, b"roll\r\n"],
+            answers,
+        );
     }
     Ok(())
 }
 
 #[test]
 fn a_decision_that_waits_is_lost_with_its_connection(rt: HostRuntime) -> Result<(), Fail> {
-    let ready = joined(rt.alloc(), READY)?;
-    let sent = joined(rt.alloc(), &[SENT, b"roll\r\n"])?;
-    let mut printed = joined(rt.alloc(), PRINTED)?;
-    printed.extend_from_slice(b"sent roll\nlost roll\n")?;
     for after in [After::End, After::Fault] {
         let mut seat = Seat::open(&rt, 7);
-        seat.hears(&ready)?;
-        let ending = seat.turn(Some(b"roll"), b"", after, 4096)?;
-        assert_eq!(rt; kind_of(&ending), Kind::LostWaiting);
-        seat.assert_did(&rt, "a decision that is lost", &sent, &printed);
+        seat.hears(&[READY])?;
+        seat.turn_to(Kind::LostWaiting, Some(b"roll"), &[], after, 4096)?;
+        seat.assert_did(
+            &rt,
+            "a decision that is lost",
+            &[SENT, b"roll\r\n"],
+            &[PRINTED, b"sent roll\nlost roll\n"],
+        );
     }
     Ok(())
 }
@@ -410,19 +432,22 @@ fn plays_are_in_the_numbers_of_the_board(rt: HostRuntime) -> Result<(), Fail> {
             b"\nphase Move\nrefused 9 IllegalPlay\nlost\n",
         ),
     ];
-    let ready = joined(rt.alloc(), &[WELCOME, END, INFO, END, GOING_UP, END])?;
     for (typed, kind, sent, answer) in rows {
-        let mut printed = joined(
-            rt.alloc(),
-            &[b"message ", WELCOME, LF, b"message ", INFO, LF, GOING_UP],
-        )?;
-        printed.extend_from_slice(answer)?;
+        let printed = [
+            b"message ",
+            WELCOME,
+            LF,
+            b"message ",
+            INFO,
+            LF,
+            GOING_UP,
+            answer,
+        ];
         for most in [1, 2, 7, 1000] {
             let mut seat = Seat::open(&rt, most);
-            seat.hears(&ready)?;
-            let ending = seat.turn(Some(typed), b"", After::Fault, 4096)?;
-            assert_eq!(rt; kind_of(&ending), kind);
-            seat.assert_did(&rt, "a play", sent, &printed);
+            seat.hears(&[WELCOME, END, INFO, END, GOING_UP, END])?;
+            seat.turn_to(kind, Some(typed), &[], After::Fault, 4096)?;
+            seat.assert_did(&rt, "a play", &[sent], &printed);
         }
     }
     Ok(())
@@ -432,18 +457,16 @@ fn plays_are_in_the_numbers_of_the_board(rt: HostRuntime) -> Result<(), Fail> {
 #[test]
 fn each_write_that_fails_ends_the_connection(rt: HostRuntime) -> Result<(), Fail> {
     let wanted: &[u8] = b"set boardstyle 3\r\ntoggle autoboard\r\nboard\r\n";
-    let input = joined(rt.alloc(), &[WELCOME, END, INFO_WITHOUT_BOARDS, END])?;
-    let first = joined(rt.alloc(), &[b"message ", WELCOME, b"\nlost\n"])?;
+    let input: &[&[u8]] = &[WELCOME, END, INFO_WITHOUT_BOARDS, END];
     for room in 0..wanted.len() {
         let mut seat = Seat::open(&rt, 1000);
-        let ending = seat.turn(None, &input, After::WouldBlock, room)?;
-        assert_eq!(rt; kind_of(&ending), Kind::Lost, "at {room}");
-        assert_eq!(rt; seat.sent.as_slice(), &wanted[..room], "at {room}");
-        if room < 18 {
-            assert_eq!(rt; seat.printed.as_slice(), b"lost\n".as_slice(), "at {room}");
+        seat.turn_to(Kind::Lost, None, input, After::WouldBlock, room)?;
+        let printed: &[&[u8]] = if room < 18 {
+            &[b"lost\n"]
         } else {
-            assert_eq!(rt; seat.printed.as_slice(), first.as_slice(), "at {room}");
-        }
+            &[b"message ", WELCOME, b"\nlost\n"]
+        };
+        seat.assert_did(&rt, "a write that fails", &[&wanted[..room]], printed);
     }
     Ok(())
 }
@@ -451,18 +474,22 @@ fn each_write_that_fails_ends_the_connection(rt: HostRuntime) -> Result<(), Fail
 /// The stream fails after each byte of a decision: it is lost, and nothing says that it was sent.
 #[test]
 fn a_decision_that_is_not_written_is_lost(rt: HostRuntime) -> Result<(), Fail> {
-    let ready = joined(rt.alloc(), READY)?;
-    let wanted = joined(rt.alloc(), &[SENT, b"roll\r\n"])?;
-    let mut printed = joined(rt.alloc(), PRINTED)?;
-    printed.extend_from_slice(b"lost roll\n")?;
-    for room in 0..6 {
+    for sent in [b"".as_slice(), b"r", b"ro", b"rol", b"roll", b"roll\r"] {
         let mut seat = Seat::open(&rt, 1000);
-        seat.hears(&ready)?;
-        let ending = seat.turn(Some(b"roll"), b"", After::WouldBlock, room)?;
-        assert_eq!(rt; kind_of(&ending), Kind::LostWaiting, "at {room}");
-        let front = wanted.get(..25 + room).unwrap_or(b"");
-        assert_eq!(rt; seat.sent.as_slice(), front, "at {room}");
-        assert_eq!(rt; seat.printed.as_slice(), printed.as_slice(), "at {room}");
+        seat.hears(&[READY])?;
+        seat.turn_to(
+            Kind::LostWaiting,
+            Some(b"roll"),
+            &[],
+            After::WouldBlock,
+            sent.len(),
+        )?;
+        seat.assert_did(
+            &rt,
+            "a decision not written",
+            &[SENT, sent],
+            &[PRINTED, b"lost roll\n"],
+        );
     }
     Ok(())
 }
@@ -470,15 +497,12 @@ fn a_decision_that_is_not_written_is_lost(rt: HostRuntime) -> Result<(), Fail> {
 /// The stream ends, or a read fails, after each byte of a line.
 #[test]
 fn each_read_that_fails_ends_the_connection(rt: HostRuntime) -> Result<(), Fail> {
-    let rows: [&[&[u8]]; 4] = [&[WELCOME], &[INFO], &[BOARD, TO_ROLL], &[PLAYER]];
-    for parts in rows {
-        let line = joined(rt.alloc(), parts)?;
+    for line in [WELCOME, INFO, GOING_UP, PLAYER] {
         for length in 0..line.len() + 1 {
             for after in [After::End, After::Fault] {
                 let mut seat = Seat::open(&rt, 7);
-                let ending = seat.turn(None, &line[..length], after, 4096)?;
-                assert_eq!(rt; kind_of(&ending), Kind::Lost, "at {length}");
-                seat.assert_did(&rt, "a line that is cut off", b"", b"lost\n");
+                seat.turn_to(Kind::Lost, None, &[&line[..length]], after, 4096)?;
+                seat.assert_did(&rt, "a line that is cut off", &[], &[b"lost\n"]);
             }
         }
     }
@@ -489,20 +513,17 @@ fn each_read_that_fails_ends_the_connection(rt: HostRuntime) -> Result<(), Fail>
 /// that it shows the board where the lines before it were printed.
 #[test]
 fn each_print_that_fails_stops_the_turn(rt: HostRuntime) -> Result<(), Fail> {
-    let input = joined(rt.alloc(), READY)?;
-    let wanted = joined(rt.alloc(), PRINTED)?;
-    let before = joined(rt.alloc(), &[b"message ", WELCOME, b"\nmessage ", INFO, LF])?;
-    for room in 0..wanted.len() + 1 {
+    let before = WELCOME.len() + INFO.len() + 2 * b"message \n".len();
+    for room in 0..PRINTED.len() + 1 {
         let mut client = opened(&rt);
         let mut directory = Directory::new(rt.alloc());
-        let mut pipe = Pipe::new(&input, 1000, After::WouldBlock, 100);
+        let mut pipe = Pipe::new(READY, 1000, After::WouldBlock, 100);
         let mut out = Pipe::new(b"", 1, After::End, room);
         let outcome = exchange(&mut client, &mut directory, Some(&mut pipe), None, &mut out);
         let failed = matches!(outcome, Err(ExchangeFault::Output));
-        assert_eq!(rt; failed, room < wanted.len(), "at {room}");
-        assert_eq!(rt; out.output(), &wanted[..room], "at {room}");
-        let is_shown = out.output().starts_with(before.as_slice());
-        assert_eq!(rt; client.shown().is_some(), is_shown, "at {room}");
+        assert_eq!(rt; failed, room < PRINTED.len(), "at {room}");
+        assert_eq!(rt; out.output(), &PRINTED[..room], "at {room}");
+        assert_eq!(rt; client.shown().is_some(), before <= room, "at {room}");
     }
     Ok(())
 }
@@ -510,16 +531,10 @@ fn each_print_that_fails_stops_the_turn(rt: HostRuntime) -> Result<(), Fail> {
 /// A line of which only the front is kept is no board.
 #[test]
 fn a_line_that_is_too_long_is_cut(rt: HostRuntime) -> Result<(), Fail> {
-    let mut input = Vec::new(rt.alloc());
-    for _ in 0..2048 {
-        input.extend_from_slice(b"> ")?;
-    }
-    input.extend_from_slice(BOARD)?;
-    input.extend_from_slice(TO_ROLL)?;
-    input.extend_from_slice(END)?;
+    let prompts = b"> ".as_slice().repeat(rt.alloc(), 2048)?;
     let mut seat = Seat::open(&rt, 1000);
-    seat.hears(&input)?;
-    seat.assert_did(&rt, "a line that is cut", b"", b"cut \n");
+    seat.hears(&[&prompts, BOARD, TO_ROLL, END])?;
+    seat.assert_did(&rt, "a line that is cut", &[], &[b"cut \n"]);
     assert!(rt; seat.client.shown().is_none(), "no board is shown");
     Ok(())
 }
@@ -527,11 +542,8 @@ fn a_line_that_is_too_long_is_cut(rt: HostRuntime) -> Result<(), Fail> {
 /// After 4096 reads a turn is over, though there is more to read.
 #[test]
 fn a_turn_reads_4096_times(rt: HostRuntime) -> Result<(), Fail> {
-    let mut input = Vec::new(rt.alloc());
-    for _ in 0..4095 {
-        input.push(b'\r')?;
-    }
-    input.extend_from_slice(b"\nhi\n")?;
+    let returns = b"\r".as_slice().repeat(rt.alloc(), 4095)?;
+    let input = [returns.as_slice(), b"\nhi\n"].concat(rt.alloc())?;
     let mut seat = Seat::open(&rt, 1);
     let mut pipe = Pipe::new(&input, 1, After::End, 0);
     match seat.turn_on(&mut pipe, None)? {
@@ -598,15 +610,17 @@ fn full_directory(rt: &(impl Abort + AllocGlobal)) -> Result<Directory, Fail> {
 fn a_directory_that_is_full_says_so(rt: HostRuntime) -> Result<(), Fail> {
     let mut seat = Seat::open(&rt, 1000);
     seat.directory = full_directory(&rt)?;
-    seat.hears(
+    seat.hears(&[
         b"5 p4096 - - 0 0 1500.00 0 0 0 host - -\r\n5 p7 - - 0 0 1500.00 0 0 0 host - -\r\n",
-    )?;
+    ])?;
     seat.assert_did(
         &rt,
         "a directory that is full",
-        b"",
-        b"message 5 p4096 - - 0 0 1500.00 0 0 0 host - -\ndirectory 2 Full\n\
-        message 5 p7 - - 0 0 1500.00 0 0 0 host - -\n",
+        &[],
+        &[
+            b"message 5 p4096 - - 0 0 1500.00 0 0 0 host - -\ndirectory 2 Full\n\
+            message 5 p7 - - 0 0 1500.00 0 0 0 host - -\n",
+        ],
     );
     assert_eq!(rt; seat.directory.len(), 4096);
     Ok(())
@@ -648,7 +662,7 @@ impl Link for Stumbles<'_> {
 /// After a write that fails no other is made, though the stream would take it.
 #[test]
 fn nothing_is_sent_after_a_write_that_fails(rt: HostRuntime) -> Result<(), Fail> {
-    let input = joined(rt.alloc(), &[WELCOME, END, INFO_WITHOUT_BOARDS, END])?;
+    let input = [WELCOME, END, INFO_WITHOUT_BOARDS, END].concat(rt.alloc())?;
     let writes: [&[u8]; 6] = [
         b"set boardstyle 3",
         END,
@@ -672,17 +686,10 @@ fn nothing_is_sent_after_a_write_that_fails(rt: HostRuntime) -> Result<(), Fail>
             None,
             &mut printed,
         );
-        let sent = joined(rt.alloc(), &writes[..before])?;
-        assert!(rt;
-            matches!(outcome, Ok(Ending::Lost(None))),
-            "after {before} writes"
-        );
-        assert_eq!(rt;
-            stream.output.output(),
-            sent.as_slice(),
-            "after {before} writes"
-        );
-        assert!(rt; printed.ends_with(b"lost\n"), "after {before} writes");
+        let is_lost = matches!(outcome, Ok(Ending::Lost(None)));
+        let is_front = is_made_of(stream.output.output(), &writes[..before]);
+        let is_last = printed.ends_with(b"lost\n");
+        assert!(rt; is_lost && is_front && is_last, "after {before} writes");
     }
     Ok(())
 }
@@ -690,12 +697,10 @@ fn nothing_is_sent_after_a_write_that_fails(rt: HostRuntime) -> Result<(), Fail>
 /// A line whose bytes come one a turn.
 #[test]
 fn a_stream_may_wait_between_any_two_bytes(rt: HostRuntime) -> Result<(), Fail> {
-    let input = joined(rt.alloc(), READY)?;
-    let printed = joined(rt.alloc(), PRINTED)?;
     let mut seat = Seat::open(&rt, 1);
-    for at in 0..input.len() {
-        seat.hears(&input[at..at + 1])?;
+    for at in 0..READY.len() {
+        seat.hears(&[&READY[at..at + 1]])?;
     }
-    seat.assert_did(&rt, "one byte a turn", SENT, &printed);
+    seat.assert_did(&rt, "one byte a turn", &[SENT], &[PRINTED]);
     Ok(())
 }

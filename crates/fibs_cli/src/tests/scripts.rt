@@ -5,6 +5,7 @@ use crate::replay::input::read_script;
 use crate::replay::log_lines::{Portion, append_entry};
 use crate::replay::script::first_unreadable;
 use arrayvec::ArrayVec;
+use fibs_messages::Board;
 use fibs_model::{Entry, Event};
 use fibs_position::{Decision, Play, Step};
 use fibs_session::{Outstanding, Plain, Refusal};
@@ -15,7 +16,7 @@ const ROLL: &[u8] =
     b"board:You:bob:3:0:1:0:-2:0:0:0:0:5:0:3:0:0:0:-5:5:0:0:0:-3:0:-5:0:0:0:0:2:0:1:0:0:0:0:1:1:1:0:1:-1:0:25:0:0:0:0:0:0:0:0";
 
 /// Lines that say no event.
-static UNREADABLE: [&[u8]; 48] = [
+static UNREADABLE: [&[u8]; 52] = [
     b"",
     b" ",
     b"dance",
@@ -64,79 +65,47 @@ static UNREADABLE: [&[u8]; 48] = [
     b"serve 1 256 1",
     b"serve 1 1 256",
     b"serve 4294967296 1 1",
+    b"own",
+    b"own ",
+    b"own board",
+    b"own board:You",
 ];
 
 #[test]
-fn lines_that_say_no_event(rt: HostRuntime) -> Result<(), Fail> {
+fn lines_that_say_no_event(rt: HostRuntime) {
     for line in &UNREADABLE {
-        assert!(rt; read_event(line).is_none(), "an event is read");
+        assert!(rt; read_event(line).is_none(), "{line:?}");
     }
-    assert!(rt; read_event(b"own").is_none(), "own without a board");
-    assert!(rt; read_event(b"own ").is_none(), "own of the empty line");
-    assert!(rt; read_event(b"own board").is_none(), "own of one field");
-    assert!(rt; read_event(b"own board:You").is_none(), "own of two fields");
-    assert!(rt; read_event(b"text").is_some(), "text alone");
-    Ok(())
 }
 
 #[test]
-fn lines_that_say_an_event(rt: HostRuntime) -> Result<(), Fail> {
-    assert!(rt; read_event(b"open") == Some(Event::Open), "open");
-    assert!(rt; read_event(b"repeat") == Some(Event::Repeat), "repeat");
-    assert!(rt; read_event(b"text") == Some(Event::Text(b"")), "text alone");
-    assert!(rt;
-        read_event(b"text ") == Some(Event::Text(b"")),
-        "text and a space"
-    );
-    assert!(rt;
-        read_event(b"text  a\xff ") == Some(Event::Text(b" a\xff ")),
-        "text of any bytes"
-    );
-    assert!(rt;
-        read_event(b"click roll") == Some(Event::Click(Decision::Roll)),
-        "click roll"
-    );
-    assert!(rt;
-        read_event(b"click reject") == Some(Event::Click(Decision::Reject)),
-        "click reject"
-    );
-    assert!(rt;
-        read_event(b"click move") == Some(Event::Click(Decision::Move(Play::new()))),
-        "the empty play"
-    );
-    assert!(rt;
-        read_event(b"plain who") == Some(Event::Plain(Plain::Who)),
-        "plain who"
-    );
-    assert!(rt;
-        read_event(b"plain say a  b") == Some(Event::Plain(Plain::Say(b"a  b"))),
-        "plain say"
-    );
-    assert!(rt;
-        read_event(b"plain tell") == Some(Event::Plain(Plain::Tell(b"", b""))),
-        "plain tell"
-    );
-    assert!(rt;
-        read_event(b"deliver 0") == Some(Event::Deliver(0)),
-        "deliver 0"
-    );
-    assert!(rt;
-        read_event(b"deliver 4294967295") == Some(Event::Deliver(4_294_967_295)),
-        "the most bytes"
-    );
-    assert!(rt;
-        read_event(b"lose 4294967295") == Some(Event::Lose(4_294_967_295)),
-        "lose the most bytes"
-    );
-    let serve = Event::Serve {
-        conn: 4_294_967_295,
-        dice: [0, 255],
-    };
-    assert!(rt;
-        read_event(b"serve 4294967295 0 255") == Some(serve),
-        "serve with the greatest numbers"
-    );
-    Ok(())
+fn lines_that_say_an_event(rt: HostRuntime) {
+    let rows: [(&[u8], Event<'_>); 15] = [
+        (b"open", Event::Open),
+        (b"repeat", Event::Repeat),
+        (b"text", Event::Text(b"")),
+        (b"text ", Event::Text(b"")),
+        (b"text  a\xff ", Event::Text(b" a\xff ")),
+        (b"click roll", Event::Click(Decision::Roll)),
+        (b"click reject", Event::Click(Decision::Reject)),
+        (b"click move", Event::Click(Decision::Move(Play::new()))),
+        (b"plain who", Event::Plain(Plain::Who)),
+        (b"plain say a  b", Event::Plain(Plain::Say(b"a  b"))),
+        (b"plain tell", Event::Plain(Plain::Tell(b"", b""))),
+        (b"deliver 0", Event::Deliver(0)),
+        (b"deliver 4294967295", Event::Deliver(4_294_967_295)),
+        (b"lose 4294967295", Event::Lose(4_294_967_295)),
+        (
+            b"serve 4294967295 0 255",
+            Event::Serve {
+                conn: 4_294_967_295,
+                dice: [0, 255],
+            },
+        ),
+    ];
+    for (line, event) in rows {
+        assert!(rt; read_event(line) == Some(event), "{line:?}");
+    }
 }
 
 #[test]
@@ -153,26 +122,22 @@ fn plays_are_clicked_in_own_numbers(rt: HostRuntime) -> Result<(), Fail> {
     Ok(())
 }
 
+/// Whether the line says that the board becomes the server's.
+fn is_own(line: &[u8], board: &Board) -> bool {
+    match read_event(line) {
+        Some(Event::Own(own)) => own == *board,
+        _ => false,
+    }
+}
+
 #[test]
 fn boards_are_owned_with_spaces_at_the_end(rt: HostRuntime) -> Result<(), Fail> {
     let board = read_board(ROLL).ok_or("a board")?;
-    let mut line: ArrayVec<u8, 512> = ArrayVec::new();
-    assert!(rt; line.try_extend_from_slice(b"own ").is_ok(), "room");
-    assert!(rt; line.try_extend_from_slice(ROLL).is_ok(), "room");
-    assert!(rt;
-        read_event(line.as_slice()) == Some(Event::Own(board)),
-        "own and a board"
-    );
-    assert!(rt; line.try_extend_from_slice(b"  ").is_ok(), "room");
-    assert!(rt;
-        read_event(line.as_slice()) == Some(Event::Own(board)),
-        "spaces at the end"
-    );
-    assert!(rt; line.try_extend_from_slice(b"\r").is_ok(), "room");
-    assert!(rt;
-        read_event(line.as_slice()) == None,
-        "a carriage return at the end"
-    );
+    let rows: [(&[u8], bool); 3] = [(b"", true), (b"  ", true), (b"  \r", false)];
+    for (end, owned) in rows {
+        let line = line_with(b"own ", ROLL, end);
+        assert_eq!(rt; is_own(&line, &board), owned, "{end:?} at the end");
+    }
     Ok(())
 }
 
@@ -248,9 +213,7 @@ static SCRIPTS: [Case; 15] = [
 #[test]
 fn the_first_unreadable_line_is_named(rt: HostRuntime) -> Result<(), Fail> {
     for case in &SCRIPTS {
-        let mut script: ArrayVec<u8, 512> = ArrayVec::new();
-        assert!(rt; script.try_extend_from_slice(ROLL).is_ok(), "room");
-        assert!(rt; script.try_extend_from_slice(case.after).is_ok(), "room");
+        let script = line_with(ROLL, case.after, b"");
         let wanted = if case.number == 0 {
             None
         } else {
@@ -277,65 +240,61 @@ fn line_of(entry: &Entry) -> Portion {
 }
 
 #[test]
-fn entries_without_a_board(rt: HostRuntime) -> Result<(), Fail> {
-    assert_eq!(rt;
-        line_of(&Entry::Opened { conn: 1 }).as_slice(),
-        b"opened 1\n".as_slice()
-    );
-    assert_eq!(rt;
-        line_of(&Entry::LoggedIn { conn: 12 }).as_slice(),
-        b"loggedin 12\n".as_slice()
-    );
-    assert_eq!(rt;
-        line_of(&Entry::Welcomed { conn: 1 }).as_slice(),
-        b"welcomed 1\n".as_slice()
-    );
-    let informed = Entry::Informed {
-        conn: 1,
-        automove: false,
-        greedy: true,
-    };
-    assert_eq!(rt;
-        line_of(&informed).as_slice(),
-        b"informed 1 0 1\n".as_slice()
-    );
-    let informed = Entry::Informed {
-        conn: 1,
-        automove: true,
-        greedy: false,
-    };
-    assert_eq!(rt;
-        line_of(&informed).as_slice(),
-        b"informed 1 1 0\n".as_slice()
-    );
-    let clicked = Entry::Clicked {
-        conn: 1,
-        decision: Decision::Roll,
-        answer: Ok(()),
-    };
-    assert_eq!(rt; line_of(&clicked).as_slice(), b"clicked 1 ok\n".as_slice());
-    let clicked = Entry::Clicked {
-        conn: 0,
-        decision: Decision::Roll,
-        answer: Err(Refusal::Offline),
-    };
-    assert_eq!(rt;
-        line_of(&clicked).as_slice(),
-        b"clicked 0 Offline\n".as_slice()
-    );
-    let lost = Entry::Lost {
-        conn: 1,
-        unconfirmed: None,
-    };
-    assert_eq!(rt; line_of(&lost).as_slice(), b"lost 1\n".as_slice());
-    let opened = Entry::Opened {
-        conn: 18_446_744_073_709_551_615,
-    };
-    assert_eq!(rt;
-        line_of(&opened).as_slice(),
-        b"opened 18446744073709551615\n".as_slice()
-    );
-    Ok(())
+fn entries_without_a_board(rt: HostRuntime) {
+    let decision = Decision::Roll;
+    let rows: [(Entry, &[u8]); 9] = [
+        (Entry::Opened { conn: 1 }, b"opened 1\n"),
+        (
+            Entry::Opened {
+                conn: 18_446_744_073_709_551_615,
+            },
+            b"opened 18446744073709551615\n",
+        ),
+        (Entry::LoggedIn { conn: 12 }, b"loggedin 12\n"),
+        (Entry::Welcomed { conn: 1 }, b"welcomed 1\n"),
+        (
+            Entry::Informed {
+                conn: 1,
+                automove: false,
+                greedy: true,
+            },
+            b"informed 1 0 1\n",
+        ),
+        (
+            Entry::Informed {
+                conn: 1,
+                automove: true,
+                greedy: false,
+            },
+            b"informed 1 1 0\n",
+        ),
+        (
+            Entry::Clicked {
+                conn: 1,
+                decision,
+                answer: Ok(()),
+            },
+            b"clicked 1 ok\n",
+        ),
+        (
+            Entry::Clicked {
+                conn: 0,
+                decision,
+                answer: Err(Refusal::Offline),
+            },
+            b"clicked 0 Offline\n",
+        ),
+        (
+            Entry::Lost {
+                conn: 1,
+                unconfirmed: None,
+            },
+            b"lost 1\n",
+        ),
+    ];
+    for (entry, wanted) in &rows {
+        assert_eq!(rt; line_of(entry).as_slice(), *wanted);
+    }
 }
 
 /// A board on which the player goes up, from 1 to 24, with two dice of 3.
@@ -355,37 +314,41 @@ fn line_with(word: &[u8], board: &[u8], end: &[u8]) -> ArrayVec<u8, 512> {
 fn entries_with_a_board(rt: HostRuntime) -> Result<(), Fail> {
     let board = read_board(ROLL).ok_or("a board")?;
     let decision = Decision::Roll;
-    let shown = Entry::Shown { conn: 1, board };
-    assert_eq!(rt;
-        line_of(&shown).as_slice(),
-        line_with(b"shown 1 ", ROLL, b"\n").as_slice()
-    );
-    let sent = Entry::Sent {
-        conn: 1,
-        board,
-        decision,
-    };
-    assert_eq!(rt;
-        line_of(&sent).as_slice(),
-        line_with(b"sent 1 ", ROLL, b" roll\n").as_slice()
-    );
-    let took = Entry::Took {
-        conn: 1,
-        board,
-        decision,
-    };
-    assert_eq!(rt;
-        line_of(&took).as_slice(),
-        line_with(b"took 1 ", ROLL, b" roll\n").as_slice()
-    );
-    let lost = Entry::Lost {
-        conn: 2,
-        unconfirmed: Some(Outstanding { board, decision }),
-    };
-    assert_eq!(rt;
-        line_of(&lost).as_slice(),
-        line_with(b"lost 2 ", ROLL, b" roll\n").as_slice()
-    );
+    let rows: [(Entry, &[u8], &[u8]); 4] = [
+        (Entry::Shown { conn: 1, board }, b"shown 1 ", b"\n"),
+        (
+            Entry::Sent {
+                conn: 1,
+                board,
+                decision,
+            },
+            b"sent 1 ",
+            b" roll\n",
+        ),
+        (
+            Entry::Took {
+                conn: 1,
+                board,
+                decision,
+            },
+            b"took 1 ",
+            b" roll\n",
+        ),
+        (
+            Entry::Lost {
+                conn: 2,
+                unconfirmed: Some(Outstanding { board, decision }),
+            },
+            b"lost 2 ",
+            b" roll\n",
+        ),
+    ];
+    for (entry, word, end) in &rows {
+        assert_eq!(rt;
+            line_of(entry).as_slice(),
+            line_with(word, ROLL, end).as_slice()
+        );
+    }
     Ok(())
 }
 

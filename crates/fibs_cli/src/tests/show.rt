@@ -255,13 +255,13 @@ fn shows_messages_under_refused_memory(rt: HostRuntime) {
 /// A reader without end gives its bytes as often as it is asked, and no more often.
 #[test]
 fn asks_a_reader_without_end_so_often(rt: HostRuntime) {
-    let wanted: [&[u8]; 4] = [
-        b"",
-        b"text y\n",
-        b"text y\ntext y\n",
-        b"text y\ntext y\ntext y\n",
+    let rows: [(u32, &[u8]); 4] = [
+        (0, b""),
+        (1, b"text y\n"),
+        (2, b"text y\ntext y\n"),
+        (3, b"text y\ntext y\ntext y\n"),
     ];
-    for (reads, lines) in (0u32..4).zip(wanted) {
+    for (reads, lines) in rows {
         let mut reader = Endless::new();
         let mut writer = Pipe::new(b"", 1, After::End, 512);
         let ending = show_portions(rt.alloc(), reads, &mut [0; 8], &mut reader, &mut writer);
