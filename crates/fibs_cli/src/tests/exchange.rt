@@ -35,6 +35,11 @@ const TO_ROLL: &[u8] = b":1:0:0:0:0:1:1:1:0:1:-1:0:25:0:0:0:0:0:0:0:0";
 
 const ROLLED: &[u8] = b":1:6:2:0:0:1:1:1:0:1:-1:0:25:0:0:0:0:0:0:0:0";
 
+/// The first board of a match, after the roll of 6 and 2.
+const OPENING: &[u8] =
+    b"board:You:someplayer:3:0:1:0:-2:0:0:0:0:5:0:3:0:0:0:-5:5:0:0:0:-3:0:-5:0:0:0:0:2:0\
+    :1:6:2:0:0:1:1:1:0:1:-1:0:25:0:0:0:0:2:0:0:0";
+
 /// The board of one who goes up, with dice 3 and 3.
 const GOING_UP: &[u8] = b"board:You:bob:5:0:0:0:0:0:0:0:-1:0:0:0:0:0:0:0:0:0:0:0:2:0:0:0:0:0:0:0:0\
     :-1:3:3:0:0:1:1:1:0:-1:1:25:0:14:13:0:0:3:0:0:0";
@@ -497,7 +502,7 @@ fn a_decision_that_is_not_written_is_lost(rt: HostRuntime) -> Result<(), Fail> {
 /// The stream ends, or a read fails, after each byte of a line.
 #[test]
 fn each_read_that_fails_ends_the_connection(rt: HostRuntime) -> Result<(), Fail> {
-    for line in [WELCOME, INFO, GOING_UP, PLAYER] {
+    for line in [WELCOME, INFO, OPENING, PLAYER] {
         for length in 0..line.len() + 1 {
             for after in [After::End, After::Fault] {
                 let mut seat = Seat::open(&rt, 7);

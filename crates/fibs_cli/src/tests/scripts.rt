@@ -137,6 +137,7 @@ fn boards_are_owned_with_spaces_at_the_end(rt: HostRuntime) -> Result<(), Fail> 
     for (end, owned) in rows {
         let line = line_with(b"own ", ROLL, end);
         assert_eq!(rt; is_own(&line, &board), owned, "{end:?} at the end");
+        assert_eq!(rt; read_event(&line).is_some(), owned, "{end:?} at the end");
     }
     Ok(())
 }
