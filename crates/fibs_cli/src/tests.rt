@@ -11,3 +11,4 @@ mod refused_notes;
 mod replay;
 mod scripts;
 mod show;
+mod text;

@@ -2,12 +2,14 @@
 
 use super::devices::Endless;
 use super::pipe::{After, Pipe};
+use super::text::{Text, text_of};
 use crate::connect::dial::Dial;
 use crate::connect::{converse, converse_with};
 use crate::fault::EngineFault;
+use std::alloc::Global;
 use std::io;
 use std::io::Read;
-use std::net::{Net, OpenListener, TcpListener};
+use std::net::{Net, OpenListener, TcpListener, TcpStream};
 use std::test::Fail;
 
 /// A server in memory: what each connection gives, how many bytes it takes, and how many connections there are.
@@ -114,31 +116,36 @@ static CASES: [Case; 8] = [
     },
 ];
 
+/// How a conversation ends in which what is typed is read so often at most, and what is printed on both writers, of
+/// which the first takes `room` bytes.
+pub fn conversed(
+    alloc: Global,
+    mut door: Door<'_>,
+    typed: &mut impl Read,
+    reads: u32,
+    room: usize,
+) -> (Result<u8, EngineFault>, Text, Text) {
+    let mut out = Pipe::new(b"", 1, After::End, room);
+    let mut err = Pipe::new(b"", 1, After::End, 1024);
+    let ending = converse_with(&mut door, alloc, b"ann", reads, typed, &mut out, &mut err);
+    (ending, text_of(out.output()), text_of(err.output()))
+}
+
 /// However the typed bytes come.
 #[test]
 fn answers_what_is_typed(rt: HostRuntime) {
     for case in &CASES {
         for most in [1, 2, 7, 1000] {
-            let mut door = Door {
+            let door = Door {
                 input: WELCOME,
                 room: 4096,
                 connections: case.connections,
             };
             let mut typed = Pipe::new(case.typed, most, After::End, 0);
-            let mut out = Pipe::new(b"", 1, After::End, 4096);
-            let mut err = Pipe::new(b"", 1, After::End, 4096);
-            let ending = converse_with(
-                &mut door,
-                rt.alloc(),
-                b"ann",
-                1000,
-                &mut typed,
-                &mut out,
-                &mut err,
-            );
+            let (ending, out, err) = conversed(rt.alloc(), door, &mut typed, 1000, 1024);
             assert_eq!(rt; ending, Ok(case.status), "{}", case.name);
-            assert_eq!(rt; out.output(), case.out, "{}", case.name);
-            assert_eq!(rt; err.output(), case.err, "{}", case.name);
+            assert_eq!(rt; out.as_slice(), case.out, "{}", case.name);
+            assert_eq!(rt; err.as_slice(), case.err, "{}", case.name);
         }
     }
 }
@@ -148,76 +155,49 @@ fn answers_what_is_typed(rt: HostRuntime) {
 fn each_write_of_a_login_that_fails_loses_the_connection(rt: HostRuntime) {
     let login = b"login fibs_client 1008 ann secret\r\n";
     for room in 0..login.len() + 1 {
-        let mut door = Door {
+        let door = Door {
             input: b"",
             room,
             connections: 2,
         };
         let mut typed = Pipe::new(b"secret\nroll\nopen\n", 100, After::End, 0);
-        let mut out = Pipe::new(b"", 1, After::End, 4096);
-        let mut err = Pipe::new(b"", 1, After::End, 4096);
-        let ending = converse_with(
-            &mut door,
-            rt.alloc(),
-            b"ann",
-            1000,
-            &mut typed,
-            &mut out,
-            &mut err,
-        );
+        let (ending, out, _err) = conversed(rt.alloc(), door, &mut typed, 1000, 1024);
         let wanted: &[u8] = if room < login.len() {
             b"lost\nrefused 2 Offline\nlost\n"
         } else {
             b"refused 3 NotReady\nrefused 1 AlreadyOpen\n"
         };
         assert_eq!(rt; ending, Ok(0), "at {room}");
-        assert_eq!(rt; out.output(), wanted, "at {room}");
+        assert_eq!(rt; out.as_slice(), wanted, "at {room}");
     }
 }
 
-/// Each device that fails ends the conversation.
+/// A server that nobody reaches.
+fn no_door() -> Door<'static> {
+    Door {
+        input: b"",
+        room: 0,
+        connections: 0,
+    }
+}
+
 #[test]
-fn a_device_that_fails_is_a_fault(rt: HostRuntime) {
+fn a_writer_that_fails_is_a_fault(rt: HostRuntime) {
     let wanted: &[u8] = b"no connection\nrefused 2 Offline\n";
     for room in 0..wanted.len() {
-        let mut door = Door {
-            input: b"",
-            room: 0,
-            connections: 0,
-        };
         let mut typed = Pipe::new(b"secret\nroll\n", 100, After::End, 0);
-        let mut out = Pipe::new(b"", 1, After::End, room);
-        let mut err = Pipe::new(b"", 1, After::End, 0);
-        let ending = converse_with(
-            &mut door,
-            rt.alloc(),
-            b"ann",
-            1000,
-            &mut typed,
-            &mut out,
-            &mut err,
-        );
+        let (ending, out, _err) = conversed(rt.alloc(), no_door(), &mut typed, 1000, room);
         assert_eq!(rt; ending, Err(EngineFault::Device), "at {room}");
-        assert_eq!(rt; out.output(), &wanted[..room], "at {room}");
+        assert_eq!(rt; out.as_slice(), &wanted[..room], "at {room}");
     }
-    for length in 0..12 {
-        let mut door = Door {
-            input: b"",
-            room: 0,
-            connections: 0,
-        };
-        let mut typed = Pipe::new(&b"secret\nroll\n"[..length], 100, After::Fault, 0);
-        let mut out = Pipe::new(b"", 1, After::End, 100);
-        let mut err = Pipe::new(b"", 1, After::End, 0);
-        let ending = converse_with(
-            &mut door,
-            rt.alloc(),
-            b"ann",
-            1000,
-            &mut typed,
-            &mut out,
-            &mut err,
-        );
+}
+
+#[test]
+fn a_reader_that_fails_is_a_fault(rt: HostRuntime) {
+    let whole: &[u8] = b"secret\nroll\n";
+    for length in 0..whole.len() {
+        let mut typed = Pipe::new(&whole[..length], 100, After::Fault, 0);
+        let (ending, _out, _err) = conversed(rt.alloc(), no_door(), &mut typed, 1000, 100);
         assert_eq!(rt; ending, Err(EngineFault::Device), "at {length}");
     }
 }
@@ -226,26 +206,33 @@ fn a_device_that_fails_is_a_fault(rt: HostRuntime) {
 #[test]
 fn typed_lines_without_end_end(rt: HostRuntime) {
     for reads in [0, 1, 5] {
-        let mut door = Door {
-            input: b"",
-            room: 0,
-            connections: 0,
-        };
         let mut typed = Endless::new();
-        let mut out = Pipe::new(b"", 1, After::End, 4096);
-        let mut err = Pipe::new(b"", 1, After::End, 0);
-        let ending = converse_with(
-            &mut door,
-            rt.alloc(),
-            b"ann",
-            reads,
-            &mut typed,
-            &mut out,
-            &mut err,
-        );
+        let (ending, _out, _err) = conversed(rt.alloc(), no_door(), &mut typed, reads, 1024);
         assert_eq!(rt; ending, Err(EngineFault::Device), "at {reads}");
         assert_eq!(rt; typed.asked(), reads, "at {reads}");
     }
+}
+
+/// How a conversation over sockets ends, and what is printed on both writers.
+fn conversed_at<N: Net<Stream = TcpStream> + AllocGlobal>(
+    rt: &N,
+    port: u16,
+    typed: &[u8],
+) -> (Result<u8, EngineFault>, Text, Text) {
+    let mut typed = Pipe::new(typed, 100, After::End, 0);
+    let mut out = Pipe::new(b"", 1, After::End, 100);
+    let mut err = Pipe::new(b"", 1, After::End, 100);
+    let ending = converse(
+        rt,
+        rt.alloc(),
+        "127.0.0.1",
+        port,
+        b"ann",
+        &mut typed,
+        &mut out,
+        &mut err,
+    );
+    (ending, text_of(out.output()), text_of(err.output()))
 }
 
 /// A port of this machine on which nothing listens.
@@ -256,55 +243,42 @@ fn free_port<N: Net>(rt: &N) -> io::Result<u16> {
 
 #[test]
 fn a_port_where_nothing_listens_gives_no_connection(rt: HostRuntime) -> Result<(), Fail> {
-    let port = free_port(&rt)?;
-    let mut typed = Pipe::new(b"secret\nroll\nquit\n", 100, After::End, 0);
-    let mut out = Pipe::new(b"", 1, After::End, 100);
-    let mut err = Pipe::new(b"", 1, After::End, 100);
-    let ending = converse(
-        &rt,
-        rt.alloc(),
-        "127.0.0.1",
-        port,
-        b"ann",
-        &mut typed,
-        &mut out,
-        &mut err,
-    );
+    let (ending, out, err) = conversed_at(&rt, free_port(&rt)?, b"secret\nroll\nquit\n");
     assert_eq!(rt; ending, Ok(0));
     assert_eq!(rt;
-        out.output(),
+        out.as_slice(),
         b"no connection\nrefused 2 Offline\n".as_slice()
     );
-    assert!(rt; err.output().is_empty());
+    assert!(rt; err.is_empty());
     Ok(())
+}
+
+/// What a connection gives up to its end, in at most 100 reads.
+fn read_whole(stream: &mut TcpStream) -> io::Result<Text> {
+    let mut received = [0u8; 100];
+    let mut text = Text::new();
+    for _ in 0..100 {
+        match stream.read(&mut received)? {
+            0 => break,
+            count => {
+                let _fits = text.try_extend_from_slice(&received[..count]);
+            }
+        }
+    }
+    Ok(text)
 }
 
 #[test]
 fn a_socket_is_given_the_login_and_no_more(rt: HostRuntime) -> Result<(), Fail> {
     let listener = TcpListener::bind(&rt, "127.0.0.1:0")?;
     let port = listener.local_addr()?.port();
-    let mut typed = Pipe::new(b"secret\n\nquit\n", 100, After::End, 0);
-    let mut out = Pipe::new(b"", 1, After::End, 100);
-    let mut err = Pipe::new(b"", 1, After::End, 100);
-    let ending = converse(
-        &rt,
-        rt.alloc(),
-        "127.0.0.1",
-        port,
-        b"ann",
-        &mut typed,
-        &mut out,
-        &mut err,
-    );
+    let (ending, out, err) = conversed_at(&rt, port, b"secret\n\nquit\n");
     assert_eq!(rt; ending, Ok(0));
-    assert!(rt; out.output().is_empty() && err.output().is_empty());
+    assert!(rt; out.is_empty() && err.is_empty());
     let (mut far, _peer) = listener.accept()?;
-    let mut received = [0u8; 100];
-    let count = far.read(&mut received)?;
     assert_eq!(rt;
-        &received[..count],
+        read_whole(&mut far)?.as_slice(),
         b"login fibs_client 1008 ann secret\r\n".as_slice()
     );
-    assert_eq!(rt; far.read(&mut received)?, 0);
     Ok(())
 }

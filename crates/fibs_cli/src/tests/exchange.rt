@@ -4,6 +4,7 @@ ghost use Rattle.fibs_cli.specs.Turns.Turn.{FitsStream, still_given};
 
 use super::devices::FailsOnce;
 use super::pipe::{After, Pipe};
+use super::text::{Text, joined, text_of};
 use crate::exchange::link::Link;
 use crate::exchange::{Ending, ExchangeFault, exchange};
 use fibs_messages::{Reading, read as read_line};
@@ -63,7 +64,7 @@ const PRINTED: &[u8] = b"message 1 ann 1041253132 localhost\n\
     phase RollOrDouble\n";
 
 /// How a turn ended, in a word.
-#[derive(Clone, Copy, Debug, PartialEq, Eq)]
+#[derive(Clone, Copy, PartialEq, Eq)]
 enum Kind {
     Quiet,
     Lost,
@@ -346,27 +347,29 @@ fn a_line_may_come_in_three_turns(rt: HostRuntime) -> Result<(), Fail> {
     Ok(())
 }
 
+/// What is typed, the command that is sent, and the answer.
+static TYPED: [(&[u8], &[u8], &[u8]); 16] = [
+    (b"dance", b"", b"unknown\n"),
+    (b"", b"", b"unknown\n"),
+    (b"roll ", b"", b"unknown\n"),
+    (b"\xff\x00", b"", b"unknown\n"),
+    (b"roll", b"roll\r\n", b"sent roll\n"),
+    (b"double", b"double\r\n", b"sent double\n"),
+    (b"accept", b"", b"refused 8 WrongKind\n"),
+    (b"move 24-18", b"", b"refused 8 WrongKind\n"),
+    (b"who", b"who\r\n", b"sent who\n"),
+    (b"board", b"board\r\n", b"sent board\n"),
+    (b"tell bob hi", b"tell bob hi\r\n", b"sent tell bob hi\n"),
+    (b"tell b:b hi", b"", b"fault 1 BadName\n"),
+    (b"say ", b"", b"fault 2 BadText\n"),
+    (b"invite bob 5", b"invite bob 5\r\n", b"sent invite bob 5\n"),
+    (b"toggle automove", b"", b"refused 10 NotOn\n"),
+    (b"bye", b"bye\r\n", b"sent bye\n"),
+];
+
 #[test]
 fn typed_lines_are_answered(rt: HostRuntime) -> Result<(), Fail> {
-    let rows: [(&[u8], &[u8], &[u8]); 16] = [
-        (b"dance", b"", b"unknown\n"),
-        (b"", b"", b"unknown\n"),
-        (b"roll ", b"", b"unknown\n"),
-        (b"\xff\x00", b"", b"unknown\n"),
-        (b"roll", b"roll\r\n", b"sent roll\n"),
-        (b"double", b"double\r\n", b"sent double\n"),
-        (b"accept", b"", b"refused 8 WrongKind\n"),
-        (b"move 24-18", b"", b"refused 8 WrongKind\n"),
-        (b"who", b"who\r\n", b"sent who\n"),
-        (b"board", b"board\r\n", b"sent board\n"),
-        (b"tell bob hi", b"tell bob hi\r\n", b"sent tell bob hi\n"),
-        (b"tell b:b hi", b"", b"fault 1 BadName\n"),
-        (b"say ", b"", b"fault 2 BadText\n"),
-        (b"invite bob 5", b"invite bob 5\r\n", b"sent invite bob 5\n"),
-        (b"toggle automove", b"", b"refused 10 NotOn\n"),
-        (b"bye", b"bye\r\n", b"sent bye\n"),
-    ];
-    for (typed, command, answer) in rows {
+    for (typed, command, answer) in &TYPED {
         for most in [1, 2, 7, 1000] {
             let mut seat = Seat::open(&rt, most);
             seat.hears(&[READY])?;
@@ -514,23 +517,29 @@ fn each_read_that_fails_ends_the_connection(rt: HostRuntime) -> Result<(), Fail>
     Ok(())
 }
 
+/// Whether a turn up to the first board fails where so many bytes may be printed, what is printed, and whether the client
+/// shows a board then.
+fn printed_into(rt: &(impl Abort + AllocGlobal), room: usize) -> (bool, Text, bool) {
+    let mut client = opened(rt);
+    let mut directory = Directory::new(rt.alloc());
+    let mut pipe = Pipe::new(READY, 1000, After::WouldBlock, 100);
+    let mut out = Pipe::new(b"", 1, After::End, room);
+    let outcome = exchange(&mut client, &mut directory, Some(&mut pipe), None, &mut out);
+    let failed = matches!(outcome, Err(ExchangeFault::Output));
+    (failed, text_of(out.output()), client.shown().is_some())
+}
+
 /// The writer of the printed lines fails after each byte. The client has heard the lines up to the one that fails, so
 /// that it shows the board where the lines before it were printed.
 #[test]
-fn each_print_that_fails_stops_the_turn(rt: HostRuntime) -> Result<(), Fail> {
+fn each_print_that_fails_stops_the_turn(rt: HostRuntime) {
     let before = WELCOME.len() + INFO.len() + 2 * b"message \n".len();
     for room in 0..PRINTED.len() + 1 {
-        let mut client = opened(&rt);
-        let mut directory = Directory::new(rt.alloc());
-        let mut pipe = Pipe::new(READY, 1000, After::WouldBlock, 100);
-        let mut out = Pipe::new(b"", 1, After::End, room);
-        let outcome = exchange(&mut client, &mut directory, Some(&mut pipe), None, &mut out);
-        let failed = matches!(outcome, Err(ExchangeFault::Output));
+        let (failed, printed, shows) = printed_into(&rt, room);
         assert_eq!(rt; failed, room < PRINTED.len(), "at {room}");
-        assert_eq!(rt; out.output(), &PRINTED[..room], "at {room}");
-        assert_eq!(rt; client.shown().is_some(), before <= room, "at {room}");
+        assert_eq!(rt; printed.as_slice(), &PRINTED[..room], "at {room}");
+        assert_eq!(rt; shows, before <= room, "at {room}");
     }
-    Ok(())
 }
 
 /// A line of which only the front is kept is no board.
@@ -555,17 +564,11 @@ fn a_turn_reads_4096_times(rt: HostRuntime) -> Result<(), Fail> {
         Ending::Quiet => {}
         Ending::Lost(_) => return Err(Fail::from("the turn goes on")),
     }
-    assert!(rt;
-        seat.printed.ends_with(b"\\x0d\n"),
-        "the first line is printed"
-    );
+    let is_whole = seat.printed.ends_with(b"\\x0d\n");
     seat.printed.clear();
     let ending = seat.turn_on(&mut pipe, None)?;
-    assert_eq!(rt;
-        kind_of(&ending),
-        Kind::Lost,
-        "the rest is read at the next turn"
-    );
+    let is_over = kind_of(&ending) == Kind::Lost;
+    assert!(rt; is_whole && is_over, "the rest is read at the next turn");
     assert_eq!(rt; seat.printed.as_slice(), b"text hi\nlost\n".as_slice());
     Ok(())
 }
@@ -593,16 +596,17 @@ fn offline_nothing_is_sent(rt: HostRuntime) -> Result<(), Fail> {
 }
 
 /// Message 5 of a player whose name is a number.
-fn player_line(alloc: Global, number: usize) -> Result<Vec<u8>, Fail> {
-    let line = format!(in alloc; "5 p{number} - - 0 0 1500.00 0 0 0 host - -")?;
-    Ok(line.into_bytes())
+fn player_line(number: usize) -> Text {
+    let mut buffer = itoa::Buffer::new();
+    let name = buffer.format(number).as_bytes();
+    joined(&[b"5 p", name, b" - - 0 0 1500.00 0 0 0 host - -"])
 }
 
 /// A directory that holds as many players as it may.
 fn full_directory(rt: &(impl Abort + AllocGlobal)) -> Result<Directory, Fail> {
     let mut directory = Directory::new(rt.alloc());
     for number in 0..4096 {
-        let line = player_line(rt.alloc(), number)?;
+        let line = player_line(number);
         match read_line(&line) {
             Reading::Numbered(message) => directory.note(&message).expect(rt, "memory is ample"),
             _ => return Err(Fail::from("it is a message")),

@@ -3,8 +3,8 @@ ghost use Rattle.std.specs.Prelude.{◌≡◌, Some, []};
 ghost use Rattle.std.specs.Io.{ReadsAtMost, WritesAtMost};
 ghost use Rattle.std.specs.Io.KnownBytes.{ReadConsumes, WriteAppends};
 
+use super::text::Text;
 use crate::exchange::link::Link;
-use arrayvec::ArrayVec;
 use std::io;
 use std::io::{ErrorKind, Read, Write};
 
@@ -28,13 +28,13 @@ pub struct Pipe<'a> {
     input: &'a [u8],
     most: usize,
     after: After,
-    output: ArrayVec<u8, 4096>,
+    output: Text,
     room: usize,
 }
 
 impl<'a> Pipe<'a> {
     /// A pipe that gives `input` in reads of at most `most` bytes, and takes `room` bytes, and no
-    /// more than 4096, before a write fails.
+    /// more than 8192, before a write fails.
     pub fn new(input: &'a [u8], most: usize, after: After, room: usize) -> Pipe<'a>
         ensures input { result.input.now ≡ input.entry.now }
         ensures output { result.output.items ≡ [] }
@@ -43,7 +43,7 @@ impl<'a> Pipe<'a> {
             input,
             most,
             after,
-            output: ArrayVec::new(),
+            output: Text::new(),
             room,
         }
     }

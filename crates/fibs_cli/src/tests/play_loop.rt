@@ -1,11 +1,10 @@
 //! Scripts that are played over real sockets.
 
 use super::pipe::{After, Pipe};
-use super::replay::is_log_so_far;
+use super::replay::{is_log_so_far, replayed};
+use super::text::{Text, joined, text_of};
 use crate::fault::EngineFault;
 use crate::play_loop::play_loop;
-use crate::replay::replay;
-use arrayvec::ArrayVec;
 use std::net::{Net, TcpListener, TcpStream};
 use std::process::Abort;
 use std::test::Fail;
@@ -146,15 +145,8 @@ static CASES: [Case; 13] = [
     },
 ];
 
-/// A script, or what is printed for one.
-type Text = ArrayVec<u8, 4096>;
-
 fn script_of(case: &Case) -> Text {
-    let mut script = Text::new();
-    let _fits = script.try_extend_from_slice(case.board);
-    let _fits = script.try_extend_from_slice(case.log_in);
-    let _fits = script.try_extend_from_slice(case.events);
-    script
+    joined(&[case.board, case.log_in, case.events])
 }
 
 /// How a script ends that is played over sockets to the listener, and what is printed.
@@ -166,9 +158,7 @@ fn played<N: Net<Stream = TcpStream> + AllocGlobal>(
     let mut reader = Pipe::new(script, 100, After::End, 0);
     let mut writer = Pipe::new(b"", 1, After::End, 4096);
     let ending = play_loop(rt, rt.alloc(), listener, &mut reader, &mut writer);
-    let mut printed = Text::new();
-    let _fits = printed.try_extend_from_slice(writer.output());
-    (ending, printed)
+    (ending, text_of(writer.output()))
 }
 
 #[test]
@@ -177,13 +167,10 @@ fn scripts_are_played_as_they_are_replayed(rt: HostRuntime) -> Result<(), Fail> 
     for case in &CASES {
         let script = script_of(case);
         let (ending, printed) = played(&rt, &listener, script.as_slice());
-        let mut reader = Pipe::new(script.as_slice(), 100, After::End, 0);
-        let mut wanted = Pipe::new(b"", 1, After::End, 4096);
-        let replayed = replay(rt.alloc(), &mut reader, &mut wanted);
         assert_eq!(rt; ending, Ok(case.status), "{}", case.name);
-        assert_eq!(rt; replayed, ending, "{}", case.name);
         assert!(rt; printed.as_slice().ends_with(case.end), "{}", case.name);
-        assert_eq!(rt; printed.as_slice(), wanted.output(), "{}", case.name);
+        let wanted = replayed(rt.alloc(), script.as_slice(), 100);
+        assert!(rt; (ending, printed) == wanted, "{}", case.name);
     }
     Ok(())
 }

@@ -1,10 +1,10 @@
 //! The engine `plays`.
 use super::devices::FailsOnce;
 use super::pipe::{After, Pipe};
+use super::text::{Text, text_of};
 use crate::fault::EngineFault;
 use crate::plays::plays;
-use std::process::Abort;
-use std::test::Fail;
+use std::alloc::Global;
 
 /// A word of the command line, and what is printed for it.
 struct Case {
@@ -161,115 +161,110 @@ static REFUSED: [Case; 16] = [
     },
 ];
 
-/// A writer with room for so many bytes.
-fn writer(room: usize) -> Pipe<'static> {
-    Pipe::new(b"", 1, After::End, room)
+/// How `plays` ends where so many bytes may be printed on both writers, and what it prints.
+fn listed(
+    alloc: Global,
+    word: &[u8],
+    out_room: usize,
+    err_room: usize,
+) -> (Result<u8, EngineFault>, Text, Text) {
+    let mut out = Pipe::new(b"", 1, After::End, out_room);
+    let mut err = Pipe::new(b"", 1, After::End, err_room);
+    let ending = plays(alloc, word, &mut out, &mut err);
+    (ending, text_of(out.output()), text_of(err.output()))
 }
 
 #[test]
-fn prints_the_plays_of_good_boards(rt: HostRuntime) -> Result<(), EngineFault> {
+fn prints_the_plays_of_good_boards(rt: HostRuntime) {
     for case in &PRINTED {
-        let mut out = writer(512);
-        let mut err = writer(512);
-        let status = plays(rt.alloc(), case.word, &mut out, &mut err)?;
-        assert_eq!(rt; status, 0, "{}", case.name);
-        assert_eq!(rt; out.output(), case.printed, "{}", case.name);
-        assert_eq!(rt; err.output(), b"".as_slice(), "{}", case.name);
+        let (ending, out, err) = listed(rt.alloc(), case.word, 512, 512);
+        assert_eq!(rt; ending, Ok(0), "{}", case.name);
+        assert_eq!(rt; out.as_slice(), case.printed, "{}", case.name);
+        assert!(rt; err.is_empty(), "{}", case.name);
     }
-    Ok(())
 }
 
 #[test]
 fn refuses_all_other_words(rt: HostRuntime) {
     for case in &REFUSED {
-        let mut out = writer(512);
-        let mut err = writer(512);
-        let ending = plays(rt.alloc(), case.word, &mut out, &mut err);
+        let (ending, out, err) = listed(rt.alloc(), case.word, 512, 512);
         assert_eq!(rt; ending, Ok(3), "{}", case.name);
-        assert_eq!(rt; err.output(), case.printed, "{}", case.name);
-        assert_eq!(rt; out.output(), b"".as_slice(), "{}", case.name);
+        assert_eq!(rt; err.as_slice(), case.printed, "{}", case.name);
+        assert!(rt; out.is_empty(), "{}", case.name);
     }
 }
 
 #[test]
-fn reads_a_word_of_any_length(rt: HostRuntime) -> Result<(), Fail> {
+fn reads_a_word_of_any_length(rt: HostRuntime) {
     let case = &PRINTED[0];
-    let mut word = Vec::from_slice(rt.alloc(), case.word)?;
+    let mut word = text_of(case.word);
     for _ in 0..5000 {
-        word.push(b' ')?;
+        let _fits = word.try_push(b' ');
     }
-    let mut out = writer(512);
-    let mut err = writer(512);
-    assert_eq!(rt; plays(rt.alloc(), &word, &mut out, &mut err), Ok(0));
-    assert_eq!(rt; out.output(), case.printed);
-    Ok(())
+    let (ending, out, _err) = listed(rt.alloc(), word.as_slice(), 512, 512);
+    assert_eq!(rt; ending, Ok(0));
+    assert_eq!(rt; out.as_slice(), case.printed);
 }
 
 /// Where a growth is refused, nothing is written, and the next call lists the plays.
 #[test]
 fn prints_plays_under_refused_memory(rt: HostRuntime) {
     for case in &PRINTED {
-        let mut out = writer(512);
-        let mut err = writer(512);
-        let mut ending = plays(rt.alloc(), case.word, &mut out, &mut err);
+        let (mut ending, mut out, mut err) = listed(rt.alloc(), case.word, 512, 512);
         if ending == Err(EngineFault::Memory) {
-            assert!(rt;
-                out.output().is_empty() && err.output().is_empty(),
-                "{}",
-                case.name
-            );
-            ending = plays(rt.alloc(), case.word, &mut out, &mut err);
+            assert!(rt; out.is_empty() && err.is_empty(), "{}", case.name);
+            (ending, out, err) = listed(rt.alloc(), case.word, 512, 512);
         }
         assert_eq!(rt; ending, Ok(0), "{}", case.name);
-        assert_eq!(rt; out.output(), case.printed, "{}", case.name);
-        assert_eq!(rt; err.output(), b"".as_slice(), "{}", case.name);
+        assert_eq!(rt; out.as_slice(), case.printed, "{}", case.name);
+        assert!(rt; err.is_empty(), "{}", case.name);
     }
-}
-
-/// Asserts that the engine stops where either writer is full.
-fn assert_stops(rt: &(impl Abort + AllocGlobal), case: &Case, out_room: usize, err_room: usize) {
-    let mut out = writer(out_room);
-    let mut err = writer(err_room);
-    let ending = plays(rt.alloc(), case.word, &mut out, &mut err);
-    assert_eq!(rt; ending, Err(EngineFault::Device), "{}", case.name);
-    let room = out_room.max(err_room);
-    let written = if out_room > 0 {
-        out.output()
-    } else {
-        err.output()
-    };
-    assert_eq!(rt; Some(written), case.printed.get(..room), "{}", case.name);
 }
 
 #[test]
 fn stops_at_a_failed_write(rt: HostRuntime) {
     let good = &PRINTED[6];
     for room in 0..good.printed.len() {
-        assert_stops(&rt, good, room, 0);
+        let (ending, out, _err) = listed(rt.alloc(), good.word, room, 0);
+        assert_eq!(rt; ending, Err(EngineFault::Device), "room for {room} bytes");
+        assert_eq!(rt; out.as_slice(), &good.printed[..room]);
     }
     let bad = &REFUSED[6];
     for room in 0..bad.printed.len() {
-        assert_stops(&rt, bad, 0, room);
+        let (ending, _out, err) = listed(rt.alloc(), bad.word, 0, room);
+        assert_eq!(rt; ending, Err(EngineFault::Device), "room for {room} bytes");
+        assert_eq!(rt; err.as_slice(), &bad.printed[..room]);
     }
+}
+
+/// How `plays` ends where one write on each writer fails, and what it prints.
+fn listed_with_a_failure(
+    alloc: Global,
+    word: &[u8],
+    out_failing: usize,
+    err_failing: usize,
+) -> (Result<u8, EngineFault>, Text, Text) {
+    let mut out = FailsOnce::new(out_failing, 1);
+    let mut err = FailsOnce::new(err_failing, 1);
+    let ending = plays(alloc, word, &mut out, &mut err);
+    (ending, text_of(out.output()), text_of(err.output()))
 }
 
 /// After a failed write neither writer is given more, though it would take it.
 #[test]
 fn writes_nothing_after_a_failed_write(rt: HostRuntime) {
-    for (case, listed) in [(&PRINTED[6], true), (&REFUSED[6], false)] {
-        for failing in 0..case.printed.len() {
-            let mut out = FailsOnce::new(if listed { failing } else { 0 }, 1);
-            let mut err = FailsOnce::new(if listed { 0 } else { failing }, 1);
-            let ending = plays(rt.alloc(), case.word, &mut out, &mut err);
-            assert_eq!(rt; ending, Err(EngineFault::Device), "{}", case.name);
-            let (written, other) = if listed { (&out, &err) } else { (&err, &out) };
-            assert_eq!(rt;
-                Some(written.output()),
-                case.printed.get(..failing),
-                "{}",
-                case.name
-            );
-            assert_eq!(rt; other.output(), b"".as_slice(), "{}", case.name);
-        }
+    let good = &PRINTED[6];
+    for failing in 0..good.printed.len() {
+        let (ending, out, err) = listed_with_a_failure(rt.alloc(), good.word, failing, 0);
+        assert_eq!(rt; ending, Err(EngineFault::Device), "after {failing} writes");
+        assert_eq!(rt; out.as_slice(), &good.printed[..failing]);
+        assert!(rt; err.is_empty(), "after {failing} writes");
+    }
+    let bad = &REFUSED[6];
+    for failing in 0..bad.printed.len() {
+        let (ending, out, err) = listed_with_a_failure(rt.alloc(), bad.word, 0, failing);
+        assert_eq!(rt; ending, Err(EngineFault::Device), "after {failing} writes");
+        assert_eq!(rt; err.as_slice(), &bad.printed[..failing]);
+        assert!(rt; out.is_empty(), "after {failing} writes");
     }
 }

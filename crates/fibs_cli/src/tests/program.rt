@@ -1,9 +1,11 @@
 //! The command line, from its words to the exit status.
 use super::pipe::{After, Pipe};
+use super::text::{Text, text_of};
 use crate::arguments;
 use crate::fault::EngineFault;
 use crate::program::{answer, status};
 use std::alloc::{AllocError, Global};
+use std::net::{Net, TcpListener, TcpStream};
 use std::test::Fail;
 
 /// The words after the program's name, what is on standard input, and what comes of them.
@@ -74,18 +76,28 @@ fn line_of(alloc: Global, words: &[&str]) -> Result<Vec<String>, AllocError> {
     Ok(line)
 }
 
+/// How the program answers a command line, and what it prints.
+fn answered<N: Net<Listener = TcpListener, Stream = TcpStream> + AllocGlobal>(
+    rt: &N,
+    words: &[&str],
+    input: &[u8],
+) -> Result<(Result<u8, EngineFault>, Text, Text), AllocError> {
+    let line = line_of(rt.alloc(), words)?;
+    let mut input = Pipe::new(input, 7, After::End, 0);
+    let mut out = Pipe::new(b"", 1, After::End, 4096);
+    let mut err = Pipe::new(b"", 1, After::End, 4096);
+    let called = arguments::read(rt.alloc(), line.as_slice());
+    let ending = answer(rt, rt.alloc(), &called, &mut input, &mut out, &mut err);
+    Ok((ending, text_of(out.output()), text_of(err.output())))
+}
+
 #[test]
 fn serves_each_request(rt: HostRuntime) -> Result<(), Fail> {
     for case in &SERVED {
-        let words = line_of(rt.alloc(), case.words)?;
-        let mut input = Pipe::new(case.input, 7, After::End, 0);
-        let mut out = Pipe::new(b"", 1, After::End, 512);
-        let mut err = Pipe::new(b"", 1, After::End, 512);
-        let called = arguments::read(rt.alloc(), words.as_slice());
-        let ending = answer(&rt, rt.alloc(), &called, &mut input, &mut out, &mut err);
+        let (ending, out, err) = answered(&rt, case.words, case.input)?;
         assert_eq!(rt; ending, Ok(case.status), "{}", case.name);
-        assert_eq!(rt; out.output(), case.out, "{}", case.name);
-        assert_eq!(rt; err.output(), case.err, "{}", case.name);
+        assert_eq!(rt; out.as_slice(), case.out, "{}", case.name);
+        assert_eq!(rt; err.as_slice(), case.err, "{}", case.name);
     }
     Ok(())
 }
@@ -103,15 +115,10 @@ fn answers_each_other_line(rt: HostRuntime) -> Result<(), Fail> {
         (&["plays"], 2),
     ];
     for (words, wanted) in cases {
-        let line = line_of(rt.alloc(), words)?;
-        let mut input = Pipe::new(b"a\n", 7, After::End, 0);
-        let mut out = Pipe::new(b"", 1, After::End, 4096);
-        let mut err = Pipe::new(b"", 1, After::End, 4096);
-        let called = arguments::read(rt.alloc(), line.as_slice());
-        let ending = answer(&rt, rt.alloc(), &called, &mut input, &mut out, &mut err);
+        let (ending, out, err) = answered(&rt, words, b"a\n")?;
         assert_eq!(rt; ending, Ok(wanted), "at {words:?}");
-        assert_eq!(rt; out.output().is_empty(), wanted == 2, "at {words:?}");
-        assert_eq!(rt; err.output().is_empty(), wanted == 0, "at {words:?}");
+        assert_eq!(rt; out.is_empty(), wanted == 2, "at {words:?}");
+        assert_eq!(rt; err.is_empty(), wanted == 0, "at {words:?}");
     }
     Ok(())
 }

@@ -2,34 +2,19 @@
 ghost use Rattle.std.specs.Prelude.{true, IfOk};
 ghost use Rattle.fibs_cli.specs.Turns.Turn.{FitsStream};
 
-use super::connect::Door;
+use super::connect::{Door, conversed};
 use super::exchange::opened;
 use super::pipe::{After, Pipe};
-use crate::connect::converse_with;
+use super::text::{Text, joined};
 use crate::exchange::{Ending, exchange};
 use crate::fault::EngineFault;
-use arrayvec::ArrayVec;
 use fibs_session::{Client, Directory};
 use std::alloc::{AllocError, Global};
 use std::process::Abort;
 use std::test::Fail;
 
-/// What is printed or sent.
-type Text = ArrayVec<u8, 1024>;
-
-fn joined(parts: &[&[u8]]) -> Text {
-    let mut text = Text::new();
-    for part in parts {
-        let _fits = text.try_extend_from_slice(part);
-    }
-    text
-}
-
-fn text_of(bytes: &[u8]) -> Text {
-    let mut text = Text::new();
-    let _fits = text.try_extend_from_slice(bytes);
-    text
-}
+/// What is printed where a note is refused.
+const REFUSED: &[u8] = b"directory 1 Memory\n";
 
 /// What the server sends, and what is printed for it.
 static HEARD: [(&[u8], &[u8]); 8] = [
@@ -69,11 +54,13 @@ static HEARD: [(&[u8], &[u8]); 8] = [
     ),
 ];
 
-/// A client that has opened a connection, and the players that it knows.
+/// A client that has opened a connection, the players that it knows, and what was printed and sent.
 #[derive(Drop)]
 struct Seat {
     client: Client,
     directory: Directory,
+    printed: Text,
+    sent: Text,
 }
 
 impl Seat {
@@ -83,11 +70,13 @@ impl Seat {
         Seat {
             client: opened(rt),
             directory: Directory::new(rt.alloc()),
+            printed: Text::new(),
+            sent: Text::new(),
         }
     }
 
-    /// One quiet turn: what is printed, and what is sent.
-    fn turn(&mut self, typed: Option<&[u8]>, input: &[u8]) -> Result<(Text, Text), Fail>
+    /// One quiet turn.
+    fn turn(&mut self, typed: Option<&[u8]>, input: &[u8]) -> Result<(), Fail>
         requires { FitsStream self.old.client true }
         ensures { IfOk result (λ _. FitsStream self.new.client true) }
     {
@@ -100,11 +89,23 @@ impl Seat {
             typed,
             &mut out,
         );
+        let _fits = self.printed.try_extend_from_slice(out.output());
+        let _fits = self.sent.try_extend_from_slice(pipe.output());
         match outcome {
-            Ok(Ending::Quiet) => Ok((text_of(out.output()), text_of(pipe.output()))),
+            Ok(Ending::Quiet) => Ok(()),
             _ => Err(Fail::from("the turn is not quiet")),
         }
     }
+}
+
+/// What is known of each player.
+fn players_of(alloc: Global, directory: &Directory) -> Result<Text, AllocError> {
+    let mut text = Text::new();
+    for place in 0..directory.len() {
+        let player = format!(in alloc; "{:?}", directory.at(place))?;
+        let _fits = text.try_extend_from_slice(player.as_bytes());
+    }
+    Ok(text)
 }
 
 /// A seat that has heard these lines.
@@ -113,25 +114,13 @@ fn seat_after(rt: &(impl Abort + AllocGlobal), lines: &[(&[u8], &[u8])]) -> Resu
 {
     let mut seat = Seat::new(rt);
     for at in 0..lines.len() {
-        let (line, printed) = lines[at];
-        let (text, _sent) = seat.turn(None, line)?;
-        assert_eq!(rt; text.as_slice(), printed);
+        seat.turn(None, lines[at].0)?;
     }
     Ok(seat)
 }
 
-/// Whether both have the same players.
-fn know_the_same(alloc: Global, a: &Directory, b: &Directory) -> Result<bool, AllocError> {
-    for place in 0..a.len() {
-        let (one, other) = (a.at(place), b.at(place));
-        if format!(in alloc; "{one:?}")? != format!(in alloc; "{other:?}")? {
-            return Ok(false);
-        }
-    }
-    Ok(a.len() == b.len())
-}
-
-/// Both seats hear the lines, and then a decision is typed at both.
+/// Both seats hear the lines, and then a decision is typed at both: they print and send the same, and know the same
+/// players throughout.
 fn assert_alike(
     rt: &(impl Abort + AllocGlobal),
     seat: &mut Seat,
@@ -141,18 +130,23 @@ fn assert_alike(
     requires seat { FitsStream seat.old.client true }
     requires twin { FitsStream twin.old.client true }
 {
-    assert!(rt; know_the_same(rt.alloc(), &seat.directory, &twin.directory)?);
+    let mut wanted = Text::new();
+    seat.printed.clear();
+    twin.printed.clear();
     for at in 0..lines.len() {
-        let (line, printed) = lines[at];
-        let (text, sent) = seat.turn(None, line)?;
-        assert_eq!(rt; text.as_slice(), printed);
-        assert_eq!(rt; (text, sent), twin.turn(None, line)?, "{line:?}");
-        assert!(rt; know_the_same(rt.alloc(), &seat.directory, &twin.directory)?);
+        let known = players_of(rt.alloc(), &seat.directory)?;
+        assert!(rt; known == players_of(rt.alloc(), &twin.directory)?);
+        seat.turn(None, lines[at].0)?;
+        twin.turn(None, lines[at].0)?;
+        let _fits = wanted.try_extend_from_slice(lines[at].1);
     }
-    let (text, sent) = seat.turn(Some(b"roll"), b"")?;
-    assert_eq!(rt; text.as_slice(), b"sent roll\n".as_slice());
-    assert_eq!(rt; sent.as_slice(), b"roll\r\n".as_slice());
-    assert_eq!(rt; (text, sent), twin.turn(Some(b"roll"), b"")?);
+    seat.turn(Some(b"roll"), b"")?;
+    twin.turn(Some(b"roll"), b"")?;
+    let _fits = wanted.try_extend_from_slice(b"sent roll\n");
+    assert_eq!(rt; seat.printed, wanted);
+    assert_eq!(rt; twin.printed, wanted);
+    assert_eq!(rt; seat.sent, twin.sent);
+    assert!(rt; seat.sent.ends_with(b"\r\nroll\r\n"));
     Ok(())
 }
 
@@ -163,10 +157,11 @@ fn turns_go_on_under_refused_memory(rt: HostRuntime) -> Result<(), Fail> {
     let mut seat = Seat::new(&rt);
     for at in 0..HEARD.len() {
         let (line, printed) = HEARD[at];
-        let (text, _sent) = seat.turn(None, line)?;
-        if text.as_slice() != printed {
-            let wanted = joined(&[printed, b"directory 1 Memory\n"]);
-            assert_eq!(rt; text.as_slice(), wanted.as_slice());
+        seat.printed.clear();
+        seat.turn(None, line)?;
+        if seat.printed.as_slice() != printed {
+            let wanted = joined(&[printed, REFUSED]);
+            assert_eq!(rt; seat.printed, wanted);
             let mut twin = seat_after(&rt, &HEARD[..at])?;
             return assert_alike(&rt, &mut seat, &mut twin, &HEARD[at + 1..]);
         }
@@ -176,34 +171,14 @@ fn turns_go_on_under_refused_memory(rt: HostRuntime) -> Result<(), Fail> {
 }
 
 /// How a conversation ends in which the server sends some lines at once, and what is printed on both writers.
-fn conversed(alloc: Global, input: &[u8]) -> (Result<u8, EngineFault>, Text, Text) {
-    let mut door = Door {
+fn heard_at_once(alloc: Global, input: &[u8]) -> (Result<u8, EngineFault>, Text, Text) {
+    let door = Door {
         input,
         room: 4096,
         connections: 1,
     };
     let mut typed = Pipe::new(b"secret\n\nplayers\nroll\nquit\n", 7, After::End, 0);
-    let mut out = Pipe::new(b"", 1, After::End, 1024);
-    let mut err = Pipe::new(b"", 1, After::End, 1024);
-    let ending = converse_with(
-        &mut door, alloc, b"ann", 1000, &mut typed, &mut out, &mut err,
-    );
-    (ending, text_of(out.output()), text_of(err.output()))
-}
-
-/// What is printed of `HEARD` up to the second line of bob where the note of the line at `refused` is refused, and the
-/// players that are known then.
-fn printed_with(refused: usize, players: &[u8]) -> Text {
-    let mut text = Text::new();
-    for at in 0..4 {
-        let _fits = text.try_extend_from_slice(HEARD[at].1);
-        if at == refused {
-            let _fits = text.try_extend_from_slice(b"directory 1 Memory\n");
-        }
-    }
-    let _fits = text.try_extend_from_slice(players);
-    let _fits = text.try_extend_from_slice(b"refused 3 NotReady\n");
-    text
+    conversed(alloc, door, &mut typed, 1000, 1024)
 }
 
 /// Where a note is refused, the conversation says so and goes on: its end is never want of memory, and the players are
@@ -211,24 +186,29 @@ fn printed_with(refused: usize, players: &[u8]) -> Text {
 #[test]
 fn conversations_go_on_under_refused_memory(rt: HostRuntime) {
     let input = joined(&[HEARD[0].0, HEARD[1].0, HEARD[2].0, HEARD[3].0]);
-    let wanted = [
-        printed_with(9, b"player someplayer 1912.15\nplayer bob 1512.34\n"),
-        printed_with(1, b"player bob 1512.34\n"),
-        printed_with(2, b"player someplayer 1912.15\nplayer bob 1512.34\n"),
-        printed_with(3, b"player someplayer 1912.15\nplayer bob 1500.00\n"),
+    let [welcome, one, two, again] = [HEARD[0].1, HEARD[1].1, HEARD[2].1, HEARD[3].1];
+    let both: &[u8] = b"player someplayer 1912.15\nplayer bob 1512.34\n";
+    let bob: &[u8] = b"player bob 1512.34\n";
+    let old: &[u8] = b"player someplayer 1912.15\nplayer bob 1500.00\n";
+    let end: &[u8] = b"refused 3 NotReady\n";
+    let rows: [&[&[u8]]; 4] = [
+        &[welcome, one, two, again, both, end],
+        &[welcome, one, REFUSED, two, again, bob, end],
+        &[welcome, one, two, REFUSED, again, both, end],
+        &[welcome, one, two, again, REFUSED, old, end],
     ];
-    let (ending, out, err) = conversed(rt.alloc(), &input);
+    let (ending, out, err) = heard_at_once(rt.alloc(), &input);
     assert_eq!(rt; ending, Ok(0));
     assert!(rt; err.is_empty());
     assert!(rt;
-        wanted.iter().any(|text| text.as_slice() == out.as_slice()),
+        rows.iter().any(|parts| joined(parts) == out),
         "{:?}",
         out.as_slice()
     );
-    if out.as_slice() != wanted[0].as_slice() {
-        let (ending, out, err) = conversed(rt.alloc(), &input);
+    if out != joined(rows[0]) {
+        let (ending, out, err) = heard_at_once(rt.alloc(), &input);
         assert_eq!(rt; ending, Ok(0));
-        assert_eq!(rt; out.as_slice(), wanted[0].as_slice());
+        assert_eq!(rt; out, joined(rows[0]));
         assert!(rt; err.is_empty());
     }
 }

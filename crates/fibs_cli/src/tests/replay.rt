@@ -1,9 +1,9 @@
 //! Scripts from end to end: what is printed for them, and how they end.
 use super::devices::FailsOnce;
 use super::pipe::{After, Pipe};
+use super::text::{Text, joined, text_of};
 use crate::fault::EngineFault;
 use crate::replay::replay;
-use arrayvec::ArrayVec;
 use std::alloc::Global;
 use std::process::Abort;
 use std::test::Fail;
@@ -49,23 +49,12 @@ serve 2 1 1
 deliver 10000
 ";
 
-/// Parts of a script or of what is printed, one after another.
-type Text = ArrayVec<u8, 4096>;
-
-fn joined(parts: &[&[u8]]) -> Text {
-    let mut text = Text::new();
-    for part in parts {
-        let _fits = text.try_extend_from_slice(part);
-    }
-    text
-}
-
 /// How a script ends that is read in portions of at most so many bytes, and what is printed.
-fn replayed(alloc: Global, script: &[u8], most: usize) -> (Result<u8, EngineFault>, Text) {
+pub fn replayed(alloc: Global, script: &[u8], most: usize) -> (Result<u8, EngineFault>, Text) {
     let mut reader = Pipe::new(script, most, After::End, 0);
     let mut writer = Pipe::new(b"", 1, After::End, 4096);
     let ending = replay(alloc, &mut reader, &mut writer);
-    (ending, joined(&[writer.output()]))
+    (ending, text_of(writer.output()))
 }
 
 /// Asserts how a script ends and what is printed, however it is cut.
@@ -172,119 +161,75 @@ fn half_a_command_is_never_served(rt: HostRuntime) {
     assert_replayed(&rt, &script, 3, &wanted);
 }
 
+/// The parts of a script, its status and what is printed.
+type Row = (&'static [&'static [u8]], u8, &'static [u8]);
+
+/// Scripts that are not run.
+static UNREADABLE: [Row; 6] = [
+    (&[], 3, b"script 1\n"),
+    (&[b"open\n"], 3, b"script 1\n"),
+    (&[ROLL, b"\nopen\ndance"], 3, b"script 3\n"),
+    (&[ROLL, b"\r\nopen\r\nopen\r"], 3, b"script 3\n"),
+    (&[OTHER, b"\nopen\n"], 3, b"refused 0 8 BadBoard\n"),
+    (&[OTHER, b"\nopen\n\n"], 3, b"script 3\n"),
+];
+
+/// Scripts of few events, most of them with one that may not be.
+static SHORT: [Row; 16] = [
+    (&[ROLL], 0, b"end 0\n"),
+    (&[ROLL, b"\r\nopen\r\n"], 0, b"opened 1\nend 1\n"),
+    (
+        &[ROLL, b"\nopen\nopen"],
+        3,
+        b"opened 1\nrefused 1 2 AlreadyOpen\n",
+    ),
+    (&[ROLL, b"\ndeliver 0\n"], 3, b"refused 0 3 NotOpen\n"),
+    (&[ROLL, b"\nlose 1\n"], 3, b"refused 0 3 NotOpen\n"),
+    (
+        &[ROLL, b"\nserve 0 1 1\n"],
+        3,
+        b"refused 0 4 NoSuchConnection\n",
+    ),
+    (
+        &[ROLL, b"\nserve 1 0 0\n"],
+        3,
+        b"refused 0 4 NoSuchConnection\n",
+    ),
+    (
+        &[ROLL, b"\nopen\nserve 1 0 7\n"],
+        3,
+        b"opened 1\nrefused 1 9 BadDice\n",
+    ),
+    (
+        &[ROLL, b"\nopen\nserve 1 1 1\nserve 1 1 1\n"],
+        3,
+        b"opened 1\nloggedin 1\nrefused 2 5 NothingToServe\n",
+    ),
+    (&[ROLL, b"\nown ", DICE], 3, b"refused 0 6 UserDecides\n"),
+    (&[ROLL, b"\nown ", OTHER], 3, b"refused 0 8 BadBoard\n"),
+    (&[MOVED, b"\nown ", OTHER], 3, b"refused 0 8 BadBoard\n"),
+    (&[MOVED, b"\nown ", DICE], 0, b"end 1\n"),
+    (&[ROLL, b"\ntext ", ROLL], 3, b"refused 0 7 BoardAsText\n"),
+    (&[ROLL, b"\ntext ", OTHER], 0, b"end 1\n"),
+    (
+        &[ROLL, b"\nclick roll\nplain who\n"],
+        0,
+        b"clicked 0 Offline\nend 2\n",
+    ),
+];
+
 #[test]
 fn scripts_that_are_not_run(rt: HostRuntime) {
-    let first = |lines: &[u8]| joined(&[ROLL, lines]);
-    let line = |text: &[u8]| joined(&[text]);
-    assert_replayed(&rt, &line(b""), 3, &line(b"script 1\n"));
-    assert_replayed(&rt, &line(b"open\n"), 3, &line(b"script 1\n"));
-    assert_replayed(&rt, &first(b"\nopen\ndance"), 3, &line(b"script 3\n"));
-    assert_replayed(&rt, &first(b"\r\nopen\r\nopen\r"), 3, &line(b"script 3\n"));
-    assert_replayed(
-        &rt,
-        &joined(&[OTHER, b"\nopen\n"]),
-        3,
-        &line(b"refused 0 8 BadBoard\n"),
-    );
-    assert_replayed(
-        &rt,
-        &joined(&[OTHER, b"\nopen\n\n"]),
-        3,
-        &line(b"script 3\n"),
-    );
+    for (parts, status, wanted) in &UNREADABLE {
+        assert_replayed(&rt, &joined(parts), *status, &text_of(wanted));
+    }
 }
 
 #[test]
 fn events_that_may_not_be(rt: HostRuntime) {
-    let first = |lines: &[u8]| joined(&[ROLL, lines]);
-    let line = |text: &[u8]| joined(&[text]);
-    assert_replayed(&rt, &first(b""), 0, &line(b"end 0\n"));
-    assert_replayed(&rt, &first(b"\r\nopen\r\n"), 0, &line(b"opened 1\nend 1\n"));
-    assert_replayed(
-        &rt,
-        &first(b"\nopen\nopen"),
-        3,
-        &line(b"opened 1\nrefused 1 2 AlreadyOpen\n"),
-    );
-    assert_replayed(
-        &rt,
-        &first(b"\ndeliver 0\n"),
-        3,
-        &line(b"refused 0 3 NotOpen\n"),
-    );
-    assert_replayed(
-        &rt,
-        &first(b"\nlose 1\n"),
-        3,
-        &line(b"refused 0 3 NotOpen\n"),
-    );
-    assert_replayed(
-        &rt,
-        &first(b"\nserve 0 1 1\n"),
-        3,
-        &line(b"refused 0 4 NoSuchConnection\n"),
-    );
-    assert_replayed(
-        &rt,
-        &first(b"\nserve 1 0 0\n"),
-        3,
-        &line(b"refused 0 4 NoSuchConnection\n"),
-    );
-    assert_replayed(
-        &rt,
-        &first(b"\nopen\nserve 1 0 7\n"),
-        3,
-        &line(b"opened 1\nrefused 1 9 BadDice\n"),
-    );
-    let served = line(b"opened 1\nloggedin 1\nrefused 2 5 NothingToServe\n");
-    assert_replayed(
-        &rt,
-        &first(b"\nopen\nserve 1 1 1\nserve 1 1 1\n"),
-        3,
-        &served,
-    );
-    assert_replayed(
-        &rt,
-        &joined(&[ROLL, b"\nown ", DICE]),
-        3,
-        &line(b"refused 0 6 UserDecides\n"),
-    );
-    assert_replayed(
-        &rt,
-        &joined(&[ROLL, b"\nown ", OTHER]),
-        3,
-        &line(b"refused 0 8 BadBoard\n"),
-    );
-    assert_replayed(
-        &rt,
-        &joined(&[MOVED, b"\nown ", OTHER]),
-        3,
-        &line(b"refused 0 8 BadBoard\n"),
-    );
-    assert_replayed(
-        &rt,
-        &joined(&[MOVED, b"\nown ", DICE]),
-        0,
-        &line(b"end 1\n"),
-    );
-    assert_replayed(
-        &rt,
-        &joined(&[ROLL, b"\ntext ", ROLL]),
-        3,
-        &line(b"refused 0 7 BoardAsText\n"),
-    );
-    assert_replayed(
-        &rt,
-        &joined(&[ROLL, b"\ntext ", OTHER]),
-        0,
-        &line(b"end 1\n"),
-    );
-    assert_replayed(
-        &rt,
-        &first(b"\nclick roll\nplain who\n"),
-        0,
-        &line(b"clicked 0 Offline\nend 2\n"),
-    );
+    for (parts, status, wanted) in &SHORT {
+        assert_replayed(&rt, &joined(parts), *status, &text_of(wanted));
+    }
 }
 
 #[test]

@@ -1,12 +1,11 @@
 //! The engines over streams in memory.
 use super::devices::{Endless, FailsOnce};
 use super::pipe::{After, Pipe};
+use super::text::{Text, joined, text_of};
 use crate::fault::EngineFault;
 use crate::show::{StreamFault, show, show_portions, show_stream};
-use arrayvec::ArrayVec;
-use std::alloc::{AllocError, Global};
+use std::alloc::Global;
 use std::process::Abort;
-use std::test::Fail;
 
 /// A board as the server sends it, up to its fifth field, from there up to its last, and its last.
 const FRONT: &[u8] = b"board:You:someplayer:3:0";
@@ -16,40 +15,42 @@ const MIDDLE: &[u8] =
 
 const LAST: &[u8] = b":0";
 
-/// The output of `show`, which reads `input` in portions of at most `most` bytes.
-fn shown(alloc: Global, input: &[u8], most: usize) -> (Result<u8, EngineFault>, Vec<u8>) {
-    let mut reader = Pipe::new(input, most, After::End, 0);
-    let mut output = Vec::new(alloc);
-    let ending = show(alloc, &mut reader, &mut output);
-    (ending, output)
+/// How `show` ends that reads `input` in portions of at most `most` bytes, and what it prints where `room` bytes may be.
+fn shown(
+    alloc: Global,
+    input: &[u8],
+    most: usize,
+    after: After,
+    room: usize,
+) -> (Result<u8, EngineFault>, Text) {
+    let mut reader = Pipe::new(input, most, after, 0);
+    let mut writer = Pipe::new(b"", 1, After::End, room);
+    let ending = show(alloc, &mut reader, &mut writer);
+    (ending, text_of(writer.output()))
 }
 
 /// Asserts what `show` prints, however its input is cut.
 fn assert_shown(rt: &(impl Abort + AllocGlobal), input: &[u8], wanted: &[u8]) {
     for most in [1, 2, 7, 1024, 5000] {
-        let (ending, output) = shown(rt.alloc(), input, most);
+        let (ending, output) = shown(rt.alloc(), input, most, After::End, 8192);
         assert_eq!(rt; ending, Ok(0), "at {input:?}");
         assert_eq!(rt; output.as_slice(), wanted, "at {input:?}");
     }
 }
 
 /// `front`, so many bytes `a`, and `end`.
-fn long_line(alloc: Global, front: &[u8], count: usize, end: &[u8]) -> Result<Vec<u8>, AllocError> {
-    let mut line = Vec::from_slice(alloc, front)?;
+fn long_line(front: &[u8], count: usize, end: &[u8]) -> Text {
+    let mut line = text_of(front);
     for _ in 0..count {
-        line.push(b'a')?;
+        let _fits = line.try_push(b'a');
     }
-    line.extend_from_slice(end)?;
-    Ok(line)
+    let _fits = line.try_extend_from_slice(end);
+    line
 }
 
 /// A board line of these parts, with `end` after it.
-fn board_line(alloc: Global, front: &[u8], last: &[u8], end: &[u8]) -> Result<Vec<u8>, AllocError> {
-    let mut line = Vec::from_slice(alloc, front)?;
-    line.extend_from_slice(MIDDLE)?;
-    line.extend_from_slice(last)?;
-    line.extend_from_slice(end)?;
-    Ok(line)
+fn board_line(front: &[u8], last: &[u8], end: &[u8]) -> Text {
+    joined(&[front, MIDDLE, last, end])
 }
 
 #[test]
@@ -79,12 +80,11 @@ fn shows_each_line(rt: HostRuntime) {
 }
 
 #[test]
-fn shows_boards(rt: HostRuntime) -> Result<(), Fail> {
-    let alloc = rt.alloc();
-    let board = board_line(alloc, FRONT, LAST, b"\n")?;
+fn shows_boards(rt: HostRuntime) {
+    let board = board_line(FRONT, LAST, b"\n");
     let ends: [&[u8]; 3] = [b"\n", b"\r\n", b"  \r\n"];
     for end in ends {
-        assert_shown(&rt, &board_line(alloc, FRONT, LAST, end)?, &board);
+        assert_shown(&rt, &board_line(FRONT, LAST, end), &board);
     }
     let wrong: [(&[u8], &[u8], &[u8]); 4] = [
         (FRONT, b"", b"malformed 0 53 Missing\n"),
@@ -101,22 +101,20 @@ fn shows_boards(rt: HostRuntime) -> Result<(), Fail> {
         ),
     ];
     for (front, last, wanted) in wrong {
-        assert_shown(&rt, &board_line(alloc, front, last, b"\r\n")?, wanted);
+        assert_shown(&rt, &board_line(front, last, b"\r\n"), wanted);
     }
-    Ok(())
 }
 
 /// A telnet command inside a field is no part of it, wherever the stream is cut.
 #[test]
-fn drops_a_telnet_command_inside_a_field(rt: HostRuntime) -> Result<(), Fail> {
+fn drops_a_telnet_command_inside_a_field(rt: HostRuntime) {
     let line =
         b"board:You:someplayer:3:0:1:0:-2:0:0:0:0:5:0:3:0:0:0:-5:5:0:0:0:-3:0:-5:0:0:0:0:2:0:1:6:2:0:0:1:1:1:0:1:-1:0:2\xff\xfb\x015:0:0:0:0:2:0:0:0\r\n";
-    assert_shown(&rt, line, &board_line(rt.alloc(), FRONT, LAST, b"\n")?);
-    Ok(())
+    assert_shown(&rt, line, &board_line(FRONT, LAST, b"\n"));
 }
 
 #[test]
-fn cuts_long_lines(rt: HostRuntime) -> Result<(), Fail> {
+fn cuts_long_lines(rt: HostRuntime) {
     let cases: [(&[u8], usize, &[u8], &[u8], usize); 5] = [
         (b"", 4096, b"\r\n", b"text ", 4096),
         (b"", 4097, b"\r\n", b"cut ", 4096),
@@ -125,11 +123,10 @@ fn cuts_long_lines(rt: HostRuntime) -> Result<(), Fail> {
         (b"\n", 4098, b"", b"text \nunfinished 4096", 0),
     ];
     for (front, count, end, wanted_front, wanted_count) in cases {
-        let input = long_line(rt.alloc(), front, count, end)?;
-        let wanted = long_line(rt.alloc(), wanted_front, wanted_count, b"\n")?;
+        let input = long_line(front, count, end);
+        let wanted = long_line(wanted_front, wanted_count, b"\n");
         assert_shown(&rt, &input, &wanted);
     }
-    Ok(())
 }
 
 #[test]
@@ -144,9 +141,7 @@ fn keeps_whole_lines_at_a_failed_read(rt: HostRuntime) {
     ];
     for (input, wanted) in cases {
         for most in [1, 3, 100] {
-            let mut reader = Pipe::new(input, most, After::Fault, 0);
-            let mut output = Vec::new(rt.alloc());
-            let ending = show(rt.alloc(), &mut reader, &mut output);
+            let (ending, output) = shown(rt.alloc(), input, most, After::Fault, 512);
             assert_eq!(rt; ending, Err(EngineFault::Device), "after {input:?}");
             assert_eq!(rt; output.as_slice(), wanted, "after {input:?}");
         }
@@ -158,11 +153,9 @@ fn stops_at_a_failed_write(rt: HostRuntime) {
     let wanted = b"text a\ntext bc\nunfinished 1\n";
     for room in 0..wanted.len() {
         for most in [1, 100] {
-            let mut reader = Pipe::new(b"a\nbc\nd", most, After::End, 0);
-            let mut writer = Pipe::new(b"", 1, After::End, room);
-            let ending = show(rt.alloc(), &mut reader, &mut writer);
+            let (ending, output) = shown(rt.alloc(), b"a\nbc\nd", most, After::End, room);
             assert_eq!(rt; ending, Err(EngineFault::Device), "room for {room} bytes");
-            assert_eq!(rt; writer.output(), &wanted[..room], "room for {room} bytes");
+            assert_eq!(rt; output.as_slice(), &wanted[..room], "room for {room} bytes");
         }
     }
 }
@@ -209,21 +202,17 @@ fn are_first_lines(text: &[u8], lines: &[u8]) -> bool {
 /// Where a growth is refused, what was written are the first lines, and another call writes all.
 fn assert_shown_again(rt: &(impl Abort + AllocGlobal), input: &[u8], wanted: &[u8]) {
     for most in [2, 50, 5000] {
-        let mut reader = Pipe::new(input, most, After::End, 0);
-        let mut writer = Pipe::new(b"", 1, After::End, 1024);
-        let mut ending = show(rt.alloc(), &mut reader, &mut writer);
+        let (mut ending, mut output) = shown(rt.alloc(), input, most, After::End, 1024);
         if ending == Err(EngineFault::Memory) {
-            let written = writer.output();
+            let written = output.as_slice();
             assert!(rt;
                 are_first_lines(written, wanted),
                 "{written:?} of {wanted:?}"
             );
-            reader = Pipe::new(input, most, After::End, 0);
-            writer = Pipe::new(b"", 1, After::End, 1024);
-            ending = show(rt.alloc(), &mut reader, &mut writer);
+            (ending, output) = shown(rt.alloc(), input, most, After::End, 1024);
         }
         assert_eq!(rt; ending, Ok(0));
-        assert_eq!(rt; writer.output(), wanted);
+        assert_eq!(rt; output.as_slice(), wanted);
     }
 }
 
@@ -239,8 +228,8 @@ fn shows_lines_of_each_kind_under_refused_memory(rt: HostRuntime) {
 /// The messages of a login, and a board.
 #[test]
 fn shows_messages_under_refused_memory(rt: HostRuntime) {
-    let mut input = ArrayVec::<u8, 1024>::new();
-    let mut wanted = ArrayVec::<u8, 1024>::new();
+    let mut input = Text::new();
+    let mut wanted = Text::new();
     for (line, printed) in &MESSAGES[..4] {
         let _fits = input.try_extend_from_slice(line);
         let _fits = wanted.try_extend_from_slice(printed);
