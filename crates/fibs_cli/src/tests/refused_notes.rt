@@ -120,7 +120,7 @@ fn seat_after(rt: &(impl Abort + AllocGlobal), lines: &[(&[u8], &[u8])]) -> Resu
 }
 
 /// Both seats hear the lines, and then a decision is typed at both: they print and send the same, and know the same
-/// players throughout.
+/// players after each line.
 fn assert_alike(
     rt: &(impl Abort + AllocGlobal),
     seat: &mut Seat,
@@ -134,10 +134,10 @@ fn assert_alike(
     seat.printed.clear();
     twin.printed.clear();
     for at in 0..lines.len() {
-        let known = players_of(rt.alloc(), &seat.directory)?;
-        assert!(rt; known == players_of(rt.alloc(), &twin.directory)?);
         seat.turn(None, lines[at].0)?;
         twin.turn(None, lines[at].0)?;
+        let known = players_of(rt.alloc(), &seat.directory)?;
+        assert!(rt; known == players_of(rt.alloc(), &twin.directory)?);
         let _fits = wanted.try_extend_from_slice(lines[at].1);
     }
     seat.turn(Some(b"roll"), b"")?;
