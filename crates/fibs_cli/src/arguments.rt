@@ -165,7 +165,7 @@ across, in portions of at most 1024 bytes.
 A socket that fails is a device that failed: the status is 4, after the log so far.";
 
 /// What the command line asks for.
-#[derive(Clone, Copy, Debug, PartialEq, Eq)]
+#[derive(Clone, Copy)]
 pub enum Request<'a> {
     /// To show the standard input.
     Show,

@@ -32,7 +32,7 @@ const MAX_READS: u32 = 4096;
 const PORTION: usize = 1024;
 
 /// How a turn ended.
-#[derive(Clone, Copy, Debug)]
+#[derive(Clone, Copy)]
 pub enum Ending {
     /// Nothing more has come yet.
     Quiet,

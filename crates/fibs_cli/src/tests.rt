@@ -3,6 +3,7 @@
 mod connect;
 mod devices;
 mod exchange;
+mod outcome;
 mod pipe;
 mod play_loop;
 mod plays;
@@ -10,5 +11,6 @@ mod program;
 mod refused_notes;
 mod replay;
 mod scripts;
+mod seat;
 mod show;
 mod text;

@@ -15,7 +15,7 @@ use std::alloc::Global;
 use std::io::Write;
 
 /// Whether more lines are answered.
-#[derive(Clone, Copy, Debug, PartialEq, Eq)]
+#[derive(Clone, Copy)]
 pub enum Going {
     /// The next line is answered.
     On,

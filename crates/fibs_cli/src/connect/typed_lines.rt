@@ -24,7 +24,7 @@ const ROOM: usize = 4098;
 pub type TypedLine = ArrayVec<u8, ROOM>;
 
 /// Why there is no next line.
-#[derive(Clone, Copy, Debug, PartialEq, Eq)]
+#[derive(Clone, Copy)]
 pub enum TypedFault {
     /// A read failed.
     Reader,

@@ -6,7 +6,7 @@ ghost use Rattle.fibs_cli.specs.Converse.Wishes.{wish_of, wish_value};
 const LIMIT: usize = 4096;
 
 /// What a typed line asks for.
-#[derive(Clone, Copy, Debug, PartialEq, Eq)]
+#[derive(Clone, Copy)]
 pub enum Wish<'a> {
     /// To connect again.
     Open,

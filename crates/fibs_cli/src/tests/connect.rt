@@ -1,6 +1,7 @@
 //! Conversations, with streams in memory and on real sockets.
 
 use super::devices::Endless;
+use super::outcome::Outcome;
 use super::pipe::{After, Pipe};
 use super::text::{Text, text_of};
 use crate::connect::dial::Dial;
@@ -124,11 +125,15 @@ pub fn conversed(
     typed: &mut impl Read,
     reads: u32,
     room: usize,
-) -> (Result<u8, EngineFault>, Text, Text) {
+) -> Outcome {
     let mut out = Pipe::new(b"", 1, After::End, room);
     let mut err = Pipe::new(b"", 1, After::End, 1024);
     let ending = converse_with(&mut door, alloc, b"ann", reads, typed, &mut out, &mut err);
-    (ending, text_of(out.output()), text_of(err.output()))
+    Outcome {
+        ending,
+        out: text_of(out.output()),
+        err: text_of(err.output()),
+    }
 }
 
 /// However the typed bytes come.
@@ -142,10 +147,8 @@ fn answers_what_is_typed(rt: HostRuntime) {
                 connections: case.connections,
             };
             let mut typed = Pipe::new(case.typed, most, After::End, 0);
-            let (ending, out, err) = conversed(rt.alloc(), door, &mut typed, 1000, 1024);
-            assert_eq!(rt; ending, Ok(case.status), "{}", case.name);
-            assert_eq!(rt; out.as_slice(), case.out, "{}", case.name);
-            assert_eq!(rt; err.as_slice(), case.err, "{}", case.name);
+            let outcome = conversed(rt.alloc(), door, &mut typed, 1000, 1024);
+            outcome.assert_is(&rt, case.name, most, Ok(case.status), case.out, case.err);
         }
     }
 }
@@ -161,14 +164,13 @@ fn each_write_of_a_login_that_fails_loses_the_connection(rt: HostRuntime) {
             connections: 2,
         };
         let mut typed = Pipe::new(b"secret\nroll\nopen\n", 100, After::End, 0);
-        let (ending, out, _err) = conversed(rt.alloc(), door, &mut typed, 1000, 1024);
+        let outcome = conversed(rt.alloc(), door, &mut typed, 1000, 1024);
         let wanted: &[u8] = if room < login.len() {
             b"lost\nrefused 2 Offline\nlost\n"
         } else {
             b"refused 3 NotReady\nrefused 1 AlreadyOpen\n"
         };
-        assert_eq!(rt; ending, Ok(0), "at {room}");
-        assert_eq!(rt; out.as_slice(), wanted, "at {room}");
+        outcome.assert_is(&rt, "a write of a login", room, Ok(0), wanted, b"");
     }
 }
 
@@ -186,9 +188,9 @@ fn a_writer_that_fails_is_a_fault(rt: HostRuntime) {
     let wanted: &[u8] = b"no connection\nrefused 2 Offline\n";
     for room in 0..wanted.len() {
         let mut typed = Pipe::new(b"secret\nroll\n", 100, After::End, 0);
-        let (ending, out, _err) = conversed(rt.alloc(), no_door(), &mut typed, 1000, room);
-        assert_eq!(rt; ending, Err(EngineFault::Device), "at {room}");
-        assert_eq!(rt; out.as_slice(), &wanted[..room], "at {room}");
+        let outcome = conversed(rt.alloc(), no_door(), &mut typed, 1000, room);
+        let ending = Err(EngineFault::Device);
+        outcome.assert_is(&rt, "a writer", room, ending, &wanted[..room], b"");
     }
 }
 
@@ -197,8 +199,8 @@ fn a_reader_that_fails_is_a_fault(rt: HostRuntime) {
     let whole: &[u8] = b"secret\nroll\n";
     for length in 0..whole.len() {
         let mut typed = Pipe::new(&whole[..length], 100, After::Fault, 0);
-        let (ending, _out, _err) = conversed(rt.alloc(), no_door(), &mut typed, 1000, 100);
-        assert_eq!(rt; ending, Err(EngineFault::Device), "at {length}");
+        let outcome = conversed(rt.alloc(), no_door(), &mut typed, 1000, 100);
+        assert_eq!(rt; outcome.ending, Err(EngineFault::Device), "at {length}");
     }
 }
 
@@ -207,8 +209,8 @@ fn a_reader_that_fails_is_a_fault(rt: HostRuntime) {
 fn typed_lines_without_end_end(rt: HostRuntime) {
     for reads in [0, 1, 5] {
         let mut typed = Endless::new();
-        let (ending, _out, _err) = conversed(rt.alloc(), no_door(), &mut typed, reads, 1024);
-        assert_eq!(rt; ending, Err(EngineFault::Device), "at {reads}");
+        let outcome = conversed(rt.alloc(), no_door(), &mut typed, reads, 1024);
+        assert_eq!(rt; outcome.ending, Err(EngineFault::Device), "at {reads}");
         assert_eq!(rt; typed.asked(), reads, "at {reads}");
     }
 }
@@ -218,7 +220,7 @@ fn conversed_at<N: Net<Stream = TcpStream> + AllocGlobal>(
     rt: &N,
     port: u16,
     typed: &[u8],
-) -> (Result<u8, EngineFault>, Text, Text) {
+) -> Outcome {
     let mut typed = Pipe::new(typed, 100, After::End, 0);
     let mut out = Pipe::new(b"", 1, After::End, 100);
     let mut err = Pipe::new(b"", 1, After::End, 100);
@@ -232,7 +234,11 @@ fn conversed_at<N: Net<Stream = TcpStream> + AllocGlobal>(
         &mut out,
         &mut err,
     );
-    (ending, text_of(out.output()), text_of(err.output()))
+    Outcome {
+        ending,
+        out: text_of(out.output()),
+        err: text_of(err.output()),
+    }
 }
 
 /// A port of this machine on which nothing listens.
@@ -243,13 +249,9 @@ fn free_port<N: Net>(rt: &N) -> io::Result<u16> {
 
 #[test]
 fn a_port_where_nothing_listens_gives_no_connection(rt: HostRuntime) -> Result<(), Fail> {
-    let (ending, out, err) = conversed_at(&rt, free_port(&rt)?, b"secret\nroll\nquit\n");
-    assert_eq!(rt; ending, Ok(0));
-    assert_eq!(rt;
-        out.as_slice(),
-        b"no connection\nrefused 2 Offline\n".as_slice()
-    );
-    assert!(rt; err.is_empty());
+    let outcome = conversed_at(&rt, free_port(&rt)?, b"secret\nroll\nquit\n");
+    let wanted = b"no connection\nrefused 2 Offline\n";
+    outcome.assert_is(&rt, "nobody listens", 0, Ok(0), wanted, b"");
     Ok(())
 }
 
@@ -272,9 +274,8 @@ fn read_whole(stream: &mut TcpStream) -> io::Result<Text> {
 fn a_socket_is_given_the_login_and_no_more(rt: HostRuntime) -> Result<(), Fail> {
     let listener = TcpListener::bind(&rt, "127.0.0.1:0")?;
     let port = listener.local_addr()?.port();
-    let (ending, out, err) = conversed_at(&rt, port, b"secret\n\nquit\n");
-    assert_eq!(rt; ending, Ok(0));
-    assert!(rt; out.is_empty() && err.is_empty());
+    let outcome = conversed_at(&rt, port, b"secret\n\nquit\n");
+    outcome.assert_is(&rt, "a socket", 0, Ok(0), b"", b"");
     let (mut far, _peer) = listener.accept()?;
     assert_eq!(rt;
         read_whole(&mut far)?.as_slice(),

@@ -1,19 +1,15 @@
 //! Turns of a client with a stream in memory.
-ghost use Rattle.std.specs.Prelude.{true, IfOk};
-ghost use Rattle.fibs_cli.specs.Turns.Turn.{FitsStream, still_given};
-
 use super::devices::FailsOnce;
 use super::pipe::{After, Pipe};
+use super::seat::{Kind, Seat, is_made_of, kind_of, opened};
 use super::text::{Text, joined, text_of};
 use crate::exchange::link::Link;
 use crate::exchange::{Ending, ExchangeFault, exchange};
 use fibs_messages::{Reading, read as read_line};
 use fibs_session::{Client, Directory, Login};
-use std::alloc::Global;
 use std::io;
 use std::io::{Read, Write};
 use std::process::Abort;
-use std::test::Fail;
 
 const END: &[u8] = b"\r\n";
 
@@ -63,288 +59,128 @@ const PRINTED: &[u8] = b"message 1 ann 1041253132 localhost\n\
     :1:0:0:0:0:1:1:1:0:1:-1:0:25:0:0:0:0:0:0:0:0\n\
     phase RollOrDouble\n";
 
-/// How a turn ended, in a word.
-#[derive(Clone, Copy, PartialEq, Eq)]
-enum Kind {
-    Quiet,
-    Lost,
-    LostWaiting,
-}
-
-fn kind_of(ending: &Ending) -> Kind {
-    match ending {
-        Ending::Quiet => Kind::Quiet,
-        Ending::Lost(None) => Kind::Lost,
-        Ending::Lost(Some(_)) => Kind::LostWaiting,
-    }
-}
-
-/// Whether the bytes are these parts, one after another.
-fn is_made_of(bytes: &[u8], parts: &[&[u8]]) -> bool {
-    let mut rest = bytes;
-    for part in parts {
-        match rest.strip_prefix(part) {
-            Some(after) => rest = after,
-            None => return false,
-        }
-    }
-    rest.is_empty()
-}
-
-/// A client that has opened a connection.
-pub fn opened(rt: &impl Abort) -> Client
-    ensures { FitsStream result true }
-{
-    let login = Login::new(b"ann", b"secret").expect(rt, "it is a login");
-    let mut client = Client::new(login);
-    let _command = client.open();
-    client
-}
-
-/// A client on one connection, what it has sent, and what was printed. A stream gives it at most `most` bytes at once.
-#[derive(Drop)]
-struct Seat {
-    client: Client,
-    directory: Directory,
-    alloc: Global,
-    most: usize,
-    sent: Vec<u8>,
-    printed: Vec<u8>,
-}
-
-impl Seat {
-    /// A client that has opened a connection.
-    fn open(rt: &(impl Abort + AllocGlobal), most: usize) -> Seat
-        ensures { FitsStream result.client true }
-    {
-        Seat {
-            client: opened(rt),
-            directory: Directory::new(rt.alloc()),
-            alloc: rt.alloc(),
-            most,
-            sent: Vec::new(rt.alloc()),
-            printed: Vec::new(rt.alloc()),
-        }
-    }
-
-    /// One turn with a stream.
-    fn turn_on(&mut self, pipe: &mut Pipe<'_>, typed: Option<&[u8]>) -> Result<Ending, Fail>
-        requires { FitsStream self.old.client true }
-        ensures { IfOk result (λ e. FitsStream self.new.client (still_given e true)) }
-    {
-        let outcome = exchange(
-            &mut self.client,
-            &mut self.directory,
-            Some(pipe),
-            typed,
-            &mut self.printed,
-        );
-        match outcome {
-            Ok(ending) => Ok(ending),
-            Err(ExchangeFault::Output) => Err(Fail::from("what is printed is refused")),
-        }
-    }
-
-    /// One turn: what is typed, what the server sends, in parts, what follows that, and how many bytes the stream takes.
-    fn turn(
-        &mut self,
-        typed: Option<&[u8]>,
-        parts: &[&[u8]],
-        after: After,
-        room: usize,
-    ) -> Result<Ending, Fail>
-        requires { FitsStream self.old.client true }
-        ensures { IfOk result (λ e. FitsStream self.new.client (still_given e true)) }
-    {
-        let input = parts.concat(self.alloc)?;
-        let mut pipe = Pipe::new(&input, self.most, after, room);
-        let ending = self.turn_on(&mut pipe, typed)?;
-        self.sent.extend_from_slice(pipe.output())?;
-        Ok(ending)
-    }
-
-    /// A turn that ends so.
-    fn turn_to(
-        &mut self,
-        kind: Kind,
-        typed: Option<&[u8]>,
-        parts: &[&[u8]],
-        after: After,
-        room: usize,
-    ) -> Result<(), Fail>
-        requires { FitsStream self.old.client true }
-    {
-        let ending = self.turn(typed, parts, after, room)?;
-        if kind_of(&ending) == kind {
-            Ok(())
-        } else {
-            Err(Fail::from("the turn ends otherwise"))
-        }
-    }
-
-    /// A turn after which the connection goes on.
-    fn quiet_turn(&mut self, typed: Option<&[u8]>, parts: &[&[u8]]) -> Result<(), Fail>
-        requires { FitsStream self.old.client true }
-        ensures { IfOk result (λ _. FitsStream self.new.client true) }
-    {
-        match self.turn(typed, parts, After::WouldBlock, 4096)? {
-            Ending::Quiet => Ok(()),
-            Ending::Lost(_) => Err(Fail::from("the turn is not quiet")),
-        }
-    }
-
-    /// What the server sends, before it is quiet.
-    fn hears(&mut self, parts: &[&[u8]]) -> Result<(), Fail>
-        requires { FitsStream self.old.client true }
-        ensures { IfOk result (λ _. FitsStream self.new.client true) }
-    {
-        self.quiet_turn(None, parts)
-    }
-
-    /// What is typed, and what the server sends then.
-    fn types(&mut self, typed: &[u8], parts: &[&[u8]]) -> Result<(), Fail>
-        requires { FitsStream self.old.client true }
-        ensures { IfOk result (λ _. FitsStream self.new.client true) }
-    {
-        self.quiet_turn(Some(typed), parts)
-    }
-
-    /// Asserts what was sent and printed in all, each in parts.
-    fn assert_did(&self, rt: &impl Abort, name: &str, sent: &[&[u8]], printed: &[&[u8]]) {
-        assert!(rt;
-            is_made_of(&self.sent, sent),
-            "{name}: sent {:?}",
-            self.sent
-        );
-        assert!(rt;
-            is_made_of(&self.printed, printed),
-            "{name}: printed {:?}",
-            self.printed
-        );
-    }
-}
+/// What the server sends, what is sent to it, and what is printed.
+static ANSWERED: [(&str, &[&[u8]], &[u8], &[&[u8]]); 7] = [
+    (
+        "a welcome",
+        &[WELCOME, END],
+        b"set boardstyle 3\r\n",
+        &[b"message ", WELCOME, LF],
+    ),
+    (
+        "no boards by themselves",
+        &[WELCOME, END, INFO_WITHOUT_BOARDS, END],
+        b"set boardstyle 3\r\ntoggle autoboard\r\nboard\r\n",
+        &[
+            b"message ",
+            WELCOME,
+            LF,
+            b"message ",
+            INFO_WITHOUT_BOARDS,
+            LF,
+        ],
+    ),
+    ("a board of one who plays", &[READY], SENT, &[PRINTED]),
+    (
+        "a board of a game that is watched",
+        &[WATCHED, TO_ROLL, END],
+        b"",
+        &[WATCHED, TO_ROLL, LF],
+    ),
+    (
+        "lines of other kinds",
+        &[b"5 bob\r\n3 x\r\n05 x\r\n\r\na\x1b\\\r\n> hi\r\r\n"],
+        b"",
+        &[
+            b"malformed 5 2 Missing\nmalformed 3 1 Extra\ntext 05 x\ntext \ntext a\\x1b\\x5c\ntext hi\\x0d\n",
+        ],
+    ),
+    (
+        "a message as it was spelled",
+        &[b"5 bob - - 1 0 1500 0 3 1040515752 host - -  \r\n"],
+        b"",
+        &[b"message 5 bob - - 1 0 1500 0 3 1040515752 host - -  \n"],
+    ),
+    (
+        "a board after a telnet command that looks like a line end",
+        &[b"12 eve hi\xff\xfb\n", BOARD, TO_ROLL, END],
+        b"",
+        &[b"message 12 eve hi", BOARD, TO_ROLL, LF],
+    ),
+];
 
 #[test]
-fn lines_are_answered_and_printed(rt: HostRuntime) -> Result<(), Fail> {
-    let rows: [(&str, &[&[u8]], &[u8], &[&[u8]]); 7] = [
-        (
-            "a welcome",
-            &[WELCOME, END],
-            b"set boardstyle 3\r\n",
-            &[b"message ", WELCOME, LF],
-        ),
-        (
-            "no boards by themselves",
-            &[WELCOME, END, INFO_WITHOUT_BOARDS, END],
-            b"set boardstyle 3\r\ntoggle autoboard\r\nboard\r\n",
-            &[
-                b"message ",
-                WELCOME,
-                LF,
-                b"message ",
-                INFO_WITHOUT_BOARDS,
-                LF,
-            ],
-        ),
-        ("a board of one who plays", &[READY], SENT, &[PRINTED]),
-        (
-            "a board of a game that is watched",
-            &[WATCHED, TO_ROLL, END],
-            b"",
-            &[WATCHED, TO_ROLL, LF],
-        ),
-        (
-            "lines of other kinds",
-            &[b"5 bob\r\n3 x\r\n05 x\r\n\r\na\x1b\\\r\n> hi\r\r\n"],
-            b"",
-            &[
-                b"malformed 5 2 Missing\nmalformed 3 1 Extra\ntext 05 x\ntext \ntext a\\x1b\\x5c\ntext hi\\x0d\n",
-            ],
-        ),
-        (
-            "a message as it was spelled",
-            &[b"5 bob - - 1 0 1500 0 3 1040515752 host - -  \r\n"],
-            b"",
-            &[b"message 5 bob - - 1 0 1500 0 3 1040515752 host - -  \n"],
-        ),
-        (
-            "a board after a telnet command that looks like a line end",
-            &[b"12 eve hi\xff\xfb\n", BOARD, TO_ROLL, END],
-            b"",
-            &[b"message 12 eve hi", BOARD, TO_ROLL, LF],
-        ),
-    ];
-    for (name, parts, sent, printed) in rows {
+fn lines_are_answered_and_printed(rt: HostRuntime) {
+    for (name, parts, sent, printed) in &ANSWERED {
         for most in [1, 2, 7, 1000] {
             for after in [After::WouldBlock, After::TimedOut] {
                 let mut seat = Seat::open(&rt, most);
-                seat.turn_to(Kind::Quiet, None, parts, after, 4096)?;
+                seat.turn_to(&rt, Kind::Quiet, None, parts, after, 4096);
                 seat.assert_did(&rt, name, &[sent], printed);
             }
         }
     }
-    Ok(())
 }
+
+/// What the server sends, and what is sent and printed where then `roll` is typed.
+static NOT_SHOWN: [(&str, &[&[u8]], &[u8], &[&[u8]]); 2] = [
+    (
+        "a board that is shouted",
+        &[WELCOME, END, INFO, END, b"13 eve ", BOARD, TO_ROLL, END],
+        SENT,
+        &[
+            b"message ",
+            WELCOME,
+            LF,
+            b"message ",
+            INFO,
+            LF,
+            b"message 13 eve ",
+            BOARD,
+            TO_ROLL,
+            LF,
+            b"refused 5 NoBoard\n",
+        ],
+    ),
+    (
+        "a board after a return",
+        &[b"12 eve hi\r", BOARD, TO_ROLL, END],
+        b"",
+        &[
+            b"message 12 eve hi\\x0d",
+            BOARD,
+            TO_ROLL,
+            LF,
+            b"refused 3 NotReady\n",
+        ],
+    ),
+];
 
 /// A board that is within another line is not shown, so that nothing can be decided on it.
 #[test]
-fn a_board_within_a_line_is_not_shown(rt: HostRuntime) -> Result<(), Fail> {
-    let rows: [(&str, &[&[u8]], &[u8], &[&[u8]]); 2] = [
-        (
-            "a board that is shouted",
-            &[WELCOME, END, INFO, END, b"13 eve ", BOARD, TO_ROLL, END],
-            SENT,
-            &[
-                b"message ",
-                WELCOME,
-                LF,
-                b"message ",
-                INFO,
-                LF,
-                b"message 13 eve ",
-                BOARD,
-                TO_ROLL,
-                LF,
-                b"refused 5 NoBoard\n",
-            ],
-        ),
-        (
-            "a board after a return",
-            &[b"12 eve hi\r", BOARD, TO_ROLL, END],
-            b"",
-            &[
-                b"message 12 eve hi\\x0d",
-                BOARD,
-                TO_ROLL,
-                LF,
-                b"refused 3 NotReady\n",
-            ],
-        ),
-    ];
-    for (name, parts, sent, printed) in rows {
+fn a_board_within_a_line_is_not_shown(rt: HostRuntime) {
+    for (name, parts, sent, printed) in &NOT_SHOWN {
         for most in [1, 2, 7, 1000] {
             let mut seat = Seat::open(&rt, most);
-            seat.hears(parts)?;
-            seat.types(b"roll", &[])?;
+            seat.hears(&rt, parts);
+            seat.types(&rt, b"roll", &[]);
             seat.assert_did(&rt, name, &[sent], printed);
         }
     }
-    Ok(())
 }
 
 #[test]
-fn a_line_may_come_in_three_turns(rt: HostRuntime) -> Result<(), Fail> {
+fn a_line_may_come_in_three_turns(rt: HostRuntime) {
     let mut seat = Seat::open(&rt, 1000);
-    seat.hears(&[b"1 ann 10412"])?;
-    seat.hears(&[b"53132 local"])?;
-    seat.hears(&[b"host\r\n"])?;
+    seat.hears(&rt, &[b"1 ann 10412"]);
+    seat.hears(&rt, &[b"53132 local"]);
+    seat.hears(&rt, &[b"host\r\n"]);
     seat.assert_did(
         &rt,
         "a line in three turns",
         &[b"set boardstyle 3\r\n"],
         &[b"message 1 ann 1041253132 localhost\n"],
     );
-    Ok(())
 }
 
 /// What is typed, the command that is sent, and the answer.
@@ -368,20 +204,19 @@ static TYPED: [(&[u8], &[u8], &[u8]); 16] = [
 ];
 
 #[test]
-fn typed_lines_are_answered(rt: HostRuntime) -> Result<(), Fail> {
+fn typed_lines_are_answered(rt: HostRuntime) {
     for (typed, command, answer) in &TYPED {
         for most in [1, 2, 7, 1000] {
             let mut seat = Seat::open(&rt, most);
-            seat.hears(&[READY])?;
-            seat.types(typed, &[])?;
+            seat.hears(&rt, &[READY]);
+            seat.types(&rt, typed, &[]);
             seat.assert_did(&rt, "a typed line", &[SENT, command], &[PRINTED, answer]);
         }
     }
-    Ok(())
 }
 
 #[test]
-fn a_decision_waits_for_its_board(rt: HostRuntime) -> Result<(), Fail> {
+fn a_decision_waits_for_its_board(rt: HostRuntime) {
     let answers: &[&[u8]] = &[
         PRINTED,
         b"sent roll\n",
@@ -394,9 +229,9 @@ fn a_decision_waits_for_its_board(rt: HostRuntime) -> Result<(), Fail> {
     ];
     for most in [1, 2, 7, 1000] {
         let mut seat = Seat::open(&rt, most);
-        seat.hears(&[READY])?;
-        seat.types(b"roll", &[BOARD, TO_ROLL, END])?;
-        seat.types(b"roll", &[BOARD, ROLLED, END])?;
+        seat.hears(&rt, &[READY]);
+        seat.types(&rt, b"roll", &[BOARD, TO_ROLL, END]);
+        seat.types(&rt, b"roll", &[BOARD, ROLLED, END]);
         seat.assert_did(
             &rt,
             "a decision that is confirmed",
@@ -404,15 +239,14 @@ fn a_decision_waits_for_its_board(rt: HostRuntime) -> Result<(), Fail> {
             answers,
         );
     }
-    Ok(())
 }
 
 #[test]
-fn a_decision_that_waits_is_lost_with_its_connection(rt: HostRuntime) -> Result<(), Fail> {
+fn a_decision_that_waits_is_lost_with_its_connection(rt: HostRuntime) {
     for after in [After::End, After::Fault] {
         let mut seat = Seat::open(&rt, 7);
-        seat.hears(&[READY])?;
-        seat.turn_to(Kind::LostWaiting, Some(b"roll"), &[], after, 4096)?;
+        seat.hears(&rt, &[READY]);
+        seat.turn_to(&rt, Kind::LostWaiting, Some(b"roll"), &[], after, 4096);
         seat.assert_did(
             &rt,
             "a decision that is lost",
@@ -420,27 +254,28 @@ fn a_decision_that_waits_is_lost_with_its_connection(rt: HostRuntime) -> Result<
             &[PRINTED, b"sent roll\nlost roll\n"],
         );
     }
-    Ok(())
 }
+
+/// A play that is typed, how the turn ends, and what is sent and printed.
+static PLAYS: [(&[u8], Kind, &[u8], &[u8]); 2] = [
+    (
+        b"move 5-8 8-11 11-14",
+        Kind::LostWaiting,
+        b"set boardstyle 3\r\nboard\r\nmove 5-8 8-11 11-14\r\n",
+        b"\nphase Move\nsent move 5-8 8-11 11-14\nlost move 5-8 8-11 11-14\n",
+    ),
+    (
+        b"move 20-17 17-14 14-11",
+        Kind::Lost,
+        SENT,
+        b"\nphase Move\nrefused 9 IllegalPlay\nlost\n",
+    ),
+];
 
 /// Plays are typed and printed in the place numbers of the board shown, here that of one who goes up.
 #[test]
-fn plays_are_in_the_numbers_of_the_board(rt: HostRuntime) -> Result<(), Fail> {
-    let rows: [(&[u8], Kind, &[u8], &[u8]); 2] = [
-        (
-            b"move 5-8 8-11 11-14",
-            Kind::LostWaiting,
-            b"set boardstyle 3\r\nboard\r\nmove 5-8 8-11 11-14\r\n",
-            b"\nphase Move\nsent move 5-8 8-11 11-14\nlost move 5-8 8-11 11-14\n",
-        ),
-        (
-            b"move 20-17 17-14 14-11",
-            Kind::Lost,
-            SENT,
-            b"\nphase Move\nrefused 9 IllegalPlay\nlost\n",
-        ),
-    ];
-    for (typed, kind, sent, answer) in rows {
+fn plays_are_in_the_numbers_of_the_board(rt: HostRuntime) {
+    for (typed, kind, sent, answer) in &PLAYS {
         let printed = [
             b"message ",
             WELCOME,
@@ -453,22 +288,21 @@ fn plays_are_in_the_numbers_of_the_board(rt: HostRuntime) -> Result<(), Fail> {
         ];
         for most in [1, 2, 7, 1000] {
             let mut seat = Seat::open(&rt, most);
-            seat.hears(&[WELCOME, END, INFO, END, GOING_UP, END])?;
-            seat.turn_to(kind, Some(typed), &[], After::Fault, 4096)?;
+            seat.hears(&rt, &[WELCOME, END, INFO, END, GOING_UP, END]);
+            seat.turn_to(&rt, *kind, Some(typed), &[], After::Fault, 4096);
             seat.assert_did(&rt, "a play", &[sent], &printed);
         }
     }
-    Ok(())
 }
 
 /// The stream fails after each byte of what is sent: what went out is a front, and the lines before are printed.
 #[test]
-fn each_write_that_fails_ends_the_connection(rt: HostRuntime) -> Result<(), Fail> {
+fn each_write_that_fails_ends_the_connection(rt: HostRuntime) {
     let wanted: &[u8] = b"set boardstyle 3\r\ntoggle autoboard\r\nboard\r\n";
     let input: &[&[u8]] = &[WELCOME, END, INFO_WITHOUT_BOARDS, END];
     for room in 0..wanted.len() {
         let mut seat = Seat::open(&rt, 1000);
-        seat.turn_to(Kind::Lost, None, input, After::WouldBlock, room)?;
+        seat.turn_to(&rt, Kind::Lost, None, input, After::WouldBlock, room);
         let printed: &[&[u8]] = if room < 18 {
             &[b"lost\n"]
         } else {
@@ -476,22 +310,22 @@ fn each_write_that_fails_ends_the_connection(rt: HostRuntime) -> Result<(), Fail
         };
         seat.assert_did(&rt, "a write that fails", &[&wanted[..room]], printed);
     }
-    Ok(())
 }
 
 /// The stream fails after each byte of a decision: it is lost, and nothing says that it was sent.
 #[test]
-fn a_decision_that_is_not_written_is_lost(rt: HostRuntime) -> Result<(), Fail> {
+fn a_decision_that_is_not_written_is_lost(rt: HostRuntime) {
     for sent in [b"".as_slice(), b"r", b"ro", b"rol", b"roll", b"roll\r"] {
         let mut seat = Seat::open(&rt, 1000);
-        seat.hears(&[READY])?;
+        seat.hears(&rt, &[READY]);
         seat.turn_to(
+            &rt,
             Kind::LostWaiting,
             Some(b"roll"),
             &[],
             After::WouldBlock,
             sent.len(),
-        )?;
+        );
         seat.assert_did(
             &rt,
             "a decision not written",
@@ -499,22 +333,20 @@ fn a_decision_that_is_not_written_is_lost(rt: HostRuntime) -> Result<(), Fail> {
             &[PRINTED, b"lost roll\n"],
         );
     }
-    Ok(())
 }
 
 /// The stream ends, or a read fails, after each byte of a line.
 #[test]
-fn each_read_that_fails_ends_the_connection(rt: HostRuntime) -> Result<(), Fail> {
+fn each_read_that_fails_ends_the_connection(rt: HostRuntime) {
     for line in [WELCOME, INFO, OPENING, PLAYER] {
         for length in 0..line.len() + 1 {
             for after in [After::End, After::Fault] {
                 let mut seat = Seat::open(&rt, 7);
-                seat.turn_to(Kind::Lost, None, &[&line[..length]], after, 4096)?;
+                seat.turn_to(&rt, Kind::Lost, None, &[&line[..length]], after, 4096);
                 seat.assert_did(&rt, "a line that is cut off", &[], &[b"lost\n"]);
             }
         }
     }
-    Ok(())
 }
 
 /// Whether a turn up to the first board fails where so many bytes may be printed, what is printed, and whether the client
@@ -542,57 +374,68 @@ fn each_print_that_fails_stops_the_turn(rt: HostRuntime) {
     }
 }
 
+/// These bytes, so many times.
+fn repeated(bytes: &[u8], times: usize) -> Text {
+    let mut text = Text::new();
+    for _ in 0..times {
+        let _fits = text.try_extend_from_slice(bytes);
+    }
+    text
+}
+
 /// A line of which only the front is kept is no board.
 #[test]
-fn a_line_that_is_too_long_is_cut(rt: HostRuntime) -> Result<(), Fail> {
-    let prompts = b"> ".as_slice().repeat(rt.alloc(), 2048)?;
+fn a_line_that_is_too_long_is_cut(rt: HostRuntime) {
+    let prompts = repeated(b"> ", 2048);
     let mut seat = Seat::open(&rt, 1000);
-    seat.hears(&[&prompts, BOARD, TO_ROLL, END])?;
+    seat.hears(&rt, &[&prompts, BOARD, TO_ROLL, END]);
     seat.assert_did(&rt, "a line that is cut", &[], &[b"cut \n"]);
     assert!(rt; seat.client.shown().is_none(), "no board is shown");
-    Ok(())
 }
 
 /// After 4096 reads a turn is over, though there is more to read.
 #[test]
-fn a_turn_reads_4096_times(rt: HostRuntime) -> Result<(), Fail> {
-    let returns = b"\r".as_slice().repeat(rt.alloc(), 4095)?;
-    let input = [returns.as_slice(), b"\nhi\n"].concat(rt.alloc())?;
+fn a_turn_reads_4096_times(rt: HostRuntime) {
+    let line = repeated(b"a", 4095);
+    let input = joined(&[&line, b"\nhi\n"]);
     let mut seat = Seat::open(&rt, 1);
     let mut pipe = Pipe::new(&input, 1, After::End, 0);
-    match seat.turn_on(&mut pipe, None)? {
+    match seat.turn_on(&rt, &mut pipe, None) {
         Ending::Quiet => {}
-        Ending::Lost(_) => return Err(Fail::from("the turn goes on")),
+        Ending::Lost(_) => panic!(rt; "the turn goes on"),
     }
-    let is_whole = seat.printed.ends_with(b"\\x0d\n");
-    seat.printed.clear();
-    let ending = seat.turn_on(&mut pipe, None)?;
-    let is_over = kind_of(&ending) == Kind::Lost;
-    assert!(rt; is_whole && is_over, "the rest is read at the next turn");
-    assert_eq!(rt; seat.printed.as_slice(), b"text hi\nlost\n".as_slice());
-    Ok(())
+    seat.assert_did(&rt, "4096 bytes", &[], &[b"text ", &line, LF]);
+    let ending = seat.turn_on(&rt, &mut pipe, None);
+    assert!(rt; kind_of(&ending) == Kind::Lost);
+    seat.assert_did(
+        &rt,
+        "the rest",
+        &[],
+        &[b"text ", &line, b"\ntext hi\nlost\n"],
+    );
 }
 
+/// What is typed, and what is printed.
+static OFFLINE: [(Option<&[u8]>, &[u8]); 5] = [
+    (None, b""),
+    (Some(b"dance"), b"unknown\n"),
+    (Some(b"roll"), b"refused 2 Offline\n"),
+    (Some(b"say "), b"refused 2 Offline\n"),
+    (Some(b"toggle greedy"), b"refused 2 Offline\n"),
+];
+
 #[test]
-fn offline_nothing_is_sent(rt: HostRuntime) -> Result<(), Fail> {
-    let rows: [(Option<&[u8]>, &[u8]); 5] = [
-        (None, b""),
-        (Some(b"dance"), b"unknown\n"),
-        (Some(b"roll"), b"refused 2 Offline\n"),
-        (Some(b"say "), b"refused 2 Offline\n"),
-        (Some(b"toggle greedy"), b"refused 2 Offline\n"),
-    ];
-    for (typed, printed) in rows {
+fn offline_nothing_is_sent(rt: HostRuntime) {
+    for (typed, printed) in &OFFLINE {
         let login = Login::new(b"ann", b"secret").expect(&rt, "it is a login");
         let mut client = Client::new(login);
         let mut directory = Directory::new(rt.alloc());
-        let mut out = Vec::new(rt.alloc());
+        let mut out = Pipe::new(b"", 1, After::End, 512);
         let none: Option<&mut Pipe<'_>> = None;
-        let outcome = exchange(&mut client, &mut directory, none, typed, &mut out);
-        assert!(rt; matches!(outcome, Ok(Ending::Quiet)));
-        assert_eq!(rt; out.as_slice(), printed);
+        let outcome = exchange(&mut client, &mut directory, none, *typed, &mut out);
+        let is_quiet = matches!(outcome, Ok(Ending::Quiet));
+        assert!(rt; is_quiet && out.output() == *printed, "{typed:?}");
     }
-    Ok(())
 }
 
 /// Message 5 of a player whose name is a number.
@@ -603,25 +446,26 @@ fn player_line(number: usize) -> Text {
 }
 
 /// A directory that holds as many players as it may.
-fn full_directory(rt: &(impl Abort + AllocGlobal)) -> Result<Directory, Fail> {
+fn full_directory(rt: &(impl Abort + AllocGlobal)) -> Directory {
     let mut directory = Directory::new(rt.alloc());
     for number in 0..4096 {
         let line = player_line(number);
         match read_line(&line) {
             Reading::Numbered(message) => directory.note(&message).expect(rt, "memory is ample"),
-            _ => return Err(Fail::from("it is a message")),
+            _ => panic!(rt; "it is a message"),
         }
     }
-    Ok(directory)
+    directory
 }
 
 #[test]
-fn a_directory_that_is_full_says_so(rt: HostRuntime) -> Result<(), Fail> {
+fn a_directory_that_is_full_says_so(rt: HostRuntime) {
     let mut seat = Seat::open(&rt, 1000);
-    seat.directory = full_directory(&rt)?;
-    seat.hears(&[
-        b"5 p4096 - - 0 0 1500.00 0 0 0 host - -\r\n5 p7 - - 0 0 1500.00 0 0 0 host - -\r\n",
-    ])?;
+    seat.directory = full_directory(&rt);
+    seat.hears(
+        &rt,
+        &[b"5 p4096 - - 0 0 1500.00 0 0 0 host - -\r\n5 p7 - - 0 0 1500.00 0 0 0 host - -\r\n"],
+    );
     seat.assert_did(
         &rt,
         "a directory that is full",
@@ -632,7 +476,6 @@ fn a_directory_that_is_full_says_so(rt: HostRuntime) -> Result<(), Fail> {
         ],
     );
     assert_eq!(rt; seat.directory.len(), 4096);
-    Ok(())
 }
 
 /// A stream of which one write fails, and which takes bytes before and after it.
@@ -670,8 +513,8 @@ impl Link for Stumbles<'_> {
 
 /// After a write that fails no other is made, though the stream would take it.
 #[test]
-fn nothing_is_sent_after_a_write_that_fails(rt: HostRuntime) -> Result<(), Fail> {
-    let input = [WELCOME, END, INFO_WITHOUT_BOARDS, END].concat(rt.alloc())?;
+fn nothing_is_sent_after_a_write_that_fails(rt: HostRuntime) {
+    let input = joined(&[WELCOME, END, INFO_WITHOUT_BOARDS, END]);
     let writes: [&[u8]; 6] = [
         b"set boardstyle 3",
         END,
@@ -683,7 +526,7 @@ fn nothing_is_sent_after_a_write_that_fails(rt: HostRuntime) -> Result<(), Fail>
     for before in 0..writes.len() {
         let mut client = opened(&rt);
         let mut directory = Directory::new(rt.alloc());
-        let mut printed = Vec::new(rt.alloc());
+        let mut printed = Pipe::new(b"", 1, After::End, 512);
         let mut stream = Stumbles {
             input: Pipe::new(&input, 1000, After::WouldBlock, 0),
             output: FailsOnce::new(before, 1000),
@@ -697,19 +540,17 @@ fn nothing_is_sent_after_a_write_that_fails(rt: HostRuntime) -> Result<(), Fail>
         );
         let is_lost = matches!(outcome, Ok(Ending::Lost(None)));
         let is_front = is_made_of(stream.output.output(), &writes[..before]);
-        let is_last = printed.ends_with(b"lost\n");
+        let is_last = printed.output().ends_with(b"lost\n");
         assert!(rt; is_lost && is_front && is_last, "after {before} writes");
     }
-    Ok(())
 }
 
 /// A line whose bytes come one a turn.
 #[test]
-fn a_stream_may_wait_between_any_two_bytes(rt: HostRuntime) -> Result<(), Fail> {
+fn a_stream_may_wait_between_any_two_bytes(rt: HostRuntime) {
     let mut seat = Seat::open(&rt, 1);
     for at in 0..READY.len() {
-        seat.hears(&[&READY[at..at + 1]])?;
+        seat.hears(&rt, &[&READY[at..at + 1]]);
     }
     seat.assert_did(&rt, "one byte a turn", &[SENT], &[PRINTED]);
-    Ok(())
 }

@@ -1,5 +1,6 @@
 //! Scripts that are played over real sockets.
 
+use super::outcome::Outcome;
 use super::pipe::{After, Pipe};
 use super::replay::{is_log_so_far, replayed};
 use super::text::{Text, joined, text_of};
@@ -154,11 +155,15 @@ fn played<N: Net<Stream = TcpStream> + AllocGlobal>(
     rt: &N,
     listener: &TcpListener,
     script: &[u8],
-) -> (Result<u8, EngineFault>, Text) {
+) -> Outcome {
     let mut reader = Pipe::new(script, 100, After::End, 0);
     let mut writer = Pipe::new(b"", 1, After::End, 4096);
     let ending = play_loop(rt, rt.alloc(), listener, &mut reader, &mut writer);
-    (ending, text_of(writer.output()))
+    Outcome {
+        ending,
+        out: text_of(writer.output()),
+        err: Text::new(),
+    }
 }
 
 #[test]
@@ -166,11 +171,11 @@ fn scripts_are_played_as_they_are_replayed(rt: HostRuntime) -> Result<(), Fail> 
     let listener = TcpListener::bind(&rt, "127.0.0.1:0")?;
     for case in &CASES {
         let script = script_of(case);
-        let (ending, printed) = played(&rt, &listener, script.as_slice());
-        assert_eq!(rt; ending, Ok(case.status), "{}", case.name);
-        assert!(rt; printed.as_slice().ends_with(case.end), "{}", case.name);
+        let outcome = played(&rt, &listener, script.as_slice());
+        assert!(rt; outcome.out.ends_with(case.end), "{}", case.name);
         let wanted = replayed(rt.alloc(), script.as_slice(), 100);
-        assert!(rt; (ending, printed) == wanted, "{}", case.name);
+        outcome.assert_is(&rt, case.name, 0, Ok(case.status), &wanted.out, b"");
+        wanted.assert_is(&rt, case.name, 1, Ok(case.status), &outcome.out, b"");
     }
     Ok(())
 }
@@ -180,9 +185,9 @@ fn scripts_are_played_as_they_are_replayed(rt: HostRuntime) -> Result<(), Fail> 
 fn bytes_cross_the_connection_that_is_accepted(rt: HostRuntime) -> Result<(), Fail> {
     let listener = TcpListener::bind(&rt, "127.0.0.1:0")?;
     drop(TcpStream::connect(&rt, listener.local_addr()?)?);
-    let (ending, printed) = played(&rt, &listener, script_of(&CASES[0]).as_slice());
-    assert_eq!(rt; ending, Err(EngineFault::Device));
-    assert_eq!(rt; printed.as_slice(), b"opened 1\n".as_slice());
+    let outcome = played(&rt, &listener, script_of(&CASES[0]).as_slice());
+    let ending = Err(EngineFault::Device);
+    outcome.assert_is(&rt, "another connection", 0, ending, b"opened 1\n", b"");
     Ok(())
 }
 
@@ -193,17 +198,16 @@ fn assert_played_again<N: Net<Listener = TcpListener, Stream = TcpStream> + Allo
 ) -> Result<(), Fail> {
     let listener = TcpListener::bind(rt, "127.0.0.1:0")?;
     let script = script_of(case);
-    let (mut ending, mut printed) = played(rt, &listener, script.as_slice());
-    if ending == Err(EngineFault::Memory) {
+    let mut outcome = played(rt, &listener, script.as_slice());
+    if outcome.ending == Err(EngineFault::Memory) {
         assert!(rt;
-            is_log_so_far(rt.alloc(), script.as_slice(), printed.as_slice()),
+            is_log_so_far(rt.alloc(), script.as_slice(), outcome.out.as_slice()),
             "{:?}",
-            printed.as_slice()
+            outcome.out.as_slice()
         );
-        (ending, printed) = played(rt, &listener, script.as_slice());
+        outcome = played(rt, &listener, script.as_slice());
     }
-    assert_eq!(rt; ending, Ok(case.status));
-    assert!(rt; printed.as_slice().ends_with(case.end));
+    assert!(rt; outcome.ending == Ok(case.status) && outcome.out.ends_with(case.end));
     Ok(())
 }
 

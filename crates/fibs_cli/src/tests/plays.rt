@@ -1,7 +1,8 @@
 //! The engine `plays`.
 use super::devices::FailsOnce;
+use super::outcome::Outcome;
 use super::pipe::{After, Pipe};
-use super::text::{Text, text_of};
+use super::text::text_of;
 use crate::fault::EngineFault;
 use crate::plays::plays;
 use std::alloc::Global;
@@ -162,35 +163,30 @@ static REFUSED: [Case; 16] = [
 ];
 
 /// How `plays` ends where so many bytes may be printed on both writers, and what it prints.
-fn listed(
-    alloc: Global,
-    word: &[u8],
-    out_room: usize,
-    err_room: usize,
-) -> (Result<u8, EngineFault>, Text, Text) {
+fn listed(alloc: Global, word: &[u8], out_room: usize, err_room: usize) -> Outcome {
     let mut out = Pipe::new(b"", 1, After::End, out_room);
     let mut err = Pipe::new(b"", 1, After::End, err_room);
     let ending = plays(alloc, word, &mut out, &mut err);
-    (ending, text_of(out.output()), text_of(err.output()))
+    Outcome {
+        ending,
+        out: text_of(out.output()),
+        err: text_of(err.output()),
+    }
 }
 
 #[test]
 fn prints_the_plays_of_good_boards(rt: HostRuntime) {
     for case in &PRINTED {
-        let (ending, out, err) = listed(rt.alloc(), case.word, 512, 512);
-        assert_eq!(rt; ending, Ok(0), "{}", case.name);
-        assert_eq!(rt; out.as_slice(), case.printed, "{}", case.name);
-        assert!(rt; err.is_empty(), "{}", case.name);
+        let outcome = listed(rt.alloc(), case.word, 512, 512);
+        outcome.assert_is(&rt, case.name, 0, Ok(0), case.printed, b"");
     }
 }
 
 #[test]
 fn refuses_all_other_words(rt: HostRuntime) {
     for case in &REFUSED {
-        let (ending, out, err) = listed(rt.alloc(), case.word, 512, 512);
-        assert_eq!(rt; ending, Ok(3), "{}", case.name);
-        assert_eq!(rt; err.as_slice(), case.printed, "{}", case.name);
-        assert!(rt; out.is_empty(), "{}", case.name);
+        let outcome = listed(rt.alloc(), case.word, 512, 512);
+        outcome.assert_is(&rt, case.name, 0, Ok(3), b"", case.printed);
     }
 }
 
@@ -201,70 +197,62 @@ fn reads_a_word_of_any_length(rt: HostRuntime) {
     for _ in 0..5000 {
         let _fits = word.try_push(b' ');
     }
-    let (ending, out, _err) = listed(rt.alloc(), word.as_slice(), 512, 512);
-    assert_eq!(rt; ending, Ok(0));
-    assert_eq!(rt; out.as_slice(), case.printed);
+    let outcome = listed(rt.alloc(), word.as_slice(), 512, 512);
+    outcome.assert_is(&rt, "spaces", 5000, Ok(0), case.printed, b"");
 }
 
 /// Where a growth is refused, nothing is written, and the next call lists the plays.
 #[test]
 fn prints_plays_under_refused_memory(rt: HostRuntime) {
     for case in &PRINTED {
-        let (mut ending, mut out, mut err) = listed(rt.alloc(), case.word, 512, 512);
-        if ending == Err(EngineFault::Memory) {
-            assert!(rt; out.is_empty() && err.is_empty(), "{}", case.name);
-            (ending, out, err) = listed(rt.alloc(), case.word, 512, 512);
+        let mut outcome = listed(rt.alloc(), case.word, 512, 512);
+        if outcome.ending == Err(EngineFault::Memory) {
+            outcome.assert_is(&rt, case.name, 1, Err(EngineFault::Memory), b"", b"");
+            outcome = listed(rt.alloc(), case.word, 512, 512);
         }
-        assert_eq!(rt; ending, Ok(0), "{}", case.name);
-        assert_eq!(rt; out.as_slice(), case.printed, "{}", case.name);
-        assert!(rt; err.is_empty(), "{}", case.name);
+        outcome.assert_is(&rt, case.name, 2, Ok(0), case.printed, b"");
     }
 }
 
 #[test]
 fn stops_at_a_failed_write(rt: HostRuntime) {
+    let ending = Err(EngineFault::Device);
     let good = &PRINTED[6];
     for room in 0..good.printed.len() {
-        let (ending, out, _err) = listed(rt.alloc(), good.word, room, 0);
-        assert_eq!(rt; ending, Err(EngineFault::Device), "room for {room} bytes");
-        assert_eq!(rt; out.as_slice(), &good.printed[..room]);
+        let outcome = listed(rt.alloc(), good.word, room, 0);
+        outcome.assert_is(&rt, good.name, room, ending, &good.printed[..room], b"");
     }
     let bad = &REFUSED[6];
     for room in 0..bad.printed.len() {
-        let (ending, _out, err) = listed(rt.alloc(), bad.word, 0, room);
-        assert_eq!(rt; ending, Err(EngineFault::Device), "room for {room} bytes");
-        assert_eq!(rt; err.as_slice(), &bad.printed[..room]);
+        let outcome = listed(rt.alloc(), bad.word, 0, room);
+        outcome.assert_is(&rt, bad.name, room, ending, b"", &bad.printed[..room]);
     }
 }
 
 /// How `plays` ends where one write on each writer fails, and what it prints.
-fn listed_with_a_failure(
-    alloc: Global,
-    word: &[u8],
-    out_failing: usize,
-    err_failing: usize,
-) -> (Result<u8, EngineFault>, Text, Text) {
-    let mut out = FailsOnce::new(out_failing, 1);
-    let mut err = FailsOnce::new(err_failing, 1);
+fn listed_with_a_failure(alloc: Global, word: &[u8], before: usize) -> Outcome {
+    let mut out = FailsOnce::new(before, 1);
+    let mut err = FailsOnce::new(before, 1);
     let ending = plays(alloc, word, &mut out, &mut err);
-    (ending, text_of(out.output()), text_of(err.output()))
+    Outcome {
+        ending,
+        out: text_of(out.output()),
+        err: text_of(err.output()),
+    }
 }
 
 /// After a failed write neither writer is given more, though it would take it.
 #[test]
 fn writes_nothing_after_a_failed_write(rt: HostRuntime) {
+    let ending = Err(EngineFault::Device);
     let good = &PRINTED[6];
-    for failing in 0..good.printed.len() {
-        let (ending, out, err) = listed_with_a_failure(rt.alloc(), good.word, failing, 0);
-        assert_eq!(rt; ending, Err(EngineFault::Device), "after {failing} writes");
-        assert_eq!(rt; out.as_slice(), &good.printed[..failing]);
-        assert!(rt; err.is_empty(), "after {failing} writes");
+    for before in 0..good.printed.len() {
+        let outcome = listed_with_a_failure(rt.alloc(), good.word, before);
+        outcome.assert_is(&rt, good.name, before, ending, &good.printed[..before], b"");
     }
     let bad = &REFUSED[6];
-    for failing in 0..bad.printed.len() {
-        let (ending, out, err) = listed_with_a_failure(rt.alloc(), bad.word, 0, failing);
-        assert_eq!(rt; ending, Err(EngineFault::Device), "after {failing} writes");
-        assert_eq!(rt; err.as_slice(), &bad.printed[..failing]);
-        assert!(rt; out.is_empty(), "after {failing} writes");
+    for before in 0..bad.printed.len() {
+        let outcome = listed_with_a_failure(rt.alloc(), bad.word, before);
+        outcome.assert_is(&rt, bad.name, before, ending, b"", &bad.printed[..before]);
     }
 }

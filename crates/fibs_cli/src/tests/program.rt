@@ -1,6 +1,7 @@
 //! The command line, from its words to the exit status.
+use super::outcome::Outcome;
 use super::pipe::{After, Pipe};
-use super::text::{Text, text_of};
+use super::text::text_of;
 use crate::arguments;
 use crate::fault::EngineFault;
 use crate::program::{answer, status};
@@ -81,23 +82,25 @@ fn answered<N: Net<Listener = TcpListener, Stream = TcpStream> + AllocGlobal>(
     rt: &N,
     words: &[&str],
     input: &[u8],
-) -> Result<(Result<u8, EngineFault>, Text, Text), AllocError> {
+) -> Result<Outcome, AllocError> {
     let line = line_of(rt.alloc(), words)?;
     let mut input = Pipe::new(input, 7, After::End, 0);
     let mut out = Pipe::new(b"", 1, After::End, 4096);
     let mut err = Pipe::new(b"", 1, After::End, 4096);
     let called = arguments::read(rt.alloc(), line.as_slice());
     let ending = answer(rt, rt.alloc(), &called, &mut input, &mut out, &mut err);
-    Ok((ending, text_of(out.output()), text_of(err.output())))
+    Ok(Outcome {
+        ending,
+        out: text_of(out.output()),
+        err: text_of(err.output()),
+    })
 }
 
 #[test]
 fn serves_each_request(rt: HostRuntime) -> Result<(), Fail> {
     for case in &SERVED {
-        let (ending, out, err) = answered(&rt, case.words, case.input)?;
-        assert_eq!(rt; ending, Ok(case.status), "{}", case.name);
-        assert_eq!(rt; out.as_slice(), case.out, "{}", case.name);
-        assert_eq!(rt; err.as_slice(), case.err, "{}", case.name);
+        let outcome = answered(&rt, case.words, case.input)?;
+        outcome.assert_is(&rt, case.name, 0, Ok(case.status), case.out, case.err);
     }
     Ok(())
 }
@@ -115,10 +118,13 @@ fn answers_each_other_line(rt: HostRuntime) -> Result<(), Fail> {
         (&["plays"], 2),
     ];
     for (words, wanted) in cases {
-        let (ending, out, err) = answered(&rt, words, b"a\n")?;
-        assert_eq!(rt; ending, Ok(wanted), "at {words:?}");
-        assert_eq!(rt; out.is_empty(), wanted == 2, "at {words:?}");
-        assert_eq!(rt; err.is_empty(), wanted == 0, "at {words:?}");
+        let outcome = answered(&rt, words, b"a\n")?;
+        let is_printed = outcome.out.is_empty() == (wanted == 2);
+        let is_said = outcome.err.is_empty() == (wanted == 0);
+        assert!(rt;
+            outcome.ending == Ok(wanted) && is_printed && is_said,
+            "at {words:?}"
+        );
     }
     Ok(())
 }

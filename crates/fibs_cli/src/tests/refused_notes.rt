@@ -1,14 +1,13 @@
 //! Turns and conversations in which the directory has no memory for a player: it is said, and they go on.
-ghost use Rattle.std.specs.Prelude.{true, IfOk};
+ghost use Rattle.std.specs.Prelude.{true};
 ghost use Rattle.fibs_cli.specs.Turns.Turn.{FitsStream};
 
 use super::connect::{Door, conversed};
-use super::exchange::opened;
+use super::outcome::Outcome;
 use super::pipe::{After, Pipe};
+use super::seat::Seat;
 use super::text::{Text, joined};
-use crate::exchange::{Ending, exchange};
-use crate::fault::EngineFault;
-use fibs_session::{Client, Directory};
+use fibs_session::Directory;
 use std::alloc::{AllocError, Global};
 use std::process::Abort;
 use std::test::Fail;
@@ -54,50 +53,6 @@ static HEARD: [(&[u8], &[u8]); 8] = [
     ),
 ];
 
-/// A client that has opened a connection, the players that it knows, and what was printed and sent.
-#[derive(Drop)]
-struct Seat {
-    client: Client,
-    directory: Directory,
-    printed: Text,
-    sent: Text,
-}
-
-impl Seat {
-    fn new(rt: &(impl Abort + AllocGlobal)) -> Seat
-        ensures { FitsStream result.client true }
-    {
-        Seat {
-            client: opened(rt),
-            directory: Directory::new(rt.alloc()),
-            printed: Text::new(),
-            sent: Text::new(),
-        }
-    }
-
-    /// One quiet turn.
-    fn turn(&mut self, typed: Option<&[u8]>, input: &[u8]) -> Result<(), Fail>
-        requires { FitsStream self.old.client true }
-        ensures { IfOk result (λ _. FitsStream self.new.client true) }
-    {
-        let mut pipe = Pipe::new(input, 7, After::WouldBlock, 512);
-        let mut out = Pipe::new(b"", 1, After::End, 512);
-        let outcome = exchange(
-            &mut self.client,
-            &mut self.directory,
-            Some(&mut pipe),
-            typed,
-            &mut out,
-        );
-        let _fits = self.printed.try_extend_from_slice(out.output());
-        let _fits = self.sent.try_extend_from_slice(pipe.output());
-        match outcome {
-            Ok(Ending::Quiet) => Ok(()),
-            _ => Err(Fail::from("the turn is not quiet")),
-        }
-    }
-}
-
 /// What is known of each player.
 fn players_of(alloc: Global, directory: &Directory) -> Result<Text, AllocError> {
     let mut text = Text::new();
@@ -109,14 +64,14 @@ fn players_of(alloc: Global, directory: &Directory) -> Result<Text, AllocError> 
 }
 
 /// A seat that has heard these lines.
-fn seat_after(rt: &(impl Abort + AllocGlobal), lines: &[(&[u8], &[u8])]) -> Result<Seat, Fail>
-    ensures { IfOk result (λ seat. FitsStream seat.client true) }
+fn seat_after(rt: &(impl Abort + AllocGlobal), lines: &[(&[u8], &[u8])]) -> Seat
+    ensures { FitsStream result.client true }
 {
-    let mut seat = Seat::new(rt);
+    let mut seat = Seat::open(rt, 7);
     for at in 0..lines.len() {
-        seat.turn(None, lines[at].0)?;
+        seat.hears(rt, &[lines[at].0]);
     }
-    Ok(seat)
+    seat
 }
 
 /// Both seats hear the lines, and then a decision is typed at both: they print and send the same, and know the same
@@ -134,14 +89,14 @@ fn assert_alike(
     seat.printed.clear();
     twin.printed.clear();
     for at in 0..lines.len() {
-        seat.turn(None, lines[at].0)?;
-        twin.turn(None, lines[at].0)?;
+        seat.hears(rt, &[lines[at].0]);
+        twin.hears(rt, &[lines[at].0]);
         let known = players_of(rt.alloc(), &seat.directory)?;
         assert!(rt; known == players_of(rt.alloc(), &twin.directory)?);
         let _fits = wanted.try_extend_from_slice(lines[at].1);
     }
-    seat.turn(Some(b"roll"), b"")?;
-    twin.turn(Some(b"roll"), b"")?;
+    seat.types(rt, b"roll", &[]);
+    twin.types(rt, b"roll", &[]);
     let _fits = wanted.try_extend_from_slice(b"sent roll\n");
     assert_eq!(rt; seat.printed, wanted);
     assert_eq!(rt; twin.printed, wanted);
@@ -154,15 +109,15 @@ fn assert_alike(
 /// sent.
 #[test]
 fn turns_go_on_under_refused_memory(rt: HostRuntime) -> Result<(), Fail> {
-    let mut seat = Seat::new(&rt);
+    let mut seat = Seat::open(&rt, 7);
     for at in 0..HEARD.len() {
         let (line, printed) = HEARD[at];
         seat.printed.clear();
-        seat.turn(None, line)?;
+        seat.hears(&rt, &[line]);
         if seat.printed.as_slice() != printed {
             let wanted = joined(&[printed, REFUSED]);
             assert_eq!(rt; seat.printed, wanted);
-            let mut twin = seat_after(&rt, &HEARD[..at])?;
+            let mut twin = seat_after(&rt, &HEARD[..at]);
             return assert_alike(&rt, &mut seat, &mut twin, &HEARD[at + 1..]);
         }
     }
@@ -171,7 +126,7 @@ fn turns_go_on_under_refused_memory(rt: HostRuntime) -> Result<(), Fail> {
 }
 
 /// How a conversation ends in which the server sends some lines at once, and what is printed on both writers.
-fn heard_at_once(alloc: Global, input: &[u8]) -> (Result<u8, EngineFault>, Text, Text) {
+fn heard_at_once(alloc: Global, input: &[u8]) -> Outcome {
     let door = Door {
         input,
         room: 4096,
@@ -197,18 +152,13 @@ fn conversations_go_on_under_refused_memory(rt: HostRuntime) {
         &[welcome, one, two, REFUSED, again, both, end],
         &[welcome, one, two, again, REFUSED, old, end],
     ];
-    let (ending, out, err) = heard_at_once(rt.alloc(), &input);
-    assert_eq!(rt; ending, Ok(0));
-    assert!(rt; err.is_empty());
-    assert!(rt;
-        rows.iter().any(|parts| joined(parts) == out),
-        "{:?}",
-        out.as_slice()
-    );
-    if out != joined(rows[0]) {
-        let (ending, out, err) = heard_at_once(rt.alloc(), &input);
-        assert_eq!(rt; ending, Ok(0));
-        assert_eq!(rt; out, joined(rows[0]));
-        assert!(rt; err.is_empty());
+    let mut outcome = heard_at_once(rt.alloc(), &input);
+    let is_a_row = rows.iter().any(|parts| joined(parts) == outcome.out);
+    let is_well = outcome.ending == Ok(0) && outcome.err.is_empty();
+    assert!(rt; is_a_row && is_well, "{:?}", outcome.out.as_slice());
+    let wanted = joined(rows[0]);
+    if outcome.out != wanted {
+        outcome = heard_at_once(rt.alloc(), &input);
     }
+    outcome.assert_is(&rt, "once more", 0, Ok(0), &wanted, b"");
 }

@@ -1,5 +1,6 @@
 //! Scripts from end to end: what is printed for them, and how they end.
 use super::devices::FailsOnce;
+use super::outcome::Outcome;
 use super::pipe::{After, Pipe};
 use super::text::{Text, joined, text_of};
 use crate::fault::EngineFault;
@@ -50,19 +51,27 @@ deliver 10000
 ";
 
 /// How a script ends that is read in portions of at most so many bytes, and what is printed.
-pub fn replayed(alloc: Global, script: &[u8], most: usize) -> (Result<u8, EngineFault>, Text) {
-    let mut reader = Pipe::new(script, most, After::End, 0);
-    let mut writer = Pipe::new(b"", 1, After::End, 4096);
+pub fn replayed(alloc: Global, script: &[u8], most: usize) -> Outcome {
+    replayed_into(alloc, script, most, After::End, 4096)
+}
+
+/// The same with what follows the script, where so many bytes may be printed.
+fn replayed_into(alloc: Global, script: &[u8], most: usize, after: After, room: usize) -> Outcome {
+    let mut reader = Pipe::new(script, most, after, 0);
+    let mut writer = Pipe::new(b"", 1, After::End, room);
     let ending = replay(alloc, &mut reader, &mut writer);
-    (ending, text_of(writer.output()))
+    Outcome {
+        ending,
+        out: text_of(writer.output()),
+        err: Text::new(),
+    }
 }
 
 /// Asserts how a script ends and what is printed, however it is cut.
 fn assert_replayed(rt: &(impl Abort + AllocGlobal), script: &Text, status: u8, wanted: &Text) {
     for most in [1, 2, 7, 4096] {
-        let (ending, output) = replayed(rt.alloc(), script.as_slice(), most);
-        assert_eq!(rt; output.as_slice(), wanted.as_slice(), "portions of {most}");
-        assert_eq!(rt; ending, Ok(status), "portions of {most}");
+        let outcome = replayed(rt.alloc(), script.as_slice(), most);
+        outcome.assert_is(rt, "in portions", most, Ok(status), wanted.as_slice(), b"");
     }
 }
 
@@ -232,6 +241,13 @@ fn events_that_may_not_be(rt: HostRuntime) {
     }
 }
 
+/// Asserts that a script is not run, and what is printed.
+fn assert_ended(rt: &(impl Abort + AllocGlobal), script: &[u8], wanted: &[u8]) {
+    let outcome = replayed(rt.alloc(), script, 4096);
+    outcome.assert_is(rt, "a script of bytes", script.len(), Ok(3), wanted, b"");
+}
+
+/// As many bytes as may be, and one more.
 #[test]
 fn a_long_script_is_not_run(rt: HostRuntime) -> Result<(), Fail> {
     let mut script = Vec::from_slice(rt.alloc(), ROLL)?;
@@ -242,31 +258,17 @@ fn a_long_script_is_not_run(rt: HostRuntime) -> Result<(), Fail> {
     for _ in 0..3 {
         script.push(b'\n')?;
     }
-    let (ending, output) = replayed(rt.alloc(), script.as_slice(), 4096);
-    assert_eq!(rt;
-        output.as_slice(),
-        b"script 149781\n".as_slice(),
-        "as many bytes as may be"
-    );
-    assert_eq!(rt; ending, Ok(3));
+    assert_ended(&rt, &script, b"script 149781\n");
     script.push(b'\n')?;
-    let (ending, output) = replayed(rt.alloc(), script.as_slice(), 4096);
-    assert_eq!(rt;
-        output.as_slice(),
-        b"script 0\n".as_slice(),
-        "one byte more"
-    );
-    assert_eq!(rt; ending, Ok(3));
+    assert_ended(&rt, &script, b"script 0\n");
     Ok(())
 }
 
 #[test]
 fn nothing_is_printed_after_a_failed_read(rt: HostRuntime) {
-    let mut reader = Pipe::new(ROLL, 50, After::Fault, 0);
-    let mut writer = Pipe::new(b"", 1, After::End, 4096);
-    let ending = replay(rt.alloc(), &mut reader, &mut writer);
-    assert_eq!(rt; ending, Err(EngineFault::Device));
-    assert_eq!(rt; writer.output(), b"".as_slice());
+    let outcome = replayed_into(rt.alloc(), ROLL, 50, After::Fault, 4096);
+    let ending = Err(EngineFault::Device);
+    outcome.assert_is(&rt, "a failed read", ROLL.len(), ending, b"", b"");
 }
 
 #[test]
@@ -274,15 +276,9 @@ fn a_front_is_printed_before_a_failed_write(rt: HostRuntime) {
     let script = double_click();
     let wanted = double_click_printed();
     for room in 0..wanted.len() {
-        let mut reader = Pipe::new(script.as_slice(), 4096, After::End, 0);
-        let mut writer = Pipe::new(b"", 1, After::End, room);
-        let ending = replay(rt.alloc(), &mut reader, &mut writer);
-        assert_eq!(rt; ending, Err(EngineFault::Device), "room for {room} bytes");
-        assert_eq!(rt;
-            writer.output(),
-            &wanted.as_slice()[..room],
-            "room for {room} bytes"
-        );
+        let outcome = replayed_into(rt.alloc(), script.as_slice(), 4096, After::End, room);
+        let front = &wanted.as_slice()[..room];
+        outcome.assert_is(&rt, "room", room, Err(EngineFault::Device), front, b"");
     }
 }
 
@@ -293,13 +289,13 @@ fn nothing_is_written_after_a_failed_write_of_a_log(rt: HostRuntime) {
     for before in 0..10 {
         let mut reader = Pipe::new(script.as_slice(), 4096, After::End, 0);
         let mut writer = FailsOnce::new(before, 3);
-        let ending = replay(rt.alloc(), &mut reader, &mut writer);
-        assert_eq!(rt; ending, Err(EngineFault::Device), "after {before} writes");
-        assert_eq!(rt;
-            writer.output(),
-            &wanted[..3 * before],
-            "after {before} writes"
-        );
+        let outcome = Outcome {
+            ending: replay(rt.alloc(), &mut reader, &mut writer),
+            out: text_of(writer.output()),
+            err: Text::new(),
+        };
+        let front = &wanted[..3 * before];
+        outcome.assert_is(&rt, "writes", before, Err(EngineFault::Device), front, b"");
     }
 }
 
@@ -318,8 +314,8 @@ fn without_last_line(text: &[u8]) -> &[u8] {
 pub fn is_log_so_far(alloc: Global, script: &[u8], text: &[u8]) -> bool {
     for end in 0..script.len() {
         if script[end] == b'\n' {
-            let (_done, printed) = replayed(alloc, &script[..end], 4096);
-            if without_last_line(printed.as_slice()) == text {
+            let outcome = replayed(alloc, &script[..end], 4096);
+            if without_last_line(outcome.out.as_slice()) == text {
                 return true;
             }
         }
@@ -335,17 +331,16 @@ fn assert_replayed_again(
     wanted: &Text,
 ) {
     for most in [64, 4096] {
-        let (mut ending, mut output) = replayed(rt.alloc(), script.as_slice(), most);
-        if ending == Err(EngineFault::Memory) {
-            let written = output.as_slice();
+        let mut outcome = replayed(rt.alloc(), script.as_slice(), most);
+        if outcome.ending == Err(EngineFault::Memory) {
+            let written = outcome.out.as_slice();
             assert!(rt;
                 is_log_so_far(rt.alloc(), script.as_slice(), written),
                 "{written:?}"
             );
-            (ending, output) = replayed(rt.alloc(), script.as_slice(), most);
+            outcome = replayed(rt.alloc(), script.as_slice(), most);
         }
-        assert_eq!(rt; ending, Ok(status));
-        assert_eq!(rt; output.as_slice(), wanted.as_slice());
+        outcome.assert_is(rt, "once more", most, Ok(status), wanted.as_slice(), b"");
     }
 }
 

@@ -1,5 +1,6 @@
 //! The engines over streams in memory.
 use super::devices::{Endless, FailsOnce};
+use super::outcome::Outcome;
 use super::pipe::{After, Pipe};
 use super::text::{Text, joined, text_of};
 use crate::fault::EngineFault;
@@ -16,25 +17,22 @@ const MIDDLE: &[u8] =
 const LAST: &[u8] = b":0";
 
 /// How `show` ends that reads `input` in portions of at most `most` bytes, and what it prints where `room` bytes may be.
-fn shown(
-    alloc: Global,
-    input: &[u8],
-    most: usize,
-    after: After,
-    room: usize,
-) -> (Result<u8, EngineFault>, Text) {
+fn shown(alloc: Global, input: &[u8], most: usize, after: After, room: usize) -> Outcome {
     let mut reader = Pipe::new(input, most, after, 0);
     let mut writer = Pipe::new(b"", 1, After::End, room);
     let ending = show(alloc, &mut reader, &mut writer);
-    (ending, text_of(writer.output()))
+    Outcome {
+        ending,
+        out: text_of(writer.output()),
+        err: Text::new(),
+    }
 }
 
 /// Asserts what `show` prints, however its input is cut.
 fn assert_shown(rt: &(impl Abort + AllocGlobal), input: &[u8], wanted: &[u8]) {
     for most in [1, 2, 7, 1024, 5000] {
-        let (ending, output) = shown(rt.alloc(), input, most, After::End, 8192);
-        assert_eq!(rt; ending, Ok(0), "at {input:?}");
-        assert_eq!(rt; output.as_slice(), wanted, "at {input:?}");
+        let outcome = shown(rt.alloc(), input, most, After::End, 8192);
+        outcome.assert_is(rt, "a stream in portions", most, Ok(0), wanted, b"");
     }
 }
 
@@ -141,9 +139,9 @@ fn keeps_whole_lines_at_a_failed_read(rt: HostRuntime) {
     ];
     for (input, wanted) in cases {
         for most in [1, 3, 100] {
-            let (ending, output) = shown(rt.alloc(), input, most, After::Fault, 512);
-            assert_eq!(rt; ending, Err(EngineFault::Device), "after {input:?}");
-            assert_eq!(rt; output.as_slice(), wanted, "after {input:?}");
+            let outcome = shown(rt.alloc(), input, most, After::Fault, 512);
+            let ending = Err(EngineFault::Device);
+            outcome.assert_is(&rt, "a failed read", input.len(), ending, wanted, b"");
         }
     }
 }
@@ -153,9 +151,9 @@ fn stops_at_a_failed_write(rt: HostRuntime) {
     let wanted = b"text a\ntext bc\nunfinished 1\n";
     for room in 0..wanted.len() {
         for most in [1, 100] {
-            let (ending, output) = shown(rt.alloc(), b"a\nbc\nd", most, After::End, room);
-            assert_eq!(rt; ending, Err(EngineFault::Device), "room for {room} bytes");
-            assert_eq!(rt; output.as_slice(), &wanted[..room], "room for {room} bytes");
+            let outcome = shown(rt.alloc(), b"a\nbc\nd", most, After::End, room);
+            let ending = Err(EngineFault::Device);
+            outcome.assert_is(&rt, "a failed write", room, ending, &wanted[..room], b"");
         }
     }
 }
@@ -202,17 +200,16 @@ fn are_first_lines(text: &[u8], lines: &[u8]) -> bool {
 /// Where a growth is refused, what was written are the first lines, and another call writes all.
 fn assert_shown_again(rt: &(impl Abort + AllocGlobal), input: &[u8], wanted: &[u8]) {
     for most in [2, 50, 5000] {
-        let (mut ending, mut output) = shown(rt.alloc(), input, most, After::End, 1024);
-        if ending == Err(EngineFault::Memory) {
-            let written = output.as_slice();
+        let mut outcome = shown(rt.alloc(), input, most, After::End, 1024);
+        if outcome.ending == Err(EngineFault::Memory) {
+            let written = outcome.out.as_slice();
             assert!(rt;
                 are_first_lines(written, wanted),
                 "{written:?} of {wanted:?}"
             );
-            (ending, output) = shown(rt.alloc(), input, most, After::End, 1024);
+            outcome = shown(rt.alloc(), input, most, After::End, 1024);
         }
-        assert_eq!(rt; ending, Ok(0));
-        assert_eq!(rt; output.as_slice(), wanted);
+        outcome.assert_is(rt, "once more", most, Ok(0), wanted, b"");
     }
 }
 

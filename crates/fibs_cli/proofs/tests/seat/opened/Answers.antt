@@ -1,7 +1,7 @@
 use Rattle.std.proofs.Common.{refl}
 use Rattle.fibs_session.specs.History.Machine.{Open, start, step}
 use Rattle.fibs_session.specs.LoginOf.{login_of}
-use Rattle.fibs_cli.proofs.tests.exchange.opened.Goals as goal
+use Rattle.fibs_cli.proofs.tests.seat.opened.Goals as goal
 
 pub returns : goal.returns
 returns g c =
