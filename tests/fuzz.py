@@ -1,9 +1,9 @@
 """A differential fuzz: `fuzz.py PROGRAM SECONDS [SEED]` compares PROGRAM with reference.py, byte by byte.
 
-Half of the time goes to batches of lines for `PROGRAM show`, half to scripts for `PROGRAM replay`. It ends with
-status 1 at the first difference, which it makes small, and with status 0 where there was none in SECONDS of wall clock.
-It prints its seed, what the inputs had in them, and at last `N passed, M failed`: of lines and scripts, those without a
-difference.
+A third of the time goes to batches of lines for `PROGRAM show`, a third to scripts, each for `PROGRAM replay` and for
+`PROGRAM loop`, a third to board lines for `PROGRAM plays`, in turn. It ends with status 1 at the first difference, which it
+makes small, and with status 0 where there was none in SECONDS of wall clock. It prints its seed, what the inputs had in
+them, and at last `N passed, M failed`: of lines, scripts and boards, those without a difference.
 """
 import collections
 import random
@@ -93,10 +93,19 @@ def other_checkers(rng, own):
     return held
 
 
-def good_board(rng, phase=None):
+def wide_sides(rng):
+    """The player's checkers on many places, the opponent's on few: equal dice have long lists of plays."""
+    own = spread(rng, list(range(1, 25)), rng.choice((15, 15, 15, 14, 12)), rng.choice((4, 6, 8, 10, 12, 15)))
+    own[0] = 15 - sum(own)
+    return own, spread(rng, [place for place in range(1, 25) if not own[place]] + [25], 15, rng.randint(1, 3))
+
+
+def good_board(rng, phase=None, is_wide=False):
     """A board of one who plays himself, mostly with 15 checkers each, in a phase that is mostly the user's."""
     own = own_checkers(rng)
     other = other_checkers(rng, own)
+    if is_wide:
+        own, other = wide_sides(rng)
     colour, direction = rng.choice((-1, 1)), rng.choice((-1, 1))
     places = [0] * 26
     for place in range(1, 25):
@@ -107,7 +116,7 @@ def good_board(rng, phase=None):
     dice = [rng.randint(1, 6), rng.choice((0, rng.randint(1, 6)))] if phase == 'odd' else [0, 0]
     if phase == 'move':
         dice = [rng.randint(1, 6), rng.randint(1, 6)]
-        if rng.random() < 0.1:
+        if rng.random() < (0.5 if is_wide else 0.1):
             dice[1] = dice[0]
     turn = {'over': 0, 'opponent': -colour, 'odd': rng.choice((-1, 0, 1))}.get(phase, colour)
     if phase == 'answer' and rng.random() < 0.5:
@@ -242,7 +251,35 @@ def batch(rng):
         stream += rng.choice(UNFINISHED + [show_line(rng)[:-1]])
     return stream
 
-# ---- Scripts for `replay` --------------------------------------------------------------------------------------------
+# ---- Words for `plays` -----------------------------------------------------------------------------------------------
+
+
+def plays_word(rng):
+    """One word of a command line: mostly a board in which a play is to be chosen."""
+    kind = rng.random()
+    if kind < 0.5:
+        line = good_board(rng, 'move' if rng.random() < 0.8 else None)
+    elif kind < 0.7:
+        line = good_board(rng, 'move', is_wide=True)
+    elif kind < 0.85:
+        line = random_board(rng)
+        if rng.random() < 0.5:
+            line = b'board:You:' + line.split(b':', 2)[2]
+    else:
+        line = rng.choice((message(rng), rng.choice(JUNK), good_board(rng) + b'  ', b'board:' + rng.choice(NUMBERS)))
+    if rng.random() < 0.1:
+        line = mutate_field(rng, line)
+    if rng.random() < 0.05:
+        line = mutate_bytes(rng, line)
+    return a_word(line)
+
+
+def a_word(line):
+    """Made to be an argument: text without NUL that is no option, and has no place where a test would cut it."""
+    text = line.decode('latin-1').encode('ascii', 'ignore').translate(None, b'\x00\n')
+    return text if text and not text.startswith(b'-') else b'board:' + text
+
+# ---- Scripts for `replay` and `loop` ---------------------------------------------------------------------------------
 
 LOTS = b'4294967295'
 ANY_DECISION = [b'roll', b'double', b'accept', b'reject', b'move', b'move 8-5', b'move bar-20 24-18', b'move 3-off']
@@ -365,7 +402,8 @@ def wishes(model):
     client, ready = model.client, any(b'\r\n' in c.up and c.number >= model.logged_in for c in model.connections)
     common = {told: 3, 'plain': 3, click: 2, 'repeat': 1, 'own': 1 if model.board.phase() in reference.DECIDED else 30}
     if not client.connection:
-        return {'open': 60, serve: 25 if ready else 0, **common}
+        # The last two may not be, and end the script.
+        return {'open': 60, serve: 25 if ready else 0, **common, deliver: 0.5, lose: 0.5}
     common.update({lose: 4, serve: 50 if ready else 0, deliver: 20 if client.connection.down else 2})
     if client.connection.number == model.logged_in or not ready:
         common.update({'first': 0 if client.welcomed else 40, 'settings': 1 if client.settings else 40})
@@ -445,6 +483,10 @@ def huge_script(rng):
     text += line * ((1048576 - len(text)) // len(line) - 1)
     return text + b'text ' + b'y' * (1048576 - len(text) - 6 + rng.choice((-1, 0, 1))) + b'\n'
 
+
+def any_script(rng):
+    return huge_script(rng) if rng.random() < 0.0005 else script(rng)
+
 # ---- The comparison --------------------------------------------------------------------------------------------------
 
 class OutOfTime(Exception):
@@ -458,17 +500,21 @@ class Program:
         self.path, self.longest = path, min(20, seconds / 2)
 
     def run(self, mode, data):
-        """What it prints and its status; one that does not end is given a status that no program has."""
+        """What it prints, its status and what it says; one that does not end has a status that no program has."""
+        words, given = ([mode, data], b'') if mode == 'plays' else ([mode], data)
         try:
-            done = subprocess.run([self.path, mode], input=data, stdout=subprocess.PIPE, stderr=subprocess.DEVNULL,
-                                  timeout=self.longest)
+            done = subprocess.run([self.path, *words], input=given, capture_output=True, timeout=self.longest)
         except subprocess.TimeoutExpired as late:
-            return late.stdout or b'', 'no end'
-        return done.stdout, done.returncode
+            return late.stdout or b'', 'no end', late.stderr or b''
+        return done.stdout, done.returncode, done.stderr
 
     def outcomes(self, mode, data):
         """The input, what the reference makes of it, and what the program does."""
-        return [data, getattr(reference, mode)(data), self.run(mode, data)]
+        return self.beside(mode, data, getattr(reference, mode)(data))
+
+    def beside(self, mode, data, expected):
+        """The input, what is expected of it (nothing is said where only two are given), and what the program does."""
+        return [data, (*expected, b'')[:3], self.run(mode, data)]
 
 
 def smaller(program, mode, data, best):
@@ -496,8 +542,8 @@ def report(program, mode, best):
     data, expected, answer = best
     print('mode', mode)
     print('input', repr(data))
-    for who, (out, status) in (('reference', expected), ('program', answer)):
-        print('--', who, 'status', status)
+    for who, (out, status, said) in (('reference', expected), ('program', answer)):
+        print('--', who, 'status', status, 'said', said.decode('latin-1').strip())
         print(out.decode('latin-1'))
 
 
@@ -505,38 +551,50 @@ def out_of_time(*_):
     raise OutOfTime
 
 
+# What each kind of input is made by, and the subcommands that it goes to.
+KINDS = {'lines': (batch, ['show']), 'scripts': (any_script, ['replay', 'loop']), 'boards': (plays_word, ['plays'])}
+
+
 def compare(program, rng, seen):
     """Compares until the time is over; an input that differs is returned with its mode and what was made of it."""
+    spent = dict.fromkeys(KINDS, 0)
     while True:
-        mode = 'show' if seen['show time'] <= seen['replay time'] else 'replay'
+        kind = min(spent, key=spent.get)
+        make, modes = KINDS[kind]
         start = time.monotonic()
-        data = batch(rng) if mode == 'show' else huge_script(rng) if rng.random() < 0.0005 else script(rng)
-        outcome = program.outcomes(mode, data)
-        if outcome[1] != outcome[2]:
-            return mode, outcome
-        seen['lines' if mode == 'show' else 'scripts'] += data.count(b'\n') if mode == 'show' else 1
-        note(seen, mode, outcome[1][0])
-        seen[mode + ' time'] += time.monotonic() - start
+        data = make(rng)
+        expected = getattr(reference, modes[0])(data)
+        for mode in modes:
+            outcome = program.beside(mode, data, expected)
+            if outcome[1] != outcome[2]:
+                return mode, outcome
+        seen[kind] += data.count(b'\n') if kind == 'lines' else 1
+        note(seen, kind, expected[0])
+        spent[kind] += time.monotonic() - start
 
 
-def note(seen, mode, out):
+def note(seen, kind, out):
     """Counts what was in the inputs, so that one sees whether they are worth their time."""
-    if mode == 'replay':
+    if kind == 'scripts':
         out = re.sub(rb'(?m)^(\w+) \d+', rb'\1', out)
         seen.update(re.findall(rb'^(?:clicked \w+|refused \d \w+|lost board|[a-z]+)', out, re.M))
-    else:
+    elif kind == 'lines':
         seen.update(b'show ' + line.split(b':')[0].split(b' ')[0] for line in out.splitlines())
+    else:
+        phase, *listed = out.splitlines() or [b'none']
+        longest = max((most for most in (0, 20, 60, 100, 500) if len(listed) > most), default=None)
+        seen[b'plays ' + phase + (b' above %d' % longest if longest else b'')] += 1
 
 
 def summary(seen):
-    lines, scripts = seen.pop('lines', 0), seen.pop('scripts', 0)
-    kinds = sorted(what for what in seen if isinstance(what, bytes))
-    print('seen:', ', '.join('%s %d' % (what.decode(), seen[what]) for what in kinds))
-    print('%d lines, %d scripts: %d inputs, 0 differences' % (lines, scripts, lines + scripts))
+    counts = {kind: seen.pop(kind, 0) for kind in KINDS}
+    print('seen:', ', '.join('%s %d' % (what.decode(), seen[what]) for what in sorted(seen)))
+    print('%s: %d inputs, 0 differences'
+          % (', '.join('%d %s' % (count, kind) for kind, count in counts.items()), sum(counts.values())))
     # Nothing compared is nothing found.
-    compared = bool(lines) + bool(scripts)
-    print('%d passed, %d failed' % (compared, 2 - compared))
-    return 0 if compared == 2 else 1
+    compared = sum(map(bool, counts.values()))
+    print('%d passed, %d failed' % (compared, len(KINDS) - compared))
+    return 0 if compared == len(KINDS) else 1
 
 
 def main():

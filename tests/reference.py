@@ -1,6 +1,7 @@
-"""A slow reference of `fibs show` and `fibs replay`, written from docs/FORMATS.md and docs/PLAYING.md alone.
+"""A slow reference of `fibs show`, `fibs plays` and `fibs replay`, written from docs/FORMATS.md and docs/PLAYING.md alone.
 
-`reference.py show` and `reference.py replay` read standard input and print what the program prints.
+`reference.py show`, `reference.py plays`, `reference.py replay` and `reference.py loop` read standard input, where `plays`
+has its LINE, and print what the program prints.
 """
 import functools
 import re
@@ -186,10 +187,17 @@ class Board:
         own[BAR] = 15 - sum(own)
         return tuple(own), tuple(other)
 
-    def is_good(self):
+    def fault(self):
+        """Why the board has no position, or None."""
         colour = self.fields[42]
-        return (self.fields[2] == b'You' and sum(self.checkers(colour)) + self.fields[46] <= 15
-                and sum(self.checkers(-colour)) + self.fields[47] <= 15)
+        if self.fields[2] != b'You':
+            return 'NotYou'
+        if sum(self.checkers(colour)) + self.fields[46] > 15:
+            return 'TooManyOwn'
+        return 'TooManyOther' if sum(self.checkers(-colour)) + self.fields[47] > 15 else None
+
+    def is_good(self):
+        return self.fault() is None
 
     def dice(self):
         """The dice still to play: a double is played four times; one die may stand alone."""
@@ -206,7 +214,8 @@ class Board:
             return 'OpponentActs'
         if not fields[34] and not fields[35]:
             return 'RollOrDouble'
-        return 'Move' if legal_plays(self.position(), self.dice()) != {()} else 'Passing'
+        ways = [target_of(self.position(), source, die) for die in set(self.dice()) for source in range(1, 26)]
+        return 'Passing' if set(ways) <= {None} else 'Move'
 
     def cube_allows(self, decision):
         """A cube goes up to 1,048,576, so a higher one can neither be offered nor taken."""
@@ -265,6 +274,49 @@ def legal_plays(position, dice):
         larger = max(used for _, used in found)
         found = {(steps, used) for steps, used in found if used == larger}
     return {steps for steps, _ in found}
+
+# ---- What `fibs plays` prints -------------------------------------------------------------------------------------
+
+@functools.lru_cache(maxsize=5000)
+def fullest(position, dice):
+    """How many of the dice can be used at most; and for each arrangement that is so reached the greatest such sequence."""
+    most, greatest = 0, {position: ()}
+    for die in set(dice):
+        left = list(dice)
+        left.remove(die)
+        for source in range(1, 26):
+            target = target_of(position, source, die)
+            if target is None:
+                continue
+            count, rest = fullest(after_step(position, source, target), tuple(left))
+            if count + 1 > most:
+                most, greatest = count + 1, {}
+            for reached, steps in rest.items() if count + 1 == most else ():
+                greatest[reached] = max(((source, target),) + steps, greatest.get(reached, ()))
+    return most, greatest
+
+def greatest_plays(position, dice):
+    """For each arrangement that a legal play reaches the greatest such play, in descending order."""
+    most, greatest = fullest(position, dice)
+    if most == 1 and len(dice) == 2:
+        of_larger, larger = fullest(position, (max(dice),))
+        greatest = larger if of_larger else greatest
+    return sorted(greatest.values(), reverse=True)
+
+def plays(line):
+    """What it prints for its word, the status, and what it says on standard error."""
+    if not line.startswith(b'board:'):
+        return b'', 3, b'not a board\n'
+    try:
+        board = Board(read_board(line))
+    except Malformed as wrong:
+        return b'', 3, b'malformed 0 %d %s\n' % (wrong.args[0], wrong.args[1].encode())
+    if not board.is_good():
+        return b'', 3, b'position %s\n' % board.fault().encode()
+    out = [b'phase ' + board.phase().encode()]
+    if board.phase() == 'Move':
+        out += [print_decision(play, board) for play in greatest_plays(board.position(), board.dice())]
+    return b''.join(text + b'\n' for text in out), 0, b''
 
 # ---- Commands -----------------------------------------------------------------------------------------------------
 
@@ -635,10 +687,15 @@ def replay(script):
     last, status = last_line(model, events)
     return b''.join(line + b'\n' for line in model.log) + last.encode() + b'\n', status
 
+def loop(script):
+    """Over sockets the same comes of a script."""
+    return replay(script)
+
 def main():
-    run = {'show': show, 'replay': replay}[sys.argv[1]]
-    out, status = run(sys.stdin.buffer.read())
+    run = {'show': show, 'plays': plays, 'replay': replay, 'loop': loop}[sys.argv[1]]
+    out, status, *said = run(sys.stdin.buffer.read())
     sys.stdout.buffer.write(out)
+    sys.stderr.buffer.write(b''.join(said))
     return status
 
 if __name__ == '__main__':
