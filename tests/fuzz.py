@@ -388,6 +388,8 @@ def serve(rng, model):
     which = rng.choice(ready) if ready and rng.random() < 0.99 else rng.randint(0, len(model.connections) + 1)
     if whole and rng.random() < 0.02:
         which = whole[0]
+    if not ready and rng.random() < 0.5:
+        which = len(model.connections)
     return b'serve %d %d %d' % (which, rng.randint(1, 6), rng.randint(1, 6))
 
 
@@ -402,8 +404,8 @@ def wishes(model):
     client, ready = model.client, any(b'\r\n' in c.up and c.number >= model.logged_in for c in model.connections)
     common = {told: 3, 'plain': 3, click: 2, 'repeat': 1, 'own': 1 if model.board.phase() in reference.DECIDED else 30}
     if not client.connection:
-        # The last two may not be, and end the script.
-        return {'open': 60, serve: 25 if ready else 0, **common, deliver: 0.5, lose: 0.5}
+        # The last two may not be, and end the script; so does serving where no line arrived.
+        return {'open': 60, serve: 25 if ready else 1, **common, deliver: 0.5, lose: 0.5}
     common.update({lose: 4, serve: 50 if ready else 0, deliver: 20 if client.connection.down else 2})
     if client.connection.number == model.logged_in or not ready:
         common.update({'first': 0 if client.welcomed else 40, 'settings': 1 if client.settings else 40})

@@ -259,6 +259,33 @@ def a_host_by_an_address_of_version_6(_server):
     listener.close()
 
 
+def a_host_of_which_one_address_alone_answers(_server):
+    for family, _, _, _, (address, *_) in socket.getaddrinfo('localhost', 0, type=socket.SOCK_STREAM):
+        try:
+            listener = socket.create_server((address, 0), family=family)
+        except OSError:
+            continue
+        with listener:
+            same('the run', run(['localhost', str(listener.getsockname()[1]), 'ann'], b'secret\n'), (0, '', ''))
+            connection, _ = listener.accept()
+            with connection:
+                same('received', connection.makefile('rb').read(), LOGIN.encode() + b'\r\n')
+
+
+def the_least_port_and_the_greatest(_server):
+    status, _out, said = run(['127.0.0.1', '1', 'ann'], b'secret\n')
+    same('the run at 1', (status, said), (0, ''))
+    try:
+        listener = socket.create_server(('127.0.0.1', 65535))
+    except OSError:
+        return
+    with listener:
+        same('the run at 65535', run(['127.0.0.1', '65535', 'ann'], b'secret\n'), (0, '', ''))
+        connection, _ = listener.accept()
+        with connection:
+            same('received', connection.makefile('rb').read(), LOGIN.encode() + b'\r\n')
+
+
 def hosts_that_are_none(_server):
     for host in ('', 'no host', '255.255.255.255'):
         same('the run at %r' % host, run([host, '4321', 'ann'], b'secret\nroll\n'),
@@ -488,7 +515,8 @@ def input_that_cannot_be_read(_server):
 CASES = [
     a_game_from_login_to_the_end_with_a_lost_connection_in_the_middle, nothing_listens_on_the_port,
     a_listener_that_has_not_accepted_yet, the_end_of_what_is_typed_is_as_quit, a_host_by_its_name,
-    a_host_by_an_address_of_version_6, hosts_that_are_none, ports_that_are_none,
+    a_host_by_an_address_of_version_6, a_host_of_which_one_address_alone_answers, hosts_that_are_none,
+    ports_that_are_none, the_least_port_and_the_greatest,
     one_who_opens_again_where_nothing_listens_any_more, players_are_forgotten_at_a_new_connection,
     passwords_and_names_that_are_none, the_longest_password, the_first_message_is_answered, a_player_is_noted,
     a_server_that_closes_at_once, a_server_that_resets_the_connection, a_connection_that_ends_within_a_line,

@@ -1,0 +1,206 @@
+#!/usr/bin/env python3
+"""Tests that the built program's `loop` plays over real sockets: tests/sockets.py PROGRAM
+
+It lets the program open few files alone, looks where it listens, and comes to its port as a stranger before the program's
+own client does. Prints a line for each case, and then `N passed, M failed`.
+"""
+
+import os
+import resource
+import select
+import socket
+import subprocess
+import sys
+import time
+
+PROGRAM = sys.argv[1]
+
+# How long a step may take, on a machine that does much else.
+PATIENCE = 60
+
+BOARD = ('board:You:bob:5:0:0:0:0:0:0:0:0:0:0:0:0:0:0:0:-2:0:0:0:0:0:0:0:0:0:0:1:0:1:0:0:0:0:1:1:1:0:1:-1:0:25:14:13:0:0:1'
+         ':0:0:0')
+
+# The line by which each client logs in.
+LOGIN = b'login fibs_client 1008 ann secret\r\n'
+
+# 127.0.0.1, as the system's tables spell it.
+HERE = '0100007F'
+
+LISTENS = '0A'
+
+
+class Failed(Exception):
+    """What came is not what was to come."""
+
+
+def same(what, found, wanted):
+    """They have to be the same."""
+    if found != wanted:
+        raise Failed('%s: %r, and not %r' % (what, found, wanted))
+
+
+def script(*events):
+    return '\n'.join((BOARD,) + events + ('',)).encode()
+
+
+def run(mode, given, most_files=None):
+    """A run of the program, which may have so many files open: status, output, what it says."""
+    def limit():
+        if most_files is not None:
+            resource.setrlimit(resource.RLIMIT_NOFILE, (most_files, most_files))
+
+    done = subprocess.run([PROGRAM, mode], input=given, capture_output=True, timeout=PATIENCE, preexec_fn=limit)
+    return done.returncode, done.stdout.decode('latin-1'), done.stderr.decode('latin-1')
+
+
+# -- few files -------------------------------------------------------------------------------------------------------
+
+# The standard streams, the listener, and both ends of a connection.
+STREAMS, LISTENER, ENDS = 3, 1, 2
+
+
+def a_connection_for_which_no_file_may_be_opened():
+    opens = script('open', 'lose 0')
+    for most in range(STREAMS + LISTENER, STREAMS + LISTENER + ENDS):
+        same('replay with %d files' % most, run('replay', opens, most), (0, 'opened 1\nlost 1\nend 2\n', ''))
+        same('loop with %d files' % most, run('loop', opens, most), (4, '', 'fibs: device\n'))
+
+
+def a_listener_alone_for_a_script_that_opens_nothing():
+    same('loop', run('loop', script('repeat'), STREAMS + LISTENER), (0, 'end 1\n', ''))
+
+
+def both_ends_closed_at_each_loss():
+    events = ['open', 'serve %d 1 1', 'text hello', 'deliver 3', 'lose 0']
+    opens = script(*(event % at if '%' in event else event for at in range(1, 51) for event in events))
+    wanted = ''.join('opened %d\nloggedin %d\nlost %d\n' % (at, at, at) for at in range(1, 51)) + 'end 250\n'
+    same('loop', run('loop', opens, STREAMS + LISTENER + ENDS), (0, wanted, ''))
+
+
+# -- where it listens ------------------------------------------------------------------------------------------------
+
+def own_sockets(pid):
+    """The numbers of the sockets that a program has open."""
+    found = set()
+    for file in os.listdir('/proc/%d/fd' % pid):
+        try:
+            name = os.readlink('/proc/%d/fd/%s' % (pid, file))
+        except OSError:
+            continue
+        if name.startswith('socket:['):
+            found.add(name[len('socket:['):-1])
+    return found
+
+
+def listeners(pid):
+    """The address and the port of each listener of a program."""
+    own, found = own_sockets(pid), []
+    for table in ('/proc/net/tcp', '/proc/net/tcp6'):
+        if os.path.exists(table):
+            with open(table) as rows:
+                fields = [row.split() for row in rows][1:]
+            found += [tuple(row[1].split(':')) for row in fields if row[3] == LISTENS and row[9] in own]
+    return found
+
+
+def listening(program):
+    """The same, once it has one."""
+    end = time.monotonic() + PATIENCE
+    while time.monotonic() < end:
+        found = listeners(program.pid)
+        if found:
+            return found
+        if program.poll() is not None:
+            raise Failed('the program ended with the status %d' % program.returncode)
+        time.sleep(0.02)
+    raise Failed('it listens nowhere')
+
+
+def waiting_loop():
+    """The program while it waits for its script, and its port."""
+    program = subprocess.Popen([PROGRAM, 'loop'], stdin=subprocess.PIPE, stdout=subprocess.PIPE, stderr=subprocess.PIPE)
+    try:
+        found = listening(program)
+        same('the addresses', [address for address, _ in found], [HERE])
+        return program, int(found[0][1], 16)
+    except BaseException:
+        program.kill()
+        program.communicate()
+        raise
+
+
+def a_listener_of_this_machine_alone():
+    program, _port = waiting_loop()
+    out, err = program.communicate(script('open', 'lose 0'), PATIENCE)
+    same('loop', (program.returncode, out, err), (0, b'opened 1\nlost 1\nend 2\n', b''))
+
+
+# -- a stranger ------------------------------------------------------------------------------------------------------
+
+def came_to(port, said):
+    """A connection to the port, on which these bytes were said."""
+    stranger = socket.create_connection(('127.0.0.1', port), PATIENCE)
+    stranger.sendall(said)
+    return stranger
+
+
+def a_stranger_who_stays_is_taken_for_the_client():
+    """The server hears the stranger's login and answers the stranger, so that the program's own client waits in vain."""
+    program, port = waiting_loop()
+    stranger = came_to(port, LOGIN)
+    try:
+        given = script('open', 'serve 1 1 1', 'text hello', 'deliver 3', 'text never', 'deliver 99')
+        out, err = program.communicate(given, PATIENCE)
+        same('loop', (program.returncode, out, err), (4, b'opened 1\nloggedin 1\n', b'fibs: device\n'))
+        same('the stranger heard', everything(stranger), b'hel')
+    finally:
+        stranger.close()
+        program.kill()
+        program.communicate()
+
+
+def a_stranger_who_says_nothing_and_leaves():
+    program, port = waiting_loop()
+    came_to(port, b'').close()
+    out, err = program.communicate(script('open', 'serve 1 1 1', 'repeat'), PATIENCE)
+    same('loop', (program.returncode, out, err), (4, b'opened 1\n', b'fibs: device\n'))
+
+
+def everything(stranger):
+    """All bytes that came, up to the end of the connection or its reset."""
+    heard = b''
+    while select.select([stranger], [], [], PATIENCE)[0]:
+        try:
+            more = stranger.recv(4096)
+        except ConnectionError:
+            break
+        if not more:
+            break
+        heard += more
+    return heard
+
+
+CASES = [
+    a_connection_for_which_no_file_may_be_opened, a_listener_alone_for_a_script_that_opens_nothing,
+    both_ends_closed_at_each_loss, a_listener_of_this_machine_alone, a_stranger_who_stays_is_taken_for_the_client,
+    a_stranger_who_says_nothing_and_leaves,
+]
+
+
+def main():
+    failed = 0
+    for case in CASES:
+        name = 'loop: ' + case.__name__.replace('_', ' ')
+        try:
+            case()
+            print('ok      ' + name, flush=True)
+        except (Failed, OSError, subprocess.TimeoutExpired) as error:
+            failed += 1
+            print('FAILED  %s: %.300s' % (name, error), flush=True)
+    print('%d passed, %d failed' % (len(CASES) - failed, failed))
+    return 1 if failed else 0
+
+
+if __name__ == '__main__':
+    sys.exit(main())
