@@ -1,9 +1,9 @@
 """A differential fuzz: `fuzz.py PROGRAM SECONDS [SEED]` compares PROGRAM with reference.py, byte by byte.
 
 A third of the time goes to batches of lines for `PROGRAM show`, a third to scripts, each for `PROGRAM replay` and for
-`PROGRAM loop`, a third to board lines for `PROGRAM plays`, in turn. It ends with status 1 at the first difference, which it
-makes small, and with status 0 where there was none in SECONDS of wall clock. It prints its seed, what the inputs had in
-them, and at last `N passed, M failed`: of lines, scripts and boards, those without a difference.
+`PROGRAM loop`, a third to board lines for `PROGRAM plays`, in turn. It ends with status 1 at the first difference, which
+it makes small, and with status 0 where there was none in SECONDS of wall clock. It prints its seed, what the inputs had
+in them, and at last `N passed, M failed`: of lines, scripts and boards, those without a difference.
 """
 import collections
 import random

@@ -1,7 +1,7 @@
-"""A slow reference of `fibs show`, `fibs plays` and `fibs replay`, written from docs/FORMATS.md and docs/PLAYING.md alone.
+"""A slow reference of the program, but for `fibs connect`, written from docs/FORMATS.md and docs/PLAYING.md alone.
 
-`reference.py show`, `reference.py plays`, `reference.py replay` and `reference.py loop` read standard input, where `plays`
-has its LINE, and print what the program prints.
+`reference.py show`, `reference.py plays`, `reference.py replay` and `reference.py loop` read standard input, where
+`plays` has its LINE, and print what the program prints.
 """
 import functools
 import re
@@ -279,7 +279,7 @@ def legal_plays(position, dice):
 
 @functools.lru_cache(maxsize=5000)
 def fullest(position, dice):
-    """How many of the dice can be used at most; and for each arrangement that is so reached the greatest such sequence."""
+    """How many of the dice can be used at most; for each arrangement that is so reached the greatest such sequence."""
     most, greatest = 0, {position: ()}
     for die in set(dice):
         left = list(dice)

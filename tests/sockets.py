@@ -1,13 +1,14 @@
 #!/usr/bin/env python3
 """Tests that the built program's `loop` plays over real sockets: tests/sockets.py PROGRAM
 
-It lets the program open few files alone, looks where it listens, and comes to its port as a stranger before the program's
-own client does. Prints a line for each case, and then `N passed, M failed`.
+It lets the program open few files alone, looks where it listens, and comes to its port as a stranger before the
+program's own client does. Prints a line for each case, and then `N passed, M failed`.
 """
 
 import os
 import resource
 import select
+import shutil
 import socket
 import subprocess
 import sys
@@ -18,8 +19,8 @@ PROGRAM = sys.argv[1]
 # How long a step may take, on a machine that does much else.
 PATIENCE = 60
 
-BOARD = ('board:You:bob:5:0:0:0:0:0:0:0:0:0:0:0:0:0:0:0:-2:0:0:0:0:0:0:0:0:0:0:1:0:1:0:0:0:0:1:1:1:0:1:-1:0:25:14:13:0:0:1'
-         ':0:0:0')
+BOARD = ('board:You:bob:5:0:0:0:0:0:0:0:0:0:0:0:0:0:0:0:-2:0:0:0:0:0:0:0:0:0:0:1:0:1:0:0:0:0:1:1:1:0:1:-1:0:25:14:13:0:0'
+         ':1:0:0:0')
 
 # The line by which each client logs in.
 LOGIN = b'login fibs_client 1008 ann secret\r\n'
@@ -76,6 +77,15 @@ def both_ends_closed_at_each_loss():
     opens = script(*(event % at if '%' in event else event for at in range(1, 51) for event in events))
     wanted = ''.join('opened %d\nloggedin %d\nlost %d\n' % (at, at, at) for at in range(1, 51)) + 'end 250\n'
     same('loop', run('loop', opens, STREAMS + LISTENER + ENDS), (0, wanted, ''))
+
+
+def no_port_to_listen_at():
+    """In a network of its own, in which not even 127.0.0.1 is there; where the system lets nobody make one, no test."""
+    alone = ['unshare', '--net'] if os.geteuid() == 0 else ['unshare', '--net', '--map-root-user']
+    if not shutil.which('unshare') or subprocess.run(alone + ['true'], capture_output=True).returncode:
+        return
+    done = subprocess.run(alone + [PROGRAM, 'loop'], input=script('repeat'), capture_output=True, timeout=PATIENCE)
+    same('loop', (done.returncode, done.stdout, done.stderr), (4, b'', b'fibs: device\n'))
 
 
 # -- where it listens ------------------------------------------------------------------------------------------------
@@ -146,7 +156,7 @@ def came_to(port, said):
 
 
 def a_stranger_who_stays_is_taken_for_the_client():
-    """The server hears the stranger's login and answers the stranger, so that the program's own client waits in vain."""
+    """The server hears the stranger's login and answers the stranger: the program's own client waits in vain."""
     program, port = waiting_loop()
     stranger = came_to(port, LOGIN)
     try:
@@ -183,8 +193,8 @@ def everything(stranger):
 
 CASES = [
     a_connection_for_which_no_file_may_be_opened, a_listener_alone_for_a_script_that_opens_nothing,
-    both_ends_closed_at_each_loss, a_listener_of_this_machine_alone, a_stranger_who_stays_is_taken_for_the_client,
-    a_stranger_who_says_nothing_and_leaves,
+    both_ends_closed_at_each_loss, no_port_to_listen_at, a_listener_of_this_machine_alone,
+    a_stranger_who_stays_is_taken_for_the_client, a_stranger_who_says_nothing_and_leaves,
 ]
 
 
