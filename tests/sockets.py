@@ -8,7 +8,6 @@ program's own client does. Prints a line for each case, and then `N passed, M fa
 import os
 import resource
 import select
-import shutil
 import socket
 import subprocess
 import sys
@@ -77,15 +76,6 @@ def both_ends_closed_at_each_loss():
     opens = script(*(event % at if '%' in event else event for at in range(1, 51) for event in events))
     wanted = ''.join('opened %d\nloggedin %d\nlost %d\n' % (at, at, at) for at in range(1, 51)) + 'end 250\n'
     same('loop', run('loop', opens, STREAMS + LISTENER + ENDS), (0, wanted, ''))
-
-
-def no_port_to_listen_at():
-    """In a network of its own, in which not even 127.0.0.1 is there; where the system lets nobody make one, no test."""
-    alone = ['unshare', '--net'] if os.geteuid() == 0 else ['unshare', '--net', '--map-root-user']
-    if not shutil.which('unshare') or subprocess.run(alone + ['true'], capture_output=True).returncode:
-        return
-    done = subprocess.run(alone + [PROGRAM, 'loop'], input=script('repeat'), capture_output=True, timeout=PATIENCE)
-    same('loop', (done.returncode, done.stdout, done.stderr), (4, b'', b'fibs: device\n'))
 
 
 # -- where it listens ------------------------------------------------------------------------------------------------
@@ -193,8 +183,8 @@ def everything(stranger):
 
 CASES = [
     a_connection_for_which_no_file_may_be_opened, a_listener_alone_for_a_script_that_opens_nothing,
-    both_ends_closed_at_each_loss, no_port_to_listen_at, a_listener_of_this_machine_alone,
-    a_stranger_who_stays_is_taken_for_the_client, a_stranger_who_says_nothing_and_leaves,
+    both_ends_closed_at_each_loss, a_listener_of_this_machine_alone, a_stranger_who_stays_is_taken_for_the_client,
+    a_stranger_who_says_nothing_and_leaves,
 ]
 
 
