@@ -8,12 +8,12 @@ PREFIX ?= /usr/local
 MEGABYTES ?= 50
 ROUNDS ?= 5
 PEER ?= $(if $(shell command -v rustc),bin/plain_show)
-BUILT := crates/fibs_cli/out/fibs_cli
+BUILT := crates/fibs/out/fibs
 
 .PHONY: all test install bench clean
 
 all:
-	cd crates/fibs_cli && rt run -- --help > /dev/null
+	cd crates/fibs && rt run -- --help > /dev/null
 	mkdir -p bin
 	install -m 755 $(BUILT) bin/fibs
 

@@ -3,68 +3,70 @@ use Rattle.std.proofs.Common.{◌≡◌, ◌⊎◌, ◌++◌, ◌∷◌, [], ℕ
 use Rattle.std.proofs.Common.{MatchResult, refl, sym, subst}
 use Rattle.std.specs.Borrow.{Bor}
 use Rattle.std.specs.Io.KnownBytes.{Appends, Keeps, IsAtEnd}
-use Rattle.fibs_messages.specs.Board.{BoardFields}
-use Rattle.fibs_cli.specs.Looping.{EndsScript}
-use Rattle.fibs_cli.specs.Plays.{PlaysText}
-use Rattle.fibs_cli.specs.Program.{Showed, Listed, Played, Printed, RanScript, Served}
-use Rattle.fibs_cli.specs.Replay.Output.{Replayed, ReplayFailed, ReplayedInPart}
-use Rattle.fibs_cli.specs.Show.{WroteAll, WroteRead, WroteLines, WroteFront}
-use Rattle.fibs_cli.specs.Writing.{GainedFront}
+use Rattle.fibs_boards.specs.Board.{BoardFields}
+use Rattle.fibs_loop.specs.Looping.{EndsScript}
+use Rattle.fibs_account.specs.Plays.{PlaysText}
+use Rattle.fibs_cli.specs.Program.{Streams, Showed, Listed, Played, RanScript, Served}
+use Rattle.fibs_account.specs.Printing.{Printed}
+use Rattle.fibs_scripts.specs.Replay.Output.{Replayed, ReplayFailed, ReplayedInPart}
+use Rattle.fibs_account.specs.Show.{WroteAll, WroteRead, WroteLines, WroteFront}
+use Rattle.fibs_account.specs.Writing.{GainedFront}
 use Rattle.fibs_cli.specs.declared.arguments.Request.{Request}
 use Rattle.fibs_cli.specs.declared.arguments.Request.TheVariants.{Show, Plays, Replay, Loop}
-use Rattle.fibs_cli.specs.declared.fault.EngineFault.{EngineFault}
-use Rattle.fibs_cli.specs.declared.fault.EngineFault.TheVariants.{Device, Memory}
+use Rattle.fibs_account.specs.declared.fault.EngineFault.{EngineFault}
+use Rattle.fibs_account.specs.declared.fault.EngineFault.TheVariants.{Device, Memory}
 
 -- the clauses of `show` in one
-pub showed : (r : Result ℕ EngineFault) (left still held now : Option (List ℕ)) → IfOk r (λ status. status ≡ 0) → OnOk r (WroteAll left still held now)
-    → OnOk r (IsAtEnd still) → (IsErrOf r Device → WroteRead left still held now ⊎ WroteFront left still held now)
-    → (IsErrOf r Memory → WroteLines left still held now) → Showed r left still held now
-showed (Ok status) left still held now is whole end device memory = (is, whole, end)
-showed (Err Device) left still held now is whole end device memory = device refl
-showed (Err Memory) left still held now is whole end device memory = memory refl
+pub showed : (r : Result ℕ EngineFault) (a b : Streams) → IfOk r (λ status. status ≡ 0)
+    → OnOk r (WroteAll a.input b.input a.out b.out) → OnOk r (IsAtEnd b.input)
+    → (IsErrOf r Device → WroteRead a.input b.input a.out b.out ⊎ WroteFront a.input b.input a.out b.out)
+    → (IsErrOf r Memory → WroteLines a.input b.input a.out b.out) → Showed r a b
+showed (Ok status) a b is whole end device memory = (is, whole, end)
+showed (Err Device) a b is whole end device memory = device refl
+showed (Err Memory) a b is whole end device memory = memory refl
 
 -- the clauses of `plays` for a good board in one
-pub listed : (r : Result ℕ EngineFault) (b : BoardFields) (held now : Option (List ℕ))
-    → IfOk r (λ status. (status ≡ 0) × ((text : List ℕ) × PlaysText b text × Appends held now text))
-    → (IsErrOf r Device → (text : List ℕ) × PlaysText b text × GainedFront held now text) → (IsErrOf r Memory → Keeps held now) → Listed b r held now
-listed (Ok status) b held now whole device memory = whole
-listed (Err Device) b held now whole device memory = device refl
-listed (Err Memory) b held now whole device memory = memory refl
+pub listed : (r : Result ℕ EngineFault) (board : BoardFields) (a b : Streams)
+    → IfOk r (λ status. (status ≡ 0) × ((text : List ℕ) × PlaysText board text × Appends a.out b.out text))
+    → (IsErrOf r Device → (text : List ℕ) × PlaysText board text × GainedFront a.out b.out text)
+    → (IsErrOf r Memory → Keeps a.out b.out) → Listed board r a b
+listed (Ok status) board a b whole device memory = whole
+listed (Err Device) board a b whole device memory = device refl
+listed (Err Memory) board a b whole device memory = memory refl
 
 -- a text that was printed, or a front of it
 pub printed : (r : Result ℕ EngineFault) (status : ℕ) (text : List ℕ) (held now : Option (List ℕ))
-    → MatchResult r (λ answered. (answered ≡ status) × Appends held now text) (λ fault. (fault ≡ Device) × GainedFront held now text)
+    → MatchResult r (λ answered. (answered ≡ status) × Appends held now text)
+    (λ fault. (fault ≡ Device) × GainedFront held now text)
     → Printed status text r held now
 printed (Ok answered) status text held now told = told
 printed (Err fault) status text held now told = told
 
 -- the clauses of `replay` in one
-pub ran_script : (r : Result ℕ EngineFault) (left still held now : Option (List ℕ)) → IfOk r (λ status. Replayed status left still held now)
-    → (IsErrOf r Device → ReplayFailed left still held now) → (IsErrOf r Memory → ReplayedInPart left still held now) → RanScript r left still held now
-ran_script (Ok status) left still held now done device memory = done
-ran_script (Err Device) left still held now done device memory = device refl
-ran_script (Err Memory) left still held now done device memory = memory refl
+pub ran_script : (r : Result ℕ EngineFault) (a b : Streams)
+    → IfOk r (λ status. Replayed status a.input b.input a.out b.out)
+    → (IsErrOf r Device → ReplayFailed a.input b.input a.out b.out)
+    → (IsErrOf r Memory → ReplayedInPart a.input b.input a.out b.out) → RanScript r a b
+ran_script (Ok status) a b done device memory = done
+ran_script (Err Device) a b done device memory = device refl
+ran_script (Err Memory) a b done device memory = memory refl
 
 -- a request to replay is served so
-pub served_replay : (request : Request) (r : Result ℕ EngineFault) (left still held now other then : Option (List ℕ)) → request ≡ Replay
-    → RanScript r left still held now → Keeps other then → Served request r left still held now other then
-served_replay request r left still held now other then is ran kept =
-    subst (λ q. Served q r left still held now other then) (sym is) (ran, kept)
+pub served_replay : (request : Request) (r : Result ℕ EngineFault) (a b : Streams) → request ≡ Replay
+    → RanScript r a b → Keeps a.err b.err → Served request r a b
+served_replay request r a b is ran kept = subst (λ q. Served q r a b) (sym is) (ran, kept)
 
 -- a request to show is served so
-pub served_show : (request : Request) (r : Result ℕ EngineFault) (left still held now other then : Option (List ℕ)) → request ≡ Show
-    → Showed r left still held now → Keeps other then → Served request r left still held now other then
-served_show request r left still held now other then is shown kept =
-    subst (λ q. Served q r left still held now other then) (sym is) (shown, kept)
+pub served_show : (request : Request) (r : Result ℕ EngineFault) (a b : Streams) → request ≡ Show
+    → Showed r a b → Keeps a.err b.err → Served request r a b
+served_show request r a b is shown kept = subst (λ q. Served q r a b) (sym is) (shown, kept)
 
 -- a request for the plays of a line is served so
-pub served_plays : (request : Request) (line : Bor (List ℕ)) (r : Result ℕ EngineFault) (left still held now other then : Option (List ℕ)) → request ≡ Plays line
-    → Played line.now r held now other then → Keeps left still → Served request r left still held now other then
-served_plays request line r left still held now other then is played kept =
-    subst (λ q. Served q r left still held now other then) (sym is) (played, kept)
+pub served_plays : (request : Request) (line : Bor (List ℕ)) (r : Result ℕ EngineFault) (a b : Streams)
+    → request ≡ Plays line → Played line.now r a b → Keeps a.input b.input → Served request r a b
+served_plays request line r a b is played kept = subst (λ q. Served q r a b) (sym is) (played, kept)
 
 -- a request to play a script over sockets is served so
-pub served_loop : (request : Request) (r : Result ℕ EngineFault) (left still held now other then : Option (List ℕ))
-    → request ≡ Loop → EndsScript r → Keeps other then → Served request r left still held now other then
-served_loop request r left still held now other then is ends kept =
-    subst (λ q. Served q r left still held now other then) (sym is) (ends, kept)
+pub served_loop : (request : Request) (r : Result ℕ EngineFault) (a b : Streams)
+    → request ≡ Loop → EndsScript r → Keeps a.err b.err → Served request r a b
+served_loop request r a b is ends kept = subst (λ q. Served q r a b) (sym is) (ends, kept)

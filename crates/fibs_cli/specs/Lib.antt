@@ -1,11 +1,1 @@
-pub mod Writing
-pub mod Escape
-pub mod Show
-pub mod Shows
-pub mod Reads
-pub mod Plays
-pub mod Looping
 pub mod Program
-pub mod Turns
-pub mod Converse
-pub mod Replay

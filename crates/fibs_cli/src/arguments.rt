@@ -17,7 +17,11 @@ Examples:
   fibs connect HOST PORT NAME    log in, and play
   fibs loop < double-click.txt   play the same over sockets of this machine
 
-Exit status: 0 done, 2 wrong arguments, 3 refused input, 4 a device failed, 5 out of memory";
+Exit status: 0 done, 2 wrong arguments, 3 refused input, 4 input, output or a socket of `loop` failed,
+5 out of memory";
+
+/// What `--version` says behind the program's name. CHANGELOG.md has the same number.
+const VERSION: &str = "0.1.0 (proved with rattle-kit-13b)";
 
 const SHOW: &str = "Print what each line of the server says";
 
@@ -51,7 +55,8 @@ LINE is a board line of style 3. Prints
   phase PHASE             where the game stands: Over, AnswerDouble, OpponentActs,
                           RollOrDouble, Move or Passing
 
-and in the phase Move, for each arrangement of the checkers that can be reached,
+and in the phase Move each different play, one for each arrangement of the checkers that can be
+reached,
 
   move FROM-TO ..         the command that leads there, in the place numbers of LINE;
                           of several the greatest
@@ -129,11 +134,12 @@ Then each line that is typed is one of
   invite bob 5            to a match of 5 points; `invite bob` to resume one
   join bob                the match to which bob invites; `join` too
   toggle ready            whether you are ready to play
-  toggle automove         turn off what the server plays by itself; so `toggle greedy`
+  toggle automove         turn off what the server plays by itself; so `toggle greedy`. The client
+                          hears of it at the next login: `bye`, and then `open`
   bye                     leave the server
   an empty line           hear what the server has sent meanwhile
   players                 list the players that are known
-  open                    connect again
+  open                    connect again; the server is heard after the next line
   quit                    end; so does the end of the input
 
 and is answered by one of
@@ -145,8 +151,10 @@ and is answered by one of
   player NAME RATING      for `players`, a line for each
   no connection           the server can't be reached
 
-After each line the server is heard until it is quiet for half a second. What it sends is printed as
-by `fibs show`, after a board `phase PHASE`, and `confirmed COMMAND` where it shows that a move was made.
+After each line, but not after `open`, `players` and a line that is too long, the server is heard until it
+is quiet for half a second. What it sends is printed as by `fibs show`, after a board that has a position
+`phase PHASE`, and `confirmed COMMAND` where the board that is shown is of another game than the one that
+was played on.
 `lost`, or `lost COMMAND` with what was not confirmed, says that the connection is over: nothing is
 sent again by itself, and `open` shows where the game stands.
 
@@ -191,7 +199,7 @@ pub enum Request<'a> {
 pub enum Answer<'a> {
     /// An engine runs.
     Engine(Request<'a>),
-    /// Help that was asked for.
+    /// Help, or the version, that was asked for.
     Help(String),
     /// What is wrong with the line.
     Refused(String),
@@ -219,18 +227,19 @@ fn answer_to<'a>(alloc: Global, error: &Error) -> Answer<'a> {
     }
 }
 
-/// The answer of this kind and text. Help comes where it was asked for alone, and a refusal at every other mistake.
+/// The answer of this kind and text. Help, and the version, come where they were asked for alone, and a refusal at every
+/// other mistake.
 fn answer_of<'a>(kind: ErrorKind, text: String) -> Answer<'a>
     ensures memory { kind ≡ ErrorKind.OutOfMemory → result ≡ Answer.Memory }
     ensures help { kind ≡ ErrorKind.DisplayHelp → result ≡ Answer.Help text }
-    ensures refused { kind ≢ ErrorKind.OutOfMemory → kind ≢ ErrorKind.DisplayHelp → result ≡ Answer.Refused text }
+    ensures version { kind ≡ ErrorKind.DisplayVersion → result ≡ Answer.Help text }
+    ensures refused { kind ≢ ErrorKind.OutOfMemory → kind ≢ ErrorKind.DisplayHelp → kind ≢ ErrorKind.DisplayVersion →
+        result ≡ Answer.Refused text }
 {
-    if kind == ErrorKind::OutOfMemory {
-        Answer::Memory
-    } else if kind == ErrorKind::DisplayHelp {
-        Answer::Help(text)
-    } else {
-        Answer::Refused(text)
+    match kind {
+        ErrorKind::OutOfMemory => Answer::Memory,
+        ErrorKind::DisplayHelp | ErrorKind::DisplayVersion => Answer::Help(text),
+        _ => Answer::Refused(text),
     }
 }
 
@@ -243,6 +252,7 @@ fn command<'a>(alloc: Global) -> Result<Command<'a>, AllocError> {
     Command::new(alloc, "fibs")
         .bin_name("fibs")?
         .about(ABOUT)
+        .version(VERSION)
         .after_help(EXAMPLES)
         .subcommand_required(true)
         .subcommand(show(alloc))?

@@ -1,17 +1,17 @@
 //! What the program does with a command line: which engine runs on which devices, what is printed, and the exit status.
-ghost use Rattle.std.specs.Prelude.{◌≡◌, OnOk};
-ghost use Rattle.std.specs.Io.KnownBytes.{Keeps};
-ghost use Rattle.fibs_cli.specs.Program.{Answered, Printed, Served, status_of};
-ghost use Rattle.fibs_cli.specs.Looping.{EndsScript};
+ghost use Rattle.std.specs.Prelude.{◌≡◌};
+ghost use Rattle.fibs_cli.specs.Program.{Answered, SaysWhy, Served, fault_line, status_of, streams};
+ghost use Rattle.fibs_account.specs.Printing.{Printed};
+ghost use Rattle.fibs_loop.specs.Looping.{EndsScript};
 
 use crate::arguments::{Answer, Request};
-use crate::connect::converse;
-use crate::fault::EngineFault;
-use crate::play_loop::play_loop;
-use crate::plays::plays;
-use crate::replay::replay;
-use crate::show::show;
-use crate::writing::{Progress, write_bytes};
+use fibs_account::fault::EngineFault;
+use fibs_account::plays::plays;
+use fibs_account::show::show;
+use fibs_account::writing::{Progress, write_bytes};
+use fibs_connect::connect::converse;
+use fibs_loop::play_loop::play_loop;
+use fibs_scripts::replay::replay;
 use std::alloc::Global;
 use std::io::{Read, Write};
 use std::net::{Net, TcpListener, TcpStream};
@@ -31,8 +31,9 @@ pub fn answer<N: Net<Listener = TcpListener, Stream = TcpStream>, R: Read, W: Wr
     out: &mut W,
     err: &mut E,
 ) -> Result<u8, EngineFault>
-    ensures { Answered answer.now result (R.remaining input.old) (R.remaining input.new)
-        (W.contents out.old) (W.contents out.new) (E.contents err.old) (E.contents err.new) }
+    ensures { Answered answer.now result
+        (streams (R.remaining input.old) (W.contents out.old) (E.contents err.old))
+        (streams (R.remaining input.new) (W.contents out.new) (E.contents err.new)) }
 {
     match answer {
         Answer::Engine(request) => serve(rt, alloc, *request, input, out, err),
@@ -51,8 +52,9 @@ fn serve<N: Net<Listener = TcpListener, Stream = TcpStream>, R: Read, W: Write, 
     out: &mut W,
     err: &mut E,
 ) -> Result<u8, EngineFault>
-    ensures { Served request.entry result (R.remaining input.old) (R.remaining input.new)
-        (W.contents out.old) (W.contents out.new) (E.contents err.old) (E.contents err.new) }
+    ensures { Served request.entry result
+        (streams (R.remaining input.old) (W.contents out.old) (E.contents err.old))
+        (streams (R.remaining input.new) (W.contents out.new) (E.contents err.new)) }
 {
     match request {
         Request::Show => show(alloc, input, out),
@@ -93,13 +95,24 @@ fn print_text<W: Write>(text: &[u8], status: u8, device: &mut W) -> Result<u8, E
 /// The exit status of the program, which says on `err` why an engine stopped before its end.
 pub fn status<E: Write>(ending: Result<u8, EngineFault>, err: &mut E) -> u8
     ensures status { result ≡ status_of ending }
-    ensures silent { OnOk ending (Keeps (E.contents err.old) (E.contents err.new)) }
+    ensures says { SaysWhy ending (E.contents err.old) (E.contents err.new) }
 {
     match ending {
         Ok(status) => status,
         Err(fault) => {
-            let _ = writeln!(err, "fibs: {fault}");
+            // where it can't be said, the status says it alone
+            let _said = write_bytes(line_of(fault), err);
             fault.status()
         }
+    }
+}
+
+/// The line that says why the program stopped before its end.
+fn line_of(fault: EngineFault) -> &'static [u8]
+    ensures { result.now ≡ fault_line fault }
+{
+    match fault {
+        EngineFault::Device => b"fibs: device\n",
+        EngineFault::Memory => b"fibs: memory\n",
     }
 }

@@ -16,8 +16,6 @@ mod line;
 mod lines;
 mod prompts;
 mod telnet;
-#[cfg(test)]
-mod tests;
 mod unfinished;
 
 pub use line::Line;

@@ -1,6 +1,3 @@
--- Why the definitions of boards and messages and the code agree.
-pub mod BoardLemmas
-pub mod FieldLemmas
+-- Why the definitions of messages and lines and the code agree.
 pub mod LineLemmas
 pub mod MessageLemmas
-pub mod NumberLemmas

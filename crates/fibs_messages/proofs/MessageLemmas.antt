@@ -1,6 +1,7 @@
--- Messages: their table, their lines, their faults.
+-- Messages: their table, their fields, their lines.
 pub mod CanonicalLines
-pub mod FieldFaults
+pub mod FieldTexts
+pub mod Fronts
 pub mod MessageEquality
 pub mod MessageLines
 pub mod MessageReadings

@@ -2,9 +2,9 @@
 use Rattle.std.specs.Prelude.{List, map}
 use Rattle.fibs_messages.specs.declared.messages.print.Field.{Field}
 use Rattle.fibs_messages.specs.declared.messages.print.Field.TheVariants.{Name, Word, Tail, Flag, Number, Rating, Text}
-use Rattle.fibs_messages.specs.Field.{FieldValue, NameField, WordField, TailField, FlagField, NumberField, RatingField}
-use Rattle.fibs_messages.specs.Field.{TextField}
-use Rattle.fibs_messages.specs.Bytes.{name_bytes, word_bytes, tail_bytes}
+use Rattle.fibs_fields.specs.Field.{FieldValue, NameField, WordField, TailField, FlagField, NumberField, RatingField}
+use Rattle.fibs_fields.specs.Field.{TextField}
+use Rattle.fibs_fields.specs.Bytes.{name_bytes, word_bytes, tail_bytes}
 
 -- a field that is printed
 abbrev pub value_of : Field → FieldValue

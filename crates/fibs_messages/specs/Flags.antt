@@ -1,6 +1,6 @@
 -- The flags of message 2, own info, that a client answers to (FIBS CLIP specification 1008).
 use Rattle.std.specs.Prelude.{◌≡◌, ℕ, Bool, false, Option, Some, slice_get}
-use Rattle.fibs_messages.specs.Field.{FieldValue, FlagField}
+use Rattle.fibs_fields.specs.Field.{FieldValue, FlagField}
 use Rattle.fibs_messages.specs.Message.{MessageValue, message_of}
 use Rattle.fibs_messages.specs.declared.messages.message.Message.TheVariants.{OwnInfo as TheOwnInfo}
 use Rattle.fibs_messages.specs.declared.messages.message.OwnInfo.{OwnInfo}

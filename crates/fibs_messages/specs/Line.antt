@@ -2,18 +2,19 @@
 use Rattle.std.specs.Prelude.{◌≡◌, ◌==◌, ◌⊎◌, List, [], ◌∷◌, ℕ, ℤ, pos, Option, Some, None, Result, Ok, Err, codes}
 use Rattle.std.specs.Prelude.{true, if◌then◌else◌}
 use Rattle.std.specs.List.{starts_with}
-use Rattle.fibs_messages.specs.Board.{BoardFields, BoardText, Wrong, field_values, kinds, pieces, without_spaces}
-use Rattle.fibs_messages.specs.BoardReading.{first_fault}
-use Rattle.fibs_messages.specs.Decimal.{number_in}
-use Rattle.fibs_messages.specs.Field.{FieldValue}
-use Rattle.fibs_messages.specs.FieldReading.{fields_at, left}
+use Rattle.fibs_boards.specs.Board.{BoardFields, BoardText, Wrong, field_values, kinds, pieces}
+use Rattle.fibs_fields.specs.Spaces.{without_spaces}
+use Rattle.fibs_boards.specs.BoardReading.{first_fault}
+use Rattle.fibs_fields.specs.Decimal.{number_in}
+use Rattle.fibs_fields.specs.Field.{FieldValue}
+use Rattle.fibs_fields.specs.FieldReading.{fields_at, left}
 use Rattle.fibs_messages.specs.Message.{MessageValue, MessageText, IsNumbered, WrongMessage, kinds_of, kept}
 use Rattle.fibs_messages.specs.Message.{number_word, message_of}
-use Rattle.fibs_messages.specs.Split.{before, after}
-use Rattle.fibs_messages.specs.declared.fields.fault.FieldFault.{FieldFault}
-use Rattle.fibs_messages.specs.declared.fields.fault.Fault.{Fault}
-use Rattle.fibs_messages.specs.declared.fields.values.Values.{Values}
-use Rattle.fibs_messages.specs.StoredBoard.{fields_of}
+use Rattle.fibs_fields.specs.Split.{before, after}
+use Rattle.fibs_fields.specs.declared.fault.FieldFault.{FieldFault}
+use Rattle.fibs_fields.specs.declared.fault.Fault.{Fault}
+use Rattle.fibs_fields.specs.declared.values.Values.{Values}
+use Rattle.fibs_boards.specs.StoredBoard.{fields_of}
 use Rattle.fibs_messages.specs.declared.line.Reading.{Reading}
 use Rattle.fibs_messages.specs.declared.line.Reading.TheVariants.{Numbered, Board, Text, Malformed}
 

@@ -1,13 +1,13 @@
 -- How a line is read. No public contract rests on it.
 use Rattle.std.specs.Prelude.{◌≡◌, ℕ, List, Some, None, Result, Ok, Err}
-use Rattle.fibs_messages.specs.declared.fields.fault.FieldFault.{FieldFault}
+use Rattle.fibs_fields.specs.declared.fault.FieldFault.{FieldFault}
 use Rattle.fibs_messages.specs.declared.line.Beginning.{Beginning}
 use Rattle.fibs_messages.specs.declared.line.Beginning.TheVariants.{Board, Number, Other}
-use Rattle.fibs_messages.specs.Field.{FieldValue}
-use Rattle.fibs_messages.specs.FieldReading.{fields_at, left}
+use Rattle.fibs_fields.specs.Field.{FieldValue}
+use Rattle.fibs_fields.specs.FieldReading.{fields_at, left}
 use Rattle.fibs_messages.specs.Line.{IsBoardLine, ReadingValue, numbered_line, board_line, text_line, malformed_line}
 use Rattle.fibs_messages.specs.Message.{IsNumber, kinds_of, kept, number_word}
-use Rattle.fibs_messages.specs.Split.{before, after}
+use Rattle.fibs_fields.specs.Split.{before, after}
 
 -- how a line begins: with `board:`, else with a number from 1 to 19 before a space or the end, else with neither
 abbrev pub BeginsAs : List ℕ → Beginning → Type 0

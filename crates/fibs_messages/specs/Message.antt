@@ -3,12 +3,12 @@ use Rattle.std.specs.Prelude.{◌≡◌, ℕ, ◌≤◌, ◌+◌, ◌-◌, Bool,
 use Rattle.std.specs.Prelude.{Some, None, decimal, map, replicate, if◌then◌else◌}
 use Rattle.std.specs.Int.{is_in_range}
 use Rattle.std.specs.List.{flat_map, AllByRecursion}
-use Rattle.fibs_messages.specs.declared.fields.fault.Fault.{Fault}
-use Rattle.fibs_messages.specs.Board.{without_spaces}
-use Rattle.fibs_messages.specs.Field.{Kind, a_name, a_word, a_tail, a_flag, a_number, a_rating, a_text, FieldValue}
-use Rattle.fibs_messages.specs.Field.{NameField, WordField, TailField, FlagField, NumberField, RatingField, TextField}
-use Rattle.fibs_messages.specs.Field.{kind_of, IsValue, Spells, canonical_text, texts_for, fault_at, IsFirstFault}
-use Rattle.fibs_messages.specs.Split.{before, after}
+use Rattle.fibs_fields.specs.declared.fault.Fault.{Fault}
+use Rattle.fibs_fields.specs.Spaces.{without_spaces}
+use Rattle.fibs_fields.specs.Field.{Kind, a_name, a_word, a_tail, a_flag, a_number, a_rating, a_text, FieldValue}
+use Rattle.fibs_fields.specs.Field.{NameField, WordField, TailField, FlagField, NumberField, RatingField, TextField}
+use Rattle.fibs_fields.specs.Field.{kind_of, IsValue, Spells, canonical_text, texts_for, fault_at, IsFirstFault}
+use Rattle.fibs_fields.specs.Split.{before, after}
 use Rattle.fibs_messages.specs.declared.messages.message.Message.{Message}
 use Rattle.fibs_messages.specs.declared.messages.message.Message.TheVariants.{Welcome, OwnInfo as TheOwnInfo, MotdBegin}
 use Rattle.fibs_messages.specs.declared.messages.message.Message.TheVariants.{MotdEnd, WhoInfo as TheWhoInfo}
@@ -19,7 +19,7 @@ use Rattle.fibs_messages.specs.declared.messages.message.Message.TheVariants.{Ki
 use Rattle.fibs_messages.specs.declared.messages.message.Message.TheVariants.{YouKibitz}
 use Rattle.fibs_messages.specs.declared.messages.message.OwnInfo.{OwnInfo}
 use Rattle.fibs_messages.specs.declared.messages.message.WhoInfo.{WhoInfo}
-use Rattle.fibs_messages.specs.Bytes.{name_bytes, word_bytes, tail_bytes}
+use Rattle.fibs_fields.specs.Bytes.{name_bytes, word_bytes, tail_bytes}
 
 -- a row of the table: a message's number, and the kinds of its fields in their order
 pub record Row : Type 0 where

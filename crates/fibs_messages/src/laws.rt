@@ -1,12 +1,10 @@
-//! Laws of boards, messages and their lines.
+//! Laws of messages and their lines. Those of fields and of boards stand in fibs_fields and fibs_boards.
 
-ghost use Rattle.std.specs.Prelude.{◌<◌, ◌≤◌, ◌≡◌, ◌↔◌, ◌⊎◌, ℕ, List, Ok, Some, IsTrue, All, decimal, length, map};
-ghost use Rattle.std.specs.Prelude.{true};
-ghost use Rattle.fibs_messages.specs.Board.{BoardFields, IsBoard, BoardText, Wrong, is_board, spelling};
+ghost use Rattle.std.specs.Prelude.{◌<◌, ◌≤◌, ◌≡◌, ◌↔◌, ◌⊎◌, ℕ, List, IsTrue, All, length, map};
+ghost use Rattle.fibs_boards.specs.Board.{BoardFields, IsBoard, spelling};
 ghost use Rattle.fibs_messages.specs.Bits.{HasBits};
-ghost use Rattle.fibs_messages.specs.Decimal.{decimal_up_to, numbers_of_32_bits, numbers_of_64_bits};
-ghost use Rattle.fibs_messages.specs.Field.{kind_of};
-ghost use Rattle.fibs_messages.specs.FieldRanges.{FieldRanges};
+ghost use Rattle.fibs_fields.specs.Decimal.{numbers_of_32_bits, numbers_of_64_bits};
+ghost use Rattle.fibs_fields.specs.Field.{kind_of};
 ghost use Rattle.fibs_messages.specs.Flags.{FlagsAreTheFields};
 ghost use Rattle.fibs_messages.specs.Line.{IsBoardLine, IsReading, ReadingIsExact, ReadingValue, numbered_line};
 ghost use Rattle.fibs_messages.specs.Line.{reading_of};
@@ -14,72 +12,21 @@ ghost use Rattle.fibs_messages.specs.Message.{HasNumber, IsMessage, IsNumber, Is
 ghost use Rattle.fibs_messages.specs.Message.{WrongMessage, canonical, kinds_of, message_of, own_info_fields};
 ghost use Rattle.fibs_messages.specs.Message.{who_info_fields};
 ghost use Rattle.fibs_messages.specs.declared.messages.message.Message.{Message};
-ghost use Rattle.fibs_messages.specs.Bytes.{name_bytes, tail_bytes, word_bytes};
-ghost use Rattle.fibs_messages.specs.Printed.{IsPrinted};
-ghost use Rattle.fibs_messages.specs.StoredBoard.{fields_of, read_fields};
-ghost use Rattle.fibs_messages.specs.declared.boards.board.Board.{Board};
+ghost use Rattle.fibs_boards.specs.Printed.{IsPrinted};
 ghost use Rattle.fibs_messages.specs.declared.messages.message.OwnInfo.{OwnInfo};
 
-use crate::boards::board::Board;
-use crate::fields::fault::{Fault, FieldFault};
-use crate::fields::name::Name;
-use crate::fields::word::{Tail, Word};
 use crate::line::{Reading, read};
 use crate::messages::message::{Message, OwnInfo, WhoInfo};
-
-/// What is printed is read again as the same board.
-pub fn print_reads_back(board: &Board) -> Result<Board, FieldFault>
-    ensures { read_fields result ≡ Ok (fields_of board.now) }
-{
-    Board::read(board.print().as_slice())
-}
-
-/// Two boards have one spelling exactly if they are one.
-pub fn spellings_tell_boards()
-    ensures { (a b : BoardFields) → IsBoard a → IsBoard b → (spelling a ≡ spelling b) ↔ (a ≡ b) }
-{}
-
-/// Two boards are equal exactly if their 53 fields are.
-pub fn fields_tell_boards(a: &Board, b: &Board) -> bool
-    ensures { IsTrue result ↔ (fields_of a.now ≡ fields_of b.now) }
-{
-    *a == *b
-}
-
-/// Two faults are equal exactly where they are one.
-pub fn faults_are_themselves(a: Fault, b: Fault) -> bool
-    ensures { IsTrue result ↔ (a ≡ b) }
-{
-    a == b
-}
-
-/// Two wrong fields are equal exactly where they have one number and one fault.
-pub fn field_faults_are_their_parts(a: &FieldFault, b: &FieldFault) -> bool
-    ensures { IsTrue result ↔ (a.now ≡ b.now) }
-{
-    *a == *b
-}
-
-/// Two names are equal exactly where their bytes are.
-pub fn names_are_their_bytes(a: &Name<'_>, b: &Name<'_>) -> bool
-    ensures { IsTrue result ↔ (name_bytes a.now ≡ name_bytes b.now) }
-{
-    *a == *b
-}
-
-/// Two words are equal exactly where their bytes are.
-pub fn words_are_their_bytes(a: &Word<'_>, b: &Word<'_>) -> bool
-    ensures { IsTrue result ↔ (word_bytes a.now ≡ word_bytes b.now) }
-{
-    *a == *b
-}
-
-/// Two tails are equal exactly where their bytes are.
-pub fn tails_are_their_bytes(a: &Tail<'_>, b: &Tail<'_>) -> bool
-    ensures { IsTrue result ↔ (tail_bytes a.now ≡ tail_bytes b.now) }
-{
-    *a == *b
-}
+pub use fibs_boards::laws::{
+    boards_are_valid, each_line_is_one_board_or_wrong, fields_have_their_ranges,
+    fields_tell_boards, is_board_is_exact, print_reads_back, prints_tell_boards,
+    spellings_tell_boards,
+};
+use fibs_fields::fault::Fault;
+pub use fibs_fields::laws::{
+    decimals_are_exact, faults_are_themselves, field_faults_are_their_parts, names_are_their_bytes,
+    tails_are_their_bytes, words_are_their_bytes,
+};
 
 /// Two settings of message 2 are equal exactly where their fields are.
 pub fn own_infos_are_their_fields(a: &OwnInfo<'_>, b: &OwnInfo<'_>) -> bool
@@ -108,24 +55,6 @@ pub fn readings_are_what_they_say(a: &Reading<'_>, b: &Reading<'_>) -> bool
 {
     *a == *b
 }
-
-/// Two boards are printed alike exactly if their 53 fields are.
-pub fn prints_tell_boards(a: &Board, b: &Board) -> bool
-    ensures { IsTrue result ↔ (fields_of a.now ≡ fields_of b.now) }
-{
-    a.print().as_slice() == b.print().as_slice()
-}
-
-/// Each line says a board or has a first wrong field, never both, and no second one of either.
-pub fn each_line_is_one_board_or_wrong()
-    ensures either { (line : List ℕ) →
-        ((b : BoardFields) × BoardText b line) ⊎ ((k : ℕ) × (f : Fault) × Wrong line k f) }
-    ensures not_both { (line : List ℕ) → (b : BoardFields) → (k : ℕ) → (f : Fault) →
-        BoardText b line → Wrong line k f → ⊥ }
-    ensures one_board { (line : List ℕ) → (a b : BoardFields) → BoardText a line → BoardText b line → a ≡ b }
-    ensures one_fault { (line : List ℕ) → (k m : ℕ) → (f g : Fault) →
-        Wrong line k f → Wrong line m g → (k ≡ m) × (f ≡ g) }
-{}
 
 /// A numbered line says a message or has a first wrong field, never both, and no second one of either.
 pub fn each_numbered_line_is_one_message_or_wrong()
@@ -161,30 +90,9 @@ pub fn spellings_are_lines()
     ensures begins { (b : BoardFields) → IsBoard b → IsBoardLine (spelling b) }
 {}
 
-/// The fields of each board are a board.
-pub fn boards_are_valid()
-    ensures { (board : Board) → IsBoard (fields_of board) }
-{}
-
-/// The test of boards says yes of boards, and of nothing else.
-pub fn is_board_is_exact()
-    ensures { (b : BoardFields) → (is_board b ≡ true) ↔ IsBoard b }
-{}
-
-/// Which numbers each group of fields may have, and that each board keeps to it.
-pub fn fields_have_their_ranges()
-    ensures { FieldRanges }
-{}
-
 /// The flags of message 2 are its fields of these names.
 pub fn flags_are_the_fields()
     ensures { (info : OwnInfo) → FlagsAreTheFields info }
-{}
-
-/// A text is read as a number up to a limit exactly where it is what is written of that number.
-pub fn decimals_are_exact()
-    ensures { (limit n : ℕ) → (text : List ℕ) → limit < numbers_of_64_bits →
-        (decimal_up_to limit text ≡ Some n) ↔ ((text ≡ decimal n) × (n ≤ limit)) }
 {}
 
 /// The canonical line of a message says it, and messages with one canonical line are one.

@@ -1,19 +1,19 @@
 //! Lines of the server.
 
 ghost use Rattle.std.specs.Prelude.{◌≡◌, ◌↔◌, ℕ, List, Some, IfSome};
-ghost use Rattle.fibs_messages.specs.Board.{BoardFields, BoardText};
+ghost use Rattle.fibs_boards.specs.Board.{BoardFields, BoardText};
 ghost use Rattle.fibs_messages.specs.Line.{IsBoardLine, IsMalformed, IsText, ReadingValue, numbered_line, board_line};
 ghost use Rattle.fibs_messages.specs.Line.{text_line, malformed_line, IsOfNumber, IsReading, reading_value, reading_of};
 ghost use Rattle.fibs_messages.specs.LineReading.{BeginsAs, IsAsRead};
 ghost use Rattle.fibs_messages.specs.Message.{number_word, HasNumber, IsNumber, MessageValue, MessageText};
-ghost use Rattle.fibs_messages.specs.Split.{before};
+ghost use Rattle.fibs_fields.specs.Split.{before};
 
-use crate::boards::board::Board;
-use crate::fields::fault::{Fault, FieldFault};
-use crate::fields::split::split;
 use crate::messages::message::Message;
 use crate::messages::number::{number_of, rest_of};
 use crate::messages::read::read_message;
+use fibs_boards::board::Board;
+use fibs_fields::fault::{Fault, FieldFault};
+use fibs_fields::split::split;
 
 /// What a line of the server is.
 #[derive(Clone, Copy, Debug, PartialEq, Eq)]

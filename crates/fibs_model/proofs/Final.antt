@@ -3,7 +3,7 @@ use Rattle.std.proofs.Common.{◌≡◌, ℕ, ◌+◌, ◌<◌, ◌≤◌, Bool,
 use Rattle.std.proofs.Common.{take, drop, length, refl, sym, ◌∙◌, ap, subst, inl, inr, ◌⊎◌, true≢false, arith}
 use Rattle.std.proofs.Common.{length-append}
 use Rattle.std.proofs.lemmas.Bool.Decides.{eqb_tells}
-use Rattle.fibs_messages.specs.Board.{BoardFields as Board}
+use Rattle.fibs_boards.specs.Board.{BoardFields as Board}
 use Rattle.fibs_position.specs.DecisionValue.{DecisionValue as Decision}
 use Rattle.fibs_session.specs.declared.refusal.Refusal.{Refusal}
 use Rattle.fibs_session.specs.History.Log.{Opened, LoggedIn, Welcomed, Informed, Shown, Took, Lost}
@@ -35,9 +35,9 @@ use Rattle.fibs_model.proofs.joint.Sending.{if_fact, same_test}
 use Rattle.fibs_model.proofs.joint.Click.{yes}
 use Rattle.fibs_model.proofs.joint.EachEvent.{served, joint_after, joint_start}
 use Rattle.fibs_model.proofs.log.Told.{Told, told_plain, told_no, told_yes, told_took, answered, on_shown}
-use Rattle.fibs_session.specs.PlainCommands.{PlainValue}
+use Rattle.fibs_commands.specs.PlainCommands.{PlainValue}
 use Rattle.fibs_session.specs.History.Hearing.{line_reading}
-use Rattle.fibs_messages.specs.Board.{spelling}
+use Rattle.fibs_boards.specs.Board.{spelling}
 use Rattle.fibs_session.specs.History.Machine.{allows}
 use Rattle.fibs_position.specs.GamePart.{same_game}
 use Rattle.fibs_position.specs.GoodBoard.{good as is_good}

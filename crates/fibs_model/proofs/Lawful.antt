@@ -2,14 +2,14 @@
 use Rattle.std.proofs.Common.{◌≡◌, ℕ, true, false, List, [], ◌∷◌, Some, None, nat_eq}
 use Rattle.fibs_lines.specs.Lines.{ReadLine, lines_of}
 use Rattle.fibs_lines.specs.StreamLaws.{EmptyStreamHasNoLine, LinesOnlyGrow, WhatFollowsALineEndReadsAlone}
-use Rattle.fibs_messages.specs.Board.{BoardFields, spelling}
+use Rattle.fibs_boards.specs.Board.{BoardFields, spelling}
 use Rattle.fibs_messages.specs.Line.{board_line}
 use Rattle.fibs_messages.specs.Message.{MessageValue}
 use Rattle.fibs_position.specs.DecisionValue.{DecisionValue}
 use Rattle.fibs_position.specs.GoodBoard.{good}
 use Rattle.fibs_position.specs.GamePart.{same_game}
-use Rattle.fibs_session.specs.PlainCommands.{PlainValue, plain_of, plain_fault_of}
-use Rattle.fibs_session.specs.FirstCommands.{style_text}
+use Rattle.fibs_commands.specs.PlainCommands.{PlainValue, plain_of, plain_fault_of}
+use Rattle.fibs_commands.specs.FirstCommands.{style_text}
 use Rattle.fibs_session.specs.History.Hearing.{initial_commands}
 use Rattle.fibs_session.specs.History.Words.{IsLikeness}
 use Rattle.fibs_session.specs.History.Hearing.{line_reading}

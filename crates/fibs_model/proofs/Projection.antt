@@ -5,12 +5,12 @@ use Rattle.std.proofs.Common.{append_assoc, length-append, arith, if◌then◌el
 use Rattle.std.proofs.lemmas.Bool.Decides.{eqb_tells}
 use Rattle.std.proofs.lemmas.List.Concat.{flat_map-append}
 use Rattle.fibs_lines.specs.Lines.{ReadLine}
-use Rattle.fibs_messages.specs.Board.{spelling}
+use Rattle.fibs_boards.specs.Board.{spelling}
 use Rattle.fibs_messages.specs.Line.{ReadingValue, numbered_line, board_line, text_line, malformed_line}
 use Rattle.fibs_position.specs.DecisionValue.{DecisionValue}
 use Rattle.fibs_position.specs.GamePart.{same_game}
 use Rattle.fibs_position.specs.GoodBoard.{good}
-use Rattle.fibs_session.specs.PlainCommands.{PlainValue, plain_of}
+use Rattle.fibs_commands.specs.PlainCommands.{PlainValue, plain_of}
 use Rattle.fibs_session.specs.declared.refusal.Refusal.{Refusal}
 use Rattle.fibs_session.specs.declared.refusal.PlainRefusal.{PlainRefusal}
 use Rattle.fibs_session.specs.History.Log.{Entry}

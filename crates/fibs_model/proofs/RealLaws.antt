@@ -6,20 +6,20 @@ use Rattle.std.proofs.lemmas.Bool.{and_parts}
 use Rattle.std.proofs.lemmas.Bool.Decides.{nat_tests}
 use Rattle.std.proofs.lemmas.List.Elements.{All-head, All-tail, All-weaker}
 use Rattle.fibs_lines.specs.Lines.{lines_of}
-use Rattle.fibs_messages.specs.Board.{BoardFields, IsBoard, spelling}
+use Rattle.fibs_boards.specs.Board.{BoardFields, IsBoard, spelling}
 use Rattle.fibs_messages.specs.Flags.{autoboard, moreboards}
 use Rattle.fibs_messages.specs.Line.{IsReading, board_line, reading_value}
-use Rattle.fibs_messages.specs.Printed.{IsPrinted}
+use Rattle.fibs_boards.specs.Printed.{IsPrinted}
 use Rattle.fibs_position.specs.Allowed.{allowed_of}
 use Rattle.fibs_position.specs.DecisionValue.{DecisionValue, IsDecision}
 use Rattle.fibs_position.specs.DirectionOf.{direction_of}
 use Rattle.fibs_position.specs.GoodBoard.{IsGood, good as is_good}
 use Rattle.fibs_position.specs.declared.disallowed.Disallowed.{Disallowed}
-use Rattle.fibs_session.specs.Commands.{command_of}
-use Rattle.fibs_session.specs.CommandLaws.{IsOther}
-use Rattle.fibs_session.specs.FirstCommands.{autoboard_text, moreboards_text, board_text}
+use Rattle.fibs_commands.specs.Commands.{command_of}
+use Rattle.fibs_commands.specs.CommandLaws.{IsOther}
+use Rattle.fibs_commands.specs.FirstCommands.{autoboard_text, moreboards_text, board_text}
 use Rattle.fibs_session.specs.History.Machine.{refusal_of, allows, on_wire}
-use Rattle.fibs_session.specs.Logins.{IsLogin, login_text}
+use Rattle.fibs_commands.specs.Logins.{IsLogin, login_text}
 use Rattle.fibs_model.specs.Events.{Event}
 use Rattle.fibs_model.specs.Headline.{Headline}
 use Rattle.fibs_model.specs.Runs.{MayBe, world_after}

@@ -1,6 +1,6 @@
 -- What the server does on each connection, one act after another, over a list of events.
 use Rattle.std.specs.Prelude.{ℕ, List, [], ◌∷◌, ◌++◌, Option, Some, None, if◌then◌else◌, nat_eq, flat_map}
-use Rattle.fibs_messages.specs.Board.{BoardFields, spelling}
+use Rattle.fibs_boards.specs.Board.{BoardFields, spelling}
 use Rattle.fibs_position.specs.DecisionValue.{DecisionValue}
 use Rattle.fibs_session.specs.History.Machine.{on_wire}
 use Rattle.fibs_session.specs.History.Words.{is_empty}

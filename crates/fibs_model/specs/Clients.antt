@@ -1,6 +1,6 @@
 -- The client's side of the world: what the client's own machine says of the newest connection.
 use Rattle.std.specs.Prelude.{◌⊎◌, ◌≡◌, ◌<◌, ℕ, List, [], ◌∷◌, ◌++◌, Option, Some, None, take}
-use Rattle.fibs_messages.specs.Board.{BoardFields}
+use Rattle.fibs_boards.specs.Board.{BoardFields}
 use Rattle.fibs_session.specs.History.Log.{Entry}
 use Rattle.fibs_session.specs.History.Words.{open_now, connections}
 use Rattle.fibs_session.specs.History.Machine.{InputValue, step, noted, wire_of}

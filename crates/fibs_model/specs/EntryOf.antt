@@ -1,7 +1,7 @@
 -- Entries of the program as values.
 use Rattle.std.specs.Prelude.{option_map}
 use Rattle.std.specs.Result.{result_err}
-use Rattle.fibs_messages.specs.StoredBoard.{fields_of}
+use Rattle.fibs_boards.specs.StoredBoard.{fields_of}
 use Rattle.fibs_position.specs.DecisionValue.{decision_of}
 use Rattle.fibs_session.specs.History.Log as V
 use Rattle.fibs_session.specs.Calls.SessionOf.{ask_of}

@@ -1,8 +1,8 @@
 -- Events of the program as values.
 use Rattle.std.specs.Prelude.{slice_index}
-use Rattle.fibs_messages.specs.StoredBoard.{fields_of}
+use Rattle.fibs_boards.specs.StoredBoard.{fields_of}
 use Rattle.fibs_position.specs.DecisionValue.{decision_of}
-use Rattle.fibs_session.specs.PlainOf.{plain_value}
+use Rattle.fibs_commands.specs.PlainOf.{plain_value}
 use Rattle.fibs_model.specs.Events as V
 use Rattle.fibs_model.specs.declared.event.Event.{Event}
 use Rattle.fibs_model.specs.declared.event.Event.TheVariants as E

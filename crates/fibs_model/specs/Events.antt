@@ -1,8 +1,8 @@
 -- What may happen in the world.
 use Rattle.std.specs.Prelude.{ℕ, List}
-use Rattle.fibs_messages.specs.Board.{BoardFields}
+use Rattle.fibs_boards.specs.Board.{BoardFields}
 use Rattle.fibs_position.specs.DecisionValue.{DecisionValue}
-use Rattle.fibs_session.specs.PlainCommands.{PlainValue}
+use Rattle.fibs_commands.specs.PlainCommands.{PlainValue}
 
 -- an event, with all that is chosen in it
 pub data Event : Type 0 where

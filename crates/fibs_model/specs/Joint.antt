@@ -2,11 +2,11 @@
 -- connection, after every list of events.
 use Rattle.std.specs.Prelude.{◌≡◌, ℕ, ◌<◌, Bool, true, false, List, [], ◌∷◌, ◌++◌, Option, Some, None, nat_eq}
 use Rattle.std.specs.Prelude.{flat_map}
-use Rattle.fibs_messages.specs.Board.{BoardFields}
+use Rattle.fibs_boards.specs.Board.{BoardFields}
 use Rattle.fibs_position.specs.GoodBoard.{IsGood}
 use Rattle.fibs_session.specs.History.Log.{Entry, Took, Undone}
 use Rattle.fibs_session.specs.History.Words.{Ask, one_if, open_now, sent, shown}
-use Rattle.fibs_session.specs.Logins.{IsLogin, login_text}
+use Rattle.fibs_commands.specs.Logins.{IsLogin, login_text}
 use Rattle.fibs_model.specs.Acts.{Act, Shows, Says, Serves, put_by, acts_after}
 use Rattle.fibs_model.specs.Events.{Event}
 use Rattle.fibs_model.specs.Runs.{MayBe, world_after}

@@ -1,8 +1,8 @@
 -- What holds after every list of events that may be, from every good first board on, for every login.
 use Rattle.std.specs.Prelude.{ℕ, List}
-use Rattle.fibs_messages.specs.Board.{BoardFields}
+use Rattle.fibs_boards.specs.Board.{BoardFields}
 use Rattle.fibs_position.specs.GoodBoard.{IsGood}
-use Rattle.fibs_session.specs.Logins.{IsLogin, login_text}
+use Rattle.fibs_commands.specs.Logins.{IsLogin, login_text}
 use Rattle.fibs_model.specs.Events.{Event}
 use Rattle.fibs_model.specs.World.{World}
 use Rattle.fibs_model.specs.Runs.{MayBe, world_after}

@@ -1,6 +1,6 @@
 -- Whether a connection has moved on from the last decision sent there.
 use Rattle.std.specs.Prelude.{ℕ, Bool, false, not, ◌&&◌, List, [], ◌∷◌, if◌then◌else◌, nat_eq}
-use Rattle.fibs_messages.specs.Board.{BoardFields}
+use Rattle.fibs_boards.specs.Board.{BoardFields}
 use Rattle.fibs_session.specs.History.Log.{Entry, Sent}
 use Rattle.fibs_session.specs.History.Words.{is_empty, each, shown, sent}
 

@@ -2,12 +2,12 @@
 use Rattle.std.specs.Prelude.{◌≡◌, ℕ, ◌≤◌, List, length, All}
 use Rattle.fibs_lines.specs.StreamLaws.{EmptyStreamHasNoLine, LinesOnlyGrow, WhatFollowsALineEndReadsAlone}
 use Rattle.fibs_lines.specs.StreamLaws.{SendableTextIsItsLine}
-use Rattle.fibs_messages.specs.Board.{BoardFields, IsBoard, spelling}
+use Rattle.fibs_boards.specs.Board.{BoardFields, IsBoard, spelling}
 use Rattle.fibs_messages.specs.Line.{ReadingValue, IsReading, IsBoardLine, ReadingIsExact}
-use Rattle.fibs_messages.specs.Printed.{IsPrinted}
+use Rattle.fibs_boards.specs.Printed.{IsPrinted}
 use Rattle.fibs_position.specs.Laws.{GoodIsExact, SameGameIsALikeness, AllowedDecides, AllowedIsADecision, AllowedActs}
-use Rattle.fibs_session.specs.CommandLaws.{CommandsArePrinted, ReadCommandIsExact, LoginIsOther, StyleIsOther}
-use Rattle.fibs_session.specs.CommandLaws.{PlainIsOther, InitialAreOther}
+use Rattle.fibs_commands.specs.CommandLaws.{CommandsArePrinted, ReadCommandIsExact, LoginIsOther, StyleIsOther}
+use Rattle.fibs_commands.specs.CommandLaws.{PlainIsOther, InitialAreOther}
 
 pub record Owed : Type 0 where
   pub empty : EmptyStreamHasNoLine

@@ -1,7 +1,7 @@
 -- Lists of events. The world after a list is a function of the first board, the login and the events, in which all
 -- choices stand.
 use Rattle.std.specs.Prelude.{◌≡◌, ℕ, List, [], ◌∷◌, None}
-use Rattle.fibs_messages.specs.Board.{BoardFields}
+use Rattle.fibs_boards.specs.Board.{BoardFields}
 use Rattle.fibs_model.specs.Events.{Event}
 use Rattle.fibs_model.specs.World.{World, start, after}
 use Rattle.fibs_model.specs.Refusals.{refusal}

@@ -1,14 +1,14 @@
 -- The model server: what it answers to a line, by its board and by the number of the connection that is logged in.
 use Rattle.std.specs.Prelude.{ℕ, Bool, true, false, not, ◌&&◌, List, [], ◌∷◌, Option, Some, None, if◌then◌else◌, nat_eq}
 use Rattle.std.specs.Prelude.{nat_lt}
-use Rattle.fibs_messages.specs.Board.{BoardFields}
+use Rattle.fibs_boards.specs.Board.{BoardFields}
 use Rattle.fibs_position.specs.DecisionValue.{DecisionValue}
 use Rattle.fibs_position.specs.DirectionOf.{direction_of}
 use Rattle.fibs_position.specs.BoardEffect.{effect_of}
 use Rattle.fibs_position.specs.Phases.{phase_of, decides}
-use Rattle.fibs_session.specs.Commands.{command_of}
+use Rattle.fibs_commands.specs.Commands.{command_of}
 use Rattle.fibs_position.specs.GoodBoard.{good}
-use Rattle.fibs_session.specs.CommandReading.{read_command}
+use Rattle.fibs_commands.specs.CommandReading.{read_command}
 use Rattle.fibs_model.specs.declared.refusal.WorldRefusal.{WorldRefusal}
 use Rattle.fibs_model.specs.declared.refusal.WorldRefusal.TheVariants.{BadBoard, UserDecides}
 

@@ -1,6 +1,6 @@
 -- A server of the program as a value, and what its calls do.
 use Rattle.std.specs.Prelude.{ℕ}
-use Rattle.fibs_messages.specs.Board.{BoardFields}
+use Rattle.fibs_boards.specs.Board.{BoardFields}
 use Rattle.fibs_position.specs.DecisionValue.{decision_of}
 use Rattle.fibs_model.specs.Server as V
 use Rattle.fibs_model.specs.declared.server.Served.{Served}

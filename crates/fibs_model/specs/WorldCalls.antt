@@ -1,8 +1,8 @@
 -- What the calls of a world promise, in the words of the machine.
 use Rattle.std.specs.Prelude.{◌≡◌, ℕ, List, [], ◌∷◌, Option, None, Some, Result, Ok, Err}
-use Rattle.fibs_messages.specs.Board.{BoardFields}
+use Rattle.fibs_boards.specs.Board.{BoardFields}
 use Rattle.fibs_position.specs.GoodBoard.{IsGood}
-use Rattle.fibs_session.specs.Logins.{IsLogin, login_text}
+use Rattle.fibs_commands.specs.Logins.{IsLogin, login_text}
 use Rattle.fibs_model.specs.Events.{Event}
 use Rattle.fibs_model.specs.Refusals.{refusal}
 use Rattle.fibs_model.specs.Runs.{MayBe, world_after}

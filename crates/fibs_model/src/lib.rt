@@ -7,15 +7,7 @@ pub mod laws;
 mod refusal;
 mod run_end;
 mod server;
-#[cfg(test)]
-mod test_boards;
-#[cfg(test)]
-mod test_server;
-#[cfg(test)]
-mod test_wire;
-#[cfg(test)]
-mod test_world;
-mod wire;
+pub mod wire;
 mod world;
 
 pub use entry::Entry;

@@ -2,7 +2,7 @@
 
 ghost use Rattle.std.specs.Prelude.{◌≡◌, ◌↔◌, ◌≤◌, true, Some, IsOk, IfOk, OnOk, OnErr, slice_index};
 ghost use Rattle.std.specs.Result.{result_err};
-ghost use Rattle.fibs_messages.specs.StoredBoard.{fields_of};
+ghost use Rattle.fibs_boards.specs.StoredBoard.{fields_of};
 ghost use Rattle.fibs_position.specs.DecisionValue.{decision_of};
 ghost use Rattle.fibs_position.specs.DirectionOf.{direction_of};
 ghost use Rattle.fibs_position.specs.First.{IsFirst};
@@ -47,7 +47,7 @@ pub struct Server {
 
 impl Model for Server {
     ghost use Rattle.std.specs.Prelude.{◌≡◌, true};
-    ghost use Rattle.fibs_messages.specs.StoredBoard.{fields_of};
+    ghost use Rattle.fibs_boards.specs.StoredBoard.{fields_of};
     ghost use Rattle.fibs_position.specs.GoodBoard.{good};
     ghost use Rattle.fibs_position.specs.PositionValue.{position_of, position_value};
     ghost use Rattle.fibs_model.specs.ServerOf.{ServerValue};

@@ -22,7 +22,7 @@ use std::marker::Model;
 /// than were taken since the last time. So all moves together are of fewer bytes than were taken, and a wire holds at
 /// most twice the bytes on their way.
 #[derive(Drop)]
-pub(crate) struct Wire {
+pub struct Wire {
     bytes: Vec<u8>,
     /// How many bytes at the front of `bytes` were taken.
     taken: usize,
@@ -39,7 +39,7 @@ impl Model for Wire {
 }
 
 /// The length of the text before the first CR LF.
-pub(crate) fn whole_line(bytes: &[u8]) -> Option<usize>
+pub fn whole_line(bytes: &[u8]) -> Option<usize>
     ensures in_range { IfSome result (λ len. len + 2 ≤ length bytes.now) }
     ensures line { next_line bytes.now ≡ option_map (λ len. (take len bytes.now, drop (len + 2) bytes.now)) result }
 {
@@ -47,7 +47,7 @@ pub(crate) fn whole_line(bytes: &[u8]) -> Option<usize>
 }
 
 /// How many bytes LF there are.
-pub(crate) fn line_ends(bytes: &[u8]) -> usize
+pub fn line_ends(bytes: &[u8]) -> usize
     ensures { result ≡ count_by is_line_end bytes.now }
 {
     bytes.iter().filter(|byte| **byte == b'\n').count()
@@ -78,7 +78,7 @@ fn remove_front(bytes: &mut Vec<u8>, count: usize)
 
 impl Wire {
     /// A wire with nothing on it.
-    pub(crate) fn new(alloc: Global) -> Wire
+    pub fn new(alloc: Global) -> Wire
         ensures items { result.items ≡ [] }
     {
         Wire {
@@ -88,7 +88,7 @@ impl Wire {
     }
 
     /// A wire with nothing on it, and room for so many bytes.
-    pub(crate) fn with_room(alloc: Global, room: usize) -> Result<Wire, AllocError>
+    pub fn with_room(alloc: Global, room: usize) -> Result<Wire, AllocError>
         ensures items { IfOk result (λ wire. wire.items ≡ []) }
         ensures room { IfOk result (λ wire. room ≤ wire.room) }
     {
@@ -99,7 +99,7 @@ impl Wire {
     }
 
     /// Makes room for more bytes.
-    pub(crate) fn reserve(&mut self, more: usize) -> Result<(), AllocError>
+    pub fn reserve(&mut self, more: usize) -> Result<(), AllocError>
         ensures items { self.new.items ≡ self.old.items }
         ensures room { OnOk result (more ≤ self.new.room) }
     {
@@ -107,14 +107,14 @@ impl Wire {
     }
 
     /// The bytes on their way.
-    pub(crate) fn bytes(&self) -> &[u8]
+    pub fn bytes(&self) -> &[u8]
         ensures { result.now ≡ self.now.items }
     {
         &self.bytes[self.taken..]
     }
 
     /// The next `n` bytes, or all if they are fewer.
-    pub(crate) fn next(&self, n: usize) -> &[u8]
+    pub fn next(&self, n: usize) -> &[u8]
         ensures { result.now ≡ take n self.now.items }
     {
         let bytes = self.bytes();
@@ -122,7 +122,7 @@ impl Wire {
     }
 
     /// Puts a text and CR LF on the wire, which has room for them.
-    pub(crate) fn put(&mut self, text: &[u8])
+    pub fn put(&mut self, text: &[u8])
         requires { length text.now + 2 ≤ self.old.room }
         ensures items { self.new.items ≡ self.old.items ++ on_wire text.now }
         ensures room { self.old.room ≤ self.new.room + (length text.now + 2) }
@@ -131,7 +131,7 @@ impl Wire {
     }
 
     /// Takes the first bytes from the wire.
-    pub(crate) fn take(&mut self, count: usize)
+    pub fn take(&mut self, count: usize)
         requires { count ≤ length self.old.items }
         ensures { self.new.items ≡ drop count self.old.items }
     {
@@ -143,7 +143,7 @@ impl Wire {
     }
 
     /// All but the first `kept` bytes are lost, and their memory is given back.
-    pub(crate) fn cut(&mut self, kept: usize)
+    pub fn cut(&mut self, kept: usize)
         ensures { self.new.items ≡ take kept self.old.items }
     {
         remove_front(&mut self.bytes, self.taken);

@@ -4,11 +4,11 @@ ghost use Rattle.std.specs.Prelude.{◌≡◌, ◌≤◌, ◌≢◌, ◌↔◌, 
 ghost use Rattle.std.specs.Prelude.{length, map, take, drop, option_map, if◌then◌else◌};
 ghost use Rattle.std.specs.Option.{option_copied};
 ghost use Rattle.std.specs.Result.{result_err};
-ghost use Rattle.fibs_messages.specs.Board.{BoardFields};
-ghost use Rattle.fibs_messages.specs.StoredBoard.{fields_of};
+ghost use Rattle.fibs_boards.specs.Board.{BoardFields};
+ghost use Rattle.fibs_boards.specs.StoredBoard.{fields_of};
 ghost use Rattle.fibs_position.specs.GoodBoard.{IsGood, good};
 ghost use Rattle.fibs_session.specs.History.Words.{last, shown, open_now};
-ghost use Rattle.fibs_session.specs.LoginOf.{name_of, password_of};
+ghost use Rattle.fibs_commands.specs.LoginOf.{name_of, password_of};
 ghost use Rattle.fibs_model.specs.EntryOf.{entry_of};
 ghost use Rattle.fibs_model.specs.EventOf.{event_of};
 ghost use Rattle.fibs_model.specs.Events as E;

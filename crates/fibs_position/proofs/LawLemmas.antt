@@ -1,4 +1,4 @@
--- The laws of the rules.
+-- The laws of positions and decisions.
 pub mod CarriedOut
 pub mod AllowedDecisions
 pub mod Equality

@@ -1,7 +1,4 @@
--- Why the definitions of the rules and the code agree.
-pub mod RuleLemmas
-pub mod SearchLemmas
-pub mod PlayListLemmas
+-- Why the definitions of positions and the code agree.
 pub mod BoardLemmas
 pub mod DecidingLemmas
 pub mod LawLemmas

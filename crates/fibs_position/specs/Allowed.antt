@@ -1,10 +1,10 @@
 -- Which decisions a user may make (the standard rules of backgammon; FIBS board style 3).
 use Rattle.std.specs.Prelude.{◌≢◌, ◌⊎◌, ◌≤ℤ◌, ◌&&◌, not, pos, Bool, true, false, List, [], ◌∷◌, Option, find, int_le}
 use Rattle.std.specs.Ordering.{int_eq}
-use Rattle.fibs_messages.specs.Board.{BoardFields}
+use Rattle.fibs_boards.specs.Board.{BoardFields}
 use Rattle.fibs_position.specs.First.{IsFirst}
 use Rattle.fibs_position.specs.PositionValue.{PositionValue, position_of}
-use Rattle.fibs_position.specs.LegalPlays.{LegalPlay, legal_of}
+use Rattle.fibs_rules.specs.LegalPlays.{LegalPlay, legal_of}
 use Rattle.fibs_position.specs.DecisionValue.{DecisionValue, roll, double, accept, reject, move}
 use Rattle.fibs_position.specs.Phases.{InPhase, decides, phase_in}
 use Rattle.fibs_position.specs.declared.phase.Phase.{Phase}

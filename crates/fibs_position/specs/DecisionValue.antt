@@ -1,7 +1,7 @@
 -- What a user may decide, as values.
-use Rattle.std.specs.Prelude.{◌≤◌, List, All, length}
-use Rattle.fibs_position.specs.Hop.{Hop, IsStep}
-use Rattle.fibs_position.specs.PlayValue.{hops_of}
+use Rattle.std.specs.Prelude.{List}
+use Rattle.fibs_rules.specs.Hop.{Hop}
+use Rattle.fibs_rules.specs.PlayValue.{IsPlay, hops_of}
 use Rattle.fibs_position.specs.declared.decision.Decision.{Decision}
 use Rattle.fibs_position.specs.declared.decision.Decision.TheVariants.{Roll, Double, Accept, Reject, Move}
 
@@ -12,10 +12,6 @@ pub data DecisionValue : Type 0 where
   accept : DecisionValue
   reject : DecisionValue
   move : List Hop → DecisionValue
-
--- at most four steps, as many as one roll of the dice can give
-abbrev pub IsPlay : List Hop → Type 0
-IsPlay steps = All IsStep steps × (length steps ≤ 4)
 
 -- what a player can decide: a play has at most four steps, each from a place or the bar to a place or off
 abbrev pub IsDecision : DecisionValue → Type 0

@@ -1,33 +1,15 @@
 -- Laws of the rules.
 use Rattle.std.specs.Prelude.{◌≡◌, ◌↔◌, ℕ, ◌<◌, ◌≤◌, true, false, List, [], ◌∷◌, Some, None}
-use Rattle.fibs_messages.specs.Board.{BoardFields}
-use Rattle.fibs_position.specs.Checkers.{Checkers}
-use Rattle.fibs_position.specs.OneChecker.{One}
-use Rattle.fibs_position.specs.LaxPlays.{LaxRun}
-use Rattle.fibs_position.specs.Hop.{Hop}
-use Rattle.fibs_position.specs.Runs.{Standing}
-use Rattle.fibs_position.specs.LegalPlays.{LegalPlay}
+use Rattle.fibs_boards.specs.Board.{BoardFields}
 use Rattle.fibs_position.specs.GoodBoard.{IsGood, good}
 use Rattle.fibs_position.specs.GamePart.{Differ, same_game}
 use Rattle.fibs_position.specs.Phases.{IsPhase, decides, phase_of}
-use Rattle.fibs_position.specs.DecisionValue.{DecisionValue, IsPlay, IsDecision, decision_of}
+use Rattle.fibs_position.specs.DecisionValue.{DecisionValue, IsDecision, decision_of}
 use Rattle.fibs_position.specs.Allowed.{IsAllowed, IsDisallowed, allowed_of}
 use Rattle.fibs_position.specs.BoardEffect.{AreThrown, Effect, effect_of}
 use Rattle.fibs_position.specs.declared.decision.Decision.{Decision}
 use Rattle.fibs_position.specs.declared.phase.Phase.{Phase}
 use Rattle.fibs_position.specs.declared.disallowed.Disallowed.{Disallowed}
-
--- where two steps by one die, the second from a higher place than the first, lead from p to q, the same two in the
--- other order lead from p to q
-abbrev pub StepsSwap : Type 0
-StepsSwap =
-    (p r q : Checkers) (low low_to high high_to die : ℕ) → 0 < die → low < high
-    → One p low low_to die r → One r high high_to die q
-    → (other : Checkers) × One p high high_to die other × One other low low_to die q
-
--- each legal play can be carried out
-abbrev pub LegalIsCarriedOut : Type 0
-LegalIsCarriedOut = (p : Standing) (steps : List Hop) → LegalPlay p steps → (q : Checkers) × LaxRun p.checkers steps q
 
 -- the function `phase_of` tells each phase, which is the first line of the table that fits
 abbrev pub PhaseIsExact : Type 0
@@ -80,10 +62,6 @@ pub record SameGameIsALikeness : Type 0 where
 -- a decision that `allowed_of` allows is the user's, whatever the fields are
 abbrev pub AllowedDecides : Type 0
 AllowedDecides = (b : BoardFields) (d : DecisionValue) → allowed_of b d ≡ None → decides (phase_of b) ≡ true
-
--- a legal play is at most four steps, each one that a checker can make
-abbrev pub LegalPlaysAreSteps : Type 0
-LegalPlaysAreSteps = (p : Standing) (steps : List Hop) → LegalPlay p steps → IsPlay steps
 
 -- what is allowed on a good board is a decision that a player can make
 abbrev pub AllowedIsADecision : Type 0

@@ -1,12 +1,5 @@
--- What a caller reads: the rules of play over boards of style 3, from one step up to the effect of a decision.
+-- What a caller reads: the position that a board of style 3 shows, up to the effect of a decision.
 pub mod First
-pub mod Hop
-pub mod PlayValue
-pub mod Checkers
-pub mod OneChecker
-pub mod Runs
-pub mod LegalPlays
-pub mod LaxPlays
 pub mod DirectionOf
 pub mod OwnView
 pub mod GoodBoard
@@ -19,5 +12,3 @@ pub mod Allowed
 pub mod PlaysOf
 pub mod Names
 pub mod Laws
--- What only private functions and proofs say.
-pub mod Search

@@ -3,9 +3,9 @@ use Rattle.std.specs.Prelude.{◌≡◌, ◌==◌, ◌&&◌, ◌+◌, ◌-◌, �
 use Rattle.std.specs.Prelude.{if◌then◌else◌}
 use Rattle.std.specs.Ordering.{int_eq}
 use Rattle.std.specs.List.{range_with_len}
-use Rattle.fibs_messages.specs.Board.{BoardFields, field_of}
-use Rattle.fibs_position.specs.Checkers.{Checkers}
-use Rattle.fibs_position.specs.Runs.{Standing}
+use Rattle.fibs_boards.specs.Board.{BoardFields, field_of}
+use Rattle.fibs_rules.specs.Checkers.{Checkers}
+use Rattle.fibs_rules.specs.Runs.{Standing}
 use Rattle.fibs_position.specs.DirectionOf.{direction_of, line_place}
 
 -- whose turn it is: 1 for O, -1 for X, 0 where the game is over

@@ -1,8 +1,8 @@
 -- The plays of a position, and of a board.
 use Rattle.std.specs.Prelude.{◌≡◌, List, []}
-use Rattle.fibs_messages.specs.Board.{BoardFields}
-use Rattle.fibs_position.specs.Hop.{Hop}
-use Rattle.fibs_position.specs.LegalPlays.{PlayList}
+use Rattle.fibs_boards.specs.Board.{BoardFields}
+use Rattle.fibs_rules.specs.Hop.{Hop}
+use Rattle.fibs_rules.specs.LegalPlays.{PlayList}
 use Rattle.fibs_position.specs.PositionValue.{PositionValue, position_of}
 use Rattle.fibs_position.specs.Phases.{InPhase}
 use Rattle.fibs_position.specs.declared.phase.Phase.TheVariants.{Move}

@@ -2,27 +2,26 @@
 
 ghost use Rattle.std.specs.Prelude.{◌≡◌, ◌↔◌, ◌≤◌, ◌≤ℤ◌, ◌&&◌, not, ℕ, List, pos, negsuc, true, IsTrue, Some};
 ghost use Rattle.std.specs.Prelude.{option_map, slice_index, ◌==◌, if◌then◌else◌, neg_ℤ};
-ghost use Rattle.fibs_messages.specs.Board.{BoardFields, can_have, field_of};
-ghost use Rattle.fibs_messages.specs.StoredBoard.{fields_of};
+ghost use Rattle.fibs_boards.specs.Board.{BoardFields, can_have, field_of};
+ghost use Rattle.fibs_boards.specs.StoredBoard.{fields_of};
 ghost use Rattle.fibs_position.specs.BoardEffect.{set_field, set_fields, rolled, doubled, accepted, rejected, value_of};
 ghost use Rattle.fibs_position.specs.BoardEffect.{placed, after_move, Effect, is_die, are_thrown, has_turn, is_doubled};
 ghost use Rattle.fibs_position.specs.BoardEffect.{carried, effect_of};
 ghost use Rattle.fibs_position.specs.DecisionValue.{roll, double, accept, reject, move, decision_of};
-ghost use Rattle.fibs_position.specs.PlayValue.{hops_of};
+ghost use Rattle.fibs_rules.specs.PlayValue.{hops_of};
 ghost use Rattle.fibs_position.specs.OwnView.{colour, no_dice, own_placed, other_placed};
 ghost use Rattle.fibs_position.specs.GoodBoard.{IsGood, good};
 
-use crate::arrangement::Arrangement;
 use crate::decision::Decision;
 use crate::fields::{
     COLOUR, CUBE, FIRST_DIE, MAY_DOUBLE, MOST_DOUBLED, OPPONENT_MAY_DOUBLE, OPPONENTS_FIRST_DIE,
     OPPONENTS_SECOND_DIE, OWN_OFF, SECOND_DIE, TURN, WAS_DOUBLED,
 };
 use crate::own_view::{arrangement_of, colour, no_dice, place_field};
-use crate::play::Play;
 use crate::position::Position;
-use fibs_messages::Board;
-use fibs_messages::laws::{fields_have_their_ranges, is_board_is_exact};
+use fibs_boards::board::Board;
+use fibs_boards::laws::{fields_have_their_ranges, is_board_is_exact};
+use fibs_rules::{Arrangement, Play};
 
 /// The board with a number of a field changed that it may have.
 fn set(board: Board, field: usize, value: i32) -> Board

@@ -3,7 +3,7 @@
 ghost use Rattle.std.specs.Prelude.{◌≡◌};
 
 use crate::phase::Phase;
-use crate::play::Play;
+use fibs_rules::Play;
 
 /// What a player may decide.
 #[derive(Clone, Copy, Debug, PartialEq, Eq)]

@@ -1,38 +1,22 @@
-//! Laws of steps and plays, and of the rules. Each is a promise; the functions do nothing else.
+//! Laws of positions and decisions, with those of steps and plays. Each is a promise; the functions do nothing else.
 
 ghost use Rattle.std.specs.Prelude.{◌≡◌, ◌↔◌, IsTrue};
-ghost use Rattle.fibs_position.specs.Hop.{hop_of};
-ghost use Rattle.fibs_position.specs.PlayValue.{hops_of};
 ghost use Rattle.fibs_position.specs.DecisionValue.{decision_of};
-ghost use Rattle.fibs_position.specs.Laws.{StepsSwap, PhaseIsExact, AllowedIsExact, EffectIsExact, AllowedIsTheUsers};
+ghost use Rattle.fibs_position.specs.Laws.{PhaseIsExact, AllowedIsExact, EffectIsExact, AllowedIsTheUsers};
 ghost use Rattle.fibs_position.specs.Laws.{AllowedIsCarriedOut, EffectIsGood, GoodIsExact, SameGameIsExact};
-ghost use Rattle.fibs_position.specs.Laws.{SameGameIsALikeness, AllowedDecides, LegalPlaysAreSteps, AllowedIsADecision};
-ghost use Rattle.fibs_position.specs.Laws.{DecisionsAreValid, AllowedActs, LegalIsCarriedOut};
+ghost use Rattle.fibs_position.specs.Laws.{SameGameIsALikeness, AllowedDecides, AllowedIsADecision};
+ghost use Rattle.fibs_position.specs.Laws.{DecisionsAreValid, AllowedActs};
 
 use crate::decision::Decision;
 use crate::direction::Direction;
 use crate::disallowed::Disallowed;
 use crate::phase::Phase;
-use crate::play::Play;
 use crate::position_fault::PositionFault;
-use crate::step::Step;
-use fibs_messages::laws::{fields_have_their_ranges, is_board_is_exact};
-
-/// Steps are equal exactly where their places are.
-pub fn steps_are_their_places(a: &Step, b: &Step) -> bool
-    ensures test { IsTrue result ↔ (hop_of a.now ≡ hop_of b.now) }
-    ensures same { hop_of a.now ≡ hop_of b.now → a.now ≡ b.now }
-{
-    a == b
-}
-
-/// Plays are equal exactly where their steps are.
-pub fn plays_are_their_steps(a: &Play, b: &Play) -> bool
-    ensures test { IsTrue result ↔ (hops_of a.now ≡ hops_of b.now) }
-    ensures same { hops_of a.now ≡ hops_of b.now → a.now ≡ b.now }
-{
-    a == b
-}
+use fibs_boards::laws::{fields_have_their_ranges, is_board_is_exact};
+pub use fibs_rules::laws::{
+    legal_is_carried_out, legal_plays_are_steps, plays_are_their_steps, steps_are_their_places,
+    steps_swap,
+};
 
 /// Decisions are equal exactly where their values are.
 pub fn decisions_are_their_values(a: &Decision, b: &Decision) -> bool
@@ -69,17 +53,6 @@ pub fn refusals_are_themselves(a: &Disallowed, b: &Disallowed) -> bool
 {
     a == b
 }
-
-/// Where two steps by one die, the second from a higher place than the first, lead from one
-/// arrangement to another, the same two in the other order lead there too.
-pub fn steps_swap()
-    ensures { StepsSwap }
-{}
-
-/// Each legal play is carried out by `effect`.
-pub fn legal_is_carried_out()
-    ensures { LegalIsCarriedOut }
-{}
 
 /// The function `phase_of` is the table of phases.
 pub fn phase_is_exact()
@@ -143,11 +116,6 @@ pub fn same_game_is_a_likeness()
 /// A decision that the function `allowed_of` allows is the user's, whatever the fields are.
 pub fn allowed_decides()
     ensures { AllowedDecides }
-{}
-
-/// A legal play has at most four steps, each from a place or the bar to a place or off.
-pub fn legal_plays_are_steps()
-    ensures { LegalPlaysAreSteps }
 {}
 
 /// What is allowed on a good board is a decision that a player can make.

@@ -1,16 +1,16 @@
 //! A board as its player sees it.
 
-ghost use Rattle.std.specs.Prelude.{◌≡◌, ◌⊎◌, ◌+◌, ◌-◌, ◌*◌, ◌≤◌, ◌∷◌, ◌++◌, [], pos, negsuc, length, sum};
-ghost use Rattle.fibs_messages.specs.StoredBoard.{fields_of};
+ghost use Rattle.std.specs.Prelude.{◌≡◌, ◌⊎◌, ◌+◌, ◌-◌, ◌≤◌, ◌∷◌, ◌++◌, [], pos, negsuc, sum};
+ghost use Rattle.fibs_boards.specs.StoredBoard.{fields_of};
 ghost use Rattle.fibs_position.specs.DirectionOf.{direction_of};
 ghost use Rattle.fibs_position.specs.OwnView.{colour, place_field, stand_on, on_places, own_on_places, other_on_places};
 ghost use Rattle.fibs_position.specs.OwnView.{own_off, other_off, own_placed, other_placed, own_view};
 ghost use Rattle.fibs_position.specs.OwnView.{first_die, second_die, no_dice};
 
-use crate::arrangement::Arrangement;
 use crate::direction::Direction;
 use crate::fields::{COLOUR, DIRECTION, FIRST_DIE, FIRST_PLACE, OTHER_OFF, OWN_OFF, SECOND_DIE};
-use fibs_messages::Board;
+use fibs_boards::board::Board;
+use fibs_rules::{Arrangement, total};
 
 /// The player's colour: 1 for O, -1 for X.
 pub fn colour(board: &Board) -> i32
@@ -63,15 +63,6 @@ fn on_places(board: &Board, side: i32) -> [u8; 24]
         counts[i] = stand_on(board, side, i as u8 + 1);
     }
     counts
-}
-
-/// How many checkers there are.
-pub fn total(counts: &[u8]) -> u32
-    requires { length counts.now ≤ 26 }
-    ensures value { result ≡ sum counts.now }
-    ensures small { result ≤ 255 * length counts.now }
-{
-    counts.iter().map(|count| u32::from(*count)).sum()
 }
 
 /// The player's checkers that are borne off.

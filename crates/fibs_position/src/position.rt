@@ -3,22 +3,20 @@
 
 ghost use Rattle.std.specs.Prelude.{◌≡◌, ◌≤◌, ◌↔◌, ◌&&◌, IsOk, is_ok, IfOk, IsTrue, Err, codes, map, sum, slice_index};
 ghost use Rattle.std.specs.Result.{result_err};
-ghost use Rattle.fibs_messages.specs.StoredBoard.{fields_of};
+ghost use Rattle.fibs_boards.specs.StoredBoard.{fields_of};
 ghost use Rattle.fibs_position.specs.OwnView.{own_view};
 ghost use Rattle.fibs_position.specs.GoodBoard.{IsGood};
 
-use crate::arrangement::Arrangement;
 use crate::decision::Decision;
 use crate::direction::Direction;
 use crate::disallowed::Disallowed;
 use crate::fields::{COLOUR, CUBE, MAY_DOUBLE, MOST_DOUBLED, TURN, WAS_DOUBLED};
 use crate::own_view::{arranged, direction, first_die, other_placed, own_placed, second_die};
 use crate::phase::Phase;
-use crate::play::Play;
 use crate::position_fault::PositionFault;
-use crate::turn::Turn;
-use fibs_messages::Board;
-use fibs_messages::laws::is_board_is_exact;
+use fibs_boards::board::Board;
+use fibs_boards::laws::is_board_is_exact;
+use fibs_rules::{Arrangement, Play, Turn};
 use std::alloc::{AllocError, Global};
 
 /// What the rules read of a board of one who plays, seen from his own side.
@@ -54,9 +52,9 @@ fn is_you(board: &Board) -> bool
 impl Position {
     ghost use Rattle.fibs_position.specs.GoodBoard.{HasFault, faults, good};
     ghost use Rattle.fibs_position.specs.First.{IsFirst};
-    ghost use Rattle.fibs_position.specs.Runs.{IsMost, can_move};
-    ghost use Rattle.fibs_position.specs.LegalPlays.{LegalPlay};
-    ghost use Rattle.fibs_position.specs.PlayValue.{hops_of};
+    ghost use Rattle.fibs_rules.specs.Runs.{IsMost, can_move};
+    ghost use Rattle.fibs_rules.specs.LegalPlays.{LegalPlay};
+    ghost use Rattle.fibs_rules.specs.PlayValue.{hops_of};
     ghost use Rattle.fibs_position.specs.PlaysOf.{PlaysIn};
     ghost use Rattle.fibs_position.specs.DecisionValue.{decision_of};
     ghost use Rattle.fibs_position.specs.Allowed.{is_for, cube_allows, is_legal, refusal_of, MayDecide, IsRefused};

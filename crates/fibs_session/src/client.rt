@@ -4,14 +4,14 @@ ghost use Rattle.std.specs.Borrow.{sem};
 ghost use Rattle.std.specs.Io.BufRead.{Rests};
 ghost use Rattle.std.specs.Option.{option_copied};
 ghost use Rattle.std.specs.Prelude.{◌≡◌, IsErr, ◌<◌, ◌≤◌, Option, [], length, take, option_map};
-ghost use Rattle.fibs_messages.specs.StoredBoard.{fields_of};
+ghost use Rattle.fibs_boards.specs.StoredBoard.{fields_of};
 ghost use Rattle.fibs_position.specs.DecisionValue.{decision_of};
 ghost use Rattle.fibs_session.specs.Calls.Doing.{Does};
 ghost use Rattle.fibs_session.specs.Calls.Standing.{StandsAfter};
 ghost use Rattle.fibs_session.specs.History.Machine.{Talk, start, Open, Lose, Piece, Click, PlainInput, open_refusal};
 ghost use Rattle.fibs_session.specs.History.Machine.{unconfirmed_now, answer_now, plain_refusal, shown_now};
-ghost use Rattle.fibs_session.specs.LoginOf.{login_of};
-ghost use Rattle.fibs_session.specs.PlainOf.{plain_value};
+ghost use Rattle.fibs_commands.specs.LoginOf.{login_of};
+ghost use Rattle.fibs_commands.specs.PlainOf.{plain_value};
 
 mod got;
 mod heard_line;
@@ -20,9 +20,9 @@ mod kept;
 pub mod laws;
 mod run;
 
-use crate::commands::{CommandText, Login, Plain};
 use crate::refusal::{PlainRefusal, Refusal};
 use crate::session::{Outstanding, Session, Taken};
+use fibs_commands::{CommandText, Login, Plain};
 use fibs_lines::Lines;
 use fibs_messages::Board;
 use fibs_position::Decision;

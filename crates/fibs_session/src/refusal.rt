@@ -4,7 +4,7 @@ ghost use Rattle.std.specs.Prelude.{◌≡◌, Some};
 ghost use Rattle.fibs_session.specs.History.Refusals.{refusal_number, refusal_name, plain_refusal_number};
 ghost use Rattle.fibs_session.specs.History.Refusals.{plain_refusal_name};
 
-use crate::PlainFault;
+use fibs_commands::PlainFault;
 use std::fmt;
 
 /// Why a client refuses to open a connection, to send a decision or to send a plain command. Of several reasons the

@@ -4,15 +4,15 @@ ghost use Rattle.std.specs.Option.{option_copied};
 ghost use Rattle.std.specs.Prelude.{◌≡◌, IsErr, None, [], true, option_map};
 ghost use Rattle.fibs_lines.specs.Lines.{value_of};
 ghost use Rattle.fibs_messages.specs.Line.{reading_of};
-ghost use Rattle.fibs_messages.specs.StoredBoard.{fields_of};
+ghost use Rattle.fibs_boards.specs.StoredBoard.{fields_of};
 ghost use Rattle.fibs_position.specs.DecisionValue.{decision_of};
 ghost use Rattle.fibs_session.specs.Calls.Doing.{SessionDoes, SessionHears};
 ghost use Rattle.fibs_session.specs.Calls.Standing.{SessionStandsAfter};
 ghost use Rattle.fibs_session.specs.History.Hearing.{line_reading};
 ghost use Rattle.fibs_session.specs.History.Machine.{Talk, start, Open, Lose, Click, PlainInput, open_refusal};
 ghost use Rattle.fibs_session.specs.History.Machine.{unconfirmed_now, answer_now, plain_refusal, shown_now, is_online};
-ghost use Rattle.fibs_session.specs.LoginOf.{login_of};
-ghost use Rattle.fibs_session.specs.PlainOf.{plain_value};
+ghost use Rattle.fibs_commands.specs.LoginOf.{login_of};
+ghost use Rattle.fibs_commands.specs.PlainOf.{plain_value};
 
 mod connection;
 mod hearing;
@@ -20,8 +20,8 @@ mod saying;
 mod shown_board;
 mod taken;
 
-use crate::commands::{CommandText, Login, Plain};
 use crate::refusal::{PlainRefusal, Refusal};
+use fibs_commands::{CommandText, Login, Plain};
 use fibs_lines::Line;
 use fibs_messages::Board;
 use fibs_position::{Decision, laws};

@@ -1,44 +1,19 @@
 -- A line has one reading.
 use Rattle.std.proofs.Common.{inl, inr, None, ◌≡◌, ℕ, List, sym, ap, ◌∙◌, subst, refl}
 use Rattle.std.specs.Prelude.{◌↔◌}
-use Rattle.fibs_messages.specs.Board.{BoardFields, BoardText, Wrong, kinds}
+use Rattle.fibs_boards.specs.Board.{BoardFields, BoardText}
 use Rattle.fibs_messages.specs.Line.{IsBoardLine, IsMalformed, IsText, ReadingValue, numbered_line, board_line}
 use Rattle.fibs_messages.specs.Line.{text_line, malformed_line, IsReading}
 use Rattle.fibs_messages.specs.LineReading.{IsAsRead}
 use Rattle.fibs_messages.specs.Message.{number_word, MessageValue, MessageText, IsNumbered}
-use Rattle.fibs_messages.specs.Split.{before}
+use Rattle.fibs_fields.specs.Split.{before}
 use Rattle.fibs_messages.proofs.MessageLemmas.MessageLines.{reads_line}
 use Rattle.fibs_messages.proofs.MessageLemmas.MessageReadings.{one_message, message_not_wrong, one_wrong}
 use Rattle.fibs_messages.proofs.MessageLemmas.MessageReadings.{message_numbered, board_not_numbered, number_of}
 use Rattle.fibs_messages.proofs.MessageLemmas.MessageReadings.{reads_wrong}
-use Rattle.fibs_messages.specs.BoardReading.{first_fault}
-use Rattle.fibs_messages.specs.declared.fields.fault.Fault.{Fault}
-use Rattle.fibs_messages.specs.declared.fields.fault.FieldFault.{FieldFault}
-use Rattle.fibs_messages.proofs.BoardLemmas.BoardTexts.{texts_same, pieces_of_board, texts_right, first_from_wrong}
-use Rattle.fibs_messages.proofs.BoardLemmas.FirstFaults.{option_same, some_none}
-
--- a line says one board
-pub one_board : (line : List ℕ) (a b : BoardFields) → BoardText a line → BoardText b line → a ≡ b
-one_board line a b g h = texts_same a b g.0 h.0 (sym (pieces_of_board a line g) ∙ pieces_of_board b line h)
-
--- a line has one first wrong field, with one fault
-fault_same : (line : List ℕ) (d e : FieldFault) → Wrong line d.field d.fault → Wrong line e.field e.fault → d ≡ e
-fault_same line d e g h = option_same d e (sym (first_from_wrong line d g) ∙ first_from_wrong line e h)
-
--- by its parts
-pub one_fault : (line : List ℕ) (k m : ℕ) (f g : Fault) → Wrong line k f → Wrong line m g → (k ≡ m) × (f ≡ g)
-one_fault line k m f g p q =
-    let same : ◌≡◌ {A = FieldFault} (record { field = k; fault = f }) (record { field = m; fault = g }) =
-    fault_same line (record { field = k; fault = f }) (record { field = m; fault = g }) p q in
-    (ap (λ (e : FieldFault). e.field) same, ap (λ (e : FieldFault). e.fault) same)
-
--- a line that says a board has no wrong field
-pub not_both : (line : List ℕ) (b : BoardFields) (k : ℕ) (f : Fault) → BoardText b line → Wrong line k f → ⊥
-not_both line b k f says wrong =
-    let e : FieldFault = record { field = k; fault = f } in
-    some_none e
-    (sym (first_from_wrong line e wrong) ∙ ap (first_fault 1 kinds) (pieces_of_board b line says)
-    ∙ texts_right b says.0)
+use Rattle.fibs_fields.specs.declared.fault.Fault.{Fault}
+use Rattle.fibs_boards.proofs.BoardLemmas.EachLine.{one_board, one_fault, not_both}
+use Rattle.fibs_fields.proofs.FieldLemmas.Options.{some_none}
 
 -- a line that says a board is a board line
 pub board_begins : (line : List ℕ) (b : BoardFields) → BoardText b line → IsBoardLine line

@@ -3,11 +3,11 @@ use Rattle.std.proofs.Common.{◌≡◌, ℕ, ◌+◌, ◌*◌, ◌/◌, ◌%◌
 use Rattle.std.proofs.Common.{arith}
 use Rattle.std.specs.List.{flat_map, AllByRecursion}
 use Rattle.std.proofs.lemmas.List.{append-nil}
-use Rattle.fibs_messages.specs.Field.{IsValue, FieldValue, NameField, WordField, TailField, FlagField, NumberField}
-use Rattle.fibs_messages.specs.Field.{RatingField, TextField}
+use Rattle.fibs_fields.specs.Field.{IsValue, FieldValue, NameField, WordField, TailField, FlagField, NumberField}
+use Rattle.fibs_fields.specs.Field.{RatingField, TextField}
 use Rattle.fibs_messages.specs.Message.{MessageValue, FieldText, spelled, no_text, FieldsText, no_fields, more_fields}
 use Rattle.fibs_messages.specs.Message.{MessageText, canonical, canonical_field, IsMessage}
-use Rattle.fibs_messages.specs.Rating.{FractionText, hundredths, RatingText}
+use Rattle.fibs_fields.specs.Rating.{FractionText, hundredths, RatingText}
 
 -- two digits are a fraction
 fraction_text : (n : ℕ) → n < 100 → FractionText (46 ∷ (48 + n / 10) ∷ (48 + n % 10) ∷ []) n

@@ -2,8 +2,8 @@
 use Rattle.std.proofs.Common.{◌≡◌, ℕ, List, [], ◌∷◌, ap, arith}
 use Rattle.std.specs.Bool.{Decides}
 use Rattle.std.proofs.lemmas.Bool.Decides.{Decides-like}
-use Rattle.fibs_messages.specs.Bytes.{name_bytes, word_bytes}
-use Rattle.fibs_messages.specs.Field.{FieldValue, NameField, WordField, NumberField, TextField}
+use Rattle.fibs_fields.specs.Bytes.{name_bytes, word_bytes}
+use Rattle.fibs_fields.specs.Field.{FieldValue, NameField, WordField, NumberField, TextField}
 use Rattle.fibs_messages.specs.Message.{MessageValue, message, message_of, own_info_fields, who_info_fields}
 use Rattle.fibs_messages.specs.contracts.messages.message.MessagePartialEq.TheImpl.{eq-value}
 use Rattle.fibs_messages.specs.declared.messages.message.Message.{Message}
@@ -13,7 +13,7 @@ use Rattle.fibs_messages.specs.declared.messages.message.Message.TheVariants.{Me
 use Rattle.fibs_messages.specs.declared.messages.message.Message.TheVariants.{MessageSaved, Says, Shouts, Whispers}
 use Rattle.fibs_messages.specs.declared.messages.message.Message.TheVariants.{Kibitzes, YouSay, YouShout, YouWhisper}
 use Rattle.fibs_messages.specs.declared.messages.message.Message.TheVariants.{YouKibitz}
-use Rattle.fibs_messages.proofs.FieldLemmas.Equality.{never, same_values, same_values_decides}
+use Rattle.fibs_fields.proofs.FieldLemmas.Equality.{never, same_values, same_values_decides}
 
 -- messages of one number are equal exactly where their fields are
 one_number : (n : ℕ) (us vs : List FieldValue) → Decides (same_values us vs) (message n us ≡ message n vs)

@@ -4,10 +4,10 @@ use Rattle.std.specs.Prelude.{◌&&◌, ◌||◌}
 use Rattle.std.specs.List.{list_all}
 use Rattle.std.proofs.Math.Bool.{or-true}
 use Rattle.std.proofs.lemmas.Bool.{and_parts, or_cases, not-true, cases_Bool, eqb-true}
-use Rattle.fibs_messages.specs.Field.{Kind, takes_rest, may_be_absent}
+use Rattle.fibs_fields.specs.Field.{Kind, takes_rest, may_be_absent}
 use Rattle.fibs_messages.specs.Message.{Row, table, kinds_in, kinds_of, drops_spaces}
-use Rattle.fibs_messages.proofs.FieldLemmas.FieldTexts.{TextLast}
-use Rattle.fibs_messages.proofs.FieldLemmas.FieldValues.{has_values}
+use Rattle.fibs_messages.proofs.MessageLemmas.FieldTexts.{TextLast}
+use Rattle.fibs_fields.proofs.FieldLemmas.FieldValues.{has_values}
 
 -- there is no field
 abbrev is_nil : List Kind → Bool

@@ -7,7 +7,7 @@ use Rattle.fibs_messages.specs.declared.messages.message.Message.TheVariants.{Me
 use Rattle.fibs_messages.specs.declared.messages.message.Message.TheVariants.{MessageSaved, Says, Shouts, Whispers}
 use Rattle.fibs_messages.specs.declared.messages.message.Message.TheVariants.{Kibitzes, YouSay, YouShout, YouWhisper}
 use Rattle.fibs_messages.specs.declared.messages.message.Message.TheVariants.{YouKibitz}
-use Rattle.fibs_messages.specs.Field.{IsValue, kind_of}
+use Rattle.fibs_fields.specs.Field.{IsValue, kind_of}
 use Rattle.std.specs.List.{AllByRecursion}
 use Rattle.fibs_messages.specs.Message.{table, kinds_of, IsNumber, IsMessage, message_of}
 use Rattle.fibs_messages.specs.Bits.{HasBits}

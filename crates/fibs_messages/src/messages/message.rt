@@ -1,7 +1,7 @@
 //! The numbered messages of the server (FIBS CLIP specification 1008).
 
-use crate::fields::name::Name;
-use crate::fields::word::{Tail, Word};
+use fibs_fields::name::Name;
+use fibs_fields::word::{Tail, Word};
 
 /// The contents of message 2: the settings of the user who logged in.
 #[derive(Clone, Copy, Debug, PartialEq, Eq)]

@@ -1,11 +1,11 @@
 //! The number with which a line begins.
 
 ghost use Rattle.std.specs.Prelude.{◌≡◌, IfSome};
-ghost use Rattle.fibs_messages.specs.Split.{seen, after};
+ghost use Rattle.fibs_fields.specs.Split.{seen, after};
 ghost use Rattle.fibs_messages.specs.Message.{number_word, IsNumber, drops_spaces, kept};
 
-use crate::fields::split::split;
-use crate::fields::trailing_spaces::without_spaces;
+use fibs_fields::split::split;
+use fibs_fields::trailing_spaces::without_spaces;
 
 /// The number from 1 to 19 that the word is, if it is one.
 pub fn number_of(word: &[u8]) -> Option<u8>

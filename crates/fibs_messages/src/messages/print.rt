@@ -2,17 +2,17 @@
 
 ghost use Rattle.std.specs.Prelude.{◌≡◌, ◌∷◌, [], ◌++◌, decimal, length, take, OnOk, OnErr};
 ghost use Rattle.std.specs.List.{flat_map};
-ghost use Rattle.fibs_messages.specs.Field.{NameField, FlagField, NumberField, RatingField, TextField};
+ghost use Rattle.fibs_fields.specs.Field.{NameField, FlagField, NumberField, RatingField, TextField};
 ghost use Rattle.fibs_messages.specs.FieldOf.{value_of, values_of};
 ghost use Rattle.fibs_messages.specs.Message.{MessageText, canonical, canonical_field, message_of, own_info_fields};
 ghost use Rattle.fibs_messages.specs.Message.{who_info_fields};
-ghost use Rattle.fibs_messages.specs.Bytes.{name_bytes};
+ghost use Rattle.fibs_fields.specs.Bytes.{name_bytes};
 
-use crate::fields::name::Name;
-use crate::fields::rating::append_rating;
-use crate::fields::word::{Tail, Word};
 use crate::laws::messages_are_well_formed;
 use crate::messages::message::{Message, OwnInfo, WhoInfo};
+use fibs_fields::name::Name;
+use fibs_fields::rating::append_rating;
+use fibs_fields::word::{Tail, Word};
 use itoa::Buffer;
 use std::alloc::{AllocError, Global};
 

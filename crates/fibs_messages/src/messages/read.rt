@@ -2,16 +2,16 @@
 #![tactic(auto, unfolding(crate::specs::Message::table))]
 
 ghost use Rattle.std.specs.Prelude.{◌≡◌, [], ◌∷◌, IfOk};
-ghost use Rattle.fibs_messages.specs.Field.{NameField, TextField, a_name, a_text};
-ghost use Rattle.fibs_messages.specs.FieldReading.{Gives, fields_at, left};
-ghost use Rattle.fibs_messages.specs.Split.{seen};
+ghost use Rattle.fibs_fields.specs.Field.{NameField, TextField, a_name, a_text};
+ghost use Rattle.fibs_fields.specs.FieldReading.{Gives, fields_at, left};
+ghost use Rattle.fibs_fields.specs.Split.{seen};
 ghost use Rattle.fibs_messages.specs.Message.{IsNumber, kinds_of, message_of, own_info_fields, who_info_fields};
-ghost use Rattle.fibs_messages.specs.Bytes.{name_bytes};
+ghost use Rattle.fibs_fields.specs.Bytes.{name_bytes};
 
-use crate::fields::fault::FieldFault;
-use crate::fields::name::Name;
-use crate::fields::reader::Fields;
 use crate::messages::message::{Message, OwnInfo, WhoInfo};
+use fibs_fields::fault::FieldFault;
+use fibs_fields::name::Name;
+use fibs_fields::reader::Fields;
 
 #[inline(never)]
 fn welcome(rest: Option<&[u8]>) -> Result<Message<'_>, FieldFault>

@@ -3,7 +3,7 @@ use Rattle.std.proofs.Common.{◌≡◌, ◌<◌, ◌≤◌, ◌+◌, ℕ, List,
 use Rattle.std.proofs.Common.{suc, sym, ap, subst, ◌∙◌, arith, append_assoc, add-one}
 use Rattle.std.proofs.Math.Seq.{drop-cons}
 use Rattle.std.proofs.lemmas.List.{length-map, drop_all, get_or-map}
-use Rattle.fibs_messages.specs.Board.{BoardFields}
+use Rattle.fibs_boards.specs.Board.{BoardFields}
 use Rattle.fibs_model.specs.Events.{Event}
 use Rattle.fibs_model.specs.Headline.{Headline}
 use Rattle.fibs_model.specs.Laws.{HeadlineHolds}

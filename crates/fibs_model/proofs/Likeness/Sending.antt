@@ -6,7 +6,7 @@ use Rattle.std.specs.Prelude.{Result, Ok, Err, IsOk, OnOk}
 use Rattle.std.specs.Result.{result_err}
 use Rattle.fibs_model.specs.Server.{own_refusal}
 use Rattle.fibs_model.specs.declared.refusal.WorldRefusal.{WorldRefusal}
-use Rattle.fibs_messages.specs.Board.{BoardFields, spelling}
+use Rattle.fibs_boards.specs.Board.{BoardFields, spelling}
 use Rattle.fibs_session.specs.History.Words.{open_now}
 use Rattle.fibs_session.specs.History.Machine.{on_wire}
 use Rattle.fibs_session.specs.History.MachineLaws.{ServersEntriesAreSilent}

@@ -1,7 +1,7 @@
 -- The server takes a line, and answers it.
 use Rattle.std.proofs.Common.{◌≡◌, ◌≤◌, ℕ, List, [], ◌∷◌, ◌++◌, Some, length, if◌then◌else◌, refl, sym, ap, subst, ◌∙◌}
 use Rattle.std.proofs.Common.{arith, append-nil, map}
-use Rattle.fibs_messages.specs.Board.{BoardFields, spelling}
+use Rattle.fibs_boards.specs.Board.{BoardFields, spelling}
 use Rattle.fibs_session.specs.History.Log as L
 use Rattle.fibs_session.specs.History.Log.{Entry}
 use Rattle.fibs_session.specs.History.Words.{is_empty, open_now}

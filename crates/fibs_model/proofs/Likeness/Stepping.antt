@@ -1,10 +1,10 @@
 -- One event after others.
 use Rattle.std.proofs.Common.{◌≡◌, ℕ, Bool, true, false, not, ◌&&◌, ◌||◌, List, [], ◌∷◌, ◌++◌, Option, Some, None}
 use Rattle.std.proofs.Common.{nat_eq, nat_lt, if◌then◌else◌, is_some, refl, sym, ap, subst, ◌∙◌, append-nil}
-use Rattle.fibs_messages.specs.Board.{BoardFields}
+use Rattle.fibs_boards.specs.Board.{BoardFields}
 use Rattle.fibs_position.specs.GoodBoard.{good}
 use Rattle.fibs_session.specs.History.Words.{open_now}
-use Rattle.fibs_session.specs.Logins.{login_text}
+use Rattle.fibs_commands.specs.Logins.{login_text}
 use Rattle.fibs_session.specs.History.Machine.{on_wire}
 use Rattle.fibs_lines.specs.Lines.{lines_of}
 use Rattle.fibs_model.specs.Calls.{serve_refusal}

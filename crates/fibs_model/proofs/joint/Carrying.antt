@@ -11,10 +11,10 @@ use Rattle.fibs_session.specs.History.Hearing.{line_reading, flags_of}
 use Rattle.fibs_session.specs.History.Log.{Entry, Welcomed, Informed, Shown, Clicked, Sent}
 use Rattle.fibs_session.specs.History.Machine.{on_wire}
 use Rattle.fibs_session.specs.History.Words.{last, open_from, open_now, shown}
-use Rattle.fibs_session.specs.PlainCommands.{PlainValue}
+use Rattle.fibs_commands.specs.PlainCommands.{PlainValue}
 use Rattle.fibs_session.specs.declared.refusal.PlainRefusal.{PlainRefusal}
 use Rattle.fibs_session.specs.declared.refusal.Refusal.{Refusal}
-use Rattle.fibs_messages.specs.Board.{BoardFields as Board}
+use Rattle.fibs_boards.specs.Board.{BoardFields as Board}
 use Rattle.fibs_model.specs.Joint.{Carried}
 use Rattle.fibs_model.specs.Wires.{Link}
 use Rattle.fibs_model.specs.World.{World, noted, linked, asks, does_heard, hears, hears_all, sends_out, clicks}

@@ -4,7 +4,7 @@ use Rattle.std.proofs.Common.{drop, refl, sym, ◌∙◌, zero, suc, ap, subst, 
 use Rattle.std.proofs.Common.{true≢false, arith}
 use Rattle.std.proofs.lemmas.Bool.Decides.{eqb_tells}
 use Rattle.std.proofs.lemmas.Bool.{cases_Bool}
-use Rattle.fibs_messages.specs.Board.{BoardFields as Board}
+use Rattle.fibs_boards.specs.Board.{BoardFields as Board}
 use Rattle.fibs_session.specs.History.Log.{Welcomed, Informed, Shown}
 use Rattle.fibs_session.specs.History.Words.{Ask, one_if, is_empty, last, each, open_now, shown, sent, took, welcomed}
 use Rattle.fibs_session.specs.History.Words.{informed, is_spent}
@@ -14,7 +14,7 @@ use Rattle.fibs_model.specs.Moving.{has_moved_on}
 use Rattle.fibs_model.proofs.Lawful.{Lawful, AllQuiet}
 use Rattle.std.specs.Prelude.{if◌then◌else◌}
 use Rattle.fibs_messages.specs.Line.{ReadingValue, numbered_line, board_line, text_line, malformed_line}
-use Rattle.fibs_session.specs.FirstCommands.{style_text}
+use Rattle.fibs_commands.specs.FirstCommands.{style_text}
 use Rattle.fibs_session.specs.History.Hearing.{initial_commands}
 use Rattle.fibs_session.specs.History.Hearing.{Heard, nothing_heard, flags_of, confirmed_by_board}
 use Rattle.fibs_lines.specs.Lines.{ReadLine as Line}

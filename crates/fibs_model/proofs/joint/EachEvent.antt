@@ -4,10 +4,10 @@ use Rattle.std.proofs.Common.{nat_eq, nat_lt, refl, sym, zero, suc, subst, inl, 
 use Rattle.std.proofs.Common.{is_some}
 use Rattle.std.proofs.lemmas.Bool.Decides.{nat_tests}
 use Rattle.std.proofs.lemmas.Bool.{eqb-true}
-use Rattle.fibs_messages.specs.Board.{BoardFields as Board}
+use Rattle.fibs_boards.specs.Board.{BoardFields as Board}
 use Rattle.fibs_session.specs.History.Words.{open_now}
-use Rattle.fibs_session.specs.PlainCommands.{PlainValue, plain_fault_of}
-use Rattle.fibs_session.specs.declared.commands.plain.PlainFault.{PlainFault}
+use Rattle.fibs_commands.specs.PlainCommands.{PlainValue, plain_fault_of}
+use Rattle.fibs_commands.specs.declared.plain.PlainFault.{PlainFault}
 use Rattle.std.specs.Prelude.{option_map}
 use Rattle.fibs_session.specs.declared.refusal.PlainRefusal.{PlainRefusal}
 use Rattle.fibs_session.specs.declared.refusal.PlainRefusal.TheVariants as P
@@ -30,7 +30,7 @@ use Rattle.fibs_model.proofs.joint.Sending.{joint_asks, joint_board, joint_text}
 use Rattle.fibs_model.proofs.joint.Deliver.{joint_deliver}
 use Rattle.fibs_model.proofs.joint.Click.{joint_click}
 use Rattle.fibs_model.proofs.joint.Turns.{joint_open, joint_lose, joint_serve}
-use Rattle.fibs_session.specs.PlainCommands.{plain_of}
+use Rattle.fibs_commands.specs.PlainCommands.{plain_of}
 use Rattle.fibs_position.specs.GoodBoard.{good as is_good}
 
 -- nothing refused: each test failed

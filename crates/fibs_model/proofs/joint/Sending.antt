@@ -4,7 +4,7 @@ use Rattle.std.proofs.Common.{nat_eq, flat_map, refl, sym, ◌∙◌, zero, suc,
 use Rattle.std.proofs.Common.{append_assoc, true≢false, arith, if◌then◌else◌}
 use Rattle.std.proofs.lemmas.Bool.Decides.{eqb_tells}
 use Rattle.std.proofs.lemmas.Bool.{eqb-true}
-use Rattle.fibs_messages.specs.Board.{BoardFields as Board}
+use Rattle.fibs_boards.specs.Board.{BoardFields as Board}
 use Rattle.fibs_session.specs.History.Log.{Entry}
 use Rattle.fibs_session.specs.History.Words.{Ask, last, open_from, open_now, shown, sent, took}
 use Rattle.fibs_lines.specs.Lines.{lines_of}
@@ -20,7 +20,7 @@ use Rattle.fibs_model.proofs.wires.Boards.{Whole, waiting, boards, boards_more, 
 use Rattle.fibs_model.proofs.joint.Joint.{View, view, to_list, AllAre, Calm, Live, Held, Current, Ahead, Settled, Moved}
 use Rattle.fibs_model.proofs.joint.Joint.{Joint, same_view, linked_same, linked_other, with_link, view_linked}
 use Rattle.fibs_model.proofs.joint.Joint.{joint_current}
-use Rattle.fibs_messages.specs.Board.{spelling}
+use Rattle.fibs_boards.specs.Board.{spelling}
 use Rattle.fibs_position.specs.GoodBoard.{good as is_good}
 
 -- nothing changes that the log and the wires say

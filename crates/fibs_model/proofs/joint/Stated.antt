@@ -5,7 +5,7 @@ use Rattle.std.proofs.Common.{nat_eq, take, drop, refl, sym, ◌∙◌, ap, subs
 use Rattle.std.proofs.Common.{true≢false, arith, if◌then◌else◌}
 use Rattle.std.proofs.lemmas.Bool.{cases_lt, eqb-true}
 use Rattle.std.proofs.lemmas.Bool.Decides.{eqb_tells}
-use Rattle.fibs_messages.specs.Board.{BoardFields as Board, spelling}
+use Rattle.fibs_boards.specs.Board.{BoardFields as Board, spelling}
 use Rattle.fibs_position.specs.DecisionValue.{DecisionValue as Decision}
 use Rattle.fibs_position.specs.GamePart.{same_game}
 use Rattle.fibs_position.specs.GoodBoard.{good as is_good}

@@ -1,6 +1,6 @@
 -- The boards that the server sends on a connection stay the same while the user decides.
 use Rattle.std.proofs.Common.{◌≡◌, ℕ, true, List, [], ◌∷◌, ◌++◌, refl, sym, ◌∙◌, subst}
-use Rattle.fibs_messages.specs.Board.{BoardFields as Board}
+use Rattle.fibs_boards.specs.Board.{BoardFields as Board}
 use Rattle.fibs_position.specs.DecisionValue.{DecisionValue as Decision}
 use Rattle.fibs_model.specs.Acts.{Act, Shows, Says, Serves}
 use Rattle.fibs_model.specs.Joint.{SameUntilServed, Steady}

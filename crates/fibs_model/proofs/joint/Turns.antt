@@ -4,7 +4,7 @@ use Rattle.std.proofs.Common.{None, nat_eq, flat_map, take, refl, sym, ◌∙◌
 use Rattle.std.proofs.Common.{true≢false, arith}
 use Rattle.std.proofs.lemmas.Bool.Decides.{eqb_tells, nat_tests}
 use Rattle.std.proofs.lemmas.Bool.{eqb-true}
-use Rattle.fibs_messages.specs.Board.{BoardFields as Board}
+use Rattle.fibs_boards.specs.Board.{BoardFields as Board}
 use Rattle.fibs_session.specs.History.Log.{Entry}
 use Rattle.fibs_session.specs.History.Log.{Opened, LoggedIn, Took, Lost}
 use Rattle.fibs_session.specs.History.Words.{Ask, is_empty, last, each, open_now, shown, sent, took, sent_by, took_by}
@@ -26,7 +26,7 @@ use Rattle.fibs_model.proofs.joint.Joint.{View, view, to_list, AllAre, Calm, Liv
 use Rattle.fibs_model.proofs.joint.Joint.{Joint, same_view, linked_same, linked_other, with_link, view_linked}
 use Rattle.fibs_model.proofs.joint.Joint.{joint_current}
 use Rattle.fibs_model.proofs.joint.Sending.{joint_board, same_test, if_fact, relink, not_left, with_line}
-use Rattle.fibs_messages.specs.Board.{spelling}
+use Rattle.fibs_boards.specs.Board.{spelling}
 use Rattle.fibs_session.specs.History.Machine.{allows}
 use Rattle.fibs_position.specs.GamePart.{same_game}
 use Rattle.fibs_position.specs.GoodBoard.{good as is_good}

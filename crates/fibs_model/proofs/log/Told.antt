@@ -6,7 +6,7 @@ use Rattle.std.proofs.Math.ListN.{get_or-append}
 use Rattle.std.proofs.Math.Seq.{get_or-append_seam}
 use Rattle.std.proofs.lemmas.Bool.Decides.{eqb_tells}
 use Rattle.std.proofs.lemmas.Bool.{cases_lt}
-use Rattle.fibs_messages.specs.Board.{BoardFields as Board}
+use Rattle.fibs_boards.specs.Board.{BoardFields as Board}
 use Rattle.fibs_position.specs.DecisionValue.{DecisionValue as Decision}
 use Rattle.fibs_session.specs.declared.refusal.Refusal.{Refusal}
 use Rattle.fibs_session.specs.History.Log.{Entry}

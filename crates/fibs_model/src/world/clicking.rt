@@ -1,10 +1,10 @@
 //! The user decides, or says something else.
 
 ghost use Rattle.std.specs.Prelude.{◌≡◌, ◌≤◌, ◌+◌, ◌++◌, OnOk, OnErr, map, vec_len, vec_capacity, option_map};
-ghost use Rattle.fibs_messages.specs.StoredBoard.{fields_of};
+ghost use Rattle.fibs_boards.specs.StoredBoard.{fields_of};
 ghost use Rattle.fibs_position.specs.DecisionValue.{decision_of};
 ghost use Rattle.fibs_session.specs.Calls.SessionOf.{refusal_in};
-ghost use Rattle.fibs_session.specs.PlainOf.{plain_value};
+ghost use Rattle.fibs_commands.specs.PlainOf.{plain_value};
 ghost use Rattle.fibs_model.specs.Calls.{click_entries};
 ghost use Rattle.fibs_model.specs.EntryOf.{entry_of};
 ghost use Rattle.fibs_model.specs.Events as E;

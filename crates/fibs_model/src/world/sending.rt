@@ -1,7 +1,7 @@
 //! The server sends something by itself.
 
 ghost use Rattle.std.specs.Prelude.{◌≡◌, ◌≤◌, OnOk, OnErr};
-ghost use Rattle.fibs_messages.specs.StoredBoard.{fields_of};
+ghost use Rattle.fibs_boards.specs.StoredBoard.{fields_of};
 ghost use Rattle.fibs_model.specs.Events as E;
 ghost use Rattle.fibs_model.specs.WorldOf.{May, Goes};
 

@@ -2,8 +2,8 @@
 
 ghost use Rattle.std.specs.Prelude.{◌≡◌, ◌≤◌, ◌<◌, ◌+◌, ◌++◌, ℕ, List, Some, length, OnOk, OnErr, IfSome, IsSome, map};
 ghost use Rattle.std.specs.Prelude.{vec_len, vec_capacity, slice_index, if◌then◌else◌};
-ghost use Rattle.fibs_messages.specs.Board.{BoardFields, spelling};
-ghost use Rattle.fibs_messages.specs.StoredBoard.{fields_of};
+ghost use Rattle.fibs_boards.specs.Board.{BoardFields, spelling};
+ghost use Rattle.fibs_boards.specs.StoredBoard.{fields_of};
 ghost use Rattle.fibs_model.specs.Calls.{served_entries, is_answered, send_links, TakesLine, TakesNext};
 ghost use Rattle.fibs_model.specs.EntryOf.{entry_of};
 ghost use Rattle.fibs_model.specs.Events as E;

@@ -9,11 +9,11 @@ use Rattle.std.proofs.lemmas.Bool.{cases_eq}
 use Rattle.std.proofs.lemmas.Bool.Decides.{nat_tests}
 use Rattle.std.proofs.lemmas.List.{get_or_append_left}
 use Rattle.std.proofs.lemmas.List.FromFn.{get_or-map-range_with_len, length-map-range_with_len}
-use Rattle.fibs_messages.specs.Board.{BoardFields, IsBoard, field_of, can_have, field_values}
-use Rattle.fibs_messages.specs.FieldRanges.{FieldRanges}
-use Rattle.fibs_position.specs.Hop.{Hop}
-use Rattle.fibs_position.specs.Checkers.{Checkers, shifted, hit}
-use Rattle.fibs_position.specs.LaxPlays.{LaxRun}
+use Rattle.fibs_boards.specs.Board.{BoardFields, IsBoard, field_of, can_have, field_values}
+use Rattle.fibs_boards.specs.FieldRanges.{FieldRanges}
+use Rattle.fibs_rules.specs.Hop.{Hop}
+use Rattle.fibs_rules.specs.Checkers.{Checkers, shifted, hit}
+use Rattle.fibs_rules.specs.LaxPlays.{LaxRun}
 use Rattle.fibs_position.specs.declared.direction.Direction.TheVariants.{Down, Up}
 use Rattle.fibs_position.specs.DirectionOf.{direction_of, line_place}
 use Rattle.fibs_position.specs.OwnView.{colour, place_field, checkers_of, stand_on, on_places, own_on_places}
@@ -21,7 +21,7 @@ use Rattle.fibs_position.specs.OwnView.{other_on_places, own_placed, other_place
 use Rattle.fibs_position.specs.OwnView.{natural}
 use Rattle.fibs_position.specs.GoodBoard.{IsGood}
 use Rattle.fibs_position.specs.BoardEffect.{value_of, place_says, placed, after_move}
-use Rattle.fibs_position.proofs.RuleLemmas.CheckerCounts.{count_le, shifted_le, hit_le, hit_place, range_le, places_le}
+use Rattle.fibs_rules.proofs.RuleLemmas.CheckerCounts.{count_le, shifted_le, hit_le, hit_place, range_le, places_le}
 use Rattle.fibs_position.proofs.BoardLemmas.SetFields.{may_turn, may_stand, may_off, places_are}
 use Rattle.fibs_position.proofs.BoardLemmas.CountLines.{line_sum}
 use Rattle.fibs_position.proofs.BoardLemmas.ChangedFields.{AllMay, board_after, player_after, may_append, may_range}

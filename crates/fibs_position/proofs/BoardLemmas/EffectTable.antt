@@ -6,15 +6,15 @@ use Rattle.std.specs.Ordering.{int_eq}
 use Rattle.std.proofs.lemmas.Int.{ints}
 use Rattle.std.proofs.lemmas.Bool.{leb-true, le-leb}
 use Rattle.std.proofs.lemmas.Bool.Decides.{Decides-and, Decides-not, Decides-ltb, Decides-eqb, Decides-int_eq}
-use Rattle.fibs_messages.specs.Board.{BoardFields, field_of}
+use Rattle.fibs_boards.specs.Board.{BoardFields, field_of}
 use Rattle.fibs_position.specs.OwnView.{turn, colour, first_die, second_die, NoDice, no_dice, own_view}
 use Rattle.fibs_position.specs.GoodBoard.{good}
-use Rattle.fibs_position.specs.LaxPlays.{lax_of}
+use Rattle.fibs_rules.specs.LaxPlays.{lax_of}
 use Rattle.fibs_position.specs.DecisionValue.{DecisionValue, roll, double, accept, reject, move}
 use Rattle.fibs_position.specs.BoardEffect.{IsDie, AreThrown, HasTurn, BeforeRoll, BeforeMove, IsDoubled, rolled}
 use Rattle.fibs_position.specs.BoardEffect.{doubled, accepted, rejected, after_move, Carries, Effect, is_die}
 use Rattle.fibs_position.specs.BoardEffect.{are_thrown, has_turn, is_doubled, carried, effect_of}
-use Rattle.fibs_position.proofs.RuleLemmas.LaxPlays.{lax_sound, lax_complete}
+use Rattle.fibs_rules.proofs.RuleLemmas.LaxPlays.{lax_sound, lax_complete}
 use Rattle.fibs_position.proofs.BoardLemmas.GoodTest.{BoardTest, good_tells, good_from}
 
 -- the test of two natural numbers

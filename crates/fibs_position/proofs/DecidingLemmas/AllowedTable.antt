@@ -16,7 +16,7 @@ use Rattle.fibs_position.specs.declared.phase.Phase.TheVariants.{Passing}
 use Rattle.fibs_position.specs.declared.disallowed.Disallowed.{Disallowed}
 use Rattle.fibs_position.specs.declared.disallowed.Disallowed.TheVariants.{NotYours, WrongKind, IllegalPlay}
 use Rattle.fibs_position.proofs.DecidingLemmas.FirstFit.{find_first}
-use Rattle.fibs_position.proofs.SearchLemmas.LegalTest.{legal_sound, legal_complete}
+use Rattle.fibs_rules.proofs.SearchLemmas.LegalTest.{legal_sound, legal_complete}
 use Rattle.fibs_position.proofs.DecidingLemmas.PhaseTable.{SmallDice, phase_exact}
 use Rattle.fibs_position.proofs.BoardLemmas.EffectTable.{int_le_decides}
 

@@ -1,21 +1,21 @@
 -- The function of phases is the table: the phase of a position is the first line that fits.
-use Rattle.std.proofs.Common.{◌≡◌, ℕ, ◌≤◌, ◌-◌, [], ◌∷◌, Some, lit≤, refl, sym, ap, ◌∙◌, arith}
+use Rattle.std.proofs.Common.{◌≡◌, ℕ, ◌≤◌, [], ◌∷◌, Some, lit≤, refl, sym, ap, ◌∙◌, arith}
 use Rattle.std.specs.Prelude.{ℤ, pos, negsuc, nat_eq, ◌↔◌, ◌≤ℤ◌, find, unwrap_or}
 use Rattle.std.specs.Bool.{Decides}
 use Rattle.std.specs.Ordering.{int_eq}
 use Rattle.std.proofs.lemmas.Int.{ints}
 use Rattle.std.proofs.lemmas.Bool.Decides.{Decides-and, Decides-not, Decides-eqb, Decides-int_eq}
-use Rattle.fibs_messages.specs.Board.{BoardFields, IsBoard, field_of}
-use Rattle.fibs_messages.specs.FieldRanges.{FieldRanges}
+use Rattle.fibs_boards.specs.Board.{BoardFields, IsBoard, field_of}
+use Rattle.fibs_boards.specs.FieldRanges.{FieldRanges}
 use Rattle.fibs_position.specs.OwnView.{natural}
 use Rattle.fibs_position.specs.PositionValue.{PositionValue, position_of}
-use Rattle.fibs_position.specs.Runs.{Standing, CanMove, can_move}
+use Rattle.fibs_rules.specs.Runs.{Standing, CanMove, can_move}
 use Rattle.fibs_position.specs.Phases.{PhaseFits, phases, InPhase, phase_fits, phase_in}
 use Rattle.fibs_position.specs.declared.phase.Phase.{Phase}
 use Rattle.fibs_position.specs.declared.phase.Phase.TheVariants.{Over, AnswerDouble, OpponentActs, RollOrDouble, Move}
 use Rattle.fibs_position.specs.declared.phase.Phase.TheVariants.{Passing}
 use Rattle.fibs_position.proofs.DecidingLemmas.FirstFit.{find_first, find_some}
-use Rattle.fibs_position.proofs.SearchLemmas.SomeStep.{can_sound, can_complete}
+use Rattle.fibs_rules.proofs.SearchLemmas.SomeStep.{can_sound, can_complete}
 
 -- no die shows more than 6
 pub record SmallDice (p : Standing) : Type 0 where

@@ -6,8 +6,8 @@ use Rattle.std.specs.Prelude.{ℤ, pos, neg_ℤ, ◌+ℤ◌, ◌≤ℤ◌, ◌==
 use Rattle.std.specs.Ordering.{int_eq}
 use Rattle.std.proofs.lemmas.Int.{ints}
 use Rattle.std.proofs.lemmas.Bool.Decides.{Decides-int_eq}
-use Rattle.fibs_messages.specs.Board.{BoardFields, IsBoard, field_of, can_have, field_values}
-use Rattle.fibs_messages.specs.FieldRanges.{FieldRanges}
+use Rattle.fibs_boards.specs.Board.{BoardFields, IsBoard, field_of, can_have, field_values}
+use Rattle.fibs_boards.specs.FieldRanges.{FieldRanges}
 use Rattle.fibs_position.specs.First.{IsFirst}
 use Rattle.fibs_position.specs.OwnView.{turn, colour, natural, standing_of}
 use Rattle.fibs_position.specs.PositionValue.{position_of}
@@ -23,7 +23,7 @@ use Rattle.fibs_position.specs.declared.phase.Phase.TheVariants.{Over, AnswerDou
 use Rattle.fibs_position.specs.declared.phase.Phase.TheVariants.{Passing}
 use Rattle.fibs_position.proofs.BoardLemmas.NumberRanges.{agree_at}
 use Rattle.fibs_position.proofs.BoardLemmas.GamePartGroups.{groups_from_same}
-use Rattle.fibs_position.proofs.RuleLemmas.LaxPlays.{legal_lax}
+use Rattle.fibs_rules.proofs.RuleLemmas.LaxPlays.{legal_lax}
 use Rattle.fibs_position.proofs.BoardLemmas.SetFields.{may_turn, may_show, may_cube}
 use Rattle.fibs_position.proofs.BoardLemmas.GoodTest.{BoardTest}
 use Rattle.fibs_position.proofs.BoardLemmas.EffectTable.{effect_exact}

@@ -4,7 +4,7 @@ use Rattle.std.proofs.Common.{refl, sym, ◌∙◌, ap, subst}
 use Rattle.fibs_lines.specs.Lines.{ReadLine}
 use Rattle.fibs_position.specs.DecisionValue.{DecisionValue}
 use Rattle.fibs_position.specs.GamePart.{same_game}
-use Rattle.fibs_session.specs.PlainCommands.{PlainValue, plain_of}
+use Rattle.fibs_commands.specs.PlainCommands.{PlainValue, plain_of}
 use Rattle.fibs_session.specs.declared.refusal.Refusal.{Refusal}
 use Rattle.fibs_session.specs.declared.refusal.Refusal.TheVariants.{AlreadyOpen}
 use Rattle.fibs_session.specs.declared.refusal.PlainRefusal.{PlainRefusal}
@@ -19,7 +19,7 @@ use Rattle.fibs_session.specs.Calls.FieldSteps.{fresh, lost, unheard, line_field
 use Rattle.fibs_session.specs.Calls.FieldSteps.{open_fields, open_send, open_refusal_of, lose_fields, decide_fields}
 use Rattle.fibs_session.specs.Calls.FieldSteps.{decide_send, command_for, plain_refusal_of, with_plain, plain_fields}
 use Rattle.fibs_session.specs.Calls.FieldSteps.{plain_send}
-use Rattle.fibs_session.specs.Logins.{login_text}
+use Rattle.fibs_commands.specs.Logins.{login_text}
 use Rattle.fibs_session.specs.Calls.Standing.{SessionStandsAfter}
 use Rattle.fibs_session.specs.Calls.Doing.{SessionDoes, SessionHears}
 use Rattle.fibs_session.proofs.History.Fields.{at_start, online_law, at_opened, at_lost, heard_law, unheard_law}

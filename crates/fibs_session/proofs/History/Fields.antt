@@ -3,18 +3,18 @@ use Rattle.std.proofs.Common.{◌≡◌, ◌<◌, ◌≤◌, ℕ, zero, suc, Boo
 use Rattle.std.proofs.Common.{Some, None, is_some, if◌then◌else◌, nat_eq, flat_map, refl, sym, ◌∙◌, ap, subst, inl, inr}
 use Rattle.std.proofs.Common.{append_assoc, append-nil, arith, true≢false}
 use Rattle.std.proofs.lemmas.Bool.{cases_Bool}
-use Rattle.fibs_messages.specs.Board.{BoardFields as Board}
+use Rattle.fibs_boards.specs.Board.{BoardFields as Board}
 use Rattle.fibs_messages.specs.Message.{MessageValue}
 use Rattle.fibs_messages.specs.Line.{ReadingValue, numbered_line, board_line, text_line, malformed_line}
 use Rattle.fibs_position.specs.DecisionValue.{DecisionValue as Decision}
 use Rattle.fibs_position.specs.DirectionOf.{direction_of}
-use Rattle.fibs_session.specs.Commands.{command_of}
+use Rattle.fibs_commands.specs.Commands.{command_of}
 use Rattle.fibs_position.specs.GoodBoard.{good}
 use Rattle.fibs_position.specs.GamePart.{same_game}
-use Rattle.fibs_session.specs.PlainCommands.{PlainValue, automove_off, greedy_off, board_again, who, say, tell, shout}
-use Rattle.fibs_session.specs.PlainCommands.{whisper, kibitz, leave_message, invite, invite_to, join, join_with}
-use Rattle.fibs_session.specs.PlainCommands.{toggle_ready, bye, plain_of}
-use Rattle.fibs_session.specs.FirstCommands.{style_text}
+use Rattle.fibs_commands.specs.PlainCommands.{PlainValue, automove_off, greedy_off, board_again, who, say, tell, shout}
+use Rattle.fibs_commands.specs.PlainCommands.{whisper, kibitz, leave_message, invite, invite_to, join, join_with}
+use Rattle.fibs_commands.specs.PlainCommands.{toggle_ready, bye, plain_of}
+use Rattle.fibs_commands.specs.FirstCommands.{style_text}
 use Rattle.fibs_session.specs.declared.refusal.Refusal.{Refusal}
 use Rattle.fibs_session.specs.History.Log.{Entry, Flags, Opened, Welcomed, Informed, Shown, Clicked, Sent, Lost}
 use Rattle.fibs_session.specs.History.Words.{Ask, is_empty, last, open_now, opened_by, connections, shown, sent}

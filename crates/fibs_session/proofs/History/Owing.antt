@@ -4,12 +4,12 @@ use Rattle.std.proofs.Common.{nat_eq, refl, sym, ◌∙◌, ap, subst, arith, ap
 use Rattle.std.proofs.lemmas.List.{length-append}
 use Rattle.std.proofs.lemmas.List.Concat.{flat_map-append}
 use Rattle.fibs_lines.specs.Lines.{ReadLine}
-use Rattle.fibs_messages.specs.Board.{BoardFields}
+use Rattle.fibs_boards.specs.Board.{BoardFields}
 use Rattle.fibs_messages.specs.Flags.{autoboard, moreboards}
 use Rattle.fibs_messages.specs.Line.{ReadingValue, numbered_line, board_line, text_line, malformed_line}
 use Rattle.fibs_messages.specs.Message.{MessageValue}
 use Rattle.fibs_position.specs.GoodBoard.{good}
-use Rattle.fibs_session.specs.FirstCommands.{style_text, autoboard_text, moreboards_text, board_text}
+use Rattle.fibs_commands.specs.FirstCommands.{style_text, autoboard_text, moreboards_text, board_text}
 use Rattle.fibs_session.specs.History.Hearing.{Heard, heard, flags_of, initial_commands, confirmed_by_board}
 use Rattle.fibs_session.specs.History.Hearing.{line_reading, nothing_heard}
 use Rattle.fibs_session.specs.History.Log.{Entry, Welcomed, Informed, Shown}

@@ -1,7 +1,7 @@
 -- What one more entry changes in what a history says.
 use Rattle.std.proofs.Common.{◌≡◌, ℕ, Bool, true, false, not, ◌&&◌, List, [], ◌∷◌, ◌++◌, Some, if◌then◌else◌, nat_eq}
 use Rattle.std.proofs.Common.{refl, sym, ◌∙◌, ap, true≢false}
-use Rattle.fibs_messages.specs.Board.{BoardFields as Board}
+use Rattle.fibs_boards.specs.Board.{BoardFields as Board}
 use Rattle.fibs_position.specs.DecisionValue.{DecisionValue as Decision}
 use Rattle.fibs_session.specs.History.Log.{Entry}
 use Rattle.fibs_session.specs.History.Log.{Opened, Shown, Sent, Lost}

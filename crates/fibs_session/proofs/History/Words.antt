@@ -2,7 +2,7 @@
 use Rattle.std.proofs.Common.{◌≡◌, ◌<◌, ◌≤◌, ℕ, zero, suc, Bool, true, false, not, ◌||◌, List, [], ◌∷◌, ◌++◌, length}
 use Rattle.std.proofs.Common.{Option, Some, None, is_some, if◌then◌else◌, nat_eq, flat_map, refl, sym, ◌∙◌, ap, subst}
 use Rattle.std.proofs.Common.{arith, true≢false}
-use Rattle.fibs_messages.specs.Board.{BoardFields as Board}
+use Rattle.fibs_boards.specs.Board.{BoardFields as Board}
 use Rattle.fibs_position.specs.DecisionValue.{DecisionValue as Decision}
 use Rattle.fibs_position.specs.GamePart.{same_game}
 use Rattle.fibs_session.specs.declared.refusal.Refusal.{Refusal}

@@ -1,16 +1,16 @@
 -- What each call does to the fields of a session. No public contract rests on it: those speak of the history.
 use Rattle.std.specs.Prelude.{ℕ, Bool, true, false, not, ◌&&◌, ◌||◌, List, [], ◌∷◌, Option, Some, None, option_map}
 use Rattle.std.specs.Prelude.{if◌then◌else◌, is_some, nat_eq}
-use Rattle.fibs_messages.specs.Board.{BoardFields}
+use Rattle.fibs_boards.specs.Board.{BoardFields}
 use Rattle.fibs_messages.specs.Message.{MessageValue}
 use Rattle.fibs_messages.specs.Line.{ReadingValue, numbered_line, board_line, text_line, malformed_line}
 use Rattle.fibs_position.specs.DecisionValue.{DecisionValue}
 use Rattle.fibs_position.specs.DirectionOf.{direction_of}
-use Rattle.fibs_session.specs.Commands.{command_of}
+use Rattle.fibs_commands.specs.Commands.{command_of}
 use Rattle.fibs_position.specs.GoodBoard.{good}
 use Rattle.fibs_position.specs.GamePart.{same_game}
-use Rattle.fibs_session.specs.FirstCommands.{style_text}
-use Rattle.fibs_session.specs.PlainCommands.{PlainValue, automove_off, greedy_off, plain_fault_of, plain_of}
+use Rattle.fibs_commands.specs.FirstCommands.{style_text}
+use Rattle.fibs_commands.specs.PlainCommands.{PlainValue, automove_off, greedy_off, plain_fault_of, plain_of}
 use Rattle.fibs_session.specs.declared.refusal.Refusal.{Refusal}
 use Rattle.fibs_session.specs.declared.refusal.Refusal.TheVariants.{AlreadyOpen, Offline, NotReady, ServerPlays}
 use Rattle.fibs_session.specs.declared.refusal.PlainRefusal.{PlainRefusal}

@@ -4,10 +4,10 @@ use Rattle.fibs_lines.specs.Lines.{ReadLine}
 use Rattle.fibs_lines.specs.Lines.{value_of}
 use Rattle.fibs_messages.specs.Line.{ReadingValue}
 use Rattle.fibs_messages.specs.Line.{reading_of}
-use Rattle.fibs_messages.specs.Board.{BoardFields}
-use Rattle.fibs_messages.specs.StoredBoard.{fields_of}
+use Rattle.fibs_boards.specs.Board.{BoardFields}
+use Rattle.fibs_boards.specs.StoredBoard.{fields_of}
 use Rattle.fibs_position.specs.DecisionValue.{decision_of}
-use Rattle.fibs_session.specs.TextOf.{text_of}
+use Rattle.fibs_commands.specs.TextOf.{text_of}
 use Rattle.arrayvec.specs.ArrayString.{ArrayString as CommandText}
 use Rattle.fibs_session.specs.declared.session.shown_board.ShownBoard.{ShownBoard}
 use Rattle.fibs_session.specs.declared.session.taken.Outstanding.{Outstanding}
@@ -16,7 +16,7 @@ use Rattle.fibs_session.specs.declared.session.ServerFlags.{ServerFlags}
 use Rattle.fibs_session.specs.declared.session.Session.{Session}
 use Rattle.fibs_session.specs.History.Log.{Flags}
 use Rattle.fibs_session.specs.History.Words.{Ask}
-use Rattle.fibs_session.specs.LoginOf.{login_of}
+use Rattle.fibs_commands.specs.LoginOf.{login_of}
 use Rattle.fibs_session.specs.Calls.SessionValue.{SessionValue}
 
 abbrev pub ask_of : Outstanding → Ask

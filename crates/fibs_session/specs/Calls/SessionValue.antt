@@ -1,9 +1,9 @@
 -- A session's fields as values, and what a history says of each. No public contract opens it.
 use Rattle.std.specs.Prelude.{◌≡◌, ◌≤◌, ◌<◌, ℕ, Bool, false, not, List, [], Option, nat_eq}
 use Rattle.std.specs.Str.{bytes_eq}
-use Rattle.fibs_messages.specs.Board.{BoardFields}
+use Rattle.fibs_boards.specs.Board.{BoardFields}
 use Rattle.fibs_position.specs.GamePart.{same_game}
-use Rattle.fibs_session.specs.PlainCommands.{automove_off, greedy_off, plain_of}
+use Rattle.fibs_commands.specs.PlainCommands.{automove_off, greedy_off, plain_of}
 use Rattle.fibs_session.specs.History.Log.{Entry, Flags}
 use Rattle.fibs_session.specs.History.Words.{Ask, is_empty, last, open_now, connections, shown, sent, welcomed}
 use Rattle.fibs_session.specs.History.Words.{informed, unconfirmed}

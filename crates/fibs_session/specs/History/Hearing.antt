@@ -1,13 +1,13 @@
 -- What a line says to a client (FIBS CLIP specification 1008; FIBS board style 3): the one place where it stands.
 use Rattle.std.specs.Prelude.{ℕ, List, [], ◌∷◌, ◌++◌, Option, None, if◌then◌else◌, nat_eq}
 use Rattle.fibs_lines.specs.Lines.{ReadLine}
-use Rattle.fibs_messages.specs.Board.{BoardFields}
+use Rattle.fibs_boards.specs.Board.{BoardFields}
 use Rattle.fibs_messages.specs.Message.{MessageValue}
 use Rattle.fibs_messages.specs.Line.{ReadingValue, numbered_line, board_line, text_line, malformed_line}
 use Rattle.fibs_messages.specs.Line.{reading_value}
 use Rattle.fibs_position.specs.GoodBoard.{good}
 use Rattle.fibs_position.specs.GamePart.{same_game}
-use Rattle.fibs_session.specs.FirstCommands.{style_text, autoboard_text, moreboards_text, board_text}
+use Rattle.fibs_commands.specs.FirstCommands.{style_text, autoboard_text, moreboards_text, board_text}
 use Rattle.fibs_messages.specs.Flags.{autoboard, automove, greedy, moreboards}
 use Rattle.fibs_session.specs.History.Log.{Entry, Flags, Welcomed, Informed, Shown}
 use Rattle.fibs_session.specs.History.Words.{Ask, is_empty, welcomed, informed, is_spent, unconfirmed}

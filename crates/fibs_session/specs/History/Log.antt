@@ -1,6 +1,6 @@
 -- What is noted as it happens, by a client and by the model server (the project's own). Connections count from 1.
 use Rattle.std.specs.Prelude.{ℕ, Bool, Option}
-use Rattle.fibs_messages.specs.Board.{BoardFields}
+use Rattle.fibs_boards.specs.Board.{BoardFields}
 use Rattle.fibs_position.specs.DecisionValue.{DecisionValue}
 use Rattle.fibs_session.specs.declared.refusal.Refusal.{Refusal}
 

@@ -4,16 +4,16 @@ use Rattle.std.specs.Prelude.{ℕ, suc, Bool, true, false, not, ◌&&◌, ◌||�
 use Rattle.std.specs.Prelude.{Some, None, option_map, if◌then◌else◌, nat_eq, flat_map}
 use Rattle.std.specs.Str.{bytes_eq}
 use Rattle.fibs_lines.specs.Lines.{ReadLine, lines_of}
-use Rattle.fibs_messages.specs.Board.{BoardFields}
+use Rattle.fibs_boards.specs.Board.{BoardFields}
 use Rattle.fibs_messages.specs.Line.{ReadingValue}
 use Rattle.fibs_position.specs.DecisionValue.{DecisionValue}
 use Rattle.fibs_position.specs.Allowed.{allowed_of}
 use Rattle.fibs_position.specs.DirectionOf.{direction_of}
 use Rattle.fibs_position.specs.declared.disallowed.Disallowed.{Disallowed}
 use Rattle.fibs_position.specs.declared.disallowed.Disallowed.TheVariants as D
-use Rattle.fibs_session.specs.Commands.{command_of}
+use Rattle.fibs_commands.specs.Commands.{command_of}
 use Rattle.fibs_position.specs.GamePart.{same_game}
-use Rattle.fibs_session.specs.PlainCommands.{PlainValue, automove_off, greedy_off, plain_of, plain_fault_of}
+use Rattle.fibs_commands.specs.PlainCommands.{PlainValue, automove_off, greedy_off, plain_of, plain_fault_of}
 use Rattle.fibs_session.specs.declared.refusal.Refusal.{Refusal}
 use Rattle.fibs_session.specs.declared.refusal.Refusal.TheVariants as R
 use Rattle.fibs_session.specs.declared.refusal.PlainRefusal.{PlainRefusal}

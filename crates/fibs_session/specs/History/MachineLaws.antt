@@ -1,6 +1,6 @@
 -- Laws of the machine, for callers.
 use Rattle.std.specs.Prelude.{◌≡◌, ℕ, List, [], ◌∷◌, ◌++◌}
-use Rattle.fibs_messages.specs.Board.{BoardFields}
+use Rattle.fibs_boards.specs.Board.{BoardFields}
 use Rattle.fibs_position.specs.DecisionValue.{DecisionValue}
 use Rattle.fibs_session.specs.History.Log.{Entry, LoggedIn, Took, Undone}
 use Rattle.fibs_session.specs.History.Machine.{Talk, InputValue, Piece, step, stays, noted, then_also}

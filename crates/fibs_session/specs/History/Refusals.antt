@@ -1,6 +1,6 @@
 -- The numbers and names of a client's refusals (the project's own).
 use Rattle.std.specs.Prelude.{ℕ, List, codes}
-use Rattle.fibs_session.specs.PlainFaults.{plain_fault_number, plain_fault_name}
+use Rattle.fibs_commands.specs.PlainFaults.{plain_fault_number, plain_fault_name}
 use Rattle.fibs_session.specs.declared.refusal.PlainRefusal.{PlainRefusal}
 use Rattle.fibs_session.specs.declared.refusal.PlainRefusal.TheVariants as P
 use Rattle.fibs_session.specs.declared.refusal.Refusal.{Refusal}

@@ -4,9 +4,9 @@ ghost use Rattle.std.specs.Prelude.{◌≡◌, [], None};
 ghost use Rattle.fibs_session.specs.declared.client.kept.Kept.TheVariants.{Numbered};
 
 use super::kept::Kept;
-use crate::commands::CommandText;
 use crate::session::Outstanding;
 use arrayvec::ArrayVec;
+use fibs_commands::CommandText;
 
 /// The answer to a line, without the line.
 #[derive(Drop)]

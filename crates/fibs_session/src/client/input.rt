@@ -1,6 +1,6 @@
 //! What comes to a client.
 
-use crate::commands::Plain;
+use fibs_commands::Plain;
 use fibs_position::Decision;
 
 /// What comes to a client.

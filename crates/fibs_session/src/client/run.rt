@@ -5,14 +5,14 @@ ghost use Rattle.fibs_session.specs.Calls.InputOf.{input_of};
 ghost use Rattle.fibs_session.specs.Calls.SessionOf.{texts_of, taken_of, handed};
 ghost use Rattle.fibs_session.specs.Calls.Writing.{Writes};
 ghost use Rattle.fibs_session.specs.History.Machine.{Piece, Out, on_wire, wire_of};
-ghost use Rattle.fibs_session.specs.LoginOf.{login_of};
-ghost use Rattle.fibs_session.specs.TextOf.{text_of};
+ghost use Rattle.fibs_commands.specs.LoginOf.{login_of};
+ghost use Rattle.fibs_commands.specs.TextOf.{text_of};
 
 use super::input::Input;
 use super::{Client, laws};
-use crate::commands::{CommandText, Login};
 use crate::refusal::{PlainRefusal, Refusal};
 use crate::session::Taken;
+use fibs_commands::{CommandText, Login};
 use std::alloc::{AllocError, Global};
 
 /// Appends a command with its line end.

@@ -2,11 +2,11 @@
 
 ghost use Rattle.std.specs.Prelude.{◌≡◌, IsErr, option_map};
 ghost use Rattle.fibs_session.specs.Calls.FieldSteps.{fresh, open_fields, open_send, open_refusal_of, lose_fields};
-ghost use Rattle.fibs_session.specs.LoginOf.{login_of};
+ghost use Rattle.fibs_commands.specs.LoginOf.{login_of};
 
 use super::{Outstanding, Session};
-use crate::commands::{CommandText, Login};
 use crate::refusal::Refusal;
+use fibs_commands::{CommandText, Login};
 
 impl Session {
     ghost use Rattle.fibs_session.specs.Calls.SessionOf.{session_of, ask_of, handed, refusal_in};

@@ -1,19 +1,19 @@
 //! What the user says, by the session's fields.
 
 ghost use Rattle.std.specs.Prelude.{◌≡◌, IsErr, true};
-ghost use Rattle.fibs_messages.specs.StoredBoard.{fields_of};
+ghost use Rattle.fibs_boards.specs.StoredBoard.{fields_of};
 ghost use Rattle.fibs_position.specs.DecisionValue.{decision_of};
 ghost use Rattle.fibs_position.specs.DirectionOf.{direction_of};
 ghost use Rattle.fibs_session.specs.Calls.FieldSteps.{answer_of, decide_fields, decide_send, may_send_of};
 ghost use Rattle.fibs_session.specs.Calls.FieldSteps.{plain_refusal_of, plain_fields, plain_send, with_plain};
-ghost use Rattle.fibs_session.specs.Commands.{command_of};
+ghost use Rattle.fibs_commands.specs.Commands.{command_of};
 ghost use Rattle.fibs_session.specs.History.Machine.{allows, refusal_of};
-ghost use Rattle.fibs_session.specs.PlainOf.{plain_value};
-ghost use Rattle.fibs_session.specs.TextOf.{text_of};
+ghost use Rattle.fibs_commands.specs.PlainOf.{plain_value};
+ghost use Rattle.fibs_commands.specs.TextOf.{text_of};
 
 use super::{Outstanding, Session, ShownBoard};
-use crate::commands::{CommandText, Plain, decision_text, plain_text};
 use crate::refusal::{PlainRefusal, Refusal};
+use fibs_commands::{CommandText, Plain, decision_text, plain_text};
 use fibs_position::{Decision, Disallowed};
 
 /// The command of a decision on the board that is shown.

@@ -1,7 +1,7 @@
 //! The board that is shown, with its position.
 
 ghost use Rattle.std.specs.Prelude.{◌≡◌, IfSome, is_some, true};
-ghost use Rattle.fibs_messages.specs.StoredBoard.{fields_of};
+ghost use Rattle.fibs_boards.specs.StoredBoard.{fields_of};
 ghost use Rattle.fibs_position.specs.GoodBoard.{good};
 ghost use Rattle.fibs_position.specs.PositionValue.{position_of, position_value};
 

@@ -1,7 +1,7 @@
 //! What a session answers.
 
-use crate::commands::CommandText;
 use arrayvec::ArrayVec;
+use fibs_commands::CommandText;
 use fibs_lines::Line;
 use fibs_messages::{Board, Reading};
 use fibs_position::Decision;

@@ -1,37 +1,60 @@
 use Rattle.std.proofs.Common.{◌++◌, ◌∷◌, [], subst}
 use Rattle.std.proofs.KnownBytes.{Keeps-refl}
-use Rattle.fibs_cli.specs.Program.{Played}
+use Rattle.fibs_cli.specs.Program.{Streams, streams, Played}
 use Rattle.fibs_cli.proofs.ProgramLemmas.{showed, listed, printed, ran_script, served_replay, served_show, served_plays}
 use Rattle.fibs_cli.proofs.ProgramLemmas.{served_loop}
 use Rattle.fibs_cli.proofs.program.serve.Goals as goal
 
 pub returns-in-Show : goal.returns-in-Show
 returns-in-Show g c =
-    served_show c.args.request c.show.result _ _ _ _ _ _ c.in-Show.is
-    (showed c.show.result _ _ _ _ c.show.ensures.status c.show.ensures.whole c.show.ensures.end c.show.ensures.device c.show.ensures.memory)
-    (Keeps-refl (g.E.Write.contents c.args.err.now))
+    let told = c.show.ensures in
+    let input = g.R.Read.remaining in
+    let out = g.W.Write.contents in
+    let err = g.E.Write.contents c.args.err.now in
+    let a : Streams = streams (input c.args.input.now) (out c.args.out.now) err in
+    let b : Streams = streams (input c.show.new.reader) (out c.show.new.writer) err in
+    served_show c.args.request c.show.result a b c.in-Show.is
+    (showed c.show.result a b told.status told.whole told.end told.device told.memory) (Keeps-refl err)
 
 pub returns-in-Replay : goal.returns-in-Replay
 returns-in-Replay g c =
-    served_replay c.args.request c.replay.result _ _ _ _ _ _ c.in-Replay.is
-    (ran_script c.replay.result _ _ _ _ c.replay.ensures.done c.replay.ensures.device c.replay.ensures.memory)
-    (Keeps-refl (g.E.Write.contents c.args.err.now))
+    let told = c.replay.ensures in
+    let input = g.R.Read.remaining in
+    let out = g.W.Write.contents in
+    let err = g.E.Write.contents c.args.err.now in
+    let a : Streams = streams (input c.args.input.now) (out c.args.out.now) err in
+    let b : Streams = streams (input c.replay.new.reader) (out c.replay.new.writer) err in
+    served_replay c.args.request c.replay.result a b c.in-Replay.is
+    (ran_script c.replay.result a b told.done told.device told.memory) (Keeps-refl err)
 
 pub returns-in-Plays : goal.returns-in-Plays
 returns-in-Plays g c =
     let told = c.plays.ensures in
-    let held = g.W.Write.contents c.args.out.now in
-    let now = g.W.Write.contents c.plays.new.out in
-    let other = g.E.Write.contents c.args.err.now in
-    let then = g.E.Write.contents c.plays.new.err in
-    let played : Played c.as_bytes.result.now c.plays.result held now other then = (
-      λ b is good. (listed c.plays.result b held now (told.good b is good) (told.good_device b is good) (λ failed. (told.memory failed).0), told.good_silent b is good),
-      λ reading why is refusal. (printed c.plays.result 3 (why ++ (10 ∷ [])) other then (told.refused reading why is refusal), told.refused_silent reading why is refusal),
+    let r = c.plays.result in
+    let input = g.R.Read.remaining c.args.input.now in
+    let out = g.W.Write.contents in
+    let err = g.E.Write.contents in
+    let a : Streams = streams input (out c.args.out.now) (err c.args.err.now) in
+    let b : Streams = streams input (out c.plays.new.out) (err c.plays.new.err) in
+    let played : Played c.as_bytes.result.now r a b = (
+      λ board is good. (
+        listed r board a b (told.good board is good) (told.good_device board is good) (λ failed. (told.memory failed).0),
+        told.good_silent board is good,
+      ),
+      λ reading why is refusal. (
+        printed r 3 (why ++ (10 ∷ [])) a.err b.err (told.refused reading why is refusal),
+        told.refused_silent reading why is refusal,
+      ),
     ) in
-    served_plays c.args.request c.in-Plays.line c.plays.result _ _ _ _ _ _ c.in-Plays.is
-    (subst (λ line. Played line c.plays.result held now other then) c.as_bytes.ensures.value played) (Keeps-refl (g.R.Read.remaining c.args.input.now))
+    served_plays c.args.request c.in-Plays.line r a b c.in-Plays.is
+    (subst (λ line. Played line r a b) c.as_bytes.ensures.value played) (Keeps-refl input)
 
 pub returns-in-Loop : goal.returns-in-Loop
 returns-in-Loop g c =
-    served_loop c.args.request c.play_here.result _ _ _ _ _ _ c.in-Loop.is c.play_here.ensures
-    (Keeps-refl (g.E.Write.contents c.args.err.now))
+    let input = g.R.Read.remaining in
+    let out = g.W.Write.contents in
+    let err = g.E.Write.contents c.args.err.now in
+    served_loop c.args.request c.play_here.result
+    (streams (input c.args.input.now) (out c.args.out.now) err)
+    (streams (input c.play_here.new.input) (out c.play_here.new.out) err)
+    c.in-Loop.is c.play_here.ensures (Keeps-refl err)

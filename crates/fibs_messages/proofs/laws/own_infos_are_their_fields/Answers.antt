@@ -1,6 +1,6 @@
 use Rattle.std.proofs.lemmas.Bool.Decides.{Decides-at}
 use Rattle.fibs_messages.specs.Message.{own_info_fields}
-use Rattle.fibs_messages.proofs.FieldLemmas.Equality.{same_values, same_values_decides}
+use Rattle.fibs_fields.proofs.FieldLemmas.Equality.{same_values, same_values_decides}
 use Rattle.fibs_messages.proofs.laws.own_infos_are_their_fields.Goals as goal
 
 pub returns : goal.returns

@@ -1,6 +1,5 @@
-use Rattle.std.proofs.Common.{◌≡◌, ℕ, Option, sym, ap, ◌∙◌}
+use Rattle.std.proofs.Common.{sym, ap, ◌∙◌}
 use Rattle.fibs_messages.specs.Message.{number_word}
-use Rattle.fibs_messages.specs.Split.{before}
 use Rattle.fibs_messages.proofs.LineLemmas.ReadingValues.{has_one_number, reads_any_number}
 use Rattle.fibs_messages.proofs.line.message_number.Goals as goal
 

@@ -1,6 +1,6 @@
 use Rattle.std.proofs.Common.{sym, ap, ◌∙◌}
-use Rattle.fibs_messages.specs.StoredBoard.{fields_of}
-use Rattle.fibs_position.specs.PlayValue.{hops_of}
+use Rattle.fibs_boards.specs.StoredBoard.{fields_of}
+use Rattle.fibs_rules.specs.PlayValue.{hops_of}
 use Rattle.fibs_position.specs.DecisionValue.{roll, double, accept, reject, move, decision_of}
 use Rattle.fibs_position.specs.BoardEffect.{effect_of}
 use Rattle.fibs_position.proofs.BoardLemmas.EffectTable.{effect_good, effect_bad}

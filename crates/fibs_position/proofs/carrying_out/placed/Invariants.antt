@@ -1,7 +1,7 @@
 use Rattle.std.proofs.Common.{◌≡◌, ◌-◌}
 use Rattle.std.specs.Prelude.{map}
 use Rattle.std.specs.List.{range_with_len}
-use Rattle.fibs_messages.specs.StoredBoard.{fields_of}
+use Rattle.fibs_boards.specs.StoredBoard.{fields_of}
 use Rattle.fibs_position.specs.BoardEffect.{set_fields, place_says}
 use Rattle.fibs_position.proofs.carrying_out.placed.Given as goal
 

@@ -1,5 +1,5 @@
 use Rattle.std.proofs.Common.{refl}
-use Rattle.fibs_messages.specs.Board.{field_values}
+use Rattle.fibs_boards.specs.Board.{field_values}
 use Rattle.fibs_position.proofs.carrying_out.rejected.Goals as goal
 
 pub set-board-requires : goal.set-board-requires

@@ -1,5 +1,6 @@
 use Rattle.std.proofs.Common.{rules}
-use Rattle.fibs_position.proofs.LawLemmas.Equality.{same_decision, play_eq}
+use Rattle.fibs_rules.proofs.LawLemmas.Equality.{play_eq}
+use Rattle.fibs_position.proofs.LawLemmas.Equality.{same_decision}
 use Rattle.fibs_position.proofs.laws.decisions_are_their_values.Goals as goal
 
 pub returns-clause-test : goal.returns-clause-test

@@ -2,7 +2,7 @@ use Rattle.std.proofs.Common.{decimal, take}
 use Rattle.std.specs.List.{flat_map}
 use Rattle.fibs_messages.specs.FieldOf.{values_of}
 use Rattle.fibs_messages.specs.Message.{canonical_field}
-use Rattle.fibs_messages.proofs.FieldLemmas.Fronts.{front_kept}
+use Rattle.fibs_messages.proofs.MessageLemmas.Fronts.{front_kept}
 use Rattle.fibs_messages.proofs.messages.print.append_fields.Goals as goal
 
 pub returns-in_err-append_field-clause-front : goal.returns-in_err-append_field-clause-front

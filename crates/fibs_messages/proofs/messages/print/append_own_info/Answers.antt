@@ -1,7 +1,7 @@
 use Rattle.std.proofs.Common.{◌≡◌, ◌++◌, List, decimal, subst}
 use Rattle.std.specs.List.{flat_map}
 use Rattle.std.specs.Result.{OnOk}
-use Rattle.fibs_messages.specs.Field.{FieldValue}
+use Rattle.fibs_fields.specs.Field.{FieldValue}
 use Rattle.fibs_messages.specs.Message.{canonical_field}
 use Rattle.fibs_messages.proofs.messages.print.append_own_info.Goals as goal
 

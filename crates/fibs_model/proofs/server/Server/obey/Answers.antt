@@ -1,6 +1,6 @@
 use Rattle.std.proofs.Common.{ap}
 use Rattle.std.specs.Prelude.{option_map}
-use Rattle.fibs_messages.specs.StoredBoard.{fields_of}
+use Rattle.fibs_boards.specs.StoredBoard.{fields_of}
 use Rattle.fibs_model.proofs.server.Server.obey.Goals as goal
 
 pub unwrap-self-inside-requires : goal.unwrap-self-inside-requires

@@ -1,6 +1,6 @@
 use Rattle.std.proofs.Common.{refl, ap, ◌∙◌, arith}
 use Rattle.std.specs.Prelude.{option_map}
-use Rattle.fibs_messages.specs.StoredBoard.{fields_of}
+use Rattle.fibs_boards.specs.StoredBoard.{fields_of}
 use Rattle.fibs_position.specs.DecisionValue.{decision_of}
 use Rattle.fibs_model.specs.Events.{Click}
 use Rattle.fibs_model.specs.WorldOf.{world_of}

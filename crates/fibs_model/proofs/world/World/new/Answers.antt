@@ -1,7 +1,7 @@
 use Rattle.std.proofs.Common.{map, refl, ap, arith}
 use Rattle.std.specs.Prelude.{is_ok}
-use Rattle.fibs_messages.specs.StoredBoard.{fields_of}
-use Rattle.fibs_session.specs.LoginOf.{login_of, name_of, password_of}
+use Rattle.fibs_boards.specs.StoredBoard.{fields_of}
+use Rattle.fibs_commands.specs.LoginOf.{login_of, name_of, password_of}
 use Rattle.fibs_model.specs.EntryOf.{entry_of}
 use Rattle.fibs_model.specs.LinksOf.{link_of}
 use Rattle.fibs_model.specs.World.{start}

@@ -1,5 +1,5 @@
 use Rattle.std.proofs.Common.{refl, ap, ◌∙◌, arith}
-use Rattle.fibs_messages.specs.StoredBoard.{fields_of}
+use Rattle.fibs_boards.specs.StoredBoard.{fields_of}
 use Rattle.fibs_model.specs.Events.{Own}
 use Rattle.fibs_model.specs.ServerOf.{ServerValue}
 use Rattle.fibs_model.specs.WorldOf.{world_of}

@@ -1,5 +1,5 @@
 use Rattle.std.proofs.Common.{◌≡◌, ℕ, List, ◌++◌, map, take}
-use Rattle.fibs_messages.specs.Board.{BoardFields}
+use Rattle.fibs_boards.specs.Board.{BoardFields}
 use Rattle.fibs_model.specs.EventOf.{event_of}
 use Rattle.fibs_model.specs.Events.{Event}
 use Rattle.fibs_model.specs.WorldCalls.{WorldStandsAfter}

@@ -1,6 +1,6 @@
 use Rattle.std.proofs.Common.{sym, subst}
 use Rattle.fibs_session.specs.Calls.Standing.{StandsAfter}
-use Rattle.fibs_session.specs.Logins.{login_text}
+use Rattle.fibs_commands.specs.Logins.{login_text}
 use Rattle.fibs_model.specs.World.{talk_of}
 use Rattle.fibs_model.specs.WorldCalls.{machine_after}
 use Rattle.fibs_model.specs.WorldOf.{WorldValue}

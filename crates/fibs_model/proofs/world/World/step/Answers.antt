@@ -1,5 +1,5 @@
 use Rattle.std.proofs.Common.{sym, refl, ◌∙◌}
-use Rattle.fibs_session.specs.Logins.{login_text}
+use Rattle.fibs_commands.specs.Logins.{login_text}
 use Rattle.fibs_model.specs.EventOf.{event_of}
 use Rattle.fibs_model.specs.WorldCalls.{machine_after}
 use Rattle.fibs_model.proofs.Likeness.Stepping.{tells, told, stands_for, stands_more, stands_still}

@@ -1,6 +1,6 @@
 use Rattle.std.proofs.lemmas.Bool.Decides.{same_from_decides}
 use Rattle.fibs_position.specs.PositionValue.{position_value}
-use Rattle.fibs_position.specs.Runs.{can_move}
+use Rattle.fibs_rules.specs.Runs.{can_move}
 use Rattle.fibs_position.proofs.DecidingLemmas.PhaseTable.{SmallDice, can_move_decides}
 use Rattle.fibs_position.proofs.position.Position.can_move.Goals as goal
 

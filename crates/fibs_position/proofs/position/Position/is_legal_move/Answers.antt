@@ -2,7 +2,7 @@ use Rattle.std.proofs.Common.{sym, ap, ◌∙◌}
 use Rattle.std.proofs.lemmas.Bool.Decides.{same_from_decides}
 use Rattle.fibs_position.specs.PositionValue.{position_value}
 use Rattle.fibs_position.proofs.DecidingLemmas.PhaseTable.{SmallDice}
-use Rattle.fibs_position.specs.PlayValue.{hops_of}
+use Rattle.fibs_rules.specs.PlayValue.{hops_of}
 use Rattle.fibs_position.specs.DecisionValue.{move, decision_of}
 use Rattle.fibs_position.specs.Allowed.{is_legal}
 use Rattle.fibs_position.proofs.DecidingLemmas.AllowedTable.{legal_decides}

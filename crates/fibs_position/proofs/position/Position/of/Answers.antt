@@ -1,5 +1,5 @@
 use Rattle.std.proofs.Common.{arith, ◌<◌, sym}
-use Rattle.fibs_messages.specs.StoredBoard.{fields_of}
+use Rattle.fibs_boards.specs.StoredBoard.{fields_of}
 use Rattle.fibs_position.specs.GoodBoard.{IsGood}
 use Rattle.fibs_position.specs.OwnView.{own_placed, other_placed, own_view}
 use Rattle.fibs_position.proofs.BoardLemmas.GoodTest.{good_from, good_fails}

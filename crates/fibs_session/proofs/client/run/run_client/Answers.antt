@@ -1,6 +1,6 @@
 use Rattle.std.proofs.Common.{subst, map}
 use Rattle.fibs_session.specs.History.Machine.{Out}
-use Rattle.fibs_session.specs.LoginOf.{login_of}
+use Rattle.fibs_commands.specs.LoginOf.{login_of}
 use Rattle.fibs_session.specs.Calls.InputOf.{input_of}
 use Rattle.fibs_session.proofs.Calls.Runs.{Going, goes_on, ends, next, none_left}
 use Rattle.fibs_session.proofs.client.run.run_client.Goals as goal

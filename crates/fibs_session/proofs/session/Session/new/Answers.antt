@@ -1,4 +1,4 @@
-use Rattle.fibs_session.specs.LoginOf.{name_of, password_of}
+use Rattle.fibs_commands.specs.LoginOf.{name_of, password_of}
 use Rattle.fibs_session.proofs.Calls.SessionLaws.{start_law}
 use Rattle.fibs_session.proofs.session.Session.new.Goals as goal
 

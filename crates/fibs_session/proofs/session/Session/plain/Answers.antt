@@ -1,4 +1,4 @@
-use Rattle.fibs_session.specs.PlainOf.{plain_value}
+use Rattle.fibs_commands.specs.PlainOf.{plain_value}
 use Rattle.fibs_session.proofs.Calls.SessionLaws.{plain_does, plain_refuses}
 use Rattle.fibs_session.proofs.session.Session.plain.Goals as goal
 

@@ -1,0 +1,4 @@
+pub mod EscapeLemmas
+pub mod WriteLemmas
+pub mod ShowLemmas
+pub mod PlaysLemmas

@@ -1,0 +1,8 @@
+//! What is printed of the server's lines: the account of a stream, and the list of a board's plays.
+#![tactic(auto)]
+
+pub mod fault;
+pub mod plays;
+pub mod printing;
+pub mod show;
+pub mod writing;

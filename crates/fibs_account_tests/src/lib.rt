@@ -1,0 +1,7 @@
+//! Tests of what is printed of the server's lines.
+#![tactic(auto)]
+
+#[cfg(test)]
+mod plays;
+#[cfg(test)]
+mod show;

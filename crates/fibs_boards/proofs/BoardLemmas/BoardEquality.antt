@@ -1,0 +1,56 @@
+-- Two boards are equal exactly where their 53 fields are.
+use Rattle.std.proofs.Common.{◌≡◌, ◌==◌, ◌&&◌, List, ℕ, refl, sym, ap, ◌∙◌, length, take}
+use Rattle.std.specs.Bool.{Decides}
+use Rattle.std.specs.Cmp.Lexicographic.{pointwise}
+use Rattle.std.specs.Ordering.{int_eq}
+use Rattle.std.specs.Str.{bytes_eq}
+use Rattle.std.proofs.lemmas.Bool.Decides.{Decides-eqb, Decides-int_eq, Decides-and, Decides-like}
+use Rattle.std.proofs.lemmas.Slice.Eq.{bytes_eq-Decides, slice_eq-Decides}
+use Rattle.fibs_boards.specs.Board.{BoardFields}
+use Rattle.fibs_boards.specs.StoredParts.{name_of}
+use Rattle.fibs_boards.specs.StoredBoard.{fields_of}
+use Rattle.fibs_boards.specs.StoredBytes.{IsStored, padded}
+use Rattle.fibs_boards.specs.contracts.board.BoardPartialEq.TheImpl.{eq-value as board_eq}
+use Rattle.fibs_boards.specs.declared.board.Board.{Board}
+use Rattle.fibs_boards.specs.declared.stored_name.StoredName.{StoredName}
+
+-- stored bytes that begin with the same name are the same
+stored_same : (x y : List ℕ) (m n : ℕ) → IsStored x m → IsStored y n → take m x ≡ take n y → (x ≡ y) × (m ≡ n)
+stored_same x y m n g h e = (sym g.2 ∙ ap padded e ∙ h.2, sym g.0 ∙ ap (λ (l : List ℕ). length l) e ∙ h.0)
+
+-- and the other way round
+taken_same : (x y : List ℕ) (m n : ℕ) → (x ≡ y) × (m ≡ n) → take m x ≡ take n y
+taken_same x y m n e i = take (e.1 i) (e.0 i)
+
+-- what `==` answers of stored names
+name_decides : (m n : StoredName) → Decides (bytes_eq m.bytes n.bytes && (m.len == n.len)) (name_of m ≡ name_of n)
+name_decides m n =
+    Decides-like (bytes_eq m.bytes n.bytes && (m.len == n.len)) (taken_same m.bytes n.bytes m.len n.len)
+    (stored_same m.bytes n.bytes m.len n.len m.stored n.stored)
+    (Decides-and (bytes_eq m.bytes n.bytes) (m.len == n.len) (bytes_eq-Decides m.bytes n.bytes)
+    (Decides-eqb m.len n.len))
+
+-- boards with the same parts have the same fields
+fields_same : (a b : Board)
+    → (name_of a.player ≡ name_of b.player) × ((name_of a.opponent ≡ name_of b.opponent) × (a.numbers ≡ b.numbers))
+    → fields_of a ≡ fields_of b
+fields_same a b e i = record { player = e.0 i; opponent = e.1.0 i; numbers = e.1.1 i }
+
+-- and the other way round
+parts_same : (a b : Board) → fields_of a ≡ fields_of b
+    → (name_of a.player ≡ name_of b.player) × ((name_of a.opponent ≡ name_of b.opponent) × (a.numbers ≡ b.numbers))
+parts_same a b e = (
+  ap (λ (f : BoardFields). f.player) e,
+  (ap (λ (f : BoardFields). f.opponent) e, ap (λ (f : BoardFields). f.numbers) e),
+)
+
+-- what `==` answers of two boards
+pub boards_decide : (a b : Board) → Decides (board_eq.it a b) (fields_of a ≡ fields_of b)
+boards_decide a b =
+    let player = bytes_eq a.player.bytes b.player.bytes && (a.player.len == b.player.len) in
+    let opponent = bytes_eq a.opponent.bytes b.opponent.bytes && (a.opponent.len == b.opponent.len) in
+    let numbers = pointwise int_eq a.numbers b.numbers in
+    let each = Decides-and player (opponent && numbers) (name_decides a.player b.player)
+    (Decides-and opponent numbers (name_decides a.opponent b.opponent)
+    (slice_eq-Decides Decides-int_eq a.numbers b.numbers numbers refl)) in
+    Decides-like (player && (opponent && numbers)) (fields_same a b) (parts_same a b) each

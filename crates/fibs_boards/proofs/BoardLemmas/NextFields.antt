@@ -1,0 +1,279 @@
+-- The next field of a board line, as it is read: what it says of the pieces of the line.
+use Rattle.std.proofs.Common.{◌≡◌, ◌∙◌, ℕ, ◌+◌, Bool, true, false, List, [], ◌∷◌, Option, Some, None, Result, Ok, Err}
+use Rattle.std.proofs.Common.{codes, refl, sym, ap, subst, inl, inr}
+use Rattle.std.specs.Prelude.{ℤ}
+use Rattle.std.specs.Fmt.{signed_decimal}
+use Rattle.std.specs.Result.{result_err}
+use Rattle.std.specs.Str.{bytes_eq}
+use Rattle.std.specs.List.{onto_first}
+use Rattle.std.proofs.lemmas.Bool.{cases_eq, eq-eqb, ne_eqb}
+use Rattle.std.proofs.lemmas.Slice.Eq.{bytes_eq-Decides}
+use Rattle.fibs_boards.specs.Board.{pieces}
+use Rattle.fibs_boards.specs.BoardReading.{first_fault, fault_or, pieces_of, pieces_left}
+use Rattle.fibs_fields.specs.Decimal.{allows, number_in}
+use Rattle.fibs_fields.specs.DecimalReading.{IsNarrow}
+use Rattle.fibs_fields.specs.Field.{Kind, the_word, a_name, a_number_of, may_be_absent, fault_in, FieldValue}
+use Rattle.fibs_fields.specs.Field.{NameField}
+use Rattle.fibs_fields.specs.FieldReading.{Left, left, numbered, next_at, field_at, text_at, end_at, value_in, good}
+use Rattle.fibs_fields.specs.FieldReading.{this_word, ◌>>=◌}
+use Rattle.fibs_fields.specs.Name.{is_name}
+use Rattle.fibs_fields.specs.Split.{before, after}
+use Rattle.fibs_fields.specs.declared.fault.FieldFault.{FieldFault}
+use Rattle.fibs_fields.specs.declared.fault.Fault.{Fault}
+use Rattle.fibs_fields.specs.declared.fault.Fault.TheVariants.{Missing, Extra}
+use Rattle.fibs_fields.specs.declared.values.Values.{Values}
+use Rattle.fibs_fields.proofs.FieldLemmas.FieldFaults.{err_of_good, fault_of_value}
+use Rattle.fibs_fields.proofs.NumberLemmas.Spelled.{number_in_spelled}
+use Rattle.fibs_boards.proofs.BoardLemmas.OneNumberMore.{extra_piece}
+
+-- the pieces of a text are what stands before the first colon, and the pieces of what stands after it
+pub pieces_split : (s : List ℕ) → pieces s ≡ before 58 s ∷ pieces_of (after 58 s)
+pieces_split [] = refl
+pieces_split (b ∷ s) = elim (cases_eq b 58) [
+  | inl e ↦ rw (eq-eqb b 58 e) refl
+  | inr n ↦ rw (ne_eqb b 58 n) (ap (onto_first b) (pieces_split s))
+]
+
+-- a field of some kind was read from what was left: its text, and what is left after it
+pub record IsNext (kind : Kind) (i : ℕ) (rest : Option (List ℕ)) (text : List ℕ) (l : Left) : Type 0 where
+  pub separator : l.separator ≡ 58
+  pub pieces : pieces_of rest ≡ text ∷ pieces_of l.rest
+  pub later : (kinds : List Kind)
+      → first_fault i (kind ∷ kinds) (pieces_of rest) ≡ first_fault (i + 1) kinds (pieces_of l.rest)
+
+-- a reader refuses the texts that are not of the kind, with their faults, and the kind may not be absent
+abbrev pub Reads : {A : Type 0} → (List ℕ → Result A Fault) → Kind → Type 0
+Reads read kind = ((text : List ℕ) → result_err (read text) ≡ fault_in kind text) × (may_be_absent kind ≡ false)
+
+-- what a field was read as
+pub record WasRead {A : Type 0} (read : List ℕ → Result A Fault) (kind : Kind) (i : ℕ) (rest : Option (List ℕ)) (x : A)
+    (l : Left) : Type 0 where
+  pub text : List ℕ
+  pub value : read text ≡ Ok x
+  pub next : IsNext kind i rest text l
+
+-- one answer has one value
+ok_same : {A : Type 0} (x y : A) → ◌≡◌ {A = Result A FieldFault} (Ok x) (Ok y) → x ≡ y
+ok_same x y h = cc
+
+-- and one rest
+pair_same : {A : Type 0} (x y : A) (l m : Left) → ◌≡◌ {A = Result (A × Left) FieldFault} (Ok (x, l)) (Ok (y, m))
+    → (x ≡ y) × (l ≡ m)
+pair_same x y l m h =
+    let same = ok_same (x, l) (y, m) h in
+    (ap (λ p. p.0) same, ap (λ p. p.1) same)
+
+-- a value is no fault
+ok_no_err : {A : Type 0} (x : A) (e : FieldFault) → ◌≡◌ {A = Result A FieldFault} (Ok x) (Err e) → ⊥
+ok_no_err x e h = cc
+
+-- one fault
+err_same : {A : Type 0} (d e : FieldFault) → ◌≡◌ {A = Result A FieldFault} (Err d) (Err e) → d ≡ e
+err_same d e h = cc
+
+-- the pieces of what is left, where the first is of the kind, or is not
+first_right : (kind : Kind) (i : ℕ) (s : List ℕ) (kinds : List Kind) → fault_in kind (before 58 s) ≡ None
+    → first_fault i (kind ∷ kinds) (pieces s) ≡ first_fault (i + 1) kinds (pieces_of (after 58 s))
+first_right kind i s kinds good =
+    ap (first_fault i (kind ∷ kinds)) (pieces_split s)
+    ∙ ap (λ o. fault_or i o (first_fault (i + 1) kinds (pieces_of (after 58 s)))) good
+
+-- a wrong piece is the first fault
+first_wrong : (kind : Kind) (i : ℕ) (s : List ℕ) (kinds : List Kind) (f : Fault) → fault_in kind (before 58 s) ≡ Some f
+    → first_fault i (kind ∷ kinds) (pieces s) ≡ Some (record { field = i; fault = f })
+first_wrong kind i s kinds f bad =
+    ap (first_fault i (kind ∷ kinds)) (pieces_split s)
+    ∙ ap (λ o. fault_or i o (first_fault (i + 1) kinds (pieces_of (after 58 s)))) bad
+
+-- what was read, with what is left
+abbrev read_with : {A : Type 0} → ℕ → Result A Fault → Left → Result (A × Left) FieldFault
+read_with i r l = numbered i r >>= λ x. Ok (x, l)
+
+-- a field that was read is of its kind
+right_read : {A : Type 0} (read : List ℕ → Result A Fault) (kind : Kind) (i : ℕ) (s : List ℕ) (r : Result A Fault)
+    (x : A) (l : Left) → Reads read kind → read (before 58 s) ≡ r
+    → read_with i r (left 58 (after 58 s)) ≡ Ok (x, l) → WasRead read kind i (Some s) x l
+right_read read kind i s (Ok y) x l reads is h =
+    let same = pair_same y x (left 58 (after 58 s)) l h in
+    let good : fault_in kind (before 58 s) ≡ None = sym (reads.0 (before 58 s)) ∙ ap result_err is in
+    let next : IsNext kind i (Some s) (before 58 s) (left 58 (after 58 s)) =
+    record { separator = refl; pieces = pieces_split s; later = λ kinds. first_right kind i s kinds good } in
+    record {
+      text = before 58 s;
+      value = is ∙ ap Ok same.0;
+      next =
+          subst (IsNext kind i (Some s) (before 58 s)) same.1 next;
+    }
+right_read read kind i s (Err f) x l reads is h = absurd (ok_no_err (x, l) (record { field = i; fault = f }) (sym h))
+
+-- a field that is refused is the first fault, by its answer
+wrong_read : {A : Type 0} (read : List ℕ → Result A Fault) (kind : Kind) (i : ℕ) (s : List ℕ) (r : Result A Fault)
+    (e : FieldFault) (kinds : List Kind) → Reads read kind → read (before 58 s) ≡ r
+    → read_with i r (left 58 (after 58 s)) ≡ Err e → first_fault i (kind ∷ kinds) (pieces s) ≡ Some e
+wrong_read read kind i s (Ok y) e kinds reads is h = absurd (ok_no_err (y, left 58 (after 58 s)) e h)
+wrong_read read kind i s (Err f) e kinds reads is h =
+    first_wrong kind i s kinds f (sym (reads.0 (before 58 s)) ∙ ap result_err is)
+    ∙ ap Some (err_same (record { field = i; fault = f }) e h)
+
+-- a field that is read
+next_read : {A : Type 0} (read : List ℕ → Result A Fault) (kind : Kind) (i : ℕ) (rest : Option (List ℕ)) (x : A)
+    (l : Left) → Reads read kind → next_at read i (left 58 rest) ≡ Ok (x, l) → WasRead read kind i rest x l
+unfolding next_at text_at
+next_read read kind i None x l reads h = absurd (ok_no_err (x, l) (record { field = i; fault = Missing }) (sym h))
+next_read read kind i (Some s) x l reads h = right_read read kind i s (read (before 58 s)) x l reads refl h
+
+-- a field that is refused
+next_wrong : {A : Type 0} (read : List ℕ → Result A Fault) (kind : Kind) (i : ℕ) (rest : Option (List ℕ))
+    (e : FieldFault) (kinds : List Kind) → Reads read kind → next_at read i (left 58 rest) ≡ Err e
+    → first_fault i (kind ∷ kinds) (pieces_of rest) ≡ Some e
+unfolding next_at text_at
+next_wrong read kind i None e kinds reads h =
+    rw reads.1 (ap Some (err_same (record { field = i; fault = Missing }) e h))
+next_wrong read kind i (Some s) e kinds reads h = wrong_read read kind i s (read (before 58 s)) e kinds reads refl h
+
+-- the same of what is left, where it is parted by colons
+pub was_read : {A : Type 0} (read : List ℕ → Result A Fault) (kind : Kind) (i : ℕ) (l m : Left) (x : A)
+    → Reads read kind → l.separator ≡ 58 → next_at read i l ≡ Ok (x, m) → WasRead read kind i l.rest x m
+was_read read kind i l m x reads colon h =
+    next_read read kind i l.rest x m reads (subst (λ (c : ℕ). next_at read i (left c l.rest) ≡ Ok (x, m)) colon h)
+
+-- a field that is refused is the first fault
+pub was_wrong : {A : Type 0} (read : List ℕ → Result A Fault) (kind : Kind) (i : ℕ) (l : Left) (e : FieldFault)
+    (kinds : List Kind) → Reads read kind → l.separator ≡ 58 → next_at read i l ≡ Err e
+    → first_fault i (kind ∷ kinds) (pieces_of l.rest) ≡ Some e
+was_wrong read kind i l e kinds reads colon h =
+    next_wrong read kind i l.rest e kinds reads (subst (λ (c : ℕ). next_at read i (left c l.rest) ≡ Err e) colon h)
+
+-- ---- the kinds
+
+-- a name is read as any piece is
+name_of_left : (i c : ℕ) (rest : Option (List ℕ))
+    → field_at a_name i (left c rest) ≡ next_at (value_in a_name) i (left c rest)
+unfolding field_at next_at text_at
+name_of_left i c None = refl
+name_of_left i c (Some s) = refl
+
+-- a name is read as the next field
+pub name_is_next : (i : ℕ) (l : Left) → field_at a_name i l ≡ next_at (value_in a_name) i l
+name_is_next i l = name_of_left i l.separator l.rest
+
+-- names are read as their kind says
+pub reads_name : Reads (value_in a_name) a_name
+reads_name = (fault_of_value a_name, refl)
+
+-- and so are numbers
+pub reads_number : (values : Values) → Reads (number_in values) (a_number_of values)
+reads_number values = (λ text. refl, refl)
+
+-- and the word `board`
+pub reads_board : Reads (this_word (codes "board")) (the_word (codes "board"))
+reads_board = (λ text. err_of_good (bytes_eq text (codes "board")) (codes "board"), refl)
+
+-- a test that was passed
+if_good : {A : Type 0} (test : Bool) (x y : A) → good test x ≡ Ok y → (test ≡ true) × (x ≡ y)
+if_good true x y h = (refl, cc)
+if_good false x y h = cc
+
+-- a text that is read as a word or a name is that
+pub is_this_word : (word text : List ℕ) → this_word word text ≡ Ok word → text ≡ word
+is_this_word word text h = (bytes_eq-Decides text word).0 (if_good (bytes_eq text word) word word h).0
+
+-- a name that is read is the text
+pub is_this_name : (text s : List ℕ) → value_in a_name text ≡ Ok (NameField s) → (text ≡ s) × (is_name s ≡ true)
+unfolding value_in
+is_this_name text s h =
+    let name = if_good (is_name text) (NameField text) (NameField s) h in
+    let same : text ≡ s = cc in
+    (same, subst (λ (t : List ℕ). is_name t ≡ true) same name.0)
+
+-- a number that was read
+pub record NumberRead (values : Values) (i : ℕ) (l m : Left) (z : ℤ) : Type 0 where
+  pub colon : m.separator ≡ 58
+  pub pieces : pieces_left l ≡ signed_decimal z ∷ pieces_left m
+  pub allowed : allows values z ≡ true
+  pub later : (kinds : List Kind)
+      → first_fault i (a_number_of values ∷ kinds) (pieces_left l) ≡ first_fault (i + 1) kinds (pieces_left m)
+
+-- what is so where a number was read
+pub number_was_read : (values : Values) (i : ℕ) (l m : Left) (z : ℤ) → IsNarrow values → l.separator ≡ 58
+    → next_at (number_in values) i l ≡ Ok (z, m) → NumberRead values i l m z
+number_was_read values i l m z narrow colon h =
+    let read = was_read (number_in values) (a_number_of values) i l m z (reads_number values) colon h in
+    let spelled = number_in_spelled values read.text z narrow read.value in
+    record {
+      colon = read.next.separator;
+      pieces = read.next.pieces ∙ ap (λ t. t ∷ pieces_left m) spelled.0;
+      allowed =
+          spelled.1;
+      later = read.next.later;
+    }
+
+-- a name that was read
+pub record NameRead (i : ℕ) (l m : Left) (s : List ℕ) : Type 0 where
+  pub colon : m.separator ≡ 58
+  pub pieces : pieces_left l ≡ s ∷ pieces_left m
+  pub is_name : is_name s ≡ true
+  pub later : (kinds : List Kind)
+      → first_fault i (a_name ∷ kinds) (pieces_left l) ≡ first_fault (i + 1) kinds (pieces_left m)
+
+-- where a name was read
+pub name_was_read : (i : ℕ) (l m : Left) (s : List ℕ) → l.separator ≡ 58 → field_at a_name i l ≡ Ok (NameField s, m)
+    → NameRead i l m s
+name_was_read i l m s colon h =
+    let read = was_read (value_in a_name) a_name i l m (NameField s) reads_name colon (sym (name_is_next i l) ∙ h) in
+    let name = is_this_name read.text s read.value in
+    record {
+      colon = read.next.separator;
+      pieces = read.next.pieces ∙ ap (λ t. t ∷ pieces_left m) name.0;
+      is_name =
+          name.1;
+      later = read.next.later;
+    }
+
+-- where a name was refused
+pub name_was_wrong : (i : ℕ) (l : Left) (e : FieldFault) (kinds : List Kind) → l.separator ≡ 58
+    → field_at a_name i l ≡ Err e → first_fault i (a_name ∷ kinds) (pieces_left l) ≡ Some e
+name_was_wrong i l e kinds colon h =
+    was_wrong (value_in a_name) a_name i l e kinds reads_name colon (sym (name_is_next i l) ∙ h)
+
+-- the word `board` was read
+pub record BoardRead (l m : Left) : Type 0 where
+  pub colon : m.separator ≡ 58
+  pub pieces : pieces_left l ≡ codes "board" ∷ pieces_left m
+  pub later : (kinds : List Kind)
+      → first_fault 1 ((the_word (codes "board")) ∷ kinds) (pieces_left l) ≡ first_fault 2 kinds (pieces_left m)
+
+-- where the word was read
+pub board_was_read : (l m : Left) → l.separator ≡ 58 → next_at (this_word (codes "board")) 1 l ≡ Ok (codes "board", m)
+    → BoardRead l m
+board_was_read l m colon h =
+    let read =
+    was_read (this_word (codes "board")) (the_word (codes "board")) 1 l m (codes "board") reads_board colon h in
+    record {
+      colon = read.next.separator;
+      pieces = read.next.pieces
+          ∙ ap (λ t. t ∷ pieces_left m) (is_this_word (codes "board") read.text read.value);
+      later = read.next.later;
+    }
+
+-- nothing is left, or more than there should be
+end_right_of : (i c : ℕ) (rest : Option (List ℕ)) (vs : List FieldValue) → end_at i (left c rest) ≡ Ok vs
+    → pieces_of rest ≡ []
+unfolding end_at
+end_right_of i c None vs h = refl
+end_right_of i c (Some s) vs h = absurd (ok_no_err vs (record { field = i; fault = Extra }) (sym h))
+
+-- nothing is left at the end
+pub end_right : (i : ℕ) (l : Left) (vs : List FieldValue) → end_at i l ≡ Ok vs → pieces_left l ≡ []
+end_right i l vs h = end_right_of i l.separator l.rest vs h
+
+-- something is left
+end_wrong_of : (i c : ℕ) (rest : Option (List ℕ)) (e : FieldFault) → end_at i (left c rest) ≡ Err e
+    → first_fault i [] (pieces_of rest) ≡ Some e
+unfolding end_at
+end_wrong_of i c None e h = absurd (ok_no_err [] e h)
+end_wrong_of i c (Some s) e h = extra_piece i s ∙ ap Some (err_same (record { field = i; fault = Extra }) e h)
+
+-- what is left at the end is the first fault
+pub end_wrong : (i : ℕ) (l : Left) (e : FieldFault) → end_at i l ≡ Err e → first_fault i [] (pieces_left l) ≡ Some e
+end_wrong i l e h = end_wrong_of i l.separator l.rest e h

@@ -1,0 +1,2 @@
+-- Why the definitions of boards and the code agree.
+pub mod BoardLemmas

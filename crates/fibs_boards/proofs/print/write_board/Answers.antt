@@ -1,0 +1,17 @@
+use Rattle.std.proofs.Common.{drop}
+use Rattle.fibs_boards.specs.Board.{BoardFields}
+use Rattle.fibs_boards.proofs.BoardLemmas.Backward.{written_backward}
+use Rattle.fibs_boards.proofs.print.write_board.Goals as goal
+
+pub returns-clause-written : goal.returns-clause-written
+returns-clause-written c =
+    let b : BoardFields =
+    record { player = c.args.player.now; opponent = c.args.opponent.now; numbers = c.args.numbers.now } in
+    written_backward b
+    (drop c.write_numbers-start.result c.write_numbers-start.new.text)
+    (drop c.write_before-start.result c.write_before-start.new.text)
+    (drop c.write_before-start-2.result c.write_before-start-2.new.text)
+    (drop c.write_before-start-3.result c.write_before-start-3.new.text)
+    (drop c.write_before.result c.write_before.new.text)
+    c.write_numbers-start.ensures.written c.write_before-start.ensures.written c.write_before-start-2.ensures.written
+    c.write_before-start-3.ensures.written c.write_before.ensures.written

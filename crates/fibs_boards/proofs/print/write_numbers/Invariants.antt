@@ -1,0 +1,16 @@
+use Rattle.std.proofs.Common.{◌≡◌, ◌≤◌, ◌+◌, take, drop}
+use Rattle.fibs_boards.specs.Board.{field_values}
+use Rattle.fibs_boards.specs.Numerals.{after_colons}
+use Rattle.fibs_boards.proofs.BoardLemmas.Lengths.{total}
+use Rattle.fibs_boards.proofs.print.write_numbers.Given as goal
+
+abbrev pub invariant-loop-left : goal.invariant-loop-left
+invariant-loop-left l = record {
+  count : l.left ≤ 50;
+  within : l.start ≤ 329;
+  room : total (take l.left field_values) + 135 ≤ l.start;
+  text : drop l.start l.text ≡ after_colons (drop l.left l.numbers);
+}
+
+abbrev pub decreases-loop-left : goal.decreases-loop-left
+decreases-loop-left l = l.left

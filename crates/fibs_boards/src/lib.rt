@@ -1,0 +1,9 @@
+//! Boards of a backgammon server, FIBS, in board style 3: their fields, and how their lines are read and printed.
+#![tactic(auto)]
+
+pub mod board;
+mod field_ranges;
+pub mod laws;
+mod print;
+mod read;
+mod stored_name;

@@ -1,6 +1,0 @@
-use Rattle.fibs_cli.specs.Turns.Turn.{FitsStream, is_there}
-use Rattle.fibs_cli.proofs.connect.answer_lines.Given as goal
-
--- the client is online exactly where there is a connection
-abbrev pub invariant-loop : goal.invariant-loop
-invariant-loop g l = FitsStream l.seat.client (is_there l.seat.stream)

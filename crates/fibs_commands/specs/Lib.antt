@@ -1,0 +1,11 @@
+pub mod Commands
+pub mod TextOf
+pub mod PlainCommands
+pub mod PlainOf
+pub mod PlainFaults
+pub mod Logins
+pub mod LoginOf
+pub mod FirstCommands
+pub mod CommandReading
+pub mod PlainReading
+pub mod CommandLaws

@@ -1,0 +1,46 @@
+//! The texts that a client sends.
+
+ghost use Rattle.std.specs.Prelude.{◌≡◌, ◌≤◌, ◌++◌, length, true};
+ghost use Rattle.std.specs.List.{list_all};
+ghost use Rattle.fibs_commands.specs.PlainCommands.{is_text_byte};
+ghost use Rattle.fibs_commands.specs.TextOf.{text_of};
+
+use arrayvec::ArrayString;
+use std::str;
+
+/// A command to the server: a text of at most 512 bytes, without its line end. On the wire it is followed by CR LF.
+///
+/// Texts are equal where their bytes are.
+pub type CommandText = ArrayString<512>;
+
+/// The text of no more than this.
+pub fn command(text: &str) -> CommandText
+    requires { length text.now ≤ 512 }
+    ensures { text_of result ≡ text.now }
+{
+    let mut command = CommandText::new();
+    command.push_str(text);
+    command
+}
+
+/// Whether it is a byte of 32 to 126.
+fn is_text_byte(byte: &u8) -> bool
+    ensures { result ≡ is_text_byte byte.now }
+{
+    *byte >= 32 && *byte <= 126
+}
+
+/// Whether each of them is.
+pub fn are_text_bytes(bytes: &[u8]) -> bool
+    ensures { result ≡ list_all is_text_byte bytes.now }
+{
+    bytes.iter().all(is_text_byte)
+}
+
+/// Bytes of printable ASCII as a text.
+pub fn printed(bytes: &[u8]) -> &str
+    requires { list_all is_text_byte bytes.now ≡ true }
+    ensures { result.now ≡ bytes.now }
+{
+    str::from_utf8(bytes).unwrap()
+}

@@ -1,0 +1,5 @@
+//! Tests of the commands that a client sends.
+#![tactic(auto)]
+
+#[cfg(test)]
+mod commands;

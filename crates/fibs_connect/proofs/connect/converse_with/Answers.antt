@@ -1,0 +1,28 @@
+use Rattle.std.proofs.Common.{◌≡◌, true, false, None, Some, inl, inr, ap, sym, ◌∙◌}
+use Rattle.std.specs.Result.{result_err}
+use Rattle.std.proofs.KnownBytes.{Keeps-refl}
+use Rattle.fibs_commands.specs.Logins.{login_fault}
+use Rattle.fibs_turns.proofs.TurnLemmas.Wrote.{if_ok_weaker}
+use Rattle.fibs_connect.proofs.ConverseLemmas.Logins.{conversed_by}
+use Rattle.fibs_connect.proofs.connect.converse_with.Goals as goal
+
+pub returns-in-Err : goal.returns-in-Err
+returns-in-Err g c = (
+  (if_ok_weaker c.print_fault.result (λ status h. inr h.0) c.print_fault.ensures.printed, c.print_fault.ensures.device),
+  conversed_by c.args.name.now c.read_line.new.line.items c.new-lines.result.waiting
+      (g.R.Read.remaining c.args.typed.now) _ _ (Some c.in-Err.fault) c.print_fault.result _ _ _ _
+      c.new-lines.ensures.waiting (c.in_ok-read_line.ensures.takes (λ e. absurd (cc)))
+      (sym (ap result_err c.in-Err.is) ∙ c.new.ensures.fault
+      ∙ ap (login_fault c.args.name.now) c.as_slice.ensures.value)
+      (c.print_fault.ensures.printed, Keeps-refl _),
+)
+
+pub returns-in-Ok : goal.returns-in-Ok
+returns-in-Ok g c = (
+  (if_ok_weaker c.answer_lines.result (λ status h. inl h) c.answer_lines.ensures.done, c.answer_lines.ensures.device),
+  conversed_by c.args.name.now c.read_line.new.line.items c.new-lines.result.waiting
+      (g.R.Read.remaining c.args.typed.now) _ _ None c.answer_lines.result _ _ _ _
+      c.new-lines.ensures.waiting (c.in_ok-read_line.ensures.takes (λ e. absurd (cc)))
+      (sym (ap result_err c.in-Ok.is) ∙ c.new.ensures.fault ∙ ap (login_fault c.args.name.now) c.as_slice.ensures.value)
+      (c.answer_lines.ensures.done, Keeps-refl _),
+)

@@ -1,0 +1,40 @@
+-- How a conversation with the server ends.
+use Rattle.std.specs.Prelude.{◌≡◌, ◌⊎◌, ◌++◌, ℕ, List, Option, Some, None, Result, codes, IfOk, IfErr, OnOk}
+use Rattle.std.specs.Io.KnownBytes.{Appends, Keeps}
+use Rattle.fibs_commands.specs.Logins.{login_fault}
+use Rattle.fibs_commands.specs.PlainFaults.{plain_fault_number, plain_fault_name}
+use Rattle.fibs_commands.specs.declared.plain.PlainFault.{PlainFault}
+use Rattle.fibs_turns.specs.Turns.Acts.{line_bytes}
+use Rattle.fibs_turns.specs.Turns.Typing.{reason_line}
+use Rattle.fibs_connect.specs.Converse.Typing.{typed_line}
+use Rattle.fibs_account.specs.declared.fault.EngineFault.{EngineFault}
+use Rattle.fibs_account.specs.declared.fault.EngineFault.TheVariants as fault
+
+-- the line that says what is wrong with a name or a password
+abbrev pub login_fault_line : PlainFault → List ℕ
+login_fault_line why = reason_line (codes "fault ") (plain_fault_number why) (plain_fault_name why)
+
+-- it ends with the status 0 or 3, or a device failed. Want of memory ends none
+abbrev pub EndsWell : Result ℕ EngineFault → Type 0
+EndsWell result = IfOk result (λ status. (status ≡ 0) ⊎ (status ≡ 3)) × IfErr result (λ why. why ≡ fault.Device)
+
+-- a login with a fault is refused on the second writer, with the status 3, and the first writer is given nothing; after
+-- any other login the status is 0, and the second writer is given nothing
+abbrev pub EndsBy : Option PlainFault → Result ℕ EngineFault
+    → Option (List ℕ) → Option (List ℕ) → Option (List ℕ) → Option (List ℕ) → Type 0
+EndsBy None result held now other then = IfOk result (λ status. status ≡ 0) × Keeps other then
+EndsBy (Some why) result held now other then =
+    IfOk result (λ status. (status ≡ 3) × Appends other then (line_bytes (login_fault_line why))) × Keeps held now
+
+-- where the reader tells its bytes: the first typed line is the password
+abbrev pub ConversedOver : List ℕ → Option (List ℕ) → Result ℕ EngineFault
+    → Option (List ℕ) → Option (List ℕ) → Option (List ℕ) → Option (List ℕ) → Type 0
+ConversedOver name None result held now other then = Unit {0}
+ConversedOver name (Some typed) result held now other then =
+    EndsBy (login_fault name (typed_line typed)) result held now other then
+
+-- a conversation under this name ended so: with what its reader has left, and what its two writers hold, before and
+-- after
+abbrev pub Conversed : List ℕ → Result ℕ EngineFault
+    → Option (List ℕ) → Option (List ℕ) → Option (List ℕ) → Option (List ℕ) → Option (List ℕ) → Type 0
+Conversed name result left held now other then = EndsWell result × ConversedOver name left result held now other then

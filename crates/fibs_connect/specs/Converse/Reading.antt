@@ -1,0 +1,26 @@
+-- How typed lines are read, portion by portion. No public contract of the program rests on it.
+use Rattle.std.specs.Prelude.{◌≡◌, ℕ, Bool, true, List, length, nat_lt, Option, Some, None, ⊤}
+use Rattle.std.specs.Io.KnownBytes.{prepend_known, IsAtEnd}
+use Rattle.fibs_connect.specs.Converse.Typing.{typed_line, after_typed_line, kept_typed}
+
+-- what a reader of typed lines keeps: bytes that wait, how many reads it may still make, and whether nothing follows
+pub record TypedValue : Type 0 where
+  pub waiting : List ℕ
+  pub reads : ℕ
+  pub ended : Bool
+
+-- what is still to come, where the device tells what it has left
+abbrev pub ahead : TypedValue → Option (List ℕ) → Option (List ℕ)
+ahead value left = prepend_known value.waiting left
+
+-- it holds that nothing follows only where that is so
+abbrev pub FitsDevice : TypedValue → Option (List ℕ) → Type 0
+FitsDevice value left = value.ended ≡ true → IsAtEnd left
+
+-- the first line of what is still to come was taken: what is kept of it, what is then still to come, and whether there
+-- was one
+abbrev pub TakesLine : Option (List ℕ) → Option (List ℕ) → List ℕ → Bool → Type 0
+TakesLine None still line found = ⊤
+TakesLine (Some typed) None line found = ⊥
+TakesLine (Some typed) (Some rest) line found =
+    (line ≡ kept_typed (typed_line typed)) × (rest ≡ after_typed_line typed) × (found ≡ nat_lt 0 (length typed))

@@ -1,0 +1,37 @@
+-- What a typed line asks for (the project's own): three words are the conversation's, all others go to the client.
+use Rattle.std.specs.Prelude.{ℕ, List, [], ◌∷◌, Option, Some, None, Bool, cond, codes, length, nat_lt}
+use Rattle.std.specs.Str.{bytes_eq}
+use Rattle.fibs_connect.specs.declared.connect.wish.Wish.{Wish}
+use Rattle.fibs_connect.specs.declared.connect.wish.Wish.TheVariants as W
+use Rattle.fibs_connect.specs.Converse.Typing.{typed_limit}
+
+-- the conversation connects again, lists the players or ends; the line is too long; or the client takes a turn, with
+-- this line or without one
+pub data WishValue : Type 0 where
+  connects : WishValue
+  lists_players : WishValue
+  ends : WishValue
+  is_too_long : WishValue
+  takes_turn : Option (List ℕ) → WishValue
+
+-- an empty line only hears the server
+abbrev pub said_line : List ℕ → Option (List ℕ)
+said_line [] = None
+said_line (b ∷ line) = Some (b ∷ line)
+
+abbrev pub wish_of : List ℕ → WishValue
+wish_of line =
+    cond (bytes_eq line (codes "open")) connects
+    (cond (bytes_eq line (codes "players")) lists_players
+    (cond (bytes_eq line (codes "quit")) ends
+    (cond (nat_lt typed_limit (length line)) is_too_long
+    (takes_turn (said_line line)))))
+
+-- the program's wishes as these
+abbrev pub wish_value : Wish → WishValue
+wish_value W.Open = connects
+wish_value W.Players = lists_players
+wish_value W.Quit = ends
+wish_value W.TooLong = is_too_long
+wish_value W.Listen = takes_turn None
+wish_value (W.Say line) = takes_turn (Some line.now)

@@ -1,0 +1,128 @@
+//! `fibs connect`: a player's conversation with the server.
+ghost use Rattle.std.specs.Prelude.{◌≡◌, IfOk, IfErr};
+ghost use Rattle.std.specs.Io.KnownBytes.{Appends, Keeps};
+ghost use Rattle.fibs_connect.specs.Converse.Ending.{Conversed, login_fault_line};
+ghost use Rattle.fibs_turns.specs.Turns.Acts.{line_bytes};
+
+pub mod dial;
+mod players;
+mod seat;
+mod typed_lines;
+mod wish;
+
+use dial::{Dial, Server};
+use fibs_account::fault::EngineFault;
+use fibs_session::{Login, PlainFault};
+use fibs_turns::exchange::printing::print_reason;
+use seat::{Going, Seat};
+use std::alloc::Global;
+use std::io::{Read, Write};
+use std::net::{Net, TcpStream};
+pub use typed_lines::TypedFault;
+use typed_lines::{TypedLine, TypedLines};
+
+/// The most times that the user's lines are read.
+const MAX_READS: u32 = 1_000_000_000;
+
+/// The exit status at the end.
+const DONE: u8 = 0;
+
+/// The exit status where the name or the password is refused.
+const REFUSED: u8 = 3;
+
+/// Talks with a server for a player.
+///
+/// The first line of `typed` is the password. Where it or the name has a fault, `err` is given `fault NUMBER NAME`, and
+/// the status is 3. Else it connects to the host, a name or an address, logs in, and answers each line that is typed:
+/// `open` connects again, `players` lists the players that are known, `quit` ends, and all others are turns of the
+/// client (`exchange`), which an empty line takes without a word. Where no connection can be made it says so, and goes
+/// on. At the end of the lines, and after `quit`, the status is 0.
+///
+/// Errors: `Device` where a line can't be read, or what is printed can't be written. Never `Memory`: what the directory
+/// refuses is printed.
+pub fn converse<N: Net<Stream = TcpStream>, R: Read, W: Write, E: Write>(
+    rt: &N,
+    alloc: Global,
+    host: &str,
+    port: u16,
+    name: &[u8],
+    typed: &mut R,
+    out: &mut W,
+    err: &mut E,
+) -> Result<u8, EngineFault>
+    ensures { Conversed name.now result (R.remaining typed.old)
+        (W.contents out.old) (W.contents out.new) (E.contents err.old) (E.contents err.new) }
+{
+    let mut server = Server::new(rt, host, port);
+    converse_with(&mut server, alloc, name, MAX_READS, typed, out, err)
+}
+
+/// The same with any maker of connections, and with at most so many reads of what is typed.
+pub fn converse_with<D: Dial, R: Read, W: Write, E: Write>(
+    server: &mut D,
+    alloc: Global,
+    name: &[u8],
+    reads: u32,
+    typed: &mut R,
+    out: &mut W,
+    err: &mut E,
+) -> Result<u8, EngineFault>
+    ensures { Conversed name.now result (R.remaining typed.old)
+        (W.contents out.old) (W.contents out.new) (E.contents err.old) (E.contents err.new) }
+{
+    let mut lines = TypedLines::new(reads);
+    let mut line = TypedLine::new();
+    lines.read_line(typed, &mut line)?;
+    match Login::new(name, line.as_slice()) {
+        Err(fault) => print_fault(fault, err),
+        Ok(login) => answer_lines(server, alloc, login, &mut lines, typed, out),
+    }
+}
+
+/// Prints what is wrong with a name or a password.
+fn print_fault<E: Write>(fault: PlainFault, err: &mut E) -> Result<u8, EngineFault>
+    ensures printed { IfOk result (λ status. (status ≡ 3)
+        × Appends (E.contents err.old) (E.contents err.new) (line_bytes (login_fault_line fault))) }
+    ensures device { IfErr result (λ why. why ≡ EngineFault.Device) }
+{
+    print_reason(b"fault ", fault.number(), fault, err)?;
+    Ok(REFUSED)
+}
+
+/// Connects, and answers each line, to the end of the lines or up to `quit`.
+fn answer_lines<D: Dial, R: Read, W: Write>(
+    server: &mut D,
+    alloc: Global,
+    login: Login,
+    lines: &mut TypedLines,
+    typed: &mut R,
+    out: &mut W,
+) -> Result<u8, EngineFault>
+    ensures done { IfOk result (λ status. status ≡ 0) }
+    ensures device { IfErr result (λ why. why ≡ EngineFault.Device) }
+{
+    let mut seat = Seat::new(alloc, login);
+    seat.open(server, out)?;
+    let mut line = TypedLine::new();
+    for _ in 0..u64::MAX {
+        flush(out)?;
+        if !lines.read_line(typed, &mut line)? {
+            return Ok(DONE);
+        }
+        match seat.answer(line.as_slice(), server, out)? {
+            Going::On => {}
+            Going::Away => {
+                flush(out)?;
+                return Ok(DONE);
+            }
+        }
+    }
+    Err(EngineFault::Device)
+}
+
+/// Hands on what was printed, before the program waits or ends.
+fn flush<W: Write>(out: &mut W) -> Result<(), EngineFault>
+    ensures { IfErr result (λ why. why ≡ EngineFault.Device) }
+{
+    out.flush().map_err(|_| EngineFault::Device)
+}

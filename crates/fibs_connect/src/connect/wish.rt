@@ -1,0 +1,42 @@
+//! What a typed line asks for.
+ghost use Rattle.std.specs.Prelude.{◌≡◌};
+ghost use Rattle.fibs_connect.specs.Converse.Wishes.{wish_of, wish_value};
+
+/// The longest line that may be typed.
+const LIMIT: usize = 4096;
+
+/// What a typed line asks for.
+#[derive(Clone, Copy)]
+pub enum Wish<'a> {
+    /// To connect again.
+    Open,
+    /// To list the players that are known.
+    Players,
+    /// To end.
+    Quit,
+    /// Nothing that can be: the line is too long.
+    TooLong,
+    /// To hear the server.
+    Listen,
+    /// That the client answers the line, and then to hear the server.
+    Say(&'a [u8]),
+}
+
+/// What a typed line asks for.
+pub fn wish_of(line: &[u8]) -> Wish<'_>
+    ensures { wish_value result ≡ wish_of line.now }
+{
+    if line == b"open".as_slice() {
+        Wish::Open
+    } else if line == b"players".as_slice() {
+        Wish::Players
+    } else if line == b"quit".as_slice() {
+        Wish::Quit
+    } else if line.len() > LIMIT {
+        Wish::TooLong
+    } else if line.is_empty() {
+        Wish::Listen
+    } else {
+        Wish::Say(line)
+    }
+}

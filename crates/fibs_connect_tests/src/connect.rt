@@ -1,0 +1,311 @@
+//! Conversations, with streams in memory and on real sockets.
+
+use fibs_account::fault::EngineFault;
+use fibs_connect::connect::dial::Dial;
+use fibs_connect::connect::{converse, converse_with};
+use fibs_test_tools::devices::Endless;
+use fibs_test_tools::outcome::Outcome;
+use fibs_test_tools::pipe::{After, Pipe};
+use fibs_test_tools::text::{Text, text_of};
+use std::alloc::Global;
+use std::io;
+use std::io::Read;
+use std::net::{Net, OpenListener, TcpListener, TcpStream};
+use std::test::Fail;
+
+/// A server in memory: what each connection gives, how many bytes it takes, and how many connections there are.
+#[derive(Drop)]
+pub struct Door<'a> {
+    pub input: &'a [u8],
+    pub room: usize,
+    pub connections: u32,
+}
+
+impl<'a> Dial for Door<'a> {
+    type Stream = Pipe<'a>;
+
+    fn dial(&mut self) -> Option<Pipe<'a>> {
+        if self.connections == 0 {
+            return None;
+        }
+        self.connections -= 1;
+        Some(Pipe::new(self.input, 7, After::WouldBlock, self.room))
+    }
+}
+
+/// What is typed, how often one can connect, and what comes of it.
+struct Case {
+    name: &'static str,
+    typed: &'static [u8],
+    connections: u32,
+    status: u8,
+    out: &'static [u8],
+    err: &'static [u8],
+}
+
+const WELCOME: &[u8] = b"1 ann 1041253132 localhost\r\n\
+    5 someplayer mgnu_advanced - 0 0 1912.15 827 8 1040515752 192.168.143.5 3DFiBs -\r\n\
+    5 bob - - 1 0 1500.5 0 3 1040515752 host - -\r\n";
+
+static CASES: [Case; 8] = [
+    Case {
+        name: "nothing is typed",
+        typed: b"",
+        connections: 1,
+        status: 3,
+        out: b"",
+        err: b"fault 2 BadText\n",
+    },
+    Case {
+        name: "the password is the empty line",
+        typed: b"\r\nroll\n",
+        connections: 1,
+        status: 3,
+        out: b"",
+        err: b"fault 2 BadText\n",
+    },
+    Case {
+        name: "the password keeps a return without a line end",
+        typed: b"secret\r",
+        connections: 1,
+        status: 3,
+        out: b"",
+        err: b"fault 2 BadText\n",
+    },
+    Case {
+        name: "only the password is typed",
+        typed: b"secret",
+        connections: 1,
+        status: 0,
+        out: b"",
+        err: b"",
+    },
+    Case {
+        name: "nobody answers",
+        typed: b"secret\n\nroll\r\nplayers\nopen\nquit",
+        connections: 0,
+        status: 0,
+        out: b"no connection\nrefused 2 Offline\nno connection\n",
+        err: b"",
+    },
+    Case {
+        name: "players are listed, and lines after quit are not answered",
+        typed: b"secret\n\nopen\nplayers\nquit\ndance\n",
+        connections: 1,
+        status: 0,
+        out: b"message 1 ann 1041253132 localhost\n\
+            message 5 someplayer mgnu_advanced - 0 0 1912.15 827 8 1040515752 192.168.143.5 3DFiBs -\n\
+            message 5 bob - - 1 0 1500.5 0 3 1040515752 host - -\n\
+            refused 1 AlreadyOpen\nplayer someplayer 1912.15\nplayer bob 1500.50\n",
+        err: b"",
+    },
+    Case {
+        name: "a line is typed that is no command",
+        typed: b"secret\nplayers \nOpen\nquit",
+        connections: 0,
+        status: 0,
+        out: b"no connection\nunknown\nunknown\n",
+        err: b"",
+    },
+    Case {
+        name: "the last line has no end",
+        typed: b"secret\nroll",
+        connections: 0,
+        status: 0,
+        out: b"no connection\nrefused 2 Offline\n",
+        err: b"",
+    },
+];
+
+/// How a conversation ends in which what is typed is read so often at most, and what is printed on both writers, of
+/// which the first takes `room` bytes.
+pub fn conversed(
+    alloc: Global,
+    mut door: Door<'_>,
+    typed: &mut impl Read,
+    reads: u32,
+    room: usize,
+) -> Outcome {
+    let mut out = Pipe::new(b"", 1, After::End, room);
+    let mut err = Pipe::new(b"", 1, After::End, 1024);
+    let ending = converse_with(&mut door, alloc, b"ann", reads, typed, &mut out, &mut err);
+    Outcome {
+        ending,
+        out: text_of(out.output()),
+        err: text_of(err.output()),
+    }
+}
+
+/// However the typed bytes come.
+#[test]
+fn answers_what_is_typed(rt: HostRuntime) {
+    for case in &CASES {
+        for most in [1, 2, 7, 1000] {
+            let door = Door {
+                input: WELCOME,
+                room: 4096,
+                connections: case.connections,
+            };
+            let mut typed = Pipe::new(case.typed, most, After::End, 0);
+            let outcome = conversed(rt.alloc(), door, &mut typed, 1000, 1024);
+            assert!(rt;
+                outcome.is(Ok(case.status), case.out, case.err),
+                "{}, at {}: {:?}",
+                case.name,
+                most,
+                outcome
+            );
+        }
+    }
+}
+
+/// A login that can't be written whole ends its connection, and the next one is another.
+#[test]
+fn each_write_of_a_login_that_fails_loses_the_connection(rt: HostRuntime) {
+    let login = b"login fibs_client 1008 ann secret\r\n";
+    for room in 0..login.len() + 1 {
+        let door = Door {
+            input: b"",
+            room,
+            connections: 2,
+        };
+        let mut typed = Pipe::new(b"secret\nroll\nopen\n", 100, After::End, 0);
+        let outcome = conversed(rt.alloc(), door, &mut typed, 1000, 1024);
+        let wanted: &[u8] = if room < login.len() {
+            b"lost\nrefused 2 Offline\nlost\n"
+        } else {
+            b"refused 3 NotReady\nrefused 1 AlreadyOpen\n"
+        };
+        assert!(rt;
+            outcome.is(Ok(0), wanted, b""),
+            "a write of a login, at {}: {:?}",
+            room,
+            outcome
+        );
+    }
+}
+
+/// A server that nobody reaches.
+fn no_door() -> Door<'static> {
+    Door {
+        input: b"",
+        room: 0,
+        connections: 0,
+    }
+}
+
+#[test]
+fn a_writer_that_fails_is_a_fault(rt: HostRuntime) {
+    let wanted: &[u8] = b"no connection\nrefused 2 Offline\n";
+    for room in 0..wanted.len() {
+        let mut typed = Pipe::new(b"secret\nroll\n", 100, After::End, 0);
+        let outcome = conversed(rt.alloc(), no_door(), &mut typed, 1000, room);
+        let ending = Err(EngineFault::Device);
+        assert!(rt;
+            outcome.is(ending, &wanted[..room], b""),
+            "a writer, at {}: {:?}",
+            room,
+            outcome
+        );
+    }
+}
+
+#[test]
+fn a_reader_that_fails_is_a_fault(rt: HostRuntime) {
+    let whole: &[u8] = b"secret\nroll\n";
+    for length in 0..whole.len() {
+        let mut typed = Pipe::new(&whole[..length], 100, After::Fault, 0);
+        let outcome = conversed(rt.alloc(), no_door(), &mut typed, 1000, 100);
+        assert_eq!(rt; outcome.ending, Err(EngineFault::Device), "at {length}");
+    }
+}
+
+/// What is typed is read so often, and no more.
+#[test]
+fn typed_lines_without_end_end(rt: HostRuntime) {
+    for reads in [0, 1, 5] {
+        let mut typed = Endless::new();
+        let outcome = conversed(rt.alloc(), no_door(), &mut typed, reads, 1024);
+        assert_eq!(rt; outcome.ending, Err(EngineFault::Device), "at {reads}");
+        assert_eq!(rt; typed.asked(), reads, "at {reads}");
+    }
+}
+
+/// How a conversation over sockets ends, and what is printed on both writers.
+fn conversed_at<N: Net<Stream = TcpStream> + AllocGlobal>(
+    rt: &N,
+    port: u16,
+    typed: &[u8],
+) -> Outcome {
+    let mut typed = Pipe::new(typed, 100, After::End, 0);
+    let mut out = Pipe::new(b"", 1, After::End, 100);
+    let mut err = Pipe::new(b"", 1, After::End, 100);
+    let ending = converse(
+        rt,
+        rt.alloc(),
+        "127.0.0.1",
+        port,
+        b"ann",
+        &mut typed,
+        &mut out,
+        &mut err,
+    );
+    Outcome {
+        ending,
+        out: text_of(out.output()),
+        err: text_of(err.output()),
+    }
+}
+
+/// A port of this machine on which nothing listens.
+fn free_port<N: Net>(rt: &N) -> io::Result<u16> {
+    let listener = TcpListener::bind(rt, "127.0.0.1:0")?;
+    Ok(listener.local_addr()?.port())
+}
+
+#[test]
+fn a_port_where_nothing_listens_gives_no_connection(rt: HostRuntime) -> Result<(), Fail> {
+    let outcome = conversed_at(&rt, free_port(&rt)?, b"secret\nroll\nquit\n");
+    let wanted = b"no connection\nrefused 2 Offline\n";
+    assert!(rt;
+        outcome.is(Ok(0), wanted, b""),
+        "nobody listens, at {}: {:?}",
+        0,
+        outcome
+    );
+    Ok(())
+}
+
+/// What a connection gives up to its end, in at most 100 reads.
+fn read_whole(stream: &mut TcpStream) -> io::Result<Text> {
+    let mut received = [0u8; 100];
+    let mut text = Text::new();
+    for _ in 0..100 {
+        match stream.read(&mut received)? {
+            0 => break,
+            count => {
+                let _fits = text.try_extend_from_slice(&received[..count]);
+            }
+        }
+    }
+    Ok(text)
+}
+
+#[test]
+fn a_socket_is_given_the_login_and_no_more(rt: HostRuntime) -> Result<(), Fail> {
+    let listener = TcpListener::bind(&rt, "127.0.0.1:0")?;
+    let port = listener.local_addr()?.port();
+    let outcome = conversed_at(&rt, port, b"secret\n\nquit\n");
+    assert!(rt;
+        outcome.is(Ok(0), b"", b""),
+        "a socket, at {}: {:?}",
+        0,
+        outcome
+    );
+    let (mut far, _peer) = listener.accept()?;
+    assert_eq!(rt;
+        read_whole(&mut far)?.as_slice(),
+        b"login fibs_client 1008 ann secret\r\n".as_slice()
+    );
+    Ok(())
+}

@@ -1,0 +1,7 @@
+//! Tests of conversations with a server.
+#![tactic(auto)]
+
+#[cfg(test)]
+mod connect;
+#[cfg(test)]
+mod refused_notes;

@@ -1,0 +1,5 @@
+//! Tests of the directory.
+#![tactic(auto)]
+
+#[cfg(test)]
+mod directory;

@@ -1,0 +1,7 @@
+-- Fields of a line: their values, their faults, what is left after them.
+pub mod Equality
+pub mod FieldFaults
+pub mod FieldValues
+pub mod Options
+pub mod Spaces
+pub mod Splits

@@ -1,0 +1,3 @@
+-- Why the definitions of fields and the code agree.
+pub mod FieldLemmas
+pub mod NumberLemmas

@@ -1,0 +1,14 @@
+-- What a caller reads: a field of a line, what it may be, how it is spelled, and what is wrong with other texts.
+pub mod Split
+pub mod Spaces
+pub mod Decimal
+pub mod Name
+pub mod Word
+pub mod Rating
+pub mod Faults
+pub mod Field
+-- The values of the program as these, where their own facts stand in the files above.
+pub mod Bytes
+-- What only private functions and proofs say; on the reading of fields rests `reading_value` of fibs_messages too.
+pub mod DecimalReading
+pub mod FieldReading

@@ -1,0 +1,14 @@
+//! The fields of a line of a backgammon server, FIBS: how one is found, what its text says, and what is wrong with it.
+#![tactic(auto)]
+
+pub mod dash;
+pub mod decimal;
+pub mod fault;
+pub mod laws;
+pub mod name;
+pub mod rating;
+pub mod reader;
+pub mod split;
+pub mod trailing_spaces;
+pub mod values;
+pub mod word;

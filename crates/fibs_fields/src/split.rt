@@ -1,0 +1,27 @@
+//! A text is split at a byte.
+
+ghost use Rattle.std.specs.Prelude.{◌≡◌};
+ghost use Rattle.fibs_fields.specs.Split.{seen, before, after};
+
+use bstr::ByteSlice;
+
+/// What stands before the first `byte`, and what stands after it, where there is one.
+#[inline(always)]
+pub fn split(text: &[u8], byte: u8) -> (&[u8], Option<&[u8]>)
+    ensures before { result.0.now ≡ before byte text.now }
+    ensures after { seen result.1 ≡ after byte text.now }
+{
+    // Most fields are one byte or two.
+    if text.len() > 2 && text[0] != byte {
+        if text[1] == byte {
+            return (&text[..1], Some(&text[2..]));
+        }
+        if text[2] == byte {
+            return (&text[..2], Some(&text[3..]));
+        }
+    }
+    match text.find_byte(byte) {
+        Some(at) => (&text[..at], Some(&text[at + 1..])),
+        None => (text, None),
+    }
+}

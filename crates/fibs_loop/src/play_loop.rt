@@ -1,0 +1,148 @@
+//! `fibs loop`: a script of events, played by a client and a model server over real sockets.
+ghost use Rattle.std.specs.Prelude.{◌≡◌, ◌≤◌, ◌<◌, ◌^◌, List, length, IfOk};
+ghost use Rattle.fibs_boards.specs.Board.{BoardFields};
+ghost use Rattle.fibs_model.specs.Events.{Event};
+ghost use Rattle.fibs_loop.specs.Looping.{EndsScript};
+ghost use Rattle.fibs_scripts.specs.Replay.Scripts.{SayEvents, SayScript, script_lines};
+
+mod hearing;
+mod queue;
+mod sockets;
+mod stop;
+mod table;
+
+use bstr::Lines;
+use fibs_account::fault::EngineFault;
+use fibs_account::writing::Progress;
+use fibs_model::Entry;
+use fibs_scripts::replay::events::read_event;
+use fibs_scripts::replay::first_board;
+use fibs_scripts::replay::input::read_script;
+use fibs_scripts::replay::output::{end_line, print_log, refused_line, unread_line};
+use fibs_scripts::replay::run::script_login;
+use fibs_scripts::replay::script::{first_unreadable, script_lines};
+use std::alloc::Global;
+use std::io::{Read, Write};
+use std::net::{Net, TcpListener, TcpStream};
+use stop::Stop;
+use table::Table;
+
+/// How many bytes of a script are asked for at once.
+const PORTION: usize = 4096;
+
+/// The exit status at the end of a script.
+const DONE: u8 = 0;
+
+/// The exit status of a script that is not played to its end.
+const REFUSED: u8 = 3;
+
+/// Reads a script and plays it: a client at one end of a connection and a model server at the other, in turn, over a
+/// socket to the listener for each connection that is opened. It prints what `replay` prints, and has its status.
+///
+/// What one end sends waits there until an event takes it; then it crosses the socket in portions of at most 1024
+/// bytes, each written and then read, so that no write waits for a reader.
+///
+/// Errors: `Device` where the script can't be read, what is printed can't be written, or a socket fails; `Memory` where
+/// it runs out. After a socket's failure and without memory the log so far is printed.
+pub fn play_loop<N: Net<Stream = TcpStream>, R: Read, W: Write>(
+    rt: &N,
+    alloc: Global,
+    listener: &TcpListener,
+    reader: &mut R,
+    writer: &mut W,
+) -> Result<u8, EngineFault>
+    ensures { EndsScript result }
+{
+    match read_script(alloc, &mut [0; PORTION], reader)? {
+        None => finish(&[], &unread_line(0), REFUSED, writer),
+        Some(script) => match first_unreadable(script.as_slice()) {
+            Some(number) => finish(&[], &unread_line(number), REFUSED, writer),
+            None => play_script(rt, alloc, listener, script.as_slice(), writer),
+        },
+    }
+}
+
+/// Prints the log and a last line, and answers the status.
+fn finish<W: Write>(
+    log: &[Entry],
+    last: &[u8],
+    status: u8,
+    writer: &mut W,
+) -> Result<u8, EngineFault>
+    requires { length last.now ≤ 8192 }
+    ensures { IfOk result (λ s. s ≡ status) }
+{
+    match print_log(log, last, writer) {
+        Progress::Whole => Ok(status),
+        Progress::Broken => Err(EngineFault::Device),
+    }
+}
+
+/// Plays a script whose lines are readable.
+fn play_script<N: Net<Stream = TcpStream>, W: Write>(
+    rt: &N,
+    alloc: Global,
+    listener: &TcpListener,
+    script: &[u8],
+    writer: &mut W,
+) -> Result<u8, EngineFault>
+    requires short { length script.now < 2 ^ 63 }
+    requires readable { (b : BoardFields) × (events : List Event) × SayScript (script_lines script.now) b events }
+    ensures { EndsScript result }
+{
+    let mut lines = script_lines(script);
+    let board = match first_board(&mut lines) {
+        Some(board) => board,
+        None => unreachable!(),
+    };
+    match Table::new(alloc, board, script_login()) {
+        Err(why) => finish(&[], &refused_line(0, why), REFUSED, writer),
+        Ok(mut table) => {
+            let (done, stop) = play_lines(&mut table, rt, listener, &mut lines);
+            print_end(table.log(), done, stop, writer)
+        }
+    }
+}
+
+/// Does the events that the lines say, up to the first at which it stops. Says how many it did.
+fn play_lines<N: Net<Stream = TcpStream>>(
+    table: &mut Table,
+    rt: &N,
+    listener: &TcpListener,
+    lines: &mut Lines<'_>,
+) -> (usize, Option<Stop>)
+    requires few { length lines.old < 2 ^ 63 }
+    requires readable { (events : List Event) × SayEvents lines.old events }
+{
+    let mut done = 0;
+    while let Some(line) = lines.next() {
+        let event = match read_event(line) {
+            Some(event) => event,
+            None => unreachable!(),
+        };
+        match table.step(rt, listener, &event) {
+            Ok(()) => done += 1,
+            Err(stop) => return (done, Some(stop)),
+        }
+    }
+    (done, None)
+}
+
+/// Prints the log and how the script ended, and answers the status. After a fault it prints the log alone.
+fn print_end<W: Write>(
+    log: &[Entry],
+    done: usize,
+    stop: Option<Stop>,
+    writer: &mut W,
+) -> Result<u8, EngineFault>
+    ensures { EndsScript result }
+{
+    match stop {
+        None => finish(log, &end_line(done), DONE, writer),
+        Some(Stop::Refused(why)) => finish(log, &refused_line(done, why), REFUSED, writer),
+        Some(Stop::Fault(fault)) => {
+            finish(log, b"", DONE, writer)?;
+            Err(fault)
+        }
+    }
+}

@@ -1,9 +1,0 @@
-use Rattle.std.proofs.Common.{ap, ◌∙◌}
-use Rattle.fibs_messages.specs.Decimal.{decimal_value, number_if_allowed}
-use Rattle.fibs_messages.proofs.NumberLemmas.CappedNumbers.{same_if_allowed}
-use Rattle.fibs_messages.proofs.fields.decimal.number_in.Goals as goal
-
-pub returns-in_default : goal.returns-in_default
-returns-in_default c =
-    c.in_range-in_default.ensures.value ∙ ap (number_if_allowed c.args.values) c.long_decimal.ensures
-    ∙ same_if_allowed c.args.values (decimal_value c.args.text.now) c.in_range-in_default.ensures.narrow

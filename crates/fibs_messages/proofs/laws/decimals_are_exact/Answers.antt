@@ -1,5 +1,0 @@
-use Rattle.fibs_messages.proofs.NumberLemmas.UpToLimit.{up_to_exact}
-use Rattle.fibs_messages.proofs.laws.decimals_are_exact.Goals as goal
-
-pub returns : goal.returns
-returns c = up_to_exact

@@ -1,0 +1,275 @@
+//! What the server answers, worked out by hand from the rules, and what its refusals are called.
+
+use crate::boards::*;
+use fibs_messages::Board;
+use fibs_model::{Served, Server, WorldRefusal};
+use fibs_position::{Decision, Direction, PositionFault};
+use fibs_session::decision_text;
+use std::alloc::Global;
+use std::test::Fail;
+
+/// A line that the server takes.
+#[derive(Clone, Copy)]
+enum Line {
+    /// The connection's first.
+    First(usize, &'static [u8]),
+    /// A later one, with the dice.
+    Later(usize, &'static [u8], [u8; 2]),
+}
+
+use Line::{First, Later};
+
+/// Lines that a server takes, one after another, each with its answer and the board after it.
+struct Case {
+    name: &'static str,
+    begins: &'static [u8],
+    lines: &'static [(Line, &'static str, &'static [u8])],
+}
+
+static CASES: [Case; 8] = [
+    Case {
+        name: "a roll is carried out once",
+        begins: TO_ROLL,
+        lines: &[
+            (
+                First(1, b"login fibs_client 1008 ann secret"),
+                "LoggedIn",
+                TO_ROLL,
+            ),
+            (Later(1, b"set boardstyle 3", [1, 1]), "Answered", TO_ROLL),
+            (Later(1, b"board", [1, 1]), "Answered", TO_ROLL),
+            (Later(1, b"roll ", [6, 2]), "Answered", TO_ROLL),
+            (Later(1, b"roll", [6, 2]), "Took roll", TO_MOVE),
+            (Later(1, b"roll", [6, 2]), "Undone roll", TO_MOVE),
+        ],
+    },
+    Case {
+        name: "no die is 0, and a double is none to reject",
+        begins: TO_ROLL,
+        lines: &[
+            (First(1, b""), "LoggedIn", TO_ROLL),
+            (Later(1, b"roll", [0, 2]), "Undone roll", TO_ROLL),
+            (Later(1, b"roll", [6, 7]), "Undone roll", TO_ROLL),
+            (Later(1, b"reject", [1, 1]), "Undone reject", TO_ROLL),
+            (Later(1, b"double", [1, 1]), "Took double", DOUBLED),
+        ],
+    },
+    Case {
+        name: "a later login ends the service of the older connection",
+        begins: ONE_STEP,
+        lines: &[
+            (Later(1, b"move 24-18", [1, 1]), "Stale", ONE_STEP),
+            (First(1, b"move 24-18"), "LoggedIn", ONE_STEP),
+            (Later(1, b"mov", [1, 1]), "Answered", ONE_STEP),
+            (
+                First(2, b"login fibs_client 1008 ann secret"),
+                "LoggedIn",
+                ONE_STEP,
+            ),
+            (Later(1, b"move 24-18", [1, 1]), "Stale", ONE_STEP),
+            (
+                First(1, b"login fibs_client 1008 ann secret"),
+                "Stale",
+                ONE_STEP,
+            ),
+            (Later(3, b"move 24-18", [1, 1]), "Stale", ONE_STEP),
+            (Later(2, b"move 24-18", [1, 1]), "Took move 24-18", STEPPED),
+            (
+                First(4, b"login fibs_client 1008 ann secret"),
+                "LoggedIn",
+                STEPPED,
+            ),
+        ],
+    },
+    Case {
+        name: "a checker is hit",
+        begins: TO_HIT,
+        lines: &[
+            (First(1, b""), "LoggedIn", TO_HIT),
+            (Later(1, b"move 24-18", [1, 1]), "Took move 24-18", HIT),
+        ],
+    },
+    Case {
+        name: "the last checkers are borne off",
+        begins: TO_BEAR_OFF,
+        lines: &[
+            (First(1, b""), "LoggedIn", TO_BEAR_OFF),
+            (
+                Later(1, b"move 3-off 2-off", [1, 1]),
+                "Took move 3-off 2-off",
+                BORNE_OFF,
+            ),
+            (Later(1, b"roll", [6, 2]), "Undone roll", BORNE_OFF),
+        ],
+    },
+    Case {
+        name: "a play of one who goes up is in the numbers of the board",
+        begins: TO_MOVE_UP,
+        lines: &[
+            (First(1, b""), "LoggedIn", TO_MOVE_UP),
+            (
+                Later(1, b"move 20-17", [1, 1]),
+                "Undone move 5-8",
+                TO_MOVE_UP,
+            ),
+            (
+                Later(1, b"move 5-8 8-11 11-14", [1, 1]),
+                "Took move 20-17 17-14 14-11",
+                MOVED_UP,
+            ),
+        ],
+    },
+    Case {
+        name: "a double beyond the limit of the cube can only be rejected",
+        begins: TO_ANSWER,
+        lines: &[
+            (First(1, b""), "LoggedIn", TO_ANSWER),
+            (Later(1, b"accept", [1, 1]), "Undone accept", TO_ANSWER),
+            (Later(1, b"reject", [1, 1]), "Took reject", REJECTED),
+        ],
+    },
+    Case {
+        name: "five steps, and two spaces, are no decision",
+        begins: ONE_STEP,
+        lines: &[
+            (First(1, b""), "LoggedIn", ONE_STEP),
+            (
+                Later(1, b"move 24-18 18-12 12-6 6-5 5-4", [1, 1]),
+                "Answered",
+                ONE_STEP,
+            ),
+            (Later(1, b"move  24-18", [1, 1]), "Answered", ONE_STEP),
+        ],
+    },
+];
+
+/// The decision's command, as of one who goes down.
+fn with_command(alloc: Global, word: &str, decision: &Decision) -> Result<String, Fail> {
+    let command = decision_text(decision, Direction::Down);
+    Ok(format!(in alloc; "{word} {command}")?)
+}
+
+/// The answer's name, with the decision as of one who goes down.
+fn text_of(alloc: Global, served: &Served) -> Result<String, Fail> {
+    match served {
+        Served::Stale => Ok(String::from_str(alloc, "Stale")?),
+        Served::LoggedIn => Ok(String::from_str(alloc, "LoggedIn")?),
+        Served::Took(decision) => with_command(alloc, "Took", decision),
+        Served::Undone(decision) => with_command(alloc, "Undone", decision),
+        Served::Answered => Ok(String::from_str(alloc, "Answered")?),
+    }
+}
+
+/// The connection that is logged in after the line, where the answer says that it is served.
+fn serve(server: &mut Server, line: Line) -> Option<Served> {
+    match line {
+        First(conn, text) if conn > 0 => Some(server.serve(conn, true, text, [1, 1])),
+        Later(conn, text, dice) if conn > 0 => Some(server.serve(conn, false, text, dice)),
+        _ => None,
+    }
+}
+
+fn board(line: &[u8]) -> Result<Board, Fail> {
+    Ok(Board::read(line).ok().ok_or("no board")?)
+}
+
+fn server(line: &[u8]) -> Result<Server, Fail> {
+    Ok(Server::new(board(line)?).ok().ok_or("not good")?)
+}
+
+#[test]
+fn lines_are_served(rt: HostRuntime) -> Result<(), Fail> {
+    for case in &CASES {
+        let name = case.name;
+        let mut server = server(case.begins)?;
+        assert_eq!(rt; server.logged_in(), 0, "{name}");
+        let mut at = 0_u32;
+        for (line, answer, after) in case.lines {
+            at = at.saturating_add(1);
+            let served = serve(&mut server, *line).ok_or("connection 0")?;
+            let told = text_of(rt.alloc(), &served)?;
+            assert_eq!(rt; told.as_str(), *answer, "{name}, line {at}");
+            let same = *server.board() == board(after)?;
+            assert!(rt; same, "{name}: the board after line {at}");
+        }
+    }
+    Ok(())
+}
+
+#[test]
+fn only_good_boards_begin(rt: HostRuntime) -> Result<(), Fail> {
+    let boards = [
+        ("one to roll on", TO_ROLL, None),
+        ("one of others", OF_OTHERS, Some(PositionFault::NotYou)),
+        ("16 checkers", TOO_MANY, Some(PositionFault::TooManyOwn)),
+    ];
+    for (name, line, fault) in boards {
+        assert_eq!(rt; Server::new(board(line)?).err(), fault, "{name}");
+    }
+    Ok(())
+}
+
+#[test]
+fn boards_of_its_own_come_where_the_user_does_not_decide(rt: HostRuntime) -> Result<(), Fail> {
+    let decides = Some(WorldRefusal::UserDecides);
+    let bad = Some(WorldRefusal::BadBoard);
+    let boards = [
+        ("to roll", TO_ROLL, ONE_STEP, decides),
+        ("to move", ONE_STEP, ONE_STEP, decides),
+        ("to answer a double", TO_ANSWER, TO_ROLL, decides),
+        ("to roll, and a board of others", TO_ROLL, OF_OTHERS, bad),
+        ("the opponent's turn", STEPPED, TO_ROLL, None),
+        (
+            "the opponent's turn, and a board of others",
+            STEPPED,
+            OF_OTHERS,
+            bad,
+        ),
+        (
+            "the opponent's turn, and 16 checkers",
+            STEPPED,
+            TOO_MANY,
+            bad,
+        ),
+        ("passing", PASSING, TO_ROLL, None),
+        ("over", BORNE_OFF, TO_ROLL, None),
+    ];
+    for (name, before, own, refusal) in boards {
+        let mut server = server(before)?;
+        assert_eq!(rt;
+            server.serve(3, true, b"", [1, 1]),
+            Served::LoggedIn,
+            "{name}"
+        );
+        assert_eq!(rt; server.own(&board(own)?).err(), refusal, "{name}");
+        let stands = if refusal.is_none() { own } else { before };
+        let same = *server.board() == board(stands)?;
+        assert!(rt; same, "{name}: the board after it");
+        assert_eq!(rt; server.logged_in(), 3, "{name}");
+    }
+    Ok(())
+}
+
+#[test]
+fn refusals_have_numbers_and_names(rt: HostRuntime) -> Result<(), Fail> {
+    let rows = [
+        (WorldRefusal::Memory, 1, "Memory"),
+        (WorldRefusal::AlreadyOpen, 2, "AlreadyOpen"),
+        (WorldRefusal::NotOpen, 3, "NotOpen"),
+        (WorldRefusal::NoSuchConnection, 4, "NoSuchConnection"),
+        (WorldRefusal::NothingToServe, 5, "NothingToServe"),
+        (WorldRefusal::UserDecides, 6, "UserDecides"),
+        (WorldRefusal::BoardAsText, 7, "BoardAsText"),
+        (WorldRefusal::BadBoard, 8, "BadBoard"),
+        (WorldRefusal::BadDice, 9, "BadDice"),
+    ];
+    for (refusal, number, name) in rows {
+        assert_eq!(rt; refusal.number(), number, "{name}");
+        assert_eq!(rt;
+            format!(in rt.alloc(); "{refusal}")?.as_str(),
+            name,
+            "{number}"
+        );
+    }
+    Ok(())
+}

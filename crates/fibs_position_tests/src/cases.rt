@@ -1,0 +1,106 @@
+//! A board with the view of its player and what becomes of it, and the test of such cases.
+
+ghost use Rattle.std.specs.Prelude.{◌≤◌};
+
+use crate::choices::Choice;
+use fibs_messages::Board;
+use fibs_position::{Direction, Phase, Position, effect};
+use std::process::Abort;
+use std::test::Fail;
+
+/// A board, its player's view, and what a decision makes of it.
+pub struct Case {
+    pub name: &'static str,
+    pub board: &'static [u8],
+    /// The player's checkers by place and count: place 0 is off, 25 the bar.
+    pub own: &'static [(u8, u8)],
+    /// The opponent's: place 0 is his bar, 25 off.
+    pub other: &'static [(u8, u8)],
+    pub direction: Direction,
+    pub phase: Phase,
+    pub choice: Choice,
+    pub dice: [u8; 2],
+    /// The fields that change, where the decision is carried out.
+    pub after: Option<&'static [(usize, i32)]>,
+}
+
+/// How many checkers stand on a place.
+fn count(checkers: &[(u8, u8)], wanted: u8) -> u8 {
+    for (place, count) in checkers {
+        if *place == wanted {
+            return *count;
+        }
+    }
+    0
+}
+
+/// The number of a field after these changes.
+fn number_after(before: &Board, changes: &[(usize, i32)], n: usize) -> i32
+    requires low { 4 ≤ n }
+    requires high { n ≤ 53 }
+{
+    for (field, number) in changes {
+        if *field == n {
+            return *number;
+        }
+    }
+    before.field(n)
+}
+
+/// The board after is the board before with these changes.
+fn changes_so(before: &Board, after: &Board, changes: &[(usize, i32)]) -> bool {
+    for n in 4..54 {
+        if after.field(n) != number_after(before, changes, n) {
+            return false;
+        }
+    }
+    after.player().bytes() == before.player().bytes()
+        && after.opponent().bytes() == before.opponent().bytes()
+}
+
+impl Case {
+    /// Each reading is as expected.
+    fn is_seen(&self, position: &Position) -> bool {
+        for place in 0..26 {
+            if position.own(place) != count(self.own, place) {
+                return false;
+            }
+        }
+        for place in 1..25 {
+            if position.other(place) != count(self.other, place) {
+                return false;
+            }
+        }
+        position.other_bar() == count(self.other, 0)
+            && position.other_off() == count(self.other, 25)
+    }
+
+    /// The phase and the direction are as expected.
+    fn is_told(&self, position: &Position) -> bool {
+        position.direction() == self.direction && position.phase() == self.phase
+    }
+
+    /// The decision leads to the board expected.
+    fn is_carried_out(&self, before: &Board) -> Result<bool, Fail> {
+        match (
+            effect(before, &self.choice.decision()?, self.dice),
+            self.after,
+        ) {
+            (None, None) => Ok(true),
+            (Some(after), Some(changes)) => Ok(changes_so(before, &after, changes)),
+            _ => Ok(false),
+        }
+    }
+}
+
+/// Each case is as expected.
+pub fn check(rt: &impl Abort, cases: &[Case]) -> Result<(), Fail> {
+    for case in cases {
+        let board = Board::read(case.board).ok().ok_or("board")?;
+        let position = Position::of(&board).ok().ok_or("position")?;
+        assert!(rt; case.is_seen(&position), "the view: {}", case.name);
+        assert!(rt; case.is_told(&position), "the phase: {}", case.name);
+        assert!(rt; case.is_carried_out(&board)?, "the effect: {}", case.name);
+    }
+    Ok(())
+}

@@ -1,0 +1,160 @@
+//! A few boards that are known whole: what each position is, and what becomes of it.
+
+use crate::cases::{Case, check};
+use crate::choices::{Choice, play};
+use crate::slow::slowly_listed;
+use fibs_messages::Board;
+use fibs_position::{Decision, Direction, Phase, Position, effect};
+use std::test::Fail;
+
+static KNOWN: [Case; 7] = [
+    Case {
+        name: "a board in the middle of a turn",
+        board: b"board:You:someplayer:3:0:1:0:-2:0:0:0:0:5:0:3:0:0:0:-5:5:0:0:0:-3:0:-5:0:0:0:0:2:0:1:6:2:0:0:1:1:1:0:1:-1:0:25:0:0:0:0:2:0:0:0",
+        own: &[(6, 5), (8, 3), (13, 5), (24, 2)],
+        other: &[(1, 2), (12, 5), (17, 3), (19, 5)],
+        direction: Direction::Down,
+        phase: Phase::Move,
+        choice: Choice::Roll,
+        dice: [1, 1],
+        after: None,
+    },
+    Case {
+        name: "a roll",
+        board: b"board:You:bob:3:0:1:0:-2:0:0:0:0:5:0:3:0:0:0:-5:5:0:0:0:-3:0:-5:0:0:0:0:2:0:1:0:0:0:0:1:1:1:0:1:-1:0:25:0:0:0:0:0:0:0:0",
+        own: &[(6, 5), (8, 3), (13, 5), (24, 2)],
+        other: &[(1, 2), (12, 5), (17, 3), (19, 5)],
+        direction: Direction::Down,
+        phase: Phase::RollOrDouble,
+        choice: Choice::Roll,
+        dice: [6, 2],
+        after: Some(&[(34, 6), (35, 2)]),
+    },
+    Case {
+        name: "a roll without a die",
+        board: b"board:You:bob:3:0:1:0:-2:0:0:0:0:5:0:3:0:0:0:-5:5:0:0:0:-3:0:-5:0:0:0:0:2:0:1:0:0:0:0:1:1:1:0:1:-1:0:25:0:0:0:0:0:0:0:0",
+        own: &[(6, 5), (8, 3), (13, 5), (24, 2)],
+        other: &[(1, 2), (12, 5), (17, 3), (19, 5)],
+        direction: Direction::Down,
+        phase: Phase::RollOrDouble,
+        choice: Choice::Roll,
+        dice: [0, 2],
+        after: None,
+    },
+    Case {
+        name: "an answer where no double is open",
+        board: b"board:You:bob:3:0:1:0:-2:0:0:0:0:5:0:3:0:0:0:-5:5:0:0:0:-3:0:-5:0:0:0:0:2:0:1:0:0:0:0:1:1:1:0:1:-1:0:25:0:0:0:0:0:0:0:0",
+        own: &[(6, 5), (8, 3), (13, 5), (24, 2)],
+        other: &[(1, 2), (12, 5), (17, 3), (19, 5)],
+        direction: Direction::Down,
+        phase: Phase::RollOrDouble,
+        choice: Choice::Reject,
+        dice: [1, 1],
+        after: None,
+    },
+    Case {
+        name: "the last two are borne off",
+        board: b"board:You:bob:5:0:0:0:0:1:1:0:0:0:0:0:0:0:0:0:-2:0:0:0:0:0:0:0:0:0:0:0:0:1:6:5:0:0:1:1:1:0:1:-1:0:25:13:13:0:0:2:0:0:0",
+        own: &[(0, 13), (2, 1), (3, 1)],
+        other: &[(13, 2), (25, 13)],
+        direction: Direction::Down,
+        phase: Phase::Move,
+        choice: Choice::Move(&[(3, 0), (2, 0)]),
+        dice: [1, 1],
+        after: Some(&[(9, 0), (10, 0), (33, 0), (34, 0), (35, 0), (46, 15)]),
+    },
+    Case {
+        name: "a hit by a double six",
+        board: b"board:You:bob:5:0:0:0:0:0:0:0:0:0:0:0:0:0:0:-2:0:0:0:0:0:-1:0:0:0:0:0:1:0:1:6:6:0:0:1:1:1:0:1:-1:0:25:14:12:0:0:1:0:0:0",
+        own: &[(0, 14), (24, 1)],
+        other: &[(12, 2), (18, 1), (25, 12)],
+        direction: Direction::Down,
+        phase: Phase::Move,
+        choice: Choice::Move(&[(24, 18)]),
+        dice: [1, 1],
+        after: Some(&[(25, 1), (31, 0), (33, -1), (34, 0), (35, 0)]),
+    },
+    Case {
+        name: "all entry places are held: one is on the bar, and none can enter",
+        board: b"board:You:bob:5:0:0:0:0:0:0:0:0:14:0:0:0:0:0:0:0:0:0:0:0:0:-2:-2:-2:-2:-2:-2:1:1:3:1:0:0:1:1:1:0:1:-1:0:25:0:3:1:0:0:0:0:0",
+        own: &[(6, 14), (25, 1)],
+        other: &[
+            (19, 2),
+            (20, 2),
+            (21, 2),
+            (22, 2),
+            (23, 2),
+            (24, 2),
+            (25, 3),
+        ],
+        direction: Direction::Down,
+        phase: Phase::Passing,
+        choice: Choice::Roll,
+        dice: [1, 1],
+        after: None,
+    },
+];
+
+const BEFORE_ROLL: &[u8] =
+    b"board:You:bob:3:0:1:0:-2:0:0:0:0:5:0:3:0:0:0:-5:5:0:0:0:-3:0:-5:0:0:0:0:2:0:1:0:0:0:0:1:1:1:0:1:-1:0:25:0:0:0:0:0:0:0:0";
+
+const AFTER_ROLL: &[u8] =
+    b"board:You:bob:3:0:1:0:-2:0:0:0:0:5:0:3:0:0:0:-5:5:0:0:0:-3:0:-5:0:0:0:0:2:0:1:6:2:0:0:1:1:1:0:1:-1:0:25:0:0:0:0:0:0:0:0";
+
+const BEFORE_HIT: &[u8] =
+    b"board:You:bob:5:0:0:0:0:0:0:0:0:0:0:0:0:0:0:-2:0:0:0:0:0:-1:0:0:0:0:0:1:0:1:6:6:0:0:1:1:1:0:1:-1:0:25:14:12:0:0:1:0:0:0";
+
+#[test]
+fn known_boards(rt: HostRuntime) -> Result<(), Fail> {
+    check(&rt, &KNOWN)
+}
+
+/// The board after a roll is the one that the server shows then.
+#[test]
+fn a_roll_leads_to_the_board_shown_next(rt: HostRuntime) -> Result<(), Fail> {
+    let before = Board::read(BEFORE_ROLL).ok().ok_or("board")?;
+    let shown = Board::read(AFTER_ROLL).ok().ok_or("board")?;
+    assert!(rt; effect(&before, &Decision::Roll, [6, 2]) == Some(shown));
+    Ok(())
+}
+
+/// The checker that was hit stands on the bar of the opponent.
+#[test]
+fn a_hit_checker_goes_to_the_bar(rt: HostRuntime) -> Result<(), Fail> {
+    let before = Board::read(BEFORE_HIT).ok().ok_or("board")?;
+    let play = Choice::Move(&[(24, 18)]).decision()?;
+    let after = effect(&before, &play, [1, 1]).ok_or("effect")?;
+    assert_eq!(rt; after.field(32), before.field(32));
+    let position = Position::of(&after).ok().ok_or("position")?;
+    assert_eq!(rt; position.other_bar(), 1);
+    assert_eq!(rt; position.own(18), 1);
+    assert_eq!(rt; position.other(18), 0);
+    Ok(())
+}
+
+const TWO_CHECKERS_BY_FOUR_ONES: &[u8] =
+    b"board:You:bob:5:0:0:0:0:0:0:1:0:0:0:1:0:0:0:0:0:0:0:0:0:0:0:0:0:0:0:-2:0:1:1:1:0:0:1:1:1:0:1:-1:0:25:13:13:0:0:2:0:0:0";
+
+static PLAYS_BY_FOUR_ONES: [&[(u8, u8)]; 4] = [
+    &[(8, 7), (7, 6), (6, 5), (5, 4)],
+    &[(8, 7), (7, 6), (6, 5), (4, 3)],
+    &[(8, 7), (7, 6), (4, 3), (3, 2)],
+    &[(8, 7), (4, 3), (3, 2), (2, 1)],
+];
+
+/// Two checkers by four ones: just these plays, of a position and by a slow program.
+#[test]
+fn four_ones_give_four_plays(rt: HostRuntime) -> Result<(), Fail> {
+    let board = Board::read(TWO_CHECKERS_BY_FOUR_ONES).ok().ok_or("board")?;
+    let position = Position::of(&board).ok().ok_or("position")?;
+    let plays = position.plays(rt.alloc())?;
+    let slow = slowly_listed(rt.alloc(), &position, [1, 1])?;
+    assert_eq!(rt; plays.len(), 4);
+    assert_eq!(rt; slow.len(), 4);
+    for (found, steps) in plays.iter().zip(&PLAYS_BY_FOUR_ONES) {
+        let wanted = play(steps)?;
+        assert!(rt; *found == wanted);
+        assert!(rt; slow.contains(&wanted));
+    }
+    Ok(())
+}

@@ -1,0 +1,3 @@
+-- The laws of steps and plays.
+pub mod Equality
+pub mod PlaySteps

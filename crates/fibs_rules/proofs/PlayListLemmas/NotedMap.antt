@@ -1,0 +1,46 @@
+-- A map in which the greater play was written for an arrangement.
+use Rattle.std.proofs.Common.{◌≡◌, List, [], Option, Some, None, refl, sym, ap, ◌∙◌, cond}
+use Rattle.std.specs.Prelude.{option_map, unwrap_or}
+use Rattle.std.specs.BTreeMap.{BTreeMap, get, is_at}
+use Rattle.std.specs.Map.{lookup}
+use Rattle.std.specs.Ordering.{is_eq}
+use Rattle.std.proofs.lemmas.Bool.{cond_both, cond-true, cond-false}
+use Rattle.fibs_rules.specs.Checkers.{Checkers}
+use Rattle.fibs_rules.specs.PlayValue.{hops_of}
+use Rattle.fibs_rules.specs.Search.{checkers_cmp, greater, nothing, noted, kept_in}
+use Rattle.fibs_rules.specs.declared.play.Play.{Play}
+use Rattle.fibs_rules.proofs.PlayListLemmas.PlayOrder.{greater_itself}
+use Rattle.fibs_rules.proofs.PlayListLemmas.AllTried.{reach}
+use Rattle.fibs_rules.proofs.PlayListLemmas.KeptPlays.{same_checkers}
+
+-- the greater of what was there, or else of the play itself, and the play
+greater_or : (old : Option Play) (found : Play)
+    → greater (Some (hops_of (unwrap_or old found))) (hops_of found) ≡ greater (option_map hops_of old) (hops_of found)
+greater_or None found = greater_itself (hops_of found)
+greater_or (Some old) found = refl
+
+-- a map whose entries have the greater of what was there and what is found
+pub written : (before : BTreeMap Checkers Play) (entries : List (Checkers × Play)) (k : Checkers) (best new found : Play)
+    → best ≡ unwrap_or (get checkers_cmp before k) found
+    → hops_of new ≡ greater (Some (hops_of best)) (hops_of found)
+    → ((q : Checkers) → lookup (is_at (checkers_cmp q)) entries
+    ≡ cond (is_eq (checkers_cmp k q)) (Some new) (get checkers_cmp before q))
+    → (λ q. option_map hops_of (lookup (is_at (checkers_cmp q)) entries))
+    ≡ noted (kept_in before) (reach (hops_of found) k)
+written before entries k best new found b n updates =
+    let one : hops_of new ≡ greater (option_map hops_of (get checkers_cmp before k)) (hops_of found) =
+    n ∙ ap (λ (p : Play). greater (Some (hops_of p)) (hops_of found)) b ∙ greater_or (get checkers_cmp before k) found
+    in
+    let at : (q : Checkers) → option_map hops_of (lookup (is_at (checkers_cmp q)) entries)
+    ≡ noted (kept_in before) (reach (hops_of found) k) q =
+    λ q. ap (option_map hops_of) (updates q)
+    ∙ cond_both (is_eq (checkers_cmp k q)) (Some new) (get checkers_cmp before q)
+    (λ o. option_map hops_of o ≡ noted (kept_in before) (reach (hops_of found) k) q)
+    (λ e. ap Some one ∙ ap (λ c. Some (greater (kept_in before c) (hops_of found))) (same_checkers k q e)
+    ∙ sym (cond-true _ _ _ e))
+    (λ e. sym (cond-false _ _ _ e)) in
+    λ i q. at q i
+
+-- an empty map keeps nothing
+pub kept_none : (m : BTreeMap Checkers Play) → m.entries ≡ [] → kept_in m ≡ nothing
+kept_none m e = ap (λ es q. option_map hops_of (lookup (is_at (checkers_cmp q)) es)) e

@@ -1,0 +1,116 @@
+-- Counts of checkers: no step adds one.
+use Rattle.std.proofs.Common.{◌≡◌, ℕ, zero, suc, ◌+◌, ◌-◌, ◌<◌, ◌≤◌, ◌≢◌, Bool, true, false, cond, List, [], ◌∷◌}
+use Rattle.std.proofs.Common.{length, drop, sum, inl, inr, refl, ap, arith, drop-cons, add-one}
+use Rattle.std.specs.Prelude.{◌&&◌, ◌==◌, nat_lt, slice_index, slice_set, map}
+use Rattle.std.specs.List.{range_with_len}
+use Rattle.std.proofs.lemmas.Bool.{cases_lt, cases_eq, and_parts, eqb-true}
+use Rattle.std.proofs.lemmas.List.{get_or-set_same, get_or-set_other, set_past, drop_all}
+use Rattle.std.proofs.lemmas.List.Sums.{sum_by-set, sum_by-cons, get_or-le-sum_by}
+use Rattle.std.proofs.Math.ListN.{get_or-eq_default}
+use Rattle.fibs_rules.specs.Checkers.{shifted, hit}
+
+-- a count is at most the sum of all
+pub count_le : (xs : List ℕ) (i : ℕ) → slice_index xs i ≤ sum xs
+count_le xs i = elim (cases_lt i (length xs)) [
+  | inl within ↦ get_or-le-sum_by (λ x. x) xs i 0 within
+  | inr past ↦ let none = get_or-eq_default xs 0 past in omega arith
+]
+
+-- a count that is not 0 stands in the list
+stands : (xs : List ℕ) (i : ℕ) → 0 < slice_index xs i → i < length xs
+stands xs i some =
+    elim (cases_lt i (length xs))
+    [ inl within ↦ within | inr past ↦ let none = get_or-eq_default xs 0 past in absurd (omega arith) ]
+
+-- one more on a place
+more_le : (xs : List ℕ) (i : ℕ) → sum (slice_set xs i (slice_index xs i + 1)) ≤ sum xs + 1
+more_le xs i = elim (cases_lt i (length xs)) [
+  | inl within ↦ let s = sum_by-set (λ x. x) xs i (slice_index xs i + 1) 0 within in omega arith
+  | inr past ↦ let same = ap sum (set_past xs i (slice_index xs i + 1) past) in omega arith
+]
+
+-- one goes from a place to another
+pub shifted_le : (xs : List ℕ) (from to : ℕ) → 0 < slice_index xs from → sum (shifted xs from to) ≤ sum xs
+shifted_le xs from to some =
+    let less = sum_by-set (λ x. x) xs from (slice_index xs from - 1) 0 (stands xs from some) in
+    let more = more_le (slice_set xs from (slice_index xs from - 1)) to in
+    omega arith
+
+-- what a hit leaves
+hit_sum : (t : Bool) (other : List ℕ) (to : ℕ) → t ≡ (nat_lt 0 to && (slice_index other to == 1))
+    → (t ≡ true → 0 < slice_index other to) → sum (cond t (shifted other to 0) other) ≤ sum other
+hit_sum true other to is some = shifted_le other to 0 (some refl)
+hit_sum false other to is some = omega arith
+
+-- a checker that leaves to place 0 adds none elsewhere
+shifted_at : (xs : List ℕ) (from i : ℕ) → 0 < i → slice_index (shifted xs from 0) i ≤ slice_index xs i
+shifted_at xs from i some =
+    let left = slice_set xs from (slice_index xs from - 1) in
+    let apart : i ≢ 0 = omega arith in
+    let above : slice_index (shifted xs from 0) i ≡ slice_index left i =
+    get_or-set_other left 0 i (slice_index left 0 + 1) 0 apart in
+    elim (cases_eq i from) [
+      | inl here ↦ elim (cases_lt from (length xs)) [
+        | inl within ↦ let e : slice_index left from ≡ slice_index xs from - 1 =
+            get_or-set_same xs from (slice_index xs from - 1) 0 within in
+            let f : slice_index left i ≡ slice_index left from = ap (slice_index left) here in
+            let g : slice_index xs i ≡ slice_index xs from = ap (slice_index xs) here in omega arith
+        | inr past ↦ let e : slice_index left i ≡ slice_index xs i =
+            ap (λ l. slice_index l i) (set_past xs from (slice_index xs from - 1) past) in omega arith
+      ]
+      | inr other ↦ let e : slice_index left i ≡ slice_index xs i =
+          get_or-set_other xs from i (slice_index xs from - 1) 0 other in omega arith
+    ]
+
+-- so does one that is hit, where one is
+hit_at : (t : Bool) (other : List ℕ) (to i : ℕ) → 0 < i
+    → slice_index (cond t (shifted other to 0) other) i ≤ slice_index other i
+hit_at true other to i some = shifted_at other to i some
+hit_at false other to i some = omega arith
+
+-- no hit adds one, on the bar and elsewhere together, nor on any place
+pub hit_le : (other : List ℕ) (to : ℕ) → sum (hit other to) ≤ sum other
+hit_le other to = hit_sum (nat_lt 0 to && (slice_index other to == 1)) other to refl
+    (λ e. let one = eqb-true (slice_index other to) 1 (and_parts (nat_lt 0 to) (slice_index other to == 1) e).1 in
+    omega arith)
+
+-- a hit adds none on a place
+pub hit_place : (other : List ℕ) (to i : ℕ) → 0 < i → slice_index (hit other to) i ≤ slice_index other i
+hit_place other to i some = hit_at (nat_lt 0 to && (slice_index other to == 1)) other to i some
+
+-- sums over a range
+pub range_le : (f g : ℕ → ℕ) (first long : ℕ) → ((k : ℕ) → first ≤ k → k < first + long → f k ≤ g k)
+    → sum (map f (range_with_len first long)) ≤ sum (map g (range_with_len first long))
+range_le f g first zero h = omega arith
+range_le f g first (suc long) h =
+    let here = h first (omega arith) (omega arith) in
+    let later = range_le f g (first + 1) long (λ k low high. h k (omega arith) (omega arith)) in
+    omega (
+      arith,
+      sum_by-cons (λ x. x) (f first) (map f (range_with_len (first + 1) long)),
+      sum_by-cons (λ x. x) (g first) (map g (range_with_len (first + 1) long)),
+    )
+
+-- the counts of a range are among all from its first on
+among : (xs : List ℕ) (first long : ℕ) → sum (map (slice_index xs) (range_with_len first long)) ≤ sum (drop first xs)
+among xs first zero = omega arith
+among xs first (suc long) =
+    let later = among xs (first + 1) long in
+    let head = sum_by-cons (λ x. x) (slice_index xs first) (map (slice_index xs) (range_with_len (first + 1) long)) in
+    elim (cases_lt first (length xs)) [
+      | inl within ↦
+          let parts : drop first xs ≡ slice_index xs first ∷ drop (first + 1) xs = rw (add-one, drop-cons xs first 0) in
+          let all = ap sum parts in
+          let first_of = sum_by-cons (λ x. x) (slice_index xs first) (drop (first + 1) xs) in
+          omega arith
+      | inr past ↦
+          let none = get_or-eq_default xs 0 past in
+          let rest = ap sum (drop_all (first + 1) xs (omega arith)) in
+          omega arith
+    ]
+
+-- places 1 to n, and place 0
+pub places_le : (xs : List ℕ) (long : ℕ)
+    → sum (map (slice_index xs) (range_with_len 1 long)) + slice_index xs 0 ≤ sum xs
+places_le [] long = let h = among [] 1 long in omega arith
+places_le (x ∷ xs) long = let h = among (x ∷ xs) 1 long in omega (arith, sum_by-cons (λ x. x) x xs)

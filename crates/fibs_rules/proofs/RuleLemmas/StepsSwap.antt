@@ -1,0 +1,311 @@
+-- Two steps by one die, the second from a higher place, may be played in the other order.
+use Rattle.std.proofs.Common.{◌≡◌, ◌≢◌, ℕ, suc, zero, ◌+◌, ◌-◌, ◌<◌, ◌≤◌, ◌⊎◌, inl, inr, List, [], ◌∷◌, length, get_or}
+use Rattle.std.proofs.Common.{set, Bool, true, false, refl, sym, ap, subst, ◌∙◌, arith, cond, eq-eqb, length-set}
+use Rattle.std.proofs.Common.{get_or-set_other, get_or-set_same}
+use Rattle.std.specs.Prelude.{◌&&◌, ◌==◌, nat_lt, slice_index}
+use Rattle.std.proofs.lemmas.Bool.{cases_eq, cases_lt, cond-true, cond-false, cases_Bool, ne_eqb, cond_both, and_parts}
+use Rattle.std.proofs.lemmas.Bool.{and_left, ltb-true, eqb-true, le-ltb}
+use Rattle.std.proofs.lemmas.Bool.Decides.{nat_tests}
+use Rattle.std.proofs.lemmas.Grind.{same_number_lists}
+use Rattle.fibs_rules.specs.Checkers.{Checkers, AllHome, moved, shifted, hit}
+use Rattle.fibs_rules.specs.OneChecker.{One}
+use Rattle.fibs_rules.specs.Laws.{StepsSwap}
+use Rattle.fibs_rules.proofs.RuleLemmas.OneChecker.{Goes}
+
+-- a count above 0 stands in the list
+in_list : (xs : List ℕ) (k : ℕ) → 0 < get_or xs k 0 → k < length xs
+in_list [] k h = absurd (omega arith)
+in_list (x ∷ xs) zero h = omega arith
+in_list (x ∷ xs) (suc k) h = let ih = in_list xs k h in omega (arith, ih)
+
+-- a shift leaves the length
+shifted_long : (xs : List ℕ) (f t : ℕ) → length (shifted xs f t) ≡ length xs
+shifted_long xs f t = omega (arith, length-set {A = ℕ})
+
+-- what a shift makes of one count
+abbrev shift_at : ℕ → ℕ → ℕ → ℕ → ℕ
+shift_at x k f t = cond (k == f) (x - 1) (cond (k == t) (x + 1) x)
+
+-- at the source there is one less
+shift_from : (x k f t : ℕ) → k ≡ f → shift_at x k f t ≡ x - 1
+shift_from x k f t e = cond-true (k == f) _ _ (eq-eqb k f e)
+
+-- at the target there is one more
+shift_to : (x k f t : ℕ) → k ≢ f → k ≡ t → shift_at x k f t ≡ x + 1
+shift_to x k f t n e = cond-false (k == f) _ _ (ne_eqb k f n) ∙ cond-true (k == t) _ _ (eq-eqb k t e)
+
+-- elsewhere there are as many
+shift_else : (x k f t : ℕ) → k ≢ f → k ≢ t → shift_at x k f t ≡ x
+shift_else x k f t n m = cond-false (k == f) _ _ (ne_eqb k f n) ∙ cond-false (k == t) _ _ (ne_eqb k t m)
+
+-- a count after a shift
+shifted_at : (xs : List ℕ) (f t k : ℕ) → f ≢ t → f < length xs → t < length xs
+    → get_or (shifted xs f t) k 0 ≡ shift_at (get_or xs k 0) k f t
+shifted_at xs f t k apart l r = elim (cases_eq k f) [
+  | inl e ↦
+      let n : k ≢ t = omega arith in
+      let a = get_or-set_other (set xs f (get_or xs f 0 - 1)) t k (get_or (set xs f (get_or xs f 0 - 1)) t 0 + 1) 0 n in
+      let b : get_or (set xs f (get_or xs f 0 - 1)) k 0 ≡ get_or xs k 0 - 1 =
+      subst (λ j. get_or (set xs f (get_or xs f 0 - 1)) j 0 ≡ get_or xs j 0 - 1) (sym e)
+      (get_or-set_same xs f (get_or xs f 0 - 1) 0 l) in
+      a ∙ b ∙ sym (shift_from (get_or xs k 0) k f t e)
+  | inr n ↦ elim (cases_eq k t) [
+    | inl e ↦
+        let m : t ≢ f = omega arith in
+        let a : get_or (shifted xs f t) t 0 ≡ get_or (set xs f (get_or xs f 0 - 1)) t 0 + 1 =
+        get_or-set_same (set xs f (get_or xs f 0 - 1)) t (get_or (set xs f (get_or xs f 0 - 1)) t 0 + 1) 0
+        (rw length-set r) in
+        let b : get_or (shifted xs f t) t 0 ≡ get_or xs t 0 + 1 =
+        a ∙ ap (λ x. x + 1) (get_or-set_other xs f t (get_or xs f 0 - 1) 0 m) in
+        subst (λ j. get_or (shifted xs f t) j 0 ≡ get_or xs j 0 + 1) (sym e) b
+        ∙ sym (shift_to (get_or xs k 0) k f t n e)
+    | inr m ↦
+        get_or-set_other (set xs f (get_or xs f 0 - 1)) t k (get_or (set xs f (get_or xs f 0 - 1)) t 0 + 1) 0 m
+        ∙ get_or-set_other xs f k (get_or xs f 0 - 1) 0 n ∙ sym (shift_else (get_or xs k 0) k f t n m)
+  ]
+]
+
+-- two shifts of one count swap
+shifts_swap : (x k f t g u : ℕ) → f ≢ t → g ≢ u → f ≢ g → (k ≡ f → 0 < x) → (k ≡ g → 0 < x)
+    → shift_at (shift_at x k f t) k g u ≡ shift_at (shift_at x k g u) k f t
+shifts_swap x k f t g u a b c some other = grind (arith, nat_tests)
+
+-- two shifts of a list swap
+shifted_swap : (xs : List ℕ) (f t g u : ℕ) → f ≢ t → g ≢ u → f ≢ g → f < length xs → t < length xs → g < length xs
+    → u < length xs → 0 < get_or xs f 0 → 0 < get_or xs g 0
+    → shifted (shifted xs f t) g u ≡ shifted (shifted xs g u) f t
+shifted_swap xs f t g u a b c lf lt lg lu sf sg =
+    let n = shifted_long xs f t in let m = shifted_long xs g u in
+    same_number_lists (shifted (shifted xs f t) g u) (shifted (shifted xs g u) f t)
+    (shifted_long (shifted xs f t) g u ∙ n ∙ sym m ∙ sym (shifted_long (shifted xs g u) f t))
+    (λ k h.
+    shifted_at (shifted xs f t) g u k b (omega (arith, n)) (omega (arith, n))
+    ∙ ap (λ x. shift_at x k g u) (shifted_at xs f t k a lf lt)
+    ∙ shifts_swap (get_or xs k 0) k f t g u a b c (λ e. subst (λ j. 0 < get_or xs j 0) (sym e) sf)
+    (λ e. subst (λ j. 0 < get_or xs j 0) (sym e) sg)
+    ∙ sym (shifted_at (shifted xs g u) f t k a (omega (arith, m)) (omega (arith, m))
+    ∙ ap (λ x. shift_at x k f t) (shifted_at xs g u k b lg lu)))
+
+-- a checker that comes to this place hits
+abbrev hits : List ℕ → ℕ → Bool
+hits ys t = nat_lt 0 t && (get_or ys t 0 == 1)
+
+-- a hit leaves other places
+hit_else : (ys : List ℕ) (t u : ℕ) → u ≢ t → 0 < u → get_or (hit ys t) u 0 ≡ get_or ys u 0
+hit_else ys t u n pos =
+    cond_both (hits ys t) (shifted ys t 0) ys (λ zs. get_or zs u 0 ≡ get_or ys u 0)
+    (λ e.
+    let (some, one) = and_parts (nat_lt 0 t) (get_or ys t 0 == 1) e in
+    let lo = ltb-true 0 t some in let is = eqb-true (get_or ys t 0) 1 one in
+    let l = in_list ys t (omega (arith, is)) in
+    shifted_at ys t 0 u (omega (arith, lo)) l (omega (arith, l)) ∙ shift_else (get_or ys u 0) u t 0 n (omega arith))
+    (λ e. refl)
+
+-- a hit elsewhere leaves whether one is hit
+hits_same : (ys : List ℕ) (t u : ℕ) → u ≢ t → hits (hit ys t) u ≡ hits ys u
+hits_same ys t u n = elim (cases_lt 0 u) [
+  | inl pos ↦ ap (λ x. nat_lt 0 u && (x == 1)) (hit_else ys t u n pos)
+  | inr none ↦ and_left _ _ (le-ltb 0 u none) ∙ sym (and_left _ _ (le-ltb 0 u none))
+]
+
+-- where one is hit, it is shifted to the bar
+hit_yes : (ys : List ℕ) (t : ℕ) → hits ys t ≡ true → hit ys t ≡ shifted ys t 0
+hit_yes ys t e = cond-true (hits ys t) (shifted ys t 0) ys e
+
+-- where none is, nothing changes
+hit_no : (ys : List ℕ) (t : ℕ) → hits ys t ≡ false → hit ys t ≡ ys
+hit_no ys t e = cond-false (hits ys t) (shifted ys t 0) ys e
+
+-- two hits swap
+hits_swap : (ys : List ℕ) (t u : ℕ) → t ≢ u → hits ys t ≡ true → hits ys u ≡ true
+    → shifted (shifted ys t 0) u 0 ≡ shifted (shifted ys u 0) t 0
+hits_swap ys t u n a b =
+    let (st, ot) = and_parts (nat_lt 0 t) (get_or ys t 0 == 1) a in
+    let (su, ou) = and_parts (nat_lt 0 u) (get_or ys u 0 == 1) b in
+    let lt = ltb-true 0 t st in let lu = ltb-true 0 u su in
+    let et = eqb-true (get_or ys t 0) 1 ot in let eu = eqb-true (get_or ys u 0) 1 ou in
+    let it = in_list ys t (omega (arith, et)) in let iu = in_list ys u (omega (arith, eu)) in
+    shifted_swap ys t 0 u 0 (omega (arith, lt)) (omega (arith, lu)) n it (omega (arith, it)) iu (omega (arith, iu))
+    (omega (arith, et)) (omega (arith, eu))
+
+-- so they do where one of them hits nothing
+hit_swap : (ys : List ℕ) (t u : ℕ) → t ≢ u → hit (hit ys t) u ≡ hit (hit ys u) t
+hit_swap ys t u n =
+    let m : u ≢ t = λ e. n (sym e) in
+    elim (cases_Bool (hits ys t)) [
+      | inl a ↦ elim (cases_Bool (hits ys u)) [
+        | inl b ↦
+            hit_yes (hit ys t) u (hits_same ys t u m ∙ b) ∙ ap (λ zs. shifted zs u 0) (hit_yes ys t a)
+            ∙ hits_swap ys t u n a b
+            ∙ sym (hit_yes (hit ys u) t (hits_same ys u t n ∙ a) ∙ ap (λ zs. shifted zs t 0) (hit_yes ys u b))
+        | inr b ↦ hit_no (hit ys t) u (hits_same ys t u m ∙ b) ∙ ap (λ zs. hit zs t) (sym (hit_no ys u b))
+      ]
+      | inr a ↦ ap (λ zs. hit zs u) (hit_no ys t a) ∙ sym (hit_no (hit ys u) t (hits_same ys u t n ∙ a))
+    ]
+
+-- what is known of a step that is not from the bar
+record Low (p : Checkers) (f t d : ℕ) : Type 0 where
+  bar : slice_index p.own 25 ≡ 0
+  occupied : 0 < slice_index p.own f
+  below : t < f
+  how : ((t + d ≡ f) × (0 < t)) ⊎ ((f ≡ d) × (t ≡ 0) × AllHome p)
+      ⊎ ((f < d) × ((s : ℕ) → f < s → slice_index p.own s ≡ 0))
+
+-- a step from below place 25 is one of these
+low : (p : Checkers) (f t d : ℕ) → 0 < d → 0 < f → f < 25 → Goes p f t d → Low p f t d
+low p f t d die pos lt (inl h) = absurd (let e = h.from_bar in omega (arith, e))
+low p f t d die pos lt (inr (inl h)) =
+    record {
+      bar = h.bar_empty;
+      occupied = h.occupied;
+      below = let e = h.onto in omega (arith, e);
+      how =
+          inl (h.onto, h.on_board);
+    }
+low p f t d die pos lt (inr (inr (inl h))) =
+    record {
+      bar = h.home 25 (omega arith);
+      occupied = h.occupied;
+      below = let e = h.off in omega (arith, e);
+      how =
+          inr (inl (h.exact, h.off, h.home));
+    }
+low p f t d die pos lt (inr (inr (inr h))) =
+    record {
+      bar = h.home 25 (omega arith);
+      occupied = h.occupied;
+      below = let e = h.off in omega (arith, e);
+      how =
+          inr (inr (h.larger, h.highest));
+    }
+
+-- a place above a step keeps its count
+moved_above : (p : Checkers) (f t g : ℕ) → f < g → t < f → 0 < slice_index p.own f
+    → slice_index (moved p f t).own g ≡ slice_index p.own g
+moved_above p f t g lt below occ =
+    let l = in_list p.own f occ in
+    shifted_at p.own f t g (omega arith) l (omega (arith, l))
+    ∙ shift_else (get_or p.own g 0) g f t (omega arith) (omega arith)
+
+-- the second of two such steps moves on the board
+second_moves : (p : Checkers) (f t g u d : ℕ) → f < g → g ≤ 25 → Low p f t d → Goes (moved p f t) g u d
+    → (0 < slice_index p.own g) × (u + d ≡ g) × (0 < u)
+second_moves p f t g u d lt hi a (inl h) =
+    let same = moved_above p f t 25 (omega arith) a.below a.occupied in let b = a.bar in let c = h.barred in
+    absurd (omega (arith, same, b, c))
+second_moves p f t g u d lt hi a (inr (inl h)) =
+    let same = moved_above p f t g lt a.below a.occupied in let o = h.occupied in
+    (omega (arith, same, o), h.onto, h.on_board)
+second_moves p f t g u d lt hi a (inr (inr (inl h))) =
+    let same = moved_above p f t g lt a.below a.occupied in let o = h.occupied in let e = h.exact in
+    elim a.how [
+      | inl w ↦ let x = w.0 in absurd (omega (arith, e, x))
+      | inr v ↦
+          elim v [
+            | inl w ↦ let x = w.0 in absurd (omega (arith, e, x))
+            | inr w ↦ let x = w.1 g lt in
+                absurd (omega (arith, same, o, x))
+          ]
+    ]
+second_moves p f t g u d lt hi a (inr (inr (inr h))) =
+    let same = moved_above p f t g lt a.below a.occupied in let o = h.occupied in let e = h.larger in
+    elim a.how [
+      | inl w ↦ let x = w.0 in absurd (omega (arith, e, x))
+      | inr v ↦
+          elim v [
+            | inl w ↦ let x = w.0 in absurd (omega (arith, e, x))
+            | inr w ↦ let x = w.1 g lt in
+                absurd (omega (arith, same, o, x))
+          ]
+    ]
+
+-- the first step after the second
+first_after : (p : Checkers) (f t g u d : ℕ) → 0 < d → f < g → g < 25 → Low p f t d → 0 < slice_index p.own g
+    → u + d ≡ g → Goes p f t d → Goes (moved p g u) f t d
+first_after p f t g u d die lt hi a occ onto goes = elim a.how [
+  | inl w ↦ inr (inl (record { bar_empty = at_bar; occupied = still; onto = w.0; on_board = w.1 }))
+  | inr v ↦ elim v [
+    | inl w ↦ inr (inr (inl (record { home = λ s h. kept_home w.2 s h; occupied = still; exact = w.0; off = w.1 })))
+    | inr w ↦ let x = w.1 g lt in absurd (omega (arith, occ, x))
+  ]
+]
+  where
+    place : g < length p.own
+    place = in_list p.own g occ
+
+    at : (k : ℕ) → slice_index (moved p g u).own k ≡ shift_at (slice_index p.own k) k g u
+    at k = shifted_at p.own g u k (omega arith) place (let l = place in omega (arith, l))
+
+    at_bar : slice_index (moved p g u).own 25 ≡ 0
+    at_bar = at 25 ∙ shift_else (slice_index p.own 25) 25 g u (omega arith) (omega arith) ∙ a.bar
+
+    still : 0 < slice_index (moved p g u).own f
+    still = let o = a.occupied in elim (cases_eq f u) [
+      | inl e ↦ let x = at f ∙ shift_to (slice_index p.own f) f g u (omega arith) e in omega (arith, x)
+      | inr n ↦ let x = at f ∙ shift_else (slice_index p.own f) f g u (omega arith) n in omega (arith, x, o)
+    ]
+
+    kept_home : AllHome p → (s : ℕ) → 6 < s → slice_index (moved p g u).own s ≡ 0
+    kept_home home s h =
+        let z = home s h in
+        let n : s ≢ g = λ e. let y = home g (omega (arith, h, e)) in omega (arith, occ, y) in
+        elim (cases_lt 6 g) [
+          | inl far ↦ let y = home g far in absurd (omega (arith, occ, y))
+          | inr near ↦ at s ∙ shift_else (slice_index p.own s) s g u n (omega arith) ∙ z
+        ]
+
+-- both orders lead to one arrangement
+swapped : (p : Checkers) (f t g u d : ℕ) → 0 < d → f < g → Low p f t d → 0 < slice_index p.own g → u + d ≡ g → t ≢ u
+    → moved (moved p f t) g u ≡ moved (moved p g u) f t
+swapped p f t g u d die lt a occ onto apart =
+    let lf = in_list p.own f a.occupied in
+    let lg = in_list p.own g occ in
+    let below = a.below in
+    let own =
+    shifted_swap p.own f t g u (omega (arith, below)) (omega arith) (omega arith) lf (omega (arith, lf, below)) lg
+    (omega (arith, lg)) a.occupied occ in
+    let other = hit_swap p.other t u apart in
+    λ i. record { own = own i; other = other i }
+
+-- the second step can be played first, and then the first
+steps_swap_at : (p q : Checkers) (f t g u d : ℕ) → 0 < d → f < g → One p f t d (moved p f t) → One (moved p f t) g u d q
+    → (other : Checkers) × One p g u d other × One other f t d q
+steps_swap_at p q f t g u d die lt one two =
+    let s = one.source in let s2 = two.source in
+    let a = low p f t d die s.0 (omega (arith, s2)) one.goes in
+    let (occ, onto, pos) = second_moves p f t g u d lt s2.1 a two.goes in
+    let bar = a.bar in let below = a.below in
+    let hi : g < 25 =
+    elim (cases_eq g 25) [
+      | inl e ↦ let x : slice_index p.own g ≡ 0 = subst (λ k. slice_index p.own k ≡ 0) (sym e) bar in
+          absurd (omega (arith, x, occ))
+      | inr n ↦ omega (arith, s2)
+    ] in
+    let apart : u ≢ t =
+    elim a.how [
+      | inl w ↦ let x = w.0 in omega (arith, x)
+      | inr v ↦
+          elim v
+          [ inl w ↦ let x = w.1 in omega (arith, x) | inr w ↦ let x = w.1 g lt in absurd (omega (arith, occ, x)) ]
+    ] in
+    let there : t ≢ u = λ e. apart (sym e) in (
+      moved p g u,
+      record {
+        source = s2;
+        goes = inr (inl (record { bar_empty = bar; occupied = occ; onto = onto; on_board = pos }));
+        free = λ h. let x = two.free h in let y = hit_else p.other t u apart h in omega (arith, x, y);
+        leads = refl;
+      },
+      record {
+        source = s;
+        goes = first_after p f t g u d die lt hi a occ onto one.goes;
+        free = λ h. let x = one.free h in let y = hit_else p.other u t there h in omega (arith, x, y);
+        leads = two.leads ∙ swapped p f t g u d die lt a occ onto there;
+      },
+    )
+
+-- so the law holds
+pub steps_swap : StepsSwap
+steps_swap p r q f t g u d die lt one two =
+    steps_swap_at p q f t g u d die lt (subst (λ c. One p f t d c) one.leads one)
+    (subst (λ c. One c g u d q) one.leads two)

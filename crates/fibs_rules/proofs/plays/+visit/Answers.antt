@@ -1,0 +1,40 @@
+use Rattle.std.proofs.Common.{rules, ◌<◌, length, get_or, drop, sym, ◌∙◌}
+use Rattle.fibs_rules.specs.Hop.{hop_of}
+use Rattle.fibs_rules.specs.PlayValue.{hops_of}
+use Rattle.fibs_rules.specs.Search.{kept_in}
+use Rattle.fibs_rules.proofs.PlayListLemmas.VisitLoop.{room_left, visited, visit_skip}
+use Rattle.fibs_rules.proofs.SearchLemmas.FollowSteps.{dice_rest}
+use Rattle.fibs_rules.proofs.plays.+visit.Goals as goal
+use Rattle.fibs_rules.proofs.plays.+visit.Goals.{in-Some+in_ok-visit, in_default}
+
+pub visit-requires : goal.visit-requires
+visit-requires t c =
+    let some : 0 < length c.args.dice.now = search rules in (
+      search rules,
+      (
+        room_left (hops_of c.args.play) (hops_of c.with-longer.result) (hop_of c.by.result) c.args.dice.now
+            c.with-longer.ensures some c.requires.room,
+        (dice_rest c.args.dice.now c.requires.dice, c.next_top.ensures.high),
+      ),
+    )
+
+pub loop-place-preserved : goal.loop-place-preserved
+loop-place-preserved t c =
+    let die = get_or c.args.dice.now 0 0 in
+    let kept = kept_in c.args.kept.now in
+    let play = hops_of c.args.play in
+    elim c.match-one.branch [
+      | in-Some+in_ok-visit w ↦
+          rw w.kept-is
+          (visited kept (kept_in c.loop-place.kept) (kept_in w.visit.new.kept) c.args.p.now
+          w.in-Some.next die c.args.dice.now play
+          (hops_of w.with-longer.result) (hop_of w.by.result) c.loop-place.place w.next_top.result
+          (sym w.in-Some.ensures) w.by.ensures w.with-longer.ensures w.next_top.ensures.value c.loop-place.invariant
+          w.in_ok-visit.ensures.ok)
+      | in_default w ↦
+          rw w.kept-is
+          (c.loop-place.invariant
+          ∙ sym
+          (visit_skip kept c.args.p.now die (drop 1 c.args.dice.now) play c.loop-place.place
+          (sym w.in_default.ensures)))
+    ]

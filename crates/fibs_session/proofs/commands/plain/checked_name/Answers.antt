@@ -1,6 +1,0 @@
-use Rattle.std.proofs.Common.{ap, sym, ◌∙◌}
-use Rattle.fibs_session.proofs.PrintedLemmas.{name_is_printed}
-use Rattle.fibs_session.proofs.commands.plain.checked_name.Goals as goal
-
-pub printed-requires : goal.printed-requires
-printed-requires c = name_is_printed c.bytes.result.now c.bytes.ensures.valid

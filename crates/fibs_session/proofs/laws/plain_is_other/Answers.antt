@@ -1,5 +1,0 @@
-use Rattle.fibs_session.proofs.OtherTexts.{plain_is_other}
-use Rattle.fibs_session.proofs.laws.plain_is_other.Goals as goal
-
-pub returns : goal.returns
-returns c = plain_is_other c.read_command_is_exact.ensures c.plain_is_sent.ensures

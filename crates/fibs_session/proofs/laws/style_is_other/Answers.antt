@@ -1,5 +1,0 @@
-use Rattle.fibs_session.proofs.OtherTexts.{style_is_other}
-use Rattle.fibs_session.proofs.laws.style_is_other.Goals as goal
-
-pub returns : goal.returns
-returns c = style_is_other c.read_command_is_exact.ensures c.first_are_sent.ensures

@@ -1,0 +1,9 @@
+//! Tests of turns.
+#![tactic(auto)]
+
+#[cfg(test)]
+mod exchange;
+#[cfg(test)]
+mod refused_notes;
+#[cfg(test)]
+mod seat;
