@@ -13,8 +13,8 @@ ghost use Rattle.fibs_commands.specs.Logins.{IsLogin};
 ghost use Rattle.fibs_commands.specs.declared.login.Login.{Login};
 
 use crate::{CommandText, Plain, PlainFault};
-use fibs_lines::laws::{empty_stream_has_no_line, sendable_text_is_its_line};
 use fibs_fields::laws::decimals_are_exact;
+use fibs_lines::laws::{empty_stream_has_no_line, sendable_text_is_its_line};
 
 /// In each direction, different decisions have different commands.
 pub fn commands_tell_decisions()
