@@ -1,13 +1,14 @@
 #!/usr/bin/env python3
 """Tests the built program's `connect` on real sockets: tests/talks.py PROGRAM
 
-It plays both ends: it types what a player types, and is the server. It goes on where a line was printed, and never by
-the clock, so that a busy machine changes nothing. Prints a line for each case, and then `N passed, M failed`.
+It plays both ends: it types what a player types, and is the server. It goes on where a line was printed, and not by the
+clock, so that a busy machine changes nothing; one case sees how long a quiet server is waited for, with a wide window. Prints a line for each case, and then `N passed, M failed`.
 """
 
 import concurrent.futures
 import os
 import queue
+import signal
 import socket
 import subprocess
 import sys
@@ -452,6 +453,103 @@ def a_server_that_says_nothing(server):
     player.quits()
 
 
+def a_quiet_server_is_waited_for_half_a_second(server):
+    player = logged_in(server)
+    began = time.monotonic()
+    player.type_bytes(b'\n\n\n\ndance\n')
+    same('printed', player.line(), 'unknown\n')
+    took = time.monotonic() - began
+    if not 1 < took < 15:
+        raise Failed('four turns with a server that says nothing took %.3f s' % took)
+    player.quits()
+
+
+# -- a program that is stopped and continued (Ctrl-Z, fg) ----------------------------------------------------------------
+
+def stop_and_continue(player, times=3):
+    """Stops the program for a while, again and again."""
+    for _ in range(times):
+        time.sleep(0.1)
+        player.program.send_signal(signal.SIGSTOP)
+        time.sleep(0.05)
+        player.program.send_signal(signal.SIGCONT)
+
+
+def stopped_while_the_server_is_heard(server):
+    player = greeted(server)
+    for _ in range(3):
+        player.type('')
+        stop_and_continue(player)
+    server.send('12 bob hi')
+    player.type('')
+    player.sees('message 12 bob hi')
+    player.type('dance')
+    player.sees('unknown')
+    player.quits()
+
+
+def stopped_while_a_line_is_waited_for(server):
+    player = greeted(server)
+    time.sleep(1)
+    stop_and_continue(player)
+    player.type('dance')
+    player.sees('unknown')
+    player.quits()
+
+
+def stopped_while_it_connects(_server):
+    with socket.socket() as door:
+        door.bind(('127.0.0.1', 0))
+        door.listen(0)
+        # Two connections fill the queue, so that the next one is not answered until one of them is accepted.
+        fillers = [socket.socket() for _ in range(2)]
+        for filler in fillers:
+            filler.setblocking(False)
+            filler.connect_ex(door.getsockname())
+        time.sleep(0.2)
+        player = Player(door.getsockname()[1])
+        stop_and_continue(player)
+        door.settimeout(PATIENCE)
+        found = b''
+        while not found:
+            taken, _ = door.accept()
+            taken.settimeout(2)
+            try:
+                found = taken.recv(100)
+            except OSError:
+                found = b''
+        same('received', found, LOGIN.encode() + b'\r\n')
+        player.type('dance')
+        player.sees('unknown')
+        player.quits()
+        taken.close()
+        for filler in fillers:
+            filler.close()
+
+
+def stopped_while_it_writes(server):
+    player = Player.__new__(Player)
+    player.program = subprocess.Popen(
+        [PROGRAM, 'connect', '127.0.0.1', str(server.port), 'ann'],
+        stdin=subprocess.PIPE, stdout=subprocess.PIPE, stderr=subprocess.PIPE)
+    player.running.append(player)
+    player.program.stdin.write(b'secret\n\n')
+    player.program.stdin.flush()
+    server.accept()
+    count = 20000
+    sender = threading.Thread(target=lambda: server.send(*['12 bob hi'] * count), daemon=True)
+    sender.start()
+    # Nobody reads what is printed, and a pipe holds less than that.
+    time.sleep(1)
+    stop_and_continue(player)
+    player.program.stdin.close()
+    out = player.program.stdout.read()
+    same('lines', out.count(b'message 12 bob hi\n') > 4000 and out.replace(b'message 12 bob hi\n', b''), b'')
+    same('the status', player.program.wait(PATIENCE), 0)
+    sender.join(PATIENCE)
+    player.stop()
+
+
 # -- what is typed ---------------------------------------------------------------------------------------------------
 
 def long_and_odd_lines(server):
@@ -521,6 +619,8 @@ CASES = [
     passwords_and_names_that_are_none, the_longest_password, the_first_message_is_answered, a_player_is_noted,
     a_server_that_closes_at_once, a_server_that_resets_the_connection, a_connection_that_ends_within_a_line,
     a_line_that_comes_byte_by_byte, a_flood_of_lines, a_line_of_megabytes, a_server_that_says_nothing,
+    a_quiet_server_is_waited_for_half_a_second, stopped_while_the_server_is_heard, stopped_while_a_line_is_waited_for,
+    stopped_while_it_connects, stopped_while_it_writes,
     long_and_odd_lines, a_line_that_is_typed_in_parts, output_that_cannot_be_written, input_that_cannot_be_read,
 ]
 

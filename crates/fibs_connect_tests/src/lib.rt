@@ -4,4 +4,6 @@
 #[cfg(test)]
 mod connect;
 #[cfg(test)]
+mod flushing;
+#[cfg(test)]
 mod refused_notes;

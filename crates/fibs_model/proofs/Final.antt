@@ -22,7 +22,7 @@ use Rattle.fibs_model.specs.World.{does_heard, does_served, sends_plain, talk_of
 use Rattle.fibs_model.specs.World.{is_talking, sends_out, clicks, hears, hears_all, takes_line, obeys, carries_out}
 use Rattle.fibs_model.specs.World.{serves, after, start}
 use Rattle.fibs_model.specs.Refusals.{refusal}
-use Rattle.fibs_model.specs.Headline.{Headline, IsAtRest}
+use Rattle.fibs_model.specs.Headline.{Headline, IsAtRest, AllLegal}
 use Rattle.fibs_model.specs.Stale.{NoneStale}
 use Rattle.fibs_model.specs.Runs.{AllAccepted, after_all}
 use Rattle.fibs_model.proofs.Lawful.{Lawful, IsQuiet}
@@ -30,11 +30,13 @@ use Rattle.fibs_lines.specs.Lines.{ReadLine as Line}
 use Rattle.fibs_session.specs.History.Machine.{on_wire, gained}
 use Rattle.fibs_model.proofs.wires.Ways.{OnWay, way_serve, way_some, way_served}
 use Rattle.fibs_model.proofs.wires.Boards.{waiting, boards, gained_none}
-use Rattle.fibs_model.proofs.joint.Joint.{view, to_list, Live, Held, Current, Joint}
+use Rattle.fibs_model.proofs.joint.Joint.{view, Live, Held, Current, Joint}
+use Rattle.fibs_model.proofs.log.Lists.{to_list}
 use Rattle.fibs_model.proofs.joint.Sending.{if_fact, same_test}
 use Rattle.fibs_model.proofs.joint.Click.{yes}
 use Rattle.fibs_model.proofs.joint.EachEvent.{served, joint_after, joint_start}
-use Rattle.fibs_model.proofs.log.Told.{Told, told_plain, told_no, told_yes, told_took, answered, on_shown}
+use Rattle.fibs_model.proofs.log.Moved.{all_moved_on}
+use Rattle.fibs_model.proofs.log.Told.{Told, AllAllowed, told_plain, told_no, told_yes, told_took, answered, on_shown}
 use Rattle.fibs_commands.specs.PlainCommands.{PlainValue}
 use Rattle.fibs_session.specs.History.Hearing.{line_reading}
 use Rattle.fibs_boards.specs.Board.{spelling}
@@ -60,7 +62,7 @@ module _ (law : Lawful) where
   -- a line that is heard adds a plain entry, or none
   told_hears : (c : ℕ) (w : World) (x : ReadingValue) → Told w.log → Told (hears c w x).log
   told_hears c w (board_line b) h =
-      if_fact (λ z. Tells (does_heard c w z)) (is_good b) _ _ (λ z. told_plain w.log (Shown c b) tt h)
+      if_fact (λ z. Tells (does_heard c w z)) (is_good b) _ _ (λ z. told_plain w.log (Shown c b) z h)
       (λ z. told_nothing c w h)
   told_hears c w (numbered_line m) h =
       if_fact (λ z. Tells (does_heard c w z)) (nat_eq m.number 1) _ _ (λ z. told_plain w.log (Welcomed c) tt h)
@@ -184,6 +186,7 @@ module _ (law : Lawful) where
   pub told_start : (b : Board) → Told (start b).log
   told_start b =
       record {
+        seen = λ c. tt;
         legal = λ c. tt;
         pairs = tt;
         undone = tt;
@@ -231,6 +234,11 @@ module _ (law : Lawful) where
       ]
       go (Some x) o y = absurd (way_some law x o)
 
+  -- what the tests allow is allowed by the rules
+  all_legal : (asks : List Ask) → AllAllowed asks → AllLegal asks
+  all_legal [] h = tt
+  all_legal (a ∷ rest) h = let m = law.allowed_means a.0 a.1 h.0 h.1 in (m.0, m.1, all_legal rest h.2)
+
   -- the headline, after a list of events that were all accepted
   pub headline_holds : (login : List ℕ) → IsQuiet login → (b : Board) (es : List Event) → is_good b ≡ true
       → AllAccepted login (start b) es → Headline (after_all login (start b) es)
@@ -248,11 +256,11 @@ module _ (law : Lawful) where
           record {
             prefix = λ c. (to_list (j.settled c).p, sym (j.settled c).owed);
             order = t.order;
-            legal = t.legal;
+            legal = λ c. all_legal (sent c w.log) (t.legal c);
             own_click = t.pairs;
             on_shown = on_shown w.log t.boards;
             at_most_one = λ c. few (j.settled c).p _ _ (j.settled c).owed;
-            moved_on = j.moved;
+            moved_on = all_moved_on law w.log (λ c. ((j.settled c).p, (j.settled c).owed)) j.moved;
             none_undone = t.undone;
             answered = answered w.log t.answers;
             at_rest = rests w j;

@@ -6,8 +6,9 @@ use Rattle.fibs_boards.specs.Board.{BoardFields, spelling}
 use Rattle.fibs_messages.specs.Line.{board_line}
 use Rattle.fibs_messages.specs.Message.{MessageValue}
 use Rattle.fibs_position.specs.DecisionValue.{DecisionValue}
-use Rattle.fibs_position.specs.GoodBoard.{good}
-use Rattle.fibs_position.specs.GamePart.{same_game}
+use Rattle.fibs_position.specs.Allowed.{IsAllowed}
+use Rattle.fibs_position.specs.GoodBoard.{IsGood, good}
+use Rattle.fibs_position.specs.GamePart.{Differ, same_game}
 use Rattle.fibs_commands.specs.PlainCommands.{PlainValue, plain_of, plain_fault_of}
 use Rattle.fibs_commands.specs.FirstCommands.{style_text}
 use Rattle.fibs_session.specs.History.Hearing.{initial_commands}
@@ -39,6 +40,11 @@ pub record Lawful : Type 0 where
   pub alone : WhatFollowsALineEndReadsAlone
   -- to be of one game part is an equivalence
   pub likeness : IsLikeness same_game
+  -- and boards of two game parts differ
+  pub differ : (a b : BoardFields) → Differ a b → same_game a b ≡ false
+  -- what is allowed on a good board is allowed by the rules
+  pub allowed_means : (b : BoardFields) (d : DecisionValue) → good b ≡ true → allows b d ≡ None
+      → IsGood b × IsAllowed b d
   -- an allowed decision is the user's, and it has an effect, which is seen
   pub allowed_decides : (b : BoardFields) (d : DecisionValue) → allows b d ≡ None → user_decides b ≡ true
   pub allowed_acts : (b : BoardFields) (d : DecisionValue) (d1 d2 : ℕ) → good b ≡ true → allows b d ≡ None

@@ -4,6 +4,8 @@ pub mod log
 pub mod wires
 pub mod joint
 pub mod Final
+pub mod Steps
+pub mod OnceLemmas
 pub mod RealLaws
 pub mod Projection
 pub mod Likeness

@@ -105,6 +105,9 @@ module _ (owed : Owed) where
   lawful = record {
     likeness =
         record { like_itself = owed.likeness.itself; like_back = owed.likeness.back; like_on = owed.likeness.on };
+    differ = λ a b h. (owed.game a b).1 h;
+    allowed_means =
+        λ b d g h. let is = (owed.good_exact b).0 g in (is, (owed.allowed b d is).0.0 (none_left (allowed_of b d) h));
     empty = owed.empty;
     grow = owed.grow;
     alone = owed.alone;

@@ -8,4 +8,6 @@ pub mod EachEvent
 pub mod Steady
 pub mod Carrying
 pub mod Acting
+pub mod Left
+pub mod Serving
 pub mod Stated

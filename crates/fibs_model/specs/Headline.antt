@@ -4,17 +4,18 @@
 --     The decisions that take effect on each connection, with the positions that they change, are a prefix of those
 --     sent there with the boards then shown: each legal, each answering its own click there, at most the last missing,
 --     none once a differing board is shown.
-use Rattle.std.specs.Prelude.{◌≡◌, ℕ, ◌+◌, ◌<◌, ◌≤◌, Bool, true, false, List, [], ◌∷◌, ◌++◌, Option, Some, None}
+use Rattle.std.specs.Prelude.{◌≡◌, ℕ, ◌+◌, ◌<◌, ◌≤◌, Bool, false, List, [], ◌∷◌, ◌++◌, Option, Some, None}
 use Rattle.std.specs.Prelude.{if◌then◌else◌, nat_eq, length, slice_index}
 use Rattle.fibs_boards.specs.Board.{BoardFields}
+use Rattle.fibs_position.specs.Allowed.{IsAllowed}
 use Rattle.fibs_position.specs.DecisionValue.{DecisionValue}
-use Rattle.fibs_position.specs.GamePart.{same_game}
+use Rattle.fibs_position.specs.GamePart.{Differ, same_game}
+use Rattle.fibs_position.specs.GoodBoard.{IsGood}
 use Rattle.fibs_session.specs.declared.refusal.Refusal.{Refusal}
-use Rattle.fibs_session.specs.History.Log.{Entry, Clicked, Sent, Took, Undone}
+use Rattle.fibs_session.specs.History.Log.{Entry, Shown, Clicked, Sent, Took, Undone}
 use Rattle.fibs_session.specs.History.Words.{Ask, last, open_now, shown, sent, took, unconfirmed, answer}
 use Rattle.fibs_session.specs.History.Machine.{allows}
 use Rattle.fibs_model.specs.Wires.{next_line}
-use Rattle.fibs_model.specs.Moving.{has_moved_on}
 use Rattle.fibs_model.specs.World.{World}
 
 -- `sent c log` and `took c log` are the pairs (board, decision) of the Sent and of the Took entries of c, in order.
@@ -42,10 +43,10 @@ InOrder c log =
     (i : ℕ) → i < length (took c log)
     → (i < length (sent c log)) × (slice_index (places (is_sent c) 0 log) i < slice_index (places (is_took c) 0 log) i)
 
--- each of the decisions was allowed on its board
+-- each of the decisions was allowed by the rules on its board, which is good
 abbrev pub AllLegal : List Ask → Type 0
 AllLegal [] = Unit {0}
-AllLegal (a ∷ rest) = (allows a.0 a.1 ≡ None) × AllLegal rest
+AllLegal (a ∷ rest) = IsGood a.0 × IsAllowed a.0 a.1 × AllLegal rest
 
 -- A click that is answered by yes and a Sent come in pairs of one connection and one decision, the Sent directly after
 -- its click; neither stands without the other.
@@ -61,6 +62,14 @@ abbrev pub AllOnShown : List Entry → Type 0
 AllOnShown log =
     (before later : List Entry) (c : ℕ) (b : BoardFields) (d : DecisionValue) → log ≡ before ++ Sent c b d ∷ later
     → last (shown c before) ≡ Some b
+
+-- Where a board is shown that differs from the board of a decision that was sent before it on that connection, all that
+-- was sent there up to that decision took effect.
+abbrev pub AllMovedOn : List Entry → Type 0
+AllMovedOn log =
+    (before between later : List Entry) (c : ℕ) (b now : BoardFields) (d : DecisionValue)
+    → log ≡ before ++ Sent c b d ∷ (between ++ Shown c now ∷ later) → Differ b now
+    → IsPrefixOf (sent c (before ++ Sent c b d ∷ [])) (took c log)
 
 -- no entry is Undone
 abbrev pub NoneUndone : List Entry → Type 0
@@ -97,7 +106,7 @@ pub record Headline (w : World) : Type 0 where
   -- at most the last is missing;
   pub at_most_one : (c : ℕ) → length (sent c w.log) ≤ length (took c w.log) + 1
   -- and none once a differing board is shown.
-  pub moved_on : (c : ℕ) → has_moved_on same_game c w.log ≡ true → took c w.log ≡ sent c w.log
+  pub moved_on : AllMovedOn w.log
   -- Beside it: no served decision changed nothing;
   pub none_undone : NoneUndone w.log
   -- each click carries the answer of the log before it;

@@ -8,8 +8,8 @@ pub mod EntryOf
 pub mod World
 pub mod Refusals
 pub mod Runs
-pub mod Moving
 pub mod Headline
+pub mod Once
 pub mod Stale
 pub mod Acts
 pub mod Joint

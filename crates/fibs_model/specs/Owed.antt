@@ -6,6 +6,7 @@ use Rattle.fibs_boards.specs.Board.{BoardFields, IsBoard, spelling}
 use Rattle.fibs_messages.specs.Line.{ReadingValue, IsReading, IsBoardLine, ReadingIsExact}
 use Rattle.fibs_boards.specs.Printed.{IsPrinted}
 use Rattle.fibs_position.specs.Laws.{GoodIsExact, SameGameIsALikeness, AllowedDecides, AllowedIsADecision, AllowedActs}
+use Rattle.fibs_position.specs.Laws.{AllowedIsExact, SameGameIsExact}
 use Rattle.fibs_commands.specs.CommandLaws.{CommandsArePrinted, ReadCommandIsExact, LoginIsOther, StyleIsOther}
 use Rattle.fibs_commands.specs.CommandLaws.{PlainIsOther, InitialAreOther}
 
@@ -21,6 +22,8 @@ pub record Owed : Type 0 where
   pub one_reading : (line : List ℕ) (v w : ReadingValue) → IsReading line v → IsReading line w → v ≡ w
   pub good_exact : GoodIsExact
   pub likeness : SameGameIsALikeness
+  pub game : SameGameIsExact
+  pub allowed : AllowedIsExact
   pub decides : AllowedDecides
   pub decision : AllowedIsADecision
   pub acts : AllowedActs

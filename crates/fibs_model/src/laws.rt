@@ -2,6 +2,7 @@
 
 ghost use Rattle.fibs_model.specs.Joint.{JointStatement};
 ghost use Rattle.fibs_model.specs.Laws.{HeadlineHolds, NothingServedIsStale};
+ghost use Rattle.fibs_model.specs.Once.{OneStep, OnceHolds};
 ghost use Rattle.fibs_model.specs.Owed.{Owed};
 
 /// The laws of the layers below.
@@ -17,6 +18,8 @@ fn layers_below()
     fibs_messages::laws::each_line_has_one_reading();
     fibs_position::laws::good_is_exact();
     fibs_position::laws::same_game_is_a_likeness();
+    fibs_position::laws::same_game_is_exact();
+    fibs_position::laws::allowed_is_exact();
     fibs_position::laws::allowed_decides();
     fibs_position::laws::allowed_is_a_decision();
     fibs_position::laws::allowed_acts();
@@ -44,4 +47,23 @@ pub fn joint_statement()
     ensures { JointStatement }
 {
     layers_below();
+}
+
+/// While the user decides on the server's board, an event that is accepted leaves that board, or one decision takes
+/// effect on it, and the board becomes another game.
+pub fn one_step()
+    ensures { OneStep }
+{
+    fibs_position::laws::effect_is_exact();
+    fibs_position::laws::effect_is_good();
+}
+
+/// Over every list of events no two decisions take effect on one game, on whatever connections, unless a board of the
+/// server's own comes between them.
+pub fn once()
+    ensures { OnceHolds }
+{
+    fibs_position::laws::effect_is_exact();
+    fibs_position::laws::effect_is_good();
+    fibs_position::laws::no_three_in_a_row();
 }

@@ -9,10 +9,12 @@ ghost use Rattle.fibs_boards.specs.StoredBoard.{fields_of};
 ghost use Rattle.fibs_position.specs.GoodBoard.{IsGood, good};
 ghost use Rattle.fibs_session.specs.History.Words.{last, shown, open_now};
 ghost use Rattle.fibs_commands.specs.LoginOf.{name_of, password_of};
+ghost use Rattle.fibs_commands.specs.Logins.{login_text};
 ghost use Rattle.fibs_model.specs.EntryOf.{entry_of};
 ghost use Rattle.fibs_model.specs.EventOf.{event_of};
 ghost use Rattle.fibs_model.specs.Events as E;
 ghost use Rattle.fibs_model.specs.Headline.{Headline};
+ghost use Rattle.fibs_model.specs.Once.{Once};
 ghost use Rattle.fibs_model.specs.Refusals.{refusal};
 ghost use Rattle.fibs_model.specs.WorldCalls.{WorldStandsAfter, machine_after, Agrees, Stops, accepted};
 
@@ -103,8 +105,12 @@ impl World {
         ensures headline { (name password : List ℕ) (first : BoardFields) (events : List E.Event) →
             WorldStandsAfter self.old name password first events →
             Headline (machine_after name password first (events ++ accepted result (event_of event.now))) }
+        ensures once { (name password : List ℕ) (first : BoardFields) (events : List E.Event) →
+            WorldStandsAfter self.old name password first events →
+            Once (login_text name password) first (events ++ accepted result (event_of event.now)) }
     {
         laws::headline();
+        laws::once();
         match self.refusal(event) {
             Some(why) => Err(why),
             None => match self.take(event) {
@@ -116,7 +122,8 @@ impl World {
 
     /// Does the events, one after another, up to the first that may not be; says how many it did, and why it stopped.
     ///
-    /// The world then stands after the events before and those done, and of this whole list the headline holds.
+    /// The world then stands after the events before and those done. Of this whole list the headline holds, and that no
+    /// two decisions took effect on one game unless a board of the server's own came between them.
     pub fn run(&mut self, events: &[Event<'_>]) -> RunEnd
         ensures within { result.done ≤ length events.now }
         ensures all { result.refusal ≡ None ↔ result.done ≡ length events.now }
@@ -135,8 +142,12 @@ impl World {
         ensures headline { (name password : List ℕ) (first : BoardFields) (before : List E.Event) →
             WorldStandsAfter self.old name password first before →
             Headline (machine_after name password first (before ++ take result.done (map event_of events.now))) }
+        ensures once { (name password : List ℕ) (first : BoardFields) (before : List E.Event) →
+            WorldStandsAfter self.old name password first before →
+            Once (login_text name password) first (before ++ take result.done (map event_of events.now)) }
     {
         laws::headline();
+        laws::once();
         let mut done = 0;
         for event in events {
             match self.step(event) {

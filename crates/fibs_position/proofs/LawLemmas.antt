@@ -1,4 +1,5 @@
 -- The laws of positions and decisions.
 pub mod CarriedOut
+pub mod InARow
 pub mod AllowedDecisions
 pub mod Equality

@@ -45,6 +45,13 @@ EffectIsGood =
     (b : BoardFields) (decision : DecisionValue) (dice : List ℕ) (after : BoardFields) → Effect b decision dice after
     → IsGood after × Differ b after
 
+-- no three decisions are carried out one after another: after a roll there may be a move, and after any other decision
+-- it is not the player's turn
+abbrev pub NoThreeInARow : Type 0
+NoThreeInARow =
+    (a b c after : BoardFields) (d e f : DecisionValue) (dice dice' dice'' : List ℕ)
+    → Effect a d dice b → Effect b e dice' c → Effect c f dice'' after → ⊥
+
 -- the test `good` tells exactly the good boards, of all values of fields
 abbrev pub GoodIsExact : Type 0
 GoodIsExact = (b : BoardFields) → (good b ≡ true) ↔ IsGood b

@@ -10,15 +10,14 @@ ghost use Rattle.fibs_position.specs.BoardEffect.{carried, effect_of};
 ghost use Rattle.fibs_position.specs.DecisionValue.{roll, double, accept, reject, move, decision_of};
 ghost use Rattle.fibs_rules.specs.PlayValue.{hops_of};
 ghost use Rattle.fibs_position.specs.OwnView.{colour, no_dice, own_placed, other_placed};
-ghost use Rattle.fibs_position.specs.GoodBoard.{IsGood, good};
 
 use crate::decision::Decision;
 use crate::fields::{
     COLOUR, CUBE, FIRST_DIE, MAY_DOUBLE, MOST_DOUBLED, OPPONENT_MAY_DOUBLE, OPPONENTS_FIRST_DIE,
     OPPONENTS_SECOND_DIE, OWN_OFF, SECOND_DIE, TURN, WAS_DOUBLED,
 };
+use crate::good_board::is_good;
 use crate::own_view::{arrangement_of, colour, no_dice, place_field};
-use crate::position::Position;
 use fibs_boards::board::Board;
 use fibs_boards::laws::{fields_have_their_ranges, is_board_is_exact};
 use fibs_rules::{Arrangement, Play};
@@ -222,14 +221,6 @@ fn make_steps(board: &Board, play: &Play) -> Option<Board>
         Some(reached) => Some(after_move(board, &reached)),
         None => None,
     }
-}
-
-/// The board has a position.
-fn is_good(board: &Board) -> bool
-    ensures value { result ≡ good (fields_of board.now) }
-    ensures good { IsTrue result ↔ IsGood (fields_of board.now) }
-{
-    Position::of(board).is_ok()
 }
 
 /// What the table of decisions gives.

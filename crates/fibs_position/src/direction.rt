@@ -1,6 +1,10 @@
 //! Which way a player goes.
 
 ghost use Rattle.std.specs.Prelude.{◌≡◌, ◌≤◌};
+ghost use Rattle.fibs_boards.specs.StoredBoard.{fields_of};
+
+use crate::fields::DIRECTION;
+use fibs_boards::board::Board;
 
 /// Which way a player's checkers go by the numbers of the board line.
 #[derive(Clone, Copy, Debug, PartialEq, Eq)]
@@ -12,7 +16,18 @@ pub enum Direction {
 }
 
 impl Direction {
-    ghost use Rattle.fibs_position.specs.DirectionOf.{line_place};
+    ghost use Rattle.fibs_position.specs.DirectionOf.{direction_of, line_place};
+
+    /// Which way the player of a board goes, whether the board has a position or not.
+    pub fn of(board: &Board) -> Direction
+        ensures { result ≡ direction_of (fields_of board.now) }
+    {
+        if board.field(DIRECTION) == -1 {
+            Direction::Down
+        } else {
+            Direction::Up
+        }
+    }
 
     /// The line's number of a place 0 to 25, which the player counts so that his checkers go down.
     pub fn line_place(self, place: u8) -> u8

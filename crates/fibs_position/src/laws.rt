@@ -5,7 +5,7 @@ ghost use Rattle.fibs_position.specs.DecisionValue.{decision_of};
 ghost use Rattle.fibs_position.specs.Laws.{PhaseIsExact, AllowedIsExact, EffectIsExact, AllowedIsTheUsers};
 ghost use Rattle.fibs_position.specs.Laws.{AllowedIsCarriedOut, EffectIsGood, GoodIsExact, SameGameIsExact};
 ghost use Rattle.fibs_position.specs.Laws.{SameGameIsALikeness, AllowedDecides, AllowedIsADecision};
-ghost use Rattle.fibs_position.specs.Laws.{DecisionsAreValid, AllowedActs};
+ghost use Rattle.fibs_position.specs.Laws.{DecisionsAreValid, AllowedActs, NoThreeInARow};
 
 use crate::decision::Decision;
 use crate::direction::Direction;
@@ -92,6 +92,13 @@ pub fn allowed_is_carried_out()
 /// A decision that is carried out leaves a good board, which differs from the one before.
 pub fn effect_is_good()
     ensures { EffectIsGood }
+{
+    fields_have_their_ranges();
+}
+
+/// No three decisions are carried out one after another, without a board that comes from elsewhere.
+pub fn no_three_in_a_row()
+    ensures { NoThreeInARow }
 {
     fields_have_their_ranges();
 }

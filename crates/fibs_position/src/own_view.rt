@@ -2,13 +2,12 @@
 
 ghost use Rattle.std.specs.Prelude.{◌≡◌, ◌⊎◌, ◌+◌, ◌-◌, ◌≤◌, ◌∷◌, ◌++◌, [], pos, negsuc, sum};
 ghost use Rattle.fibs_boards.specs.StoredBoard.{fields_of};
-ghost use Rattle.fibs_position.specs.DirectionOf.{direction_of};
 ghost use Rattle.fibs_position.specs.OwnView.{colour, place_field, stand_on, on_places, own_on_places, other_on_places};
 ghost use Rattle.fibs_position.specs.OwnView.{own_off, other_off, own_placed, other_placed, own_view};
 ghost use Rattle.fibs_position.specs.OwnView.{first_die, second_die, no_dice};
 
 use crate::direction::Direction;
-use crate::fields::{COLOUR, DIRECTION, FIRST_DIE, FIRST_PLACE, OTHER_OFF, OWN_OFF, SECOND_DIE};
+use crate::fields::{COLOUR, FIRST_DIE, FIRST_PLACE, OTHER_OFF, OWN_OFF, SECOND_DIE};
 use fibs_boards::board::Board;
 use fibs_rules::{Arrangement, total};
 
@@ -20,17 +19,6 @@ pub fn colour(board: &Board) -> i32
     board.field(COLOUR)
 }
 
-/// Which way the player's checkers go by the numbers of the board line.
-pub fn direction(board: &Board) -> Direction
-    ensures { result ≡ direction_of (fields_of board.now) }
-{
-    if board.field(DIRECTION) == -1 {
-        Direction::Down
-    } else {
-        Direction::Up
-    }
-}
-
 /// The field of a place, which the player counts so as to go down.
 pub fn place_field(board: &Board, place: u8) -> usize
     requires low { 1 ≤ place }
@@ -39,7 +27,7 @@ pub fn place_field(board: &Board, place: u8) -> usize
     ensures low { 8 ≤ result }
     ensures high { result ≤ 31 }
 {
-    FIRST_PLACE + usize::from(direction(board).line_place(place))
+    FIRST_PLACE + usize::from(Direction::of(board).line_place(place))
 }
 
 /// The checkers of a colour on a place.

@@ -11,7 +11,7 @@ use crate::decision::Decision;
 use crate::direction::Direction;
 use crate::disallowed::Disallowed;
 use crate::fields::{COLOUR, CUBE, MAY_DOUBLE, MOST_DOUBLED, TURN, WAS_DOUBLED};
-use crate::own_view::{arranged, direction, first_die, other_placed, own_placed, second_die};
+use crate::own_view::{arranged, first_die, other_placed, own_placed, second_die};
 use crate::phase::Phase;
 use crate::position_fault::PositionFault;
 use fibs_boards::board::Board;
@@ -92,7 +92,7 @@ impl Position {
     {
         Position {
             standing: Turn::new(arrangement, first_die(board), second_die(board)),
-            direction: direction(board),
+            direction: Direction::of(board),
             turn: board.field(TURN),
             colour: board.field(COLOUR),
             was_doubled: board.field(WAS_DOUBLED),

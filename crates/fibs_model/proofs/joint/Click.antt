@@ -14,7 +14,7 @@ use Rattle.fibs_session.specs.History.Words.{welcomed, informed, is_spent, answe
 use Rattle.fibs_model.specs.Wires.{Link}
 use Rattle.fibs_model.specs.Server.{command}
 use Rattle.fibs_model.specs.World.{World, noted, asks, clicks}
-use Rattle.fibs_model.specs.Moving.{has_moved_on}
+use Rattle.fibs_model.proofs.log.Moving.{has_moved_on}
 use Rattle.fibs_model.proofs.Lawful.{Lawful}
 use Rattle.fibs_session.specs.History.Machine.{on_wire}
 use Rattle.fibs_model.proofs.log.Lists.{same_number, other_number, one_of_false, one_of_true, before_last, map_no_more}
@@ -22,7 +22,8 @@ use Rattle.fibs_model.proofs.log.Lists.{map_more}
 use Rattle.fibs_model.proofs.log.Past.{open_append, spent_sent, moved_sent}
 use Rattle.fibs_model.proofs.wires.Ways.{OnWay, way_decision}
 use Rattle.fibs_model.proofs.wires.Boards.{waiting}
-use Rattle.fibs_model.proofs.joint.Joint.{View, view, to_list, Calm, Free, Live, Current, Joint, same_view, linked_same}
+use Rattle.fibs_model.proofs.joint.Joint.{View, view, Calm, Free, Live, Current, Joint, same_view, linked_same}
+use Rattle.fibs_model.proofs.log.Lists.{to_list}
 use Rattle.fibs_model.proofs.joint.Joint.{linked_other, with_link, view_linked, joint_current}
 use Rattle.fibs_model.proofs.joint.Sending.{joint_noted, not_older, same_test}
 use Rattle.fibs_session.specs.History.Machine.{allows}

@@ -10,7 +10,7 @@ use Rattle.fibs_session.specs.History.Words.{Ask, one_if, is_empty, last, each, 
 use Rattle.fibs_session.specs.History.Words.{informed, is_spent}
 use Rattle.fibs_model.specs.Wires.{Link}
 use Rattle.fibs_model.specs.World.{does_heard, World, noted, linked, hears, hears_all}
-use Rattle.fibs_model.specs.Moving.{has_moved_on}
+use Rattle.fibs_model.proofs.log.Moving.{has_moved_on}
 use Rattle.fibs_model.proofs.Lawful.{Lawful, AllQuiet}
 use Rattle.std.specs.Prelude.{if◌then◌else◌}
 use Rattle.fibs_messages.specs.Line.{ReadingValue, numbered_line, board_line, text_line, malformed_line}
@@ -23,7 +23,8 @@ use Rattle.fibs_model.proofs.log.Lists.{other_number, and_left, and_right, and_b
 use Rattle.fibs_model.proofs.log.Lists.{map_no_more}
 use Rattle.fibs_model.proofs.log.Past.{open_append, shown_more, spent_first, spent_same, spent_other, moved_shown}
 use Rattle.fibs_model.proofs.wires.Boards.{waiting, boards, board_of, boards_split, whole_split, gained_none}
-use Rattle.fibs_model.proofs.joint.Joint.{View, view, to_list, Calm, Free, Done, Live, Held, Current, Ahead, Joint}
+use Rattle.fibs_model.proofs.joint.Joint.{View, view, Calm, Free, Done, Live, Held, Current, Ahead, Joint}
+use Rattle.fibs_model.proofs.log.Lists.{to_list}
 use Rattle.fibs_model.proofs.joint.Joint.{same_view, linked_same, linked_other, with_link, view_linked, joint_current}
 use Rattle.fibs_model.proofs.joint.Sending.{joint_noted, joint_ahead, joint_asks, not_older, same_test, if_fact, relink}
 use Rattle.fibs_session.specs.History.Hearing.{line_reading}

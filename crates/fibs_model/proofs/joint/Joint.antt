@@ -9,8 +9,8 @@ use Rattle.fibs_session.specs.History.Words.{sent, took, is_spent}
 use Rattle.fibs_model.specs.Wires.{Link}
 use Rattle.fibs_model.specs.Server.{user_decides}
 use Rattle.fibs_model.specs.World.{World, linked}
-use Rattle.fibs_model.specs.Moving.{has_moved_on}
-use Rattle.fibs_model.proofs.log.Lists.{same_number, other_number, map_no_more}
+use Rattle.fibs_model.proofs.log.Moving.{has_moved_on}
+use Rattle.fibs_model.proofs.log.Lists.{to_list, same_number, other_number, map_no_more}
 use Rattle.fibs_model.proofs.log.Past.{spent_quiet, moved_quiet}
 use Rattle.fibs_model.proofs.wires.Ways.{OnWay}
 use Rattle.fibs_model.proofs.wires.Boards.{Whole, waiting}
@@ -38,11 +38,6 @@ view w c =
       moved = has_moved_on same_game c w.log;
       link = w.links c;
     }
-
--- a list of one, or none
-abbrev pub to_list : {A : Type 0} → Option A → List A
-to_list None = []
-to_list (Some x) = x ∷ []
 
 -- all boards are this one
 abbrev pub AllAre : Board → List Board → Type 0

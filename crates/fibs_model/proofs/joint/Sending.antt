@@ -17,7 +17,8 @@ use Rattle.fibs_model.proofs.log.Lists.{same_number, and_left, and_right}
 use Rattle.fibs_model.proofs.log.Past.{open_append}
 use Rattle.fibs_model.proofs.wires.Ways.{way_more}
 use Rattle.fibs_model.proofs.wires.Boards.{Whole, waiting, boards, boards_more, whole_more, whole_none, printed}
-use Rattle.fibs_model.proofs.joint.Joint.{View, view, to_list, AllAre, Calm, Live, Held, Current, Ahead, Settled, Moved}
+use Rattle.fibs_model.proofs.joint.Joint.{View, view, AllAre, Calm, Live, Held, Current, Ahead, Settled, Moved}
+use Rattle.fibs_model.proofs.log.Lists.{to_list}
 use Rattle.fibs_model.proofs.joint.Joint.{Joint, same_view, linked_same, linked_other, with_link, view_linked}
 use Rattle.fibs_model.proofs.joint.Joint.{joint_current}
 use Rattle.fibs_boards.specs.Board.{spelling}

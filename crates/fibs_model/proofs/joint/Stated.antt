@@ -1,7 +1,8 @@
 -- The four facts of the joint statement hold after every list of events.
+use Rattle.std.proofs.Common.{◌⊎◌}
 use Rattle.std.proofs.Common.{◌≡◌, ℕ, ◌+◌, ◌<◌, ◌≤◌, Bool, true, false, not, ◌&&◌, List, [], ◌∷◌, ◌++◌, Option, Some}
 use Rattle.std.proofs.Common.{None}
-use Rattle.std.proofs.Common.{nat_eq, take, drop, refl, sym, ◌∙◌, ap, subst, inl, inr, append-nil, append_assoc}
+use Rattle.std.proofs.Common.{nat_eq, take, drop, flat_map, refl, sym, ◌∙◌, ap, subst, inl, inr, append-nil, append_assoc}
 use Rattle.std.proofs.Common.{true≢false, arith, if◌then◌else◌}
 use Rattle.std.proofs.lemmas.Bool.{cases_lt, eqb-true}
 use Rattle.std.proofs.lemmas.Bool.Decides.{eqb_tells}
@@ -12,12 +13,12 @@ use Rattle.fibs_position.specs.GoodBoard.{good as is_good}
 use Rattle.fibs_session.specs.History.Log.{Entry, Took, Undone, Lost}
 use Rattle.fibs_session.specs.History.Log as L
 use Rattle.fibs_session.specs.History.Machine.{allows, gained, on_wire, plain_refusal}
-use Rattle.fibs_session.specs.History.Words.{Ask, is_empty, one_if, open_now, answer, took}
+use Rattle.fibs_session.specs.History.Words.{Ask, is_empty, one_if, open_now, answer, sent, took}
 use Rattle.fibs_model.specs.Acts.{Act, Shows, Says, Serves, put_by, sending, acts_of, acts_at_line, acts_on, acts_from}
 use Rattle.fibs_model.specs.declared.refusal.WorldRefusal.TheVariants.{AlreadyOpen, NotOpen}
 use Rattle.fibs_model.specs.Events.{Event, Open, Click, Plain, Deliver, Lose, Serve, Own, Repeat, Text}
 use Rattle.fibs_model.specs.Headline.{NoneUndone}
-use Rattle.fibs_model.specs.Joint.{Carried, Steady, served_by, at_most_one, LastUnserved}
+use Rattle.fibs_model.specs.Joint.{Carried, Steady, served_by, served_at, decisions_of, at_most_one, Left, LastUnserved}
 use Rattle.fibs_model.specs.Joint as S
 use Rattle.fibs_model.specs.Refusals.{refusal}
 use Rattle.fibs_model.specs.Runs.{AllAccepted, after_all}
@@ -34,8 +35,11 @@ use Rattle.fibs_model.proofs.joint.Acting.{kept_serves, kept_login}
 use Rattle.fibs_model.proofs.joint.Carrying.{alike_linked, alike_asks, alike_hears_all, alike_clicks, alike_plain}
 use Rattle.fibs_model.proofs.joint.Carrying.{carried_is, carried_delivered, carried_lost, carried_none}
 use Rattle.fibs_model.proofs.joint.EachEvent.{served, joint_after, joint_start, not_refused, is_open}
-use Rattle.fibs_model.proofs.joint.Joint.{Joint, Settled, to_list, view, linked_same, linked_other}
+use Rattle.fibs_model.proofs.joint.Joint.{Joint, linked_same, linked_other}
+use Rattle.fibs_model.proofs.log.Lists.{to_list}
 use Rattle.fibs_model.proofs.joint.Sending.{same_test}
+use Rattle.fibs_model.proofs.joint.Left.{left_on}
+use Rattle.fibs_model.proofs.joint.Serving.{serves_all}
 use Rattle.fibs_model.proofs.joint.Steady.{steady_rest, steady_becomes, steady_shows, steady_says}
 
 -- two parts of the acts on a connection
@@ -255,13 +259,53 @@ one_or_none None = refl
 one_or_none (Some a) = refl
 
 -- all but at most the last was served
-last_unserved : (w : World) (c : ℕ) → NoneUndone w.log → Settled (view w c) → LastUnserved c w.log
-last_unserved w c none s = record {
-  unserved = s.p;
-  all =
-      s.owed ∙ ap (λ l. l ++ to_list s.p) (took_is_served c w.log none)
-      ∙ ap (λ l. S.served c w.log ++ l) (one_or_none s.p);
-}
+all_but_last : (w : World) (c : ℕ) (p : Option Ask) → NoneUndone w.log → sent c w.log ≡ took c w.log ++ to_list p
+    → sent c w.log ≡ S.served c w.log ++ at_most_one p
+all_but_last w c p none owed =
+    owed ∙ ap (λ l. l ++ to_list p) (took_is_served c w.log none) ∙ ap (λ l. S.served c w.log ++ l) (one_or_none p)
+
+-- and the last is the only decision left on the wire
+last_unserved : (w : World) (c : ℕ) (acts : List Act) → NoneUndone w.log → Joint [] w
+    → flat_map served_at acts ≡ decisions_of (S.served c w.log) → LastUnserved c acts w
+last_unserved w c acts none j serves = go (eqb_tells c 0) (eqb_tells c w.logged_in)
+  where
+    go : ((nat_eq c 0 ≡ true) × (c ≡ 0)) ⊎ ((nat_eq c 0 ≡ false) × (c ≡ 0 → ⊥))
+        → ((nat_eq c w.logged_in ≡ true) × (c ≡ w.logged_in)) ⊎ ((nat_eq c w.logged_in ≡ false) × (c ≡ w.logged_in → ⊥))
+        → LastUnserved c acts w
+    go (inl z) q = let z1 = z.1 in record {
+      unserved = (j.settled c).p;
+      all = all_but_last w c (j.settled c).p none (j.settled c).owed;
+      serves = serves;
+      left = λ some low. absurd (omega arith);
+    }
+    go (inr n) (inl e) =
+        let e1 = e.1 in
+        let n1 = n.1 in
+        let cur = j.current (omega arith) in
+        let owed = subst (λ d. sent d w.log ≡ took d w.log ++ to_list cur.p) (sym e1) cur.owed in
+        record {
+          unserved = cur.p;
+          all = all_but_last w c cur.p none owed;
+          serves = serves;
+          left = λ some low. subst (λ d. Left d cur.p w) (sym e1) (left_on w w.logged_in cur.p cur.way cur.held);
+        }
+    go (inr n) (inr m) = elim (cases_lt c w.logged_in) [
+      | inl lt ↦ record {
+        unserved = (j.settled c).p;
+        all = all_but_last w c (j.settled c).p none (j.settled c).owed;
+        serves = serves;
+        left = λ some low. absurd (omega arith);
+      }
+      | inr le ↦
+          let m1 = m.1 in
+          let a = j.ahead c (omega arith) in
+          record {
+            unserved = None;
+            all = all_but_last w c None none (a.sends ∙ ap (λ l. l ++ []) (sym a.takes));
+            serves = serves;
+            left = λ some low. left_on w c None a.way tt;
+          }
+    ]
 
 -- the boards on any connection stay while the user decides
 steady_on : (acts : ℕ → List Act) (w : World) (c : ℕ) → Kept acts w → Steady (acts c)
@@ -297,6 +341,7 @@ module _ (law : Lawful) where
       record {
         carried = k.carried;
         steady = λ c. steady_on (acts_from login (start b) es) w c k;
-        last_unserved = λ c. last_unserved w c both.1.undone (both.0.settled c);
+        last_unserved = λ c. last_unserved w c (acts_from login (start b) es c) both.1.undone both.0
+            (let n = serves_all c login es (start b) in n.2 ∙ ap (λ l. decisions_of (S.served c l)) (sym n.1));
         newer_unshown = λ c lt. (both.0.ahead c lt).seen;
       }

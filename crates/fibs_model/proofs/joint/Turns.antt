@@ -22,7 +22,8 @@ use Rattle.fibs_model.proofs.log.Past.{open_append, spent_quiet}
 use Rattle.fibs_model.proofs.wires.Ways.{OnWay, way_none, way_more, way_lost, way_lose, way_serve}
 use Rattle.fibs_model.proofs.wires.Boards.{Whole, waiting, boards, whole_none, gained_none, boards_more, whole_more}
 use Rattle.fibs_model.proofs.wires.Boards.{printed}
-use Rattle.fibs_model.proofs.joint.Joint.{View, view, to_list, AllAre, Calm, Live, Held, Current, Ahead, Settled, Moved}
+use Rattle.fibs_model.proofs.joint.Joint.{View, view, AllAre, Calm, Live, Held, Current, Ahead, Settled, Moved}
+use Rattle.fibs_model.proofs.log.Lists.{to_list}
 use Rattle.fibs_model.proofs.joint.Joint.{Joint, same_view, linked_same, linked_other, with_link, view_linked}
 use Rattle.fibs_model.proofs.joint.Joint.{joint_current}
 use Rattle.fibs_model.proofs.joint.Sending.{joint_board, same_test, if_fact, relink, not_left, with_line}

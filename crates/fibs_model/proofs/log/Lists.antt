@@ -1,5 +1,5 @@
 -- Facts on lists and tests.
-use Rattle.std.proofs.Common.{◌≡◌, ℕ, Bool, true, false, ◌&&◌, List, [], ◌∷◌, ◌++◌, Some, nat_eq, flat_map, refl, sym}
+use Rattle.std.proofs.Common.{◌≡◌, ℕ, Bool, true, false, ◌&&◌, List, [], ◌∷◌, ◌++◌, Option, Some, None, nat_eq, flat_map, refl, sym}
 use Rattle.std.proofs.Common.{◌∙◌, ap, inl, inr, ◌⊎◌, append-nil, true≢false}
 use Rattle.std.proofs.lemmas.List.Concat.{flat_map-append}
 use Rattle.std.proofs.lemmas.Bool.Decides.{eqb_tells}
@@ -95,3 +95,8 @@ map_more f xs ys zs h = flat_map-append f xs ys ∙ ap (λ t. flat_map f xs ++ t
 pub map_no_more : {X A : Type 0} (f : X → List A) (xs ys : List X) → flat_map f ys ≡ []
     → flat_map f (xs ++ ys) ≡ flat_map f xs
 map_no_more f xs ys h = map_more f xs ys [] h ∙ append-nil _
+
+-- a list of one, or none
+abbrev pub to_list : {A : Type 0} → Option A → List A
+to_list None = []
+to_list (Some x) = x ∷ []

@@ -7,7 +7,7 @@ use Rattle.fibs_session.specs.History.Log.{Entry}
 use Rattle.fibs_session.specs.History.Log.{Opened, Shown, Sent, Lost}
 use Rattle.fibs_session.specs.History.Words.{Ask, one_if, is_empty, last, each, open_from, shown_by, sent_by, shown}
 use Rattle.fibs_session.specs.History.Words.{sent, is_spent, IsLikeness}
-use Rattle.fibs_model.specs.Moving.{has_moved_on}
+use Rattle.fibs_model.proofs.log.Moving.{has_moved_on}
 use Rattle.fibs_model.proofs.log.Lists.{same_number, one_of_true, snoc_not_empty, each_append, each_last, map_more}
 use Rattle.fibs_model.proofs.log.Lists.{map_no_more}
 

@@ -14,11 +14,12 @@ use Rattle.fibs_session.specs.History.Log.{Opened, LoggedIn, Welcomed, Informed,
 use Rattle.fibs_session.specs.History.Log.{Lost}
 use Rattle.fibs_session.specs.History.Words.{Ask, one_if, last, shown, shown_by, open_now, sent, took, sent_by, took_by}
 use Rattle.fibs_session.specs.History.Words.{answer}
-use Rattle.fibs_model.specs.Headline.{InPairs, NoneUndone, AllLegal, InOrder, AllAnswered, AllOnShown, places, is_sent}
+use Rattle.fibs_model.specs.Headline.{InPairs, NoneUndone, InOrder, AllAnswered, AllOnShown, places, is_sent}
 use Rattle.fibs_model.specs.Headline.{is_took}
 use Rattle.fibs_model.proofs.log.Lists.{same_number, other_number, map_no_more, map_more, one_of_true, one_of_false}
 use Rattle.fibs_session.specs.History.Machine.{allows}
 use Rattle.fibs_position.specs.GamePart.{same_game}
+use Rattle.fibs_position.specs.GoodBoard.{good as is_good}
 
 -- by recursion: the clicks of later, after before
 abbrev pub Answers : List Entry → List Entry → Type 0
@@ -58,9 +59,20 @@ on_shown log h before later c b d e = go [] before later (subst (OnShown []) e h
         subst (λ l. last (shown c l) ≡ Some b) (append_assoc first (x ∷ []) before)
         (go (first ++ x ∷ []) before later h)
 
+-- each of the decisions was allowed on its board, which is good, by the tests
+abbrev pub AllAllowed : List Ask → Type 0
+AllAllowed [] = Unit {0}
+AllAllowed (a ∷ rest) = (is_good a.0 ≡ true) × (allows a.0 a.1 ≡ None) × AllAllowed rest
+
+-- each of the boards is good
+abbrev pub AllGood : List Board → Type 0
+AllGood [] = Unit {0}
+AllGood (b ∷ rest) = (is_good b ≡ true) × AllGood rest
+
 -- what is told of a log
 pub record Told (log : List Entry) : Type 0 where
-  pub legal : (c : ℕ) → AllLegal (sent c log)
+  pub seen : (c : ℕ) → AllGood (shown c log)
+  pub legal : (c : ℕ) → AllAllowed (sent c log)
   pub pairs : InPairs log
   pub undone : NoneUndone log
   pub answers : Answers [] log
@@ -89,10 +101,21 @@ undone_append [] ys h k = k
 undone_append (Undone c b d ∷ later) ys h k = absurd h
 undone_append (e ∷ later) ys h k = undone_append later ys h k
 
--- all are legal, in two lists
-legal_append : (xs ys : List Ask) → AllLegal xs → AllLegal ys → AllLegal (xs ++ ys)
+-- all are allowed, in two lists
+legal_append : (xs ys : List Ask) → AllAllowed xs → AllAllowed ys → AllAllowed (xs ++ ys)
 legal_append [] ys h k = k
-legal_append (a ∷ xs) ys h k = (h.0, legal_append xs ys h.1 k)
+legal_append (a ∷ xs) ys h k = (h.0, h.1, legal_append xs ys h.2 k)
+
+-- all are good, in two lists
+good_append : (xs ys : List Board) → AllGood xs → AllGood ys → AllGood (xs ++ ys)
+good_append [] ys h k = k
+good_append (b ∷ xs) ys h k = (h.0, good_append xs ys h.1 k)
+
+-- so is the last of them
+last_good : (xs : List Board) (b : Board) → AllGood xs → last xs ≡ Some b → is_good b ≡ true
+last_good [] b h e = cc
+last_good (x ∷ []) b h e = let s : x ≡ b = cc in subst (λ z. is_good z ≡ true) s h.0
+last_good (x ∷ y ∷ xs) b h e = last_good (y ∷ xs) b h.1 e
 
 -- all clicks carry their answers, in two parts of a log
 answers_append : (before xs ys : List Entry) → Answers before xs → Answers (before ++ xs) ys → Answers before (xs ++ ys)
@@ -238,24 +261,30 @@ order_took c xs b d o lt i h =
         subst (λ k. get_or (places (is_took c) 0 (xs ++ Took c b d ∷ [])) k 0 ≡ 0 + length xs) ie at in
         (omega arith, omega arith)
 
--- entries that are neither a click, a Sent, a Took nor an Undone
+-- entries that are neither a click, a Sent, a Took nor an Undone; a board shown is good
 abbrev pub IsPlain : Entry → Type 0
 IsPlain (Clicked c d a) = ⊥
 IsPlain (Sent c b d) = ⊥
 IsPlain (Took c b d) = ⊥
 IsPlain (Undone c b d) = ⊥
+IsPlain (Shown c b) = is_good b ≡ true
 IsPlain e = Unit {0}
+
+-- a good board, or none
+one_good : (b : Board) (z : Bool) → is_good b ≡ true → AllGood (one_if z b ++ [])
+one_good b true h = (h, tt)
+one_good b false h = tt
 
 -- what is told of a plain entry alone
 plain_told : (log : List Entry) (e : Entry) → IsPlain e
     → InPairs (e ∷ []) × NoneUndone (e ∷ []) × Answers log (e ∷ []) × OnShown log (e ∷ [])
-    × ((c : ℕ) → (sent c (e ∷ []) ≡ []) × (took c (e ∷ []) ≡ []))
-plain_told log (Opened c) h = (tt, tt, tt, tt, λ c. (refl, refl))
-plain_told log (LoggedIn c) h = (tt, tt, tt, tt, λ c. (refl, refl))
-plain_told log (Welcomed c) h = (tt, tt, tt, tt, λ c. (refl, refl))
-plain_told log (Informed c f) h = (tt, tt, tt, tt, λ c. (refl, refl))
-plain_told log (Shown c b) h = (tt, tt, tt, tt, λ c. (refl, refl))
-plain_told log (Lost c u) h = (tt, tt, tt, tt, λ c. (refl, refl))
+    × ((c : ℕ) → (sent c (e ∷ []) ≡ []) × (took c (e ∷ []) ≡ []) × AllGood (shown c (e ∷ [])))
+plain_told log (Opened c) h = (tt, tt, tt, tt, λ c. (refl, refl, tt))
+plain_told log (LoggedIn c) h = (tt, tt, tt, tt, λ c. (refl, refl, tt))
+plain_told log (Welcomed c) h = (tt, tt, tt, tt, λ c. (refl, refl, tt))
+plain_told log (Informed c f) h = (tt, tt, tt, tt, λ c. (refl, refl, tt))
+plain_told log (Shown d b) h = (tt, tt, tt, tt, λ c. (refl, refl, one_good b (nat_eq d c) h))
+plain_told log (Lost c u) h = (tt, tt, tt, tt, λ c. (refl, refl, tt))
 plain_told log (Clicked c d a) h = absurd h
 plain_told log (Sent c b d) h = absurd h
 plain_told log (Took c b d) h = absurd h
@@ -263,10 +292,14 @@ plain_told log (Undone c b d) h = absurd h
 
 -- what is told of a log and of more entries is told of both
 grown : (log es : List Entry) → Told log → InPairs es → NoneUndone es → Answers log es → OnShown log es
-    → ((c : ℕ) → AllLegal (sent c es)) → ((c : ℕ) → InOrder c (log ++ es)) → Told (log ++ es)
-grown log es t p u a s l o = record {
+    → ((c : ℕ) → AllGood (shown c es)) → ((c : ℕ) → AllAllowed (sent c es)) → ((c : ℕ) → InOrder c (log ++ es))
+    → Told (log ++ es)
+grown log es t p u a s g l o = record {
+  seen =
+      λ c. subst (AllGood) (sym (map_more (shown_by c) log es (shown c es) refl))
+      (good_append (shown c log) (shown c es) (t.seen c) (g c));
   legal =
-      λ c. subst (AllLegal) (sym (map_more (sent_by c) log es (sent c es) refl))
+      λ c. subst (AllAllowed) (sym (map_more (sent_by c) log es (sent c es) refl))
       (legal_append (sent c log) (sent c es) (t.legal c) (l c));
   pairs = pairs_append log es t.pairs p;
   undone = undone_append log es t.undone u;
@@ -279,13 +312,14 @@ grown log es t p u a s l o = record {
 pub told_plain : (log : List Entry) (e : Entry) → IsPlain e → Told log → Told (log ++ e ∷ [])
 told_plain log e h t =
     let q = plain_told log e h in
-    grown log (e ∷ []) t q.0 q.1 q.2 q.3 (λ c. subst (AllLegal) (sym (q.4 c).0) tt)
+    grown log (e ∷ []) t q.0 q.1 q.2 q.3 (λ c. (q.4 c).2) (λ c. subst (AllAllowed) (sym (q.4 c).0) tt)
     (λ c. order_more c log (e ∷ []) (t.order c) (q.4 c).1)
 
 -- a click is noted that is refused
 pub told_no : (log : List Entry) (d : Decision) (x : Refusal) → answer same_game allows log d ≡ Some x → Told log
     → Told (log ++ Clicked (open_now log) d (Some x) ∷ [])
-told_no log d x h t = grown log _ t tt tt (refl, sym h, tt) tt (λ c. tt) (λ c. order_more c log _ (t.order c) refl)
+told_no log d x h t =
+    grown log _ t tt tt (refl, sym h, tt) tt (λ c. tt) (λ c. tt) (λ c. order_more c log _ (t.order c) refl)
 
 -- a click is noted that is answered by yes, with what is sent
 pub told_yes : (log : List Entry) (d : Decision) (b : Board) → answer same_game allows log d ≡ None → allows b d ≡ None
@@ -294,16 +328,17 @@ pub told_yes : (log : List Entry) (d : Decision) (b : Board) → answer same_gam
 told_yes log d b h k la t =
     grown log _ t (refl, refl, tt) tt (refl, sym h, tt)
     (ap last (map_no_more (shown_by (open_now log)) log (Clicked (open_now log) d None ∷ []) refl) ∙ la, tt)
+    (λ c. tt)
     (λ c. one (nat_eq (open_now log) c)) (λ c. order_more c log _ (t.order c) refl)
   where
-    one : (z : Bool) → AllLegal (one_if z (b, d) ++ [])
-    one true = (k, tt)
+    one : (z : Bool) → AllAllowed (one_if z (b, d) ++ [])
+    one true = (last_good (shown (open_now log) log) b (t.seen (open_now log)) la, k, tt)
     one false = tt
 
 -- a decision took effect that was sent and had not yet
 pub told_took : (log : List Entry) (c : ℕ) (b : Board) (d : Decision) → length (took c log) < length (sent c log)
     → Told log → Told (log ++ Took c b d ∷ [])
-told_took log c b d lt t = grown log _ t tt tt tt tt (λ e. tt) (λ e. elim (eqb_tells e c) [
+told_took log c b d lt t = grown log _ t tt tt tt tt (λ e. tt) (λ e. tt) (λ e. elim (eqb_tells e c) [
   | inl q ↦ subst (λ e. InOrder e (log ++ Took c b d ∷ [])) (sym q.1) (order_took c log b d (t.order c) lt)
   | inr q ↦
       order_more e log _ (t.order e)

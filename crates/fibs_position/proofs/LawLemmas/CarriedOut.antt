@@ -153,12 +153,12 @@ differs_at a b n low high apart same =
     apart (agree_at (field_of a) (field_of b) 33 11 n low (omega arith) groups.1.2)
 
 -- the turn is no longer the player's
-turned : FieldRanges → (b : BoardFields) (z : ℤ) → IsBoard b → (z ≡ pos 0) ⊎ (z ≡ neg_ℤ (colour b)) → colour b ≢ z
+pub turned : FieldRanges → (b : BoardFields) (z : ℤ) → IsBoard b → (z ≡ pos 0) ⊎ (z ≡ neg_ℤ (colour b)) → colour b ≢ z
 turned ranges b z board (inl e) f = let two = two_sides ranges b board in absurd (omega (arith, ints))
 turned ranges b z board (inr e) f = let two = two_sides ranges b board in absurd (omega (arith, ints))
 
 -- after a move the turn is nobody's or the opponent's
-either_turn : (b : BoardFields) (t : Bool)
+pub either_turn : (b : BoardFields) (t : Bool)
     → (cond t (pos 0) (neg_ℤ (colour b)) ≡ pos 0) ⊎ (cond t (pos 0) (neg_ℤ (colour b)) ≡ neg_ℤ (colour b))
 either_turn b true = inl refl
 either_turn b false = inr refl

@@ -116,10 +116,12 @@ impl Session {
                 let send = self.note_message(message);
                 (send, None)
             }
-            Reading::Board(board) => match ShownBoard::of(board) {
-                None => (ArrayVec::new(), None),
-                Some(heard) => (ArrayVec::new(), self.note_board(heard)),
-            },
+            Reading::Board(board) => {
+                let Some(heard) = ShownBoard::of(board) else {
+                    return (ArrayVec::new(), None);
+                };
+                (ArrayVec::new(), self.note_board(heard))
+            }
             Reading::Text(_) | Reading::Malformed { .. } => (ArrayVec::new(), None),
         }
     }

@@ -1,27 +1,19 @@
 //! What the user says, by the session's fields.
 
-ghost use Rattle.std.specs.Prelude.{◌≡◌, IsErr, true};
+ghost use Rattle.std.specs.Prelude.{◌≡◌, IfOk, IsErr, Some, true};
+ghost use Rattle.std.specs.Result.{result_err};
 ghost use Rattle.fibs_boards.specs.StoredBoard.{fields_of};
 ghost use Rattle.fibs_position.specs.DecisionValue.{decision_of};
-ghost use Rattle.fibs_position.specs.DirectionOf.{direction_of};
 ghost use Rattle.fibs_session.specs.Calls.FieldSteps.{answer_of, decide_fields, decide_send, may_send_of};
 ghost use Rattle.fibs_session.specs.Calls.FieldSteps.{plain_refusal_of, plain_fields, plain_send, with_plain};
-ghost use Rattle.fibs_commands.specs.Commands.{command_of};
-ghost use Rattle.fibs_session.specs.History.Machine.{allows, refusal_of};
+ghost use Rattle.fibs_session.specs.History.Machine.{refusal_of, says};
 ghost use Rattle.fibs_commands.specs.PlainOf.{plain_value};
-ghost use Rattle.fibs_commands.specs.TextOf.{text_of};
 
-use super::{Outstanding, Session, ShownBoard};
+use super::{Outstanding, Session};
 use crate::refusal::{PlainRefusal, Refusal};
-use fibs_commands::{CommandText, Plain, decision_text, plain_text};
+use fibs_commands::{CommandText, Plain, plain_text};
+use fibs_messages::Board;
 use fibs_position::{Decision, Disallowed};
-
-/// The command of a decision on the board that is shown.
-fn command_on(shown: &ShownBoard, decision: &Decision) -> CommandText
-    ensures { text_of result ≡ command_of (direction_of (fields_of shown.now.board)) (decision_of decision.now) }
-{
-    decision_text(decision, shown.position.direction())
-}
 
 /// The refusal of a decision that the board does not allow.
 fn refusal_of(why: Disallowed) -> Refusal
@@ -34,45 +26,35 @@ fn refusal_of(why: Disallowed) -> Refusal
     }
 }
 
-/// Why the board that is shown does not allow a decision, if it does not.
-fn refusal(shown: &ShownBoard, decision: &Decision) -> Option<Refusal>
-    ensures { result ≡ allows (fields_of shown.now.board) (decision_of decision.now) }
-{
-    match shown.position.allows(decision) {
-        Ok(()) => None,
-        Err(why) => Some(refusal_of(why)),
-    }
-}
-
 impl Session {
     ghost use Rattle.fibs_session.specs.Calls.SessionOf.{session_of, handed, refusal_in};
 
-    /// Why a decision is refused, if it is.
-    fn answer(&self, decision: &Decision) -> Option<Refusal>
-        ensures { result ≡ answer_of (session_of self.now) (decision_of decision.now) }
+    /// The board on which a decision is made, or why it is refused: the first of the reasons, in the order below.
+    fn board_for(&self, decision: &Decision) -> Result<&Board, Refusal>
+        ensures refusal { result_err result ≡ answer_of (session_of self.now) (decision_of decision.now) }
+        ensures board { IfOk result (λ board. (session_of self.now).shown ≡ Some (fields_of board.now)) }
     {
         if !self.online {
-            return Some(Refusal::Offline);
+            return Err(Refusal::Offline);
         }
-        match self.flags {
-            None => Some(Refusal::NotReady),
-            Some(flags) => {
-                if !self.welcomed {
-                    return Some(Refusal::NotReady);
-                }
-                if flags.automove || flags.greedy {
-                    return Some(Refusal::ServerPlays);
-                }
-                match &self.shown {
-                    None => Some(Refusal::NoBoard),
-                    Some(shown) => {
-                        if self.waiting.is_some() {
-                            return Some(Refusal::Waiting);
-                        }
-                        refusal(shown, decision)
-                    }
-                }
-            }
+        if !self.welcomed {
+            return Err(Refusal::NotReady);
+        }
+        let Some(flags) = self.flags else {
+            return Err(Refusal::NotReady);
+        };
+        if flags.automove || flags.greedy {
+            return Err(Refusal::ServerPlays);
+        }
+        let Some(shown) = &self.shown else {
+            return Err(Refusal::NoBoard);
+        };
+        if self.waiting.is_some() {
+            return Err(Refusal::Waiting);
+        }
+        match shown.position.allows(decision) {
+            Ok(()) => Ok(&shown.board),
+            Err(why) => Err(refusal_of(why)),
         }
     }
 
@@ -83,20 +65,32 @@ impl Session {
         ensures refusal { refusal_in result ≡ answer_of (session_of self.old) (decision_of decision.now) }
         ensures kept { IsErr result → session_of self.new ≡ session_of self.old }
     {
-        match self.answer(decision) {
-            Some(why) => Err(why),
-            None => match &self.shown {
-                None => Err(Refusal::NoBoard),
-                Some(shown) => {
-                    let command = command_on(shown, decision);
-                    self.waiting = Some(Outstanding {
-                        board: shown.board,
-                        decision: *decision,
-                    });
-                    Ok(command)
-                }
-            },
-        }
+        let asked = Outstanding {
+            board: *self.board_for(decision)?,
+            decision: *decision,
+        };
+        self.waiting = Some(asked);
+        Ok(asked.command())
+    }
+
+    /// The server moves by itself.
+    fn is_automove_on(&self) -> bool
+        ensures { result ≡ says (λ f. f.automove) (session_of self.now).flags }
+    {
+        let Some(flags) = self.flags else {
+            return false;
+        };
+        flags.automove
+    }
+
+    /// The server bears off by itself.
+    fn is_greedy_on(&self) -> bool
+        ensures { result ≡ says (λ f. f.greedy) (session_of self.now).flags }
+    {
+        let Some(flags) = self.flags else {
+            return false;
+        };
+        flags.greedy
     }
 
     /// Whether what a command turns off is on, and the command was not sent.
@@ -104,14 +98,8 @@ impl Session {
         ensures { result ≡ may_send_of (session_of self.now) (plain_value plain.now) }
     {
         match plain {
-            Plain::AutomoveOff => match self.flags {
-                None => false,
-                Some(flags) => flags.automove && !self.automove_sent,
-            },
-            Plain::GreedyOff => match self.flags {
-                None => false,
-                Some(flags) => flags.greedy && !self.greedy_sent,
-            },
+            Plain::AutomoveOff => self.is_automove_on() && !self.automove_sent,
+            Plain::GreedyOff => self.is_greedy_on() && !self.greedy_sent,
             _ => true,
         }
     }
@@ -140,12 +128,8 @@ impl Session {
         if !self.may_send(plain) {
             return Err(PlainRefusal::NotOn);
         }
-        match plain_text(plain) {
-            Err(fault) => Err(PlainRefusal::Fault(fault)),
-            Ok(text) => {
-                self.note_sent(plain);
-                Ok(text)
-            }
-        }
+        let text = plain_text(plain).map_err(PlainRefusal::Fault)?;
+        self.note_sent(plain);
+        Ok(text)
     }
 }

@@ -8,7 +8,7 @@ ghost use Rattle.fibs_position.specs.PositionValue.{position_of, position_value}
 use fibs_messages::Board;
 use fibs_position::Position;
 
-/// A board that is shown. Its position is made once, where the board is heard: a click reads the board no more.
+/// A board that is shown. Its position is made once, where the board is heard: a click makes none.
 #[derive(Clone, Copy)]
 pub(crate) struct ShownBoard {
     pub(super) board: Board,

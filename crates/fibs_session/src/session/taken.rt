@@ -1,10 +1,13 @@
 //! What a session answers.
 
+ghost use Rattle.std.specs.Prelude.{◌≡◌};
+ghost use Rattle.fibs_commands.specs.TextOf.{text_of};
+
 use arrayvec::ArrayVec;
-use fibs_commands::CommandText;
+use fibs_commands::{CommandText, decision_text};
 use fibs_lines::Line;
 use fibs_messages::{Board, Reading};
-use fibs_position::Decision;
+use fibs_position::{Decision, Direction};
 
 /// A decision that was sent, and the board on which it was made.
 #[derive(Clone, Copy, Debug, PartialEq, Eq)]
@@ -13,6 +16,18 @@ pub struct Outstanding {
     pub board: Board,
     /// What was decided on it.
     pub decision: Decision,
+}
+
+impl Outstanding {
+    ghost use Rattle.fibs_session.specs.Calls.SessionOf.{ask_of};
+    ghost use Rattle.fibs_session.specs.History.Asked.{asked_text};
+
+    /// The command of the decision, in the numbers of its board.
+    pub fn command(&self) -> CommandText
+        ensures { text_of result ≡ asked_text (ask_of self.now) }
+    {
+        decision_text(&self.decision, Direction::of(&self.board))
+    }
 }
 
 /// The answer to a line.

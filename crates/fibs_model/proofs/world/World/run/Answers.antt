@@ -1,3 +1,4 @@
+use Rattle.fibs_commands.specs.Logins.{login_text}
 use Rattle.std.proofs.Common.{◌≡◌, ◌+◌, ◌<◌, ◌++◌, get_or, map, take, length, sym, ap, subst, ◌∙◌, arith}
 use Rattle.fibs_model.specs.EventOf.{event_of}
 use Rattle.fibs_model.specs.WorldCalls.{machine_after}
@@ -41,3 +42,6 @@ returns-clause-log c = λ name password first before h. log_of c.loop-event.self
 pub returns-clause-headline : goal.returns-clause-headline
 returns-clause-headline c = λ name password first before h.
     headline_of c.headline.ensures.headline c.loop-event.self name password first _ (c.loop-event.invariant.stands name password first before h)
+
+pub returns-clause-once : goal.returns-clause-once
+returns-clause-once c = λ name password first before h. c.once.ensures (login_text name password) first _

@@ -39,3 +39,12 @@ returns-in-Err-clause-refusal c = λ name password first events h.
 pub returns-in-Err-clause-headline : goal.returns-in-Err-clause-headline
 returns-in-Err-clause-headline c = λ name password first events h.
     headline_of c.headline.ensures.headline c.args.self.now name password first _ (stands_still c.args.self.now c.args.self.now name password first events refl h)
+
+pub returns-in-Some-clause-once : goal.returns-in-Some-clause-once
+returns-in-Some-clause-once c = λ name password first events h. c.once.ensures (login_text name password) first _
+
+pub returns-in-Ok-clause-once : goal.returns-in-Ok-clause-once
+returns-in-Ok-clause-once c = λ name password first events h. c.once.ensures (login_text name password) first _
+
+pub returns-in-Err-clause-once : goal.returns-in-Err-clause-once
+returns-in-Err-clause-once c = λ name password first events h. c.once.ensures (login_text name password) first _

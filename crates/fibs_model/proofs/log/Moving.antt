@@ -1,4 +1,4 @@
--- Whether a connection has moved on from the last decision sent there.
+-- Whether a connection has moved on from the last decision sent there, as a test.
 use Rattle.std.specs.Prelude.{ℕ, Bool, false, not, ◌&&◌, List, [], ◌∷◌, if◌then◌else◌, nat_eq}
 use Rattle.fibs_boards.specs.Board.{BoardFields}
 use Rattle.fibs_session.specs.History.Log.{Entry, Sent}

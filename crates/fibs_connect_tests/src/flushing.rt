@@ -1,0 +1,169 @@
+//! What was printed is shown before the program waits: for the server, for a typed line, for a connection.
+
+use fibs_account::fault::EngineFault;
+use fibs_connect::connect::converse_with;
+use fibs_connect::connect::dial::Dial;
+use fibs_test_tools::pipe::{After, Pipe};
+use fibs_turns::exchange::link::Link;
+use std::alloc::Global;
+use std::cell::Cell;
+use std::io;
+use std::io::{ErrorKind, Read, Write};
+
+/// What the tests see of a conversation.
+#[derive(Drop)]
+struct Seen {
+    /// How many bytes were written since the last flush.
+    hidden: Cell<usize>,
+    /// How often the program waited.
+    waits: Cell<u32>,
+    /// How often it did so while something was hidden.
+    late: Cell<u32>,
+}
+
+impl Seen {
+    fn new() -> Seen {
+        Seen {
+            hidden: Cell::new(0),
+            waits: Cell::new(0),
+            late: Cell::new(0),
+        }
+    }
+
+    /// The program waits.
+    fn wait(&self) {
+        self.waits.set(self.waits.get().saturating_add(1));
+        if self.hidden.get() > 0 {
+            self.late.set(self.late.get().saturating_add(1));
+        }
+    }
+}
+
+/// A screen, which shows what is written once it is flushed. After so many flushes one fails.
+#[derive(Drop)]
+struct Screen<'a> {
+    seen: &'a Seen,
+    flushes: u32,
+    failed: bool,
+}
+
+impl Write for Screen<'_> {
+    fn write(&mut self, buf: &[u8]) -> io::Result<usize> {
+        let hidden = &self.seen.hidden;
+        hidden.set(hidden.get().saturating_add(buf.len()));
+        Ok(buf.len())
+    }
+
+    fn flush(&mut self) -> io::Result<()> {
+        if self.flushes == 0 && !self.failed {
+            self.failed = true;
+            return Err(io::Error::from(ErrorKind::BrokenPipe));
+        }
+        self.flushes = self.flushes.saturating_sub(1);
+        self.seen.hidden.set(0);
+        Ok(())
+    }
+}
+
+/// A stream for which the program waits at each read.
+#[derive(Drop)]
+struct Watched<'a> {
+    stream: Pipe<'a>,
+    seen: &'a Seen,
+}
+
+impl Read for Watched<'_> {
+    fn read(&mut self, buf: &mut [u8]) -> io::Result<usize> {
+        self.seen.wait();
+        self.stream.read(buf)
+    }
+}
+
+impl Write for Watched<'_> {
+    fn write(&mut self, buf: &[u8]) -> io::Result<usize> {
+        self.stream.write(buf)
+    }
+
+    fn flush(&mut self) -> io::Result<()> {
+        self.stream.flush()
+    }
+}
+
+impl Link for Watched<'_> {
+    fn receive(&mut self, buf: &mut [u8]) -> io::Result<usize> {
+        self.read(buf)
+    }
+
+    fn transmit(&mut self, buf: &[u8]) -> io::Result<usize> {
+        self.write(buf)
+    }
+}
+
+/// A server, for which the program waits at each connection.
+#[derive(Drop)]
+struct WatchedDoor<'a> {
+    seen: &'a Seen,
+}
+
+impl<'a> Dial for WatchedDoor<'a> {
+    type Stream = Watched<'a>;
+
+    fn dial(&mut self) -> Option<Watched<'a>> {
+        self.seen.wait();
+        let heard =
+            b"1 ann 1041253132 localhost\r\n5 bob - - 1 0 1500.5 0 3 1040515752 host - -\r\nhello\r\n";
+        Some(Watched {
+            stream: Pipe::new(heard, 40, After::End, 512),
+            seen: self.seen,
+        })
+    }
+}
+
+/// How a conversation ends in which each kind of line is typed, on a screen of which one flush fails after so many.
+fn conversed_on(alloc: Global, seen: &Seen, flushes: u32) -> Result<u8, EngineFault> {
+    let lines = b"secret\nplayers\ndance\nroll\nopen\nopen\n\nroll\nquit\n";
+    let mut typed = Watched {
+        stream: Pipe::new(lines, 5, After::End, 0),
+        seen,
+    };
+    let mut screen = Screen {
+        seen,
+        flushes,
+        failed: false,
+    };
+    let mut other = Pipe::new(b"", 1, After::End, 0);
+    let mut door = WatchedDoor { seen };
+    converse_with(
+        &mut door,
+        alloc,
+        b"ann",
+        1000,
+        &mut typed,
+        &mut screen,
+        &mut other,
+    )
+}
+
+#[test]
+fn nothing_is_hidden_while_the_program_waits(rt: HostRuntime) {
+    let seen = Seen::new();
+    let ending = conversed_on(rt.alloc(), &seen, 1000);
+    assert_eq!(rt; ending, Ok(0));
+    assert!(rt; seen.waits.get() > 15);
+    assert_eq!(rt; seen.late.get(), 0);
+    assert_eq!(rt; seen.hidden.get(), 0);
+}
+
+#[test]
+fn each_flush_that_fails_is_a_device_fault(rt: HostRuntime) {
+    for flushes in 0..100 {
+        let seen = Seen::new();
+        let ending = conversed_on(rt.alloc(), &seen, flushes);
+        if ending == Ok(0) {
+            assert!(rt; flushes > 10);
+            return;
+        }
+        assert_eq!(rt; ending, Err(EngineFault::Device), "after {flushes} flushes");
+    }
+    assert!(rt; false, "there is no end of flushes");
+}
