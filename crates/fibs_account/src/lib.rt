@@ -4,5 +4,6 @@
 pub mod fault;
 pub mod plays;
 pub mod printing;
+pub mod retrying;
 pub mod show;
 pub mod writing;

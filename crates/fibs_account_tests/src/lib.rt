@@ -4,4 +4,6 @@
 #[cfg(test)]
 mod plays;
 #[cfg(test)]
+mod retrying;
+#[cfg(test)]
 mod show;

@@ -3,7 +3,7 @@ use fibs_account::fault::EngineFault;
 use fibs_account::show::{StreamFault, show, show_portions, show_stream};
 use fibs_test_tools::devices::{Endless, FailsOnce};
 use fibs_test_tools::outcome::Outcome;
-use fibs_test_tools::pipe::{After, Pipe};
+use fibs_test_tools::pipe::{After, FAULT, Pipe};
 use fibs_test_tools::text::{Text, joined, text_of};
 use std::alloc::Global;
 use std::process::Abort;
@@ -144,7 +144,7 @@ fn keeps_whole_lines_at_a_failed_read(rt: HostRuntime) {
     ];
     for (input, wanted) in cases {
         for most in [1, 3, 100] {
-            let outcome = shown(rt.alloc(), input, most, After::Fault, 512);
+            let outcome = shown(rt.alloc(), input, most, FAULT, 512);
             let ending = Err(EngineFault::Device);
             assert!(rt;
                 outcome.is(ending, wanted, b""),
@@ -300,7 +300,7 @@ fn writes_nothing_after_a_failed_write(rt: HostRuntime) {
 #[test]
 fn says_what_failed(rt: HostRuntime) {
     let cases = [
-        (After::Fault, 512, Err(StreamFault::Reader)),
+        (FAULT, 512, Err(StreamFault::Reader)),
         (After::End, 3, Err(StreamFault::Writer)),
         (After::End, 512, Ok(())),
     ];

@@ -5,7 +5,7 @@ use fibs_connect::connect::dial::Dial;
 use fibs_connect::connect::{converse, converse_with};
 use fibs_test_tools::devices::Endless;
 use fibs_test_tools::outcome::Outcome;
-use fibs_test_tools::pipe::{After, Pipe};
+use fibs_test_tools::pipe::{After, FAULT, Pipe, QUIET};
 use fibs_test_tools::text::{Text, text_of};
 use std::alloc::Global;
 use std::io;
@@ -29,7 +29,7 @@ impl<'a> Dial for Door<'a> {
             return None;
         }
         self.connections -= 1;
-        Some(Pipe::new(self.input, 7, After::WouldBlock, self.room))
+        Some(Pipe::new(self.input, 7, QUIET, self.room))
     }
 }
 
@@ -214,7 +214,7 @@ fn a_writer_that_fails_is_a_fault(rt: HostRuntime) {
 fn a_reader_that_fails_is_a_fault(rt: HostRuntime) {
     let whole: &[u8] = b"secret\nroll\n";
     for length in 0..whole.len() {
-        let mut typed = Pipe::new(&whole[..length], 100, After::Fault, 0);
+        let mut typed = Pipe::new(&whole[..length], 100, FAULT, 0);
         let outcome = conversed(rt.alloc(), no_door(), &mut typed, 1000, 100);
         assert_eq!(rt; outcome.ending, Err(EngineFault::Device), "at {length}");
     }

@@ -3,7 +3,7 @@ use fibs_account::fault::EngineFault;
 use fibs_scripts::replay::replay;
 use fibs_test_tools::devices::FailsOnce;
 use fibs_test_tools::outcome::Outcome;
-use fibs_test_tools::pipe::{After, Pipe};
+use fibs_test_tools::pipe::{After, FAULT, Pipe};
 use fibs_test_tools::text::{Text, joined, text_of};
 use std::alloc::Global;
 use std::process::Abort;
@@ -276,7 +276,7 @@ fn a_long_script_is_not_run(rt: HostRuntime) -> Result<(), Fail> {
 
 #[test]
 fn nothing_is_printed_after_a_failed_read(rt: HostRuntime) {
-    let outcome = replayed_into(rt.alloc(), ROLL, 50, After::Fault, 4096);
+    let outcome = replayed_into(rt.alloc(), ROLL, 50, FAULT, 4096);
     let ending = Err(EngineFault::Device);
     assert!(rt;
         outcome.is(ending, b"", b""),

@@ -8,7 +8,7 @@ use fibs_scripts::replay::input::read_script;
 use fibs_scripts::replay::log_lines::{Portion, append_entry};
 use fibs_scripts::replay::script::first_unreadable;
 use fibs_session::{Outstanding, Plain, Refusal};
-use fibs_test_tools::pipe::{After, Pipe};
+use fibs_test_tools::pipe::{After, FAULT, Pipe};
 use std::test::Fail;
 
 /// A board on which the player is to roll.
@@ -388,7 +388,7 @@ fn a_script_is_read_up_to_its_limit(rt: HostRuntime) -> Result<(), Fail> {
         );
     }
     bytes.push(b'a')?;
-    let mut reader = Pipe::new(bytes.as_slice(), 1000, After::Fault, 0);
+    let mut reader = Pipe::new(bytes.as_slice(), 1000, FAULT, 0);
     let read = read_script(rt.alloc(), &mut [0; 1024], &mut reader);
     assert!(rt;
         read.ok().ok_or("read")?.is_none(),

@@ -13,13 +13,15 @@ use std::io::{ErrorKind, Read, Write};
 pub enum After {
     /// The stream ends.
     End,
-    /// Each read fails.
-    Fault,
-    /// Each read would wait.
-    WouldBlock,
-    /// Each read waited in vain.
-    TimedOut,
+    /// Each read fails with an error of this kind.
+    Fails(ErrorKind),
 }
+
+/// The stream is broken.
+pub const FAULT: After = After::Fails(ErrorKind::ConnectionReset);
+
+/// Nothing more has come yet.
+pub const QUIET: After = After::Fails(ErrorKind::WouldBlock);
 
 /// A stream in memory: bytes to read, what follows them, and what was written. It takes no memory, so that each
 /// growth that a test sees refused is the engine's.
@@ -70,9 +72,7 @@ impl Read for Pipe<'_> {
         if self.input.is_empty() {
             return match self.after {
                 After::End => Ok(0),
-                After::Fault => Err(io::Error::from(ErrorKind::ConnectionReset)),
-                After::WouldBlock => Err(io::Error::from(ErrorKind::WouldBlock)),
-                After::TimedOut => Err(io::Error::from(ErrorKind::TimedOut)),
+                After::Fails(kind) => Err(io::Error::from(kind)),
             };
         }
         let most = self.most.max(1).min(self.input.len()).min(buf.len());

@@ -1,5 +1,7 @@
 //! One turn of a client with its stream.
-ghost use Rattle.std.specs.Prelude.{◌≡◌, ◌++◌, ◌*◌, ℕ, List, Option, None, true, false, length, IfOk, OnErr};
+ghost use Rattle.std.specs.Prelude.{◌≡◌, ◌++◌, ◌*◌, ◌↔◌, ◌⊎◌, ℕ, List, Option, None, true, false, length};
+ghost use Rattle.std.specs.Prelude.{IfOk, OnErr, IsTrue};
+ghost use Rattle.std.specs.IoError.{error_kind};
 ghost use Rattle.fibs_session.specs.History.Machine.{Talk, Lose, step, is_online};
 ghost use Rattle.fibs_session.specs.Calls.Standing.{StandsAfter};
 ghost use Rattle.fibs_messages.specs.Message.{MessageValue};
@@ -75,8 +77,11 @@ pub fn end_connection<W: Write>(client: &mut Client, out: &mut W) -> Result<Endi
     Ok(Ending::Lost(waited))
 }
 
-/// Whether a read gave nothing because nothing has come yet.
-fn is_quiet(error: &io::Error) -> bool {
+/// Whether a read gave nothing because nothing has come yet. Each other error of a read ends the connection.
+fn is_quiet(error: &io::Error) -> bool
+    ensures { IsTrue result
+        ↔ ((error_kind error.now ≡ ErrorKind.WouldBlock) ⊎ (error_kind error.now ≡ ErrorKind.TimedOut)) }
+{
     matches!(error.kind(), ErrorKind::WouldBlock | ErrorKind::TimedOut)
 }
 

@@ -3,12 +3,12 @@ use super::seat::{Kind, Seat, is_made_of, kind_of, opened};
 use fibs_messages::{Reading, read as read_line};
 use fibs_session::{Client, Directory, Login};
 use fibs_test_tools::devices::FailsOnce;
-use fibs_test_tools::pipe::{After, Pipe};
+use fibs_test_tools::pipe::{After, FAULT, Pipe, QUIET};
 use fibs_test_tools::text::{Text, joined, text_of};
 use fibs_turns::exchange::link::Link;
 use fibs_turns::exchange::{Ending, ExchangeFault, exchange};
 use std::io;
-use std::io::{Read, Write};
+use std::io::{ErrorKind, Read, Write};
 use std::process::Abort;
 
 const END: &[u8] = b"\r\n";
@@ -113,7 +113,7 @@ static ANSWERED: [(&str, &[&[u8]], &[u8], &[&[u8]]); 7] = [
 fn lines_are_answered_and_printed(rt: HostRuntime) {
     for (name, parts, sent, printed) in &ANSWERED {
         for most in [1, 2, 7, 1000] {
-            for after in [After::WouldBlock, After::TimedOut] {
+            for after in [QUIET, After::Fails(ErrorKind::TimedOut)] {
                 let mut seat = Seat::open(&rt, most);
                 seat.turn_to(&rt, Kind::Quiet, None, parts, after, 4096);
                 seat.assert_did(&rt, name, &[sent], printed);
@@ -243,7 +243,7 @@ fn a_decision_waits_for_its_board(rt: HostRuntime) {
 
 #[test]
 fn a_decision_that_waits_is_lost_with_its_connection(rt: HostRuntime) {
-    for after in [After::End, After::Fault] {
+    for after in [After::End, FAULT] {
         let mut seat = Seat::open(&rt, 7);
         seat.hears(&rt, &[READY]);
         seat.turn_to(&rt, Kind::LostWaiting, Some(b"roll"), &[], after, 4096);
@@ -289,7 +289,7 @@ fn plays_are_in_the_numbers_of_the_board(rt: HostRuntime) {
         for most in [1, 2, 7, 1000] {
             let mut seat = Seat::open(&rt, most);
             seat.hears(&rt, &[WELCOME, END, INFO, END, GOING_UP, END]);
-            seat.turn_to(&rt, *kind, Some(typed), &[], After::Fault, 4096);
+            seat.turn_to(&rt, *kind, Some(typed), &[], FAULT, 4096);
             seat.assert_did(&rt, "a play", &[sent], &printed);
         }
     }
@@ -302,7 +302,7 @@ fn each_write_that_fails_ends_the_connection(rt: HostRuntime) {
     let input: &[&[u8]] = &[WELCOME, END, INFO_WITHOUT_BOARDS, END];
     for room in 0..wanted.len() {
         let mut seat = Seat::open(&rt, 1000);
-        seat.turn_to(&rt, Kind::Lost, None, input, After::WouldBlock, room);
+        seat.turn_to(&rt, Kind::Lost, None, input, QUIET, room);
         let printed: &[&[u8]] = if room < 18 {
             &[b"lost\n"]
         } else {
@@ -323,7 +323,7 @@ fn a_decision_that_is_not_written_is_lost(rt: HostRuntime) {
             Kind::LostWaiting,
             Some(b"roll"),
             &[],
-            After::WouldBlock,
+            QUIET,
             sent.len(),
         );
         seat.assert_did(
@@ -340,7 +340,7 @@ fn a_decision_that_is_not_written_is_lost(rt: HostRuntime) {
 fn each_read_that_fails_ends_the_connection(rt: HostRuntime) {
     for line in [WELCOME, INFO, OPENING, PLAYER] {
         for length in 0..line.len() + 1 {
-            for after in [After::End, After::Fault] {
+            for after in [After::End, FAULT] {
                 let mut seat = Seat::open(&rt, 7);
                 seat.turn_to(&rt, Kind::Lost, None, &[&line[..length]], after, 4096);
                 seat.assert_did(&rt, "a line that is cut off", &[], &[b"lost\n"]);
@@ -349,12 +349,33 @@ fn each_read_that_fails_ends_the_connection(rt: HostRuntime) {
     }
 }
 
+/// The kind of a read's error, how the turn ends, and what is printed.
+static READ_ERRORS: [(ErrorKind, Kind, &[u8]); 6] = [
+    (ErrorKind::WouldBlock, Kind::Quiet, b"text hi\n"),
+    (ErrorKind::TimedOut, Kind::Quiet, b"text hi\n"),
+    (ErrorKind::NotConnected, Kind::Lost, b"text hi\nlost\n"),
+    (ErrorKind::ConnectionAborted, Kind::Lost, b"text hi\nlost\n"),
+    (ErrorKind::ConnectionReset, Kind::Lost, b"text hi\nlost\n"),
+    (ErrorKind::Interrupted, Kind::Lost, b"text hi\nlost\n"),
+];
+
+/// Where a read would wait or timed out there is nothing more yet. Each other error ends the connection.
+#[test]
+fn errors_of_reads_are_told_apart(rt: HostRuntime) {
+    for (error, kind, printed) in &READ_ERRORS {
+        let mut seat = Seat::open(&rt, 7);
+        let after = After::Fails(*error);
+        seat.turn_to(&rt, *kind, None, &[b"hi\r\n"], after, 4096);
+        seat.assert_did(&rt, "a read that fails", &[], &[printed]);
+    }
+}
+
 /// Whether a turn up to the first board fails where so many bytes may be printed, what is printed, and whether the client
 /// shows a board then.
 fn printed_into(rt: &(impl Abort + AllocGlobal), room: usize) -> (bool, Text, bool) {
     let mut client = opened(rt);
     let mut directory = Directory::new(rt.alloc());
-    let mut pipe = Pipe::new(READY, 1000, After::WouldBlock, 100);
+    let mut pipe = Pipe::new(READY, 1000, QUIET, 100);
     let mut out = Pipe::new(b"", 1, After::End, room);
     let outcome = exchange(&mut client, &mut directory, Some(&mut pipe), None, &mut out);
     let failed = matches!(outcome, Err(ExchangeFault::Output));
@@ -528,7 +549,7 @@ fn nothing_is_sent_after_a_write_that_fails(rt: HostRuntime) {
         let mut directory = Directory::new(rt.alloc());
         let mut printed = Pipe::new(b"", 1, After::End, 512);
         let mut stream = Stumbles {
-            input: Pipe::new(&input, 1000, After::WouldBlock, 0),
+            input: Pipe::new(&input, 1000, QUIET, 0),
             output: FailsOnce::new(before, 1000),
         };
         let outcome = exchange(

@@ -3,7 +3,7 @@ ghost use Rattle.std.specs.Prelude.{true};
 ghost use Rattle.fibs_turns.specs.Turns.Turn.{FitsStream, still_given};
 
 use fibs_session::{Client, Directory, Login};
-use fibs_test_tools::pipe::{After, Pipe};
+use fibs_test_tools::pipe::{After, Pipe, QUIET};
 use fibs_test_tools::text::{Text, joined};
 use fibs_turns::exchange::{Ending, exchange};
 use std::process::Abort;
@@ -128,7 +128,7 @@ impl Seat {
         requires { FitsStream self.old.client true }
         ensures { FitsStream self.new.client true }
     {
-        match self.turn(rt, typed, parts, After::WouldBlock, 4096) {
+        match self.turn(rt, typed, parts, QUIET, 4096) {
             Ending::Quiet => {}
             Ending::Lost(_) => panic!(rt; "the turn is not quiet"),
         }

@@ -3,7 +3,6 @@ ghost use Rattle.std.specs.Prelude.{◌≡◌, length};
 
 use super::queue::Queue;
 use fibs_account::fault::EngineFault;
-use fibs_account::writing::{Progress, write_bytes};
 use std::io;
 use std::io::{Read, Write};
 use std::net::{Net, TcpListener, TcpStream};
@@ -46,10 +45,8 @@ fn carry<F: Write, T: Read>(
 ) -> Result<(), EngineFault>
     ensures { length arrived.new ≡ length arrived.old }
 {
-    match write_bytes(bytes, from) {
-        Progress::Broken => Err(EngineFault::Device),
-        Progress::Whole => to.read_exact(arrived).map_err(|_| EngineFault::Device),
-    }
+    from.write_all(bytes).map_err(|_| EngineFault::Device)?;
+    to.read_exact(arrived).map_err(|_| EngineFault::Device)
 }
 
 impl Ends {

@@ -2,6 +2,7 @@
 ghost use Rattle.std.specs.Io.{ReadsAtMost, WritesAtMost};
 ghost use Rattle.std.specs.Io.KnownBytes.{Keeps, ReadConsumes, WriteAppends};
 
+use fibs_account::retrying::{read_retrying, write_retrying};
 use std::io;
 use std::io::{Read, Write};
 use std::net::TcpStream;
@@ -23,12 +24,13 @@ pub trait Link: Read + Write {
         ensures apart { Keeps (Self.remaining self.old) (Self.remaining self.new) };
 }
 
+/// A read that waits for the server is interrupted where the program was stopped and goes on. That ends no connection.
 impl Link for TcpStream {
     fn receive(&mut self, buf: &mut [u8]) -> io::Result<usize> {
-        self.read(buf)
+        read_retrying(self, buf)
     }
 
     fn transmit(&mut self, buf: &[u8]) -> io::Result<usize> {
-        self.write(buf)
+        write_retrying(self, buf)
     }
 }
