@@ -1,9 +1,9 @@
 //! `fibs`: a client for the First Internet Backgammon Server. The command line, the devices and the exit status.
 #![tactic(auto)]
 
-use fibs_account::fault::EngineFault;
 use fibs_cli::arguments::Answer;
 use fibs_cli::{arguments, program};
+use fibs_show::fault::EngineFault;
 use std::env;
 use std::io::ErrorKind;
 use std::process::ExitCode;

@@ -7,17 +7,17 @@ use Rattle.fibs_messages.specs.Line.{ReadingValue, board_line, IsReading}
 use Rattle.fibs_position.specs.GoodBoard.{IsGood}
 use Rattle.fibs_connect.specs.Converse.Ending.{Conversed}
 use Rattle.fibs_loop.specs.Looping.{EndsScript}
-use Rattle.fibs_account.specs.Plays.{PlaysText, Refusal}
-use Rattle.fibs_scripts.specs.Replay.Output.{Replayed, ReplayFailed, ReplayedInPart}
-use Rattle.fibs_account.specs.Show.{WroteAll, WroteRead, WroteLines, WroteFront}
-use Rattle.fibs_account.specs.Printing.{Printed}
-use Rattle.fibs_account.specs.Writing.{GainedFront}
+use Rattle.fibs_show.specs.Plays.{PlaysText, Refusal}
+use Rattle.fibs_replay.specs.Replay.Output.{Replayed, ReplayFailed, ReplayedInPart}
+use Rattle.fibs_show.specs.Show.{WroteAll, WroteRead, WroteLines, WroteFront}
+use Rattle.fibs_show.specs.Printing.{Printed}
+use Rattle.fibs_show.specs.Writing.{GainedFront}
 use Rattle.fibs_cli.specs.declared.arguments.Answer.{Answer}
 use Rattle.fibs_cli.specs.declared.arguments.Answer.TheVariants.{Engine, Help, Refused, Memory}
 use Rattle.fibs_cli.specs.declared.arguments.Request.{Request}
 use Rattle.fibs_cli.specs.declared.arguments.Request.TheVariants.{Show, Plays, Replay, Connect, Loop}
-use Rattle.fibs_account.specs.declared.fault.EngineFault.{EngineFault}
-use Rattle.fibs_account.specs.declared.fault.EngineFault.TheVariants as fault
+use Rattle.fibs_show.specs.declared.fault.EngineFault.{EngineFault}
+use Rattle.fibs_show.specs.declared.fault.EngineFault.TheVariants as fault
 
 -- what the standard input has left to read, and what the standard output and the standard error hold: Some list where
 -- a stream tells its bytes, None where it tells nothing

@@ -1,17 +1,17 @@
 //! What the program does with a command line: which engine runs on which devices, what is printed, and the exit status.
 ghost use Rattle.std.specs.Prelude.{◌≡◌};
 ghost use Rattle.fibs_cli.specs.Program.{Answered, SaysWhy, Served, fault_line, status_of, streams};
-ghost use Rattle.fibs_account.specs.Printing.{Printed};
+ghost use Rattle.fibs_show.specs.Printing.{Printed};
 ghost use Rattle.fibs_loop.specs.Looping.{EndsScript};
 
 use crate::arguments::{Answer, Request};
-use fibs_account::fault::EngineFault;
-use fibs_account::plays::plays;
-use fibs_account::show::show;
-use fibs_account::writing::{Progress, write_bytes};
 use fibs_connect::connect::converse;
 use fibs_loop::play_loop::play_loop;
-use fibs_scripts::replay::replay;
+use fibs_replay::replay::replay;
+use fibs_show::fault::EngineFault;
+use fibs_show::plays::plays;
+use fibs_show::show::show;
+use fibs_show::writing::{Progress, write_bytes};
 use std::alloc::Global;
 use std::io::{Read, Write};
 use std::net::{Net, TcpListener, TcpStream};

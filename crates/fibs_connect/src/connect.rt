@@ -2,7 +2,7 @@
 ghost use Rattle.std.specs.Prelude.{◌≡◌, IfOk, IfErr};
 ghost use Rattle.std.specs.Io.KnownBytes.{Appends, Keeps};
 ghost use Rattle.fibs_connect.specs.Converse.Ending.{Conversed, login_fault_line};
-ghost use Rattle.fibs_turns.specs.Turns.Acts.{line_bytes};
+ghost use Rattle.fibs_exchange.specs.Turns.Acts.{line_bytes};
 
 pub mod dial;
 mod players;
@@ -11,9 +11,9 @@ mod typed_lines;
 mod wish;
 
 use dial::{Dial, Server};
-use fibs_account::fault::EngineFault;
+use fibs_exchange::exchange::printing::print_reason;
 use fibs_session::{Login, PlainFault};
-use fibs_turns::exchange::printing::print_reason;
+use fibs_show::fault::EngineFault;
 use seat::{Going, Seat};
 use std::alloc::Global;
 use std::io::{Read, Write};

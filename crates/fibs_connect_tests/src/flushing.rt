@@ -1,10 +1,10 @@
 //! What was printed is shown before the program waits: for the server, for a typed line, for a connection.
 
-use fibs_account::fault::EngineFault;
 use fibs_connect::connect::converse_with;
 use fibs_connect::connect::dial::Dial;
+use fibs_exchange::exchange::link::Link;
+use fibs_show::fault::EngineFault;
 use fibs_test_tools::pipe::{After, Pipe};
-use fibs_turns::exchange::link::Link;
 use std::alloc::Global;
 use std::cell::Cell;
 use std::io;

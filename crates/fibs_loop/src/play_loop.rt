@@ -3,7 +3,7 @@ ghost use Rattle.std.specs.Prelude.{◌≡◌, ◌≤◌, ◌<◌, ◌^◌, List
 ghost use Rattle.fibs_boards.specs.Board.{BoardFields};
 ghost use Rattle.fibs_model.specs.Events.{Event};
 ghost use Rattle.fibs_loop.specs.Looping.{EndsScript};
-ghost use Rattle.fibs_scripts.specs.Replay.Scripts.{SayEvents, SayScript, script_lines};
+ghost use Rattle.fibs_replay.specs.Replay.Scripts.{SayEvents, SayScript, script_lines};
 
 mod hearing;
 mod queue;
@@ -12,15 +12,15 @@ mod stop;
 mod table;
 
 use bstr::Lines;
-use fibs_account::fault::EngineFault;
-use fibs_account::writing::Progress;
 use fibs_model::Entry;
-use fibs_scripts::replay::events::read_event;
-use fibs_scripts::replay::first_board;
-use fibs_scripts::replay::input::read_script;
-use fibs_scripts::replay::output::{end_line, print_log, refused_line, unread_line};
-use fibs_scripts::replay::run::script_login;
-use fibs_scripts::replay::script::{first_unreadable, script_lines};
+use fibs_replay::replay::events::read_event;
+use fibs_replay::replay::first_board;
+use fibs_replay::replay::input::read_script;
+use fibs_replay::replay::output::{end_line, print_log, refused_line, unread_line};
+use fibs_replay::replay::run::script_login;
+use fibs_replay::replay::script::{first_unreadable, script_lines};
+use fibs_show::fault::EngineFault;
+use fibs_show::writing::Progress;
 use std::alloc::Global;
 use std::io::{Read, Write};
 use std::net::{Net, TcpListener, TcpStream};

@@ -1,7 +1,7 @@
 //! Positions and plays of backgammon, from the boards of a backgammon server.
 #![tactic(auto)]
 
-mod carrying_out;
+mod board_effect;
 mod decision;
 mod direction;
 mod disallowed;
@@ -14,7 +14,7 @@ mod phase;
 mod position;
 mod position_fault;
 
-pub use carrying_out::effect;
+pub use board_effect::effect;
 pub use decision::Decision;
 pub use direction::Direction;
 pub use disallowed::Disallowed;

@@ -15,8 +15,8 @@ ghost use Rattle.fibs_commands.specs.LoginOf.{login_of};
 ghost use Rattle.fibs_commands.specs.PlainOf.{plain_value};
 
 mod connection;
+mod deciding;
 mod hearing;
-mod saying;
 mod shown_board;
 mod taken;
 

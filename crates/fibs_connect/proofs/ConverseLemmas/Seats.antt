@@ -8,12 +8,12 @@ use Rattle.fibs_session.specs.History.Words.{connections}
 use Rattle.fibs_session.specs.History.Machine.{Talk, Step, Open, Lose, step, stays, opened, is_online}
 use Rattle.fibs_session.specs.Calls.Standing.{ClientValue, StandsAfter}
 use Rattle.fibs_session.specs.Calls.Doing.{Does}
-use Rattle.fibs_turns.specs.declared.exchange.Ending.{Ending}
-use Rattle.fibs_turns.specs.declared.exchange.Ending.TheVariants.{Quiet, Lost}
-use Rattle.fibs_account.specs.declared.writing.Progress.TheVariants.{Whole, Broken}
-use Rattle.fibs_turns.specs.Turns.Turn.{FitsStream, LeavesAs, is_there, still_given}
-use Rattle.fibs_turns.proofs.TurnLemmas.Turns.{loses_offline}
-use Rattle.fibs_turns.proofs.TurnLemmas.Hearing.{open_append}
+use Rattle.fibs_exchange.specs.declared.exchange.Ending.{Ending}
+use Rattle.fibs_exchange.specs.declared.exchange.Ending.TheVariants.{Quiet, Lost}
+use Rattle.fibs_show.specs.declared.writing.Progress.TheVariants.{Whole, Broken}
+use Rattle.fibs_exchange.specs.Turns.Turn.{FitsStream, LeavesAs, is_there, still_given}
+use Rattle.fibs_exchange.proofs.TurnLemmas.Turns.{loses_offline}
+use Rattle.fibs_exchange.proofs.TurnLemmas.Hearing.{open_append}
 
 -- offline it opens
 opens_online : (t : Talk) → is_online t ≡ false → is_online (step t Open).talk ≡ true

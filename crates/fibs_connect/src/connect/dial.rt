@@ -1,6 +1,6 @@
 //! Connections to a server.
 
-use fibs_turns::exchange::link::Link;
+use fibs_exchange::exchange::link::Link;
 use std::io;
 use std::net::{Net, SocketAddr, TcpStream, ToSocketAddrs};
 use std::time::Duration;

@@ -3,12 +3,12 @@ ghost use Rattle.std.specs.Prelude.{OnOk};
 ghost use Rattle.std.specs.Io.KnownBytes.{Appends};
 ghost use Rattle.fibs_fields.specs.Field.{RatingField, canonical_text};
 ghost use Rattle.fibs_directory.specs.Directory.View.{player_value};
-ghost use Rattle.fibs_turns.specs.Turns.Acts.{line_bytes, text_of_lines};
+ghost use Rattle.fibs_exchange.specs.Turns.Acts.{line_bytes, text_of_lines};
 ghost use Rattle.fibs_connect.specs.Converse.Players.{player_line, player_lines};
 
+use fibs_exchange::exchange::ExchangeFault;
+use fibs_exchange::exchange::printing::{print, print_number};
 use fibs_session::{Directory, Player};
-use fibs_turns::exchange::ExchangeFault;
-use fibs_turns::exchange::printing::{print, print_number};
 use std::io::Write;
 
 /// Prints a rating, which is kept in hundredths, with two digits after its point.

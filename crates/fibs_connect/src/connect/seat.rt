@@ -1,16 +1,16 @@
 //! A player's seat: the client, the players that it knows, and the connection, if there is one.
 ghost use Rattle.std.specs.Prelude.{false, OnOk};
-ghost use Rattle.fibs_turns.specs.Turns.Turn.{FitsStream, is_there};
+ghost use Rattle.fibs_exchange.specs.Turns.Turn.{FitsStream, is_there};
 
 use super::dial::Dial;
 use super::players::print_players;
 use super::wish::{Wish, wish_of};
-use fibs_account::writing::Progress;
+use fibs_exchange::exchange::link::Link;
+use fibs_exchange::exchange::printing::{print_line, print_reason};
+use fibs_exchange::exchange::sending::send_command;
+use fibs_exchange::exchange::{Ending, ExchangeFault, end_connection, exchange};
 use fibs_session::{Client, Directory, Login, Refusal};
-use fibs_turns::exchange::link::Link;
-use fibs_turns::exchange::printing::{print_line, print_reason};
-use fibs_turns::exchange::sending::send_command;
-use fibs_turns::exchange::{Ending, ExchangeFault, end_connection, exchange};
+use fibs_show::writing::Progress;
 use std::alloc::Global;
 use std::io::Write;
 

@@ -7,8 +7,8 @@ ghost use Rattle.fibs_connect.specs.Converse.Typing.{kept_typed, rest_or_nothing
 ghost use Rattle.fibs_connect.specs.Converse.Reading.{ahead, FitsDevice, TakesLine};
 
 use arrayvec::ArrayVec;
-use fibs_account::fault::EngineFault;
 use fibs_messages::split;
+use fibs_show::fault::EngineFault;
 use std::io::Read;
 use std::marker::Model;
 
@@ -34,7 +34,7 @@ pub enum TypedFault {
 }
 
 impl From<TypedFault> for EngineFault {
-    ghost use Rattle.fibs_account.specs.declared.fault.EngineFault.TheVariants.{Device};
+    ghost use Rattle.fibs_show.specs.declared.fault.EngineFault.TheVariants.{Device};
 
     ghost from_gives = { λ _ e. e ≡ Device };
 

@@ -2,11 +2,11 @@
 
 use super::queue::Queue;
 use super::sockets::{Ends, PORTION};
-use fibs_account::fault::EngineFault;
 use fibs_messages::{Message, Reading};
 use fibs_model::Entry;
 use fibs_position::Position;
 use fibs_session::{Client, Taken};
+use fibs_show::fault::EngineFault;
 
 /// Notes what a line says, where the log has an entry for it.
 fn note_line(conn: usize, reading: &Reading<'_>, log: &mut Vec<Entry>) -> Result<(), EngineFault> {

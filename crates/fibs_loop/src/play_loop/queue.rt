@@ -2,7 +2,7 @@
 ghost use Rattle.std.specs.Prelude.{◌≤◌, length, vec_len};
 
 use bstr::ByteSlice;
-use fibs_account::fault::EngineFault;
+use fibs_show::fault::EngineFault;
 use std::alloc::Global;
 
 /// Bytes that wait at their sender, or that have arrived and wait to be taken.

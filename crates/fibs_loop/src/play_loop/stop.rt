@@ -1,7 +1,7 @@
 //! Why a script is not played to its end.
 
-use fibs_account::fault::EngineFault;
 use fibs_model::WorldRefusal;
+use fibs_show::fault::EngineFault;
 
 /// Why a script is not played to its end.
 #[derive(Clone, Copy, Debug, PartialEq, Eq)]

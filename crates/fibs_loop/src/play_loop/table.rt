@@ -5,11 +5,11 @@ use super::hearing::hear;
 use super::queue::Queue;
 use super::sockets::Ends;
 use super::stop::Stop;
-use fibs_account::fault::EngineFault;
 use fibs_messages::Board;
 use fibs_model::{Entry, Event, Served, Server, WorldRefusal, is_board_text};
 use fibs_position::Decision;
 use fibs_session::{Client, Login, Plain};
+use fibs_show::fault::EngineFault;
 use std::alloc::Global;
 use std::net::{Net, TcpListener, TcpStream};
 

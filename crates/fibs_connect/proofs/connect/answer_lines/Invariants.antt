@@ -1,4 +1,4 @@
-use Rattle.fibs_turns.specs.Turns.Turn.{FitsStream, is_there}
+use Rattle.fibs_exchange.specs.Turns.Turn.{FitsStream, is_there}
 use Rattle.fibs_connect.proofs.connect.answer_lines.Given as goal
 
 -- the client is online exactly where there is a connection

@@ -1,5 +1,5 @@
 use Rattle.std.proofs.Common.{◌≡◌, ◌+◌, ◌∙◌, ap, arith, length}
-use Rattle.fibs_scripts.proofs.ReplayLemmas.Runs.{rest_readable}
+use Rattle.fibs_replay.proofs.ReplayLemmas.Runs.{rest_readable}
 use Rattle.fibs_loop.proofs.play_loop.play_lines.Goals as goal
 
 pub loop-line-preserved : goal.loop-line-preserved

@@ -1,5 +1,5 @@
 use Rattle.std.proofs.Common.{◌≡◌, ◌+◌, length}
-use Rattle.fibs_scripts.proofs.ReplayLemmas.Runs.{Readable}
+use Rattle.fibs_replay.proofs.ReplayLemmas.Runs.{Readable}
 use Rattle.fibs_loop.proofs.play_loop.play_lines.Given as goal
 
 -- each line so far was an event, and so are those that are left

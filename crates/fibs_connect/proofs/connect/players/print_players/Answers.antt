@@ -2,7 +2,7 @@ use Rattle.std.proofs.Common.{◌≡◌, Option, Some, option_map, ap, sym, subs
 use Rattle.std.specs.Io.KnownBytes.{Appends}
 use Rattle.std.proofs.KnownBytes.{Appends-trans}
 use Rattle.fibs_directory.specs.Directory.View.{player_value}
-use Rattle.fibs_turns.specs.Turns.Acts.{line_bytes}
+use Rattle.fibs_exchange.specs.Turns.Acts.{line_bytes}
 use Rattle.fibs_connect.specs.Converse.Players.{player_line}
 use Rattle.fibs_connect.proofs.ConverseLemmas.PlayerLines.{listed, listed-more}
 use Rattle.fibs_connect.proofs.connect.players.print_players.Goals as goal

@@ -1,0 +1,96 @@
+-- No line that calls for commands is a message that tells of players.
+use Rattle.std.proofs.Common.{◌≡◌, ◌≢◌, ℕ, Bool, true, false, if◌then◌else◌, nat_eq, List, [], ◌∷◌, ◌++◌, Option, None}
+use Rattle.std.proofs.Common.{Some, refl, sym, ap, subst, ◌∙◌}
+use Rattle.std.proofs.Common.{arith}
+use Rattle.std.specs.List.{AllByRecursion}
+use Rattle.std.proofs.lemmas.Bool.Decides.{nat_tests}
+use Rattle.fibs_lines.specs.Lines.{ReadLine}
+use Rattle.fibs_messages.specs.Message.{MessageValue}
+use Rattle.fibs_messages.specs.Line.{ReadingValue, numbered_line, board_line, text_line, malformed_line}
+use Rattle.fibs_session.specs.History.Log.{Entry}
+use Rattle.fibs_session.specs.History.Words.{open_now}
+use Rattle.fibs_session.specs.History.Hearing.{Heard, heard, nothing_heard, line_reading}
+use Rattle.fibs_session.specs.History.Machine.{Talk, is_online, gained, wire_of}
+use Rattle.fibs_show.specs.declared.writing.Progress.{Progress}
+use Rattle.fibs_show.specs.declared.writing.Progress.TheVariants.{Whole, Broken}
+use Rattle.fibs_exchange.specs.Turns.Acts.{Act}
+use Rattle.fibs_exchange.specs.Turns.Lines.{line_act, line_acts, piece_acts, messages_in}
+use Rattle.fibs_exchange.specs.Turns.Typing.{talk_after, typed_acts, typed_act, typed_now}
+use Rattle.fibs_exchange.specs.Turns.Script.{InHand, acts_of}
+use Rattle.fibs_exchange.specs.Turns.NoteLaw.{TellsNothing, TurnsLeaveNoPlayer}
+use Rattle.fibs_exchange.proofs.TurnLemmas.Typed.{typed_notes}
+
+-- an act that writes something has no message that tells of players
+abbrev Telling : Act → Type 0
+Telling act = act.writes ≢ [] → AllByRecursion TellsNothing act.notes
+
+abbrev AllTelling : List Act → Type 0
+AllTelling [] = Unit {0}
+AllTelling (act ∷ acts) = Telling act × AllTelling acts
+
+unlike : (n k : ℕ) → nat_eq n k ≡ true → nat_eq k 5 ≡ false → nat_eq k 8 ≡ false → (n ≢ 5) × (n ≢ 8)
+unlike n k e f g = (grind (arith, nat_tests), grind (arith, nat_tests))
+
+abbrev either : Bool → Bool → Heard → Heard → Heard
+either a b g h = if a then g else (if b then h else nothing_heard)
+
+none_sent : (a b : Bool) (g h : Heard) → a ≡ false → b ≡ false → (either a b g h).send ≡ []
+none_sent a b g h e f = ap (λ x. (either x b g h).send) e ∙ ap (λ y. (either false y g h).send) f
+
+numbered : (c : ℕ) (log : List Entry) (m : MessageValue) → (heard c log (numbered_line m)).send ≢ [] → TellsNothing m
+numbered c log m some = one (nat_eq m.number 1) refl
+  where
+    two : nat_eq m.number 1 ≡ false → (b : Bool) → nat_eq m.number 2 ≡ b → TellsNothing m
+    two e true f = unlike m.number 2 f refl refl
+    two e false f = absurd (some (none_sent (nat_eq m.number 1) (nat_eq m.number 2) _ _ e f))
+
+    one : (a : Bool) → nat_eq m.number 1 ≡ a → TellsNothing m
+    one true e = unlike m.number 1 e refl refl
+    one false e = two e (nat_eq m.number 2) refl
+
+-- a line that calls for commands
+line_telling : (log : List Entry) (r : ReadingValue) → wire_of (heard (open_now log) log r).send ≢ [] → AllByRecursion TellsNothing (messages_in r)
+line_telling log (numbered_line m) some = (numbered (open_now log) log m (λ e. some (ap wire_of e)), tt)
+line_telling log (board_line b) some = tt
+line_telling log (text_line text) some = tt
+line_telling log (malformed_line number k f) some = tt
+
+lines_telling : (log : List Entry) (ls : List ReadLine) → AllTelling (line_acts log ls)
+lines_telling log [] = tt
+lines_telling log (l ∷ ls) = (line_telling log (line_reading l), lines_telling (log ++ (heard (open_now log) log (line_reading l)).entries) ls)
+
+piece_telling : (t : Talk) (bytes : List ℕ) → AllTelling (piece_acts t bytes)
+piece_telling t bytes = go (is_online t)
+  where
+    go : (b : Bool) → AllTelling (if b then line_acts t.log (gained t.stream bytes) else [])
+    go true = lines_telling t.log (gained t.stream bytes)
+    go false = tt
+
+typed_telling : (t : Talk) (typed : Option (List ℕ)) → AllTelling (typed_acts t typed)
+typed_telling t None = tt
+typed_telling t (Some text) = (λ some. subst (AllByRecursion TellsNothing) (sym (typed_notes t (typed_now t text))) tt, tt)
+
+telling_joined : (xs ys : List Act) → AllTelling xs → AllTelling ys → AllTelling (xs ++ ys)
+telling_joined [] ys h k = k
+telling_joined (x ∷ xs) ys h k = (h.0, telling_joined xs ys h.1 k)
+
+telling_last : (xs ys : List Act) → AllTelling (xs ++ ys) → AllTelling ys
+telling_last [] ys h = h
+telling_last (x ∷ xs) ys h = telling_last xs ys h.1
+
+filled : (part rest : List ℕ) (missing : ℕ) → part ++ (missing ∷ rest) ≢ []
+filled [] rest missing = λ h. absurd cc
+filled (x ∷ part) rest missing = λ h. absurd cc
+
+in_hand : (p : Progress) (hand : List Act) (part : List ℕ) → InHand p hand part → AllTelling hand → AllByRecursion (λ act. AllByRecursion TellsNothing act.notes) hand
+in_hand Whole hand part h all = subst (AllByRecursion (λ act. AllByRecursion TellsNothing act.notes)) (sym h.0) tt
+in_hand Broken hand part h all =
+    let one = subst AllTelling h.3 all in
+    subst (AllByRecursion (λ act. AllByRecursion TellsNothing act.notes)) (sym h.3) (one.0 (λ e. filled part h.2 h.1 (sym h.4 ∙ e)), tt)
+
+pub turns_leave_no_player : TurnsLeaveNoPlayer
+turns_leave_no_player t new typed left still a b e turned =
+    let d = turned.did in
+    let u = talk_after t typed in
+    in_hand turned.progress d.hand d.part d.in_hand
+    (telling_last (acts_of d.done) d.hand (subst AllTelling d.acts (telling_joined (typed_acts t typed) (piece_acts u turned.fed) (typed_telling t typed) (piece_telling u turned.fed))))

@@ -1,0 +1,159 @@
+-- Where a print fails, the client is as after its last finished call.
+use Rattle.std.proofs.Common.{◌≡◌, ◌<◌, ℕ, true, List, [], ◌∷◌, ◌++◌, length, Option, None, Some, Result, Ok, Err}
+use Rattle.std.proofs.Common.{OnErr}
+use Rattle.std.proofs.Common.{inl, inr, refl, sym, ap, subst, ◌∙◌, append_assoc, append-nil, arith, length-append}
+use Rattle.std.specs.Io.KnownBytes.{Appends, Consumes, Keeps}
+use Rattle.std.proofs.KnownBytes.{Appends-trans, Consumes-nil, Consumes-trans, Consumes-kept}
+use Rattle.std.proofs.lemmas.List.Concat.{flat_map-append}
+use Rattle.fibs_lines.specs.StreamLaws.{LinesOnlyGrow}
+use Rattle.fibs_session.specs.History.Machine.{Talk, Piece, Lose, step, is_online}
+use Rattle.fibs_session.specs.History.MachineLaws.{PiecesJoin, EmptyPieceIsNothing}
+use Rattle.fibs_session.specs.Calls.Standing.{ClientValue, StandsAfter}
+use Rattle.fibs_show.specs.declared.writing.Progress.{Progress}
+use Rattle.fibs_show.specs.declared.writing.Progress.TheVariants.{Whole, Broken}
+use Rattle.fibs_show.specs.Writing.{Wrote}
+use Rattle.fibs_exchange.specs.Turns.Acts.{Act}
+use Rattle.fibs_exchange.specs.Turns.Lines.{piece_acts}
+use Rattle.fibs_exchange.specs.Turns.Script.{Outside, Did, calls_of}
+use Rattle.fibs_exchange.specs.Turns.Turn.{EndsALine, Talked, FedToALine, StopsAs, Stopped}
+use Rattle.fibs_exchange.specs.Turns.Typing.{typed_now, typed_step, typed_act}
+use Rattle.fibs_exchange.proofs.TurnLemmas.Hearing.{piece_stream, ends_joined, acts_join, no_acts}
+use Rattle.fibs_exchange.proofs.TurnLemmas.Scripts.{did_wrote}
+use Rattle.fibs_exchange.proofs.TurnLemmas.Wrote.{wrote_more}
+use Rattle.fibs_exchange.proofs.TurnLemmas.Typed.{typed_stays}
+use Rattle.fibs_exchange.proofs.TurnLemmas.Turns.{Gone, never}
+
+-- what holds in any case holds at a fault
+pub on_any_err : {T E P : Type 0} (r : Result T E) → P → OnErr r P
+on_any_err (Ok x) p = tt
+on_any_err (Err e) p = p
+
+-- all that was read is heard
+pub stopped_whole : (t : Talk) (y z : ClientValue) (left still : Option (List ℕ)) (read : List ℕ) (a b : Outside)
+    → is_online t ≡ true → Consumes left still read → Gone t y read a b
+    → StopsAs Whole t.stream read [] (step t (Piece read)).talk z → Stopped t z None left still a.wrote b.wrote
+stopped_whole t y z left still read a b on took g at = record {
+  read = read;
+  took = took;
+  fed = read;
+  rest = [];
+  cut = sym (append-nil read);
+  progress = Whole;
+  calls = did_wrote Whole a b (piece_acts t read) g.did;
+  stands = at;
+  offline = never on;
+}
+
+-- a write failed at the end of a line
+pub stopped_broken : (t : Talk) (y z : ClientValue) (left still : Option (List ℕ)) (read : List ℕ) (a b : Outside)
+    → is_online t ≡ true → Consumes left still read → (k : Talked t y read a b Broken)
+    → StandsAfter z (step (step t (Piece k.fed)).talk Lose).talk → Stopped t z None left still a.wrote b.wrote
+stopped_broken t y z left still read a b on took k at = record {
+  read = read;
+  took = took;
+  fed = k.fed;
+  rest = k.rest;
+  cut = k.cut;
+  progress = Broken;
+  calls = did_wrote Broken a b (piece_acts t k.fed) k.did;
+  stands = inr (k.extent.0, at);
+  offline = never on;
+}
+
+module _ (join : PiecesJoin) (grow : LinesOnlyGrow) where
+  -- what was fed behind a front ends a line
+  pub line_behind : (t : Talk) (z : ClientValue) (front piece back bytes : List ℕ) (a b : Outside)
+      (now : Option (List ℕ)) → bytes ≡ (front ++ piece) ++ back → is_online t ≡ true
+      → Did a b (piece_acts t front) Whole → StandsAfter z (step (step t (Piece front)).talk (Piece piece)).talk
+      → EndsALine (step t (Piece front)).talk.stream piece → 0 < length piece
+      → Appends b.wrote now (calls_of (piece_acts (step t (Piece front)).talk piece)) → FedToALine t z bytes a.wrote now
+  line_behind t z front piece back bytes a b now cut on did at ends long calls =
+      let later : List Act = piece_acts (step t (Piece front)).talk piece in
+      record {
+        fed = front ++ piece;
+        rest = back;
+        cut = cut;
+        ends = (
+          ends_joined grow t.stream front piece (subst (λ s. EndsALine s piece) (piece_stream t front on) ends) long,
+          omega (arith, long, length-append front piece),
+        );
+        calls = subst (Appends a.wrote now)
+            (sym (flat_map-append (λ (x : Act). x.writes) (piece_acts t front) later) ∙ ap calls_of (sym (acts_join grow t front piece)))
+            (Appends-trans a.wrote b.wrote now (calls_of (piece_acts t front)) (calls_of later) (did_wrote Whole a b (piece_acts t front) did) calls);
+        stands = subst (λ s. StandsAfter z s.talk) (sym (join t front piece)) at;
+      }
+
+  -- a line of a portion was not printed
+  pub stopped_portion : (t : Talk) (y z : ClientValue) (left still : Option (List ℕ)) (read portion : List ℕ)
+      (a b : Outside) (now : Option (List ℕ)) → is_online t ≡ true → Consumes left still (read ++ portion)
+      → Gone t y read a b → FedToALine (step t (Piece read)).talk z portion b.wrote now
+      → Stopped t z None left still a.wrote now
+  stopped_portion t y z left still read portion a b now on took g k =
+      let cut : read ++ portion ≡ (read ++ k.fed) ++ k.rest =
+      ap (λ l. read ++ l) k.cut ∙ sym (append_assoc read k.fed k.rest) in
+      let whole : FedToALine t z (read ++ portion) a.wrote now =
+      line_behind t z read k.fed k.rest (read ++ portion) a b now cut on g.did k.stands k.ends.0 k.ends.1 k.calls in
+      record {
+        read = read ++ portion;
+        took = took;
+        fed = whole.fed;
+        rest = whole.rest;
+        cut = whole.cut;
+        progress = Whole;
+        calls = whole.calls;
+        stands = inl (refl, inr whole.ends, whole.stands);
+        offline = never on;
+      }
+
+-- the typed call was made before
+pub stopped_typed : (t : Talk) (z : ClientValue) (text : List ℕ) (left mid still now : Option (List ℕ)) (a b : Outside)
+    → is_online t ≡ true → Keeps left mid → Did a b (typed_act t (typed_now t text) ∷ []) Whole
+    → Stopped (typed_step t (typed_now t text)).talk z None mid still b.wrote now
+    → Stopped t z (Some text) left still a.wrote now
+stopped_typed t z text left mid still now a b on k did u =
+    let act : Act = typed_act t (typed_now t text) in
+    let later : List Act = piece_acts (typed_step t (typed_now t text)).talk u.fed in
+    record {
+      read = u.read;
+      took = Consumes-trans left mid still [] u.read (Consumes-kept left left mid [] (Consumes-nil left) k) u.took;
+      fed = u.fed;
+      rest = u.rest;
+      cut = u.cut;
+      progress = u.progress;
+      calls = wrote_more u.progress a.wrote b.wrote now act.writes (calls_of later)
+          (subst (Appends a.wrote b.wrote) (append-nil act.writes) (did_wrote Whole a b (act ∷ []) did)) u.calls;
+      stands = subst
+          (λ s. StopsAs u.progress s u.fed u.rest (step (typed_step t (typed_now t text)).talk (Piece u.fed)).talk z)
+          (typed_stays t (typed_now t text)).stream u.stands;
+      offline = never on;
+    }
+
+-- nothing was read after it
+pub stopped_here : (p : Progress) (t : Talk) (z : ClientValue) (text : List ℕ) (left still wrote now : Option (List ℕ))
+    → EmptyPieceIsNothing → Keeps left still → Wrote p wrote now (typed_act t (typed_now t text)).writes
+    → StopsAs p t.stream [] [] (typed_step t (typed_now t text)).talk z → Stopped t z (Some text) left still wrote now
+stopped_here p t z text left still wrote now empty k w at =
+    let u : Talk = (typed_step t (typed_now t text)).talk in
+    let act : Act = typed_act t (typed_now t text) in
+    record {
+      read = [];
+      took = Consumes-kept left left still [] (Consumes-nil left) k;
+      fed = [];
+      rest = [];
+      cut = refl;
+      progress = p;
+      calls = subst (Wrote p wrote now) (sym (append-nil act.writes) ∙ ap (λ l. act.writes ++ calls_of l) (sym (no_acts u))) w;
+      stands = subst (λ s. StopsAs p t.stream [] [] s.talk z) (sym (empty u)) at;
+      offline = λ off. refl;
+    }
+
+-- its command was not written whole
+pub stopped_unsent : (t : Talk) (z : ClientValue) (text : List ℕ) (left still : Option (List ℕ)) (a b : Outside)
+    → EmptyPieceIsNothing → Keeps left still → Did a b (typed_act t (typed_now t text) ∷ []) Broken
+    → StandsAfter z (step (typed_step t (typed_now t text)).talk Lose).talk
+    → Stopped t z (Some text) left still a.wrote b.wrote
+stopped_unsent t z text left still a b empty k did at =
+    let act : Act = typed_act t (typed_now t text) in
+    stopped_here Broken t z text left still a.wrote b.wrote empty k
+    (subst (Wrote Broken a.wrote b.wrote) (append-nil act.writes) (did_wrote Broken a b (act ∷ []) did))
+    (inr ((λ n lt same. omega (arith, lt)), at))

@@ -1,0 +1,54 @@
+use Rattle.std.proofs.Common.{◌≡◌, true, sym, ap, subst, ◌∙◌, Some, None, inl, refl}
+use Rattle.fibs_show.specs.declared.writing.Progress.TheVariants.{Whole, Broken}
+use Rattle.fibs_exchange.specs.Turns.Typing.{typed_now, typed_step}
+use Rattle.fibs_exchange.proofs.TurnLemmas.Wrote.{if_ok_weaker}
+use Rattle.fibs_exchange.proofs.TurnLemmas.Typed.{typed_stays}
+use Rattle.fibs_exchange.proofs.TurnLemmas.Turns.{turned_typed, turned_broken}
+use Rattle.std.proofs.lemmas.Result.{on_err_weaker}
+use Rattle.fibs_exchange.proofs.TurnLemmas.Stops.{on_any_err, stopped_typed, stopped_here, stopped_unsent}
+use Rattle.fibs_exchange.proofs.exchange.talk.Goals as goal
+
+pub returns-in-Whole-clause-turned : goal.returns-in-Whole-clause-turned
+returns-in-Whole-clause-turned g c =
+    rw c.in-Some.is (if_ok_weaker c.listen-in-Whole.result
+    (λ e h t at on.
+    let text = c.in-Some.text.now in
+    let v = typed_now t text in
+    turned_typed e t _ text _ _ _ _ _ _ on c.type_line.ensures.apart (rw c.in-Whole.is at c.in_ok-type_line-in-Some.ensures.did t at c.args.directory.now)
+    (h (typed_step t v).talk (c.type_line.ensures.stands t at) ((typed_stays t v).online ∙ on))) c.listen-in-Whole.ensures.turned)
+
+pub returns-in-Broken-clause-turned : goal.returns-in-Broken-clause-turned
+returns-in-Broken-clause-turned g c =
+    rw c.in-Some.is (if_ok_weaker c.end_connection.result
+    (λ e h t at on.
+    let text = c.in-Some.text.now in
+    turned_broken e t _ text _ _ _ _ _ on c.empty_piece_is_nothing.ensures c.type_line.ensures.apart (rw c.in-Broken.is at c.in_ok-type_line-in-Some.ensures.did t at c.args.directory.now)
+    (h Broken (typed_step t (typed_now t text)).talk (c.type_line.ensures.stands t at) _ _)) c.end_connection.ensures.ended)
+
+pub returns-in_err-type_line-in-Some-clause-stopped : goal.returns-in_err-type_line-in-Some-clause-stopped
+returns-in_err-type_line-in-Some-clause-stopped g c =
+    on_any_err c.from_residual.result
+    (λ t at on.
+    rw c.in-Some.is (stopped_here Whole t _ c.in-Some.text.now _ _ _ _ c.empty_piece_is_nothing.ensures
+    c.type_line.ensures.apart (c.in_err-type_line-in-Some.ensures.stopped t at)
+    (inl (refl, inl refl, c.type_line.ensures.stands t at))))
+
+pub returns-in-Whole-clause-stopped : goal.returns-in-Whole-clause-stopped
+returns-in-Whole-clause-stopped g c =
+    rw c.in-Some.is (on_err_weaker c.listen-in-Whole.result
+    (λ h t at on.
+    let text = c.in-Some.text.now in
+    let v = typed_now t text in
+    stopped_typed t _ text _ _ _ _ _ _ on c.type_line.ensures.apart
+    (rw c.in-Whole.is at c.in_ok-type_line-in-Some.ensures.did t at c.args.directory.now)
+    (h (typed_step t v).talk (c.type_line.ensures.stands t at) ((typed_stays t v).online ∙ on)))
+    c.listen-in-Whole.ensures.stopped)
+
+pub returns-in-Broken-clause-stopped : goal.returns-in-Broken-clause-stopped
+returns-in-Broken-clause-stopped g c =
+    rw c.in-Some.is (on_any_err c.end_connection.result
+    (λ t at on.
+    let text = c.in-Some.text.now in
+    stopped_unsent t _ text _ _ _ _ c.empty_piece_is_nothing.ensures c.type_line.ensures.apart
+    (rw c.in-Broken.is at c.in_ok-type_line-in-Some.ensures.did t at c.args.directory.now)
+    (c.end_connection.ensures.lost (typed_step t (typed_now t text)).talk (c.type_line.ensures.stands t at))))

@@ -1,0 +1,28 @@
+-- What the client's answer to a typed line calls for. No public contract rests on it.
+use Rattle.std.specs.Prelude.{codes, None, Some, ◌∷◌, [], List, ℕ}
+use Rattle.fibs_commands.specs.TextOf.{text_of}
+use Rattle.fibs_commands.specs.PlainOf.{plain_value}
+use Rattle.fibs_position.specs.DecisionValue.{decision_of}
+use Rattle.fibs_exchange.specs.declared.exchange.typing.Typed.{Typed}
+use Rattle.fibs_exchange.specs.declared.exchange.typing.Typed.TheVariants as T
+use Rattle.fibs_exchange.specs.declared.exchange.typing.Answer.{Answer}
+use Rattle.fibs_exchange.specs.declared.exchange.typing.Answer.TheVariants as A
+use Rattle.fibs_exchange.specs.declared.exchange.typing.Complaint.{Complaint}
+use Rattle.fibs_exchange.specs.declared.exchange.typing.Complaint.TheVariants as C
+use Rattle.fibs_exchange.specs.Turns.Acts.{Act, answer_act}
+use Rattle.fibs_exchange.specs.Turns.Typing.{TypedValue, typed_decision, typed_plain, typed_neither, refused_line}
+use Rattle.fibs_exchange.specs.Turns.Typing.{plain_line}
+
+abbrev pub typed_value : Typed → TypedValue
+typed_value (T.Decision d) = typed_decision (decision_of d)
+typed_value (T.Plain p) = typed_plain (plain_value p)
+typed_value T.Unknown = typed_neither
+
+abbrev pub complaint_line : Complaint → List ℕ
+complaint_line (C.Refused why) = refused_line why
+complaint_line (C.NotSent why) = plain_line why
+complaint_line C.Unknown = codes "unknown"
+
+abbrev pub answered_act : Answer → Act
+answered_act (A.Sent command) = answer_act None (text_of command ∷ [])
+answered_act (A.Complaint why) = answer_act (Some (complaint_line why)) []

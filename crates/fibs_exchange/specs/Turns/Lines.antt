@@ -1,0 +1,74 @@
+-- What is done for a line of the server.
+use Rattle.std.specs.Prelude.{◌++◌, ℕ, List, [], ◌∷◌, codes, Option, Some, None, if◌then◌else◌}
+use Rattle.fibs_lines.specs.Lines.{ReadLine}
+use Rattle.fibs_messages.specs.Message.{MessageValue}
+use Rattle.fibs_messages.specs.Line.{ReadingValue, numbered_line, board_line, text_line, malformed_line}
+use Rattle.fibs_position.specs.Phases.{phase_of}
+use Rattle.fibs_position.specs.GoodBoard.{good}
+use Rattle.fibs_session.specs.History.Log.{Entry}
+use Rattle.fibs_session.specs.History.Words.{Ask, open_now}
+use Rattle.fibs_session.specs.History.Hearing.{heard, line_reading}
+use Rattle.fibs_session.specs.History.Machine.{Talk, is_online, gained, wire_of}
+use Rattle.fibs_session.specs.Calls.SessionOf.{TakenValue}
+use Rattle.fibs_show.specs.Escape.{escaped}
+use Rattle.fibs_position.specs.Names.{phase_name}
+use Rattle.fibs_show.specs.Show.{reading_text}
+use Rattle.fibs_exchange.specs.Turns.Acts.{Act, asked_text}
+
+-- how a whole line is printed: as by `show`, but that a message is printed as it was spelled
+abbrev pub said_text : List ℕ → ReadingValue → List ℕ
+said_text bytes (numbered_line m) = codes "message " ++ escaped bytes
+said_text bytes (board_line b) = reading_text (board_line b)
+said_text bytes (text_line text) = reading_text (text_line text)
+said_text bytes (malformed_line number k f) = reading_text (malformed_line number k f)
+
+-- how a line is printed: of one that was cut the kept bytes
+abbrev pub heard_text : ReadLine → ReadingValue → List ℕ
+heard_text line r = if line.cut then codes "cut " ++ escaped line.bytes else said_text line.bytes r
+
+-- after a good board its phase is printed
+abbrev pub phase_lines : ReadingValue → List (List ℕ)
+phase_lines (numbered_line m) = []
+phase_lines (board_line b) = if good b then (codes "phase " ++ phase_name (phase_of b)) ∷ [] else []
+phase_lines (text_line text) = []
+phase_lines (malformed_line number k f) = []
+
+-- and where it confirms a decision, that
+abbrev pub confirmed_lines : Option Ask → List (List ℕ)
+confirmed_lines None = []
+confirmed_lines (Some ask) = (codes "confirmed " ++ asked_text ask) ∷ []
+
+-- the directory is told each message
+abbrev pub messages_in : ReadingValue → List MessageValue
+messages_in (numbered_line m) = m ∷ []
+messages_in (board_line b) = []
+messages_in (text_line text) = []
+messages_in (malformed_line number k f) = []
+
+-- a line, its reading, the commands that it calls for, and the decision that it confirms
+abbrev pub heard_act : ReadLine → ReadingValue → List (List ℕ) → Option Ask → Act
+heard_act line r send confirmed = record {
+  writes = wire_of send;
+  prints = heard_text line r ∷ (phase_lines r ++ confirmed_lines confirmed);
+  notes = messages_in r;
+}
+
+-- the same of what the client has taken
+abbrev pub taken_act : TakenValue → Act
+taken_act t = heard_act t.line t.reading t.send t.confirmed
+
+-- what a line calls for, by the history before it
+abbrev pub line_act : List Entry → ReadLine → Act
+line_act log line =
+    let h = heard (open_now log) log (line_reading line) in
+    heard_act line (line_reading line) h.send h.confirmed
+
+-- and each of several lines, by the history before it
+abbrev pub line_acts : List Entry → List ReadLine → List Act
+line_acts log [] = []
+line_acts log (line ∷ lines) =
+    line_act log line ∷ line_acts (log ++ (heard (open_now log) log (line_reading line)).entries) lines
+
+-- the lines that more bytes of the open connection give
+abbrev pub piece_acts : Talk → List ℕ → List Act
+piece_acts t bytes = if is_online t then line_acts t.log (gained t.stream bytes) else []

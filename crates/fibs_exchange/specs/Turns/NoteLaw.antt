@@ -1,0 +1,21 @@
+-- Of what a turn leaves in hand at a failed write the directory would take no note.
+use Rattle.std.specs.Prelude.{◌≢◌, ℕ, List, Option}
+use Rattle.std.specs.List.{AllByRecursion}
+use Rattle.fibs_messages.specs.Message.{MessageValue}
+use Rattle.fibs_session.specs.Calls.Standing.{ClientValue}
+use Rattle.fibs_session.specs.History.Machine.{Talk}
+use Rattle.fibs_exchange.specs.declared.exchange.Ending.{Ending}
+use Rattle.fibs_exchange.specs.Turns.Script.{Outside}
+use Rattle.fibs_exchange.specs.Turns.Turn.{Turned}
+
+-- a directory takes note of messages 5 and 8 alone
+abbrev pub TellsNothing : MessageValue → Type 0
+TellsNothing m = (m.number ≢ 5) × (m.number ≢ 8)
+
+-- no line that calls for commands is a message that tells of players. So the directory after a turn is also that of all
+-- messages heard but those that it refused
+abbrev pub TurnsLeaveNoPlayer : Type 0
+TurnsLeaveNoPlayer =
+    (t : Talk) (new : ClientValue) (typed left still : Option (List ℕ)) (a b : Outside) (e : Ending)
+    (turned : Turned t new typed left still a b e)
+    → AllByRecursion (λ act. AllByRecursion TellsNothing act.notes) turned.did.hand

@@ -1,0 +1,92 @@
+-- A script is a list of acts. This is what was done of one, whether a write failed or not.
+use Rattle.std.specs.Prelude.{◌≡◌, ℕ, List, [], ◌∷◌, ◌++◌, map, codes, Option, Some, None, ◌⊎◌}
+use Rattle.std.proofs.Common.{inl, inr}
+use Rattle.std.specs.Borrow.{MutBor}
+use Rattle.std.specs.List.{flat_map}
+use Rattle.std.specs.Io.KnownBytes.{Appends}
+use Rattle.fibs_messages.specs.Message.{MessageValue}
+use Rattle.fibs_directory.specs.declared.fault.DirectoryFault.{DirectoryFault}
+use Rattle.fibs_directory.specs.Directory.{IsDirectory}
+use Rattle.fibs_directory.specs.Directory.Faults.{directory_fault_number, directory_fault_name}
+use Rattle.fibs_show.specs.declared.writing.Progress.{Progress}
+use Rattle.fibs_show.specs.declared.writing.Progress.TheVariants.{Whole, Broken}
+use Rattle.fibs_exchange.specs.Turns.Acts.{Act, text_of_lines}
+use Rattle.fibs_exchange.specs.Turns.Typing.{reason_line}
+
+-- what is outside of the client: what the stream and the printer hold, where they tell it, and the directory's entries
+pub record Outside : Type 0 where
+  pub wrote : Option (List ℕ)
+  pub printed : Option (List ℕ)
+  pub players : List MessageValue
+
+abbrev pub outside : Option (List ℕ) → Option (List ℕ) → List MessageValue → Outside
+outside wrote printed players = record { wrote = wrote; printed = printed; players = players }
+
+-- an act that was done whole; and, where the directory refused a message, why
+pub record Done : Type 0 where
+  pub act : Act
+  pub refused : Option DirectoryFault
+
+-- a refusal of the directory is said
+abbrev pub directory_lines : Option DirectoryFault → List (List ℕ)
+directory_lines None = []
+directory_lines (Some why) =
+    reason_line (codes "directory ") (directory_fault_number why) (directory_fault_name why) ∷ []
+
+-- the lines of an act, and after them the directory's
+abbrev pub done_lines : Done → List (List ℕ)
+done_lines d = d.act.prints ++ directory_lines d.refused
+
+-- what the directory has noted: not what it refused
+abbrev pub noted_unless : Option DirectoryFault → List MessageValue → List MessageValue
+noted_unless None messages = messages
+noted_unless (Some why) messages = []
+
+-- the bytes of the commands that acts call for
+abbrev pub calls_of : List Act → List ℕ
+calls_of = flat_map (λ act. act.writes)
+
+abbrev pub acts_of : List Done → List Act
+acts_of = map (λ d. d.act)
+
+abbrev pub writes_of : List Done → List ℕ
+writes_of = flat_map (λ d. d.act.writes)
+
+abbrev pub prints_of : List Done → List ℕ
+prints_of = flat_map (λ d. text_of_lines (done_lines d))
+
+abbrev pub notes_of : List Done → List MessageValue
+notes_of = flat_map (λ d. noted_unless d.refused d.act.notes)
+
+-- a directory of some messages has become that of these messages more
+abbrev pub Notes : List MessageValue → List MessageValue → List MessageValue → Type 0
+Notes old new messages = (before : List MessageValue) → IsDirectory before old → IsDirectory (before ++ messages) new
+
+-- the act in hand where a write failed, and what was written of it: not all
+abbrev pub InHand : Progress → List Act → List ℕ → Type 0
+InHand Whole hand part = (hand ≡ []) × (part ≡ [])
+InHand Broken hand part =
+    (act : Act) × (missing : ℕ) × (rest : List ℕ) × (hand ≡ act ∷ []) × (act.writes ≡ part ++ (missing ∷ rest))
+
+-- the script was done: each act written whole, printed and noted, up to the one in hand, of which a part was written
+-- and nothing printed or noted
+pub record Did (a b : Outside) (script : List Act) (p : Progress) : Type 0 where
+  pub done : List Done
+  pub hand : List Act
+  pub part : List ℕ
+  pub acts : script ≡ acts_of done ++ hand
+  pub in_hand : InHand p hand part
+  pub wrote : Appends a.wrote b.wrote (writes_of done ++ part)
+  pub printed : Appends a.printed b.printed (prints_of done)
+  pub noted : Notes a.players b.players (notes_of done)
+
+-- the known bytes behind a `&mut` that may be absent, as the call begins
+abbrev pub known_before : {S : Type 0} → (S → Option (List ℕ)) → Option (MutBor S) → Option (List ℕ)
+known_before contents None = None
+known_before contents (Some s) = contents s.now
+
+-- and at the return
+abbrev pub known_after : {S : Type 0} → (S → Option (List ℕ)) → Unit {0} ⊎ ((MutBor S × Unit {0}) ⊎ ⊥) → Option (List ℕ)
+known_after contents (inl x) = None
+known_after contents (inr (inl f)) = contents f.0.now
+known_after contents (inr (inr x)) = None

@@ -1,0 +1,134 @@
+-- One turn of a client with its stream: the typed line, the lines that are heard, and the end of the connection.
+use Rattle.std.specs.Prelude.{◌≡◌, ◌≢◌, ◌<◌, ◌≤◌, ◌*◌, ℕ, Bool, true, false, List, [], ◌∷◌, ◌++◌, length, take}
+use Rattle.std.specs.Prelude.{Option, Some, None, option_map, ◌⊎◌}
+use Rattle.std.specs.Borrow.{Bor}
+use Rattle.std.specs.Io.KnownBytes.{Appends, Consumes}
+use Rattle.fibs_lines.specs.Lines.{lines_of}
+use Rattle.fibs_session.specs.History.Words.{Ask}
+use Rattle.fibs_session.specs.History.Machine.{Talk, Lose, Piece, step, is_online, unconfirmed_now}
+use Rattle.fibs_session.specs.Calls.SessionOf.{ask_of}
+use Rattle.fibs_session.specs.Calls.Standing.{ClientValue, StandsAfter}
+use Rattle.fibs_exchange.specs.declared.exchange.Ending.{Ending}
+use Rattle.fibs_exchange.specs.declared.exchange.Ending.TheVariants.{Quiet, Lost}
+use Rattle.fibs_show.specs.declared.writing.Progress.{Progress}
+use Rattle.fibs_show.specs.declared.writing.Progress.TheVariants.{Whole, Broken}
+use Rattle.fibs_exchange.specs.Turns.Acts.{Act, only_print, lost_line}
+use Rattle.fibs_exchange.specs.Turns.Lines.{piece_acts}
+use Rattle.fibs_exchange.specs.Turns.Typing.{talk_after, typed_acts}
+use Rattle.fibs_exchange.specs.Turns.Script.{Outside, Did, calls_of}
+use Rattle.fibs_show.specs.Writing.{Wrote}
+
+abbrev pub bytes_of : Option (Bor (List ℕ)) → Option (List ℕ)
+bytes_of None = None
+bytes_of (Some typed) = Some typed.now
+
+-- a stream is given
+abbrev pub is_there : {S : Type 0} → Option S → Bool
+is_there None = false
+is_there (Some s) = true
+
+-- the caller's condition: a stream is given exactly where the client is online, by some history after which it stands
+abbrev pub FitsStream : ClientValue → Bool → Type 0
+FitsStream client given = (t : Talk) × StandsAfter client t × (is_online t ≡ given)
+
+-- and at the next turn: after Quiet as before, after Lost none
+abbrev pub still_given : Ending → Bool → Bool
+still_given Quiet given = given
+still_given (Lost waited) given = false
+
+-- ---- lines that are heard
+
+-- no shorter front of the bytes ends as many lines of the stream
+abbrev pub EndsALine : List ℕ → List ℕ → Type 0
+EndsALine stream fed = (n : ℕ) → n < length fed → lines_of (stream ++ take n fed) ≢ lines_of (stream ++ fed)
+
+-- all is fed; after a failed write just up to the end of the line whose command failed
+abbrev pub Extent : Progress → List ℕ → List ℕ → List ℕ → Type 0
+Extent Whole stream fed rest = rest ≡ []
+Extent Broken stream fed rest = EndsALine stream fed × (0 < length fed)
+
+-- of these bytes a front was fed to a client that stood after t, and what its lines call for was done
+pub record Talked (t : Talk) (new : ClientValue) (bytes : List ℕ) (a b : Outside) (p : Progress) : Type 0 where
+  pub fed : List ℕ
+  pub rest : List ℕ
+  pub cut : bytes ≡ fed ++ rest
+  pub extent : Extent p t.stream fed rest
+  pub stands : StandsAfter new (step t (Piece fed)).talk
+  pub did : Did a b (piece_acts t fed) p
+
+-- ---- the end
+
+-- the end of a connection is printed
+abbrev pub end_acts : Ending → List Act
+end_acts Quiet = []
+end_acts (Lost waited) = only_print (lost_line (option_map ask_of waited)) ∷ []
+
+-- how the client that stood after t stands at the end. Quiet comes only where every write went well; what is lost is
+-- what the history says is unconfirmed
+abbrev pub LeavesAs : Ending → Progress → Talk → ClientValue → Type 0
+LeavesAs Quiet p t new = StandsAfter new t × (p ≡ Whole)
+LeavesAs (Lost waited) p t new = StandsAfter new (step t Lose).talk × (option_map ask_of waited ≡ unconfirmed_now t)
+
+pub record Ended (p : Progress) (t : Talk) (new : ClientValue) (a b : Outside) (e : Ending) : Type 0 where
+  pub did : Did a b (end_acts e) Whole
+  pub leaves : LeavesAs e p t new
+
+-- ---- all of it
+
+-- the same where the command of the typed line may have failed: then nothing is fed
+abbrev pub ReadExtent : Progress → List ℕ → List ℕ → List ℕ → Type 0
+ReadExtent Whole stream fed rest = rest ≡ []
+ReadExtent Broken stream fed rest = EndsALine stream fed
+
+-- a client that stood after t made the typed call, then it was fed the bytes that were read, and then it lost its
+-- connection where it is lost; what that calls for was done, in this order
+pub record Turned (t : Talk) (new : ClientValue) (typed left still : Option (List ℕ)) (a b : Outside) (e : Ending)
+    : Type 0 where
+  pub read : List ℕ
+  pub took : Consumes left still read
+  pub fed : List ℕ
+  pub rest : List ℕ
+  pub cut : read ≡ fed ++ rest
+  pub progress : Progress
+  pub extent : ReadExtent progress t.stream fed rest
+  pub mid : Outside
+  pub did : Did a mid (typed_acts t typed ++ piece_acts (talk_after t typed) fed) progress
+  pub ended : Ended progress (step (talk_after t typed) (Piece fed)).talk new mid b e
+  pub offline : is_online t ≡ false → read ≡ []
+  pub quiet : is_online t ≡ false → e ≡ Quiet
+
+-- ---- a print that fails
+
+-- of these bytes a front that ends a line was fed to a client that stood after t, and its commands were written
+pub record FedToALine (t : Talk) (new : ClientValue) (bytes : List ℕ) (wrote now : Option (List ℕ)) : Type 0 where
+  pub fed : List ℕ
+  pub rest : List ℕ
+  pub cut : bytes ≡ fed ++ rest
+  pub ends : EndsALine t.stream fed × (0 < length fed)
+  pub calls : Appends wrote now (calls_of (piece_acts t fed))
+  pub stands : StandsAfter new (step t (Piece fed)).talk
+
+-- no byte is left, or those that were fed end a line
+abbrev pub FedInLines : List ℕ → List ℕ → List ℕ → Type 0
+FedInLines stream fed rest = (rest ≡ []) ⊎ (EndsALine stream fed × (0 < length fed))
+
+-- how the client that stood after t stands where a print failed. It lost its connection only where all is fed, or a
+-- write had failed before
+abbrev pub StopsAs : Progress → List ℕ → List ℕ → List ℕ → Talk → ClientValue → Type 0
+StopsAs p stream fed rest t new =
+    ((p ≡ Whole) × FedInLines stream fed rest × StandsAfter new t)
+    ⊎ (ReadExtent p stream fed rest × StandsAfter new (step t Lose).talk)
+
+-- the client is as after its last finished call: one that stood after t made the typed call, then it was fed the bytes
+-- that were read, all or up to the end of a line, and then it may have lost its connection. The commands of these calls
+-- were written
+pub record Stopped (t : Talk) (new : ClientValue) (typed left still wrote now : Option (List ℕ)) : Type 0 where
+  pub read : List ℕ
+  pub took : Consumes left still read
+  pub fed : List ℕ
+  pub rest : List ℕ
+  pub cut : read ≡ fed ++ rest
+  pub progress : Progress
+  pub calls : Wrote progress wrote now (calls_of (typed_acts t typed ++ piece_acts (talk_after t typed) fed))
+  pub stands : StopsAs progress t.stream fed rest (step (talk_after t typed) (Piece fed)).talk new
+  pub offline : is_online t ≡ false → read ≡ []

@@ -1,0 +1,77 @@
+-- What is done for a line that the user types.
+use Rattle.std.specs.Prelude.{◌++◌, ℕ, List, [], ◌∷◌, codes, Option, Some, None, option_map}
+use Rattle.std.specs.Fmt.{decimal}
+use Rattle.fibs_boards.specs.Board.{BoardFields}
+use Rattle.fibs_position.specs.DecisionValue.{DecisionValue}
+use Rattle.fibs_position.specs.DirectionOf.{direction_of}
+use Rattle.fibs_position.specs.declared.direction.Direction.{Direction}
+use Rattle.fibs_position.specs.declared.direction.Direction.TheVariants.{Down}
+use Rattle.fibs_commands.specs.PlainCommands.{PlainValue}
+use Rattle.fibs_session.specs.declared.refusal.Refusal.{Refusal}
+use Rattle.fibs_session.specs.declared.refusal.PlainRefusal.{PlainRefusal}
+use Rattle.fibs_session.specs.declared.refusal.PlainRefusal.TheVariants as P
+use Rattle.fibs_session.specs.History.Machine.{Talk, Step, Click, PlainInput, step, stays, shown_now, answer_now}
+use Rattle.fibs_session.specs.History.Machine.{plain_refusal}
+use Rattle.fibs_session.specs.History.Refusals.{refusal_number, refusal_name, plain_refusal_number, plain_refusal_name}
+use Rattle.fibs_commands.specs.CommandReading.{read_command}
+use Rattle.fibs_commands.specs.PlainReading.{read_plain}
+use Rattle.fibs_exchange.specs.Turns.Acts.{Act, only_print, answer_act}
+
+-- what was typed: a decision, a plain command, or neither
+pub data TypedValue : Type 0 where
+  typed_decision : DecisionValue → TypedValue
+  typed_plain : PlainValue → TypedValue
+  typed_neither : TypedValue
+
+-- a line that is both is a decision
+abbrev pub typed_as : Option DecisionValue → Option PlainValue → TypedValue
+typed_as (Some d) p = typed_decision d
+typed_as None (Some p) = typed_plain p
+typed_as None None = typed_neither
+
+-- plays are typed in the numbers of the board that is shown
+abbrev pub shown_direction : Option BoardFields → Direction
+shown_direction None = Down
+shown_direction (Some b) = direction_of b
+
+abbrev pub typed_now : Talk → List ℕ → TypedValue
+typed_now t text = typed_as (read_command (shown_direction (shown_now t)) text) (read_plain text)
+
+-- the lines that say why nothing is sent
+
+abbrev pub reason_line : List ℕ → ℕ → List ℕ → List ℕ
+reason_line label number name = label ++ (decimal number ++ (32 ∷ name))
+
+abbrev pub refused_line : Refusal → List ℕ
+refused_line why = reason_line (codes "refused ") (refusal_number why) (refusal_name why)
+
+-- a fault of a plain command is none of the client's state
+abbrev pub plain_label : PlainRefusal → List ℕ
+plain_label P.Offline = codes "refused "
+plain_label P.NotOn = codes "refused "
+plain_label (P.Fault fault) = codes "fault "
+
+abbrev pub plain_line : PlainRefusal → List ℕ
+plain_line why = reason_line (plain_label why) (plain_refusal_number why) (plain_refusal_name why)
+
+-- what the client does with it
+abbrev pub typed_step : Talk → TypedValue → Step
+typed_step t (typed_decision d) = step t (Click d)
+typed_step t (typed_plain p) = step t (PlainInput p)
+typed_step t typed_neither = stays t
+
+-- what it calls for: the command is written and then printed as sent, or it is said why not
+abbrev pub typed_act : Talk → TypedValue → Act
+typed_act t (typed_decision d) = answer_act (option_map refused_line (answer_now t d)) (step t (Click d)).send
+typed_act t (typed_plain p) = answer_act (option_map plain_line (plain_refusal t p)) (step t (PlainInput p)).send
+typed_act t typed_neither = only_print (codes "unknown")
+
+-- the same of a line that may have been typed
+
+abbrev pub talk_after : Talk → Option (List ℕ) → Talk
+talk_after t None = t
+talk_after t (Some text) = (typed_step t (typed_now t text)).talk
+
+abbrev pub typed_acts : Talk → Option (List ℕ) → List Act
+typed_acts t None = []
+typed_acts t (Some text) = typed_act t (typed_now t text) ∷ []

@@ -1,0 +1,230 @@
+//! One turn of a client with its stream.
+ghost use Rattle.std.specs.Prelude.{◌≡◌, ◌++◌, ◌*◌, ◌↔◌, ◌⊎◌, ℕ, List, Option, None, true, false, length};
+ghost use Rattle.std.specs.Prelude.{IfOk, OnErr, IsTrue};
+ghost use Rattle.std.specs.IoError.{error_kind};
+ghost use Rattle.fibs_session.specs.History.Machine.{Talk, Lose, step, is_online};
+ghost use Rattle.fibs_session.specs.Calls.Standing.{StandsAfter};
+ghost use Rattle.fibs_messages.specs.Message.{MessageValue};
+ghost use Rattle.fibs_exchange.specs.Turns.Script.{outside, known_before, known_after};
+ghost use Rattle.fibs_exchange.specs.Turns.Turn.{Ended, Turned, Stopped, FitsStream, bytes_of, is_there, still_given};
+ghost use Rattle.fibs_show.specs.Reads.{LostAtMost, turn_limit};
+ghost use Rattle.fibs_show.specs.declared.writing.Progress.{Progress};
+
+mod hearing;
+pub mod link;
+pub mod printing;
+pub mod sending;
+mod typing;
+
+use fibs_session::{Client, Directory, Outstanding};
+use fibs_show::fault::EngineFault;
+use fibs_show::writing::Progress;
+use hearing::hear_portion;
+use link::Link;
+use printing::{asked_command, print_line};
+use sending::text_bytes;
+use std::io;
+use std::io::{ErrorKind, Write};
+use thiserror::Error;
+use typing::{type_line, type_offline};
+
+/// The most times that a stream is read in one turn.
+const MAX_READS: u32 = 4096;
+
+/// How many bytes are asked for at once.
+const PORTION: usize = 1024;
+
+/// How a turn ended.
+#[derive(Clone, Copy)]
+pub enum Ending {
+    /// Nothing more has come yet.
+    Quiet,
+    /// The connection is over; and the decision that was not confirmed on it.
+    Lost(Option<Outstanding>),
+}
+
+/// Why a turn stopped.
+#[derive(Clone, Copy, Debug, PartialEq, Eq, Error)]
+pub enum ExchangeFault {
+    /// What was to be printed could not be written.
+    #[error("output")]
+    Output,
+}
+
+impl From<ExchangeFault> for EngineFault {
+    ghost use Rattle.fibs_show.specs.declared.fault.EngineFault.TheVariants.{Device};
+
+    ghost from_gives = { λ _ e. e ≡ Device };
+
+    fn from(_fault: ExchangeFault) -> EngineFault {
+        EngineFault::Device
+    }
+}
+
+/// The connection is over.
+pub fn end_connection<W: Write>(client: &mut Client, out: &mut W) -> Result<Ending, ExchangeFault>
+    ensures ended { IfOk result (λ e. (p : Progress) → (t : Talk) → StandsAfter client.old t →
+        (wrote : Option (List ℕ)) → (players : List MessageValue) →
+        Ended p t client.new (outside wrote (W.contents out.old) players)
+        (outside wrote (W.contents out.new) players) e) }
+    ensures lost { (t : Talk) → StandsAfter client.old t → StandsAfter client.new (step t Lose).talk }
+{
+    let waited = client.lose();
+    match &waited {
+        None => print_line(b"lost", b"", out)?,
+        Some(asked) => print_line(b"lost ", text_bytes(&asked_command(asked)), out)?,
+    }
+    Ok(Ending::Lost(waited))
+}
+
+/// Whether a read gave nothing because nothing has come yet. Each other error of a read ends the connection.
+fn is_quiet(error: &io::Error) -> bool
+    ensures { IsTrue result
+        ↔ ((error_kind error.now ≡ ErrorKind.WouldBlock) ⊎ (error_kind error.now ≡ ErrorKind.TimedOut)) }
+{
+    matches!(error.kind(), ErrorKind::WouldBlock | ErrorKind::TimedOut)
+}
+
+/// Hears what the stream gives, until it is quiet.
+fn listen<S: Link, W: Write>(
+    client: &mut Client,
+    directory: &mut Directory,
+    stream: &mut S,
+    out: &mut W,
+) -> Result<Ending, ExchangeFault>
+    ensures turned { IfOk result (λ e. (t : Talk) → StandsAfter client.old t → is_online t ≡ true →
+        Turned t client.new None (S.remaining stream.old) (S.remaining stream.new)
+        (outside (S.contents stream.old) (W.contents out.old) directory.old)
+        (outside (S.contents stream.new) (W.contents out.new) directory.new) e) }
+    ensures stopped { OnErr result ((t : Talk) → StandsAfter client.old t → is_online t ≡ true →
+        Stopped t client.new None (S.remaining stream.old) (S.remaining stream.new)
+        (S.contents stream.old) (S.contents stream.new)) }
+    ensures few { LostAtMost turn_limit (S.remaining stream.old) (S.remaining stream.new) }
+{
+    listen_portions(client, directory, stream, out, MAX_READS, &mut [0; PORTION])
+}
+
+/// The same with at most so many reads, each of at most as many bytes as `portion` has room for.
+fn listen_portions<S: Link, W: Write>(
+    client: &mut Client,
+    directory: &mut Directory,
+    stream: &mut S,
+    out: &mut W,
+    reads: u32,
+    portion: &mut [u8],
+) -> Result<Ending, ExchangeFault>
+    ensures turned { IfOk result (λ e. (t : Talk) → StandsAfter client.old t → is_online t ≡ true →
+        Turned t client.new None (S.remaining stream.old) (S.remaining stream.new)
+        (outside (S.contents stream.old) (W.contents out.old) directory.old)
+        (outside (S.contents stream.new) (W.contents out.new) directory.new) e) }
+    ensures stopped { OnErr result ((t : Talk) → StandsAfter client.old t → is_online t ≡ true →
+        Stopped t client.new None (S.remaining stream.old) (S.remaining stream.new)
+        (S.contents stream.old) (S.contents stream.new)) }
+    ensures few { LostAtMost (reads * length portion.old) (S.remaining stream.old) (S.remaining stream.new) }
+{
+    fibs_session::client::laws::pieces_join();
+    fibs_session::client::laws::empty_piece_is_nothing();
+    fibs_lines::laws::lines_only_grow();
+    for made in 0..reads {
+        out.flush().map_err(|_| ExchangeFault::Output)?;
+        let count = match stream.receive(portion) {
+            Ok(0) => return end_connection(client, out),
+            Ok(count) => count,
+            Err(error) if is_quiet(&error) => return Ok(Ending::Quiet),
+            Err(_) => return end_connection(client, out),
+        };
+        match hear_portion(client, directory, &portion[..count], stream, out)? {
+            Progress::Whole => {}
+            Progress::Broken => return end_connection(client, out),
+        }
+    }
+    Ok(Ending::Quiet)
+}
+
+/// Does what was typed, and hears the stream.
+fn talk<S: Link, W: Write>(
+    client: &mut Client,
+    directory: &mut Directory,
+    stream: &mut S,
+    typed: Option<&[u8]>,
+    out: &mut W,
+) -> Result<Ending, ExchangeFault>
+    ensures turned { IfOk result (λ e. (t : Talk) → StandsAfter client.old t → is_online t ≡ true →
+        Turned t client.new (bytes_of typed.entry) (S.remaining stream.old) (S.remaining stream.new)
+        (outside (S.contents stream.old) (W.contents out.old) directory.old)
+        (outside (S.contents stream.new) (W.contents out.new) directory.new) e) }
+    ensures stopped { OnErr result ((t : Talk) → StandsAfter client.old t → is_online t ≡ true →
+        Stopped t client.new (bytes_of typed.entry) (S.remaining stream.old) (S.remaining stream.new)
+        (S.contents stream.old) (S.contents stream.new)) }
+    ensures few { LostAtMost turn_limit (S.remaining stream.old) (S.remaining stream.new) }
+{
+    fibs_session::client::laws::empty_piece_is_nothing();
+    match typed {
+        None => listen(client, directory, stream, out),
+        Some(text) => match type_line(client, text, stream, out)? {
+            Progress::Whole => listen(client, directory, stream, out),
+            Progress::Broken => end_connection(client, out),
+        },
+    }
+}
+
+/// Answers what was typed offline.
+fn talk_offline<W: Write>(
+    client: &mut Client,
+    typed: Option<&[u8]>,
+    out: &mut W,
+) -> Result<Ending, ExchangeFault>
+    requires { FitsStream client.old false }
+    ensures turned { IfOk result (λ e. (t : Talk) → StandsAfter client.old t → is_online t ≡ false →
+        (players : List MessageValue) →
+        Turned t client.new (bytes_of typed.entry) None None
+        (outside None (W.contents out.old) players) (outside None (W.contents out.new) players) e) }
+    ensures stopped { OnErr result ((t : Talk) → StandsAfter client.old t → is_online t ≡ false →
+        Stopped t client.new (bytes_of typed.entry) None None None None) }
+{
+    fibs_session::client::laws::empty_piece_is_nothing();
+    match typed {
+        None => Ok(Ending::Quiet),
+        Some(text) => {
+            type_offline(client, text, out)?;
+            Ok(Ending::Quiet)
+        }
+    }
+}
+
+/// One turn of a client with its stream: the typed line is answered, and then what the server sends is heard, until a
+/// read would wait or timed out (`Quiet`), or the connection is over (`Lost`). It reads at most 4096 times, at most
+/// 1024 bytes at once.
+///
+/// A stream is given exactly where the client is online; without one nothing is read. A typed line is a decision in the
+/// place numbers of the board shown, else a plain command. For each line the commands that it calls for are written
+/// first, then it is printed, then the directory is told. Only the directory takes memory: what it refuses is printed.
+///
+/// Errors: `Output` where what is printed can't be written. The client is then as after its last finished call: it made
+/// the typed call, then it was fed what was read, all of it or up to the end of the line that is not printed, and then
+/// it lost its connection, where that is what is not printed. The commands of these calls are written.
+pub fn exchange<S: Link, W: Write>(
+    client: &mut Client,
+    directory: &mut Directory,
+    stream: Option<&mut S>,
+    typed: Option<&[u8]>,
+    out: &mut W,
+) -> Result<Ending, ExchangeFault>
+    requires { FitsStream client.old (is_there stream) }
+    ensures next { IfOk result (λ e. FitsStream client.new (still_given e (is_there stream.entry))) }
+    ensures turned { IfOk result (λ e. (t : Talk) → StandsAfter client.old t → is_online t ≡ is_there stream.entry →
+        Turned t client.new (bytes_of typed.entry)
+        (known_before S.remaining stream.entry) (known_after S.remaining stream.exit)
+        (outside (known_before S.contents stream.entry) (W.contents out.old) directory.old)
+        (outside (known_after S.contents stream.exit) (W.contents out.new) directory.new) e) }
+    ensures stopped { OnErr result ((t : Talk) → StandsAfter client.old t → is_online t ≡ is_there stream.entry →
+        Stopped t client.new (bytes_of typed.entry)
+        (known_before S.remaining stream.entry) (known_after S.remaining stream.exit)
+        (known_before S.contents stream.entry) (known_after S.contents stream.exit)) }
+    ensures few { LostAtMost turn_limit (known_before S.remaining stream.entry) (known_after S.remaining stream.exit) }
+{
+    match stream {
+        None => talk_offline(client, typed, out),
+        Some(stream) => talk(client, directory, stream, typed, out),
+    }
+}

@@ -1,0 +1,577 @@
+//! Turns of a client with a stream in memory.
+use super::seat::{Kind, Seat, is_made_of, kind_of, opened};
+use fibs_exchange::exchange::link::Link;
+use fibs_exchange::exchange::{Ending, ExchangeFault, exchange};
+use fibs_messages::{Reading, read as read_line};
+use fibs_session::{Client, Directory, Login};
+use fibs_test_tools::devices::FailsOnce;
+use fibs_test_tools::pipe::{After, FAULT, Pipe, QUIET};
+use fibs_test_tools::text::{Text, joined, text_of};
+use std::io;
+use std::io::{ErrorKind, Read, Write};
+use std::process::Abort;
+
+const END: &[u8] = b"\r\n";
+
+const LF: &[u8] = b"\n";
+
+const WELCOME: &[u8] = b"1 ann 1041253132 localhost";
+
+const INFO: &[u8] = b"2 ann 1 1 0 0 0 0 1 1 10 0 1 0 1 1500.00 0 0 0 0 0 UTC";
+
+/// The same with autoboard off.
+const INFO_WITHOUT_BOARDS: &[u8] = b"2 ann 1 0 0 0 0 0 1 1 10 0 1 0 1 1500.00 0 0 0 0 0 UTC";
+
+const PLAYER: &[u8] =
+    b"5 someplayer mgnu_advanced - 0 0 1912.15 827 8 1040515752 192.168.143.5 3DFiBs -";
+
+/// A board up to its turn, and what follows where the user is to roll, and after the roll of 6 and 2.
+const BOARD: &[u8] = b"board:You:bob:3:0:1:0:-2:0:0:0:0:5:0:3:0:0:0:-5:5:0:0:0:-3:0:-5:0:0:0:0:2:0";
+
+const TO_ROLL: &[u8] = b":1:0:0:0:0:1:1:1:0:1:-1:0:25:0:0:0:0:0:0:0:0";
+
+const ROLLED: &[u8] = b":1:6:2:0:0:1:1:1:0:1:-1:0:25:0:0:0:0:0:0:0:0";
+
+/// The first board of a match, after the roll of 6 and 2.
+const OPENING: &[u8] =
+    b"board:You:someplayer:3:0:1:0:-2:0:0:0:0:5:0:3:0:0:0:-5:5:0:0:0:-3:0:-5:0:0:0:0:2:0\
+    :1:6:2:0:0:1:1:1:0:1:-1:0:25:0:0:0:0:2:0:0:0";
+
+/// The board of one who goes up, with dice 3 and 3.
+const GOING_UP: &[u8] = b"board:You:bob:5:0:0:0:0:0:0:0:-1:0:0:0:0:0:0:0:0:0:0:0:2:0:0:0:0:0:0:0:0\
+    :-1:3:3:0:0:1:1:1:0:-1:1:25:0:14:13:0:0:3:0:0:0";
+
+/// A board of a game that is watched.
+const WATCHED: &[u8] =
+    b"board:ann:bob:3:0:1:0:-2:0:0:0:0:5:0:3:0:0:0:-5:5:0:0:0:-3:0:-5:0:0:0:0:2:0";
+
+/// What the server sends until the client is ready, what is sent then, and what is printed.
+const READY: &[u8] = b"1 ann 1041253132 localhost\r\n\
+    2 ann 1 1 0 0 0 0 1 1 10 0 1 0 1 1500.00 0 0 0 0 0 UTC\r\n\
+    board:You:bob:3:0:1:0:-2:0:0:0:0:5:0:3:0:0:0:-5:5:0:0:0:-3:0:-5:0:0:0:0:2:0\
+    :1:0:0:0:0:1:1:1:0:1:-1:0:25:0:0:0:0:0:0:0:0\r\n";
+
+const SENT: &[u8] = b"set boardstyle 3\r\nboard\r\n";
+
+const PRINTED: &[u8] = b"message 1 ann 1041253132 localhost\n\
+    message 2 ann 1 1 0 0 0 0 1 1 10 0 1 0 1 1500.00 0 0 0 0 0 UTC\n\
+    board:You:bob:3:0:1:0:-2:0:0:0:0:5:0:3:0:0:0:-5:5:0:0:0:-3:0:-5:0:0:0:0:2:0\
+    :1:0:0:0:0:1:1:1:0:1:-1:0:25:0:0:0:0:0:0:0:0\n\
+    phase RollOrDouble\n";
+
+/// What the server sends, what is sent to it, and what is printed.
+static ANSWERED: [(&str, &[&[u8]], &[u8], &[&[u8]]); 7] = [
+    (
+        "a welcome",
+        &[WELCOME, END],
+        b"set boardstyle 3\r\n",
+        &[b"message ", WELCOME, LF],
+    ),
+    (
+        "no boards by themselves",
+        &[WELCOME, END, INFO_WITHOUT_BOARDS, END],
+        b"set boardstyle 3\r\ntoggle autoboard\r\nboard\r\n",
+        &[
+            b"message ",
+            WELCOME,
+            LF,
+            b"message ",
+            INFO_WITHOUT_BOARDS,
+            LF,
+        ],
+    ),
+    ("a board of one who plays", &[READY], SENT, &[PRINTED]),
+    (
+        "a board of a game that is watched",
+        &[WATCHED, TO_ROLL, END],
+        b"",
+        &[WATCHED, TO_ROLL, LF],
+    ),
+    (
+        "lines of other kinds",
+        &[b"5 bob\r\n3 x\r\n05 x\r\n\r\na\x1b\\\r\n> hi\r\r\n"],
+        b"",
+        &[
+            b"malformed 5 2 Missing\nmalformed 3 1 Extra\ntext 05 x\ntext \ntext a\\x1b\\x5c\ntext hi\\x0d\n",
+        ],
+    ),
+    (
+        "a message as it was spelled",
+        &[b"5 bob - - 1 0 1500 0 3 1040515752 host - -  \r\n"],
+        b"",
+        &[b"message 5 bob - - 1 0 1500 0 3 1040515752 host - -  \n"],
+    ),
+    (
+        "a board after a telnet command that looks like a line end",
+        &[b"12 eve hi\xff\xfb\n", BOARD, TO_ROLL, END],
+        b"",
+        &[b"message 12 eve hi", BOARD, TO_ROLL, LF],
+    ),
+];
+
+#[test]
+fn lines_are_answered_and_printed(rt: HostRuntime) {
+    for (name, parts, sent, printed) in &ANSWERED {
+        for most in [1, 2, 7, 1000] {
+            for after in [QUIET, After::Fails(ErrorKind::TimedOut)] {
+                let mut seat = Seat::open(&rt, most);
+                seat.turn_to(&rt, Kind::Quiet, None, parts, after, 4096);
+                seat.assert_did(&rt, name, &[sent], printed);
+            }
+        }
+    }
+}
+
+/// What the server sends, and what is sent and printed where then `roll` is typed.
+static NOT_SHOWN: [(&str, &[&[u8]], &[u8], &[&[u8]]); 2] = [
+    (
+        "a board that is shouted",
+        &[WELCOME, END, INFO, END, b"13 eve ", BOARD, TO_ROLL, END],
+        SENT,
+        &[
+            b"message ",
+            WELCOME,
+            LF,
+            b"message ",
+            INFO,
+            LF,
+            b"message 13 eve ",
+            BOARD,
+            TO_ROLL,
+            LF,
+            b"refused 5 NoBoard\n",
+        ],
+    ),
+    (
+        "a board after a return",
+        &[b"12 eve hi\r", BOARD, TO_ROLL, END],
+        b"",
+        &[
+            b"message 12 eve hi\\x0d",
+            BOARD,
+            TO_ROLL,
+            LF,
+            b"refused 3 NotReady\n",
+        ],
+    ),
+];
+
+/// A board that is within another line is not shown, so that nothing can be decided on it.
+#[test]
+fn a_board_within_a_line_is_not_shown(rt: HostRuntime) {
+    for (name, parts, sent, printed) in &NOT_SHOWN {
+        for most in [1, 2, 7, 1000] {
+            let mut seat = Seat::open(&rt, most);
+            seat.hears(&rt, parts);
+            seat.types(&rt, b"roll", &[]);
+            seat.assert_did(&rt, name, &[sent], printed);
+        }
+    }
+}
+
+#[test]
+fn a_line_may_come_in_three_turns(rt: HostRuntime) {
+    let mut seat = Seat::open(&rt, 1000);
+    seat.hears(&rt, &[b"1 ann 10412"]);
+    seat.hears(&rt, &[b"53132 local"]);
+    seat.hears(&rt, &[b"host\r\n"]);
+    seat.assert_did(
+        &rt,
+        "a line in three turns",
+        &[b"set boardstyle 3\r\n"],
+        &[b"message 1 ann 1041253132 localhost\n"],
+    );
+}
+
+/// What is typed, the command that is sent, and the answer.
+static TYPED: [(&[u8], &[u8], &[u8]); 16] = [
+    (b"dance", b"", b"unknown\n"),
+    (b"", b"", b"unknown\n"),
+    (b"roll ", b"", b"unknown\n"),
+    (b"\xff\x00", b"", b"unknown\n"),
+    (b"roll", b"roll\r\n", b"sent roll\n"),
+    (b"double", b"double\r\n", b"sent double\n"),
+    (b"accept", b"", b"refused 8 WrongKind\n"),
+    (b"move 24-18", b"", b"refused 8 WrongKind\n"),
+    (b"who", b"who\r\n", b"sent who\n"),
+    (b"board", b"board\r\n", b"sent board\n"),
+    (b"tell bob hi", b"tell bob hi\r\n", b"sent tell bob hi\n"),
+    (b"tell b:b hi", b"", b"fault 1 BadName\n"),
+    (b"say ", b"", b"fault 2 BadText\n"),
+    (b"invite bob 5", b"invite bob 5\r\n", b"sent invite bob 5\n"),
+    (b"toggle automove", b"", b"refused 10 NotOn\n"),
+    (b"bye", b"bye\r\n", b"sent bye\n"),
+];
+
+#[test]
+fn typed_lines_are_answered(rt: HostRuntime) {
+    for (typed, command, answer) in &TYPED {
+        for most in [1, 2, 7, 1000] {
+            let mut seat = Seat::open(&rt, most);
+            seat.hears(&rt, &[READY]);
+            seat.types(&rt, typed, &[]);
+            seat.assert_did(&rt, "a typed line", &[SENT, command], &[PRINTED, answer]);
+        }
+    }
+}
+
+#[test]
+fn a_decision_waits_for_its_board(rt: HostRuntime) {
+    let answers: &[&[u8]] = &[
+        PRINTED,
+        b"sent roll\n",
+        BOARD,
+        TO_ROLL,
+        b"\nphase RollOrDouble\nrefused 6 Waiting\n",
+        BOARD,
+        ROLLED,
+        b"\nphase Move\nconfirmed roll\n",
+    ];
+    for most in [1, 2, 7, 1000] {
+        let mut seat = Seat::open(&rt, most);
+        seat.hears(&rt, &[READY]);
+        seat.types(&rt, b"roll", &[BOARD, TO_ROLL, END]);
+        seat.types(&rt, b"roll", &[BOARD, ROLLED, END]);
+        seat.assert_did(
+            &rt,
+            "a decision that is confirmed",
+            &[SENT, b"roll\r\n"],
+            answers,
+        );
+    }
+}
+
+#[test]
+fn a_decision_that_waits_is_lost_with_its_connection(rt: HostRuntime) {
+    for after in [After::End, FAULT] {
+        let mut seat = Seat::open(&rt, 7);
+        seat.hears(&rt, &[READY]);
+        seat.turn_to(&rt, Kind::LostWaiting, Some(b"roll"), &[], after, 4096);
+        seat.assert_did(
+            &rt,
+            "a decision that is lost",
+            &[SENT, b"roll\r\n"],
+            &[PRINTED, b"sent roll\nlost roll\n"],
+        );
+    }
+}
+
+/// A play that is typed, how the turn ends, and what is sent and printed.
+static PLAYS: [(&[u8], Kind, &[u8], &[u8]); 2] = [
+    (
+        b"move 5-8 8-11 11-14",
+        Kind::LostWaiting,
+        b"set boardstyle 3\r\nboard\r\nmove 5-8 8-11 11-14\r\n",
+        b"\nphase Move\nsent move 5-8 8-11 11-14\nlost move 5-8 8-11 11-14\n",
+    ),
+    (
+        b"move 20-17 17-14 14-11",
+        Kind::Lost,
+        SENT,
+        b"\nphase Move\nrefused 9 IllegalPlay\nlost\n",
+    ),
+];
+
+/// Plays are typed and printed in the place numbers of the board shown, here that of one who goes up.
+#[test]
+fn plays_are_in_the_numbers_of_the_board(rt: HostRuntime) {
+    for (typed, kind, sent, answer) in &PLAYS {
+        let printed = [
+            b"message ",
+            WELCOME,
+            LF,
+            b"message ",
+            INFO,
+            LF,
+            GOING_UP,
+            answer,
+        ];
+        for most in [1, 2, 7, 1000] {
+            let mut seat = Seat::open(&rt, most);
+            seat.hears(&rt, &[WELCOME, END, INFO, END, GOING_UP, END]);
+            seat.turn_to(&rt, *kind, Some(typed), &[], FAULT, 4096);
+            seat.assert_did(&rt, "a play", &[sent], &printed);
+        }
+    }
+}
+
+/// The stream fails after each byte of what is sent: what went out is a front, and the lines before are printed.
+#[test]
+fn each_write_that_fails_ends_the_connection(rt: HostRuntime) {
+    let wanted: &[u8] = b"set boardstyle 3\r\ntoggle autoboard\r\nboard\r\n";
+    let input: &[&[u8]] = &[WELCOME, END, INFO_WITHOUT_BOARDS, END];
+    for room in 0..wanted.len() {
+        let mut seat = Seat::open(&rt, 1000);
+        seat.turn_to(&rt, Kind::Lost, None, input, QUIET, room);
+        let printed: &[&[u8]] = if room < 18 {
+            &[b"lost\n"]
+        } else {
+            &[b"message ", WELCOME, b"\nlost\n"]
+        };
+        seat.assert_did(&rt, "a write that fails", &[&wanted[..room]], printed);
+    }
+}
+
+/// The stream fails after each byte of a decision: it is lost, and nothing says that it was sent.
+#[test]
+fn a_decision_that_is_not_written_is_lost(rt: HostRuntime) {
+    for sent in [b"".as_slice(), b"r", b"ro", b"rol", b"roll", b"roll\r"] {
+        let mut seat = Seat::open(&rt, 1000);
+        seat.hears(&rt, &[READY]);
+        seat.turn_to(
+            &rt,
+            Kind::LostWaiting,
+            Some(b"roll"),
+            &[],
+            QUIET,
+            sent.len(),
+        );
+        seat.assert_did(
+            &rt,
+            "a decision not written",
+            &[SENT, sent],
+            &[PRINTED, b"lost roll\n"],
+        );
+    }
+}
+
+/// The stream ends, or a read fails, after each byte of a line.
+#[test]
+fn each_read_that_fails_ends_the_connection(rt: HostRuntime) {
+    for line in [WELCOME, INFO, OPENING, PLAYER] {
+        for length in 0..line.len() + 1 {
+            for after in [After::End, FAULT] {
+                let mut seat = Seat::open(&rt, 7);
+                seat.turn_to(&rt, Kind::Lost, None, &[&line[..length]], after, 4096);
+                seat.assert_did(&rt, "a line that is cut off", &[], &[b"lost\n"]);
+            }
+        }
+    }
+}
+
+/// The kind of a read's error, how the turn ends, and what is printed.
+static READ_ERRORS: [(ErrorKind, Kind, &[u8]); 6] = [
+    (ErrorKind::WouldBlock, Kind::Quiet, b"text hi\n"),
+    (ErrorKind::TimedOut, Kind::Quiet, b"text hi\n"),
+    (ErrorKind::NotConnected, Kind::Lost, b"text hi\nlost\n"),
+    (ErrorKind::ConnectionAborted, Kind::Lost, b"text hi\nlost\n"),
+    (ErrorKind::ConnectionReset, Kind::Lost, b"text hi\nlost\n"),
+    (ErrorKind::Interrupted, Kind::Lost, b"text hi\nlost\n"),
+];
+
+/// Where a read would wait or timed out there is nothing more yet. Each other error ends the connection.
+#[test]
+fn errors_of_reads_are_told_apart(rt: HostRuntime) {
+    for (error, kind, printed) in &READ_ERRORS {
+        let mut seat = Seat::open(&rt, 7);
+        let after = After::Fails(*error);
+        seat.turn_to(&rt, *kind, None, &[b"hi\r\n"], after, 4096);
+        seat.assert_did(&rt, "a read that fails", &[], &[printed]);
+    }
+}
+
+/// Whether a turn up to the first board fails where so many bytes may be printed, what is printed, and whether the client
+/// shows a board then.
+fn printed_into(rt: &(impl Abort + AllocGlobal), room: usize) -> (bool, Text, bool) {
+    let mut client = opened(rt);
+    let mut directory = Directory::new(rt.alloc());
+    let mut pipe = Pipe::new(READY, 1000, QUIET, 100);
+    let mut out = Pipe::new(b"", 1, After::End, room);
+    let outcome = exchange(&mut client, &mut directory, Some(&mut pipe), None, &mut out);
+    let failed = matches!(outcome, Err(ExchangeFault::Output));
+    (failed, text_of(out.output()), client.shown().is_some())
+}
+
+/// The writer of the printed lines fails after each byte. The client has heard the lines up to the one that fails, so
+/// that it shows the board where the lines before it were printed.
+#[test]
+fn each_print_that_fails_stops_the_turn(rt: HostRuntime) {
+    let before = WELCOME.len() + INFO.len() + 2 * b"message \n".len();
+    for room in 0..PRINTED.len() + 1 {
+        let (failed, printed, shows) = printed_into(&rt, room);
+        assert_eq!(rt; failed, room < PRINTED.len(), "at {room}");
+        assert_eq!(rt; printed.as_slice(), &PRINTED[..room], "at {room}");
+        assert_eq!(rt; shows, before <= room, "at {room}");
+    }
+}
+
+/// These bytes, so many times.
+fn repeated(bytes: &[u8], times: usize) -> Text {
+    let mut text = Text::new();
+    for _ in 0..times {
+        let _fits = text.try_extend_from_slice(bytes);
+    }
+    text
+}
+
+/// A line of which only the front is kept is no board.
+#[test]
+fn a_line_that_is_too_long_is_cut(rt: HostRuntime) {
+    let prompts = repeated(b"> ", 2048);
+    let mut seat = Seat::open(&rt, 1000);
+    seat.hears(&rt, &[&prompts, BOARD, TO_ROLL, END]);
+    seat.assert_did(&rt, "a line that is cut", &[], &[b"cut \n"]);
+    assert!(rt; seat.client.shown().is_none(), "no board is shown");
+}
+
+/// After 4096 reads a turn is over, though there is more to read.
+#[test]
+fn a_turn_reads_4096_times(rt: HostRuntime) {
+    let line = repeated(b"a", 4095);
+    let input = joined(&[&line, b"\nhi\n"]);
+    let mut seat = Seat::open(&rt, 1);
+    let mut pipe = Pipe::new(&input, 1, After::End, 0);
+    match seat.turn_on(&rt, &mut pipe, None) {
+        Ending::Quiet => {}
+        Ending::Lost(_) => panic!(rt; "the turn goes on"),
+    }
+    seat.assert_did(&rt, "4096 bytes", &[], &[b"text ", &line, LF]);
+    let ending = seat.turn_on(&rt, &mut pipe, None);
+    assert!(rt; kind_of(&ending) == Kind::Lost);
+    seat.assert_did(
+        &rt,
+        "the rest",
+        &[],
+        &[b"text ", &line, b"\ntext hi\nlost\n"],
+    );
+}
+
+/// What is typed, and what is printed.
+static OFFLINE: [(Option<&[u8]>, &[u8]); 5] = [
+    (None, b""),
+    (Some(b"dance"), b"unknown\n"),
+    (Some(b"roll"), b"refused 2 Offline\n"),
+    (Some(b"say "), b"refused 2 Offline\n"),
+    (Some(b"toggle greedy"), b"refused 2 Offline\n"),
+];
+
+#[test]
+fn offline_nothing_is_sent(rt: HostRuntime) {
+    for (typed, printed) in &OFFLINE {
+        let login = Login::new(b"ann", b"secret").expect(&rt, "it is a login");
+        let mut client = Client::new(login);
+        let mut directory = Directory::new(rt.alloc());
+        let mut out = Pipe::new(b"", 1, After::End, 512);
+        let none: Option<&mut Pipe<'_>> = None;
+        let outcome = exchange(&mut client, &mut directory, none, *typed, &mut out);
+        let is_quiet = matches!(outcome, Ok(Ending::Quiet));
+        assert!(rt; is_quiet && out.output() == *printed, "{typed:?}");
+    }
+}
+
+/// Message 5 of a player whose name is a number.
+fn player_line(number: usize) -> Text {
+    let mut buffer = itoa::Buffer::new();
+    let name = buffer.format(number).as_bytes();
+    joined(&[b"5 p", name, b" - - 0 0 1500.00 0 0 0 host - -"])
+}
+
+/// A directory that holds as many players as it may.
+fn full_directory(rt: &(impl Abort + AllocGlobal)) -> Directory {
+    let mut directory = Directory::new(rt.alloc());
+    for number in 0..4096 {
+        let line = player_line(number);
+        match read_line(&line) {
+            Reading::Numbered(message) => directory.note(&message).expect(rt, "memory is ample"),
+            _ => panic!(rt; "it is a message"),
+        }
+    }
+    directory
+}
+
+#[test]
+fn a_directory_that_is_full_says_so(rt: HostRuntime) {
+    let mut seat = Seat::open(&rt, 1000);
+    seat.directory = full_directory(&rt);
+    seat.hears(
+        &rt,
+        &[b"5 p4096 - - 0 0 1500.00 0 0 0 host - -\r\n5 p7 - - 0 0 1500.00 0 0 0 host - -\r\n"],
+    );
+    seat.assert_did(
+        &rt,
+        "a directory that is full",
+        &[],
+        &[
+            b"message 5 p4096 - - 0 0 1500.00 0 0 0 host - -\ndirectory 2 Full\n\
+            message 5 p7 - - 0 0 1500.00 0 0 0 host - -\n",
+        ],
+    );
+    assert_eq!(rt; seat.directory.len(), 4096);
+}
+
+/// A stream of which one write fails, and which takes bytes before and after it.
+#[derive(Drop)]
+struct Stumbles<'a> {
+    input: Pipe<'a>,
+    output: FailsOnce,
+}
+
+impl Read for Stumbles<'_> {
+    fn read(&mut self, buf: &mut [u8]) -> io::Result<usize> {
+        self.input.read(buf)
+    }
+}
+
+impl Write for Stumbles<'_> {
+    fn write(&mut self, buf: &[u8]) -> io::Result<usize> {
+        self.output.write(buf)
+    }
+
+    fn flush(&mut self) -> io::Result<()> {
+        self.output.flush()
+    }
+}
+
+impl Link for Stumbles<'_> {
+    fn receive(&mut self, buf: &mut [u8]) -> io::Result<usize> {
+        self.read(buf)
+    }
+
+    fn transmit(&mut self, buf: &[u8]) -> io::Result<usize> {
+        self.write(buf)
+    }
+}
+
+/// After a write that fails no other is made, though the stream would take it.
+#[test]
+fn nothing_is_sent_after_a_write_that_fails(rt: HostRuntime) {
+    let input = joined(&[WELCOME, END, INFO_WITHOUT_BOARDS, END]);
+    let writes: [&[u8]; 6] = [
+        b"set boardstyle 3",
+        END,
+        b"toggle autoboard",
+        END,
+        b"board",
+        END,
+    ];
+    for before in 0..writes.len() {
+        let mut client = opened(&rt);
+        let mut directory = Directory::new(rt.alloc());
+        let mut printed = Pipe::new(b"", 1, After::End, 512);
+        let mut stream = Stumbles {
+            input: Pipe::new(&input, 1000, QUIET, 0),
+            output: FailsOnce::new(before, 1000),
+        };
+        let outcome = exchange(
+            &mut client,
+            &mut directory,
+            Some(&mut stream),
+            None,
+            &mut printed,
+        );
+        let is_lost = matches!(outcome, Ok(Ending::Lost(None)));
+        let is_front = is_made_of(stream.output.output(), &writes[..before]);
+        let is_last = printed.output().ends_with(b"lost\n");
+        assert!(rt; is_lost && is_front && is_last, "after {before} writes");
+    }
+}
+
+/// A line whose bytes come one a turn.
+#[test]
+fn a_stream_may_wait_between_any_two_bytes(rt: HostRuntime) {
+    let mut seat = Seat::open(&rt, 1);
+    for at in 0..READY.len() {
+        seat.hears(&rt, &[&READY[at..at + 1]]);
+    }
+    seat.assert_did(&rt, "one byte a turn", &[SENT], &[PRINTED]);
+}

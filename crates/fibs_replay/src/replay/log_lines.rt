@@ -1,0 +1,168 @@
+//! The lines that are printed for the entries of the log.
+ghost use Rattle.std.specs.Prelude.{◌≡◌, ◌≤◌, ◌+◌, ◌++◌, ◌∷◌, length};
+ghost use Rattle.std.specs.Result.{result_err};
+ghost use Rattle.std.specs.Prelude.{option_map};
+ghost use Rattle.arrayvec.specs.ArrayVec.{array_vec_len};
+ghost use Rattle.fibs_boards.specs.Board.{spelling};
+ghost use Rattle.fibs_boards.specs.StoredBoard.{fields_of};
+ghost use Rattle.fibs_position.specs.DecisionValue.{decision_of};
+ghost use Rattle.fibs_session.specs.Calls.SessionOf.{ask_of};
+ghost use Rattle.fibs_model.specs.EntryOf.{entry_of};
+ghost use Rattle.fibs_exchange.specs.Turns.Acts.{line_bytes};
+ghost use Rattle.fibs_replay.specs.Replay.LogLines.{answer_text, ask_text, entry_line, flag_text, of_connection};
+ghost use Rattle.fibs_replay.specs.Replay.LogLines.{unconfirmed_text};
+
+use arrayvec::ArrayVec;
+use fibs_exchange::exchange::printing::direction_of;
+use fibs_messages::Board;
+use fibs_model::Entry;
+use fibs_position::Decision;
+use fibs_session::{Outstanding, Refusal, decision_text};
+use fibs_show::printing::fixed::append;
+use itoa::Buffer;
+
+/// Text on its way to a writer: as much as is written at once.
+pub type Portion = ArrayVec<u8, 8192>;
+
+/// The most bytes of an entry's line, with its end.
+pub const ENTRY_LEN: usize = 417;
+
+/// Appends a word and the number of a connection.
+fn append_connection(text: &mut Portion, word: &[u8], conn: usize)
+    requires { array_vec_len text.old + length word.now + 41 ≤ 8192 }
+    ensures text { text.new.items ≡ text.old.items ++ of_connection word.now conn }
+    ensures short { array_vec_len text.new ≤ array_vec_len text.old + length word.now + 41 }
+{
+    append(text, word);
+    text.push(b' ');
+    append(text, Buffer::new().format(conn).as_bytes());
+}
+
+/// Appends whether the server does something by itself, behind a space.
+fn append_flag(text: &mut Portion, flag: bool)
+    requires { array_vec_len text.old + 2 ≤ 8192 }
+    ensures text { text.new.items ≡ text.old.items ++ (32 ∷ flag_text flag) }
+    ensures short { array_vec_len text.new ≡ array_vec_len text.old + 2 }
+{
+    text.push(b' ');
+    text.push(if flag { b'1' } else { b'0' });
+}
+
+/// Appends a board, behind a space.
+fn append_board(text: &mut Portion, board: &Board)
+    requires { array_vec_len text.old + 330 ≤ 8192 }
+    ensures text { text.new.items ≡ text.old.items ++ (32 ∷ spelling (fields_of board.now)) }
+    ensures short { array_vec_len text.new ≤ array_vec_len text.old + 330 }
+{
+    text.push(b' ');
+    append(text, board.print().as_slice());
+}
+
+/// Appends a board, and the command of what was decided on it, in its numbers, behind a space.
+fn append_ask(text: &mut Portion, board: &Board, decision: &Decision)
+    requires { array_vec_len text.old + 367 ≤ 8192 }
+    ensures text { text.new.items ≡ text.old.items ++ (32 ∷ ask_text (fields_of board.now, decision_of decision.now)) }
+    ensures short { array_vec_len text.new ≤ array_vec_len text.old + 367 }
+{
+    fibs_session::laws::commands_are_short();
+    fibs_position::laws::decisions_are_valid();
+    append_board(text, board);
+    text.push(b' ');
+    append(
+        text,
+        decision_text(decision, direction_of(board)).as_bytes(),
+    );
+}
+
+/// Appends the answer to a click, behind a space.
+fn append_answer(text: &mut Portion, answer: Result<(), Refusal>)
+    requires { array_vec_len text.old + 12 ≤ 8192 }
+    ensures text { text.new.items ≡ text.old.items ++ (32 ∷ answer_text (result_err answer)) }
+    ensures short { array_vec_len text.new ≤ array_vec_len text.old + 12 }
+{
+    text.push(b' ');
+    match answer {
+        Ok(()) => append(text, b"ok"),
+        Err(why) => append(text, why.name().as_bytes()),
+    }
+}
+
+/// Appends what was unconfirmed, behind a space.
+fn append_unconfirmed(text: &mut Portion, unconfirmed: &Option<Outstanding>)
+    requires { array_vec_len text.old + 367 ≤ 8192 }
+    ensures text { text.new.items ≡ text.old.items ++ unconfirmed_text (option_map ask_of unconfirmed.now) }
+    ensures short { array_vec_len text.new ≤ array_vec_len text.old + 367 }
+{
+    match unconfirmed {
+        None => {}
+        Some(asked) => append_ask(text, &asked.board, &asked.decision),
+    }
+}
+
+/// Appends what an entry says, without a line end.
+#[tactic(auto, unfolding(crate::specs::Replay::LogLines::entry_line))]
+fn append_said(text: &mut Portion, entry: &Entry)
+    requires { array_vec_len text.old + 416 ≤ 8192 }
+    ensures text { text.new.items ≡ text.old.items ++ entry_line (entry_of entry.now) }
+    ensures short { array_vec_len text.new ≤ array_vec_len text.old + 416 }
+{
+    match entry {
+        Entry::Opened { conn } => append_connection(text, b"opened", *conn),
+        Entry::LoggedIn { conn } => append_connection(text, b"loggedin", *conn),
+        Entry::Welcomed { conn } => append_connection(text, b"welcomed", *conn),
+        Entry::Informed {
+            conn,
+            automove,
+            greedy,
+        } => {
+            append_connection(text, b"informed", *conn);
+            append_flag(text, *automove);
+            append_flag(text, *greedy);
+        }
+        Entry::Shown { conn, board } => {
+            append_connection(text, b"shown", *conn);
+            append_board(text, board);
+        }
+        Entry::Clicked { conn, answer, .. } => {
+            append_connection(text, b"clicked", *conn);
+            append_answer(text, *answer);
+        }
+        Entry::Sent {
+            conn,
+            board,
+            decision,
+        } => {
+            append_connection(text, b"sent", *conn);
+            append_ask(text, board, decision);
+        }
+        Entry::Took {
+            conn,
+            board,
+            decision,
+        } => {
+            append_connection(text, b"took", *conn);
+            append_ask(text, board, decision);
+        }
+        Entry::Undone {
+            conn,
+            board,
+            decision,
+        } => {
+            append_connection(text, b"undone", *conn);
+            append_ask(text, board, decision);
+        }
+        Entry::Lost { conn, unconfirmed } => {
+            append_connection(text, b"lost", *conn);
+            append_unconfirmed(text, unconfirmed);
+        }
+    }
+}
+
+/// Appends the line of an entry. It has at most 417 bytes.
+pub fn append_entry(text: &mut Portion, entry: &Entry)
+    requires { array_vec_len text.old + 417 ≤ 8192 }
+    ensures { text.new.items ≡ text.old.items ++ line_bytes (entry_line (entry_of entry.now)) }
+{
+    append_said(text, entry);
+    text.push(b'\n');
+}

@@ -1,0 +1,46 @@
+-- The lines of `fibs plays`.
+use Rattle.std.proofs.Common.{◌≡◌, ℕ, List, [], ◌∷◌, ◌++◌, ap, sym, ◌∙◌, append_assoc, arith, refl, subst, inl, inr}
+use Rattle.std.proofs.Common.{Result, Ok, Err, IsErrOf, MatchResult}
+use Rattle.std.specs.Prelude.{codes, decimal}
+use Rattle.std.proofs.lemmas.Fmt.{decimal_digit}
+use Rattle.fibs_boards.specs.Board.{BoardFields}
+use Rattle.fibs_messages.specs.Line.{ReadingValue, board_line}
+use Rattle.fibs_position.specs.First.{IsFirst}
+use Rattle.fibs_position.specs.GoodBoard.{IsGood, HasFault, faults}
+use Rattle.fibs_position.specs.declared.position_fault.PositionFault.{PositionFault}
+use Rattle.fibs_position.specs.declared.position_fault.PositionFault.TheVariants.{NotYou, TooManyOwn, TooManyOther}
+use Rattle.fibs_show.specs.Plays.{Refusal}
+use Rattle.fibs_show.specs.declared.fault.EngineFault.{EngineFault}
+use Rattle.fibs_show.specs.declared.fault.EngineFault.TheVariants.{Device, Memory}
+
+-- the parts of the line of a wrong field, one after another
+pub malformed_parts : (none front shown digits number space name whole : List ℕ) → none ≡ [] → front ≡ none ++ codes "malformed 0 "
+    → shown ≡ digits → number ≡ front ++ shown → space ≡ number ++ 32 ∷ [] → whole ≡ (space ++ name) ++ 10 ∷ []
+    → whole ≡ (codes "malformed " ++ (decimal 0 ++ (32 ∷ (digits ++ (32 ∷ name))))) ++ 10 ∷ []
+malformed_parts none front shown digits number space name whole e0 e1 e2 e3 e4 e5 =
+    e5 ∙ ap (λ l. (l ++ name) ++ 10 ∷ []) (e4 ∙ ap (λ l. l ++ 32 ∷ []) (e3 ∙ ap (λ l. front ++ l) e2 ∙ ap (λ l. l ++ digits) (e1 ∙ ap (λ l. l ++ codes "malformed 0 ") e0)))
+    ∙ rw (decimal_digit 0 (omega arith)) (simp append_assoc)
+
+-- the first that fits does fit
+first_fits : {X : Type 0} (fits : X → Type 0) (xs : List X) (x : X) → IsFirst fits xs x → fits x
+first_fits fits [] x first = absurd first
+first_fits fits (y ∷ ys) x first = elim first [ inl head ↦ subst fits (sym head.1) head.0 | inr later ↦ first_fits fits ys x later.1 ]
+
+-- a good board has no fault
+no_fault : (b : BoardFields) (fault : PositionFault) → IsGood b → HasFault b fault → ⊥
+no_fault b NotYou good fault = fault good.plays
+no_fault b TooManyOwn good fault = let few = good.own in omega arith
+no_fault b TooManyOther good fault = let few = good.other in omega arith
+
+-- and so it is not refused
+pub good_not_refused : (b : BoardFields) (reading : ReadingValue) (why : List ℕ) → reading ≡ board_line b → IsGood b → Refusal reading why → ⊥
+good_not_refused b reading why e good refusal =
+    let told = subst (λ r. Refusal r why) e refusal in
+    no_fault b told.0 good (first_fits (HasFault b) faults told.0 told.1)
+
+-- what answers a status or the fault of a device does not say that memory ran out
+pub device_alone : (r : Result ℕ EngineFault) (P : ℕ → Type 0) (Q : Type 0)
+    → MatchResult r P (λ fault. (fault ≡ Device) × Q) → IsErrOf r Memory → ⊥
+device_alone (Ok status) P Q told failed = cc
+device_alone (Err Device) P Q told failed = cc
+device_alone (Err Memory) P Q told failed = cc

@@ -1,0 +1,212 @@
+//! `fibs show`: prints what each line of a stream says.
+ghost use Rattle.std.specs.Prelude.{◌≡◌, ◌≤◌, ◌<◌, ◌*◌, ◌⊎◌, ◌++◌, ℕ, List, [], length, IfOk, OnOk, IfErr, IsErrOf};
+ghost use Rattle.std.specs.Prelude.{MatchResult};
+ghost use Rattle.std.specs.Io.KnownBytes.{Appends, IsAtEnd};
+ghost use Rattle.fibs_show.specs.Show.{unfinished_text, WroteAll, WroteRead, WroteLines, WroteLinesOf, WroteFront};
+ghost use Rattle.fibs_show.specs.Reads.{LostAtLeast, LostAtMost};
+ghost use Rattle.fibs_show.specs.Shows.{EndsText, Shows};
+ghost use Rattle.fibs_show.specs.Writing.{GainedFront};
+
+use crate::fault::EngineFault;
+use crate::printing::line::{append_line, append_number};
+use crate::writing::{Progress, write_bytes};
+use fibs_lines::{Lines, laws};
+use std::alloc::{AllocError, Global};
+use std::io::{Read, Write};
+
+/// The most times that a reader is asked for bytes.
+const MAX_READS: u32 = 1_000_000_000;
+
+/// How many bytes are asked for at once.
+const PORTION: usize = 1024;
+
+/// Why a stream was not shown to its end.
+#[derive(Clone, Copy, Debug, PartialEq, Eq)]
+pub enum StreamFault {
+    /// A read failed.
+    Reader,
+    /// The reader gave bytes each time that it was asked, as often as it may be.
+    Endless,
+    /// A write failed.
+    Writer,
+    /// Memory ran out.
+    Memory,
+}
+
+impl StreamFault {
+    /// What the engine answers.
+    fn engine_fault(self) -> EngineFault
+        ensures reader { self ≡ StreamFault.Reader → result ≡ EngineFault.Device }
+        ensures endless { self ≡ StreamFault.Endless → result ≡ EngineFault.Device }
+        ensures writer { self ≡ StreamFault.Writer → result ≡ EngineFault.Device }
+        ensures memory { self ≡ StreamFault.Memory → result ≡ EngineFault.Memory }
+    {
+        match self {
+            StreamFault::Reader | StreamFault::Endless | StreamFault::Writer => EngineFault::Device,
+            StreamFault::Memory => EngineFault::Memory,
+        }
+    }
+}
+
+impl From<AllocError> for StreamFault {
+    ghost use Rattle.fibs_show.specs.declared.show.StreamFault.TheVariants.{Memory};
+
+    ghost from_gives = { λ _ e. e ≡ Memory };
+
+    fn from(_error: AllocError) -> StreamFault {
+        StreamFault::Memory
+    }
+}
+
+/// Prints what each line that is read says, to the reader's end.
+///
+/// After a device's fault the writer has either all that is printed for the lines that were read, where the reader
+/// failed or did not end; or a front of what is printed for what was read, where the writer failed, and then nothing
+/// after it.
+pub fn show<R: Read, W: Write>(
+    alloc: Global,
+    reader: &mut R,
+    writer: &mut W,
+) -> Result<u8, EngineFault>
+    ensures status { IfOk result (λ status. status ≡ 0) }
+    ensures whole { OnOk result (WroteAll (R.remaining reader.old) (R.remaining reader.new)
+        (W.contents writer.old) (W.contents writer.new)) }
+    ensures end { OnOk result (IsAtEnd (R.remaining reader.new)) }
+    ensures device { IsErrOf result EngineFault.Device →
+        WroteRead (R.remaining reader.old) (R.remaining reader.new) (W.contents writer.old) (W.contents writer.new)
+        ⊎ WroteFront (R.remaining reader.old) (R.remaining reader.new) (W.contents writer.old) (W.contents writer.new) }
+    ensures memory { IsErrOf result EngineFault.Memory →
+        WroteLines (R.remaining reader.old) (R.remaining reader.new) (W.contents writer.old) (W.contents writer.new) }
+{
+    match show_stream(alloc, reader, writer) {
+        Ok(()) => Ok(0),
+        Err(fault) => Err(fault.engine_fault()),
+    }
+}
+
+/// The same, and it says what failed.
+pub fn show_stream<R: Read, W: Write>(
+    alloc: Global,
+    reader: &mut R,
+    writer: &mut W,
+) -> Result<(), StreamFault>
+    ensures whole { OnOk result (WroteAll (R.remaining reader.old) (R.remaining reader.new)
+        (W.contents writer.old) (W.contents writer.new)) }
+    ensures end { OnOk result (IsAtEnd (R.remaining reader.new)) }
+    ensures reader { IsErrOf result StreamFault.Reader →
+        WroteRead (R.remaining reader.old) (R.remaining reader.new) (W.contents writer.old) (W.contents writer.new) }
+    ensures endless { IsErrOf result StreamFault.Endless →
+        WroteRead (R.remaining reader.old) (R.remaining reader.new) (W.contents writer.old) (W.contents writer.new) }
+    ensures writer { IsErrOf result StreamFault.Writer →
+        WroteFront (R.remaining reader.old) (R.remaining reader.new) (W.contents writer.old) (W.contents writer.new) }
+    ensures memory { IsErrOf result StreamFault.Memory →
+        WroteLines (R.remaining reader.old) (R.remaining reader.new) (W.contents writer.old) (W.contents writer.new) }
+{
+    show_portions(alloc, MAX_READS, &mut [0; PORTION], reader, writer)
+}
+
+/// The same with at most so many reads, each of at most as many bytes as `portion` has room for.
+///
+/// It says `Endless` only where each of so many reads gave a byte.
+pub fn show_portions<R: Read, W: Write>(
+    alloc: Global,
+    reads: u32,
+    portion: &mut [u8],
+    reader: &mut R,
+    writer: &mut W,
+) -> Result<(), StreamFault>
+    requires { 0 < length portion.old }
+    ensures whole { OnOk result (WroteAll (R.remaining reader.old) (R.remaining reader.new)
+        (W.contents writer.old) (W.contents writer.new)) }
+    ensures end { OnOk result (IsAtEnd (R.remaining reader.new)) }
+    ensures reader { IsErrOf result StreamFault.Reader →
+        WroteRead (R.remaining reader.old) (R.remaining reader.new) (W.contents writer.old) (W.contents writer.new) }
+    ensures endless { IsErrOf result StreamFault.Endless →
+        WroteRead (R.remaining reader.old) (R.remaining reader.new) (W.contents writer.old) (W.contents writer.new) }
+    ensures writer { IsErrOf result StreamFault.Writer →
+        WroteFront (R.remaining reader.old) (R.remaining reader.new) (W.contents writer.old) (W.contents writer.new) }
+    ensures memory { IsErrOf result StreamFault.Memory → (s more : List ℕ) × (length more ≤ length portion.old)
+        × WroteLinesOf s more (R.remaining reader.old) (R.remaining reader.new)
+        (W.contents writer.old) (W.contents writer.new) }
+    ensures enough { IsErrOf result StreamFault.Endless
+        → LostAtLeast reads (R.remaining reader.old) (R.remaining reader.new) }
+    ensures few { LostAtMost (reads * length portion.old) (R.remaining reader.old) (R.remaining reader.new) }
+{
+    let mut lines = Lines::new();
+    let mut text = Vec::new(alloc);
+    laws::empty_stream_has_no_line();
+    for made in 0..reads {
+        let count = match reader.read(portion) {
+            Ok(0) => return finish(&lines, &mut text, writer),
+            Ok(count) => count,
+            Err(_) => return Err(StreamFault::Reader),
+        };
+        append_portion(alloc, &mut lines, &portion[..count], &mut text)?;
+        write_text(&text, writer)?;
+        text.clear();
+    }
+    Err(StreamFault::Endless)
+}
+
+/// Writes the whole text.
+fn write_text<W: Write>(text: &Vec<u8>, writer: &mut W) -> Result<(), StreamFault>
+    ensures { MatchResult result (λ _. Appends (W.contents writer.old) (W.contents writer.new) text.now.items)
+        (λ fault. (fault ≡ StreamFault.Writer)
+        × GainedFront (W.contents writer.old) (W.contents writer.new) text.now.items) }
+{
+    match write_bytes(text.as_slice(), writer) {
+        Progress::Whole => Ok(()),
+        Progress::Broken => Err(StreamFault::Writer),
+    }
+}
+
+/// Writes what is printed for the bytes after the last line end.
+fn finish<W: Write>(lines: &Lines, text: &mut Vec<u8>, writer: &mut W) -> Result<(), StreamFault>
+    requires { text.old.items ≡ [] }
+    ensures ok { OnOk result ((ending : List ℕ) × EndsText lines.now ending
+        × Appends (W.contents writer.old) (W.contents writer.new) ending) }
+    ensures writer { IsErrOf result StreamFault.Writer →
+        (ending : List ℕ) × EndsText lines.now ending
+        × GainedFront (W.contents writer.old) (W.contents writer.new) ending }
+    ensures memory { IsErrOf result StreamFault.Memory → W.contents writer.new ≡ W.contents writer.old }
+    ensures others { IfErr result (λ fault. (fault ≡ StreamFault.Writer) ⊎ (fault ≡ StreamFault.Memory)) }
+{
+    append_unfinished(lines.held(), text)?;
+    write_text(text, writer)
+}
+
+/// Appends how many bytes stand after the last line end, if some do.
+fn append_unfinished(held: usize, text: &mut Vec<u8>) -> Result<(), AllocError>
+    ensures { OnOk result (text.new.items ≡ text.old.items ++ unfinished_text held) }
+{
+    if held == 0 {
+        return Ok(());
+    }
+    text.extend_from_slice(b"unfinished ")?;
+    append_number(held, text)?;
+    text.push(b'\n')?;
+    Ok(())
+}
+
+/// Appends what is printed for each line that the portion ends.
+fn append_portion(
+    alloc: Global,
+    lines: &mut Lines,
+    portion: &[u8],
+    text: &mut Vec<u8>,
+) -> Result<(), AllocError>
+    ensures { OnOk result ((added : List ℕ) × (text.new.items ≡ text.old.items ++ added)
+        × Shows lines.old lines.new portion.now added) }
+{
+    let mut rest = portion;
+    while !rest.is_empty() {
+        let fed = lines.feed(rest);
+        let used = fed.used;
+        match fed.line {
+            Some(line) => append_line(alloc, &line, text)?,
+            None => {}
+        }
+        rest = &rest[used..];
+    }
+    Ok(())
+}

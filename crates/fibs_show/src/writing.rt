@@ -1,0 +1,29 @@
+//! Bytes that are written whole, or up to a write that fails.
+ghost use Rattle.fibs_show.specs.Writing.{Wrote};
+
+use std::io::Write;
+
+/// How far writing went.
+#[derive(Clone, Copy, Debug, PartialEq, Eq)]
+pub enum Progress {
+    /// All was written.
+    Whole,
+    /// A write failed, or took nothing, before all was written.
+    Broken,
+}
+
+/// Writes the bytes in order, and stops at a write that fails or takes nothing: what the writer gained is then a front
+/// of them. After a failed write it makes no other.
+pub fn write_bytes<W: Write>(bytes: &[u8], writer: &mut W) -> Progress
+    ensures { Wrote result (W.contents writer.old) (W.contents writer.new) bytes.now }
+{
+    let mut rest = bytes;
+    while !rest.is_empty() {
+        match writer.write(rest) {
+            Ok(0) => return Progress::Broken,
+            Ok(count) => rest = &rest[count..],
+            Err(_) => return Progress::Broken,
+        }
+    }
+    Progress::Whole
+}

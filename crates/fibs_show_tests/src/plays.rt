@@ -1,0 +1,311 @@
+//! The engine `plays`.
+use fibs_show::fault::EngineFault;
+use fibs_show::plays::plays;
+use fibs_test_tools::devices::FailsOnce;
+use fibs_test_tools::outcome::Outcome;
+use fibs_test_tools::pipe::{After, Pipe};
+use fibs_test_tools::text::text_of;
+use std::alloc::Global;
+
+/// A word of the command line, and what is printed for it.
+struct Case {
+    name: &'static str,
+    word: &'static [u8],
+    printed: &'static [u8],
+}
+
+/// What is printed for good boards.
+static PRINTED: [Case; 12] = [
+    Case {
+        name: "the larger die alone, since both can't be played",
+        word: b"board:You:bob:5:0:0:0:0:0:0:0:0:0:0:0:0:0:0:0:-2:0:0:0:0:0:0:0:0:0:0:1:0:1:6:5:0:0:1:1:1:0:1:-1:0:25:14:13:0:0:1:0:0:0",
+        printed: b"phase Move\nmove 24-18\n",
+    },
+    Case {
+        name: "one die",
+        word: b"board:You:bob:5:0:0:0:0:0:0:0:0:0:0:0:0:0:0:0:-2:0:0:0:0:0:0:0:0:0:0:1:0:1:6:0:0:0:1:1:1:0:1:-1:0:25:14:13:0:0:1:0:0:0",
+        printed: b"phase Move\nmove 24-18\n",
+    },
+    Case {
+        name: "two checkers borne off",
+        word: b"board:You:bob:5:0:0:0:0:1:1:0:0:0:0:0:0:0:0:0:-2:0:0:0:0:0:0:0:0:0:0:0:0:1:6:5:0:0:1:1:1:0:1:-1:0:25:13:13:0:0:2:0:0:0",
+        printed: b"phase Move\nmove 3-off 2-off\n",
+    },
+    Case {
+        name: "a checker on the bar that cannot enter",
+        word: b"board:You:bob:5:0:0:0:0:0:0:0:0:14:0:0:0:0:0:0:0:0:0:0:0:0:-2:-2:-2:-2:-2:-2:1:1:3:1:0:0:1:1:1:0:1:-1:0:25:0:3:1:0:0:0:0:0",
+        printed: b"phase Passing\n",
+    },
+    Case {
+        name: "three of four equal dice, going up",
+        word: b"board:You:bob:5:0:0:0:0:0:0:0:-1:0:0:0:0:0:0:0:0:0:0:0:2:0:0:0:0:0:0:0:0:-1:3:3:0:0:1:1:1:0:-1:1:25:0:14:13:0:0:3:0:0:0",
+        printed: b"phase Move\nmove 5-8 8-11 11-14\n",
+    },
+    Case {
+        name: "two orders that reach one place",
+        word: b"board:You:bob:5:0:0:0:0:-2:0:0:0:0:0:0:0:0:0:0:0:0:0:0:0:0:0:0:0:0:0:1:0:1:6:5:0:0:1:1:1:0:1:-1:0:25:14:13:0:0:2:0:0:0",
+        printed: b"phase Move\nmove 24-19 19-13\n",
+    },
+    Case {
+        name: "two checkers and two dice",
+        word: b"board:You:bob:5:0:0:0:0:0:0:1:0:0:0:1:0:0:0:0:0:0:0:0:0:0:0:0:0:0:0:-2:0:1:2:1:0:0:1:1:1:0:1:-1:0:25:13:13:0:0:2:0:0:0",
+        printed: b"phase Move\nmove 8-7 7-5\nmove 8-7 4-2\nmove 8-6 4-3\nmove 4-3 3-1\n",
+    },
+    Case {
+        name: "a hit, and a held place behind it",
+        word: b"board:You:bob:5:0:0:0:0:0:0:0:0:0:0:0:0:0:0:-2:0:0:0:0:0:-1:0:0:0:0:0:1:0:1:6:6:0:0:1:1:1:0:1:-1:0:25:14:12:0:0:1:0:0:0",
+        printed: b"phase Move\nmove 24-18\n",
+    },
+    Case {
+        name: "no dice",
+        word: b"board:You:bob:5:0:0:0:0:0:0:0:0:0:0:0:0:0:0:0:-2:0:0:0:0:0:0:0:0:0:0:1:0:1:0:0:0:0:1:1:1:0:1:-1:0:25:14:13:0:0:1:0:0:0",
+        printed: b"phase RollOrDouble\n",
+    },
+    Case {
+        name: "a double to be answered",
+        word: b"board:You:bob:5:0:0:0:0:0:0:0:0:0:0:0:0:0:0:0:-2:0:0:0:0:0:0:0:0:0:0:1:0:1:0:0:0:0:1:1:1:1:1:-1:0:25:14:13:0:0:1:0:0:0",
+        printed: b"phase AnswerDouble\n",
+    },
+    Case {
+        name: "the opponent's turn",
+        word: b"board:You:bob:5:0:0:0:0:0:0:0:0:0:0:0:0:0:0:0:-2:0:0:0:0:0:0:0:0:0:0:1:0:-1:0:0:0:0:1:1:1:0:1:-1:0:25:14:13:0:0:1:0:0:0",
+        printed: b"phase OpponentActs\n",
+    },
+    Case {
+        name: "a game that is over",
+        word: b"board:You:bob:5:0:0:0:0:0:0:0:0:0:0:0:0:0:0:0:-2:0:0:0:0:0:0:0:0:0:0:1:0:0:0:0:0:0:1:1:1:0:1:-1:0:25:14:13:0:0:1:0:0:0",
+        printed: b"phase Over\n",
+    },
+];
+
+/// What is printed on standard error for all other words.
+static REFUSED: [Case; 16] = [
+    Case {
+        name: "a number of a message",
+        word: b"3",
+        printed: b"not a board\n",
+    },
+    Case {
+        name: "a malformed message",
+        word: b"3 x",
+        printed: b"not a board\n",
+    },
+    Case {
+        name: "a message",
+        word: b"1 ann 1041253132 localhost",
+        printed: b"not a board\n",
+    },
+    Case {
+        name: "nothing",
+        word: b"",
+        printed: b"not a board\n",
+    },
+    Case {
+        name: "no colon",
+        word: b"board",
+        printed: b"not a board\n",
+    },
+    Case {
+        name: "a prompt",
+        word: b"> board:You:bob:5:0:0:0:0:0:0:0:0:0:0:0:0:0:0:0:-2:0:0:0:0:0:0:0:0:0:0:1:0:1:6:5:0:0:1:1:1:0:1:-1:0:25:14:13:0:0:1:0:0:0",
+        printed: b"not a board\n",
+    },
+    Case {
+        name: "a bad name",
+        word: b"board: a",
+        printed: b"malformed 0 2 BadName\n",
+    },
+    Case {
+        name: "a missing field",
+        word: b"board:You",
+        printed: b"malformed 0 3 Missing\n",
+    },
+    Case {
+        name: "an absent last field",
+        word: b"board:You:bob:5:0:0:0:0:0:0:0:0:0:0:0:0:0:0:0:-2:0:0:0:0:0:0:0:0:0:0:1:0:1:6:5:0:0:1:1:1:0:1:-1:0:25:14:13:0:0:1:0:0",
+        printed: b"malformed 0 53 Missing\n",
+    },
+    Case {
+        name: "a field too many",
+        word: b"board:You:bob:5:0:0:0:0:0:0:0:0:0:0:0:0:0:0:0:-2:0:0:0:0:0:0:0:0:0:0:1:0:1:6:5:0:0:1:1:1:0:1:-1:0:25:14:13:0:0:1:0:0:0:0",
+        printed: b"malformed 0 54 Extra\n",
+    },
+    Case {
+        name: "no number",
+        word: b"board:You:bob:3:-0",
+        printed: b"malformed 0 5 NotANumber\n",
+    },
+    Case {
+        name: "a number out of its range",
+        word: b"board:You:bob:3:-1",
+        printed: b"malformed 0 5 OutOfRange\n",
+    },
+    Case {
+        name: "another's board",
+        word: b"board:ann:bob:5:0:0:0:0:0:0:0:0:0:0:0:0:0:0:0:-2:0:0:0:0:0:0:0:0:0:0:1:0:1:6:5:0:0:1:1:1:0:1:-1:0:25:14:13:0:0:1:0:0:0",
+        printed: b"position NotYou\n",
+    },
+    Case {
+        name: "another's board, with too many checkers",
+        word: b"board:ann:bob:5:0:0:0:0:0:0:0:0:0:0:0:0:0:0:0:-2:0:0:0:0:0:0:0:0:0:0:2:0:1:6:5:0:0:1:1:1:0:1:-1:0:25:14:13:0:0:1:0:0:0",
+        printed: b"position NotYou\n",
+    },
+    Case {
+        name: "sixteen own checkers",
+        word: b"board:You:bob:5:0:0:0:0:0:0:0:0:0:0:0:0:0:0:0:-2:0:0:0:0:0:0:0:0:0:0:2:0:1:6:5:0:0:1:1:1:0:1:-1:0:25:14:13:0:0:1:0:0:0",
+        printed: b"position TooManyOwn\n",
+    },
+    Case {
+        name: "sixteen checkers of the opponent",
+        word: b"board:You:bob:5:0:0:0:0:0:0:0:0:0:0:0:0:0:0:0:-3:0:0:0:0:0:0:0:0:0:0:1:0:1:6:5:0:0:1:1:1:0:1:-1:0:25:14:13:0:0:1:0:0:0",
+        printed: b"position TooManyOther\n",
+    },
+];
+
+/// How `plays` ends where so many bytes may be printed on both writers, and what it prints.
+fn listed(alloc: Global, word: &[u8], out_room: usize, err_room: usize) -> Outcome {
+    let mut out = Pipe::new(b"", 1, After::End, out_room);
+    let mut err = Pipe::new(b"", 1, After::End, err_room);
+    let ending = plays(alloc, word, &mut out, &mut err);
+    Outcome {
+        ending,
+        out: text_of(out.output()),
+        err: text_of(err.output()),
+    }
+}
+
+#[test]
+fn prints_the_plays_of_good_boards(rt: HostRuntime) {
+    for case in &PRINTED {
+        let outcome = listed(rt.alloc(), case.word, 512, 512);
+        assert!(rt;
+            outcome.is(Ok(0), case.printed, b""),
+            "{}, at {}: {:?}",
+            case.name,
+            0,
+            outcome
+        );
+    }
+}
+
+#[test]
+fn refuses_all_other_words(rt: HostRuntime) {
+    for case in &REFUSED {
+        let outcome = listed(rt.alloc(), case.word, 512, 512);
+        assert!(rt;
+            outcome.is(Ok(3), b"", case.printed),
+            "{}, at {}: {:?}",
+            case.name,
+            0,
+            outcome
+        );
+    }
+}
+
+#[test]
+fn reads_a_word_of_any_length(rt: HostRuntime) {
+    let case = &PRINTED[0];
+    let mut word = text_of(case.word);
+    for _ in 0..5000 {
+        let _fits = word.try_push(b' ');
+    }
+    let outcome = listed(rt.alloc(), word.as_slice(), 512, 512);
+    assert!(rt;
+        outcome.is(Ok(0), case.printed, b""),
+        "spaces, at {}: {:?}",
+        5000,
+        outcome
+    );
+}
+
+/// Where a growth is refused, nothing is written, and the next call lists the plays.
+#[test]
+fn prints_plays_under_refused_memory(rt: HostRuntime) {
+    for case in &PRINTED {
+        let mut outcome = listed(rt.alloc(), case.word, 512, 512);
+        if outcome.ending == Err(EngineFault::Memory) {
+            assert!(rt;
+                outcome.is(Err(EngineFault::Memory), b"", b""),
+                "{}, at {}: {:?}",
+                case.name,
+                1,
+                outcome
+            );
+            outcome = listed(rt.alloc(), case.word, 512, 512);
+        }
+        assert!(rt;
+            outcome.is(Ok(0), case.printed, b""),
+            "{}, at {}: {:?}",
+            case.name,
+            2,
+            outcome
+        );
+    }
+}
+
+#[test]
+fn stops_at_a_failed_write(rt: HostRuntime) {
+    let ending = Err(EngineFault::Device);
+    let good = &PRINTED[6];
+    for room in 0..good.printed.len() {
+        let outcome = listed(rt.alloc(), good.word, room, 0);
+        assert!(rt;
+            outcome.is(ending, &good.printed[..room], b""),
+            "{}, at {}: {:?}",
+            good.name,
+            room,
+            outcome
+        );
+    }
+    let bad = &REFUSED[6];
+    for room in 0..bad.printed.len() {
+        let outcome = listed(rt.alloc(), bad.word, 0, room);
+        assert!(rt;
+            outcome.is(ending, b"", &bad.printed[..room]),
+            "{}, at {}: {:?}",
+            bad.name,
+            room,
+            outcome
+        );
+    }
+}
+
+/// How `plays` ends where one write on each writer fails, and what it prints.
+fn listed_with_a_failure(alloc: Global, word: &[u8], before: usize) -> Outcome {
+    let mut out = FailsOnce::new(before, 1);
+    let mut err = FailsOnce::new(before, 1);
+    let ending = plays(alloc, word, &mut out, &mut err);
+    Outcome {
+        ending,
+        out: text_of(out.output()),
+        err: text_of(err.output()),
+    }
+}
+
+/// After a failed write neither writer is given more, though it would take it.
+#[test]
+fn writes_nothing_after_a_failed_write(rt: HostRuntime) {
+    let ending = Err(EngineFault::Device);
+    let good = &PRINTED[6];
+    for before in 0..good.printed.len() {
+        let outcome = listed_with_a_failure(rt.alloc(), good.word, before);
+        assert!(rt;
+            outcome.is(ending, &good.printed[..before], b""),
+            "{}, at {}: {:?}",
+            good.name,
+            before,
+            outcome
+        );
+    }
+    let bad = &REFUSED[6];
+    for before in 0..bad.printed.len() {
+        let outcome = listed_with_a_failure(rt.alloc(), bad.word, before);
+        assert!(rt;
+            outcome.is(ending, b"", &bad.printed[..before]),
+            "{}, at {}: {:?}",
+            bad.name,
+            before,
+            outcome
+        );
+    }
+}

@@ -1,0 +1,94 @@
+//! Devices of which a signal interrupts calls.
+use fibs_show::fault::EngineFault;
+use fibs_show::retrying::{RETRIES, Retrying};
+use fibs_show::show::show;
+use fibs_test_tools::outcome::Outcome;
+use fibs_test_tools::pipe::{After, Pipe};
+use fibs_test_tools::text::{Text, text_of};
+use std::alloc::Global;
+use std::io;
+use std::io::{ErrorKind, Read, Write};
+
+/// A device of which so many calls are interrupted before each one that is not.
+#[derive(Drop)]
+struct Disturbed<'a> {
+    pipe: Pipe<'a>,
+    signals: u32,
+    left: u32,
+}
+
+impl<'a> Disturbed<'a> {
+    /// A device of which no call was made yet.
+    fn new(pipe: Pipe<'a>, signals: u32) -> Disturbed<'a> {
+        Disturbed {
+            pipe,
+            signals,
+            left: signals,
+        }
+    }
+
+    /// Fails where a signal comes.
+    fn wait(&mut self) -> io::Result<()> {
+        if self.left == 0 {
+            self.left = self.signals;
+            return Ok(());
+        }
+        self.left -= 1;
+        Err(io::Error::from(ErrorKind::Interrupted))
+    }
+}
+
+impl Read for Disturbed<'_> {
+    fn read(&mut self, buf: &mut [u8]) -> io::Result<usize> {
+        self.wait()?;
+        self.pipe.read(buf)
+    }
+}
+
+impl Write for Disturbed<'_> {
+    fn write(&mut self, buf: &[u8]) -> io::Result<usize> {
+        self.wait()?;
+        self.pipe.write(buf)
+    }
+
+    fn flush(&mut self) -> io::Result<()> {
+        self.pipe.flush()
+    }
+}
+
+/// How `show` ends, and what it prints, where so many reads in a row and so many writes in a row are interrupted.
+fn shown(alloc: Global, reads: u32, writes: u32) -> Outcome {
+    let mut input = Disturbed::new(Pipe::new(b"hi\nyou\n", 1, After::End, 0), reads);
+    let mut output = Disturbed::new(Pipe::new(b"", 1, After::End, 100), writes);
+    let ending = show(
+        alloc,
+        &mut Retrying::new(&mut input),
+        &mut Retrying::new(&mut output),
+    );
+    Outcome {
+        ending,
+        out: text_of(output.pipe.output()),
+        err: Text::new(),
+    }
+}
+
+/// As often as they may be, and of those that are interrupted once more the error is seen.
+#[test]
+fn interrupted_calls_are_made_again(rt: HostRuntime) {
+    for signals in [0, 1, RETRIES] {
+        for (reads, writes) in [(signals, 0), (0, signals), (signals, signals)] {
+            let outcome = shown(rt.alloc(), reads, writes);
+            assert!(rt;
+                outcome.is(Ok(0), b"text hi\ntext you\n", b""),
+                "{reads} and {writes} signals: {outcome:?}"
+            );
+        }
+    }
+    for (reads, writes) in [(RETRIES + 1, 0), (0, RETRIES + 1)] {
+        let outcome = shown(rt.alloc(), reads, writes);
+        assert!(rt;
+            outcome.is(Err(EngineFault::Device), b"", b""),
+            "{reads} and {writes} signals: {outcome:?}"
+        );
+    }
+}

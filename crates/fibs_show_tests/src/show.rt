@@ -1,0 +1,312 @@
+//! The engines over streams in memory.
+use fibs_show::fault::EngineFault;
+use fibs_show::show::{StreamFault, show, show_portions, show_stream};
+use fibs_test_tools::devices::{Endless, FailsOnce};
+use fibs_test_tools::outcome::Outcome;
+use fibs_test_tools::pipe::{After, FAULT, Pipe};
+use fibs_test_tools::text::{Text, joined, text_of};
+use std::alloc::Global;
+use std::process::Abort;
+
+/// A board as the server sends it, up to its fifth field, from there up to its last, and its last.
+const FRONT: &[u8] = b"board:You:someplayer:3:0";
+
+const MIDDLE: &[u8] =
+    b":1:0:-2:0:0:0:0:5:0:3:0:0:0:-5:5:0:0:0:-3:0:-5:0:0:0:0:2:0:1:6:2:0:0:1:1:1:0:1:-1:0:25:0:0:0:0:2:0:0";
+
+const LAST: &[u8] = b":0";
+
+/// How `show` ends that reads `input` in portions of at most `most` bytes, and what it prints where `room` bytes may be.
+fn shown(alloc: Global, input: &[u8], most: usize, after: After, room: usize) -> Outcome {
+    let mut reader = Pipe::new(input, most, after, 0);
+    let mut writer = Pipe::new(b"", 1, After::End, room);
+    let ending = show(alloc, &mut reader, &mut writer);
+    Outcome {
+        ending,
+        out: text_of(writer.output()),
+        err: Text::new(),
+    }
+}
+
+/// Asserts what `show` prints, however its input is cut.
+fn assert_shown(rt: &(impl Abort + AllocGlobal), input: &[u8], wanted: &[u8]) {
+    for most in [1, 2, 7, 1024, 5000] {
+        let outcome = shown(rt.alloc(), input, most, After::End, 8192);
+        assert!(rt;
+            outcome.is(Ok(0), wanted, b""),
+            "a stream in portions, at {}: {:?}",
+            most,
+            outcome
+        );
+    }
+}
+
+/// `front`, so many bytes `a`, and `end`.
+fn long_line(front: &[u8], count: usize, end: &[u8]) -> Text {
+    let mut line = text_of(front);
+    for _ in 0..count {
+        let _fits = line.try_push(b'a');
+    }
+    let _fits = line.try_extend_from_slice(end);
+    line
+}
+
+/// A board line of these parts, with `end` after it.
+fn board_line(front: &[u8], last: &[u8], end: &[u8]) -> Text {
+    joined(&[front, MIDDLE, last, end])
+}
+
+#[test]
+fn shows_each_line(rt: HostRuntime) {
+    let cases: [(&[u8], &[u8]); 14] = [
+        (b"", b""),
+        (b"3", b"unfinished 1\n"),
+        (b"\r\n", b"text \n"),
+        (b"a\nbc", b"text a\nunfinished 2\n"),
+        (b"05 x\n", b"text 05 x\n"),
+        (b"20 x\r\n", b"text 20 x\n"),
+        (b"a\x1b\r\n", b"text a\\x1b\n"),
+        (
+            b"~\x7f \x1f\\\xff\xff\x00\n",
+            b"text ~\\x7f \\x1f\\x5c\\xff\\x00\n",
+        ),
+        (b"login: > hello\r\r\n", b"text hello\\x0d\n"),
+        (b"a\xff\xfb\x01b\xff\xf1c\n\xff\xfb", b"text abc\n"),
+        (b"board: a\n", b"malformed 0 2 BadName\n"),
+        (b"board:\n", b"malformed 0 2 BadName\n"),
+        (b"board:You\n", b"malformed 0 3 Missing\n"),
+        (b"board:You:bob:3:x\n", b"malformed 0 5 NotANumber\n"),
+    ];
+    for (input, wanted) in cases {
+        assert_shown(&rt, input, wanted);
+    }
+}
+
+#[test]
+fn shows_boards(rt: HostRuntime) {
+    let board = board_line(FRONT, LAST, b"\n");
+    let ends: [&[u8]; 3] = [b"\n", b"\r\n", b"  \r\n"];
+    for end in ends {
+        assert_shown(&rt, &board_line(FRONT, LAST, end), &board);
+    }
+    let wrong: [(&[u8], &[u8], &[u8]); 4] = [
+        (FRONT, b"", b"malformed 0 53 Missing\n"),
+        (FRONT, b":0:0", b"malformed 0 54 Extra\n"),
+        (
+            b"board:You:someplayer:3:-0",
+            LAST,
+            b"malformed 0 5 NotANumber\n",
+        ),
+        (
+            b"board:You:someplayer:3:-1",
+            LAST,
+            b"malformed 0 5 OutOfRange\n",
+        ),
+    ];
+    for (front, last, wanted) in wrong {
+        assert_shown(&rt, &board_line(front, last, b"\r\n"), wanted);
+    }
+}
+
+/// A telnet command inside a field is no part of it, wherever the stream is cut.
+#[test]
+fn drops_a_telnet_command_inside_a_field(rt: HostRuntime) {
+    let line =
+        b"board:You:someplayer:3:0:1:0:-2:0:0:0:0:5:0:3:0:0:0:-5:5:0:0:0:-3:0:-5:0:0:0:0:2:0:1:6:2:0:0:1:1:1:0:1:-1:0:2\xff\xfb\x015:0:0:0:0:2:0:0:0\r\n";
+    assert_shown(&rt, line, &board_line(FRONT, LAST, b"\n"));
+}
+
+#[test]
+fn cuts_long_lines(rt: HostRuntime) {
+    let cases: [(&[u8], usize, &[u8], &[u8], usize); 5] = [
+        (b"", 4096, b"\r\n", b"text ", 4096),
+        (b"", 4097, b"\r\n", b"cut ", 4096),
+        (b"> ", 4096, b"\n", b"cut ", 4094),
+        (b"board:", 4096, b"\n", b"cut board:", 4090),
+        (b"\n", 4098, b"", b"text \nunfinished 4096", 0),
+    ];
+    for (front, count, end, wanted_front, wanted_count) in cases {
+        let input = long_line(front, count, end);
+        let wanted = long_line(wanted_front, wanted_count, b"\n");
+        assert_shown(&rt, &input, &wanted);
+    }
+}
+
+#[test]
+fn keeps_whole_lines_at_a_failed_read(rt: HostRuntime) {
+    let cases: [(&[u8], &[u8]); 6] = [
+        (b"", b""),
+        (b"a", b""),
+        (b"a\n", b"text a\n"),
+        (b"a\n\n", b"text a\ntext \n"),
+        (b"a\n\nb\\\r", b"text a\ntext \n"),
+        (b"a\n\nb\\\r\nc", b"text a\ntext \ntext b\\x5c\n"),
+    ];
+    for (input, wanted) in cases {
+        for most in [1, 3, 100] {
+            let outcome = shown(rt.alloc(), input, most, FAULT, 512);
+            let ending = Err(EngineFault::Device);
+            assert!(rt;
+                outcome.is(ending, wanted, b""),
+                "a failed read, at {}: {:?}",
+                input.len(),
+                outcome
+            );
+        }
+    }
+}
+
+#[test]
+fn stops_at_a_failed_write(rt: HostRuntime) {
+    let wanted = b"text a\ntext bc\nunfinished 1\n";
+    for room in 0..wanted.len() {
+        for most in [1, 100] {
+            let outcome = shown(rt.alloc(), b"a\nbc\nd", most, After::End, room);
+            let ending = Err(EngineFault::Device);
+            assert!(rt;
+                outcome.is(ending, &wanted[..room], b""),
+                "a failed write, at {}: {:?}",
+                room,
+                outcome
+            );
+        }
+    }
+}
+
+/// The messages of a session, and what is printed for them.
+static MESSAGES: [(&[u8], &[u8]); 9] = [
+    (
+        b"login: 1 myself 1041253132 192.168.1.308\r\n",
+        b"message 1 myself 1041253132 192.168.1.308\n",
+    ),
+    (
+        b"> 2 myself 1 1 0 0 0 0 1 1 2396 0 1 0 1 3457.85 0 0 0 0 0 Australia/Melbourne\r\n",
+        b"message 2 myself 1 1 0 0 0 0 1 1 2396 0 1 0 1 3457.85 0 0 0 0 0 Australia/Melbourne\n",
+    ),
+    (
+        b"> > 5 someplayer mgnu_advanced - 0 0 1912.15 827 8 1040515752 192.168.143.5 3DFiBs -\r\n",
+        b"message 5 someplayer mgnu_advanced - 0 0 1912.15 827 8 1040515752 192.168.143.5 3DFiBs -\n",
+    ),
+    (
+        b"5 bob - - 1 0 1500 0 3 1040515752 host - -\n",
+        b"message 5 bob - - 1 0 1500.00 0 3 1040515752 host - -\n",
+    ),
+    (b"12 bob\n", b"message 12 bob\n"),
+    (b"12 eve hi\r there\n", b"message 12 eve hi\\x0d there\n"),
+    (b"3 x\n", b"malformed 3 1 Extra\n"),
+    (b"5 bob\n", b"malformed 5 2 Missing\n"),
+    (b"20 x\n", b"text 20 x\n"),
+];
+
+#[test]
+fn shows_messages(rt: HostRuntime) {
+    for (input, wanted) in &MESSAGES {
+        assert_shown(&rt, input, wanted);
+    }
+}
+
+/// Whether the text is some of these lines, the first ones, and not all.
+fn are_first_lines(text: &[u8], lines: &[u8]) -> bool {
+    lines.starts_with(text)
+        && text.len() < lines.len()
+        && (text.is_empty() || text.ends_with(b"\n"))
+}
+
+/// Where a growth is refused, what was written are the first lines, and another call writes all.
+fn assert_shown_again(rt: &(impl Abort + AllocGlobal), input: &[u8], wanted: &[u8]) {
+    for most in [2, 50, 5000] {
+        let mut outcome = shown(rt.alloc(), input, most, After::End, 1024);
+        if outcome.ending == Err(EngineFault::Memory) {
+            let written = outcome.out.as_slice();
+            assert!(rt;
+                are_first_lines(written, wanted),
+                "{written:?} of {wanted:?}"
+            );
+            outcome = shown(rt.alloc(), input, most, After::End, 1024);
+        }
+        assert!(rt;
+            outcome.is(Ok(0), wanted, b""),
+            "once more, at {}: {:?}",
+            most,
+            outcome
+        );
+    }
+}
+
+#[test]
+fn shows_lines_of_each_kind_under_refused_memory(rt: HostRuntime) {
+    assert_shown_again(
+        &rt,
+        b"a\nboard:\nbcdefghijklmnopqrstuvwxyz\\\nd",
+        b"text a\nmalformed 0 2 BadName\ntext bcdefghijklmnopqrstuvwxyz\\x5c\nunfinished 1\n",
+    );
+}
+
+/// The messages of a login, and a board.
+#[test]
+fn shows_messages_under_refused_memory(rt: HostRuntime) {
+    let mut input = Text::new();
+    let mut wanted = Text::new();
+    for (line, printed) in &MESSAGES[..4] {
+        let _fits = input.try_extend_from_slice(line);
+        let _fits = wanted.try_extend_from_slice(printed);
+    }
+    for part in [FRONT, MIDDLE, LAST, b"\n"] {
+        let _fits = input.try_extend_from_slice(part);
+        let _fits = wanted.try_extend_from_slice(part);
+    }
+    assert_shown_again(&rt, &input, &wanted);
+}
+
+/// A reader without end gives its bytes as often as it is asked, and no more often.
+#[test]
+fn asks_a_reader_without_end_so_often(rt: HostRuntime) {
+    let rows: [(u32, &[u8]); 4] = [
+        (0, b""),
+        (1, b"text y\n"),
+        (2, b"text y\ntext y\n"),
+        (3, b"text y\ntext y\ntext y\n"),
+    ];
+    for (reads, lines) in rows {
+        let mut reader = Endless::new();
+        let mut writer = Pipe::new(b"", 1, After::End, 512);
+        let ending = show_portions(rt.alloc(), reads, &mut [0; 8], &mut reader, &mut writer);
+        assert_eq!(rt; ending, Err(StreamFault::Endless), "{reads} reads");
+        assert_eq!(rt; reader.asked(), reads, "{reads} reads");
+        assert_eq!(rt; writer.output(), lines, "{reads} reads");
+    }
+}
+
+/// After a failed write nothing more is written, though the writer would take it.
+#[test]
+fn writes_nothing_after_a_failed_write(rt: HostRuntime) {
+    let wanted = b"text a\ntext bc\nunfinished 1\n";
+    for most in [1, 4, 100] {
+        for failing in 0..wanted.len().div_ceil(most) {
+            let mut reader = Pipe::new(b"a\nbc\nd", 100, After::End, 0);
+            let mut writer = FailsOnce::new(failing, most);
+            let ending = show_stream(rt.alloc(), &mut reader, &mut writer);
+            assert_eq!(rt; ending, Err(StreamFault::Writer), "{failing} of {most}");
+            assert_eq!(rt;
+                Some(writer.output()),
+                wanted.get(..writer.output().len()),
+                "{failing} of {most}"
+            );
+        }
+    }
+}
+
+/// Each fault of a stream is a fault of the engine.
+#[test]
+fn says_what_failed(rt: HostRuntime) {
+    let cases = [
+        (FAULT, 512, Err(StreamFault::Reader)),
+        (After::End, 3, Err(StreamFault::Writer)),
+        (After::End, 512, Ok(())),
+    ];
+    for (after, room, wanted) in cases {
+        let mut reader = Pipe::new(b"a\n", 1, after, 0);
+        let mut writer = Pipe::new(b"", 1, After::End, room);
+        assert_eq!(rt; show_stream(rt.alloc(), &mut reader, &mut writer), wanted);
+    }
+}

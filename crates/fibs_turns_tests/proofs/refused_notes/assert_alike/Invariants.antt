@@ -1,7 +1,0 @@
-use Rattle.std.proofs.Common.{true}
-use Rattle.fibs_turns.specs.Turns.Turn.{FitsStream}
-use Rattle.fibs_turns_tests.proofs.refused_notes.assert_alike.Given as goal
-
--- both clients are online
-abbrev pub invariant-loop-at : goal.invariant-loop-at
-invariant-loop-at g l = (FitsStream l.seat.client true) × (FitsStream l.twin.client true)
