@@ -2,6 +2,7 @@
 ghost use Rattle.std.specs.Prelude.{◌≡◌};
 ghost use Rattle.fibs_cli.specs.Program.{Answered, SaysWhy, Served, fault_line, status_of, streams};
 ghost use Rattle.fibs_show.specs.Printing.{Printed};
+ghost use Rattle.fibs_show.specs.Status.{code_of};
 ghost use Rattle.fibs_loop.specs.Looping.{EndsScript};
 
 use crate::arguments::{Answer, Request};
@@ -11,16 +12,11 @@ use fibs_replay::replay::replay;
 use fibs_show::fault::EngineFault;
 use fibs_show::plays::plays;
 use fibs_show::show::show;
-use fibs_show::writing::{Progress, write_bytes};
+use fibs_show::status::Status;
+use fibs_show::writing::write_bytes;
 use std::alloc::Global;
 use std::io::{Read, Write};
 use std::net::{Net, TcpListener, TcpStream};
-
-/// The exit status of a command line that is served, and of help.
-const DONE: u8 = 0;
-
-/// The exit status of a command line that is refused.
-const WRONG_LINE: u8 = 2;
 
 /// Does what a command line calls for: it runs an engine, prints help on `out`, or says on `err` what is wrong.
 pub fn answer<N: Net<Listener = TcpListener, Stream = TcpStream>, R: Read, W: Write, E: Write>(
@@ -37,8 +33,8 @@ pub fn answer<N: Net<Listener = TcpListener, Stream = TcpStream>, R: Read, W: Wr
 {
     match answer {
         Answer::Engine(request) => serve(rt, alloc, *request, input, out, err),
-        Answer::Help(text) => print_text(text.as_bytes(), DONE, out),
-        Answer::Refused(text) => print_text(text.as_bytes(), WRONG_LINE, err),
+        Answer::Help(text) => print_text(text.as_bytes(), Status::Done, out),
+        Answer::Refused(text) => print_text(text.as_bytes(), Status::WrongLine, err),
         Answer::Memory => Err(EngineFault::Memory),
     }
 }
@@ -83,13 +79,11 @@ fn play_here<N: Net<Listener = TcpListener, Stream = TcpStream>, R: Read, W: Wri
 }
 
 /// Prints a text, and answers the status.
-fn print_text<W: Write>(text: &[u8], status: u8, device: &mut W) -> Result<u8, EngineFault>
-    ensures { Printed status text.now result (W.contents device.old) (W.contents device.new) }
+fn print_text<W: Write>(text: &[u8], status: Status, device: &mut W) -> Result<u8, EngineFault>
+    ensures { Printed (code_of status) text.now result (W.contents device.old) (W.contents device.new) }
 {
-    match write_bytes(text, device) {
-        Progress::Whole => Ok(status),
-        Progress::Broken => Err(EngineFault::Device),
-    }
+    write_bytes(text, device)?;
+    Ok(status.code())
 }
 
 /// The exit status of the program, which says on `err` why an engine stopped before its end.

@@ -15,20 +15,30 @@ use Rattle.fibs_boards.specs.Printed.{IsPrinted}
 use Rattle.fibs_commands.proofs.StepLemmas.{IsStepByte, step_bytes, step_short, steps_injective}
 
 -- the steps' text is printed
-steps_printed : (direction : Direction) (steps : List Hop) → All IsStep steps → All IsPrinted (steps_text direction steps)
+steps_printed : (direction : Direction) (steps : List Hop) → All IsStep steps
+    → All IsPrinted (steps_text direction steps)
 steps_printed direction [] each = All-nil IsPrinted
 steps_printed direction (step ∷ steps) each =
     let is : IsStep step = All-head IsStep step steps each in
-    let first : All IsPrinted (step_text direction step) = All-weaker IsStepByte IsPrinted (λ b byte. (omega arith, omega arith)) _ (step_bytes direction step is) in
-    let rest : All IsPrinted (steps_text direction steps) = steps_printed direction steps (All-tail IsStep step steps each) in
-    All-append IsPrinted (32 ∷ step_text direction step) _ (All-cons IsPrinted 32 _ (omega arith, omega arith) first) rest
+    let first : All IsPrinted (step_text direction step) =
+    All-weaker IsStepByte IsPrinted (λ b byte. (omega arith, omega arith)) _ (step_bytes direction step is) in
+    let rest : All IsPrinted (steps_text direction steps) =
+    steps_printed direction steps (All-tail IsStep step steps each) in
+    All-append IsPrinted (32 ∷ step_text direction step) _ (All-cons IsPrinted 32 _ (omega arith, omega arith) first)
+    rest
 
 -- each step takes at most eight bytes
-steps_short : (direction : Direction) (steps : List Hop) → All IsStep steps → length (steps_text direction steps) ≤ 8 * length steps
+steps_short : (direction : Direction) (steps : List Hop) → All IsStep steps
+    → length (steps_text direction steps) ≤ 8 * length steps
 steps_short direction [] each = omega arith
 steps_short direction (step ∷ steps) each =
     let rest = steps_short direction steps (All-tail IsStep step steps each) in
-    omega (arith, rest, step_short direction step (All-head IsStep step steps each), length-append (32 ∷ step_text direction step) (steps_text direction steps))
+    omega (
+      arith,
+      rest,
+      step_short direction step (All-head IsStep step steps each),
+      length-append (32 ∷ step_text direction step) (steps_text direction steps),
+    )
 
 -- a number by which the five words differ
 abbrev letters : List ℕ → ℕ
@@ -40,7 +50,8 @@ commands_tell_decisions direction roll roll ia ib e = refl
 commands_tell_decisions direction double double ia ib e = refl
 commands_tell_decisions direction accept accept ia ib e = refl
 commands_tell_decisions direction reject reject ia ib e = refl
-commands_tell_decisions direction (move xs) (move ys) ia ib e = ap (λ steps. move steps) (steps_injective direction xs ys ia.0 ib.0 (append_cancel_left (codes "move") _ _ e))
+commands_tell_decisions direction (move xs) (move ys) ia ib e =
+    ap (λ steps. move steps) (steps_injective direction xs ys ia.0 ib.0 (append_cancel_left (codes "move") _ _ e))
 commands_tell_decisions direction a b ia ib e = absurd (omega (arith, ap letters e))
 
 pub commands_are_short : CommandsAreShort
@@ -49,7 +60,8 @@ commands_are_short direction roll is = omega arith
 commands_are_short direction double is = omega arith
 commands_are_short direction accept is = omega arith
 commands_are_short direction reject is = omega arith
-commands_are_short direction (move steps) is = omega (arith, is.1, steps_short direction steps is.0, length-append (codes "move") (steps_text direction steps))
+commands_are_short direction (move steps) is =
+    omega (arith, is.1, steps_short direction steps is.0, length-append (codes "move") (steps_text direction steps))
 
 pub commands_are_printed : CommandsArePrinted
 unfolding command_of
@@ -58,7 +70,8 @@ commands_are_printed direction double is = (All-from_recursion IsPrinted (codes 
 commands_are_printed direction accept is = (All-from_recursion IsPrinted (codes "accept") (search rules), omega arith)
 commands_are_printed direction reject is = (All-from_recursion IsPrinted (codes "reject") (search rules), omega arith)
 commands_are_printed direction (move steps) is = (
-  All-append IsPrinted (codes "move") _ (All-from_recursion IsPrinted (codes "move") (search rules)) (steps_printed direction steps is.0),
+  All-append IsPrinted (codes "move") _ (All-from_recursion IsPrinted (codes "move") (search rules))
+      (steps_printed direction steps is.0),
   omega (arith, length-append (codes "move") (steps_text direction steps)),
 )
 

@@ -31,13 +31,15 @@ command_letters direction (move steps) = refl
 
 -- a text that begins with other letters is no decision
 other : ReadCommandIsExact → (text : List ℕ) → IsSent text → is_letters (letters text) ≡ false → IsOther text
-other exact text sent differs = record { printed = sent.printed; no_decision = λ direction. go direction (read_command direction text) refl }
+other exact text sent differs =
+    record { printed = sent.printed; no_decision = λ direction. go direction (read_command direction text) refl }
   where
     go : (direction : Direction) (o : Option DecisionValue) → read_command direction text ≡ o → o ≡ None
     go direction None e = refl
     go direction (Some d) e =
         let h = (exact direction text d).0 e in
-        absurd (true≢false (sym (command_letters direction d) ∙ ap (λ t. is_letters (letters t)) (sym h.text_is) ∙ differs))
+        absurd (true≢false (sym (command_letters direction d) ∙ ap (λ t. is_letters (letters t)) (sym h.text_is)
+        ∙ differs))
 
 -- a login does not
 login_letters : (name password : List ℕ) → is_letters (letters (login_text name password)) ≡ false
@@ -46,7 +48,8 @@ login_letters name password = refl
 
 -- no login is a decision
 pub login_is_other : ReadCommandIsExact → LoginsAreSent → LoginIsOther
-login_is_other exact sent name password h = other exact (login_text name password) (sent name password h) (login_letters name password)
+login_is_other exact sent name password h =
+    other exact (login_text name password) (sent name password h) (login_letters name password)
 
 -- nor is the command after the welcome
 pub style_is_other : ReadCommandIsExact → FirstAreSent → StyleIsOther
@@ -56,7 +59,11 @@ style_is_other exact sent = other exact style_text sent.0 refl
 -- nor are those after the settings
 pub initial_are_other : ReadCommandIsExact → FirstAreSent → InitialAreOther
 unfolding autoboard_text moreboards_text board_text
-initial_are_other exact sent = (other exact autoboard_text sent.1 refl, other exact moreboards_text sent.2 refl, other exact board_text sent.3 refl)
+initial_are_other exact sent = (
+  other exact autoboard_text sent.1 refl,
+  other exact moreboards_text sent.2 refl,
+  other exact board_text sent.3 refl,
+)
 
 -- no plain command does
 plain_letters : (plain : PlainValue) → is_letters (letters (plain_of plain)) ≡ false

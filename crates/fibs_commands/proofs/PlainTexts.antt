@@ -33,7 +33,8 @@ text_right text h = go (nat_le (length text) 400) refl h
     printed true h = refl
     printed false h = absurd cc
 
-    go : (t : Bool) → nat_le (length text) 400 ≡ t → cond t (cond (is_printed text) None (Some BadText)) (Some TooLong) ≡ None → IsText text
+    go : (t : Bool) → nat_le (length text) 400 ≡ t
+        → cond t (cond (is_printed text) None (Some BadText)) (Some TooLong) ≡ None → IsText text
     go true e h = (grind (arith, nat_tests), printed (is_printed text) h)
     go false e h = absurd cc
 
@@ -46,22 +47,26 @@ points_right points h = go (nat_le points 65535) refl h
     go false e h = absurd cc
 
 -- the name is one, where only a name can be wrong
-pub name_in_it : (plain : PlainValue) (name : List ℕ) → plain_fault_of plain ≡ name_fault name → plain_fault_of plain ≡ None → is_name name ≡ true
+pub name_in_it : (plain : PlainValue) (name : List ℕ) → plain_fault_of plain ≡ name_fault name
+    → plain_fault_of plain ≡ None → is_name name ≡ true
 name_in_it plain name e h = name_right name (sym e ∙ h)
 
 -- the text is one, where only a text can be
-pub text_in_it : (plain : PlainValue) (text : List ℕ) → plain_fault_of plain ≡ text_fault text → plain_fault_of plain ≡ None → IsText text
+pub text_in_it : (plain : PlainValue) (text : List ℕ) → plain_fault_of plain ≡ text_fault text
+    → plain_fault_of plain ≡ None → IsText text
 text_in_it plain text e h = text_right text (sym e ∙ h)
 
 -- both are, where both can be
-pub both_in_it : (plain : PlainValue) (name text : List ℕ) → plain_fault_of plain ≡ first_of (name_fault name) (text_fault text) → plain_fault_of plain ≡ None
+pub both_in_it : (plain : PlainValue) (name text : List ℕ)
+    → plain_fault_of plain ≡ first_of (name_fault name) (text_fault text) → plain_fault_of plain ≡ None
     → (is_name name ≡ true) × IsText text
 both_in_it plain name text e h =
     let none = no_fault (name_fault name) (text_fault text) (sym e ∙ h) in
     (name_right name none.0, text_right text none.1)
 
 -- and so are the name and the points of an invitation
-pub points_in_it : (plain : PlainValue) (name : List ℕ) (points : ℕ) → plain_fault_of plain ≡ first_of (name_fault name) (points_fault points) → plain_fault_of plain ≡ None
+pub points_in_it : (plain : PlainValue) (name : List ℕ) (points : ℕ)
+    → plain_fault_of plain ≡ first_of (name_fault name) (points_fault points) → plain_fault_of plain ≡ None
     → (is_name name ≡ true) × (points ≤ 65535)
 points_in_it plain name points e h =
     let none = no_fault (name_fault name) (points_fault points) (sym e ∙ h) in

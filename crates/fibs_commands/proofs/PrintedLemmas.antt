@@ -24,7 +24,8 @@ byte_from_text b h =
     (grind (arith, nat_tests), grind (arith, nat_tests))
 
 -- a test of each byte, that each passes
-pub bytes_from : (P : ℕ → Type 0) (p : ℕ → Bool) → ((b : ℕ) → p b ≡ true → P b) → (text : List ℕ) → list_all p text ≡ true → All P text
+pub bytes_from : (P : ℕ → Type 0) (p : ℕ → Bool) → ((b : ℕ) → p b ≡ true → P b) → (text : List ℕ)
+    → list_all p text ≡ true → All P text
 bytes_from P p f [] h = All-nil P
 bytes_from P p f (b ∷ text) h =
     let q = and_parts (p b) (list_all p text) h in
@@ -42,7 +43,8 @@ bytes_printed text h = bytes_from IsPrinted is_text_byte byte_from_text text h
 -- printed bytes are a text
 pub printed_is_text : (text : List ℕ) → list_all is_text_byte text ≡ true → IsUtf8 text
 printed_is_text text h =
-    IsUtf8-from_ascii text (IsAscii-from_all text (All-weaker IsPrinted (λ b. b < 128) (λ b is. omega arith) text (bytes_printed text h)))
+    IsUtf8-from_ascii text (IsAscii-from_all text
+    (All-weaker IsPrinted (λ b. b < 128) (λ b is. omega arith) text (bytes_printed text h)))
 
 -- bytes that are a text are read as one
 pub utf8_is_read : {T E : Type 0} (Q : T → Type 0) (R : E → Type 0) (bytes : List ℕ) (r : Result T E)
@@ -51,7 +53,8 @@ utf8_is_read Q R bytes (Ok s) is h = refl
 utf8_is_read Q R bytes (Err e) is h = absurd (h.0 is)
 
 -- a test of each byte that implies another
-all_pass : (p q : ℕ → Bool) → ((b : ℕ) → p b ≡ true → q b ≡ true) → (text : List ℕ) → list_all p text ≡ true → list_all q text ≡ true
+all_pass : (p q : ℕ → Bool) → ((b : ℕ) → p b ≡ true → q b ≡ true) → (text : List ℕ) → list_all p text ≡ true
+    → list_all q text ≡ true
 all_pass p q f [] h = refl
 all_pass p q f (b ∷ text) h =
     let parts = and_parts (p b) (list_all p text) h in
@@ -77,10 +80,12 @@ password_byte b h =
 -- a name is of printed bytes
 pub name_is_printed : (name : List ℕ) → is_name name ≡ true → list_all is_text_byte name ≡ true
 name_is_printed name h =
-    all_pass is_name_byte is_text_byte name_byte name (and_parts (nat_lt 0 (length name) && nat_le (length name) 64) (list_all is_name_byte name) h).1
+    all_pass is_name_byte is_text_byte name_byte name
+    (and_parts (nat_lt 0 (length name) && nat_le (length name) 64) (list_all is_name_byte name) h).1
 
 -- so is a password
-pub secret_is_printed : (text : List ℕ) (is : Bool) → is ≡ (nat_lt 0 (length text) && list_all is_password_byte text) → is ≡ true → list_all is_text_byte text ≡ true
+pub secret_is_printed : (text : List ℕ) (is : Bool) → is ≡ (nat_lt 0 (length text) && list_all is_password_byte text)
+    → is ≡ true → list_all is_text_byte text ≡ true
 secret_is_printed text is e h =
     all_pass is_password_byte is_text_byte password_byte text
     (and_parts (nat_lt 0 (length text)) (list_all is_password_byte text) (sym e ∙ h)).1

@@ -30,17 +30,21 @@ full direction played word words many =
 
 -- each step goes behind those before
 later_steps : (played : List Hop) (step : Hop) (steps : Option (List Hop))
-    → option_map (λ later. played ++ later) (option_map (λ later. step ∷ later) steps) ≡ option_map (λ later. (played ++ step ∷ []) ++ later) steps
+    → option_map (λ later. played ++ later) (option_map (λ later. step ∷ later) steps)
+    ≡ option_map (λ later. (played ++ step ∷ []) ++ later) steps
 later_steps played step None = refl
 later_steps played step (Some steps) = ap Some (sym (append_assoc played (step ∷ []) steps))
 
 -- a step goes behind the steps before
 goes_on : (direction : Direction) (played : List Hop) (step : Hop) (word : List ℕ) (words : List (List ℕ))
-    → step_in direction word ≡ Some step → play_from direction played (word ∷ words) ≡ play_from direction (played ++ step ∷ []) words
+    → step_in direction word ≡ Some step
+    → play_from direction played (word ∷ words) ≡ play_from direction (played ++ step ∷ []) words
 unfolding play_from
 goes_on direction played step word words e =
-    let many : length played + suc (length words) ≡ length (played ++ step ∷ []) + length words = omega (arith, length-append played (step ∷ [])) in
-    rw (e, many) (ap (λ r. cond (nat_le (length (played ++ step ∷ []) + length words) 4) r None) (later_steps played step (steps_in direction words)))
+    let many : length played + suc (length words) ≡ length (played ++ step ∷ []) + length words =
+    omega (arith, length-append played (step ∷ [])) in
+    rw (e, many) (ap (λ r. cond (nat_le (length (played ++ step ∷ []) + length words) 4) r None)
+    (later_steps played step (steps_in direction words)))
 
 -- where no word is left, the play is read
 ended : (direction : Direction) (played : List Hop) → length played ≤ 4 → play_from direction played [] ≡ Some played
@@ -52,7 +56,8 @@ ended direction played few =
 -- the four ends of the loop
 
 -- the loop ends at a word that is no step
-pub no_step : (direction : Direction) (played : List Hop) (all : Option (List Hop)) (o : Option (List ℕ)) (text word : List ℕ)
+pub no_step : (direction : Direction) (played : List Hop) (all : Option (List Hop)) (o : Option (List ℕ))
+    (text word : List ℕ)
     → o ≡ Some text → word ≡ before 32 text → step_in direction word ≡ None
     → all ≡ play_from direction played (words_after o) → all ≡ None
 no_step direction played all o text word is w e h =
@@ -60,7 +65,8 @@ no_step direction played all o text word is w e h =
     ∙ stops direction played (before 32 text) (words_after (after 32 text)) (ap (step_in direction) (sym w) ∙ e)
 
 -- it ends at a fifth step
-pub no_room : (direction : Direction) (played : List Hop) (all : Option (List Hop)) (o : Option (List ℕ)) (text : List ℕ)
+pub no_room : (direction : Direction) (played : List Hop) (all : Option (List Hop)) (o : Option (List ℕ))
+    (text : List ℕ)
     → o ≡ Some text → 4 ≤ length played
     → all ≡ play_from direction played (words_after o) → all ≡ None
 no_room direction played all o text is many h =
@@ -68,8 +74,10 @@ no_room direction played all o text is many h =
     ∙ full direction played (before 32 text) (words_after (after 32 text)) many
 
 -- it goes on by one more step
-pub one_more : (direction : Direction) (played later : List Hop) (step : Hop) (all : Option (List Hop)) (o p : Option (List ℕ)) (text word : List ℕ)
-    → o ≡ Some text → word ≡ before 32 text → p ≡ after 32 text → step_in direction word ≡ Some step → later ≡ played ++ step ∷ []
+pub one_more : (direction : Direction) (played later : List Hop) (step : Hop) (all : Option (List Hop))
+    (o p : Option (List ℕ)) (text word : List ℕ)
+    → o ≡ Some text → word ≡ before 32 text → p ≡ after 32 text → step_in direction word ≡ Some step
+    → later ≡ played ++ step ∷ []
     → all ≡ play_from direction played (words_after o) → all ≡ play_from direction later (words_after p)
 one_more direction played later step all o p text word is w a e l h =
     h ∙ ap (λ x. play_from direction played (words_after x)) is ∙ ap (play_from direction played) (words_of text)

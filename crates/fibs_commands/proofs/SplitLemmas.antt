@@ -34,7 +34,8 @@ before_without c (b ∷ s) = elim (cases_eq b c) [
 ]
 
 -- a text that has no c up to a c, or to its end, is split there
-pub split_there : (c : ℕ) (w : List ℕ) (o : Option (List ℕ)) → Without c w → (before c (w ++ from c o) ≡ w) × (after c (w ++ from c o) ≡ o)
+pub split_there : (c : ℕ) (w : List ℕ) (o : Option (List ℕ)) → Without c w
+    → (before c (w ++ from c o) ≡ w) × (after c (w ++ from c o) ≡ o)
 split_there c [] None h = (refl, refl)
 split_there c [] (Some s) h = rw (eq-eqb c c refl) (refl, refl)
 split_there c (b ∷ w) o h =

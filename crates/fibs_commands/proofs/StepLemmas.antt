@@ -23,56 +23,85 @@ step_same a b source target =
 
 -- no dash stands in a place's text
 pub place_no_dash : (direction : Direction) (place : ℕ) → place ≤ 25 → All (λ b. b ≢ 45) (place_text direction place)
-place_no_dash direction place le = All-weaker IsPlaceByte (λ b. b ≢ 45) (λ b is. λ e. omega arith) (place_text direction place) (place_bytes direction place le)
+place_no_dash direction place le =
+    All-weaker IsPlaceByte (λ b. b ≢ 45) (λ b is. λ e. omega arith) (place_text direction place)
+    (place_bytes direction place le)
 
 pub step_bytes : (direction : Direction) (step : Hop) → IsStep step → All IsStepByte (step_text direction step)
 step_bytes direction step is =
     let wider : (b : ℕ) → IsPlaceByte b → IsStepByte b = λ b byte. (omega arith, byte.1) in
-    let source : All IsStepByte (place_text direction step.source) = All-weaker IsPlaceByte IsStepByte wider _ (place_bytes direction step.source is.1) in
-    let target : All IsStepByte (place_text direction step.target) = All-weaker IsPlaceByte IsStepByte wider _ (place_bytes direction step.target (omega arith)) in
-    All-append IsStepByte _ _ (All-append IsStepByte _ (45 ∷ []) source (All-cons IsStepByte 45 [] (omega arith, omega arith) (All-nil IsStepByte))) target
+    let source : All IsStepByte (place_text direction step.source) =
+    All-weaker IsPlaceByte IsStepByte wider _ (place_bytes direction step.source is.1) in
+    let target : All IsStepByte (place_text direction step.target) =
+    All-weaker IsPlaceByte IsStepByte wider _ (place_bytes direction step.target (omega arith)) in
+    All-append IsStepByte _ _ (All-append IsStepByte _ (45 ∷ []) source
+    (All-cons IsStepByte 45 [] (omega arith, omega arith) (All-nil IsStepByte))) target
 
 pub step_short : (direction : Direction) (step : Hop) → IsStep step → length (step_text direction step) ≤ 7
 step_short direction step is =
-    omega (arith, place_short direction step.source is.1, place_short direction step.target (omega arith), length-append (place_text direction step.source ++ 45 ∷ []) (place_text direction step.target), length-append (place_text direction step.source) (45 ∷ []))
+    omega (
+      arith,
+      place_short direction step.source is.1,
+      place_short direction step.target (omega arith),
+      length-append (place_text direction step.source ++ 45 ∷ []) (place_text direction step.target),
+      length-append (place_text direction step.source) (45 ∷ []),
+    )
 
 -- in one direction, steps with one text are one
-pub step_injective : (direction : Direction) (a b : Hop) → IsStep a → IsStep b → step_text direction a ≡ step_text direction b → a ≡ b
+pub step_injective : (direction : Direction) (a b : Hop) → IsStep a → IsStep b
+    → step_text direction a ≡ step_text direction b → a ≡ b
 step_injective direction a b ia ib e =
-    let parted = cut_at 45 (place_text direction a.source) (place_text direction b.source) (place_text direction a.target) (place_text direction b.target)
+    let parted =
+    cut_at 45 (place_text direction a.source) (place_text direction b.source) (place_text direction a.target)
+    (place_text direction b.target)
     (place_no_dash direction a.source ia.1) (place_no_dash direction b.source ib.1)
-    (sym (append_assoc (place_text direction a.source) (45 ∷ []) (place_text direction a.target)) ∙ e ∙ append_assoc (place_text direction b.source) (45 ∷ []) (place_text direction b.target)) in
-    step_same a b (place_injective direction a.source b.source ia.1 ib.1 parted.0) (place_injective direction a.target b.target (omega arith) (omega arith) parted.1)
+    (sym (append_assoc (place_text direction a.source) (45 ∷ []) (place_text direction a.target)) ∙ e
+    ∙ append_assoc (place_text direction b.source) (45 ∷ []) (place_text direction b.target)) in
+    step_same a b (place_injective direction a.source b.source ia.1 ib.1 parted.0)
+    (place_injective direction a.target b.target (omega arith) (omega arith) parted.1)
 
 -- no space stands in a step's text
 pub step_no_space : (direction : Direction) (step : Hop) → IsStep step → All (λ b. b ≢ 32) (step_text direction step)
-step_no_space direction step is = All-weaker IsStepByte (λ b. b ≢ 32) (λ b byte. λ e. omega arith) (step_text direction step) (step_bytes direction step is)
+step_no_space direction step is =
+    All-weaker IsStepByte (λ b. b ≢ 32) (λ b byte. λ e. omega arith) (step_text direction step)
+    (step_bytes direction step is)
 
 -- the steps' text with a space at its end begins with a space
 space_before : (direction : Direction) (steps : List Hop) → List ℕ
 space_before direction [] = []
 space_before direction (step ∷ steps) = step_text direction step ++ (steps_text direction steps ++ 32 ∷ [])
 
-spaced : (direction : Direction) (steps : List Hop) → steps_text direction steps ++ 32 ∷ [] ≡ 32 ∷ space_before direction steps
+spaced : (direction : Direction) (steps : List Hop)
+    → steps_text direction steps ++ 32 ∷ [] ≡ 32 ∷ space_before direction steps
 unfolding space_before
 spaced direction [] = refl
-spaced direction (step ∷ steps) = ap (λ l. 32 ∷ l) (append_assoc (step_text direction step) (steps_text direction steps) (32 ∷ []))
+spaced direction (step ∷ steps) =
+    ap (λ l. 32 ∷ l) (append_assoc (step_text direction step) (steps_text direction steps) (32 ∷ []))
 
 -- in one direction, plays with one text are one
-pub steps_injective : (direction : Direction) (xs ys : List Hop) → All IsStep xs → All IsStep ys → steps_text direction xs ≡ steps_text direction ys → xs ≡ ys
+pub steps_injective : (direction : Direction) (xs ys : List Hop) → All IsStep xs → All IsStep ys
+    → steps_text direction xs ≡ steps_text direction ys → xs ≡ ys
 steps_injective direction [] [] ha hb e = refl
-steps_injective direction [] (b ∷ ys) ha hb e = absurd (let no : [] ≡ 32 ∷ (step_text direction b ++ steps_text direction ys) = e in cc)
-steps_injective direction (a ∷ xs) [] ha hb e = absurd (let no : 32 ∷ (step_text direction a ++ steps_text direction xs) ≡ [] = e in cc)
+steps_injective direction [] (b ∷ ys) ha hb e =
+    absurd (let no : [] ≡ 32 ∷ (step_text direction b ++ steps_text direction ys) = e in cc)
+steps_injective direction (a ∷ xs) [] ha hb e =
+    absurd (let no : 32 ∷ (step_text direction a ++ steps_text direction xs) ≡ [] = e in cc)
 steps_injective direction (a ∷ xs) (b ∷ ys) ha hb e =
-    let tails : step_text direction a ++ steps_text direction xs ≡ step_text direction b ++ steps_text direction ys = cc in
+    let tails : step_text direction a ++ steps_text direction xs ≡ step_text direction b ++ steps_text direction ys =
+    cc in
     let ia : IsStep a = All-head IsStep a xs ha in
     let ib : IsStep b = All-head IsStep b ys hb in
-    let with_space = λ (s : Hop) (ss : List Hop). append_assoc (step_text direction s) (steps_text direction ss) (32 ∷ []) ∙ ap (λ l. step_text direction s ++ l) (spaced direction ss) in
-    let parted = cut_at 32 (step_text direction a) (step_text direction b) (space_before direction xs) (space_before direction ys)
+    let with_space =
+    λ (s : Hop) (ss : List Hop). append_assoc (step_text direction s) (steps_text direction ss) (32 ∷ [])
+    ∙ ap (λ l. step_text direction s ++ l) (spaced direction ss) in
+    let parted =
+    cut_at 32 (step_text direction a) (step_text direction b) (space_before direction xs)
+    (space_before direction ys)
     (step_no_space direction a ia) (step_no_space direction b ib)
     (sym (with_space a xs) ∙ ap (λ l. l ++ 32 ∷ []) tails ∙ with_space b ys) in
     let first : a ≡ b = step_injective direction a b ia ib parted.0 in
     let texts : steps_text direction xs ≡ steps_text direction ys =
-    append_cancel_right (steps_text direction xs) (steps_text direction ys) (32 ∷ []) (spaced direction xs ∙ ap (λ l. 32 ∷ l) parted.1 ∙ sym (spaced direction ys)) in
+    append_cancel_right (steps_text direction xs) (steps_text direction ys) (32 ∷ [])
+    (spaced direction xs ∙ ap (λ l. 32 ∷ l) parted.1 ∙ sym (spaced direction ys)) in
     let rest : xs ≡ ys = steps_injective direction xs ys (All-tail IsStep a xs ha) (All-tail IsStep b ys hb) texts in
     cc

@@ -14,6 +14,7 @@ use dial::{Dial, Server};
 use fibs_exchange::exchange::printing::print_reason;
 use fibs_session::{Login, PlainFault};
 use fibs_show::fault::EngineFault;
+use fibs_show::status::Status;
 use seat::{Going, Seat};
 use std::alloc::Global;
 use std::io::{Read, Write};
@@ -23,12 +24,6 @@ use typed_lines::{TypedLine, TypedLines};
 
 /// The most times that the user's lines are read.
 const MAX_READS: u32 = 1_000_000_000;
-
-/// The exit status at the end.
-const DONE: u8 = 0;
-
-/// The exit status where the name or the password is refused.
-const REFUSED: u8 = 3;
 
 /// Talks with a server for a player.
 ///
@@ -86,7 +81,7 @@ fn print_fault<E: Write>(fault: PlainFault, err: &mut E) -> Result<u8, EngineFau
     ensures device { IfErr result (λ why. why ≡ EngineFault.Device) }
 {
     print_reason(b"fault ", fault.number(), fault, err)?;
-    Ok(REFUSED)
+    Ok(Status::Refused.code())
 }
 
 /// Connects, and answers each line, to the end of the lines or up to `quit`.
@@ -107,13 +102,13 @@ fn answer_lines<D: Dial, R: Read, W: Write>(
     for _ in 0..u64::MAX {
         flush(out)?;
         if !lines.read_line(typed, &mut line)? {
-            return Ok(DONE);
+            return Ok(Status::Done.code());
         }
         match seat.answer(line.as_slice(), server, out)? {
             Going::On => {}
             Going::Away => {
                 flush(out)?;
-                return Ok(DONE);
+                return Ok(Status::Done.code());
             }
         }
     }

@@ -285,19 +285,124 @@ fn all_twelve_values_are_kept(rt: HostRuntime) -> Result<(), Fail> {
         b"5 someplayer mgnu_advanced third 0 1 1912.15 827 8 1040515752 192.168.143.5 3DFiBs a b@c";
     assert_eq!(rt; note(&mut directory, line), Ok(()));
     let player = directory.get(b"someplayer").ok_or("no player")?;
-    assert_eq!(rt; player.name.as_slice(), b"someplayer".as_slice());
-    assert_eq!(rt; player.opponent.as_slice(), b"mgnu_advanced".as_slice());
-    assert_eq!(rt; player.watching.as_slice(), b"third".as_slice());
-    assert!(rt; !player.ready);
-    assert!(rt; player.away);
-    assert_eq!(rt; player.rating, 191215);
-    assert_eq!(rt; player.experience, 827);
-    assert_eq!(rt; player.idle, 8);
-    assert_eq!(rt; player.login, 1040515752);
-    assert_eq!(rt; player.hostname.as_slice(), b"192.168.143.5".as_slice());
-    assert_eq!(rt; player.client.as_slice(), b"3DFiBs".as_slice());
-    assert_eq!(rt; player.email.as_slice(), b"a b@c".as_slice());
+    let texts: [(&Vec<u8>, &[u8]); 6] = [
+        (&player.name, b"someplayer"),
+        (&player.opponent, b"mgnu_advanced"),
+        (&player.watching, b"third"),
+        (&player.hostname, b"192.168.143.5"),
+        (&player.client, b"3DFiBs"),
+        (&player.email, b"a b@c"),
+    ];
+    for (text, wanted) in texts {
+        assert_eq!(rt; text.as_slice(), wanted);
+    }
+    let numbers = [
+        (u64::from(player.rating), 191215),
+        (player.experience, 827),
+        (player.idle, 8),
+        (player.login, 1040515752),
+    ];
+    for (number, wanted) in numbers {
+        assert_eq!(rt; number, wanted);
+    }
+    assert!(rt; !player.ready && player.away);
     Ok(())
+}
+
+/// How many bytes a long value has: three of them fill most of a line.
+const LONG: usize = 1200;
+
+/// However long the values are, they are kept.
+#[test]
+fn long_values_are_kept(rt: HostRuntime) -> Result<(), Fail> {
+    let alloc = rt.alloc();
+    let mut line = Vec::from_slice(alloc, b"5 ann - - 1 0 1500.00 0 3 1040515752")?;
+    for byte in b"hce" {
+        line.push(b' ')?;
+        for _ in 0..LONG {
+            line.push(*byte)?;
+        }
+    }
+    let mut directory = Directory::new(alloc);
+    assert_eq!(rt; note(&mut directory, line.as_slice()), Ok(()));
+    let player = directory.get(b"ann").ok_or("no player")?;
+    for (value, byte) in [
+        (&player.hostname, b'h'),
+        (&player.client, b'c'),
+        (&player.email, b'e'),
+    ] {
+        assert_eq!(rt; value.len(), LONG);
+        assert!(rt; value.iter().all(|b| *b == byte));
+    }
+    Ok(())
+}
+
+#[test]
+fn faults_are_told_by_their_numbers_and_names(rt: HostRuntime) -> Result<(), Fail> {
+    let alloc = rt.alloc();
+    assert_eq!(rt; DirectoryFault::Memory.number(), 1);
+    assert_eq!(rt; DirectoryFault::Full.number(), 2);
+    let rows = [
+        (format!(in alloc; "{}", DirectoryFault::Memory)?, "Memory"),
+        (format!(in alloc; "{:?}", DirectoryFault::Full)?, "Full"),
+        (format!(in alloc; "{:>6}", DirectoryFault::Full)?, "  Full"),
+        (
+            format!(in alloc; "{:<8}.", DirectoryFault::Memory)?,
+            "Memory  .",
+        ),
+    ];
+    for (text, wanted) in &rows {
+        assert_eq!(rt; text.as_str(), *wanted);
+    }
+    Ok(())
+}
+
+/// What a full directory is told, what it answers, and what is in it then.
+#[derive(Clone, Copy)]
+struct FullRow {
+    line: &'static [u8],
+    answer: Result<(), DirectoryFault>,
+    names: usize,
+    has_bob: bool,
+}
+
+fn full_row(
+    line: &'static [u8],
+    answer: Result<(), DirectoryFault>,
+    names: usize,
+    has_bob: bool,
+) -> FullRow {
+    FullRow {
+        line,
+        answer,
+        names,
+        has_bob,
+    }
+}
+
+/// A directory of the names p0 to p4095 is told of new ones, of known ones, and of those that go.
+fn at_the_limit() -> [FullRow; 7] {
+    let new = b"5 bob - - 1 0 1500 0 3 1040515752 host - -";
+    let full = Err(DirectoryFault::Full);
+    [
+        full_row(new, full, 4096, false),
+        full_row(
+            b"5 p0 - - 1 0 1700 0 3 1040515752 host - -",
+            Ok(()),
+            4096,
+            false,
+        ),
+        full_row(b"7 bob bob logs in.", Ok(()), 4096, false),
+        full_row(b"8 bob bob logs out.", Ok(()), 4096, false),
+        full_row(b"8 p7 p7 logs out.", Ok(()), 4095, false),
+        full_row(new, Ok(()), 4096, true),
+        full_row(
+            b"5 p7 - - 1 0 1500 0 3 1040515752 host - -",
+            full,
+            4096,
+            true,
+        ),
+    ]
 }
 
 #[test]
@@ -308,23 +413,26 @@ fn a_full_directory_takes_no_new_name(rt: HostRuntime) -> Result<(), Fail> {
         let line = format!(in alloc; "5 p{name} - - 1 0 1500 0 3 1040515752 host - -")?;
         assert_eq!(rt; note(&mut directory, line.as_bytes()), Ok(()), "{name}");
     }
-    assert_eq!(rt; directory.len(), 4096);
-    let new = b"5 bob - - 1 0 1500 0 3 1040515752 host - -";
-    assert_eq!(rt; note(&mut directory, new), Err(DirectoryFault::Full));
-    assert_eq!(rt; directory.len(), 4096);
-    assert!(rt; directory.get(b"bob").is_none());
-    let known = b"5 p0 - - 1 0 1700 0 3 1040515752 host - -";
-    assert_eq!(rt; note(&mut directory, known), Ok(()), "a known name");
-    assert!(rt; is(directory.at(0), b"p0", 170000));
-    assert_eq!(rt; note(&mut directory, b"7 bob bob logs in."), Ok(()));
-    assert_eq!(rt; note(&mut directory, b"8 bob bob logs out."), Ok(()));
-    assert_eq!(rt; note(&mut directory, b"8 p7 p7 logs out."), Ok(()));
+    for told in &at_the_limit() {
+        assert_eq!(rt;
+            note(&mut directory, told.line),
+            told.answer,
+            "{:?}",
+            told.line
+        );
+        assert_eq!(rt; directory.len(), told.names, "{:?}", told.line);
+        assert_eq!(rt;
+            directory.get(b"bob").is_some(),
+            told.has_bob,
+            "{:?}",
+            told.line
+        );
+    }
+    assert!(rt; is(directory.at(0), b"p0", 170000), "a known name");
     assert!(rt; is(directory.at(7), b"p8", 150000), "it closes up");
-    assert_eq!(rt; note(&mut directory, new), Ok(()), "there is room again");
-    assert!(rt; is(directory.at(4095), b"bob", 150000));
-    assert_eq!(rt;
-        note(&mut directory, b"5 p7 - - 1 0 1500 0 3 1040515752 host - -"),
-        Err(DirectoryFault::Full)
+    assert!(rt;
+        is(directory.at(4095), b"bob", 150000),
+        "there is room again"
     );
     Ok(())
 }
@@ -334,6 +442,47 @@ fn place_of(list: &[(u64, u64)], name: u64) -> Option<usize>
     ensures { IfSome result (λ place. place < length list.now) }
 {
     list.iter().position(|entry| entry.0 == name)
+}
+
+/// Keeps the points of a name, or takes it out where there are none.
+fn keep(list: &mut Vec<(u64, u64)>, name: u64, points: Option<u64>) -> Result<(), Fail> {
+    match (place_of(list, name), points) {
+        (Some(at), Some(points)) => list[at] = (name, points),
+        (Some(at), None) => {
+            list.remove(at);
+        }
+        (None, Some(points)) => list.push((name, points))?,
+        (None, None) => {}
+    }
+    Ok(())
+}
+
+/// The message that tells the points of a name, or its logout where there are none.
+fn line_of(alloc: Global, name: u64, points: Option<u64>) -> Result<String, Fail> {
+    match points {
+        None => Ok(format!(in alloc; "8 p{name} logs out")?),
+        Some(points) => Ok(format!(in alloc;
+            "5 p{name} - - 1 0 {points} 0 3 1040515752 host - -"
+        )?),
+    }
+}
+
+/// The directory has the list's names and points in the list's order.
+fn assert_has(
+    rt: &impl Abort,
+    alloc: Global,
+    directory: &Directory,
+    list: &[(u64, u64)],
+) -> Result<(), Fail> {
+    assert_eq!(rt; directory.len(), list.len());
+    for at in 0..list.len() {
+        let (name, points) = list[at];
+        let text = format!(in alloc; "p{name}")?;
+        let player = directory.at(at).ok_or("a player at each place")?;
+        assert_eq!(rt; player.name.as_slice(), text.as_bytes());
+        assert_eq!(rt; u64::from(player.rating), points.saturating_mul(100));
+    }
+    Ok(())
 }
 
 #[test]
@@ -347,33 +496,15 @@ fn as_a_plain_list_has_it(rt: HostRuntime) -> Result<(), Fail> {
             .wrapping_mul(6364136223846793005)
             .wrapping_add(1442695040888963407);
         let name = (seed >> 33) % 24;
-        let points = (seed >> 41) % 3000;
-        let place = place_of(&list, name);
-        let line = if (seed >> 60) % 3 == 0 {
-            if let Some(at) = place {
-                list.remove(at);
-            }
-            format!(in alloc; "8 p{name} logs out")?
+        let points = if (seed >> 60) % 3 == 0 {
+            None
         } else {
-            match place {
-                Some(at) => list[at] = (name, points),
-                None => list.push((name, points))?,
-            }
-            format!(in alloc; "5 p{name} - - 1 0 {points} 0 3 1040515752 host - -")?
+            Some((seed >> 41) % 3000)
         };
+        keep(&mut list, name, points)?;
+        let line = line_of(alloc, name, points)?;
         assert_eq!(rt; note(&mut directory, line.as_bytes()), Ok(()), "{round}");
-        assert_eq!(rt; directory.len(), list.len(), "{round}");
-        for at in 0..list.len() {
-            let (name, points) = list[at];
-            let text = format!(in alloc; "p{name}")?;
-            let player = directory.at(at).ok_or("a player at each place")?;
-            assert_eq!(rt; player.name.as_slice(), text.as_bytes(), "{round}");
-            assert_eq!(rt;
-                u64::from(player.rating),
-                points.saturating_mul(100),
-                "{round}"
-            );
-        }
+        assert_has(&rt, alloc, &directory, list.as_slice())?;
     }
     Ok(())
 }

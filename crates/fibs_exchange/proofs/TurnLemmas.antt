@@ -9,3 +9,4 @@ pub mod Stops
 pub mod Printed
 pub mod Noted
 pub mod Reads
+pub mod Faults

@@ -8,17 +8,17 @@ ghost use Rattle.fibs_messages.specs.Message.{MessageValue};
 ghost use Rattle.fibs_exchange.specs.Turns.Script.{outside, known_before, known_after};
 ghost use Rattle.fibs_exchange.specs.Turns.Turn.{Ended, Turned, Stopped, FitsStream, bytes_of, is_there, still_given};
 ghost use Rattle.fibs_show.specs.Reads.{LostAtMost, turn_limit};
-ghost use Rattle.fibs_show.specs.declared.writing.Progress.{Progress};
+ghost use Rattle.fibs_show.specs.Writing.{Progress};
 
 mod hearing;
 pub mod link;
 pub mod printing;
 pub mod sending;
+mod turn_fault;
 mod typing;
 
 use fibs_session::{Client, Directory, Outstanding};
 use fibs_show::fault::EngineFault;
-use fibs_show::writing::Progress;
 use hearing::hear_portion;
 use link::Link;
 use printing::{asked_command, print_line};
@@ -26,6 +26,7 @@ use sending::text_bytes;
 use std::io;
 use std::io::{ErrorKind, Write};
 use thiserror::Error;
+use turn_fault::TurnFault;
 use typing::{type_line, type_offline};
 
 /// The most times that a stream is read in one turn.
@@ -133,9 +134,10 @@ fn listen_portions<S: Link, W: Write>(
             Err(error) if is_quiet(&error) => return Ok(Ending::Quiet),
             Err(_) => return end_connection(client, out),
         };
-        match hear_portion(client, directory, &portion[..count], stream, out)? {
-            Progress::Whole => {}
-            Progress::Broken => return end_connection(client, out),
+        match hear_portion(client, directory, &portion[..count], stream, out) {
+            Ok(()) => {}
+            Err(TurnFault::Stream) => return end_connection(client, out),
+            Err(TurnFault::Output) => return Err(ExchangeFault::Output),
         }
     }
     Ok(Ending::Quiet)
@@ -161,9 +163,10 @@ fn talk<S: Link, W: Write>(
     fibs_session::client::laws::empty_piece_is_nothing();
     match typed {
         None => listen(client, directory, stream, out),
-        Some(text) => match type_line(client, text, stream, out)? {
-            Progress::Whole => listen(client, directory, stream, out),
-            Progress::Broken => end_connection(client, out),
+        Some(text) => match type_line(client, text, stream, out) {
+            Ok(()) => listen(client, directory, stream, out),
+            Err(TurnFault::Stream) => end_connection(client, out),
+            Err(TurnFault::Output) => Err(ExchangeFault::Output),
         },
     }
 }

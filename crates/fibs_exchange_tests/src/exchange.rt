@@ -532,37 +532,64 @@ impl Link for Stumbles<'_> {
     }
 }
 
-/// After a write that fails no other is made, though the stream would take it.
+/// Commands that lines of the server call for.
+const COMMANDS: [&[u8]; 3] = [
+    b"set boardstyle 3\r\n",
+    b"toggle autoboard\r\n",
+    b"board\r\n",
+];
+
+/// Each command leaves with its line end by one write: one that is typed, and those that the server's lines call for.
+#[test]
+fn a_command_is_one_write(rt: HostRuntime) {
+    let input = joined(&[WELCOME, END, INFO_WITHOUT_BOARDS, END]);
+    let mut client = opened(&rt);
+    let mut directory = Directory::new(rt.alloc());
+    let mut printed = Pipe::new(b"", 1, After::End, 512);
+    let mut stream = Stumbles {
+        input: Pipe::new(&input, 1000, QUIET, 0),
+        output: FailsOnce::new(1000, 1000),
+    };
+    let typed = b"tell bob hi".as_slice();
+    let outcome = exchange(
+        &mut client,
+        &mut directory,
+        Some(&mut stream),
+        Some(typed),
+        &mut printed,
+    );
+    assert!(rt; matches!(outcome, Ok(Ending::Quiet)), "all is written");
+    let sent = joined(&[b"tell bob hi\r\n", COMMANDS[0], COMMANDS[1], COMMANDS[2]]);
+    assert_eq!(rt; stream.output.output(), sent.as_slice());
+    assert_eq!(rt; stream.output.writes(), 4);
+}
+
+/// After a write that fails no other is made, though the stream would take it, and also where a signal interrupted it.
 #[test]
 fn nothing_is_sent_after_a_write_that_fails(rt: HostRuntime) {
     let input = joined(&[WELCOME, END, INFO_WITHOUT_BOARDS, END]);
-    let writes: [&[u8]; 6] = [
-        b"set boardstyle 3",
-        END,
-        b"toggle autoboard",
-        END,
-        b"board",
-        END,
-    ];
-    for before in 0..writes.len() {
-        let mut client = opened(&rt);
-        let mut directory = Directory::new(rt.alloc());
-        let mut printed = Pipe::new(b"", 1, After::End, 512);
-        let mut stream = Stumbles {
-            input: Pipe::new(&input, 1000, QUIET, 0),
-            output: FailsOnce::new(before, 1000),
-        };
-        let outcome = exchange(
-            &mut client,
-            &mut directory,
-            Some(&mut stream),
-            None,
-            &mut printed,
-        );
-        let is_lost = matches!(outcome, Ok(Ending::Lost(None)));
-        let is_front = is_made_of(stream.output.output(), &writes[..before]);
-        let is_last = printed.output().ends_with(b"lost\n");
-        assert!(rt; is_lost && is_front && is_last, "after {before} writes");
+    for error in [ErrorKind::BrokenPipe, ErrorKind::Interrupted] {
+        for before in 0..COMMANDS.len() {
+            let mut client = opened(&rt);
+            let mut directory = Directory::new(rt.alloc());
+            let mut printed = Pipe::new(b"", 1, After::End, 512);
+            let mut stream = Stumbles {
+                input: Pipe::new(&input, 1000, QUIET, 0),
+                output: FailsOnce::of_kind(error, before, 1000),
+            };
+            let outcome = exchange(
+                &mut client,
+                &mut directory,
+                Some(&mut stream),
+                None,
+                &mut printed,
+            );
+            let is_lost = matches!(outcome, Ok(Ending::Lost(None)));
+            let is_front = is_made_of(stream.output.output(), &COMMANDS[..before]);
+            let is_last = printed.output().ends_with(b"lost\n");
+            assert!(rt; is_lost && is_front && is_last, "after {before} writes");
+            assert_eq!(rt; stream.output.writes(), before + 1);
+        }
     }
 }
 

@@ -13,7 +13,8 @@ use std::marker::Model;
 
 /// The reader of one stream: it takes its bytes in any pieces, and lends each line out of its own buffer.
 ///
-/// It takes no memory but its own, and refuses nothing.
+/// It takes no memory but its own, and refuses nothing. Its buffer has one byte more than `LIMIT`, since the byte after
+/// `LIMIT` others may be the CR before a line end, which is no byte of the line.
 #[derive(Drop)]
 pub struct Lines {
     unfinished: Unfinished,

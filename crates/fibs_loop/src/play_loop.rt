@@ -1,4 +1,5 @@
 //! `fibs loop`: a script of events, played by a client and a model server over real sockets.
+ghost use Rattle.fibs_show.specs.Status.{code_of};
 ghost use Rattle.std.specs.Prelude.{◌≡◌, ◌≤◌, ◌<◌, ◌^◌, List, length, IfOk};
 ghost use Rattle.fibs_boards.specs.Board.{BoardFields};
 ghost use Rattle.fibs_model.specs.Events.{Event};
@@ -20,7 +21,7 @@ use fibs_replay::replay::output::{end_line, print_log, refused_line, unread_line
 use fibs_replay::replay::run::script_login;
 use fibs_replay::replay::script::{first_unreadable, script_lines};
 use fibs_show::fault::EngineFault;
-use fibs_show::writing::Progress;
+use fibs_show::status::Status;
 use std::alloc::Global;
 use std::io::{Read, Write};
 use std::net::{Net, TcpListener, TcpStream};
@@ -29,12 +30,6 @@ use table::Table;
 
 /// How many bytes of a script are asked for at once.
 const PORTION: usize = 4096;
-
-/// The exit status at the end of a script.
-const DONE: u8 = 0;
-
-/// The exit status of a script that is not played to its end.
-const REFUSED: u8 = 3;
 
 /// Reads a script and plays it: a client at one end of a connection and a model server at the other, in turn, over a
 /// socket to the listener for each connection that is opened. It prints what `replay` prints, and has its status.
@@ -54,9 +49,9 @@ pub fn play_loop<N: Net<Stream = TcpStream>, R: Read, W: Write>(
     ensures { EndsScript result }
 {
     match read_script(alloc, &mut [0; PORTION], reader)? {
-        None => finish(&[], &unread_line(0), REFUSED, writer),
+        None => finish(&[], &unread_line(0), Status::Refused, writer),
         Some(script) => match first_unreadable(script.as_slice()) {
-            Some(number) => finish(&[], &unread_line(number), REFUSED, writer),
+            Some(number) => finish(&[], &unread_line(number), Status::Refused, writer),
             None => play_script(rt, alloc, listener, script.as_slice(), writer),
         },
     }
@@ -66,16 +61,14 @@ pub fn play_loop<N: Net<Stream = TcpStream>, R: Read, W: Write>(
 fn finish<W: Write>(
     log: &[Entry],
     last: &[u8],
-    status: u8,
+    status: Status,
     writer: &mut W,
 ) -> Result<u8, EngineFault>
     requires { length last.now ≤ 8192 }
-    ensures { IfOk result (λ s. s ≡ status) }
+    ensures { IfOk result (λ s. s ≡ code_of status) }
 {
-    match print_log(log, last, writer) {
-        Progress::Whole => Ok(status),
-        Progress::Broken => Err(EngineFault::Device),
-    }
+    print_log(log, last, writer)?;
+    Ok(status.code())
 }
 
 /// Plays a script whose lines are readable.
@@ -96,7 +89,7 @@ fn play_script<N: Net<Stream = TcpStream>, W: Write>(
         None => unreachable!(),
     };
     match Table::new(alloc, board, script_login()) {
-        Err(why) => finish(&[], &refused_line(0, why), REFUSED, writer),
+        Err(why) => finish(&[], &refused_line(0, why), Status::Refused, writer),
         Ok(mut table) => {
             let (done, stop) = play_lines(&mut table, rt, listener, &mut lines);
             print_end(table.log(), done, stop, writer)
@@ -138,10 +131,10 @@ fn print_end<W: Write>(
     ensures { EndsScript result }
 {
     match stop {
-        None => finish(log, &end_line(done), DONE, writer),
-        Some(Stop::Refused(why)) => finish(log, &refused_line(done, why), REFUSED, writer),
+        None => finish(log, &end_line(done), Status::Done, writer),
+        Some(Stop::Refused(why)) => finish(log, &refused_line(done, why), Status::Refused, writer),
         Some(Stop::Fault(fault)) => {
-            finish(log, b"", DONE, writer)?;
+            finish(log, b"", Status::Done, writer)?;
             Err(fault)
         }
     }

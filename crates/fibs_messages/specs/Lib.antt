@@ -6,3 +6,4 @@ pub mod Line
 pub mod Bits
 pub mod FieldOf
 pub mod LineReading
+pub mod Settings

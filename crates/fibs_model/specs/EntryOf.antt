@@ -1,5 +1,5 @@
 -- Entries of the program as values.
-use Rattle.std.specs.Prelude.{option_map}
+use Rattle.std.specs.Prelude.{List, [], ◌∷◌, Option, Some, None, option_map}
 use Rattle.std.specs.Result.{result_err}
 use Rattle.fibs_boards.specs.StoredBoard.{fields_of}
 use Rattle.fibs_position.specs.DecisionValue.{decision_of}
@@ -20,3 +20,8 @@ entry_of (E.Sent conn board decision) = V.Sent conn (fields_of board) (decision_
 entry_of (E.Took conn board decision) = V.Took conn (fields_of board) (decision_of decision)
 entry_of (E.Undone conn board decision) = V.Undone conn (fields_of board) (decision_of decision)
 entry_of (E.Lost conn unconfirmed) = V.Lost conn (option_map ask_of unconfirmed)
+
+-- what was noted where it was one entry or none
+abbrev pub entries_of : Option Entry → List V.Entry
+entries_of None = []
+entries_of (Some e) = entry_of e ∷ []

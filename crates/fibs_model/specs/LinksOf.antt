@@ -4,7 +4,7 @@ use Rattle.fibs_session.specs.History.Words.{is_empty}
 use Rattle.fibs_model.specs.Wires as W
 use Rattle.fibs_model.specs.declared.world.link.Link.{Link}
 
--- what the program keeps of the wires of a connection: the bytes on their way, and whether the server took no line yet
+-- what the value of a connection's wires says: the bytes on their way, and whether the server took no line yet
 pub record LinkValue : Type 0 where
   -- to the client
   pub coming : List ℕ

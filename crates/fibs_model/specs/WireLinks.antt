@@ -1,4 +1,4 @@
--- What is done to the wires of a connection, by what the program keeps of them.
+-- What is done to the wires of a connection, by what the value of the program says of them.
 use Rattle.std.specs.Prelude.{ℕ, false, List, [], ◌++◌, take, drop}
 use Rattle.fibs_model.specs.LinksOf.{LinkValue}
 

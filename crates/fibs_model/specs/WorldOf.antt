@@ -12,7 +12,7 @@ use Rattle.fibs_model.specs.ServerOf.{ServerValue}
 use Rattle.fibs_model.specs.World.{World, talk_of, after}
 use Rattle.fibs_model.specs.declared.world.World.TheInside.{Inside}
 
--- what the program keeps of a world
+-- what the value of a world of the program says
 pub record WorldValue : Type 0 where
   pub server : ServerValue
   pub client : ClientValue
@@ -32,7 +32,8 @@ world_of w = record {
 }
 
 -- It stands for a world of the machine, for the command that logs the user in. Of each connection it has the bytes that
--- the machine has on their way, and whether the machine's server took a line: bytes that were taken are not kept.
+-- the machine has on their way, and whether the machine's server took a line. Of the bytes that were taken it says
+-- nothing: a wire of the program may still hold some, at most as many as are on their way (`HoldsFewTaken`).
 pub record StandsFor (v : WorldValue) (login : List ℕ) (w : World) : Type 0 where
   pub board : v.server.board ≡ w.board
   pub logged_in : v.server.logged_in ≡ w.logged_in

@@ -1,6 +1,13 @@
 //! What is noted of the world.
 
-use fibs_messages::Board;
+ghost use Rattle.std.specs.Prelude.{◌≡◌, List};
+ghost use Rattle.fibs_messages.specs.Line.{reading_of};
+ghost use Rattle.fibs_messages.specs.Message.{message_of};
+ghost use Rattle.fibs_session.specs.History.Hearing.{heard, heard_message};
+ghost use Rattle.fibs_session.specs.History.Log as L;
+
+use crate::server::is_good;
+use fibs_messages::{Board, Message, Reading};
 use fibs_position::Decision;
 use fibs_session::{Outstanding, Refusal};
 
@@ -81,4 +88,45 @@ pub enum Entry {
         /// The decision that waited on it, with the board on which it was made.
         unconfirmed: Option<Outstanding>,
     },
+}
+
+impl Entry {
+    ghost use Rattle.fibs_model.specs.EntryOf.{entries_of};
+
+    /// The entry of a message that the client heard.
+    fn of_message(conn: usize, message: &Message<'_>) -> Option<Entry>
+        ensures { (before : List L.Entry) →
+            entries_of result ≡ (heard_message conn before (message_of message.now)).entries }
+    {
+        match message {
+            Message::Welcome { .. } => Some(Entry::Welcomed { conn }),
+            Message::OwnInfo(info) => Some(Entry::Informed {
+                conn,
+                automove: info.automove,
+                greedy: info.greedy,
+            }),
+            _ => None,
+        }
+    }
+
+    /// The entry of a line that the client heard: what is noted of it is just this, whatever was noted before it.
+    pub fn of_reading(conn: usize, reading: &Reading<'_>) -> Option<Entry>
+        ensures { (before : List L.Entry) →
+            entries_of result ≡ (heard conn before (reading_of reading.now)).entries }
+    {
+        match reading {
+            Reading::Numbered(message) => Entry::of_message(conn, message),
+            Reading::Board(board) => {
+                if is_good(board) {
+                    Some(Entry::Shown {
+                        conn,
+                        board: *board,
+                    })
+                } else {
+                    None
+                }
+            }
+            Reading::Text(_) | Reading::Malformed { .. } => None,
+        }
+    }
 }

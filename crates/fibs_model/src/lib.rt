@@ -14,6 +14,6 @@ pub use entry::Entry;
 pub use event::Event;
 pub use refusal::WorldRefusal;
 pub use run_end::RunEnd;
-pub use server::{Served, Server};
+pub use server::{Served, Server, is_die};
 pub use wire::is_board_text;
 pub use world::World;

@@ -2,6 +2,7 @@
 
 ghost use Rattle.std.specs.Prelude.{◌≡◌, ◌↔◌, ◌≤◌, true, Some, IsOk, IfOk, OnOk, OnErr, slice_index};
 ghost use Rattle.std.specs.Result.{result_err};
+ghost use Rattle.fibs_boards.specs.Board.{BoardFields};
 ghost use Rattle.fibs_boards.specs.StoredBoard.{fields_of};
 ghost use Rattle.fibs_position.specs.DecisionValue.{decision_of};
 ghost use Rattle.fibs_position.specs.DirectionOf.{direction_of};
@@ -9,8 +10,9 @@ ghost use Rattle.fibs_position.specs.First.{IsFirst};
 ghost use Rattle.fibs_position.specs.GoodBoard.{IsGood, HasFault, faults};
 ghost use Rattle.fibs_position.specs.GoodBoard.{good};
 ghost use Rattle.fibs_position.specs.PositionValue.{position_of, position_value};
-ghost use Rattle.fibs_model.specs.Server.{answered, obeyed, own_refusal, user_decides};
+ghost use Rattle.fibs_model.specs.Server.{answered, is_die, obeyed, own_refusal, user_decides};
 
+use crate::entry::Entry;
 use crate::refusal::WorldRefusal;
 use fibs_messages::Board;
 use fibs_position::{Decision, Direction, Phase, Position, PositionFault, effect};
@@ -30,6 +32,50 @@ pub enum Served {
     Undone(Decision),
     /// The line is no decision.
     Answered,
+}
+
+impl Served {
+    ghost use Rattle.fibs_model.specs.Calls.{is_answered, served_entries};
+    ghost use Rattle.fibs_model.specs.EntryOf.{entries_of};
+    ghost use Rattle.fibs_model.specs.ServerOf.{served_of};
+
+    /// The server answers the line by its board.
+    pub fn is_answered(self) -> bool
+        ensures { (after : BoardFields) → result ≡ is_answered (served_of self after) }
+    {
+        match self {
+            Served::Stale | Served::LoggedIn => false,
+            Served::Took(_) | Served::Undone(_) | Served::Answered => true,
+        }
+    }
+
+    /// The entry of the line, which came on a connection, with the server's board before it.
+    pub fn entry(self, conn: usize, board: Board) -> Option<Entry>
+        ensures { (after : BoardFields) →
+            entries_of result ≡ served_entries conn (fields_of board) (served_of self after) }
+    {
+        match self {
+            Served::Stale | Served::Answered => None,
+            Served::LoggedIn => Some(Entry::LoggedIn { conn }),
+            Served::Took(decision) => Some(Entry::Took {
+                conn,
+                board,
+                decision,
+            }),
+            Served::Undone(decision) => Some(Entry::Undone {
+                conn,
+                board,
+                decision,
+            }),
+        }
+    }
+}
+
+/// It is a number of a die.
+pub fn is_die(number: u8) -> bool
+    ensures { result ≡ is_die number }
+{
+    0 < number && number < 7
 }
 
 /// A model of the server: a good board with its position, and the number of the connection that is logged in. The

@@ -6,3 +6,4 @@ pub mod Lines
 pub mod Scripts
 pub mod Outputs
 pub mod Runs
+pub mod Reads

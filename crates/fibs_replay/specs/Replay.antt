@@ -1,4 +1,5 @@
 -- What `fibs replay` reads and prints: a script of events, and the log of the world after them.
+pub mod Limits
 pub mod EventLines
 pub mod EventReading
 pub mod Scripts

@@ -1,15 +1,18 @@
 //! `fibs replay`: runs a script of events, and prints the log of the world.
-ghost use Rattle.std.specs.Prelude.{◌≡◌, ◌≤◌, ◌∷◌, ℕ, List, length, IfOk, IfSome, IfNone, IsErrOf};
+ghost use Rattle.std.specs.Prelude.{◌≡◌, ◌≤◌, ◌+◌, ◌∷◌, ℕ, List, length, IfOk, IfSome, IfNone, IsErrOf};
 ghost use Rattle.fibs_boards.specs.Board.{BoardFields, BoardText};
 ghost use Rattle.fibs_boards.specs.StoredBoard.{fields_of};
 ghost use Rattle.fibs_model.specs.Events.{Event};
 ghost use Rattle.fibs_show.specs.Printing.{Printed};
+ghost use Rattle.fibs_show.specs.Reads.{LostAtMost};
+ghost use Rattle.fibs_replay.specs.Replay.Limits.{read_len};
 ghost use Rattle.fibs_replay.specs.Replay.Output.{Replayed, ReplayedInPart, ReplayFailed};
 ghost use Rattle.fibs_replay.specs.Replay.Running.{PrintedFor};
-ghost use Rattle.fibs_replay.specs.Replay.Scripts.{SayScript, script_lines};
+ghost use Rattle.fibs_replay.specs.Replay.Scripts.{SayScript, script_limit, script_lines};
 
 pub mod events;
 pub mod input;
+pub mod limits;
 pub mod log_lines;
 pub mod output;
 pub mod run;
@@ -20,22 +23,21 @@ use events::read_board;
 use fibs_messages::Board;
 use fibs_model::World;
 use fibs_show::fault::EngineFault;
-use fibs_show::writing::{Progress, write_bytes};
-use input::read_script;
+use fibs_show::status::Status;
+use fibs_show::writing::write_bytes;
+use input::read_lines;
 use output::{LastLine, refused_line, unread_line};
-use run::{REFUSED, print_run, run_lines, script_login};
-use script::{first_unreadable, script_lines};
+use run::{print_run, run_lines, script_login};
+use script::{Script, script_lines};
 use std::alloc::Global;
 use std::io::{Read, Write};
-
-/// How many bytes are asked for at once.
-const PORTION: usize = 4096;
 
 /// Reads a script, runs it, and prints the log of the world, and then how it ended: `end DONE` with status 0; or, with
 /// status 3, `refused DONE NUMBER NAME` at the first event that is refused, or `script N` of a script that is not run,
 /// N being its first line that is unreadable, or 0 where it has more than 1,048,576 bytes.
 ///
-/// Where memory runs out it has printed the log so far. After a failed write it makes no other.
+/// Nothing is printed before the script is read whole, so nothing after a failed read. Where memory runs out it has
+/// printed the log so far. After a failed write it makes no other.
 pub fn replay<R: Read, W: Write>(
     alloc: Global,
     reader: &mut R,
@@ -49,32 +51,20 @@ pub fn replay<R: Read, W: Write>(
     ensures memory { IsErrOf result EngineFault.Memory →
         ReplayedInPart (R.remaining reader.old) (R.remaining reader.new)
         (W.contents writer.old) (W.contents writer.new) }
+    ensures few { LostAtMost (script_limit + read_len) (R.remaining reader.old) (R.remaining reader.new) }
 {
-    match read_script(alloc, &mut [0; PORTION], reader)? {
-        None => print_unrun(&unread_line(0), writer),
-        Some(script) => replay_script(alloc, script.as_slice(), writer),
+    match read_lines(alloc, reader)? {
+        Script::Unreadable(number) => print_unrun(&unread_line(number), writer),
+        Script::Readable(script) => replay_readable(alloc, script.as_slice(), writer),
     }
 }
 
 /// Prints the one line of a script that is not run.
-fn print_unrun<W: Write>(line: &LastLine, writer: &mut W) -> Result<u8, EngineFault>
+pub fn print_unrun<W: Write>(line: &LastLine, writer: &mut W) -> Result<u8, EngineFault>
     ensures { Printed 3 line.now.items result (W.contents writer.old) (W.contents writer.new) }
 {
-    match write_bytes(line.as_slice(), writer) {
-        Progress::Whole => Ok(REFUSED),
-        Progress::Broken => Err(EngineFault::Device),
-    }
-}
-
-/// Runs a script that is not too long, if each of its lines is readable.
-fn replay_script<W: Write>(alloc: Global, script: &[u8], writer: &mut W) -> Result<u8, EngineFault>
-    requires { length script.now ≤ 1048576 }
-    ensures { PrintedFor script.now result (W.contents writer.old) (W.contents writer.new) }
-{
-    match first_unreadable(script) {
-        Some(number) => print_unrun(&unread_line(number), writer),
-        None => replay_readable(alloc, script, writer),
-    }
+    write_bytes(line.as_slice(), writer)?;
+    Ok(Status::Refused.code())
 }
 
 /// The board that the first of the lines says, which is taken from them.
@@ -92,7 +82,7 @@ fn replay_readable<W: Write>(
     script: &[u8],
     writer: &mut W,
 ) -> Result<u8, EngineFault>
-    requires short { length script.now ≤ 1048576 }
+    requires short { length script.now ≤ script_limit }
     requires readable { (b : BoardFields) × (events : List Event) × SayScript (script_lines script.now) b events }
     ensures { PrintedFor script.now result (W.contents writer.old) (W.contents writer.new) }
 {

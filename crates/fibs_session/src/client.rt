@@ -16,8 +16,8 @@ ghost use Rattle.fibs_commands.specs.PlainOf.{plain_value};
 mod got;
 mod heard_line;
 mod input;
-mod kept;
 pub mod laws;
+mod owned_reading;
 mod run;
 
 use crate::refusal::{PlainRefusal, Refusal};
@@ -30,7 +30,7 @@ pub use got::Got;
 use heard_line::Answer;
 pub use heard_line::HeardLine;
 pub use input::Input;
-use kept::Kept;
+use owned_reading::OwnedReading;
 pub use run::run_client;
 use std::marker::Model;
 
@@ -160,11 +160,11 @@ impl Client {
                     send,
                     confirmed,
                 } = self.session.line(&line);
-                let kept = Kept::of(&reading);
+                let reading = OwnedReading::of(&reading);
                 HeardLine {
                     used,
                     answer: Some(Answer {
-                        kept,
+                        reading,
                         send,
                         confirmed,
                     }),
@@ -201,7 +201,7 @@ impl Client {
             None => Got { used, taken: None },
             Some(
                 Answer {
-                    kept,
+                    reading,
                     send,
                     confirmed,
                 },
@@ -211,7 +211,7 @@ impl Client {
                     used,
                     taken: Some(Taken {
                         line,
-                        reading: kept.reading(&line),
+                        reading: reading.with_line(&line),
                         send,
                         confirmed,
                     }),

@@ -112,9 +112,8 @@ fn boards_are_shown_and_other_commands_sent(rt: HostRuntime) -> Result<(), Fail>
 }
 
 #[test]
-fn a_line_is_shown_with_its_reading_and_what_it_confirms(rt: HostRuntime) -> Result<(), Fail> {
+fn a_line_is_shown_with_its_reading(rt: HostRuntime) -> Result<(), Fail> {
     let mut client = ready()?;
-    assert!(rt; client.shown().is_none(), "no board");
     let got = client.feed(b"[board]\r\nrest");
     assert_eq!(rt; got.used, 9);
     let taken = got.taken.ok_or("no line")?;
@@ -122,9 +121,14 @@ fn a_line_is_shown_with_its_reading_and_what_it_confirms(rt: HostRuntime) -> Res
     assert!(rt; !taken.line.cut);
     assert!(rt; matches!(taken.reading, Reading::Text(b"[board]")));
     assert!(rt; taken.send.as_slice().is_empty() && taken.confirmed.is_none());
-    feed_line(&mut client, b"");
+    Ok(())
+}
+
+#[test]
+fn a_board_confirms_the_decision_with_its_board(rt: HostRuntime) -> Result<(), Fail> {
+    let mut client = ready()?;
+    assert!(rt; client.shown().is_none(), "no board");
     let first = board_of(TO_ROLL)?;
-    let second = board_of(TO_MOVE)?;
     feed_line(&mut client, TO_ROLL);
     assert!(rt; client.shown() == Some(&first) && client.waiting().is_none());
     assert!(rt; client.decide(&Decision::Roll).is_ok());
@@ -144,14 +148,20 @@ fn a_line_is_shown_with_its_reading_and_what_it_confirms(rt: HostRuntime) -> Res
         taken.confirmed == Some(asked),
         "with the board on which it was made"
     );
+    let second = board_of(TO_MOVE)?;
     assert!(rt; client.shown() == Some(&second) && client.waiting().is_none());
+    Ok(())
+}
+
+#[test]
+fn offline_no_board_is_shown_and_all_bytes_are_dropped(rt: HostRuntime) -> Result<(), Fail> {
+    let mut client = ready()?;
+    feed_line(&mut client, TO_ROLL);
+    assert!(rt; client.shown().is_some());
     assert!(rt; client.lose().is_none());
     assert!(rt; client.shown().is_none());
     let got = client.feed(TO_ROLL);
-    assert!(rt;
-        got.used == TO_ROLL.len() && got.taken.is_none(),
-        "offline all is dropped"
-    );
+    assert!(rt; got.used == TO_ROLL.len() && got.taken.is_none());
     Ok(())
 }
 
@@ -238,6 +248,7 @@ fn refusals_are_told_by_their_numbers_and_names(rt: HostRuntime) -> Result<(), F
         number = number.saturating_add(1);
         assert_eq!(rt; why.number(), number);
         assert_eq!(rt; format!(in rt.alloc(); "{why}")?.as_str(), name);
+        assert_eq!(rt; format!(in rt.alloc(); "{why:?}")?.as_str(), name);
     }
     let plain = [
         (PlainRefusal::Offline, 2u8, "Offline"),
@@ -248,5 +259,60 @@ fn refusals_are_told_by_their_numbers_and_names(rt: HostRuntime) -> Result<(), F
         assert_eq!(rt; why.number(), number);
         assert_eq!(rt; format!(in rt.alloc(); "{why}")?.as_str(), name);
     }
+    Ok(())
+}
+
+/// A width is kept, so that refusals stand in columns.
+#[test]
+fn refusals_are_padded_to_a_width(rt: HostRuntime) -> Result<(), Fail> {
+    let alloc = rt.alloc();
+    let rows = [
+        (format!(in alloc; "{:>10}", Refusal::NoBoard)?, "   NoBoard"),
+        (format!(in alloc; "{:<8}.", Refusal::NotOn)?, "NotOn   ."),
+        (
+            format!(in alloc; "{:^9}", PlainRefusal::NotOn)?,
+            "  NotOn  ",
+        ),
+        (
+            format!(in alloc; "{:>8}", PlainRefusal::Offline)?,
+            " Offline",
+        ),
+        (
+            format!(in alloc; "{:>10}", PlainRefusal::Fault(PlainFault::BadText))?,
+            "   BadText",
+        ),
+    ];
+    for (text, wanted) in &rows {
+        assert_eq!(rt; text.as_str(), *wanted);
+    }
+    Ok(())
+}
+
+/// How many connections a long run opens.
+const CONNECTIONS_OF_A_RUN: usize = 200;
+
+/// However much comes and goes, a run with ample memory hands out all of it.
+#[test]
+fn a_long_run_hands_out_every_command(rt: HostRuntime) -> Result<(), Fail> {
+    let alloc = rt.alloc();
+    let mut piece = Vec::new(alloc);
+    let mut wanted = Vec::new(alloc);
+    for _ in 0..100u32 {
+        piece.extend_from_slice(WELCOME)?;
+        piece.extend_from_slice(b"\r\n")?;
+        piece.extend_from_slice(INFO)?;
+        piece.extend_from_slice(b"\r\n")?;
+    }
+    let inputs = [Input::Open, Input::Piece(piece.as_slice()), Input::Lose];
+    let mut all = Vec::new(alloc);
+    for _ in 0..CONNECTIONS_OF_A_RUN {
+        all.extend_from_slice(&inputs)?;
+        wanted.extend_from_slice(
+            b"login fibs_client 1008 ann secret\r\nset boardstyle 3\r\nboard\r\n",
+        )?;
+    }
+    assert!(rt; piece.len() > 8000, "a long piece");
+    let bytes = run_client(alloc, login()?, all.as_slice())?;
+    assert_eq!(rt; bytes.as_slice(), wanted.as_slice());
     Ok(())
 }

@@ -53,17 +53,29 @@ escaped_none xs e =
     (λ k l. not-true (is_escaped (get_or xs k 0)) (prefix_len_passes (λ b. not (is_escaped b)) xs k 0 (omega (arith, all))))
     ∙ plain
 
--- a run and the escape after it are appended
-pub escaped_more : (before run after xs whole : List ℕ) (at : ℕ) → position is_escaped xs ≡ Some at → before ++ escaped xs ≡ whole
-    → run ≡ before ++ take at xs → after ≡ run ++ hex_escape (get_or xs at 0) → after ++ escaped (take (length xs - (at + 1)) (drop (at + 1) xs)) ≡ whole
-escaped_more before run after xs whole at found kept first then =
+-- what is left after a front: a run, the escape after it, and the text of the rest
+pub escaped_run : (front xs whole : List ℕ) (at : ℕ) → position is_escaped xs ≡ Some at → front ++ escaped xs ≡ whole
+    → front ++ (take at xs ++ (hex_escape (get_or xs at 0) ++ escaped (drop (at + 1) xs))) ≡ whole
+escaped_run front xs whole at found kept =
+    let escape : List ℕ = hex_escape (get_or xs at 0) in
     let rest : List ℕ = escaped (drop (at + 1) xs) in
-    ap (λ l. after ++ escaped l) (take_rest xs (at + 1))
-    ∙ ap (λ l. l ++ rest) (then ∙ ap (λ l. l ++ hex_escape (get_or xs at 0)) first)
-    ∙ append_assoc (before ++ take at xs) (hex_escape (get_or xs at 0)) rest
-    ∙ append_assoc before (take at xs) (hex_escape (get_or xs at 0) ++ rest)
-    ∙ ap (λ l. before ++ l) (sym (escaped_some xs at found ∙ append_assoc (take at xs) (hex_escape (get_or xs at 0)) rest))
-    ∙ kept
+    ap (λ l. front ++ l) (sym (escaped_some xs at found ∙ append_assoc (take at xs) escape rest)) ∙ kept
+
+-- the same after the run
+pub escaped_escape : (front xs whole : List ℕ) (at : ℕ) → position is_escaped xs ≡ Some at → front ++ escaped xs ≡ whole
+    → (front ++ take at xs) ++ (hex_escape (get_or xs at 0) ++ escaped (drop (at + 1) xs)) ≡ whole
+escaped_escape front xs whole at found kept =
+    append_assoc front (take at xs) (hex_escape (get_or xs at 0) ++ escaped (drop (at + 1) xs))
+    ∙ escaped_run front xs whole at found kept
+
+-- and after the escape
+pub escaped_rest : (front xs left whole : List ℕ) (at : ℕ) → position is_escaped xs ≡ Some at
+    → left ≡ drop (at + 1) xs → front ++ escaped xs ≡ whole
+    → ((front ++ take at xs) ++ hex_escape (get_or xs at 0)) ++ escaped left ≡ whole
+escaped_rest front xs left whole at found same kept =
+    ap (λ l. ((front ++ take at xs) ++ hex_escape (get_or xs at 0)) ++ escaped l) same
+    ∙ append_assoc (front ++ take at xs) (hex_escape (get_or xs at 0)) (escaped (drop (at + 1) xs))
+    ∙ escaped_escape front xs whole at found kept
 
 -- a text of which no byte is escaped is its own text
 pub escaped_plain : (xs : List ℕ) → list_any is_escaped xs ≡ false → escaped xs ≡ xs

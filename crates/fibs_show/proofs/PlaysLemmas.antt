@@ -1,8 +1,6 @@
 -- The lines of `fibs plays`.
-use Rattle.std.proofs.Common.{◌≡◌, ℕ, List, [], ◌∷◌, ◌++◌, ap, sym, ◌∙◌, append_assoc, arith, refl, subst, inl, inr}
+use Rattle.std.proofs.Common.{◌≡◌, ℕ, List, [], ◌∷◌, sym, arith, subst, inl, inr}
 use Rattle.std.proofs.Common.{Result, Ok, Err, IsErrOf, MatchResult}
-use Rattle.std.specs.Prelude.{codes, decimal}
-use Rattle.std.proofs.lemmas.Fmt.{decimal_digit}
 use Rattle.fibs_boards.specs.Board.{BoardFields}
 use Rattle.fibs_messages.specs.Line.{ReadingValue, board_line}
 use Rattle.fibs_position.specs.First.{IsFirst}
@@ -12,14 +10,6 @@ use Rattle.fibs_position.specs.declared.position_fault.PositionFault.TheVariants
 use Rattle.fibs_show.specs.Plays.{Refusal}
 use Rattle.fibs_show.specs.declared.fault.EngineFault.{EngineFault}
 use Rattle.fibs_show.specs.declared.fault.EngineFault.TheVariants.{Device, Memory}
-
--- the parts of the line of a wrong field, one after another
-pub malformed_parts : (none front shown digits number space name whole : List ℕ) → none ≡ [] → front ≡ none ++ codes "malformed 0 "
-    → shown ≡ digits → number ≡ front ++ shown → space ≡ number ++ 32 ∷ [] → whole ≡ (space ++ name) ++ 10 ∷ []
-    → whole ≡ (codes "malformed " ++ (decimal 0 ++ (32 ∷ (digits ++ (32 ∷ name))))) ++ 10 ∷ []
-malformed_parts none front shown digits number space name whole e0 e1 e2 e3 e4 e5 =
-    e5 ∙ ap (λ l. (l ++ name) ++ 10 ∷ []) (e4 ∙ ap (λ l. l ++ 32 ∷ []) (e3 ∙ ap (λ l. front ++ l) e2 ∙ ap (λ l. l ++ digits) (e1 ∙ ap (λ l. l ++ codes "malformed 0 ") e0)))
-    ∙ rw (decimal_digit 0 (omega arith)) (simp append_assoc)
 
 -- the first that fits does fit
 first_fits : {X : Type 0} (fits : X → Type 0) (xs : List X) (x : X) → IsFirst fits xs x → fits x

@@ -18,8 +18,9 @@ use Rattle.fibs_show.specs.Escape.{escaped}
 use Rattle.fibs_show.specs.Show.{reading_text, ShownAs, ShownLine, ShownLines, ShowText, WroteLinesOf, WroteRead}
 use Rattle.fibs_show.specs.Show.{WroteFront, WroteAll, unfinished_text}
 use Rattle.fibs_show.specs.Shows.{Shows, EndsText}
-use Rattle.fibs_show.specs.Reads.{LostAtLeast, LostAtMost}
+use Rattle.fibs_show.specs.Reads.{LostAtMost}
 use Rattle.fibs_show.specs.Writing.{GainedFront}
+use Rattle.fibs_show.proofs.WriteLemmas.{front_after, front_of_more}
 
 -- a line that was cut
 pub cut_line : (line : ReadLine) → line.cut ≡ true → ShownLine line (codes "cut " ++ escaped line.bytes)
@@ -167,16 +168,6 @@ pub passed_read : (left still less held now : Option (List ℕ)) (lines : LinesV
     → Keeps still less → WroteRead left less held now
 passed_read left still less held now lines text reads size p kept =
     (p.stream, passed_part left still less held now lines text [] reads size p (kept_consumes still less kept))
-
--- bytes that follow what was written were written up to some byte
-front_after : (held now more : Option (List ℕ)) (shown added : List ℕ) → Appends held now shown → GainedFront now more added → GainedFront held more (shown ++ added)
-front_after held now more shown added wrote broke =
-    (shown ++ broke.0, broke.1, broke.2, ap (λ l. shown ++ l) broke.3 ∙ sym (append_assoc shown broke.0 (broke.2 ∷ broke.1)), Appends-trans held now more shown broke.0 wrote broke.4)
-
--- a front of some bytes is one of more bytes
-front_of_more : (held now : Option (List ℕ)) (bytes more : List ℕ) → GainedFront held now bytes → GainedFront held now (bytes ++ more)
-front_of_more held now bytes more broke =
-    (broke.0, broke.1 ++ more, broke.2, ap (λ l. l ++ more) broke.3 ∙ append_assoc broke.0 (broke.2 ∷ broke.1) more, broke.4)
 
 -- a write of the lines of a portion failed
 pub passed_front : (left still less held now more : Option (List ℕ)) (lines after : LinesValue) (text piece added : List ℕ) (reads size : ℕ)

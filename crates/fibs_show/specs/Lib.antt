@@ -1,4 +1,5 @@
 pub mod Writing
+pub mod Status
 pub mod Escape
 pub mod Show
 pub mod Shows

@@ -1,8 +1,16 @@
 -- What a writer gained of the bytes that it was to take.
-use Rattle.std.specs.Prelude.{◌≡◌, ℕ, List, ◌∷◌, ◌++◌, Option}
+use Rattle.std.specs.Prelude.{◌≡◌, ℕ, ⊤, List, ◌∷◌, ◌++◌, Option, Result, Ok, Err}
 use Rattle.std.specs.Io.KnownBytes.{Appends}
-use Rattle.fibs_show.specs.declared.writing.Progress.{Progress}
-use Rattle.fibs_show.specs.declared.writing.Progress.TheVariants.{Whole, Broken}
+use Rattle.fibs_show.specs.declared.writing.Broken as declared
+
+-- how far writing went: all was written; or a write failed, or took nothing, before all was written
+pub data Progress : Type 0 where
+  Whole : Progress
+  Broken : Progress
+
+abbrev pub progress_of : Result ⊤ declared.Broken → Progress
+progress_of (Ok done) = Whole
+progress_of (Err why) = Broken
 
 -- What a writer holds is Some list where it tells its bytes, and None where it tells nothing: of the latter the next
 -- two say nothing.

@@ -2,6 +2,8 @@
 ghost use Rattle.std.specs.Prelude.{◌≡◌};
 ghost use Rattle.fibs_show.specs.declared.fault.EngineFault.TheVariants.{Device, Memory};
 
+use crate::status::Status;
+use crate::writing::Broken;
 use std::alloc::{AllocError, AllocFailed};
 use thiserror::Error;
 
@@ -23,9 +25,17 @@ impl EngineFault {
         ensures memory { self ≡ EngineFault.Memory → result ≡ 5 }
     {
         match self {
-            EngineFault::Device => 4,
-            EngineFault::Memory => 5,
+            EngineFault::Device => Status::Device.code(),
+            EngineFault::Memory => Status::Memory.code(),
         }
+    }
+}
+
+impl From<Broken> for EngineFault {
+    ghost from_gives = { λ _ e. e ≡ Device };
+
+    fn from(_broken: Broken) -> EngineFault {
+        EngineFault::Device
     }
 }
 

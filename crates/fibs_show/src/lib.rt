@@ -6,4 +6,5 @@ pub mod plays;
 pub mod printing;
 pub mod retrying;
 pub mod show;
+pub mod status;
 pub mod writing;

@@ -17,12 +17,13 @@ ghost use Rattle.fibs_show.specs.Writing.{GainedFront};
 
 use crate::fault::EngineFault;
 use crate::printing::fixed::append;
-use crate::writing::{Progress, write_bytes};
+use crate::printing::malformed::malformed_text;
+use crate::status::Status;
+use crate::writing::write_bytes;
 use arrayvec::ArrayVec;
 use fibs_commands::decision_text;
-use fibs_messages::{Fault, Reading, read};
+use fibs_messages::{Reading, read};
 use fibs_position::{Decision, Direction, Phase, Play, Position, PositionFault};
-use itoa::Buffer;
 use std::alloc::{AllocError, Global};
 use std::io::Write;
 
@@ -87,7 +88,7 @@ fn position_of(line: &[u8]) -> Result<Position, RefusalLine>
             number: 0,
             field,
             fault,
-        } => Err(malformed(field, fault)),
+        } => Err(one_line(malformed_text(0, field, fault).as_slice(), b"")),
         _ => Err(one_line(b"not a board", b"")),
     }
 }
@@ -111,28 +112,13 @@ fn no_position(fault: PositionFault) -> RefusalLine
     one_line(b"position ", fault.name().as_bytes())
 }
 
-/// The line of a board line with a wrong field.
-fn malformed(field: usize, fault: Fault) -> RefusalLine
-    ensures { result.items ≡ reading_text (malformed_line 0 field fault) ++ (10 ∷ []) }
-{
-    let mut line = ArrayVec::new();
-    append(&mut line, b"malformed 0 ");
-    append(&mut line, Buffer::new().format(field).as_bytes());
-    line.push(b' ');
-    append(&mut line, fault.name().as_bytes());
-    line.push(b'\n');
-    line
-}
-
 /// Prints why a line has no position.
 fn print_refusal<E: Write>(line: &[u8], err: &mut E) -> Result<u8, EngineFault>
     ensures { MatchResult result (λ status. (status ≡ 3) × Appends (E.contents err.old) (E.contents err.new) line.now)
         (λ fault. (fault ≡ EngineFault.Device) × GainedFront (E.contents err.old) (E.contents err.new) line.now) }
 {
-    match write_bytes(line, err) {
-        Progress::Whole => Ok(3),
-        Progress::Broken => Err(EngineFault::Device),
-    }
+    write_bytes(line, err)?;
+    Ok(Status::Refused.code())
 }
 
 /// Prints the phase of a position and its plays.
@@ -146,10 +132,8 @@ fn print_plays<W: Write>(alloc: Global, position: &Position, out: &mut W) -> Res
     ensures memory { IsErrOf result EngineFault.Memory → Keeps (W.contents out.old) (W.contents out.new) }
 {
     let text = listing_of(alloc, position)?;
-    match write_bytes(text.as_slice(), out) {
-        Progress::Whole => Ok(0),
-        Progress::Broken => Err(EngineFault::Device),
-    }
+    write_bytes(text.as_slice(), out)?;
+    Ok(Status::Done.code())
 }
 
 /// The phase of a position and its plays.

@@ -3,3 +3,4 @@
 pub mod escape;
 pub mod fixed;
 pub mod line;
+pub mod malformed;

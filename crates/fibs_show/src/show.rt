@@ -9,7 +9,8 @@ ghost use Rattle.fibs_show.specs.Writing.{GainedFront};
 
 use crate::fault::EngineFault;
 use crate::printing::line::{append_line, append_number};
-use crate::writing::{Progress, write_bytes};
+use crate::status::Status;
+use crate::writing::{Broken, write_bytes};
 use fibs_lines::{Lines, laws};
 use std::alloc::{AllocError, Global};
 use std::io::{Read, Write};
@@ -48,6 +49,16 @@ impl StreamFault {
     }
 }
 
+impl From<Broken> for StreamFault {
+    ghost use Rattle.fibs_show.specs.declared.show.StreamFault.TheVariants.{Writer};
+
+    ghost from_gives = { λ _ e. e ≡ Writer };
+
+    fn from(_broken: Broken) -> StreamFault {
+        StreamFault::Writer
+    }
+}
+
 impl From<AllocError> for StreamFault {
     ghost use Rattle.fibs_show.specs.declared.show.StreamFault.TheVariants.{Memory};
 
@@ -79,7 +90,7 @@ pub fn show<R: Read, W: Write>(
         WroteLines (R.remaining reader.old) (R.remaining reader.new) (W.contents writer.old) (W.contents writer.new) }
 {
     match show_stream(alloc, reader, writer) {
-        Ok(()) => Ok(0),
+        Ok(()) => Ok(Status::Done.code()),
         Err(fault) => Err(fault.engine_fault()),
     }
 }
@@ -142,22 +153,10 @@ pub fn show_portions<R: Read, W: Write>(
             Err(_) => return Err(StreamFault::Reader),
         };
         append_portion(alloc, &mut lines, &portion[..count], &mut text)?;
-        write_text(&text, writer)?;
+        write_bytes(text.as_slice(), writer)?;
         text.clear();
     }
     Err(StreamFault::Endless)
-}
-
-/// Writes the whole text.
-fn write_text<W: Write>(text: &Vec<u8>, writer: &mut W) -> Result<(), StreamFault>
-    ensures { MatchResult result (λ _. Appends (W.contents writer.old) (W.contents writer.new) text.now.items)
-        (λ fault. (fault ≡ StreamFault.Writer)
-        × GainedFront (W.contents writer.old) (W.contents writer.new) text.now.items) }
-{
-    match write_bytes(text.as_slice(), writer) {
-        Progress::Whole => Ok(()),
-        Progress::Broken => Err(StreamFault::Writer),
-    }
 }
 
 /// Writes what is printed for the bytes after the last line end.
@@ -172,7 +171,8 @@ fn finish<W: Write>(lines: &Lines, text: &mut Vec<u8>, writer: &mut W) -> Result
     ensures others { IfErr result (λ fault. (fault ≡ StreamFault.Writer) ⊎ (fault ≡ StreamFault.Memory)) }
 {
     append_unfinished(lines.held(), text)?;
-    write_text(text, writer)
+    write_bytes(text.as_slice(), writer)?;
+    Ok(())
 }
 
 /// Appends how many bytes stand after the last line end, if some do.

@@ -34,24 +34,38 @@ impl Read for Endless {
     }
 }
 
-/// A writer of which one write fails, and which takes bytes before and after it.
+/// A writer of which one write fails, and which takes bytes before and after it. It counts its writes.
 #[derive(Drop)]
 pub struct FailsOnce {
     before: usize,
+    error: ErrorKind,
     failed: bool,
     most: usize,
+    writes: usize,
     output: ArrayVec<u8, 512>,
 }
 
 impl FailsOnce {
     /// A writer that takes at most `most` bytes at once, and fails after so many writes.
     pub fn new(before: usize, most: usize) -> FailsOnce {
+        FailsOnce::of_kind(ErrorKind::BrokenPipe, before, most)
+    }
+
+    /// The same, of which a write fails with an error of this kind.
+    pub fn of_kind(error: ErrorKind, before: usize, most: usize) -> FailsOnce {
         FailsOnce {
             before,
+            error,
             failed: false,
             most,
+            writes: 0,
             output: ArrayVec::new(),
         }
+    }
+
+    /// How many writes were made, with that which failed.
+    pub fn writes(&self) -> usize {
+        self.writes
     }
 
     /// What was written.
@@ -62,9 +76,10 @@ impl FailsOnce {
 
 impl Write for FailsOnce {
     fn write(&mut self, buf: &[u8]) -> io::Result<usize> {
+        self.writes = self.writes.saturating_add(1);
         if self.before == 0 && !self.failed {
             self.failed = true;
-            return Err(io::Error::from(ErrorKind::BrokenPipe));
+            return Err(io::Error::from(self.error));
         }
         self.before = self.before.saturating_sub(1);
         let most = self

@@ -10,7 +10,7 @@ use Rattle.fibs_session.specs.Calls.Standing.{ClientValue, StandsAfter}
 use Rattle.fibs_session.specs.Calls.Doing.{Does}
 use Rattle.fibs_exchange.specs.declared.exchange.Ending.{Ending}
 use Rattle.fibs_exchange.specs.declared.exchange.Ending.TheVariants.{Quiet, Lost}
-use Rattle.fibs_show.specs.declared.writing.Progress.TheVariants.{Whole, Broken}
+use Rattle.fibs_show.specs.Writing.{Whole, Broken}
 use Rattle.fibs_exchange.specs.Turns.Turn.{FitsStream, LeavesAs, is_there, still_given}
 use Rattle.fibs_exchange.proofs.TurnLemmas.Turns.{loses_offline}
 use Rattle.fibs_exchange.proofs.TurnLemmas.Hearing.{open_append}

@@ -10,7 +10,6 @@ use fibs_exchange::exchange::printing::{print_line, print_reason};
 use fibs_exchange::exchange::sending::send_command;
 use fibs_exchange::exchange::{Ending, ExchangeFault, end_connection, exchange};
 use fibs_session::{Client, Directory, Login, Refusal};
-use fibs_show::writing::Progress;
 use std::alloc::Global;
 use std::io::Write;
 
@@ -97,11 +96,11 @@ impl<S: Link + Drop> Seat<S> {
         match self.client.open() {
             Err(_) => unreachable!(),
             Ok(command) => match send_command(&command, &mut stream) {
-                Progress::Whole => {
+                Ok(()) => {
                     self.stream = Some(stream);
                     Ok(())
                 }
-                Progress::Broken => {
+                Err(_) => {
                     self.stream = None;
                     let _lost = end_connection(&mut self.client, out)?;
                     Ok(())

@@ -33,15 +33,18 @@ module _ {X : Type 0} (p : X → Bool) where
   pub after_last-end : (xs : List X) (x : X) → p x ≡ true → after_last p (xs ++ x ∷ []) ≡ []
   after_last-end xs x e =
       let none : suffix_len (λ y. not (p y)) (xs ++ x ∷ []) ≡ 0 =
-      ap (prefix_len (λ y. not (p y))) (reverse-append xs (x ∷ [])) ∙ ap (λ b. cond (not b) (1 + suffix_len (λ y. not (p y)) xs) 0) e in
+      ap (prefix_len (λ y. not (p y))) (reverse-append xs (x ∷ []))
+      ∙ ap (λ b. cond (not b) (1 + suffix_len (λ y. not (p y)) xs) 0) e in
       drop-whole _ (xs ++ x ∷ []) (omega (arith, none))
 
   -- the last that passes stays where it is
   pub after_last-more : (xs : List X) (x : X) → p x ≡ false → after_last p (xs ++ x ∷ []) ≡ after_last p xs ++ x ∷ []
   after_last-more xs x e =
       let one : suffix_len (λ y. not (p y)) (xs ++ x ∷ []) ≡ 1 + suffix_len (λ y. not (p y)) xs =
-      ap (prefix_len (λ y. not (p y))) (reverse-append xs (x ∷ [])) ∙ ap (λ b. cond (not b) (1 + suffix_len (λ y. not (p y)) xs) 0) e in
-      let place : length (xs ++ x ∷ []) - suffix_len (λ y. not (p y)) (xs ++ x ∷ []) ≡ length xs - suffix_len (λ y. not (p y)) xs =
+      ap (prefix_len (λ y. not (p y))) (reverse-append xs (x ∷ []))
+      ∙ ap (λ b. cond (not b) (1 + suffix_len (λ y. not (p y)) xs) 0) e in
+      let place : length (xs ++ x ∷ []) - suffix_len (λ y. not (p y)) (xs ++ x ∷ [])
+      ≡ length xs - suffix_len (λ y. not (p y)) xs =
       omega (arith, one, length-append xs (x ∷ [])) in
       ap (λ n. drop n (xs ++ x ∷ [])) place ∙ drop-snoc (length xs - suffix_len (λ y. not (p y)) xs) xs x (omega arith)
 
@@ -56,21 +59,25 @@ module _ {X : Type 0} (p : X → Bool) where
   filter-snoc_yes (y ∷ xs) x e = let ih = filter-snoc_yes xs x e in grind arith
 
   -- the first that passes stays where it is
-  pub position-snoc_found : (xs : List X) (x : X) → position_or_len p xs < length xs → position_or_len p (xs ++ x ∷ []) ≡ position_or_len p xs
+  pub position-snoc_found : (xs : List X) (x : X)
+      → position_or_len p xs < length xs → position_or_len p (xs ++ x ∷ []) ≡ position_or_len p xs
   position-snoc_found [] x h = absurd (omega arith)
   position-snoc_found (y ∷ xs) x h =
       let ih = position-snoc_found xs x in
-      elim (p y) as (λ b. cond (not b) (1 + position_or_len p xs) 0 < length (y ∷ xs) → cond (not b) (1 + position_or_len p (xs ++ x ∷ [])) 0 ≡ cond (not b) (1 + position_or_len p xs) 0) [
+      elim (p y) as (λ b. cond (not b) (1 + position_or_len p xs) 0 < length (y ∷ xs)
+      → cond (not b) (1 + position_or_len p (xs ++ x ∷ [])) 0 ≡ cond (not b) (1 + position_or_len p xs) 0) [
         | true ↦ λ _. refl
         | false ↦ λ l. ap (λ n. 1 + n) (ih (omega (arith, l)))
       ] h
 
   -- the first that passes is the new one
-  pub position-snoc_new : (xs : List X) (x : X) → position_or_len p xs ≡ length xs → p x ≡ true → position_or_len p (xs ++ x ∷ []) ≡ length xs
+  pub position-snoc_new : (xs : List X) (x : X)
+      → position_or_len p xs ≡ length xs → p x ≡ true → position_or_len p (xs ++ x ∷ []) ≡ length xs
   position-snoc_new [] x h e = ap (λ b. cond (not b) 1 0) e
   position-snoc_new (y ∷ xs) x h e =
       let ih = position-snoc_new xs x in
-      elim (p y) as (λ b. cond (not b) (1 + position_or_len p xs) 0 ≡ length (y ∷ xs) → cond (not b) (1 + position_or_len p (xs ++ x ∷ [])) 0 ≡ length (y ∷ xs)) [
+      elim (p y) as (λ b. cond (not b) (1 + position_or_len p xs) 0 ≡ length (y ∷ xs)
+      → cond (not b) (1 + position_or_len p (xs ++ x ∷ [])) 0 ≡ length (y ∷ xs)) [
         | true ↦ λ l. absurd (omega (arith, l))
         | false ↦ λ l. omega (arith, ih (omega (arith, l)) e)
       ] h
@@ -80,7 +87,8 @@ module _ {X : Type 0} (p : X → Bool) where
   found_from_last [] h = absurd (true≢false (sym h))
   found_from_last (y ∷ xs) h =
       let ih = found_from_last xs in
-      elim (p y) as (λ b. is_some (last_or None (cond b (y ∷ filter p xs) (filter p xs))) ≡ true → cond (not b) (1 + position_or_len p xs) 0 < length (y ∷ xs)) [
+      elim (p y) as (λ b. is_some (last_or None (cond b (y ∷ filter p xs) (filter p xs))) ≡ true
+      → cond (not b) (1 + position_or_len p xs) 0 < length (y ∷ xs)) [
         | true ↦ λ _. omega arith
         | false ↦ λ l. omega (arith, ih l)
       ] h
@@ -90,7 +98,8 @@ module _ {X : Type 0} (p : X → Bool) where
   absent_from_last [] h = refl
   absent_from_last (y ∷ xs) h =
       let ih = absent_from_last xs in
-      elim (p y) as (λ b. is_some (last_or None (cond b (y ∷ filter p xs) (filter p xs))) ≡ false → cond (not b) (1 + position_or_len p xs) 0 ≡ length (y ∷ xs)) [
+      elim (p y) as (λ b. is_some (last_or None (cond b (y ∷ filter p xs) (filter p xs))) ≡ false
+      → cond (not b) (1 + position_or_len p xs) 0 ≡ length (y ∷ xs)) [
         | true ↦ λ l. absurd (true≢false (sym (last_or_some y (filter p xs)) ∙ l))
         | false ↦ λ l. omega (arith, ih l)
       ] h

@@ -20,16 +20,19 @@ none_is_some e = true≢false (sym (ap is_some e))
 
 module _ (f : List ℕ → ℕ) where
   -- an entry's name has a number above those before
-  above : (n k : List ℕ) (es : List MessageValue) (e : MessageValue) → AllByRecursion (λ j. f n < f j) (map name_of es) → entry_of k es ≡ Some e → f n < f k
+  above : (n k : List ℕ) (es : List MessageValue) (e : MessageValue)
+      → AllByRecursion (λ j. f n < f j) (map name_of es) → entry_of k es ≡ Some e → f n < f k
   above n k [] e h is = absurd (none_is_some is)
   above n k (x ∷ es) e h is = by (above n k es e h.1) (is_of k x) refl is
     where
-      by : (entry_of k es ≡ Some e → f n < f k) → (b : Bool) → is_of k x ≡ b → cond b (Some x) (entry_of k es) ≡ Some e → f n < f k
+      by : (entry_of k es ≡ Some e → f n < f k)
+          → (b : Bool) → is_of k x ≡ b → cond b (Some x) (entry_of k es) ≡ Some e → f n < f k
       by ih true i j = subst (λ a. f n < f a) (sym (same_name k (name_of x) i)) h.0
       by ih false i j = ih j
 
   -- the first entry has the least number of all that have an entry
-  least : (x : MessageValue) (es : List MessageValue) (k : List ℕ) (e : MessageValue) → Rising f (map name_of (x ∷ es)) → entry_of k (x ∷ es) ≡ Some e → is_of k x ≡ false → f (name_of x) < f k
+  least : (x : MessageValue) (es : List MessageValue) (k : List ℕ) (e : MessageValue)
+      → Rising f (map name_of (x ∷ es)) → entry_of k (x ∷ es) ≡ Some e → is_of k x ≡ false → f (name_of x) < f k
   least x es k e h is other = above (name_of x) k es e h.0 (sym (ap (λ b. cond b (Some x) (entry_of k es)) other) ∙ is)
 
   -- an entry has its own name's
@@ -37,7 +40,8 @@ module _ (f : List ℕ → ℕ) where
   own x es = ap (λ b. cond b (Some x) (entry_of (name_of x) es)) (own_name (name_of x))
 
   -- the first entries of two lists with the same entries in order are one
-  first : (x y : MessageValue) (es fs : List MessageValue) → Rising f (map name_of (x ∷ es)) → Rising f (map name_of (y ∷ fs))
+  first : (x y : MessageValue) (es fs : List MessageValue)
+      → Rising f (map name_of (x ∷ es)) → Rising f (map name_of (y ∷ fs))
       → ((k : List ℕ) → entry_of k (x ∷ es) ≡ entry_of k (y ∷ fs)) → x ≡ y
   first x y es fs h i same = by (is_of (name_of x) y) refl
     where
@@ -49,15 +53,19 @@ module _ (f : List ℕ → ℕ) where
           back (is_of (name_of y) x) refl down
         where
           back : (b : Bool) → is_of (name_of y) x ≡ b → f (name_of y) < f (name_of x) → x ≡ y
-          back true g down = let equal : f (name_of y) ≡ f (name_of x) = ap f (same_name (name_of y) (name_of x) g) in absurd (omega (arith, equal, down))
-          back false g down = let up : f (name_of x) < f (name_of y) = least x es (name_of y) y h (same (name_of y) ∙ own y fs) g in absurd (omega (arith, up, down))
+          back true g down = let equal : f (name_of y) ≡ f (name_of x) =
+              ap f (same_name (name_of y) (name_of x) g) in absurd (omega (arith, equal, down))
+          back false g down = let up : f (name_of x) < f (name_of y) =
+              least x es (name_of y) y h (same (name_of y) ∙ own y fs) g in absurd (omega (arith, up, down))
 
   -- the entries after the first are the same too
-  rest : (x : MessageValue) (es fs : List MessageValue) → Rising f (map name_of (x ∷ es)) → Rising f (map name_of (x ∷ fs))
+  rest : (x : MessageValue) (es fs : List MessageValue)
+      → Rising f (map name_of (x ∷ es)) → Rising f (map name_of (x ∷ fs))
       → ((k : List ℕ) → entry_of k (x ∷ es) ≡ entry_of k (x ∷ fs)) → (k : List ℕ) → entry_of k es ≡ entry_of k fs
   rest x es fs h i same k = by (is_of k x) refl (same k)
     where
-      by : (b : Bool) → is_of k x ≡ b → cond b (Some x) (entry_of k es) ≡ cond b (Some x) (entry_of k fs) → entry_of k es ≡ entry_of k fs
+      by : (b : Bool) → is_of k x ≡ b
+          → cond b (Some x) (entry_of k es) ≡ cond b (Some x) (entry_of k fs) → entry_of k es ≡ entry_of k fs
       by true e s =
           let is : k ≡ name_of x = same_name k (name_of x) e in
           none_later f k es (subst (λ n. AllByRecursion (λ m. f n < f m) (map name_of es)) (sym is) h.0)
@@ -65,7 +73,8 @@ module _ (f : List ℕ → ℕ) where
       by false e s = s
 
   -- two lists with the same entries in order are one
-  pub one_list : (es fs : List MessageValue) → Rising f (map name_of es) → Rising f (map name_of fs) → ((k : List ℕ) → entry_of k es ≡ entry_of k fs) → es ≡ fs
+  pub one_list : (es fs : List MessageValue)
+      → Rising f (map name_of es) → Rising f (map name_of fs) → ((k : List ℕ) → entry_of k es ≡ entry_of k fs) → es ≡ fs
   one_list [] [] h i same = refl
   one_list [] (y ∷ fs) h i same = absurd (none_is_some (same (name_of y) ∙ own y fs))
   one_list (x ∷ es) [] h i same = absurd (none_is_some (sym (same (name_of x)) ∙ own x es))
@@ -78,14 +87,17 @@ module _ (f : List ℕ → ℕ) where
 -- no list of messages has two directories
 pub no_list_has_two_directories : NoListHasTwoDirectories
 no_list_has_two_directories ms es fs d e =
-    one_list (λ k. first_place k ms) es fs (rising_from_pairs (λ k. first_place k ms) (map name_of es) d.order) (rising_from_pairs (λ k. first_place k ms) (map name_of fs) e.order)
+    one_list (λ k. first_place k ms) es fs (rising_from_pairs (λ k. first_place k ms) (map name_of es) d.order)
+    (rising_from_pairs (λ k. first_place k ms) (map name_of fs) e.order)
     (λ k. d.each k ∙ sym (e.each k))
 
 -- one message more, whatever it is
-goes_on : (ms es : List MessageValue) (m : MessageValue) → IsDirectory ms es → (fs : List MessageValue) × IsDirectory (ms ++ m ∷ []) fs
+goes_on : (ms es : List MessageValue) (m : MessageValue)
+    → IsDirectory ms es → (fs : List MessageValue) × IsDirectory (ms ++ m ∷ []) fs
 goes_on ms es m d = by (eqb m.number 5) (eqb m.number 8) refl refl
   where
-    by : (b c : Bool) → eqb m.number 5 ≡ b → eqb m.number 8 ≡ c → (fs : List MessageValue) × IsDirectory (ms ++ m ∷ []) fs
+    by : (b c : Bool)
+        → eqb m.number 5 ≡ b → eqb m.number 8 ≡ c → (fs : List MessageValue) × IsDirectory (ms ++ m ∷ []) fs
     by true c i j = (_, noted_told ms es m d (grind arith))
     by false true i j = (_, noted_logout ms es m d (grind arith))
     by false false i j = (es, noted_number ms es m d (λ e. grind arith) (λ e. grind arith))

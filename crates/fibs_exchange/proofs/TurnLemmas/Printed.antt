@@ -24,7 +24,7 @@ use Rattle.fibs_session.specs.Calls.Standing.{ClientValue}
 use Rattle.fibs_directory.specs.declared.fault.DirectoryFault.{DirectoryFault}
 use Rattle.fibs_exchange.specs.declared.exchange.Ending.{Ending}
 use Rattle.fibs_exchange.specs.declared.exchange.Ending.TheVariants.{Quiet, Lost}
-use Rattle.fibs_show.specs.declared.writing.Progress.TheVariants.{Whole}
+use Rattle.fibs_show.specs.Writing.{Whole}
 use Rattle.fibs_position.specs.Names.{phase_name}
 use Rattle.fibs_show.specs.Escape.{escaped}
 use Rattle.fibs_position.specs.Phases.{phase_of}

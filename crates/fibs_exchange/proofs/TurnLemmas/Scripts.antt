@@ -9,8 +9,7 @@ use Rattle.fibs_messages.specs.Message.{MessageValue}
 use Rattle.fibs_directory.specs.Directory.{IsDirectory}
 use Rattle.fibs_directory.specs.declared.fault.DirectoryFault.{DirectoryFault}
 use Rattle.fibs_show.specs.Writing.{Wrote}
-use Rattle.fibs_show.specs.declared.writing.Progress.{Progress}
-use Rattle.fibs_show.specs.declared.writing.Progress.TheVariants.{Whole, Broken}
+use Rattle.fibs_show.specs.Writing.{Progress, Whole, Broken}
 use Rattle.fibs_exchange.specs.Turns.Acts.{Act, line_bytes, text_of_lines}
 use Rattle.fibs_exchange.specs.Turns.Script.{Outside, outside, Done, directory_lines, done_lines, noted_unless, calls_of}
 use Rattle.fibs_exchange.specs.Turns.Script.{acts_of, writes_of, prints_of, notes_of, Notes, InHand, Did}

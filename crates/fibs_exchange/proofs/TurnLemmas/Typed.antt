@@ -17,7 +17,7 @@ use Rattle.fibs_session.specs.History.Machine.{plain_refusal, on_wire, clicks_by
 use Rattle.fibs_session.specs.Calls.SessionOf.{handed, refusal_in}
 use Rattle.fibs_messages.specs.Message.{MessageValue}
 use Rattle.fibs_show.specs.Writing.{Wrote}
-use Rattle.fibs_show.specs.declared.writing.Progress.TheVariants.{Whole, Broken}
+use Rattle.fibs_show.specs.Writing.{Whole, Broken}
 use Rattle.fibs_exchange.specs.Turns.Acts.{Act, answer_act, line_bytes, text_of_lines}
 use Rattle.fibs_exchange.specs.Turns.Script.{Did, Notes, outside}
 use Rattle.fibs_exchange.specs.Turns.Typing.{TypedValue, typed_decision, typed_plain, typed_neither, typed_step, typed_act}

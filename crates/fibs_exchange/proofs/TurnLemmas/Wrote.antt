@@ -4,8 +4,7 @@ use Rattle.std.proofs.Common.{append-nil, take, drop, take-append-drop, Result, 
 use Rattle.std.specs.Io.KnownBytes.{Appends, Consumes}
 use Rattle.std.proofs.KnownBytes.{Appends-trans, Consumes-trans}
 use Rattle.fibs_show.specs.Writing.{Wrote}
-use Rattle.fibs_show.specs.declared.writing.Progress.{Progress}
-use Rattle.fibs_show.specs.declared.writing.Progress.TheVariants.{Whole, Broken}
+use Rattle.fibs_show.specs.Writing.{Progress, Whole, Broken}
 
 -- an answer that says more
 pub on_ok_weaker : {T E P Q : Type 0} (r : Result T E) → (P → Q) → OnOk r P → OnOk r Q

@@ -1,5 +1,6 @@
--- What the client's answer to a typed line calls for. No public contract rests on it.
-use Rattle.std.specs.Prelude.{codes, None, Some, ◌∷◌, [], List, ℕ}
+-- What the client's answer to a typed line calls for, and what an answer of a part of a turn says. No public contract
+-- rests on it.
+use Rattle.std.specs.Prelude.{codes, None, Some, ◌∷◌, [], List, ℕ, ⊤, Result, Ok, Err}
 use Rattle.fibs_commands.specs.TextOf.{text_of}
 use Rattle.fibs_commands.specs.PlainOf.{plain_value}
 use Rattle.fibs_position.specs.DecisionValue.{decision_of}
@@ -9,6 +10,9 @@ use Rattle.fibs_exchange.specs.declared.exchange.typing.Answer.{Answer}
 use Rattle.fibs_exchange.specs.declared.exchange.typing.Answer.TheVariants as A
 use Rattle.fibs_exchange.specs.declared.exchange.typing.Complaint.{Complaint}
 use Rattle.fibs_exchange.specs.declared.exchange.typing.Complaint.TheVariants as C
+use Rattle.fibs_exchange.specs.declared.exchange.turn_fault.TurnFault.{TurnFault}
+use Rattle.fibs_exchange.specs.declared.exchange.turn_fault.TurnFault.TheVariants as F
+use Rattle.fibs_show.specs.Writing.{Progress, Whole, Broken}
 use Rattle.fibs_exchange.specs.Turns.Acts.{Act, answer_act}
 use Rattle.fibs_exchange.specs.Turns.Typing.{TypedValue, typed_decision, typed_plain, typed_neither, refused_line}
 use Rattle.fibs_exchange.specs.Turns.Typing.{plain_line}
@@ -26,3 +30,15 @@ complaint_line C.Unknown = codes "unknown"
 abbrev pub answered_act : Answer → Act
 answered_act (A.Sent command) = answer_act None (text_of command ∷ [])
 answered_act (A.Complaint why) = answer_act (Some (complaint_line why)) []
+
+-- what holds of how far the commands went, where all that went well was printed
+abbrev pub IfPrinted : Result ⊤ TurnFault → (Progress → Type 0) → Type 0
+IfPrinted (Ok done) Holds = Holds Whole
+IfPrinted (Err F.Stream) Holds = Holds Broken
+IfPrinted (Err F.Output) Holds = ⊤
+
+-- what holds where a line could not be printed
+abbrev pub IfUnprinted : Result ⊤ TurnFault → Type 0 → Type 0
+IfUnprinted (Ok done) Holds = ⊤
+IfUnprinted (Err F.Stream) Holds = ⊤
+IfUnprinted (Err F.Output) Holds = Holds

@@ -8,8 +8,7 @@ use Rattle.fibs_messages.specs.Message.{MessageValue}
 use Rattle.fibs_directory.specs.declared.fault.DirectoryFault.{DirectoryFault}
 use Rattle.fibs_directory.specs.Directory.{IsDirectory}
 use Rattle.fibs_directory.specs.Directory.Faults.{directory_fault_number, directory_fault_name}
-use Rattle.fibs_show.specs.declared.writing.Progress.{Progress}
-use Rattle.fibs_show.specs.declared.writing.Progress.TheVariants.{Whole, Broken}
+use Rattle.fibs_show.specs.Writing.{Progress, Whole, Broken}
 use Rattle.fibs_exchange.specs.Turns.Acts.{Act, text_of_lines}
 use Rattle.fibs_exchange.specs.Turns.Typing.{reason_line}
 

@@ -1,6 +1,7 @@
 //! Lines of the server are heard.
 ghost use Rattle.std.specs.Prelude.{◌≡◌, ◌++◌, ◌∷◌, [], List, Option, Some, None, if◌then◌else◌, option_map};
-ghost use Rattle.std.specs.Prelude.{IfOk, OnOk, OnErr};
+ghost use Rattle.std.specs.Prelude.{OnOk};
+ghost use Rattle.fibs_exchange.specs.Turns.Answering.{IfPrinted, IfUnprinted};
 ghost use Rattle.std.specs.Io.KnownBytes.{Appends, Keeps};
 ghost use Rattle.fibs_lines.specs.Lines.{value_of};
 ghost use Rattle.fibs_messages.specs.Line.{reading_of};
@@ -25,10 +26,10 @@ use super::printing::{
     asked_command, print, print_labelled, print_line, print_number, print_reason,
 };
 use super::sending::{send_commands, text_bytes};
+use super::turn_fault::TurnFault;
 use fibs_messages::{Board, Fault, Reading};
 use fibs_position::{Phase, Position};
 use fibs_session::{Client, Directory, Outstanding, Taken};
-use fibs_show::writing::Progress;
 use std::io::Write;
 
 /// Prints what is wrong with a line.
@@ -155,21 +156,17 @@ fn hear_line<S: Link, W: Write>(
     directory: &mut Directory,
     stream: &mut S,
     out: &mut W,
-) -> Result<Progress, ExchangeFault>
-    ensures did { IfOk result (λ p. Did (outside (S.contents stream.old) (W.contents out.old) directory.old)
+) -> Result<(), TurnFault>
+    ensures did { IfPrinted result (λ p. Did (outside (S.contents stream.old) (W.contents out.old) directory.old)
         (outside (S.contents stream.new) (W.contents out.new) directory.new) (taken_act (taken_of taken.now) ∷ []) p) }
-    ensures stopped { OnErr result (Appends (S.contents stream.old) (S.contents stream.new)
+    ensures stopped { IfUnprinted result (Appends (S.contents stream.old) (S.contents stream.new)
         (taken_act (taken_of taken.now)).writes) }
     ensures apart { Keeps (S.remaining stream.old) (S.remaining stream.new) }
 {
-    match send_commands(taken.send.as_slice(), stream) {
-        Progress::Broken => Ok(Progress::Broken),
-        Progress::Whole => {
-            print_taken(taken, out)?;
-            note_taken(&taken.reading, directory, out)?;
-            Ok(Progress::Whole)
-        }
-    }
+    send_commands(taken.send.as_slice(), stream)?;
+    print_taken(taken, out)?;
+    note_taken(&taken.reading, directory, out)?;
+    Ok(())
 }
 
 /// Feeds the client what was read, and does what its lines call for. It stops at a write that fails.
@@ -179,11 +176,11 @@ pub(super) fn hear_portion<S: Link, W: Write>(
     portion: &[u8],
     stream: &mut S,
     out: &mut W,
-) -> Result<Progress, ExchangeFault>
-    ensures talked { IfOk result (λ p. (t : Talk) → StandsAfter client.old t → Talked t client.new portion.now
+) -> Result<(), TurnFault>
+    ensures talked { IfPrinted result (λ p. (t : Talk) → StandsAfter client.old t → Talked t client.new portion.now
         (outside (S.contents stream.old) (W.contents out.old) directory.old)
         (outside (S.contents stream.new) (W.contents out.new) directory.new) p) }
-    ensures stopped { OnErr result ((t : Talk) → StandsAfter client.old t →
+    ensures stopped { IfUnprinted result ((t : Talk) → StandsAfter client.old t →
         FedToALine t client.new portion.now (S.contents stream.old) (S.contents stream.new)) }
     ensures apart { Keeps (S.remaining stream.old) (S.remaining stream.new) }
 {
@@ -195,13 +192,10 @@ pub(super) fn hear_portion<S: Link, W: Write>(
         let heard = client.read(rest);
         let got = client.got(heard);
         match &got.taken {
-            Some(taken) => match hear_line(taken, directory, stream, out)? {
-                Progress::Whole => {}
-                Progress::Broken => return Ok(Progress::Broken),
-            },
+            Some(taken) => hear_line(taken, directory, stream, out)?,
             None => {}
         }
         rest = &rest[got.used..];
     }
-    Ok(Progress::Whole)
+    Ok(())
 }

@@ -1,59 +1,69 @@
 //! Commands are written to the server.
-ghost use Rattle.std.specs.Prelude.{◌≡◌};
+ghost use Rattle.std.specs.Prelude.{◌≡◌, ◌≤◌, ◌+◌, length};
 ghost use Rattle.std.specs.Io.KnownBytes.{Keeps};
 ghost use Rattle.fibs_commands.specs.TextOf.{text_of};
 ghost use Rattle.fibs_session.specs.History.Machine.{on_wire, wire_of};
 ghost use Rattle.fibs_session.specs.Calls.SessionOf.{texts_of};
-ghost use Rattle.fibs_show.specs.Writing.{Wrote};
+ghost use Rattle.fibs_show.specs.Writing.{Wrote, progress_of};
 
 use super::link::Link;
+use arrayvec::ArrayVec;
 use fibs_session::CommandText;
-use fibs_show::writing::Progress;
+use fibs_show::printing::fixed::append;
+use fibs_show::writing::Broken;
+
+/// A command of at most 512 bytes and its line end.
+type WireLine = ArrayVec<u8, 514>;
 
 /// Writes the bytes in order, and stops at a write that fails or takes nothing.
-fn send_bytes<S: Link>(bytes: &[u8], stream: &mut S) -> Progress
-    ensures wrote { Wrote result (S.contents stream.old) (S.contents stream.new) bytes.now }
+fn send_bytes<S: Link>(bytes: &[u8], stream: &mut S) -> Result<(), Broken>
+    ensures wrote { Wrote (progress_of result) (S.contents stream.old) (S.contents stream.new) bytes.now }
     ensures apart { Keeps (S.remaining stream.old) (S.remaining stream.new) }
 {
     let mut rest = bytes;
     while !rest.is_empty() {
         match stream.transmit(rest) {
-            Ok(0) => return Progress::Broken,
+            Ok(0) => return Err(Broken),
             Ok(count) => rest = &rest[count..],
-            Err(_) => return Progress::Broken,
+            Err(_) => return Err(Broken),
         }
     }
-    Progress::Whole
+    Ok(())
 }
 
 /// The bytes of a command.
 pub(super) fn text_bytes(command: &CommandText) -> &[u8]
-    ensures { result.now ≡ text_of command.now }
+    ensures value { result.now ≡ text_of command.now }
+    ensures fits { length result.now ≤ 512 }
 {
     command.as_str().as_bytes()
 }
 
-/// Writes a command and its line end.
-pub fn send_command<S: Link>(command: &CommandText, stream: &mut S) -> Progress
-    ensures wrote { Wrote result (S.contents stream.old) (S.contents stream.new) (on_wire (text_of command.now)) }
+/// A command and its line end, in one piece.
+fn wire_line(command: &CommandText) -> WireLine
+    ensures { result.items ≡ on_wire (text_of command.now) }
+{
+    let mut line = ArrayVec::new();
+    append(&mut line, text_bytes(command));
+    append(&mut line, b"\r\n");
+    line
+}
+
+/// Writes a command and its line end, by one write where the stream takes all of it.
+pub fn send_command<S: Link>(command: &CommandText, stream: &mut S) -> Result<(), Broken>
+    ensures wrote { Wrote (progress_of result) (S.contents stream.old) (S.contents stream.new) (on_wire (text_of command.now)) }
     ensures apart { Keeps (S.remaining stream.old) (S.remaining stream.new) }
 {
-    match send_bytes(text_bytes(command), stream) {
-        Progress::Whole => send_bytes(b"\r\n", stream),
-        Progress::Broken => Progress::Broken,
-    }
+    send_bytes(wire_line(command).as_slice(), stream)
 }
 
 /// Writes the commands in order.
-pub(super) fn send_commands<S: Link>(commands: &[CommandText], stream: &mut S) -> Progress
-    ensures wrote { Wrote result (S.contents stream.old) (S.contents stream.new) (wire_of (texts_of commands.now)) }
+pub(super) fn send_commands<S: Link>(commands: &[CommandText], stream: &mut S) -> Result<(), Broken>
+    ensures wrote { Wrote (progress_of result) (S.contents stream.old) (S.contents stream.new) (wire_of (texts_of commands.now)) }
     ensures apart { Keeps (S.remaining stream.old) (S.remaining stream.new) }
 {
     for command in commands {
-        match send_command(command, stream) {
-            Progress::Whole => {}
-            Progress::Broken => return Progress::Broken,
-        }
+        send_command(command, stream)?;
     }
-    Progress::Whole
+    Ok(())
 }

@@ -1,5 +1,5 @@
 //! A typed line.
-ghost use Rattle.std.specs.Prelude.{◌≡◌, ◌++◌, ◌∷◌, [], ℕ, List, Option, IfOk, OnOk, OnErr, false};
+ghost use Rattle.std.specs.Prelude.{◌≡◌, ◌++◌, ◌∷◌, [], ℕ, List, Option, OnOk, false};
 ghost use Rattle.std.specs.Io.KnownBytes.{Appends, Keeps};
 ghost use Rattle.fibs_session.specs.History.Machine.{Talk, shown_now, is_online};
 ghost use Rattle.fibs_session.specs.Calls.Standing.{StandsAfter};
@@ -7,19 +7,19 @@ ghost use Rattle.fibs_messages.specs.Message.{MessageValue};
 ghost use Rattle.fibs_commands.specs.CommandReading.{read_command};
 ghost use Rattle.fibs_commands.specs.PlainReading.{read_plain};
 ghost use Rattle.fibs_exchange.specs.Turns.Acts.{line_bytes, text_of_lines};
-ghost use Rattle.fibs_exchange.specs.Turns.Answering.{typed_value, complaint_line, answered_act};
+ghost use Rattle.fibs_exchange.specs.Turns.Answering.{typed_value, complaint_line, answered_act, IfPrinted, IfUnprinted};
 ghost use Rattle.fibs_exchange.specs.Turns.Script.{Did, outside};
 ghost use Rattle.fibs_exchange.specs.Turns.Turn.{FitsStream};
 ghost use Rattle.fibs_exchange.specs.Turns.Typing.{shown_direction, typed_as, typed_now, typed_step, typed_act, plain_label};
-ghost use Rattle.fibs_show.specs.declared.writing.Progress.TheVariants.{Whole};
+ghost use Rattle.fibs_show.specs.Writing.{Whole};
 
 use super::ExchangeFault;
 use super::link::Link;
 use super::printing::{direction_of, print_line, print_reason};
 use super::sending::{send_command, text_bytes};
+use super::turn_fault::TurnFault;
 use fibs_position::{Decision, Direction};
 use fibs_session::{Client, CommandText, Plain, PlainRefusal, Refusal, read_command, read_plain};
-use fibs_show::writing::Progress;
 use std::io::Write;
 
 /// What was typed.
@@ -132,28 +132,26 @@ pub(super) fn type_line<S: Link, W: Write>(
     text: &[u8],
     stream: &mut S,
     out: &mut W,
-) -> Result<Progress, ExchangeFault>
+) -> Result<(), TurnFault>
     ensures stands { (t : Talk) → StandsAfter client.old t →
         StandsAfter client.new (typed_step t (typed_now t text.now)).talk }
-    ensures did { IfOk result (λ p. (t : Talk) → StandsAfter client.old t → (players : List MessageValue) →
+    ensures did { IfPrinted result (λ p. (t : Talk) → StandsAfter client.old t → (players : List MessageValue) →
         Did (outside (S.contents stream.old) (W.contents out.old) players)
         (outside (S.contents stream.new) (W.contents out.new) players) (typed_act t (typed_now t text.now) ∷ []) p) }
-    ensures stopped { OnErr result ((t : Talk) → StandsAfter client.old t →
+    ensures stopped { IfUnprinted result ((t : Talk) → StandsAfter client.old t →
         Appends (S.contents stream.old) (S.contents stream.new) (typed_act t (typed_now t text.now)).writes) }
     ensures apart { Keeps (S.remaining stream.old) (S.remaining stream.new) }
 {
     match answer_text(client, text) {
         Answer::Complaint(complaint) => {
             print_complaint(complaint, out)?;
-            Ok(Progress::Whole)
+            Ok(())
         }
-        Answer::Sent(command) => match send_command(&command, stream) {
-            Progress::Broken => Ok(Progress::Broken),
-            Progress::Whole => {
-                print_line(b"sent ", text_bytes(&command), out)?;
-                Ok(Progress::Whole)
-            }
-        },
+        Answer::Sent(command) => {
+            send_command(&command, stream)?;
+            print_line(b"sent ", text_bytes(&command), out)?;
+            Ok(())
+        }
     }
 }
 

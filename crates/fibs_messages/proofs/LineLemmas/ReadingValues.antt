@@ -95,23 +95,28 @@ of_number_fields n (Ok fields) = refl
 of_number_fields n (Err e) = refl
 
 -- a line that begins with a number is no board line
-of_number_test : (line : List ℕ) (n : ℕ) (t : Bool) → starts_with (λ a b. a == b) line (codes "board:") ≡ t → number_word (before 32 line) ≡ Some n
-    → IsOfNumber n (if t then board_reading (first_fault 1 kinds (pieces (without_spaces line))) (pieces (without_spaces line)) else other_reading (number_word (before 32 line)) line)
+of_number_test : (line : List ℕ) (n : ℕ) (t : Bool) → starts_with (λ a b. a == b) line (codes "board:") ≡ t
+    → number_word (before 32 line) ≡ Some n
+    → IsOfNumber n (if t then board_reading (first_fault 1 kinds (pieces (without_spaces line)))
+    (pieces (without_spaces line)) else other_reading (number_word (before 32 line)) line)
 of_number_test line n true is number = absurd (board_not_numbered line is (n, has_number line n number))
 of_number_test line n false is number =
     subst (λ o. IsOfNumber n (other_reading o line)) (sym number)
     (of_number_fields n (fields_at (kinds_of n) 1 (left 32 (after 32 (kept n line)))))
 
 -- the reading of a line that begins with a number says the number
-pub reads_its_number : (line : List ℕ) (n : ℕ) → number_word (before 32 line) ≡ Some n → IsOfNumber n (reading_value line)
+pub reads_its_number : (line : List ℕ) (n : ℕ) → number_word (before 32 line) ≡ Some n
+    → IsOfNumber n (reading_value line)
 unfolding reading_value
 reads_its_number line n number = of_number_test line n (starts_with (λ a b. a == b) line (codes "board:")) refl number
 
 -- of a word that may be a number
-pub reads_any_number : (line : List ℕ) (o : Option ℕ) → number_word (before 32 line) ≡ o → IfSome o (λ n. IsOfNumber n (reading_value line))
+pub reads_any_number : (line : List ℕ) (o : Option ℕ) → number_word (before 32 line) ≡ o
+    → IfSome o (λ n. IsOfNumber n (reading_value line))
 reads_any_number line None h = tt
 reads_any_number line (Some n) h = reads_its_number line n h
 
 -- the number that a line begins with is the one that it has
-pub has_one_number : (line : List ℕ) (o : Option ℕ) → number_word (before 32 line) ≡ o → (n : ℕ) → (o ≡ Some n) ↔ HasNumber line n
+pub has_one_number : (line : List ℕ) (o : Option ℕ) → number_word (before 32 line) ≡ o → (n : ℕ)
+    → (o ≡ Some n) ↔ HasNumber line n
 has_one_number line o h n = ((λ e. has_number line n (h ∙ e)), (λ has. sym h ∙ number_of line n has))

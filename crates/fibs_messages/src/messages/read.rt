@@ -3,15 +3,18 @@
 
 ghost use Rattle.std.specs.Prelude.{◌≡◌, [], ◌∷◌, IfOk};
 ghost use Rattle.fibs_fields.specs.Field.{NameField, TextField, a_name, a_text};
-ghost use Rattle.fibs_fields.specs.FieldReading.{Gives, fields_at, left};
+ghost use Rattle.fibs_fields.specs.FieldReading.{Gives, fields_at, left, left_of};
 ghost use Rattle.fibs_fields.specs.Split.{seen};
 ghost use Rattle.fibs_messages.specs.Message.{IsNumber, kinds_of, message_of, own_info_fields, who_info_fields};
+ghost use Rattle.fibs_messages.specs.Settings.{last_settings_fields, last_settings_kinds};
+ghost use Rattle.fibs_messages.specs.Settings.{later_settings_fields, later_settings_kinds};
 ghost use Rattle.fibs_fields.specs.Bytes.{name_bytes};
 
 use crate::messages::message::{Message, OwnInfo, WhoInfo};
 use fibs_fields::fault::FieldFault;
 use fibs_fields::name::Name;
 use fibs_fields::reader::Fields;
+use fibs_fields::word::Word;
 
 #[inline(never)]
 fn welcome(rest: Option<&[u8]>) -> Result<Message<'_>, FieldFault>
@@ -30,27 +33,34 @@ fn welcome(rest: Option<&[u8]>) -> Result<Message<'_>, FieldFault>
     })
 }
 
+/// The last settings of message 2.
+#[derive(Drop)]
+struct LastSettings<'a> {
+    ratings: bool,
+    ready: bool,
+    redoubles: Word<'a>,
+    report: bool,
+    silent: bool,
+    timezone: Word<'a>,
+}
+
+/// The settings of message 2 from the user's experience on.
+#[derive(Drop)]
+struct LaterSettings<'a> {
+    experience: u64,
+    greedy: bool,
+    moreboards: bool,
+    moves: bool,
+    notify: bool,
+    rating: u32,
+    last: LastSettings<'a>,
+}
+
 #[inline(never)]
-fn own_info(rest: Option<&[u8]>) -> Result<OwnInfo<'_>, FieldFault>
-    ensures { Gives own_info_fields result (fields_at (kinds_of 2) 1 (left 32 (seen rest.entry))) }
+fn last_settings(mut fields: Fields<'_>) -> Result<LastSettings<'_>, FieldFault>
+    ensures { Gives last_settings_fields result (fields_at last_settings_kinds 16 (left_of fields.entry)) }
 {
-    let mut fields = Fields::new(rest, b' ');
-    let info = OwnInfo {
-        name: fields.name(1)?,
-        allowpip: fields.flag(2)?,
-        autoboard: fields.flag(3)?,
-        autodouble: fields.flag(4)?,
-        automove: fields.flag(5)?,
-        away: fields.flag(6)?,
-        bell: fields.flag(7)?,
-        crawford: fields.flag(8)?,
-        double: fields.flag(9)?,
-        experience: fields.number(10)?,
-        greedy: fields.flag(11)?,
-        moreboards: fields.flag(12)?,
-        moves: fields.flag(13)?,
-        notify: fields.flag(14)?,
-        rating: fields.rating(15)?,
+    let settings = LastSettings {
         ratings: fields.flag(16)?,
         ready: fields.flag(17)?,
         redoubles: fields.word(18)?,
@@ -59,7 +69,62 @@ fn own_info(rest: Option<&[u8]>) -> Result<OwnInfo<'_>, FieldFault>
         timezone: fields.word(21)?,
     };
     fields.end(22)?;
-    Ok(info)
+    Ok(settings)
+}
+
+#[inline(never)]
+fn later_settings(mut fields: Fields<'_>) -> Result<LaterSettings<'_>, FieldFault>
+    ensures { Gives later_settings_fields result (fields_at later_settings_kinds 10 (left_of fields.entry)) }
+{
+    Ok(LaterSettings {
+        experience: fields.number(10)?,
+        greedy: fields.flag(11)?,
+        moreboards: fields.flag(12)?,
+        moves: fields.flag(13)?,
+        notify: fields.flag(14)?,
+        rating: fields.rating(15)?,
+        last: last_settings(fields)?,
+    })
+}
+
+#[inline(never)]
+fn own_info(rest: Option<&[u8]>) -> Result<OwnInfo<'_>, FieldFault>
+    ensures { Gives own_info_fields result (fields_at (kinds_of 2) 1 (left 32 (seen rest.entry))) }
+{
+    let mut fields = Fields::new(rest, b' ');
+    let name = fields.name(1)?;
+    let allowpip = fields.flag(2)?;
+    let autoboard = fields.flag(3)?;
+    let autodouble = fields.flag(4)?;
+    let automove = fields.flag(5)?;
+    let away = fields.flag(6)?;
+    let bell = fields.flag(7)?;
+    let crawford = fields.flag(8)?;
+    let double = fields.flag(9)?;
+    let later = later_settings(fields)?;
+    Ok(OwnInfo {
+        name,
+        allowpip,
+        autoboard,
+        autodouble,
+        automove,
+        away,
+        bell,
+        crawford,
+        double,
+        experience: later.experience,
+        greedy: later.greedy,
+        moreboards: later.moreboards,
+        moves: later.moves,
+        notify: later.notify,
+        rating: later.rating,
+        ratings: later.last.ratings,
+        ready: later.last.ready,
+        redoubles: later.last.redoubles,
+        report: later.last.report,
+        silent: later.last.silent,
+        timezone: later.last.timezone,
+    })
 }
 
 #[inline(never)]

@@ -10,6 +10,7 @@ use Rattle.std.proofs.lemmas.List.Sums.{sum_by-append}
 use Rattle.std.proofs.lemmas.List.Concat.{flat_map-append}
 use Rattle.fibs_lines.specs.Lines.{ReadLine, lines_of, is_line_end}
 use Rattle.fibs_lines.specs.StreamLaws.{LinesAreAtMostTheLineEnds}
+use Rattle.fibs_messages.specs.Line.{ReadingValue}
 use Rattle.fibs_session.specs.Calls.Doing.{Does}
 use Rattle.fibs_session.specs.Calls.Feeding.{Gains, FeedAnswers, commands_of, line_of_taken}
 use Rattle.fibs_session.specs.Calls.SessionOf.{TakenValue}
@@ -172,3 +173,9 @@ front old new piece used n taken x u e f d =
 pub none_of : {A B : Type 0} (f : A → B) (o : Option A) → ((x : A) → o ≡ Some x → ⊥) → option_map f o ≡ None
 none_of f None h = refl
 none_of f (Some x) h = absurd (h x refl)
+
+-- what a line gives is noted
+pub noted_so : (log later es : List Entry) (r : ReadingValue) (conn : ℕ) → later ≡ log ++ es
+    → ((before : List Entry) → es ≡ (heard conn before r).entries)
+    → (before : List Entry) → later ≡ log ++ (heard conn before r).entries
+noted_so log later es r conn grown given before = grown ∙ ap (λ l. log ++ l) (given before)

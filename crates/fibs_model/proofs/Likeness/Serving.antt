@@ -147,6 +147,11 @@ serve_known v login w c d1 d2 s may = let r = served w c d1 d2 (may login w s) i
 pub takes_after : (old new : ServerValue) (links grown after : List LinkValue) (c d1 d2 : ℕ) (s : Served) → grown ≡ links → TakesNext old new grown after c d1 d2 s → TakesNext old new links after c d1 d2 s
 takes_after old new links grown after c d1 d2 s g t = subst (λ ls. TakesNext old new ls after c d1 d2 s) g t
 
-pub note_after : (log grown new : List C.Entry) (board before : BoardFields) (c : ℕ) (s : Served) → grown ≡ log → board ≡ before
-    → map entry_of new ≡ map entry_of grown ++ served_entries c board s → map entry_of new ≡ map entry_of log ++ served_entries c before s
-note_after log grown new board before c s g b n = n ∙ ap (λ l. map entry_of l ++ served_entries c board s) g ∙ ap (λ x. map entry_of log ++ served_entries c x s) b
+pub note_after : (log grown new : List C.Entry) (es : List L.Entry) (board before : BoardFields) (c : ℕ) (s : Served) → grown ≡ log → board ≡ before
+    → map entry_of new ≡ map entry_of grown ++ es → es ≡ served_entries c board s
+    → map entry_of new ≡ map entry_of log ++ served_entries c before s
+note_after log grown new es board before c s g b n e =
+    n
+    ∙ ap (λ l. map entry_of grown ++ l) e
+    ∙ ap (λ l. map entry_of l ++ served_entries c board s) g
+    ∙ ap (λ x. map entry_of log ++ served_entries c x s) b

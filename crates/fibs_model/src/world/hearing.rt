@@ -1,63 +1,28 @@
 //! The client hears bytes, with room for all that they add.
 
-ghost use Rattle.std.specs.Prelude.{◌≡◌, ◌≤◌, ◌<◌, ◌+◌, ◌++◌, ℕ, List, length, count_by, map, take, drop, vec_len};
+ghost use Rattle.std.specs.Prelude.{◌≡◌, ◌≤◌, ◌<◌, ◌+◌, ◌++◌, length, count_by, map, take, drop, vec_len};
 ghost use Rattle.std.specs.Prelude.{vec_capacity};
 ghost use Rattle.fibs_lines.specs.Lines.{is_line_end};
-ghost use Rattle.fibs_messages.specs.Message.{message_of};
-ghost use Rattle.fibs_messages.specs.Line.{reading_of};
 ghost use Rattle.fibs_session.specs.Calls.SessionOf.{texts_of};
 ghost use Rattle.fibs_session.specs.Calls.Standing.{StandsAfter};
-ghost use Rattle.fibs_session.specs.History.Hearing.{heard, heard_message};
-ghost use Rattle.fibs_session.specs.History.Log as L;
 ghost use Rattle.fibs_session.specs.History.Machine.{Talk, Piece, step, wire_of};
 ghost use Rattle.fibs_session.specs.History.Owing.{owed};
-ghost use Rattle.fibs_model.specs.EntryOf.{entry_of};
+ghost use Rattle.fibs_model.specs.EntryOf.{entry_of, entries_of};
 ghost use Rattle.fibs_model.specs.HearingOf.{HearsPiece, IsTalking};
 
 use crate::entry::Entry;
-use crate::server::is_good;
 use crate::wire::Wire;
-use fibs_messages::{Message, Reading};
 use fibs_session::{Client, CommandText};
 
-/// Notes a message.
-fn note_message(log: &mut Vec<Entry>, conn: usize, message: &Message<'_>)
+/// Notes an entry, if there is one.
+pub(super) fn note(log: &mut Vec<Entry>, entry: Option<Entry>)
     requires room { vec_len log.old + 1 ≤ vec_capacity log.old }
-    ensures items { (before : List L.Entry) → map entry_of log.new.items
-        ≡ map entry_of log.old.items ++ (heard_message conn before (message_of message.now)).entries }
+    ensures items { map entry_of log.new.items ≡ map entry_of log.old.items ++ entries_of entry }
     ensures len { vec_len log.new ≤ vec_len log.old + 1 }
     ensures capacity { vec_capacity log.old ≤ vec_capacity log.new }
 {
-    match message {
-        Message::Welcome { .. } => log.push_reserved(Entry::Welcomed { conn }),
-        Message::OwnInfo(info) => log.push_reserved(Entry::Informed {
-            conn,
-            automove: info.automove,
-            greedy: info.greedy,
-        }),
-        _ => {}
-    }
-}
-
-/// Notes a line by its reading.
-fn note(log: &mut Vec<Entry>, conn: usize, reading: &Reading<'_>)
-    requires room { vec_len log.old + 1 ≤ vec_capacity log.old }
-    ensures items { (before : List L.Entry) → map entry_of log.new.items
-        ≡ map entry_of log.old.items ++ (heard conn before (reading_of reading.now)).entries }
-    ensures len { vec_len log.new ≤ vec_len log.old + 1 }
-    ensures capacity { vec_capacity log.old ≤ vec_capacity log.new }
-{
-    match reading {
-        Reading::Numbered(message) => note_message(log, conn, message),
-        Reading::Board(board) => {
-            if is_good(board) {
-                log.push_reserved(Entry::Shown {
-                    conn,
-                    board: *board,
-                });
-            }
-        }
-        Reading::Text(_) | Reading::Malformed { .. } => {}
+    if let Some(entry) = entry {
+        log.push_reserved(entry);
     }
 }
 
@@ -96,7 +61,7 @@ fn hear_line(
     let heard = client.read(piece);
     let got = client.got(heard);
     if let Some(taken) = &got.taken {
-        note(log, conn, &taken.reading);
+        note(log, Entry::of_reading(conn, &taken.reading));
         put_all(wire, taken.send.as_slice());
     }
     got.used

@@ -5,7 +5,6 @@ ghost use Rattle.fibs_model.specs.Calls.{serve_refusal};
 ghost use Rattle.fibs_model.specs.EventOf.{event_of};
 ghost use Rattle.fibs_model.specs.LinksOf.{seen, link_at};
 ghost use Rattle.fibs_model.specs.Refusals.{refusal};
-ghost use Rattle.fibs_model.specs.Server.{is_die};
 ghost use Rattle.fibs_model.specs.World as W;
 ghost use Rattle.fibs_model.specs.WorldOf.{StandsFor};
 
@@ -13,14 +12,8 @@ use super::World;
 use super::link::Link;
 use crate::event::Event;
 use crate::refusal::WorldRefusal;
+use crate::server::is_die;
 use crate::wire::{is_board_text, whole_line};
-
-/// It is a number of a die.
-fn is_die(number: u8) -> bool
-    ensures { result ≡ is_die number }
-{
-    0 < number && number < 7
-}
 
 /// Why a line of a connection may not be served.
 #[tactic(auto, unfolding(crate::specs::Calls::serve_refusal))]

@@ -1,11 +1,9 @@
 //! The server takes a line.
 
-ghost use Rattle.std.specs.Prelude.{◌≡◌, ◌≤◌, ◌<◌, ◌+◌, ◌++◌, ℕ, List, Some, length, OnOk, OnErr, IfSome, IsSome, map};
-ghost use Rattle.std.specs.Prelude.{vec_len, vec_capacity, slice_index, if◌then◌else◌};
-ghost use Rattle.fibs_boards.specs.Board.{BoardFields, spelling};
-ghost use Rattle.fibs_boards.specs.StoredBoard.{fields_of};
-ghost use Rattle.fibs_model.specs.Calls.{served_entries, is_answered, send_links, TakesLine, TakesNext};
-ghost use Rattle.fibs_model.specs.EntryOf.{entry_of};
+ghost use Rattle.std.specs.Prelude.{◌≡◌, ◌≤◌, ◌<◌, ◌+◌, ◌++◌, ℕ, List, Some, length, OnOk, OnErr, IsSome};
+ghost use Rattle.std.specs.Prelude.{vec_len, slice_index, if◌then◌else◌};
+ghost use Rattle.fibs_boards.specs.Board.{spelling};
+ghost use Rattle.fibs_model.specs.Calls.{is_answered, send_links, TakesLine, TakesNext};
 ghost use Rattle.fibs_model.specs.Events as E;
 ghost use Rattle.fibs_model.specs.LinksOf.{seen, link_at, RoomToClient};
 ghost use Rattle.fibs_model.specs.ServerOf.{served_of};
@@ -13,12 +11,11 @@ ghost use Rattle.fibs_model.specs.Wires.{next_line};
 ghost use Rattle.fibs_model.specs.WorldOf.{May, Goes};
 
 use super::World;
+use super::hearing::note;
 use super::link::Link;
 use super::links::{BOARD, make_room, send_line};
-use crate::entry::Entry;
 use crate::server::{Served, Server};
 use crate::wire::whole_line;
-use fibs_messages::Board;
 use std::alloc::AllocError;
 
 /// The server takes the next line of a connection.
@@ -59,41 +56,9 @@ fn answer_line(server: &Server, links: &mut Vec<Link>, conn: usize, served: Serv
         else seen links.old.items) }
     ensures len { vec_len links.new ≡ vec_len links.old }
 {
-    if is_answered(served) {
+    if served.is_answered() {
         let line = server.board().print();
         send_line(links, conn, server.logged_in(), &line);
-    }
-}
-
-/// Notes what came of a line, on the board before it.
-fn note_served(log: &mut Vec<Entry>, conn: usize, board: Board, served: Served)
-    requires room { vec_len log.old + 1 ≤ vec_capacity log.old }
-    ensures { (after : BoardFields) → map entry_of log.new.items
-        ≡ map entry_of log.old.items ++ served_entries conn (fields_of board) (served_of served after) }
-{
-    match served {
-        Served::Stale | Served::Answered => {}
-        Served::LoggedIn => log.push_reserved(Entry::LoggedIn { conn }),
-        Served::Took(decision) => log.push_reserved(Entry::Took {
-            conn,
-            board,
-            decision,
-        }),
-        Served::Undone(decision) => log.push_reserved(Entry::Undone {
-            conn,
-            board,
-            decision,
-        }),
-    }
-}
-
-/// The line is answered by the board.
-fn is_answered(served: Served) -> bool
-    ensures { (after : BoardFields) → result ≡ is_answered (served_of served after) }
-{
-    match served {
-        Served::Stale | Served::LoggedIn => false,
-        Served::Took(_) | Served::Undone(_) | Served::Answered => true,
     }
 }
 
@@ -109,7 +74,7 @@ impl World {
         make_room(&mut self.links, self.current, BOARD, 0)?;
         let board = *self.server.board();
         let served = take_next(&mut self.server, &mut self.links, conn, dice);
-        note_served(&mut self.log, conn, board, served);
+        note(&mut self.log, served.entry(conn, board));
         answer_line(&self.server, &mut self.links, self.current, served);
         Ok(())
     }

@@ -12,8 +12,7 @@ use Rattle.fibs_exchange.specs.Turns.Acts.{line_bytes}
 use Rattle.fibs_replay.specs.Replay.LogLines.{entry_line, log_text}
 use Rattle.fibs_show.specs.Writing.{GainedFront, Wrote}
 use Rattle.fibs_replay.specs.Replay.Passing.{Passed}
-use Rattle.fibs_show.specs.declared.writing.Progress.{Progress}
-use Rattle.fibs_show.specs.declared.writing.Progress.TheVariants.{Whole, Broken}
+use Rattle.fibs_show.specs.Writing.{Progress, Whole, Broken}
 
 -- nothing has passed yet
 pub passed_nothing : (held : Option (List ℕ)) (text : List ℕ) → Passed held held text text

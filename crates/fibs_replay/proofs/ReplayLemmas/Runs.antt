@@ -25,9 +25,12 @@ use Rattle.fibs_show.specs.Writing.{GainedFront}
 use Rattle.fibs_replay.specs.Replay.EventLines.{SaysEvent}
 use Rattle.fibs_replay.specs.Replay.LogLines.{log_text}
 use Rattle.fibs_replay.specs.Replay.Output.{script_login, unread_text, end_text, refused_text, log_after, ReplayText}
-use Rattle.fibs_replay.specs.Replay.Output.{too_long, refused, to_the_end, LogOf, IsFor, Replayed, ReplayFailed, ReadWhole}
+use Rattle.fibs_replay.specs.Replay.Output.{too_long, unreadable, refused, to_the_end, LogOf, IsFor, Replayed}
+use Rattle.fibs_replay.specs.Replay.Output.{ReplayFailed, ReplayedInPart, ReadWhole, ReadLines}
 use Rattle.fibs_replay.specs.Replay.Running.{StandsFrom, RanTo, RunPrinted, PrintedFor}
 use Rattle.fibs_replay.specs.Replay.Scripts.{script_limit, script_lines, SayEvents, SayScript, IsNoEvent}
+use Rattle.fibs_replay.specs.Replay.Scripts.{FirstUnreadable}
+use Rattle.fibs_replay.specs.declared.replay.script.Script.TheVariants.{Unreadable}
 use Rattle.fibs_replay.proofs.ReplayLemmas.Scripts.{ReadsLine}
 
 -- events that may be
@@ -291,16 +294,50 @@ taken_first false h = absurd cc
 pub good_first : GoodIsExact → (b : BoardFields) → None ≡ (if good b then None else Some W.BadBoard) → IsGood b
 good_first exact b h = (exact b).0 (taken_first (good b) h)
 
--- a script that is too long
+-- a script that is not run
 
-pub too_long_done : (r : Result ℕ EngineFault) (left still held now : Option (List ℕ)) (text : List ℕ) → ReadWhole None left still → text ≡ unread_text 0 → Printed 3 text r held now
+pub unread_long : (left still : Option (List ℕ)) → ReadWhole None left still → ReadLines (Unreadable 0) left still
+unread_long left still read = (read.0, read.1, inr read.2, too_long read.2)
+
+pub unread_at : (script : List ℕ) (number : ℕ) (left still : Option (List ℕ)) → ReadWhole (Some script) left still
+    → FirstUnreadable (script_lines script) number → ReadLines (Unreadable number) left still
+unread_at script number left still read first = (script, read.0, inl read.1, unreadable number read.2 first)
+
+pub unread_done : (r : Result ℕ EngineFault) (number : ℕ) (left still held now : Option (List ℕ)) (text : List ℕ)
+    → ReadLines (Unreadable number) left still → text ≡ unread_text number → Printed 3 text r held now
     → IfOk r (λ status. Replayed status left still held now)
-too_long_done (Ok status) left still held now text read is h =
-    (read.0, text, read.1, inr read.2, subst (ReplayText read.0 text) (sym h.0) (subst (λ t. ReplayText read.0 t 3) (sym is) (too_long read.2)), h.1)
-too_long_done (Err why) left still held now text read is h = tt
+unread_done (Ok status) number left still held now text read is h =
+    let for : ReplayText read.0 text 3 = subst (λ t. ReplayText read.0 t 3) (sym is) read.3 in
+    (read.0, text, read.1, read.2, subst (ReplayText read.0 text) (sym h.0) for, h.1)
+unread_done (Err why) number left still held now text read is h = tt
 
-pub too_long_failed : (r : Result ℕ EngineFault) (left still held now : Option (List ℕ)) (text : List ℕ) → ReadWhole None left still → text ≡ unread_text 0 → Printed 3 text r held now
+pub unread_failed : (r : Result ℕ EngineFault) (number : ℕ) (left still held now : Option (List ℕ)) (text : List ℕ)
+    → ReadLines (Unreadable number) left still → text ≡ unread_text number → Printed 3 text r held now
     → IsErrOf r fault.Device → ReplayFailed left still held now
-too_long_failed (Ok status) left still held now text read is h failed = absurd cc
-too_long_failed (Err why) left still held now text read is h failed =
-    inr (read.0, text, read.1, inl (3, subst (λ t. ReplayText read.0 t 3) (sym is) (too_long read.2)), h.1)
+unread_failed (Ok status) number left still held now text read is h failed = absurd cc
+unread_failed (Err why) number left still held now text read is h failed =
+    inr (read.0, text, read.1, read.2, inl (3, subst (λ t. ReplayText read.0 t 3) (sym is) read.3), h.1)
+
+-- a script whose lines are readable
+
+pub readable_done : (r : Result ℕ EngineFault) (script : List ℕ) (left still held now : Option (List ℕ))
+    → ReadWhole (Some script) left still → PrintedFor script r held now
+    → IfOk r (λ status. Replayed status left still held now)
+readable_done (Ok status) script left still held now read h = (script, h.0, read.0, inl read.1, h.1, h.2)
+readable_done (Err why) script left still held now read h = tt
+
+pub readable_failed : (r : Result ℕ EngineFault) (script : List ℕ) (left still held now : Option (List ℕ))
+    → ReadWhole (Some script) left still → PrintedFor script r held now
+    → IsErrOf r fault.Device → ReplayFailed left still held now
+readable_failed (Ok status) script left still held now read h failed = absurd cc
+readable_failed (Err fault.Device) script left still held now read h failed =
+    inr (script, h.0, read.0, inl read.1, h.1, h.2)
+readable_failed (Err fault.Memory) script left still held now read h failed = absurd cc
+
+pub readable_in_part : (r : Result ℕ EngineFault) (script : List ℕ) (left still held now : Option (List ℕ))
+    → ReadWhole (Some script) left still → PrintedFor script r held now
+    → IsErrOf r fault.Memory → ReplayedInPart left still held now
+readable_in_part (Ok status) script left still held now read h failed = absurd cc
+readable_in_part (Err fault.Device) script left still held now read h failed = absurd cc
+readable_in_part (Err fault.Memory) script left still held now read h failed =
+    inr (script, h.0, read.0, read.1, h.1, h.2)

@@ -3,11 +3,12 @@
 use Rattle.std.specs.Prelude.{◌++◌, ℕ, Bool, List, ◌∷◌, [], codes, decimal, Option, Some, None, flat_map, if◌then◌else◌}
 use Rattle.fibs_boards.specs.Board.{spelling}
 use Rattle.fibs_session.specs.declared.refusal.Refusal.{Refusal}
+use Rattle.fibs_session.specs.History.Asked.{asked_text}
 use Rattle.fibs_session.specs.History.Log.{Entry, Opened, LoggedIn, Welcomed, Informed, Shown, Clicked, Sent, Took}
 use Rattle.fibs_session.specs.History.Log.{Undone, Lost}
 use Rattle.fibs_session.specs.History.Refusals.{refusal_name}
 use Rattle.fibs_session.specs.History.Words.{Ask}
-use Rattle.fibs_exchange.specs.Turns.Acts.{asked_text, line_bytes}
+use Rattle.fibs_exchange.specs.Turns.Acts.{line_bytes}
 
 -- a word, and the number of a connection
 abbrev pub of_connection : List ℕ → ℕ → List ℕ

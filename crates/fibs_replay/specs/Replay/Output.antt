@@ -10,10 +10,13 @@ use Rattle.fibs_model.specs.Events.{Event}
 use Rattle.fibs_model.specs.RefusalNames.{refusal_number, refusal_name}
 use Rattle.fibs_model.specs.Refusals.{refusal}
 use Rattle.fibs_model.specs.Runs.{MayBe, world_after}
+use Rattle.fibs_show.specs.Reads.{LostAtMost}
 use Rattle.fibs_show.specs.Writing.{GainedFront}
 use Rattle.fibs_exchange.specs.Turns.Acts.{line_bytes}
 use Rattle.fibs_replay.specs.Replay.LogLines.{log_text}
-use Rattle.fibs_replay.specs.Replay.Scripts.{script_limit, script_lines, SayScript, FirstUnreadable}
+use Rattle.fibs_replay.specs.Replay.Scripts.{script_limit, script_lines, SayScript, FirstUnreadable, ReadsScript}
+use Rattle.fibs_replay.specs.declared.replay.script.Script.{Script}
+use Rattle.fibs_replay.specs.declared.replay.script.Script.TheVariants.{Readable, Unreadable}
 
 -- the user of each script logs in by this command
 abbrev pub script_login : List ℕ
@@ -75,19 +78,30 @@ LogOf script text = (first : BoardFields) × (before later : List Event)
 abbrev pub IsFor : List ℕ → List ℕ → Type 0
 IsFor script text = ((status : ℕ) × ReplayText script text status) ⊎ LogOf script text
 
--- a read failed, and nothing was written; or a write failed, and the writer gained a front of a text that is for the
--- script
+-- a read failed within the limit of a script, and nothing was written; or a write failed: the reader was read to its
+-- end, or past the limit, and the writer gained a front of a text that is for what was read
 abbrev pub ReplayFailed : Option (List ℕ) → Option (List ℕ) → Option (List ℕ) → Option (List ℕ) → Type 0
 ReplayFailed left still held now =
-    Keeps held now
-    ⊎ ((script text : List ℕ) × Consumes left still script × IsFor script text × GainedFront held now text)
+    (LostAtMost script_limit left still × Keeps held now)
+    ⊎ ((script text : List ℕ) × Consumes left still script × (IsAtEnd still ⊎ (script_limit < length script))
+    × IsFor script text × GainedFront held now text)
 
--- memory ran out: nothing was written, or just the lines of the log so far
+-- memory ran out: nothing was written; or the reader was read to its end, and just the lines of the log so far were
 abbrev pub ReplayedInPart : Option (List ℕ) → Option (List ℕ) → Option (List ℕ) → Option (List ℕ) → Type 0
 ReplayedInPart left still held now =
-    Keeps held now ⊎ ((script text : List ℕ) × Consumes left still script × LogOf script text × Appends held now text)
+    Keeps held now
+    ⊎ ((script text : List ℕ) × Consumes left still script × IsAtEnd still × LogOf script text × Appends held now text)
 
 -- a reader was read to its end, which is a script; or past the limit of one
 abbrev pub ReadWhole : Option (List ℕ) → Option (List ℕ) → Option (List ℕ) → Type 0
 ReadWhole (Some script) left still = Consumes left still script × IsAtEnd still × (length script ≤ script_limit)
 ReadWhole None left still = (script : List ℕ) × Consumes left still script × (script_limit < length script)
+
+-- a reader was read to its end, which is a script whose lines are readable; or what was read is not run, and this is
+-- the number that is printed for it
+abbrev pub ReadLines : Script → Option (List ℕ) → Option (List ℕ) → Type 0
+ReadLines (Readable bytes) left still =
+    ReadWhole (Some bytes.items) left still × ReadsScript None (script_lines bytes.items)
+ReadLines (Unreadable number) left still =
+    (script : List ℕ) × Consumes left still script × (IsAtEnd still ⊎ (script_limit < length script))
+    × ReplayText script (unread_text number) 3

@@ -7,7 +7,8 @@ ghost use Rattle.fibs_boards.specs.StoredBoard.{fields_of};
 ghost use Rattle.fibs_model.specs.EventOf.{event_of};
 ghost use Rattle.fibs_model.specs.Events.{Event as EventValue};
 ghost use Rattle.fibs_replay.specs.Replay.EventLines.{SaysEvent};
-ghost use Rattle.fibs_replay.specs.Replay.EventReading.{alone_in, board_in, event_in, joined_in, second_die, serving_in};
+ghost use Rattle.fibs_replay.specs.Replay.EventReading.{alone_in, board_in, event_in, joined_in, second_die};
+ghost use Rattle.fibs_replay.specs.Replay.EventReading.{serving_in};
 ghost use Rattle.fibs_replay.specs.Replay.Scripts.{IsNoBoard, IsNoEvent};
 
 use crate::laws::events_are_exact;

@@ -1,13 +1,15 @@
 //! A script is read.
-ghost use Rattle.std.specs.Prelude.{◌<◌, length, option_map, IfOk};
-ghost use Rattle.fibs_replay.specs.Replay.Output.{ReadWhole};
+ghost use Rattle.std.specs.Prelude.{◌<◌, ◌+◌, length, option_map, IfOk, IsErrOf};
+ghost use Rattle.fibs_show.specs.Reads.{LostAtMost};
+ghost use Rattle.fibs_replay.specs.Replay.Limits.{read_len};
+ghost use Rattle.fibs_replay.specs.Replay.Output.{ReadWhole, ReadLines};
+ghost use Rattle.fibs_replay.specs.Replay.Scripts.{script_limit};
 
+use super::limits::{READ_LEN, SCRIPT_LIMIT};
+use super::script::{Script, first_unreadable};
 use fibs_show::fault::EngineFault;
 use std::alloc::Global;
 use std::io::Read;
-
-/// How many bytes a script may have.
-const SCRIPT_LIMIT: usize = 1_048_576;
 
 /// Reads a script to the reader's end, in reads of at most as many bytes as `portion` has room for. None where it has
 /// more than 1,048,576 bytes: of those it reads no more than it needs to know it.
@@ -19,8 +21,11 @@ pub fn read_script<R: Read>(
     reader: &mut R,
 ) -> Result<Option<Vec<u8>>, EngineFault>
     requires { 0 < length portion.old }
-    ensures { IfOk result (λ script. ReadWhole (option_map (λ bytes. bytes.items) script)
+    ensures whole { IfOk result (λ script. ReadWhole (option_map (λ bytes. bytes.items) script)
         (R.remaining reader.old) (R.remaining reader.new)) }
+    ensures device { IsErrOf result EngineFault.Device →
+        LostAtMost script_limit (R.remaining reader.old) (R.remaining reader.new) }
+    ensures few { LostAtMost (script_limit + length portion.old) (R.remaining reader.old) (R.remaining reader.new) }
 {
     let mut script = Vec::new(alloc);
     while script.len() <= SCRIPT_LIMIT {
@@ -31,4 +36,20 @@ pub fn read_script<R: Read>(
         }
     }
     Ok(None)
+}
+
+/// Reads a script and tries its lines: either each of them is readable, or the script is not to be run.
+pub fn read_lines<R: Read>(alloc: Global, reader: &mut R) -> Result<Script, EngineFault>
+    ensures ok { IfOk result (λ script. ReadLines script (R.remaining reader.old) (R.remaining reader.new)) }
+    ensures device { IsErrOf result EngineFault.Device →
+        LostAtMost script_limit (R.remaining reader.old) (R.remaining reader.new) }
+    ensures few { LostAtMost (script_limit + read_len) (R.remaining reader.old) (R.remaining reader.new) }
+{
+    match read_script(alloc, &mut [0; READ_LEN], reader)? {
+        None => Ok(Script::Unreadable(0)),
+        Some(script) => match first_unreadable(script.as_slice()) {
+            Some(number) => Ok(Script::Unreadable(number)),
+            None => Ok(Script::Readable(script)),
+        },
+    }
 }

@@ -5,33 +5,30 @@ ghost use Rattle.std.specs.Prelude.{option_map};
 ghost use Rattle.arrayvec.specs.ArrayVec.{array_vec_len};
 ghost use Rattle.fibs_boards.specs.Board.{spelling};
 ghost use Rattle.fibs_boards.specs.StoredBoard.{fields_of};
-ghost use Rattle.fibs_position.specs.DecisionValue.{decision_of};
 ghost use Rattle.fibs_session.specs.Calls.SessionOf.{ask_of};
 ghost use Rattle.fibs_model.specs.EntryOf.{entry_of};
 ghost use Rattle.fibs_exchange.specs.Turns.Acts.{line_bytes};
 ghost use Rattle.fibs_replay.specs.Replay.LogLines.{answer_text, ask_text, entry_line, flag_text, of_connection};
 ghost use Rattle.fibs_replay.specs.Replay.LogLines.{unconfirmed_text};
+ghost use Rattle.fibs_replay.specs.Replay.Limits.{ask_len, board_len, entry_len, flag_len, number_len, portion_len};
+ghost use Rattle.fibs_replay.specs.Replay.Limits.{answer_len, said_len};
 
+use super::limits::PORTION_LEN;
 use arrayvec::ArrayVec;
-use fibs_exchange::exchange::printing::direction_of;
 use fibs_messages::Board;
 use fibs_model::Entry;
-use fibs_position::Decision;
-use fibs_session::{Outstanding, Refusal, decision_text};
+use fibs_session::{Outstanding, Refusal};
 use fibs_show::printing::fixed::append;
 use itoa::Buffer;
 
 /// Text on its way to a writer: as much as is written at once.
-pub type Portion = ArrayVec<u8, 8192>;
-
-/// The most bytes of an entry's line, with its end.
-pub const ENTRY_LEN: usize = 417;
+pub type Portion = ArrayVec<u8, PORTION_LEN>;
 
 /// Appends a word and the number of a connection.
 fn append_connection(text: &mut Portion, word: &[u8], conn: usize)
-    requires { array_vec_len text.old + length word.now + 41 ≤ 8192 }
+    requires { array_vec_len text.old + length word.now + number_len ≤ portion_len }
     ensures text { text.new.items ≡ text.old.items ++ of_connection word.now conn }
-    ensures short { array_vec_len text.new ≤ array_vec_len text.old + length word.now + 41 }
+    ensures short { array_vec_len text.new ≤ array_vec_len text.old + length word.now + number_len }
 {
     append(text, word);
     text.push(b' ');
@@ -40,9 +37,9 @@ fn append_connection(text: &mut Portion, word: &[u8], conn: usize)
 
 /// Appends whether the server does something by itself, behind a space.
 fn append_flag(text: &mut Portion, flag: bool)
-    requires { array_vec_len text.old + 2 ≤ 8192 }
+    requires { array_vec_len text.old + flag_len ≤ portion_len }
     ensures text { text.new.items ≡ text.old.items ++ (32 ∷ flag_text flag) }
-    ensures short { array_vec_len text.new ≡ array_vec_len text.old + 2 }
+    ensures short { array_vec_len text.new ≡ array_vec_len text.old + flag_len }
 {
     text.push(b' ');
     text.push(if flag { b'1' } else { b'0' });
@@ -50,35 +47,32 @@ fn append_flag(text: &mut Portion, flag: bool)
 
 /// Appends a board, behind a space.
 fn append_board(text: &mut Portion, board: &Board)
-    requires { array_vec_len text.old + 330 ≤ 8192 }
+    requires { array_vec_len text.old + board_len ≤ portion_len }
     ensures text { text.new.items ≡ text.old.items ++ (32 ∷ spelling (fields_of board.now)) }
-    ensures short { array_vec_len text.new ≤ array_vec_len text.old + 330 }
+    ensures short { array_vec_len text.new ≤ array_vec_len text.old + board_len }
 {
     text.push(b' ');
     append(text, board.print().as_slice());
 }
 
 /// Appends a board, and the command of what was decided on it, in its numbers, behind a space.
-fn append_ask(text: &mut Portion, board: &Board, decision: &Decision)
-    requires { array_vec_len text.old + 367 ≤ 8192 }
-    ensures text { text.new.items ≡ text.old.items ++ (32 ∷ ask_text (fields_of board.now, decision_of decision.now)) }
-    ensures short { array_vec_len text.new ≤ array_vec_len text.old + 367 }
+fn append_ask(text: &mut Portion, asked: &Outstanding)
+    requires { array_vec_len text.old + ask_len ≤ portion_len }
+    ensures text { text.new.items ≡ text.old.items ++ (32 ∷ ask_text (ask_of asked.now)) }
+    ensures short { array_vec_len text.new ≤ array_vec_len text.old + ask_len }
 {
     fibs_session::laws::commands_are_short();
     fibs_position::laws::decisions_are_valid();
-    append_board(text, board);
+    append_board(text, &asked.board);
     text.push(b' ');
-    append(
-        text,
-        decision_text(decision, direction_of(board)).as_bytes(),
-    );
+    append(text, asked.command().as_bytes());
 }
 
 /// Appends the answer to a click, behind a space.
 fn append_answer(text: &mut Portion, answer: Result<(), Refusal>)
-    requires { array_vec_len text.old + 12 ≤ 8192 }
+    requires { array_vec_len text.old + answer_len ≤ portion_len }
     ensures text { text.new.items ≡ text.old.items ++ (32 ∷ answer_text (result_err answer)) }
-    ensures short { array_vec_len text.new ≤ array_vec_len text.old + 12 }
+    ensures short { array_vec_len text.new ≤ array_vec_len text.old + answer_len }
 {
     text.push(b' ');
     match answer {
@@ -89,22 +83,22 @@ fn append_answer(text: &mut Portion, answer: Result<(), Refusal>)
 
 /// Appends what was unconfirmed, behind a space.
 fn append_unconfirmed(text: &mut Portion, unconfirmed: &Option<Outstanding>)
-    requires { array_vec_len text.old + 367 ≤ 8192 }
+    requires { array_vec_len text.old + ask_len ≤ portion_len }
     ensures text { text.new.items ≡ text.old.items ++ unconfirmed_text (option_map ask_of unconfirmed.now) }
-    ensures short { array_vec_len text.new ≤ array_vec_len text.old + 367 }
+    ensures short { array_vec_len text.new ≤ array_vec_len text.old + ask_len }
 {
     match unconfirmed {
         None => {}
-        Some(asked) => append_ask(text, &asked.board, &asked.decision),
+        Some(asked) => append_ask(text, asked),
     }
 }
 
 /// Appends what an entry says, without a line end.
 #[tactic(auto, unfolding(crate::specs::Replay::LogLines::entry_line))]
 fn append_said(text: &mut Portion, entry: &Entry)
-    requires { array_vec_len text.old + 416 ≤ 8192 }
+    requires { array_vec_len text.old + said_len ≤ portion_len }
     ensures text { text.new.items ≡ text.old.items ++ entry_line (entry_of entry.now) }
-    ensures short { array_vec_len text.new ≤ array_vec_len text.old + 416 }
+    ensures short { array_vec_len text.new ≤ array_vec_len text.old + said_len }
 {
     match entry {
         Entry::Opened { conn } => append_connection(text, b"opened", *conn),
@@ -133,7 +127,13 @@ fn append_said(text: &mut Portion, entry: &Entry)
             decision,
         } => {
             append_connection(text, b"sent", *conn);
-            append_ask(text, board, decision);
+            append_ask(
+                text,
+                &Outstanding {
+                    board: *board,
+                    decision: *decision,
+                },
+            );
         }
         Entry::Took {
             conn,
@@ -141,7 +141,13 @@ fn append_said(text: &mut Portion, entry: &Entry)
             decision,
         } => {
             append_connection(text, b"took", *conn);
-            append_ask(text, board, decision);
+            append_ask(
+                text,
+                &Outstanding {
+                    board: *board,
+                    decision: *decision,
+                },
+            );
         }
         Entry::Undone {
             conn,
@@ -149,7 +155,13 @@ fn append_said(text: &mut Portion, entry: &Entry)
             decision,
         } => {
             append_connection(text, b"undone", *conn);
-            append_ask(text, board, decision);
+            append_ask(
+                text,
+                &Outstanding {
+                    board: *board,
+                    decision: *decision,
+                },
+            );
         }
         Entry::Lost { conn, unconfirmed } => {
             append_connection(text, b"lost", *conn);
@@ -160,7 +172,7 @@ fn append_said(text: &mut Portion, entry: &Entry)
 
 /// Appends the line of an entry. It has at most 417 bytes.
 pub fn append_entry(text: &mut Portion, entry: &Entry)
-    requires { array_vec_len text.old + 417 ≤ 8192 }
+    requires { array_vec_len text.old + entry_len ≤ portion_len }
     ensures { text.new.items ≡ text.old.items ++ line_bytes (entry_line (entry_of entry.now)) }
 {
     append_said(text, entry);

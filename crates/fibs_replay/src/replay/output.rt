@@ -1,21 +1,23 @@
 //! What is written for a script: the lines of the log, and a last line.
 ghost use Rattle.std.specs.Prelude.{◌≡◌, ◌≤◌, ◌++◌, length, map};
 ghost use Rattle.fibs_model.specs.EntryOf.{entry_of};
-ghost use Rattle.fibs_show.specs.Writing.{Wrote};
+ghost use Rattle.fibs_show.specs.Writing.{Wrote, progress_of};
+ghost use Rattle.fibs_replay.specs.Replay.Limits.{portion_len};
 ghost use Rattle.fibs_replay.specs.Replay.LogLines.{log_text};
 ghost use Rattle.fibs_replay.specs.Replay.Passing.{MadeRoom};
 ghost use Rattle.fibs_replay.specs.Replay.Output.{end_text, refused_text, unread_text};
 
-use super::log_lines::{ENTRY_LEN, Portion, append_entry};
+use super::limits::{ENTRY_LEN, LAST_LINE_LEN};
+use super::log_lines::{Portion, append_entry};
 use arrayvec::ArrayVec;
 use fibs_model::{Entry, WorldRefusal};
 use fibs_show::printing::fixed::append;
-use fibs_show::writing::{Progress, write_bytes};
+use fibs_show::writing::{Broken, write_bytes};
 use itoa::Buffer;
 use std::io::Write;
 
 /// One line, long enough for each last line.
-pub type LastLine = ArrayVec<u8, 128>;
+pub type LastLine = ArrayVec<u8, LAST_LINE_LEN>;
 
 /// The line of a script that is not run: the number of its first line that is unreadable, 0 where it is too long.
 pub fn unread_line(number: usize) -> LastLine
@@ -55,38 +57,29 @@ pub fn refused_line(done: usize, why: WorldRefusal) -> LastLine
 }
 
 /// Makes room for so many bytes more: where there is less, the text is written.
-fn make_room<W: Write>(text: &mut Portion, room: usize, writer: &mut W) -> Progress
-    requires { room ≤ 8192 }
-    ensures { MadeRoom result room (W.contents writer.old) (W.contents writer.new) text.old.items text.new.items }
+fn make_room<W: Write>(text: &mut Portion, room: usize, writer: &mut W) -> Result<(), Broken>
+    requires { room ≤ portion_len }
+    ensures { MadeRoom (progress_of result) room (W.contents writer.old) (W.contents writer.new) text.old.items text.new.items }
 {
-    if text.remaining_capacity() >= room {
-        return Progress::Whole;
+    if text.remaining_capacity() < room {
+        write_bytes(text.as_slice(), writer)?;
+        text.clear();
     }
-    match write_bytes(text.as_slice(), writer) {
-        Progress::Whole => {
-            text.clear();
-            Progress::Whole
-        }
-        Progress::Broken => Progress::Broken,
-    }
+    Ok(())
 }
 
 /// Writes the line of each entry, in portions, and then a last line. After a failed write it makes no other.
-pub fn print_log<W: Write>(entries: &[Entry], last: &[u8], writer: &mut W) -> Progress
-    requires { length last.now ≤ 8192 }
-    ensures { Wrote result (W.contents writer.old) (W.contents writer.new)
+pub fn print_log<W: Write>(entries: &[Entry], last: &[u8], writer: &mut W) -> Result<(), Broken>
+    requires { length last.now ≤ portion_len }
+    ensures { Wrote (progress_of result) (W.contents writer.old) (W.contents writer.new)
         (log_text (map entry_of entries.now) ++ last.now) }
 {
     let mut text = Portion::new();
     for entry in entries {
-        match make_room(&mut text, ENTRY_LEN, writer) {
-            Progress::Whole => append_entry(&mut text, entry),
-            Progress::Broken => return Progress::Broken,
-        }
+        make_room(&mut text, ENTRY_LEN, writer)?;
+        append_entry(&mut text, entry);
     }
-    match make_room(&mut text, last.len(), writer) {
-        Progress::Whole => append(&mut text, last),
-        Progress::Broken => return Progress::Broken,
-    }
+    make_room(&mut text, last.len(), writer)?;
+    append(&mut text, last);
     write_bytes(text.as_slice(), writer)
 }

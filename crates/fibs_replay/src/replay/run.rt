@@ -5,6 +5,8 @@ ghost use Rattle.fibs_commands.specs.LoginOf.{name_of, password_of};
 ghost use Rattle.fibs_model.specs.EntryOf.{entry_of};
 ghost use Rattle.fibs_model.specs.Events.{Event};
 ghost use Rattle.fibs_show.specs.Printing.{Printed};
+ghost use Rattle.fibs_show.specs.Status.{code_of};
+ghost use Rattle.fibs_replay.specs.Replay.Limits.{portion_len};
 ghost use Rattle.fibs_replay.specs.Replay.LogLines.{log_text};
 ghost use Rattle.fibs_replay.specs.Replay.Running.{RanTo, RunPrinted, StandsFrom};
 ghost use Rattle.fibs_replay.specs.Replay.Scripts.{SayEvents};
@@ -15,14 +17,8 @@ use bstr::Lines;
 use fibs_model::{Entry, RunEnd, World, WorldRefusal};
 use fibs_session::Login;
 use fibs_show::fault::EngineFault;
-use fibs_show::writing::Progress;
+use fibs_show::status::Status;
 use std::io::Write;
-
-/// The exit status of a script that is run to its end.
-const DONE: u8 = 0;
-
-/// The exit status of a script that is not.
-pub const REFUSED: u8 = 3;
 
 /// The user of each script.
 pub fn script_login() -> Login
@@ -68,17 +64,15 @@ pub fn run_lines(world: &mut World, lines: &mut Lines<'_>) -> RunEnd
 fn print_ending<W: Write>(
     log: &[Entry],
     last: &[u8],
-    status: u8,
+    status: Status,
     writer: &mut W,
 ) -> Result<u8, EngineFault>
-    requires { length last.now ≤ 8192 }
-    ensures { Printed status (log_text (map entry_of log.now) ++ last.now) result
+    requires { length last.now ≤ portion_len }
+    ensures { Printed (code_of status) (log_text (map entry_of log.now) ++ last.now) result
         (W.contents writer.old) (W.contents writer.new) }
 {
-    match print_log(log, last, writer) {
-        Progress::Whole => Ok(status),
-        Progress::Broken => Err(EngineFault::Device),
-    }
+    print_log(log, last, writer)?;
+    Ok(status.code())
 }
 
 /// Prints the log of a run that stopped, and why it did. Where memory ran out it prints the log alone.
@@ -93,10 +87,15 @@ fn print_stopped<W: Write>(
 {
     match why {
         WorldRefusal::Memory => {
-            print_ending(log, b"", DONE, writer)?;
+            print_ending(log, b"", Status::Done, writer)?;
             Err(EngineFault::Memory)
         }
-        _ => print_ending(log, refused_line(done, why).as_slice(), REFUSED, writer),
+        _ => print_ending(
+            log,
+            refused_line(done, why).as_slice(),
+            Status::Refused,
+            writer,
+        ),
     }
 }
 
@@ -106,7 +105,7 @@ pub fn print_run<W: Write>(log: &[Entry], end: RunEnd, writer: &mut W) -> Result
         (W.contents writer.old) (W.contents writer.new) }
 {
     match end.refusal {
-        None => print_ending(log, end_line(end.done).as_slice(), DONE, writer),
+        None => print_ending(log, end_line(end.done).as_slice(), Status::Done, writer),
         Some(why) => print_stopped(log, end.done, why, writer),
     }
 }

@@ -5,6 +5,15 @@ ghost use Rattle.fibs_replay.specs.Replay.Scripts.{script_lines, ReadsEvents, Re
 use super::events::{read_board, read_event};
 use bstr::{ByteSlice, Lines};
 
+/// A script that was read.
+#[derive(Drop)]
+pub enum Script {
+    /// Each of its lines is readable.
+    Readable(Vec<u8>),
+    /// It is not run: the number of its first line that is unreadable, or 0 where it is too long.
+    Unreadable(usize),
+}
+
 /// The lines of a script, one after another, without their ends.
 #[tactic(auto, using(crate::proofs::ReplayLemmas::Lines::lines_are))]
 pub fn script_lines(script: &[u8]) -> Lines<'_>

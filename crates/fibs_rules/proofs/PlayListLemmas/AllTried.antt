@@ -81,7 +81,8 @@ ordered p all x l r ok short free either part h =
     let fits : follows p.checkers all x.play ≡ true =
     subst (λ ds. follows p.checkers ds x.play ≡ true) whole
     (follows_complete p.checkers x.leads (take m all) (drop m all) x.play run_x) in
-    let forced : ((length x.play == 1) && larger_first p) ≡ false = ap (λ k. (k == 1) && larger_first p) long ∙ free in (
+    let forced : ((length x.play == 1) && larger_first p) ≡ false =
+    ap (λ k. (k == 1) && larger_first p) long ∙ free in (
       legal_sound p x.play l r
           (and_from _ _ (eq-eqb (length x.play) m long)
           (cond-false ((length x.play == 1) && larger_first p) _ _ forced ∙ either x.play fits)),

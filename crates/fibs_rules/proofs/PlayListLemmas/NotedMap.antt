@@ -20,7 +20,8 @@ greater_or None found = greater_itself (hops_of found)
 greater_or (Some old) found = refl
 
 -- a map whose entries have the greater of what was there and what is found
-pub written : (before : BTreeMap Checkers Play) (entries : List (Checkers × Play)) (k : Checkers) (best new found : Play)
+pub written : (before : BTreeMap Checkers Play) (entries : List (Checkers × Play)) (k : Checkers)
+    (best new found : Play)
     → best ≡ unwrap_or (get checkers_cmp before k) found
     → hops_of new ≡ greater (Some (hops_of best)) (hops_of found)
     → ((q : Checkers) → lookup (is_at (checkers_cmp q)) entries

@@ -65,8 +65,11 @@ inserted_equal p r s q die dice top step next steps pos one two run high tried l
           record {
             play = next ∷ f.play;
             run = (other, first, f.run);
-            tried =
-                (high, subst (λ k. Tried k (die ∷ dice) f.play) (sym (top_equal die die dice next.source refl)) f.tried);
+            tried = (
+              high,
+              subst (λ k. Tried k (die ∷ dice) f.play) (sym (top_equal die die dice next.source refl))
+                  f.tried,
+            );
             no_less = lower_first step next (next ∷ steps) f.play lower;
           }
       | inr no_lower ↦

@@ -53,7 +53,8 @@ tried_is_longest p dice ok =
     let r = longest-reached p dice ok in
     let f = fallen p r.to r.used r.steps (front_dice r.used r.rest (subst AreDice (sym r.front) ok)) r.run in
     let most : length f.play ≤ longest_tried p dice 25 =
-    subst (λ ds. length f.play ≤ longest_tried p ds 25) r.front (tried_most p r.to r.used r.rest 25 f.play f.run f.tried)
+    subst (λ ds. length f.play ≤ longest_tried p ds 25) r.front
+    (tried_most p r.to r.used r.rest 25 f.play f.run f.tried)
     in
     let least = tried_least p dice 25 (omega arith) in
     let one = run_long p r.to r.used f.play f.run in

@@ -25,7 +25,8 @@ pub lines_at : (c : ClientValue) (t : Talk) → StandsAfter c t → LinesStandAf
 unfolding StandsAfter
 lines_at c t at = at.0
 
-pub both_at : (c : ClientValue) (t : Talk) → LinesStandAfter c.lines t.stream → SessionStandsAfter c.session t → StandsAfter c t
+pub both_at : (c : ClientValue) (t : Talk)
+    → LinesStandAfter c.lines t.stream → SessionStandsAfter c.session t → StandsAfter c t
 unfolding StandsAfter SessionStandsAfter
 both_at c t l s = (l, s)
 
@@ -44,7 +45,8 @@ pub lose_keeps : KeepsBytes Lose
 unfolding KeepsBytes
 lose_keeps t = go (is_online t)
   where
-    go : (b : Bool) → (if b then does t (Lost (open_now t.log) (unconfirmed_now t) ∷ []) [] else stays t).talk.stream ≡ t.stream
+    go : (b : Bool)
+        → (if b then does t (Lost (open_now t.log) (unconfirmed_now t) ∷ []) [] else stays t).talk.stream ≡ t.stream
     go true = refl
     go false = refl
 
@@ -68,10 +70,12 @@ plain_keeps p t = go (plain_refusal t p)
     go (Some why) = refl
     go None = refl
 
-pub client_does : (i : InputValue) (old new : ClientValue) (send : List (List ℕ)) → KeepsBytes i → new.lines ≡ old.lines → SessionDoes old.session new.session i send → Does old new i send
+pub client_does : (i : InputValue) (old new : ClientValue) (send : List (List ℕ))
+    → KeepsBytes i → new.lines ≡ old.lines → SessionDoes old.session new.session i send → Does old new i send
 unfolding KeepsBytes
 client_does i old new send keeps same d = record {
-  stands = λ t at. both_at new _ (subst (λ l. LinesStandAfter l (step t i).talk.stream) (sym same) (subst (LinesStandAfter old.lines) (sym (keeps t)) (lines_at old t at))) (d.stands t (session_at old t at));
+  stands = λ t at. both_at new _ (subst (λ l. LinesStandAfter l (step t i).talk.stream) (sym same)
+      (subst (LinesStandAfter old.lines) (sym (keeps t)) (lines_at old t at))) (d.stands t (session_at old t at));
   hands = λ t at. d.hands t (session_at old t at);
 }
 
@@ -85,22 +89,29 @@ if_not_open : (t : Talk) (b : Bool) (why : Refusal) → (if b then Some AlreadyO
 if_not_open t true why h = refl
 if_not_open t false why h = absurd cc
 
-pub opens_new : (old new : ClientValue) (send : List (List ℕ)) → LinesStandAfter new.lines [] → ((t : Talk) → SessionStandsAfter old.session t → None ≡ open_refusal t) → SessionDoes old.session new.session Open send → Does old new Open send
+pub opens_new : (old new : ClientValue) (send : List (List ℕ))
+    → LinesStandAfter new.lines [] → ((t : Talk) → SessionStandsAfter old.session t → None ≡ open_refusal t)
+    → SessionDoes old.session new.session Open send → Does old new Open send
 opens_new old new send empty fits d = record {
   stands = λ t at.
       let s = session_at old t at in
       let off : is_online t ≡ false = if_open t (is_online t) (sym (fits t s)) in
-      let e : (opens t).talk.stream ≡ [] = ap (λ b. (if b then stays t else record { talk = opened t; send = t.login ∷ [] }).talk.stream) off in
+      let e : (opens t).talk.stream ≡ [] =
+      ap (λ b. (if b then stays t else record { talk = opened t; send = t.login ∷ [] }).talk.stream) off in
       both_at new _ (subst (LinesStandAfter new.lines) (sym e) empty) (d.stands t s);
   hands = λ t at. d.hands t (session_at old t at);
 }
 
-pub opens_not : (old new : ClientValue) (send : List (List ℕ)) (why : Refusal) → new.lines ≡ old.lines → ((t : Talk) → SessionStandsAfter old.session t → Some why ≡ open_refusal t) → SessionDoes old.session new.session Open send → Does old new Open send
+pub opens_not : (old new : ClientValue) (send : List (List ℕ)) (why : Refusal)
+    → new.lines ≡ old.lines → ((t : Talk) → SessionStandsAfter old.session t → Some why ≡ open_refusal t)
+    → SessionDoes old.session new.session Open send → Does old new Open send
 opens_not old new send why same refuses d = record {
   stands = λ t at.
       let s = session_at old t at in
       let on : is_online t ≡ true = if_not_open t (is_online t) why (sym (refuses t s)) in
-      let e : (opens t).talk.stream ≡ t.stream = ap (λ b. (if b then stays t else record { talk = opened t; send = t.login ∷ [] }).talk.stream) on in
-      both_at new _ (subst (λ l. LinesStandAfter l (opens t).talk.stream) (sym same) (subst (LinesStandAfter old.lines) (sym e) (lines_at old t at))) (d.stands t s);
+      let e : (opens t).talk.stream ≡ t.stream =
+      ap (λ b. (if b then stays t else record { talk = opened t; send = t.login ∷ [] }).talk.stream) on in
+      both_at new _ (subst (λ l. LinesStandAfter l (opens t).talk.stream)
+      (sym same) (subst (LinesStandAfter old.lines) (sym e) (lines_at old t at))) (d.stands t s);
   hands = λ t at. d.hands t (session_at old t at);
 }

@@ -54,13 +54,16 @@ record Hearing (v' : SessionValue) (t : Talk) (line : Option ReadLine) (a : Opti
   pub confirms : answer_confirmed a ≡ line_confirms t line
   pub stream : (hears_all t (in_list line)).talk.stream ≡ t.stream
 
-hearing : (v v' : SessionValue) (t : Talk) (line : Option ReadLine) (a : Option Answer) → AnswersLine v line a v' → SessionStandsAfter v t → is_online t ≡ true → Hearing v' t line a
+hearing : (v v' : SessionValue) (t : Talk) (line : Option ReadLine) (a : Option Answer)
+    → AnswersLine v line a v' → SessionStandsAfter v t → is_online t ≡ true → Hearing v' t line a
 unfolding hears_all
-hearing v v' t None None h at on = record { stands = subst (λ x. SessionStandsAfter x t) (sym h) at; hands = refl; confirms = refl; stream = refl }
+hearing v v' t None None h at on =
+    record { stands = subst (λ x. SessionStandsAfter x t) (sym h) at; hands = refl; confirms = refl; stream = refl }
 hearing v v' t None (Some a) h at on = absurd h
 hearing v v' t (Some l) None h at on = absurd h
 hearing v v' t (Some l) (Some a) h at on =
-    let k : line_heard t l ≡ heard_by t (line_reading l) = ap (λ b. if b then heard_by t (line_reading l) else nothing_heard) on in
+    let k : line_heard t l ≡ heard_by t (line_reading l) =
+    ap (λ b. if b then heard_by t (line_reading l) else nothing_heard) on in
     record {
       stands = subst (λ x. SessionStandsAfter v' (hears t x).talk) k (h.0.stands t at);
       hands = h.0.hands t at ∙ ap (λ x. x.send) k ∙ sym (append-nil (heard_by t (line_reading l)).send);
@@ -68,14 +71,16 @@ hearing v v' t (Some l) (Some a) h at on =
       stream = refl;
     }
 
-keeps_line : (v v' : SessionValue) (line : Option ReadLine) (a : Option Answer) → AnswersLine v line a v' → KeepsLine line a
+keeps_line : (v v' : SessionValue) (line : Option ReadLine) (a : Option Answer)
+    → AnswersLine v line a v' → KeepsLine line a
 keeps_line v v' line None h = tt
 keeps_line v v' None (Some a) h = absurd h
 keeps_line v v' (Some l) (Some a) h = h.1
 
 offline_confirms : (t : Talk) (line : Option ReadLine) → is_online t ≡ false → None ≡ line_confirms t line
 offline_confirms t None off = refl
-offline_confirms t (Some l) off = sym (ap (λ b. (if b then heard_by t (line_reading l) else nothing_heard).confirmed) off)
+offline_confirms t (Some l) off =
+    sym (ap (λ b. (if b then heard_by t (line_reading l) else nothing_heard).confirmed) off)
 
 module _ (old new : ClientValue) (piece : List ℕ) (h : HeardLine) (r : ReadsPiece old new piece h) where
   abbrev p : List ℕ
@@ -87,26 +92,33 @@ module _ (old new : ClientValue) (piece : List ℕ) (h : HeardLine) (r : ReadsPi
   is_on : (t : Talk) → StandsAfter old t → old.session.online ≡ is_online t
   is_on t at = online_is old.session t (session_at old t at)
 
-  online_step : (t : Talk) → StandsAfter old t → (on : old.session.online ≡ true) → reads t p ≡ hears_all (with_bytes t p) (in_list line)
+  online_step : (t : Talk)
+      → StandsAfter old t → (on : old.session.online ≡ true) → reads t p ≡ hears_all (with_bytes t p) (in_list line)
   online_step t at on =
       let g = (r.online on).gains t.stream (lines_at old t at) in
       ap (λ b. if b then hears_all (with_bytes t p) (gained t.stream p) else stays t) (sym (is_on t at) ∙ on)
-      ∙ ap (hears_all (with_bytes t p)) (ap (drop (length (lines_of t.stream))) g.gains ∙ drop-append_seam (lines_of t.stream) (in_list line))
+      ∙ ap (hears_all (with_bytes t p))
+      (ap (drop (length (lines_of t.stream))) g.gains ∙ drop-append_seam (lines_of t.stream) (in_list line))
 
-  online_hearing : (t : Talk) → StandsAfter old t → (on : old.session.online ≡ true) → Hearing new.session (with_bytes t p) line h.answer
+  online_hearing : (t : Talk)
+      → StandsAfter old t → (on : old.session.online ≡ true) → Hearing new.session (with_bytes t p) line h.answer
   online_hearing t at on =
-      hearing old.session new.session (with_bytes t p) line h.answer (r.online on).answers (bytes_at old.session t p (session_at old t at)) (sym (is_on t at) ∙ on)
+      hearing old.session new.session (with_bytes t p)
+      line h.answer (r.online on).answers (bytes_at old.session t p (session_at old t at)) (sym (is_on t at) ∙ on)
 
   offline_step : (t : Talk) → StandsAfter old t → (off : old.session.online ≡ false) → reads t p ≡ stays t
-  offline_step t at off = ap (λ b. if b then hears_all (with_bytes t p) (gained t.stream p) else stays t) (sym (is_on t at) ∙ off)
+  offline_step t at off =
+      ap (λ b. if b then hears_all (with_bytes t p) (gained t.stream p) else stays t) (sym (is_on t at) ∙ off)
 
   stands : (t : Talk) → StandsAfter old t → StandsAfter new (reads t p).talk
   stands t at = by_cases old.session.online
       (λ on.
       let g = online_hearing t at on in
       subst (λ s. StandsAfter new s.talk) (sym (online_step t at on))
-      (both_at new _ (subst (LinesStandAfter new.lines) (sym g.stream) ((r.online on).stands t.stream (lines_at old t at))) g.stands))
-      (λ off. subst (λ s. StandsAfter new s.talk) (sym (offline_step t at off)) (subst (λ c. StandsAfter c t) (sym (r.offline off).same) at))
+      (both_at new _ (subst (LinesStandAfter new.lines)
+      (sym g.stream) ((r.online on).stands t.stream (lines_at old t at))) g.stands))
+      (λ off. subst (λ s. StandsAfter new s.talk)
+      (sym (offline_step t at off)) (subst (λ c. StandsAfter c t) (sym (r.offline off).same) at))
 
   hands : (t : Talk) → StandsAfter old t → answer_commands h.answer ≡ (reads t p).send
   hands t at = by_cases old.session.online
@@ -150,19 +162,23 @@ record Same (line : Option ReadLine) (a : Option Answer) (t : Option TakenValue)
 same_shown : (line : Option ReadLine) (a : Option Answer) (t : Option TakenValue) → ShowsLine line a t → Same line a t
 same_shown line None t h = subst (Same line None) (sym h) (record { commands = refl; confirmed = refl; reading = tt })
 same_shown None (Some a) t h = absurd h
-same_shown (Some l) (Some a) t h = subst (Same (Some l) (Some a)) (sym h) (record { commands = refl; confirmed = refl; reading = refl })
+same_shown (Some l) (Some a) t h =
+    subst (Same (Some l) (Some a)) (sym h) (record { commands = refl; confirmed = refl; reading = refl })
 
-same_line : (v v' : SessionValue) (line : Option ReadLine) (a : Option Answer) (t : Option TakenValue) → AnswersLine v line a v' → ShowsLine line a t → line ≡ line_of_taken t
+same_line : (v v' : SessionValue) (line : Option ReadLine) (a : Option Answer) (t : Option TakenValue)
+    → AnswersLine v line a v' → ShowsLine line a t → line ≡ line_of_taken t
 same_line v v' None None t h e = ap line_of_taken (sym e)
 same_line v v' None (Some a) t h e = absurd h
 same_line v v' (Some l) None t h e = absurd h
 same_line v v' (Some l) (Some a) t h e = ap line_of_taken (sym e)
 
-not_shown : (line : Option ReadLine) (a : Option Answer) (t : Option TakenValue) → a ≡ None → ShowsLine line a t → t ≡ None
+not_shown : (line : Option ReadLine) (a : Option Answer) (t : Option TakenValue)
+    → a ≡ None → ShowsLine line a t → t ≡ None
 not_shown line None t e h = h
 not_shown line (Some a) t e h = absurd cc
 
-module _ (old new : ClientValue) (piece : List ℕ) (h : HeardLine) (r : ReadsPiece old new piece h) (used : ℕ) (same : used ≡ h.used) (t : Option TakenValue) (shows : ShowsLine new.lines.line h.answer t) where
+module _ (old new : ClientValue) (piece : List ℕ) (h : HeardLine) (r : ReadsPiece old new piece h)
+    (used : ℕ) (same : used ≡ h.used) (t : Option TakenValue) (shows : ShowsLine new.lines.line h.answer t) where
   online_line : old.session.online ≡ true → new.lines.line ≡ line_of_taken t
   online_line on = same_line old.session new.session new.lines.line h.answer t (r.online on).answers shows
 
@@ -170,27 +186,33 @@ module _ (old new : ClientValue) (piece : List ℕ) (h : HeardLine) (r : ReadsPi
   s = same_shown new.lines.line h.answer t shows
 
   does_taken : Does old new (Piece (take used piece)) (commands_of t)
-  does_taken = subst (λ n. Does old new (Piece (take n piece)) (commands_of t)) (sym same) (subst (λ l. Does old new (Piece (take h.used piece)) l) s.commands (does old new piece h r))
+  does_taken = subst (λ n. Does old new (Piece (take n piece)) (commands_of t))
+      (sym same) (subst (λ l. Does old new (Piece (take h.used piece)) l) s.commands (does old new piece h r))
 
   answers_taken : FeedAnswers old piece used t
   answers_taken = record {
     hands = λ x at. does_taken.hands x at;
     uses = λ x at on.
         let o = is_on old new piece h r x at ∙ on in
-        subst (λ l. Gains x.stream piece used l) (online_line o) (subst (λ n. Gains x.stream piece n new.lines.line) (sym same) ((r.online o).gains x.stream (lines_at old x at)));
-    offline = λ x at off. let o = is_on old new piece h r x at ∙ off in (same ∙ (r.offline o).used, not_shown new.lines.line h.answer t (r.offline o).answer shows);
+        subst (λ l. Gains x.stream piece used l) (online_line o) (subst (λ n. Gains x.stream piece n new.lines.line)
+        (sym same) ((r.online o).gains x.stream (lines_at old x at)));
+    offline = λ x at off. let o = is_on old new piece h r x at ∙ off in
+        (same ∙ (r.offline o).used, not_shown new.lines.line h.answer t (r.offline o).answer shows);
     reading = s.reading;
-    confirms = λ x at on. sym s.confirmed ∙ confirms old new piece h r x at ∙ ap (line_confirms x) (online_line (is_on old new piece h r x at ∙ on));
+    confirms = λ x at on. sym s.confirmed
+        ∙ confirms old new piece h r x at ∙ ap (line_confirms x) (online_line (is_on old new piece h r x at ∙ on));
   }
 
 -- what both halves say together
 
-pub feed_does : (old new : ClientValue) (piece : List ℕ) (h : HeardLine) → ReadsPiece old new piece h → (used : ℕ) → used ≡ h.used → (t : Option TakenValue) → Shows new h t
+pub feed_does : (old new : ClientValue) (piece : List ℕ) (h : HeardLine)
+    → ReadsPiece old new piece h → (used : ℕ) → used ≡ h.used → (t : Option TakenValue) → Shows new h t
     → Does old new (Piece (take used piece)) (commands_of t)
 unfolding Shows
 feed_does old new piece h r used same t shows = does_taken old new piece h r used same t shows
 
-pub feed_answers : (old new : ClientValue) (piece : List ℕ) (h : HeardLine) → ReadsPiece old new piece h → (used : ℕ) → used ≡ h.used → (t : Option TakenValue) → Shows new h t
+pub feed_answers : (old new : ClientValue) (piece : List ℕ) (h : HeardLine)
+    → ReadsPiece old new piece h → (used : ℕ) → used ≡ h.used → (t : Option TakenValue) → Shows new h t
     → FeedAnswers old piece used t
 unfolding Shows
 feed_answers old new piece h r used same t shows = answers_taken old new piece h r used same t shows

@@ -14,39 +14,52 @@ use Rattle.fibs_session.specs.Calls.SessionOf.{TakenValue}
 use Rattle.fibs_session.specs.Calls.Writing.{Writes}
 
 -- the commands of what was taken are appended
-pub heard_writes : (old new : ClientValue) (i : InputValue) (x y : List ℕ) (t : Option TakenValue) → Does old new i (commands_of t) → y ≡ x ++ wire_of (commands_of t) → Writes old new i x y
+pub heard_writes : (old new : ClientValue) (i : InputValue) (x y : List ℕ) (t : Option TakenValue)
+    → Does old new i (commands_of t) → y ≡ x ++ wire_of (commands_of t) → Writes old new i x y
 heard_writes old new i x y t d e = record { send = commands_of t; does = d; written = e }
 
 -- nothing was taken
-pub silent_writes : (old new : ClientValue) (i : InputValue) (x : List ℕ) (t : Option TakenValue) → Does old new i (commands_of t) → t ≡ None → Writes old new i x x
-silent_writes old new i x t d e = heard_writes old new i x x t d (sym (append-nil x) ∙ ap (λ o. x ++ wire_of (commands_of o)) (sym e))
+pub silent_writes : (old new : ClientValue) (i : InputValue) (x : List ℕ) (t : Option TakenValue)
+    → Does old new i (commands_of t) → t ≡ None → Writes old new i x x
+silent_writes old new i x t d e =
+    heard_writes old new i x x t d (sym (append-nil x) ∙ ap (λ o. x ++ wire_of (commands_of o)) (sym e))
 
 -- nothing was read
 pub nothing_written : EmptyPieceIsNothing → (c : ClientValue) (x : List ℕ) → Writes c c (Piece []) x x
 nothing_written law c x = record {
   send = [];
-  does = record { stands = λ t at. subst (λ s. StandsAfter c s.talk) (sym (law t)) at; hands = λ t at. ap (λ s. s.send) (sym (law t)) };
+  does = record {
+    stands = λ t at. subst (λ s. StandsAfter c s.talk) (sym (law t)) at;
+    hands = λ t at. ap (λ s. s.send) (sym (law t));
+  };
   written = sym (append-nil x);
 }
 
 -- two pieces are one
-pub joined : PiecesJoin → (a b c : ClientValue) (p q x y z : List ℕ) → Writes a b (Piece p) x y → Writes b c (Piece q) y z → Writes a c (Piece (p ++ q)) x z
+pub joined : PiecesJoin → (a b c : ClientValue) (p q x y z : List ℕ)
+    → Writes a b (Piece p) x y → Writes b c (Piece q) y z → Writes a c (Piece (p ++ q)) x z
 joined law a b c p q x y z f g = record {
   send = f.send ++ g.send;
   does = record {
     stands = λ t at. subst (λ s. StandsAfter c s.talk) (sym (law t p q)) (g.does.stands _ (f.does.stands t at));
-    hands = λ t at. ap (λ l. l ++ g.send) (f.does.hands t at) ∙ ap (λ l. (step t (Piece p)).send ++ l) (g.does.hands _ (f.does.stands t at)) ∙ ap (λ s. s.send) (sym (law t p q));
+    hands = λ t at. ap (λ l. l ++ g.send) (f.does.hands t at)
+        ∙ ap (λ l. (step t (Piece p)).send ++ l) (g.does.hands _ (f.does.stands t at))
+        ∙ ap (λ s. s.send) (sym (law t p q));
   };
-  written = g.written ∙ ap (λ l. l ++ wire_of g.send) f.written ∙ append_assoc x (wire_of f.send) (wire_of g.send) ∙ ap (λ l. x ++ l) (sym (flat_map-append on_wire f.send g.send));
+  written = g.written ∙ ap (λ l. l ++ wire_of g.send) f.written ∙ append_assoc x (wire_of f.send) (wire_of g.send)
+      ∙ ap (λ l. x ++ l) (sym (flat_map-append on_wire f.send g.send));
 }
 
 -- a front and what is left of it
-pub done_and_rest : (all done rest : List ℕ) (used : ℕ) → all ≡ done ++ rest → all ≡ (done ++ take used rest) ++ take (length rest - used) (drop used rest)
-done_and_rest all done rest used e = e ∙ ap (λ r. done ++ r) (front_and_rest used rest) ∙ sym (append_assoc done (take used rest) (take (length rest - used) (drop used rest)))
+pub done_and_rest : (all done rest : List ℕ) (used : ℕ)
+    → all ≡ done ++ rest → all ≡ (done ++ take used rest) ++ take (length rest - used) (drop used rest)
+done_and_rest all done rest used e = e ∙ ap (λ r. done ++ r) (front_and_rest used rest)
+    ∙ sym (append_assoc done (take used rest) (take (length rest - used) (drop used rest)))
   where
     front_and_rest : (used : ℕ) (xs : List ℕ) → xs ≡ take used xs ++ take (length xs - used) (drop used xs)
     front_and_rest used xs =
-        sym (take-append-drop used xs) ∙ ap (λ ys. take used xs ++ ys) (sym (take_all (length xs - used) (drop used xs) (omega (arith, length-drop used xs))))
+        sym (take-append-drop used xs) ∙ ap (λ ys. take used xs ++ ys)
+        (sym (take_all (length xs - used) (drop used xs) (omega (arith, length-drop used xs))))
 
 -- what is still to be done of a run: the client stands after some history, and the rest of the inputs gives the rest of
 -- the bytes
@@ -55,7 +68,8 @@ pub record Going (c : ClientValue) (out : List ℕ) (later : List InputValue) (a
   pub stands : StandsAfter c talk
   pub whole : out ++ wire_of (run talk later).send ≡ all
 
-pub goes_on : (c c' : ClientValue) (x y : List ℕ) (i : InputValue) (later : List InputValue) (all : List ℕ) → Going c x (i ∷ later) all → Writes c c' i x y → Going c' y later all
+pub goes_on : (c c' : ClientValue) (x y : List ℕ) (i : InputValue) (later : List InputValue) (all : List ℕ)
+    → Going c x (i ∷ later) all → Writes c c' i x y → Going c' y later all
 unfolding run
 goes_on c c' x y i later all g w = record {
   talk = (step g.talk i).talk;
@@ -73,8 +87,10 @@ unfolding run
 ends c out all g = sym (append-nil out) ∙ g.whole
 
 -- the first of the inputs that are left, and those after it
-pub next : {A B : Type 0} (f : A → B) (xs : List A) (i : ℕ) (x : A) → x ≡ get_or xs i x → i < length xs → map f (drop i xs) ≡ f x ∷ map f (drop (i + 1) xs)
-next f xs i x e lt = ap (map f) (drop-cons xs i x lt) ∙ ap (λ y. f y ∷ map f (drop (suc i) xs)) (sym e) ∙ ap (λ n. f x ∷ map f (drop n xs)) (sym (add-one i))
+pub next : {A B : Type 0} (f : A → B) (xs : List A) (i : ℕ) (x : A)
+    → x ≡ get_or xs i x → i < length xs → map f (drop i xs) ≡ f x ∷ map f (drop (i + 1) xs)
+next f xs i x e lt = ap (map f) (drop-cons xs i x lt)
+    ∙ ap (λ y. f y ∷ map f (drop (suc i) xs)) (sym e) ∙ ap (λ n. f x ∷ map f (drop n xs)) (sym (add-one i))
 
 pub none_left : {A B : Type 0} (f : A → B) (xs : List A) (i : ℕ) → length xs ≤ i → map f (drop i xs) ≡ []
 none_left f xs i h = ap (map f) (drop_of_length-le xs h)

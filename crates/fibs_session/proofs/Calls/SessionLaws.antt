@@ -26,7 +26,8 @@ use Rattle.fibs_session.proofs.History.Fields.{at_start, online_law, at_opened, 
 use Rattle.fibs_session.proofs.History.Fields.{HeardIs, answer_law, refused_law, sent_law, plain_law, plain_sent_law}
 use Rattle.fibs_session.proofs.History.Fields.{plain_refused_law}
 
-both : (b : Bool) (v w : SessionValue) (s u : Step) → (b ≡ true → At v s.talk) → (b ≡ false → At w u.talk) → At (if b then v else w) (if b then s else u).talk
+both : (b : Bool) (v w : SessionValue) (s u : Step)
+    → (b ≡ true → At v s.talk) → (b ≡ false → At w u.talk) → At (if b then v else w) (if b then s else u).talk
 both true v w s u f g = f refl
 both false v w s u f g = g refl
 
@@ -40,21 +41,28 @@ unfolding login_text plain_of
 login_no_toggle name password = record { no_automove = refl; no_greedy = refl }
 
 -- a session that heard nothing stands after nothing
-pub start_law : (name password : List ℕ) (v : SessionValue) → v ≡ fresh (login_text name password) false → SessionStandsAfter v (start (login_text name password))
+pub start_law : (name password : List ℕ) (v : SessionValue)
+    → v ≡ fresh (login_text name password) false → SessionStandsAfter v (start (login_text name password))
 unfolding SessionStandsAfter
-start_law name password v e = subst (λ x. At x (start (login_text name password))) (sym e) (at_start (login_text name password) (login_no_toggle name password))
+start_law name password v e = subst (λ x. At x (start (login_text name password)))
+    (sym e) (at_start (login_text name password) (login_no_toggle name password))
 
-pub open_does : (v v' : SessionValue) (send : List (List ℕ)) → v' ≡ open_fields v → send ≡ open_send v → SessionDoes v v' Open send
+pub open_does : (v v' : SessionValue) (send : List (List ℕ))
+    → v' ≡ open_fields v → send ≡ open_send v → SessionDoes v v' Open send
 unfolding SessionStandsAfter
 open_does v v' send e f = record {
   stands = λ t at. subst (λ x. At x (opens t).talk) (sym e)
-      (subst (λ b. At (open_fields v) (if b then stays t else record { talk = opened t; send = t.login ∷ [] }).talk) (online_law v t at)
-      (both v.online v (fresh v.login true) (stays t) (record { talk = opened t; send = t.login ∷ [] }) (λ on. at) (λ off. at_opened v t at off)));
-  hands = λ t at. f ∙ ap (λ b. if b then [] else v.login ∷ []) (online_law v t at) ∙ ap (λ l. if is_online t then [] else l ∷ []) at.logs_in
+      (subst (λ b. At (open_fields v) (if b then stays t else record { talk = opened t; send = t.login ∷ [] }).talk)
+      (online_law v t at)
+      (both v.online v (fresh v.login true)
+      (stays t) (record { talk = opened t; send = t.login ∷ [] }) (λ on. at) (λ off. at_opened v t at off)));
+  hands = λ t at. f ∙ ap (λ b. if b then [] else v.login ∷ []) (online_law v t at)
+      ∙ ap (λ l. if is_online t then [] else l ∷ []) at.logs_in
       ∙ send_if (is_online t) (stays t) (record { talk = opened t; send = t.login ∷ [] });
 }
 
-pub open_refuses : (v : SessionValue) (a : Option Refusal) → a ≡ open_refusal_of v → (t : Talk) → SessionStandsAfter v t → a ≡ open_refusal t
+pub open_refuses : (v : SessionValue) (a : Option Refusal)
+    → a ≡ open_refusal_of v → (t : Talk) → SessionStandsAfter v t → a ≡ open_refusal t
 unfolding SessionStandsAfter
 open_refuses v a e t at = e ∙ ap (λ b. if b then Some AlreadyOpen else None) (online_law v t at)
 
@@ -66,7 +74,8 @@ lose_does v v' e = record {
       subst (λ x. At x (loses t).talk) (sym e)
       (subst (λ b. At (lose_fields v) (if b then s else stays t).talk) (online_law v t at)
       (both v.online (lost v) v s (stays t) (λ on. at_lost v t at (unconfirmed_now t)) (λ off. at)));
-  hands = λ t at. two (is_online t) ∙ send_if (is_online t) (does t (Lost (open_now t.log) (unconfirmed_now t) ∷ []) []) (stays t);
+  hands = λ t at. two (is_online t)
+      ∙ send_if (is_online t) (does t (Lost (open_now t.log) (unconfirmed_now t) ∷ []) []) (stays t);
 }
   where
     none : List (List ℕ)
@@ -88,11 +97,13 @@ pub online_is : (v : SessionValue) (t : Talk) → SessionStandsAfter v t → v.o
 unfolding SessionStandsAfter
 online_is v t at = online_law v t at
 
-pub answer_is : (v : SessionValue) (d : DecisionValue) (a : Option Refusal) → a ≡ answer_of v d → (t : Talk) → SessionStandsAfter v t → a ≡ answer_now t d
+pub answer_is : (v : SessionValue) (d : DecisionValue) (a : Option Refusal)
+    → a ≡ answer_of v d → (t : Talk) → SessionStandsAfter v t → a ≡ answer_now t d
 unfolding SessionStandsAfter
 answer_is v d a e t at = e ∙ answer_law v t at d
 
-pub decide_does : (v v' : SessionValue) (d : DecisionValue) (send : List (List ℕ)) → v' ≡ decide_fields v d → send ≡ decide_send v d → SessionDoes v v' (Click d) send
+pub decide_does : (v v' : SessionValue) (d : DecisionValue) (send : List (List ℕ))
+    → v' ≡ decide_fields v d → send ≡ decide_send v d → SessionDoes v v' (Click d) send
 unfolding SessionStandsAfter
 decide_does v v' d send e f = record {
   stands = λ t at. subst (λ x. At x (clicks t d).talk) (sym e) (go t at (answer_of v d) refl).0;
@@ -100,15 +111,18 @@ decide_does v v' d send e f = record {
 }
   where
     go : (t : Talk) (at : At v t) (a : Option Refusal) → answer_of v d ≡ a
-        → At (if is_some a then v else with_ask v d v.shown) (clicks t d).talk × ((if is_some a then [] else command_for d v.shown) ≡ (clicks t d).send)
+        → At (if is_some a then v else with_ask v d v.shown) (clicks t d).talk
+        × ((if is_some a then [] else command_for d v.shown) ≡ (clicks t d).send)
     go t at (Some why) h = let r = refused_law v t at d why h in (r.0, sym r.1)
     go t at None h = let r = sent_law v t at d h in (r.2, ap (command_for d) r.1 ∙ sym r.3)
 
-pub plain_refuses : (v : SessionValue) (p : PlainValue) (a : Option PlainRefusal) → a ≡ plain_refusal_of v p → (t : Talk) → SessionStandsAfter v t → a ≡ plain_refusal t p
+pub plain_refuses : (v : SessionValue) (p : PlainValue) (a : Option PlainRefusal)
+    → a ≡ plain_refusal_of v p → (t : Talk) → SessionStandsAfter v t → a ≡ plain_refusal t p
 unfolding SessionStandsAfter
 plain_refuses v p a e t at = e ∙ plain_law v t at p
 
-pub plain_does : (v v' : SessionValue) (p : PlainValue) (send : List (List ℕ)) → v' ≡ plain_fields v p → send ≡ plain_send v p → SessionDoes v v' (PlainInput p) send
+pub plain_does : (v v' : SessionValue) (p : PlainValue) (send : List (List ℕ))
+    → v' ≡ plain_fields v p → send ≡ plain_send v p → SessionDoes v v' (PlainInput p) send
 unfolding SessionStandsAfter
 plain_does v v' p send e f = record {
   stands = λ t at. subst (λ x. At x (plains t p).talk) (sym e) (go t at (plain_refusal_of v p) refl).0;
@@ -116,22 +130,26 @@ plain_does v v' p send e f = record {
 }
   where
     go : (t : Talk) (at : At v t) (a : Option PlainRefusal) → plain_refusal_of v p ≡ a
-        → At (if is_some a then v else with_plain v p) (plains t p).talk × ((if is_some a then [] else plain_of p ∷ []) ≡ (plains t p).send)
+        → At (if is_some a then v else with_plain v p) (plains t p).talk
+        × ((if is_some a then [] else plain_of p ∷ []) ≡ (plains t p).send)
     go t at (Some why) h = let r = plain_refused_law v t at p why h in (r.0, sym r.1)
     go t at None h = let r = plain_sent_law v t at p h in (r.0, sym r.1)
 
 module _ (likeness : IsLikeness same_game) (v : SessionValue) (l : ReadLine) where
   is : (t : Talk) → At v t → HeardIs t (line_fields v (line_reading l)) (line_heard t l)
   is t at =
-      subst (λ b. HeardIs t (line_fields v (line_reading l)) (if b then heard_by t (line_reading l) else nothing_heard)) (online_law v t at)
+      subst (λ b. HeardIs t (line_fields v (line_reading l)) (if b then heard_by t (line_reading l) else nothing_heard))
+      (online_law v t at)
       (go v.online refl)
     where
-      go : (b : Bool) → v.online ≡ b → HeardIs t (if b then heard_fields v (line_reading l) else unheard v) (if b then heard_by t (line_reading l) else nothing_heard)
+      go : (b : Bool) → v.online ≡ b → HeardIs t (if b then heard_fields v (line_reading l) else unheard v)
+          (if b then heard_by t (line_reading l) else nothing_heard)
       go true on = heard_law v t at on likeness (line_reading l)
       go false off = record { after = unheard_law v t at; send = refl; confirmed = refl }
 
   pub line_hears : (v' : SessionValue) (send : List (List ℕ)) (confirmed : Option Ask)
-      → v' ≡ (line_fields v (line_reading l)).session → send ≡ (line_fields v (line_reading l)).send → confirmed ≡ (line_fields v (line_reading l)).confirmed → SessionHears v v' l send confirmed
+      → v' ≡ (line_fields v (line_reading l)).session → send ≡ (line_fields v (line_reading l)).send
+      → confirmed ≡ (line_fields v (line_reading l)).confirmed → SessionHears v v' l send confirmed
   unfolding SessionStandsAfter
   line_hears v' send confirmed e f g = record {
     stands = λ t at. subst (λ x. At x (hears t (line_heard t l)).talk) (sym e) (is t at).after;

@@ -23,7 +23,7 @@ use Rattle.fibs_session.specs.History.Words.{unconfirmed, IsLikeness}
 use Rattle.fibs_session.specs.History.Hearing.{Heard, heard, flags_of, initial_commands, confirmed_by_board}
 use Rattle.fibs_session.specs.declared.refusal.PlainRefusal.{PlainRefusal}
 use Rattle.fibs_session.specs.History.Machine.{Talk, start, noted, opened, was_sent, allows, answer_now, clicks}
-use Rattle.fibs_session.specs.History.Machine.{clicks_by, decides_on, says, is_online, heard_by, may_send}
+use Rattle.fibs_session.specs.History.Machine.{clicks_by, decides_on, flag_is_on, is_online, heard_by, may_send}
 use Rattle.fibs_session.specs.History.Machine.{plain_refusal, plains, sends_plain}
 use Rattle.fibs_session.specs.Calls.SessionValue.{SessionValue, IsNoToggle, Quiet, At}
 use Rattle.fibs_session.specs.Calls.FieldSteps.{HeardFields, fresh, lost, heard_fields, may_send_of, plain_refusal_of}
@@ -84,7 +84,8 @@ pub record HeardIs (t : Talk) (h : HeardFields) (g : Heard) : Type 0 where
   pub send : h.send ≡ g.send
   pub confirmed : h.confirmed ≡ g.confirmed
 
-choose : (t : Talk) (b : Bool) (h h' : HeardFields) (g g' : Heard) → (b ≡ true → HeardIs t h g) → (b ≡ false → HeardIs t h' g') → HeardIs t (if b then h else h') (if b then g else g')
+choose : (t : Talk) (b : Bool) (h h' : HeardFields) (g g' : Heard)
+    → (b ≡ true → HeardIs t h g) → (b ≡ false → HeardIs t h' g') → HeardIs t (if b then h else h') (if b then g else g')
 choose t true h h' g g' f f' = f refl
 choose t false h h' g g' f f' = f' refl
 
@@ -109,8 +110,10 @@ module _ (v : SessionValue) (t : Talk) (at : At v t) where
         has_connection = ap not (sym (suc_not_zero (connections t.log)));
         has_welcome = ap (λ l. not (is_empty l)) (sym (map_no_more (welcomed_by n) t.log es refl ∙ q.no_welcome));
         has_flags = ap last (sym (map_no_more (informed_by n) t.log es refl ∙ q.no_flags));
-        automove_gone = sym (ap (λ x. was_sent (plain_of automove_off) (x ∷ [])) (sym at.logs_in) ∙ (one_text v.login at.no_toggle).no_automove);
-        greedy_gone = sym (ap (λ x. was_sent (plain_of greedy_off) (x ∷ [])) (sym at.logs_in) ∙ (one_text v.login at.no_toggle).no_greedy);
+        automove_gone = sym (ap (λ x. was_sent (plain_of automove_off) (x ∷ [])) (sym at.logs_in)
+            ∙ (one_text v.login at.no_toggle).no_automove);
+        greedy_gone = sym (ap (λ x. was_sent (plain_of greedy_off) (x ∷ [])) (sym at.logs_in)
+            ∙ (one_text v.login at.no_toggle).no_greedy);
         on_board = ap last (sym (map_no_more (shown_by n) t.log es refl ∙ q.no_board));
         not_confirmed = sym (unconfirmed_none n (t.log ++ es) (map_no_more (shown_by n) t.log es refl ∙ q.no_board));
         numbered = numbered_opened t.log at.numbered;
@@ -120,7 +123,8 @@ module _ (v : SessionValue) (t : Talk) (at : At v t) where
   pub at_lost : (u : Option Ask) → At (lost v) (noted t (Lost (open_now t.log) u ∷ []) [])
   at_lost u =
       let es : List Entry = Lost (open_now t.log) u ∷ [] in
-      let none : (d : ℕ) → Quiet d es = λ d. record { no_welcome = refl; no_flags = refl; no_board = refl; no_sent = refl } in
+      let none : (d : ℕ) → Quiet d es =
+      λ d. record { no_welcome = refl; no_flags = refl; no_board = refl; no_sent = refl } in
       let here : open_now (t.log ++ es) ≡ 0 = open_append 0 t.log es in
       let q = at.numbered.none in
       record {
@@ -135,44 +139,56 @@ module _ (v : SessionValue) (t : Talk) (at : At v t) where
         greedy_gone = at.greedy_gone ∙ ap (was_sent (plain_of greedy_off)) (sym (append-nil t.commands));
         on_board = ap last (sym (map_no_more (shown_by 0) t.log es refl ∙ q.no_board));
         not_confirmed = sym (unconfirmed_none 0 (t.log ++ es) (map_no_more (shown_by 0) t.log es refl ∙ q.no_board));
-        numbered = numbered_silent t.log es at.numbered refl (subst (λ k. k ≤ connections t.log) (sym here) (omega arith)) none;
+        numbered = numbered_silent t.log
+            es at.numbered refl (subst (λ k. k ≤ connections t.log) (sym here) (omega arith)) none;
       }
 
   -- entries that say nothing of any connection: refused clicks, and what a server notes
-  pub at_quiet : (es : List Entry) (texts : List (List ℕ)) (a g : Bool) → a ≡ was_sent (plain_of automove_off) (t.commands ++ texts) → g ≡ was_sent (plain_of greedy_off) (t.commands ++ texts)
-      → flat_map opened_by es ≡ [] → open_now (t.log ++ es) ≡ open_now t.log → ((d : ℕ) → Quiet d es) → At (record v { automove_sent = a; greedy_sent = g }) (noted t es texts)
+  pub at_quiet : (es : List Entry) (texts : List (List ℕ)) (a g : Bool)
+      → a ≡ was_sent (plain_of automove_off) (t.commands ++ texts)
+      → g ≡ was_sent (plain_of greedy_off) (t.commands ++ texts)
+      → flat_map opened_by es ≡ [] → open_now (t.log ++ es) ≡ open_now t.log
+      → ((d : ℕ) → Quiet d es) → At (record v { automove_sent = a; greedy_sent = g }) (noted t es texts)
   at_quiet es texts a g ha hg h same quiet = record {
     conn = c;
     is_open = same ∙ at.is_open;
     logs_in = at.logs_in;
     no_toggle = at.no_toggle;
     has_connection = at.has_connection;
-    has_welcome = at.has_welcome ∙ ap (λ l. not (is_empty l)) (sym (map_no_more (welcomed_by c) t.log es (quiet c).no_welcome));
+    has_welcome =
+        at.has_welcome ∙ ap (λ l. not (is_empty l)) (sym (map_no_more (welcomed_by c) t.log es (quiet c).no_welcome));
     has_flags = at.has_flags ∙ ap last (sym (map_no_more (informed_by c) t.log es (quiet c).no_flags));
     automove_gone = ha;
     greedy_gone = hg;
     on_board = at.on_board ∙ ap last (sym (map_no_more (shown_by c) t.log es (quiet c).no_board));
     not_confirmed = at.not_confirmed ∙ sym (unconfirmed_quiet c t.log es (quiet c).no_board (quiet c).no_sent);
-    numbered = numbered_silent t.log es at.numbered h (subst (λ k. k ≤ connections t.log) (sym same) at.numbered.below) quiet;
+    numbered =
+        numbered_silent t.log es at.numbered h (subst (λ k. k ≤ connections t.log) (sym same) at.numbered.below) quiet;
   }
 
-  pub at_silent : (es : List Entry) (texts : List (List ℕ)) → NoToggles texts → flat_map opened_by es ≡ [] → open_now (t.log ++ es) ≡ open_now t.log → ((d : ℕ) → Quiet d es) → At v (noted t es texts)
+  pub at_silent : (es : List Entry) (texts : List (List ℕ)) → NoToggles texts → flat_map opened_by es ≡ []
+      → open_now (t.log ++ es) ≡ open_now t.log → ((d : ℕ) → Quiet d es) → At v (noted t es texts)
   at_silent es texts off h same quiet =
-      at_quiet es texts v.automove_sent v.greedy_sent (at.automove_gone ∙ sym (not_gone _ t.commands texts off.no_automove)) (at.greedy_gone ∙ sym (not_gone _ t.commands texts off.no_greedy)) h same quiet
+      at_quiet es
+      texts v.automove_sent v.greedy_sent (at.automove_gone ∙ sym (not_gone _ t.commands texts off.no_automove))
+      (at.greedy_gone ∙ sym (not_gone _ t.commands texts off.no_greedy)) h same quiet
 
   pub unheard_law : At v (noted t [] [])
   unheard_law = at_silent [] [] no_texts refl (ap open_now (append-nil t.log)) silent
 
   -- a click that is refused
   pub at_refused : (d : Decision) (a : Option Refusal) → At v (noted t (Clicked (open_now t.log) d a ∷ []) [])
-  at_refused d a = at_silent (Clicked (open_now t.log) d a ∷ []) [] no_texts refl (open_append 0 t.log (Clicked (open_now t.log) d a ∷ [])) (λ d. record { no_welcome = refl; no_flags = refl; no_board = refl; no_sent = refl })
+  at_refused d a = at_silent (Clicked (open_now t.log) d a ∷ []) []
+      no_texts refl (open_append 0 t.log (Clicked (open_now t.log) d a ∷ []))
+      (λ d. record { no_welcome = refl; no_flags = refl; no_board = refl; no_sent = refl })
 
   module _ (on : v.online ≡ true) where
     some : c ≡ 0 → ⊥
     some = not_zero c (sym on ∙ at.has_connection)
 
     -- message 1
-    pub at_welcomed : (texts : List (List ℕ)) → NoToggles texts → At (record v { welcomed = true }) (noted t (Welcomed c ∷ []) texts)
+    pub at_welcomed : (texts : List (List ℕ))
+        → NoToggles texts → At (record v { welcomed = true }) (noted t (Welcomed c ∷ []) texts)
     at_welcomed texts off =
         let es : List Entry = Welcomed c ∷ [] in
         let here : open_now (t.log ++ es) ≡ c = open_append 0 t.log es ∙ at.is_open in
@@ -182,7 +198,8 @@ module _ (v : SessionValue) (t : Talk) (at : At v t) where
           logs_in = at.logs_in;
           no_toggle = at.no_toggle;
           has_connection = at.has_connection;
-          has_welcome = snoc_some (welcomed c t.log) c ∙ ap (λ l. not (is_empty l)) (sym (map_more (welcomed_by c) t.log es (c ∷ []) (own c c)));
+          has_welcome = snoc_some (welcomed c t.log) c
+              ∙ ap (λ l. not (is_empty l)) (sym (map_more (welcomed_by c) t.log es (c ∷ []) (own c c)));
           has_flags = at.has_flags ∙ ap last (sym (map_no_more (informed_by c) t.log es refl));
           automove_gone = at.automove_gone ∙ sym (not_gone _ t.commands texts off.no_automove);
           greedy_gone = at.greedy_gone ∙ sym (not_gone _ t.commands texts off.no_greedy);
@@ -192,7 +209,8 @@ module _ (v : SessionValue) (t : Talk) (at : At v t) where
         }
 
     -- message 2
-    pub at_informed : (f : Flags) (texts : List (List ℕ)) → NoToggles texts → At (record v { flags = Some f }) (noted t (Informed c f ∷ []) texts)
+    pub at_informed : (f : Flags) (texts : List (List ℕ))
+        → NoToggles texts → At (record v { flags = Some f }) (noted t (Informed c f ∷ []) texts)
     at_informed f texts off =
         let es : List Entry = Informed c f ∷ [] in
         let here : open_now (t.log ++ es) ≡ c = open_append 0 t.log es ∙ at.is_open in
@@ -203,7 +221,8 @@ module _ (v : SessionValue) (t : Talk) (at : At v t) where
           no_toggle = at.no_toggle;
           has_connection = at.has_connection;
           has_welcome = at.has_welcome ∙ ap (λ l. not (is_empty l)) (sym (map_no_more (welcomed_by c) t.log es refl));
-          has_flags = sym (ap last (map_more (informed_by c) t.log es (f ∷ []) (own c f)) ∙ last_snoc (informed c t.log) f);
+          has_flags =
+              sym (ap last (map_more (informed_by c) t.log es (f ∷ []) (own c f)) ∙ last_snoc (informed c t.log) f);
           automove_gone = at.automove_gone ∙ sym (not_gone _ t.commands texts off.no_automove);
           greedy_gone = at.greedy_gone ∙ sym (not_gone _ t.commands texts off.no_greedy);
           on_board = at.on_board ∙ ap last (sym (map_no_more (shown_by c) t.log es refl));
@@ -219,16 +238,19 @@ module _ (v : SessionValue) (t : Talk) (at : At v t) where
           es : sent c (t.log ++ Shown c b ∷ []) ≡ sent c t.log
           es = map_no_more (sent_by c) t.log (Shown c b ∷ []) refl
 
-          over : is_spent same_game c (t.log ++ Shown c b ∷ []) ≡ false → None ≡ unconfirmed same_game c (t.log ++ Shown c b ∷ [])
+          over : is_spent same_game c (t.log ++ Shown c b ∷ []) ≡ false
+              → None ≡ unconfirmed same_game c (t.log ++ Shown c b ∷ [])
           over h = rw h refl
 
-          go : (o : Option Board) → o ≡ last (shown c t.log) → still_waiting o b v.waiting ≡ unconfirmed same_game c (t.log ++ Shown c b ∷ [])
+          go : (o : Option Board) → o ≡ last (shown c t.log)
+              → still_waiting o b v.waiting ≡ unconfirmed same_game c (t.log ++ Shown c b ∷ [])
           go None h =
               let n : shown c t.log ≡ [] = none_last _ (sym h) in
               at.not_confirmed ∙ unconfirmed_none c t.log n ∙ over (spent_first same_game likeness c t.log b n)
           go (Some a) h = elim (cases_Bool (same_game a b)) [
             | inl s ↦ rw s (at.not_confirmed
-                ∙ ap (λ z. if z then last (sent c t.log) else None) (sym (spent_same same_game likeness c t.log a b (sym h) s))
+                ∙ ap (λ z. if z then last (sent c t.log) else None)
+                (sym (spent_same same_game likeness c t.log a b (sym h) s))
                 ∙ ap (λ l. if is_spent same_game c (t.log ++ Shown c b ∷ []) then last l else None) (sym es))
             | inr f ↦ rw f (over (spent_other same_game likeness c t.log a b (sym h) f))
           ]
@@ -255,23 +277,39 @@ module _ (v : SessionValue) (t : Talk) (at : At v t) where
 
       pub confirmed_law : (b : Board) → confirmed_of v b ≡ confirmed_by_board c t.log b
       confirmed_law b =
-          let e : is_some (still_waiting v.shown b v.waiting) ≡ is_spent same_game c (t.log ++ Shown c b ∷ []) = ap is_some (waits b) ∙ some_spent c (t.log ++ Shown c b ∷ []) in
+          let e : is_some (still_waiting v.shown b v.waiting) ≡ is_spent same_game c (t.log ++ Shown c b ∷ []) =
+          ap is_some (waits b) ∙ some_spent c (t.log ++ Shown c b ∷ []) in
           let w : v.waiting ≡ unconfirmed same_game c t.log = at.not_confirmed in
           cc
 
       message_law : (m : MessageValue) → HeardIs t (heard_fields v (numbered_line m)) (heard c t.log (numbered_line m))
       message_law m =
-          let s : (if v.welcomed then [] else style_text ∷ []) ≡ (if is_empty (welcomed c t.log) then style_text ∷ [] else []) = flipped v.welcomed (is_empty (welcomed c t.log)) [] (style_text ∷ []) at.has_welcome in
-          let i : (if is_some v.flags then [] else initial_commands m) ≡ (if is_empty (informed c t.log) then initial_commands m else []) =
-          flipped (is_some v.flags) (is_empty (informed c t.log)) [] (initial_commands m) (ap is_some at.has_flags ∙ some_last (informed c t.log)) in
+          let s : (if v.welcomed then [] else style_text ∷ [])
+          ≡ (if is_empty (welcomed c t.log) then style_text ∷ [] else []) =
+          flipped v.welcomed (is_empty (welcomed c t.log)) [] (style_text ∷ []) at.has_welcome in
+          let i : (if is_some v.flags then [] else initial_commands m)
+          ≡ (if is_empty (informed c t.log) then initial_commands m else []) =
+          flipped (is_some v.flags) (is_empty (informed c t.log))
+          [] (initial_commands m) (ap is_some at.has_flags ∙ some_last (informed c t.log)) in
           choose t (nat_eq m.number 1) _ _ _ _
-          (λ _. record { after = at_welcomed _ (if_texts (is_empty (welcomed c t.log)) _ _ style_texts no_texts); send = s; confirmed = refl })
+          (λ _. record {
+            after = at_welcomed _ (if_texts (is_empty (welcomed c t.log)) _ _ style_texts no_texts);
+            send = s;
+            confirmed = refl;
+          })
           (λ _. choose t (nat_eq m.number 2) _ _ _ _
-          (λ _. record { after = at_informed (flags_of m) _ (if_texts (is_empty (informed c t.log)) _ _ (initial_texts m) no_texts); send = i; confirmed = refl })
+          (λ _. record {
+            after = at_informed (flags_of m) _ (if_texts (is_empty (informed c t.log))
+                _ _ (initial_texts m) no_texts);
+            send = i;
+            confirmed = refl;
+          })
           (λ _. record { after = unheard_law; send = refl; confirmed = refl }))
 
       board_law : (b : Board) → HeardIs t (heard_fields v (board_line b)) (heard c t.log (board_line b))
-      board_law b = choose t (good b) _ _ _ _ (λ _. record { after = at_shown b; send = refl; confirmed = confirmed_law b }) (λ _. record { after = unheard_law; send = refl; confirmed = refl })
+      board_law b =
+          choose t (good b) _ _ _ _ (λ _. record { after = at_shown b; send = refl; confirmed = confirmed_law b })
+          (λ _. record { after = unheard_law; send = refl; confirmed = refl })
 
       heard_at : (r : ReadingValue) → HeardIs t (heard_fields v r) (heard c t.log r)
       heard_at (numbered_line m) = message_law m
@@ -288,31 +326,41 @@ module _ (v : SessionValue) (t : Talk) (at : At v t) where
   answer_law d =
       let e = sym at.is_open in
       let o : not v.online ≡ nat_eq (open_now t.log) 0 = not_not _ _ at.has_connection ∙ ap (λ n. nat_eq n 0) e in
-      let w : not v.welcomed ≡ is_empty (welcomed (open_now t.log) t.log) = not_not _ _ at.has_welcome ∙ ap (λ n. is_empty (welcomed n t.log)) e in
+      let w : not v.welcomed ≡ is_empty (welcomed (open_now t.log) t.log) =
+      not_not _ _ at.has_welcome ∙ ap (λ n. is_empty (welcomed n t.log)) e in
       let f : v.flags ≡ last (informed (open_now t.log) t.log) = at.has_flags ∙ ap (λ n. last (informed n t.log)) e in
-      let i : not (is_some v.flags) ≡ is_empty (informed (open_now t.log) t.log) = not_not _ _ (ap is_some f ∙ some_last (informed (open_now t.log) t.log)) in
+      let i : not (is_some v.flags) ≡ is_empty (informed (open_now t.log) t.log) =
+      not_not _ _ (ap is_some f ∙ some_last (informed (open_now t.log) t.log)) in
       let b : v.shown ≡ last (shown (open_now t.log) t.log) = at.on_board ∙ ap (λ n. last (shown n t.log)) e in
-      let k : is_some v.waiting ≡ is_spent same_game (open_now t.log) t.log = ap is_some at.not_confirmed ∙ some_spent c t.log ∙ ap (λ n. is_spent same_game n t.log) e in
+      let k : is_some v.waiting ≡ is_spent same_game (open_now t.log) t.log =
+      ap is_some at.not_confirmed ∙ some_spent c t.log ∙ ap (λ n. is_spent same_game n t.log) e in
       cc
 
-  refused_by : (d : Decision) (a : Option Refusal) (why : Refusal) → a ≡ Some why → (At v (clicks_by t d a).talk) × ((clicks_by t d a).send ≡ [])
+  refused_by : (d : Decision) (a : Option Refusal) (why : Refusal)
+      → a ≡ Some why → (At v (clicks_by t d a).talk) × ((clicks_by t d a).send ≡ [])
   refused_by d None why h = absurd cc
   refused_by d (Some x) why h = (at_refused d (Some x), refl)
 
-  pub refused_law : (d : Decision) (why : Refusal) → answer_of v d ≡ Some why → (At v (clicks t d).talk) × ((clicks t d).send ≡ [])
+  pub refused_law : (d : Decision) (why : Refusal)
+      → answer_of v d ≡ Some why → (At v (clicks t d).talk) × ((clicks t d).send ≡ [])
   refused_law d why h = refused_by d (answer_now t d) why (sym (answer_law d) ∙ h)
 
   -- a decision is sent
-  pub at_sent : (b : Board) (d : Decision) → v.online ≡ true → last (shown c t.log) ≡ Some b → At (record v { waiting = Some (b, d) }) (noted t (Clicked c d None ∷ Sent c b d ∷ []) (command_of (direction_of b) d ∷ []))
+  pub at_sent : (b : Board) (d : Decision)
+      → v.online ≡ true → last (shown c t.log) ≡ Some b → At (record v { waiting = Some (b, d) })
+      (noted t (Clicked c d None ∷ Sent c b d ∷ []) (command_of (direction_of b) d ∷ []))
   at_sent b d on lb =
       let es : List Entry = Clicked c d None ∷ Sent c b d ∷ [] in
       let log1 : List Entry = t.log ++ Clicked c d None ∷ [] in
       let texts : List (List ℕ) = command_of (direction_of b) d ∷ [] in
       let off : NoToggles texts = one_text _ (decision_no_toggle (direction_of b) d) in
-      let two : t.log ++ es ≡ log1 ++ Sent c b d ∷ [] = sym (append_assoc t.log (Clicked c d None ∷ []) (Sent c b d ∷ [])) in
+      let two : t.log ++ es ≡ log1 ++ Sent c b d ∷ [] =
+      sym (append_assoc t.log (Clicked c d None ∷ []) (Sent c b d ∷ [])) in
       let sc : shown c log1 ≡ shown c t.log = map_no_more (shown_by c) t.log (Clicked c d None ∷ []) refl in
-      let sp : is_spent same_game c (t.log ++ es) ≡ true = ap (is_spent same_game c) two ∙ spent_sent same_game c log1 b d (ap is_empty sc ∙ before_last _ b lb) in
-      let ls : last (sent c (t.log ++ es)) ≡ Some (b, d) = ap (λ l. last (sent c l)) two ∙ ap last (sent_more c log1 b d) ∙ last_snoc (sent c log1) (b, d) in
+      let sp : is_spent same_game c (t.log ++ es) ≡ true =
+      ap (is_spent same_game c) two ∙ spent_sent same_game c log1 b d (ap is_empty sc ∙ before_last _ b lb) in
+      let ls : last (sent c (t.log ++ es)) ≡ Some (b, d) =
+      ap (λ l. last (sent c l)) two ∙ ap last (sent_more c log1 b d) ∙ last_snoc (sent c log1) (b, d) in
       let un : unconfirmed same_game c (t.log ++ es) ≡ Some (b, d) = rw (sp, ls) refl in
       let here : open_now (t.log ++ es) ≡ c = open_append 0 t.log es ∙ at.is_open in
       record {
@@ -327,22 +375,28 @@ module _ (v : SessionValue) (t : Talk) (at : At v t) where
         greedy_gone = at.greedy_gone ∙ sym (not_gone _ t.commands texts off.no_greedy);
         on_board = at.on_board ∙ ap last (sym (map_no_more (shown_by c) t.log es refl));
         not_confirmed = sym un;
-        numbered = numbered_own t.log es c at.numbered refl at.is_open (not_zero c (sym on ∙ at.has_connection)) here (λ n. quiet_sent c n b d);
+        numbered = numbered_own t.log es
+            c at.numbered refl at.is_open (not_zero c (sym on ∙ at.has_connection)) here (λ n. quiet_sent c n b d);
       }
 
   pub sent_law : (d : Decision) → answer_of v d ≡ None
-      → (b : Board) × (v.shown ≡ Some b) × At (with_ask v d v.shown) (clicks t d).talk × ((clicks t d).send ≡ command_of (direction_of b) d ∷ [])
+      → (b : Board) × (v.shown ≡ Some b)
+      × At (with_ask v d v.shown) (clicks t d).talk × ((clicks t d).send ≡ command_of (direction_of b) d ∷ [])
   sent_law d h =
       let y = yes same_game allows t.log d (sym (answer_law d) ∙ h) in
       let lb : last (shown c t.log) ≡ Some y.on = ap (λ n. last (shown n t.log)) (sym at.is_open) ∙ y.is_last in
       let ob : v.shown ≡ Some y.on = at.on_board ∙ lb in
       let on : v.online ≡ true = online_law ∙ ap not (positive (open_now t.log) y.some) in
-      let step : clicks t d ≡ decides_on t d (Some y.on) = ap (clicks_by t d) (sym (answer_law d) ∙ h) ∙ ap (decides_on t d) y.is_last in
+      let step : clicks t d ≡ decides_on t d (Some y.on) =
+      ap (clicks_by t d) (sym (answer_law d) ∙ h) ∙ ap (decides_on t d) y.is_last in
       let here : At (record v { waiting = Some (y.on, d) }) (decides_on t d (Some y.on)).talk =
-      subst (λ n. At (record v { waiting = Some (y.on, d) }) (noted t (Clicked n d None ∷ Sent n y.on d ∷ []) (command_of (direction_of y.on) d ∷ []))) (sym at.is_open) (at_sent y.on d on lb) in (
+      subst (λ n. At (record v { waiting = Some (y.on, d) })
+      (noted t (Clicked n d None ∷ Sent n y.on d ∷ []) (command_of (direction_of y.on) d ∷ [])))
+      (sym at.is_open) (at_sent y.on d on lb) in (
         y.on,
         ob,
-        subst (λ o. At (with_ask v d o) (clicks t d).talk) (sym ob) (subst (λ z. At (record v { waiting = Some (y.on, d) }) z.talk) (sym step) here),
+        subst (λ o. At (with_ask v d o) (clicks t d).talk)
+            (sym ob) (subst (λ z. At (record v { waiting = Some (y.on, d) }) z.talk) (sym step) here),
         ap (λ z. z.send) step,
       )
     where
@@ -358,8 +412,10 @@ module _ (v : SessionValue) (t : Talk) (at : At v t) where
       f = at.has_flags ∙ ap (λ n. last (informed n t.log)) (sym at.is_open)
 
       go : (p : PlainValue) → may_send_of v p ≡ may_send t p
-      go automove_off = ap (λ o. says (λ f. f.automove) o && not v.automove_sent) f ∙ ap (λ b. says (λ f. f.automove) (last (informed (open_now t.log) t.log)) && not b) at.automove_gone
-      go greedy_off = ap (λ o. says (λ f. f.greedy) o && not v.greedy_sent) f ∙ ap (λ b. says (λ f. f.greedy) (last (informed (open_now t.log) t.log)) && not b) at.greedy_gone
+      go automove_off = ap (λ o. flag_is_on (λ f. f.automove) o && not v.automove_sent) f
+          ∙ ap (λ b. flag_is_on (λ f. f.automove) (last (informed (open_now t.log) t.log)) && not b) at.automove_gone
+      go greedy_off = ap (λ o. flag_is_on (λ f. f.greedy) o && not v.greedy_sent) f
+          ∙ ap (λ b. flag_is_on (λ f. f.greedy) (last (informed (open_now t.log) t.log)) && not b) at.greedy_gone
       go p = refl
 
   pub plain_law : (p : PlainValue) → plain_refusal_of v p ≡ plain_refusal t p
@@ -379,8 +435,12 @@ module _ (v : SessionValue) (t : Talk) (at : At v t) where
       quiet texts off = at_silent [] texts off refl same silent
 
       go : (p : PlainValue) → At (with_plain v p) (noted t [] (plain_of p ∷ []))
-      go automove_off = at_quiet [] (plain_of automove_off ∷ []) true v.greedy_sent (sym (gone_now (plain_of automove_off) t.commands (plain_of automove_off ∷ []) refl)) (at.greedy_gone ∙ sym (not_gone (plain_of greedy_off) t.commands (plain_of automove_off ∷ []) refl)) refl same silent
-      go greedy_off = at_quiet [] (plain_of greedy_off ∷ []) v.automove_sent true (at.automove_gone ∙ sym (not_gone (plain_of automove_off) t.commands (plain_of greedy_off ∷ []) refl)) (sym (gone_now (plain_of greedy_off) t.commands (plain_of greedy_off ∷ []) refl)) refl same silent
+      go automove_off = at_quiet [] (plain_of automove_off ∷ []) true v.greedy_sent
+          (sym (gone_now (plain_of automove_off) t.commands (plain_of automove_off ∷ []) refl)) (at.greedy_gone
+          ∙ sym (not_gone (plain_of greedy_off) t.commands (plain_of automove_off ∷ []) refl)) refl same silent
+      go greedy_off = at_quiet [] (plain_of greedy_off ∷ []) v.automove_sent true
+          (at.automove_gone ∙ sym (not_gone (plain_of automove_off) t.commands (plain_of greedy_off ∷ []) refl))
+          (sym (gone_now (plain_of greedy_off) t.commands (plain_of greedy_off ∷ []) refl)) refl same silent
       go board_again = quiet (plain_of board_again ∷ []) (record { no_automove = refl; no_greedy = refl })
       go who = quiet (plain_of who ∷ []) (record { no_automove = refl; no_greedy = refl })
       go (say x) = quiet (plain_of (say x) ∷ []) (record { no_automove = refl; no_greedy = refl })
@@ -388,7 +448,8 @@ module _ (v : SessionValue) (t : Talk) (at : At v t) where
       go (shout x) = quiet (plain_of (shout x) ∷ []) (record { no_automove = refl; no_greedy = refl })
       go (whisper x) = quiet (plain_of (whisper x) ∷ []) (record { no_automove = refl; no_greedy = refl })
       go (kibitz x) = quiet (plain_of (kibitz x) ∷ []) (record { no_automove = refl; no_greedy = refl })
-      go (leave_message n x) = quiet (plain_of (leave_message n x) ∷ []) (record { no_automove = refl; no_greedy = refl })
+      go (leave_message n x) =
+          quiet (plain_of (leave_message n x) ∷ []) (record { no_automove = refl; no_greedy = refl })
       go (invite n) = quiet (plain_of (invite n) ∷ []) (record { no_automove = refl; no_greedy = refl })
       go (invite_to n l) = quiet (plain_of (invite_to n l) ∷ []) (record { no_automove = refl; no_greedy = refl })
       go join = quiet (plain_of join ∷ []) (record { no_automove = refl; no_greedy = refl })
@@ -396,14 +457,17 @@ module _ (v : SessionValue) (t : Talk) (at : At v t) where
       go toggle_ready = quiet (plain_of toggle_ready ∷ []) (record { no_automove = refl; no_greedy = refl })
       go bye = quiet (plain_of bye ∷ []) (record { no_automove = refl; no_greedy = refl })
 
-  pub plain_sent_law : (p : PlainValue) → plain_refusal_of v p ≡ None → At (with_plain v p) (plains t p).talk × ((plains t p).send ≡ plain_of p ∷ [])
+  pub plain_sent_law : (p : PlainValue)
+      → plain_refusal_of v p ≡ None → At (with_plain v p) (plains t p).talk × ((plains t p).send ≡ plain_of p ∷ [])
   plain_sent_law p h = go (plain_refusal t p) (sym (plain_law p) ∙ h)
     where
-      go : (o : Option PlainRefusal) → o ≡ None → At (with_plain v p) (sends_plain t p o).talk × ((sends_plain t p o).send ≡ plain_of p ∷ [])
+      go : (o : Option PlainRefusal)
+          → o ≡ None → At (with_plain v p) (sends_plain t p o).talk × ((sends_plain t p o).send ≡ plain_of p ∷ [])
       go None e = (plain_at p, refl)
       go (Some x) e = absurd cc
 
-  pub plain_refused_law : (p : PlainValue) (why : PlainRefusal) → plain_refusal_of v p ≡ Some why → At v (plains t p).talk × ((plains t p).send ≡ [])
+  pub plain_refused_law : (p : PlainValue) (why : PlainRefusal)
+      → plain_refusal_of v p ≡ Some why → At v (plains t p).talk × ((plains t p).send ≡ [])
   plain_refused_law p why h = go (plain_refusal t p) (sym (plain_law p) ∙ h)
     where
       go : (o : Option PlainRefusal) → o ≡ Some why → At v (sends_plain t p o).talk × ((sends_plain t p o).send ≡ [])

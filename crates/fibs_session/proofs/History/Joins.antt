@@ -21,12 +21,14 @@ use Rattle.fibs_session.proofs.History.Fields.{at_silent}
 
 -- no line opens or loses a connection
 
-if_open : (b : Bool) (g h : Heard) (o : ℕ) → open_from o g.entries ≡ o → open_from o h.entries ≡ o → open_from o (if b then g else h).entries ≡ o
+if_open : (b : Bool) (g h : Heard) (o : ℕ)
+    → open_from o g.entries ≡ o → open_from o h.entries ≡ o → open_from o (if b then g else h).entries ≡ o
 if_open true g h o e f = e
 if_open false g h o e f = f
 
 heard_open : (c : ℕ) (log : List Entry) (r : ReadingValue) (o : ℕ) → open_from o (heard c log r).entries ≡ o
-heard_open c log (numbered_line m) o = if_open (nat_eq m.number 1) _ _ o refl (if_open (nat_eq m.number 2) _ _ o refl refl)
+heard_open c log (numbered_line m) o =
+    if_open (nat_eq m.number 1) _ _ o refl (if_open (nat_eq m.number 2) _ _ o refl refl)
 heard_open c log (board_line b) o = if_open (good b) _ _ o refl refl
 heard_open c log (text_line text) o = refl
 heard_open c log (malformed_line number k f) o = refl
@@ -44,13 +46,15 @@ unfolding hears_all
 all_stream t [] = refl
 all_stream t (l ∷ ls) = all_stream (hears t (heard_by t (line_reading l))).talk ls
 
-all_append : (t : Talk) (ls ms : List ReadLine) → hears_all t (ls ++ ms) ≡ then_also (hears_all t ls).send (hears_all (hears_all t ls).talk ms)
+all_append : (t : Talk) (ls ms : List ReadLine)
+    → hears_all t (ls ++ ms) ≡ then_also (hears_all t ls).send (hears_all (hears_all t ls).talk ms)
 unfolding hears_all
 all_append t [] ms = refl
 all_append t (l ∷ ls) ms =
     let h = heard_by t (line_reading l) in
     ap (then_also h.send) (all_append (hears t h).talk ls ms)
-    ∙ ap (λ texts. the_step (hears_all (hears_all (hears t h).talk ls).talk ms).talk texts) (sym (append_assoc h.send (hears_all (hears t h).talk ls).send (hears_all (hears_all (hears t h).talk ls).talk ms).send))
+    ∙ ap (λ texts. the_step (hears_all (hears_all (hears t h).talk ls).talk ms).talk texts) (sym (append_assoc h.send
+    (hears_all (hears t h).talk ls).send (hears_all (hears_all (hears t h).talk ls).talk ms).send))
   where
     the_step : Talk → List (List ℕ) → Step
     the_step talk texts = record { talk = talk; send = texts }
@@ -70,10 +74,12 @@ module _ (grow : LinesOnlyGrow) where
       let a = grow s p in
       let b = grow (s ++ p) q in
       let first : gained s p ≡ a.0 = ap (drop (length (lines_of s))) a.1 ∙ drop-append_seam (lines_of s) a.0 in
-      let second : gained (s ++ p) q ≡ b.0 = ap (drop (length (lines_of (s ++ p)))) b.1 ∙ drop-append_seam (lines_of (s ++ p)) b.0 in
+      let second : gained (s ++ p) q ≡ b.0 =
+      ap (drop (length (lines_of (s ++ p)))) b.1 ∙ drop-append_seam (lines_of (s ++ p)) b.0 in
       let whole : lines_of (s ++ (p ++ q)) ≡ lines_of s ++ (a.0 ++ b.0) =
       ap lines_of (sym (append_assoc s p q)) ∙ b.1 ∙ ap (λ l. l ++ b.0) a.1 ∙ append_assoc (lines_of s) a.0 b.0 in
-      ap (drop (length (lines_of s))) whole ∙ drop-append_seam (lines_of s) (a.0 ++ b.0) ∙ ap (λ l. l ++ b.0) (sym first) ∙ ap (λ l. gained s p ++ l) (sym second)
+      ap (drop (length (lines_of s))) whole ∙ drop-append_seam (lines_of s) (a.0 ++ b.0)
+      ∙ ap (λ l. l ++ b.0) (sym first) ∙ ap (λ l. gained s p ++ l) (sym second)
 
   pub pieces_join : PiecesJoin
   pieces_join t p q = go (is_online t) refl
@@ -90,10 +96,12 @@ module _ (grow : LinesOnlyGrow) where
           let m2 : List ReadLine = gained (t.stream ++ p) q in
           let s1 : Step = hears_all (with_bytes t p) m1 in
           let first : reads t p ≡ s1 = ap (λ b. with_if b t p) on in
-          let more : with_bytes t (p ++ q) ≡ with_bytes (with_bytes t p) q = ap (the_talk t) (sym (append_assoc t.stream p q)) in
+          let more : with_bytes t (p ++ q) ≡ with_bytes (with_bytes t p) q =
+          ap (the_talk t) (sym (append_assoc t.stream p q)) in
           let online : is_online s1.talk ≡ true = ap (λ n. not (nat_eq n 0)) (all_open (with_bytes t p) m1) ∙ on in
           let later : reads s1.talk q ≡ hears_all (with_bytes s1.talk q) m2 =
-          ap (λ b. with_if b s1.talk q) online ∙ ap (λ s. hears_all (with_bytes s1.talk q) (gained s q)) (all_stream (with_bytes t p) m1) in
+          ap (λ b. with_if b s1.talk q) online
+          ∙ ap (λ s. hears_all (with_bytes s1.talk q) (gained s q)) (all_stream (with_bytes t p) m1) in
           let all : reads t (p ++ q) ≡ then_also s1.send (hears_all (with_bytes s1.talk q) m2) =
           ap (λ b. with_if b t (p ++ q)) on
           ∙ ap (λ x. hears_all x (gained t.stream (p ++ q))) more
@@ -113,7 +121,8 @@ empty_piece t = go (is_online t)
     the_talk s = record { login = t.login; log = t.log; stream = s; commands = t.commands }
 
     none : gained t.stream [] ≡ []
-    none = ap (λ s. drop (length (lines_of t.stream)) (lines_of s)) (append-nil t.stream) ∙ drop-length (lines_of t.stream)
+    none =
+        ap (λ s. drop (length (lines_of t.stream)) (lines_of s)) (append-nil t.stream) ∙ drop-length (lines_of t.stream)
 
     go : (b : Bool) → (if b then hears_all (with_bytes t []) (gained t.stream []) else stays t) ≡ stays t
     go true = ap (hears_all (with_bytes t [])) none ∙ ap (λ s. stays (the_talk s)) (append-nil t.stream)
@@ -126,16 +135,21 @@ unfolding StandsAfter
 servers_silent c t e is at = (at.0, go e is)
   where
     go : (e : Entry) → IsServers e → At c.session (noted t (e ∷ []) [])
-    go e (logs_in n) = at_silent c.session t at.1 (e ∷ []) [] no_texts refl (open_append 0 t.log (e ∷ [])) (λ d. record { no_welcome = refl; no_flags = refl; no_board = refl; no_sent = refl })
-    go e (takes n b d) = at_silent c.session t at.1 (e ∷ []) [] no_texts refl (open_append 0 t.log (e ∷ [])) (λ d. record { no_welcome = refl; no_flags = refl; no_board = refl; no_sent = refl })
-    go e (undoes n b d) = at_silent c.session t at.1 (e ∷ []) [] no_texts refl (open_append 0 t.log (e ∷ [])) (λ d. record { no_welcome = refl; no_flags = refl; no_board = refl; no_sent = refl })
+    go e (logs_in n) = at_silent c.session t at.1 (e ∷ []) [] no_texts refl (open_append 0 t.log (e ∷ []))
+        (λ d. record { no_welcome = refl; no_flags = refl; no_board = refl; no_sent = refl })
+    go e (takes n b d) = at_silent c.session t at.1 (e ∷ []) [] no_texts refl (open_append 0 t.log (e ∷ []))
+        (λ d. record { no_welcome = refl; no_flags = refl; no_board = refl; no_sent = refl })
+    go e (undoes n b d) = at_silent c.session t at.1 (e ∷ []) [] no_texts refl (open_append 0 t.log (e ∷ []))
+        (λ d. record { no_welcome = refl; no_flags = refl; no_board = refl; no_sent = refl })
 
 -- lists of inputs
 
-run_more : (t : Talk) (is : List InputValue) (i : InputValue) → (run t (is ++ i ∷ [])).talk ≡ (step (run t is).talk i).talk
+run_more : (t : Talk) (is : List InputValue) (i : InputValue)
+    → (run t (is ++ i ∷ [])).talk ≡ (step (run t is).talk i).talk
 unfolding run
 run_more t [] i = refl
 run_more t (j ∷ is) i = run_more (step t j).talk is i
 
 pub inputs_go_on : InputsGoOn
-inputs_go_on old new i send d login inputs at = subst (StandsAfter new) (sym (run_more (start login) inputs i)) (d.stands (run (start login) inputs).talk at)
+inputs_go_on old new i send d login inputs at =
+    subst (StandsAfter new) (sym (run_more (start login) inputs i)) (d.stands (run (start login) inputs).talk at)

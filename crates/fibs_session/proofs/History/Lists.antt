@@ -62,16 +62,20 @@ each_append p (x ∷ xs) ys = step (p x) _ _ _ (each_append p xs ys)
     step true b c d h = h
     step false b c d h = refl
 
-pub each_snoc : {A : Type 0} (p : A → Bool) (xs : List A) (x : A) → each p xs ≡ true → p x ≡ true → each p (xs ++ x ∷ []) ≡ true
+pub each_snoc : {A : Type 0} (p : A → Bool) (xs : List A) (x : A)
+    → each p xs ≡ true → p x ≡ true → each p (xs ++ x ∷ []) ≡ true
 each_snoc p xs x h k = each_append p xs (x ∷ []) ∙ and_both _ _ h (and_both _ _ k refl)
 
-pub each_last : {A : Type 0} (p : A → Bool) (x : A) (xs : List A) (v : A) → each p (x ∷ xs) ≡ true → last (x ∷ xs) ≡ Some v → p v ≡ true
+pub each_last : {A : Type 0} (p : A → Bool) (x : A) (xs : List A) (v : A)
+    → each p (x ∷ xs) ≡ true → last (x ∷ xs) ≡ Some v → p v ≡ true
 each_last p x [] v h e = let k : p x ≡ true = and_left _ _ h in let s : x ≡ v = cc in rw s at k
 each_last p x (y ∷ ys) v h e = each_last p y ys v (and_right _ _ h) e
 
 -- a list with nothing more
-pub map_more : {X A : Type 0} (f : X → List A) (xs ys : List X) (zs : List A) → flat_map f ys ≡ zs → flat_map f (xs ++ ys) ≡ flat_map f xs ++ zs
+pub map_more : {X A : Type 0} (f : X → List A) (xs ys : List X) (zs : List A)
+    → flat_map f ys ≡ zs → flat_map f (xs ++ ys) ≡ flat_map f xs ++ zs
 map_more f xs ys zs h = flat_map-append f xs ys ∙ ap (λ t. flat_map f xs ++ t) h
 
-pub map_no_more : {X A : Type 0} (f : X → List A) (xs ys : List X) → flat_map f ys ≡ [] → flat_map f (xs ++ ys) ≡ flat_map f xs
+pub map_no_more : {X A : Type 0} (f : X → List A) (xs ys : List X)
+    → flat_map f ys ≡ [] → flat_map f (xs ++ ys) ≡ flat_map f xs
 map_no_more f xs ys h = map_more f xs ys [] h ∙ append-nil _

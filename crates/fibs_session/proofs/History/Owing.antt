@@ -38,7 +38,8 @@ unfolding cost
 cost_nothing = refl
 
 -- the answer to message 2
-cost_initial : (a b : Bool) → cost ((if a then [] else autoboard_text ∷ []) ++ (if b then [] else moreboards_text ∷ []) ++ board_text ∷ []) ≤ 44
+cost_initial : (a b : Bool)
+    → cost ((if a then [] else autoboard_text ∷ []) ++ (if b then [] else moreboards_text ∷ []) ++ board_text ∷ []) ≤ 44
 unfolding cost autoboard_text moreboards_text board_text
 cost_initial true true = omega (arith)
 cost_initial true false = omega (arith)
@@ -49,7 +50,8 @@ cost_initial false false = omega (arith)
 Takes : ℕ → List Entry → Heard → Type 0
 Takes c log h = cost h.send + owed_on c (log ++ h.entries) ≤ owed_on c log
 
-if_takes : (b : Bool) (c : ℕ) (log : List Entry) (g h : Heard) → Takes c log g → Takes c log h → Takes c log (if b then g else h)
+if_takes : (b : Bool) (c : ℕ) (log : List Entry) (g h : Heard)
+    → Takes c log g → Takes c log h → Takes c log (if b then g else h)
 if_takes true c log g h p q = p
 if_takes false c log g h p q = q
 
@@ -58,45 +60,69 @@ unfolding Takes
 nothing_takes c log = omega (arith, cost_nothing, ap (owed_on c) (append-nil log))
 
 -- no flag of the connection is noted, or no welcome
-quiet_owed : (c : ℕ) (log es : List Entry) → welcomed c (log ++ es) ≡ welcomed c log → informed c (log ++ es) ≡ informed c log → owed_on c (log ++ es) ≡ owed_on c log
-quiet_owed c log es w i = ap (λ l. (if is_empty l then 18 else 0) + (if is_empty (informed c (log ++ es)) then 44 else 0)) w ∙ ap (λ l. (if is_empty (welcomed c log) then 18 else 0) + (if is_empty l then 44 else 0)) i
+quiet_owed : (c : ℕ) (log es : List Entry) → welcomed c (log ++ es) ≡ welcomed c log
+    → informed c (log ++ es) ≡ informed c log → owed_on c (log ++ es) ≡ owed_on c log
+quiet_owed c log es w i =
+    ap (λ l. (if is_empty l then 18 else 0) + (if is_empty (informed c (log ++ es)) then 44 else 0)) w
+    ∙ ap (λ l. (if is_empty (welcomed c log) then 18 else 0) + (if is_empty l then 44 else 0)) i
 
-welcome_takes : (c : ℕ) (log : List Entry) → Takes c log (record { entries = Welcomed c ∷ []; send = if is_empty (welcomed c log) then style_text ∷ [] else []; confirmed = None })
+welcome_takes : (c : ℕ) (log : List Entry) → Takes c log (record {
+  entries = Welcomed c ∷ [];
+  send = if is_empty (welcomed c log) then style_text ∷ [] else [];
+  confirmed = None;
+})
 unfolding Takes
 welcome_takes c log =
     let es : List Entry = Welcomed c ∷ [] in
-    let w : is_empty (welcomed c (log ++ es)) ≡ false = ap is_empty (map_more (welcomed_by c) log es (c ∷ []) (own c c)) ∙ snoc_not_empty (welcomed c log) c in
+    let w : is_empty (welcomed c (log ++ es)) ≡ false =
+    ap is_empty (map_more (welcomed_by c) log es (c ∷ []) (own c c)) ∙ snoc_not_empty (welcomed c log) c in
     let i : informed c (log ++ es) ≡ informed c log = map_no_more (informed_by c) log es refl in
     let now : owed_on c (log ++ es) ≡ 0 + (if is_empty (informed c log) then 44 else 0) =
-    ap (λ b. (if b then 18 else 0) + (if is_empty (informed c (log ++ es)) then 44 else 0)) w ∙ ap (λ l. 0 + (if is_empty l then 44 else 0)) i in
+    ap (λ b. (if b then 18 else 0) + (if is_empty (informed c (log ++ es)) then 44 else 0)) w
+    ∙ ap (λ l. 0 + (if is_empty l then 44 else 0)) i in
     go (is_empty (welcomed c log)) (owed_on c (log ++ es)) (if is_empty (informed c log) then 44 else 0) now
   where
     go : (b : Bool) (x y : ℕ) → x ≡ 0 + y → cost (if b then style_text ∷ [] else []) + x ≤ (if b then 18 else 0) + y
     go true x y e = omega (arith, e, cost_style)
     go false x y e = omega (arith, e, cost_nothing)
 
-info_takes : (c : ℕ) (log : List Entry) (m : MessageValue) → Takes c log (record { entries = Informed c (flags_of m) ∷ []; send = if is_empty (informed c log) then initial_commands m else []; confirmed = None })
+info_takes : (c : ℕ) (log : List Entry) (m : MessageValue)
+    → Takes c log (record {
+      entries = Informed c (flags_of m) ∷ [];
+      send = if is_empty (informed c log) then initial_commands m else [];
+      confirmed = None;
+    })
 unfolding Takes
 info_takes c log m =
     let es : List Entry = Informed c (flags_of m) ∷ [] in
     let w : welcomed c (log ++ es) ≡ welcomed c log = map_no_more (welcomed_by c) log es refl in
-    let i : is_empty (informed c (log ++ es)) ≡ false = ap is_empty (map_more (informed_by c) log es (flags_of m ∷ []) (own c (flags_of m))) ∙ snoc_not_empty (informed c log) (flags_of m) in
+    let i : is_empty (informed c (log ++ es)) ≡ false =
+    ap is_empty (map_more (informed_by c) log es (flags_of m ∷ []) (own c (flags_of m)))
+    ∙ snoc_not_empty (informed c log) (flags_of m) in
     let now : owed_on c (log ++ es) ≡ (if is_empty (welcomed c log) then 18 else 0) + 0 =
-    ap (λ b. (if is_empty (welcomed c (log ++ es)) then 18 else 0) + (if b then 44 else 0)) i ∙ ap (λ l. (if is_empty l then 18 else 0) + 0) w in
+    ap (λ b. (if is_empty (welcomed c (log ++ es)) then 18 else 0) + (if b then 44 else 0)) i
+    ∙ ap (λ l. (if is_empty l then 18 else 0) + 0) w in
     go (is_empty (informed c log)) (owed_on c (log ++ es)) (if is_empty (welcomed c log) then 18 else 0) now
   where
     go : (b : Bool) (x y : ℕ) → x ≡ y + 0 → cost (if b then initial_commands m else []) + x ≤ y + (if b then 44 else 0)
     go true x y e = omega (arith, e, cost_initial (autoboard m) (moreboards m))
     go false x y e = omega (arith, e, cost_nothing)
 
-shown_takes : (c : ℕ) (log : List Entry) (b : BoardFields) → Takes c log (record { entries = Shown c b ∷ []; send = []; confirmed = confirmed_by_board c log b })
+shown_takes : (c : ℕ) (log : List Entry) (b : BoardFields)
+    → Takes c log (record { entries = Shown c b ∷ []; send = []; confirmed = confirmed_by_board c log b })
 unfolding Takes
 shown_takes c log b =
-    omega (arith, cost_nothing, quiet_owed c log (Shown c b ∷ []) (map_no_more (welcomed_by c) log (Shown c b ∷ []) refl) (map_no_more (informed_by c) log (Shown c b ∷ []) refl))
+    omega (
+      arith,
+      cost_nothing,
+      quiet_owed c log (Shown c b ∷ []) (map_no_more (welcomed_by c)
+          log (Shown c b ∷ []) refl) (map_no_more (informed_by c) log (Shown c b ∷ []) refl),
+    )
 
 heard_takes : (c : ℕ) (log : List Entry) (r : ReadingValue) → Takes c log (heard c log r)
 heard_takes c log (numbered_line m) =
-    if_takes (nat_eq m.number 1) c log _ _ (welcome_takes c log) (if_takes (nat_eq m.number 2) c log _ _ (info_takes c log m) (nothing_takes c log))
+    if_takes (nat_eq m.number 1) c log
+    _ _ (welcome_takes c log) (if_takes (nat_eq m.number 2) c log _ _ (info_takes c log m) (nothing_takes c log))
 heard_takes c log (board_line b) = if_takes (good b) c log _ _ (shown_takes c log b) (nothing_takes c log)
 heard_takes c log (text_line text) = nothing_takes c log
 heard_takes c log (malformed_line number k f) = nothing_takes c log
@@ -121,6 +147,8 @@ pub takes_from_owed : PiecesTakeFromWhatIsOwed
 unfolding cost
 takes_from_owed t bytes = go (is_online t)
   where
-    go : (b : Bool) → length (wire_of (if b then hears_all (with_bytes t bytes) (gained t.stream bytes) else stays t).send) + owed (if b then hears_all (with_bytes t bytes) (gained t.stream bytes) else stays t).talk ≤ owed t
+    go : (b : Bool)
+        → length (wire_of (if b then hears_all (with_bytes t bytes) (gained t.stream bytes) else stays t).send)
+        + owed (if b then hears_all (with_bytes t bytes) (gained t.stream bytes) else stays t).talk ≤ owed t
     go true = all_lines (with_bytes t bytes) (gained t.stream bytes)
     go false = omega (arith)

@@ -43,7 +43,8 @@ pub no_texts : NoToggles []
 no_texts = record { no_automove = refl; no_greedy = refl }
 
 pub one_text : (text : List ℕ) → IsNoToggle text → NoToggles (text ∷ [])
-one_text text h = record { no_automove = or_false _ false refl ∙ h.no_automove; no_greedy = or_false _ false refl ∙ h.no_greedy }
+one_text text h =
+    record { no_automove = or_false _ false refl ∙ h.no_automove; no_greedy = or_false _ false refl ∙ h.no_greedy }
 
 pub if_texts : (b : Bool) (xs ys : List (List ℕ)) → NoToggles xs → NoToggles ys → NoToggles (if b then xs else ys)
 if_texts true xs ys h k = h
@@ -76,7 +77,8 @@ style_texts = one_text style_text style_no_toggle
 
 pub initial_texts : (m : MessageValue) → NoToggles (initial_commands m)
 initial_texts m =
-    both_texts ((if autoboard m then [] else autoboard_text ∷ []) ++ (if moreboards m then [] else moreboards_text ∷ [])) (board_text ∷ [])
+    both_texts ((if autoboard m then [] else autoboard_text ∷ [])
+    ++ (if moreboards m then [] else moreboards_text ∷ [])) (board_text ∷ [])
     (both_texts (if autoboard m then [] else autoboard_text ∷ []) (if moreboards m then [] else moreboards_text ∷ [])
     (if_texts (autoboard m) [] (autoboard_text ∷ []) no_texts (one_text _ autoboard_no_toggle))
     (if_texts (moreboards m) [] (moreboards_text ∷ []) no_texts (one_text _ moreboards_no_toggle)))

@@ -47,7 +47,8 @@ quiet_both c xs ys h k = record {
 -- the numbers stay in order
 
 -- an entry of no connection
-pub numbered_silent : (log es : List Entry) → Numbered log → flat_map opened_by es ≡ [] → open_now (log ++ es) ≤ connections log → ((d : ℕ) → Quiet d es) → Numbered (log ++ es)
+pub numbered_silent : (log es : List Entry) → Numbered log → flat_map opened_by es ≡ []
+    → open_now (log ++ es) ≤ connections log → ((d : ℕ) → Quiet d es) → Numbered (log ++ es)
 numbered_silent log es n h below quiet =
     let same : connections (log ++ es) ≡ connections log = ap length (map_no_more opened_by log es h) in
     record {
@@ -57,7 +58,8 @@ numbered_silent log es n h below quiet =
     }
 
 -- entries of the open connection
-pub numbered_own : (log es : List Entry) (c : ℕ) → Numbered log → flat_map opened_by es ≡ [] → open_now log ≡ c → (c ≡ 0 → ⊥) → open_now (log ++ es) ≡ c → ((d : ℕ) → (c ≡ d → ⊥) → Quiet d es) → Numbered (log ++ es)
+pub numbered_own : (log es : List Entry) (c : ℕ) → Numbered log → flat_map opened_by es ≡ [] → open_now log ≡ c
+    → (c ≡ 0 → ⊥) → open_now (log ++ es) ≡ c → ((d : ℕ) → (c ≡ d → ⊥) → Quiet d es) → Numbered (log ++ es)
 numbered_own log es c n h here some still quiet =
     let same : connections (log ++ es) ≡ connections log = ap length (map_no_more opened_by log es h) in
     let below : c ≤ connections log = subst (λ k. k ≤ connections log) here n.below in
@@ -77,8 +79,10 @@ pub numbered_opened : (log : List Entry) → Numbered log → Numbered (log ++ O
 numbered_opened log n =
     let k = connections log in
     let es : List Entry = Opened (suc k) ∷ [] in
-    let quiet : (d : ℕ) → Quiet d es = λ d. record { no_welcome = refl; no_flags = refl; no_board = refl; no_sent = refl } in
-    let more : connections (log ++ es) ≡ suc k = ap length (map_more opened_by log es (suc k ∷ []) refl) ∙ snoc_length (flat_map opened_by log) (suc k) in
+    let quiet : (d : ℕ) → Quiet d es =
+    λ d. record { no_welcome = refl; no_flags = refl; no_board = refl; no_sent = refl } in
+    let more : connections (log ++ es) ≡ suc k =
+    ap length (map_more opened_by log es (suc k ∷ []) refl) ∙ snoc_length (flat_map opened_by log) (suc k) in
     let here : open_now (log ++ es) ≡ suc k = open_append 0 log es in
     record {
       below = subst (λ x. x ≤ connections (log ++ es)) (sym here) (subst (λ x. suc k ≤ x) (sym more) (omega arith));
@@ -96,11 +100,13 @@ numbered_opened log n =
 -- words
 
 -- what is quiet changes nothing of the stretch
-pub unconfirmed_quiet : (c : ℕ) (log es : List Entry) → shown c es ≡ [] → sent c es ≡ [] → unconfirmed same_game c (log ++ es) ≡ unconfirmed same_game c log
+pub unconfirmed_quiet : (c : ℕ) (log es : List Entry)
+    → shown c es ≡ [] → sent c es ≡ [] → unconfirmed same_game c (log ++ es) ≡ unconfirmed same_game c log
 unconfirmed_quiet c log es h k =
     let s = spent_quiet same_game c log es h k in
     let m : sent c (log ++ es) ≡ sent c log = map_no_more (sent_by c) log es k in
-    ap (λ z. if z then last (sent c (log ++ es)) else None) s ∙ ap (λ l. if is_spent same_game c log then last l else None) m
+    ap (λ z. if z then last (sent c (log ++ es)) else None) s
+    ∙ ap (λ l. if is_spent same_game c log then last l else None) m
 
 pub unconfirmed_none : (c : ℕ) (log : List Entry) → shown c log ≡ [] → unconfirmed same_game c log ≡ None
 unconfirmed_none c log h = rw (spent_none same_game c log h) refl
@@ -127,18 +133,22 @@ none_last (x ∷ xs) h = absurd (go x xs h)
     go x (y ∷ ys) h = go y ys h
 
 -- what the answer yes to a click says
-pub record Yes (like : Board → Board → Bool) (allows : Board → Decision → Option Refusal) (log : List Entry) (d : Decision) : Type 0 where
+pub record Yes (like : Board → Board → Bool) (allows : Board → Decision → Option Refusal)
+    (log : List Entry) (d : Decision) : Type 0 where
   pub some : 0 < open_now log
   pub fresh : is_spent like (open_now log) log ≡ false
   pub on : Board
   pub is_last : last (shown (open_now log) log) ≡ Some on
   pub allowed : allows on d ≡ None
 
-pub yes : (like : Board → Board → Bool) (allows : Board → Decision → Option Refusal) (log : List Entry) (d : Decision) → answer like allows log d ≡ None → Yes like allows log d
+pub yes : (like : Board → Board → Bool) (allows : Board → Decision → Option Refusal) (log : List Entry) (d : Decision)
+    → answer like allows log d ≡ None → Yes like allows log d
 yes like allows log d h =
-    one (nat_eq (open_now log) 0) (is_empty (welcomed (open_now log) log) || is_empty (informed (open_now log) log)) (plays_itself (last (informed (open_now log) log))) refl h
+    one (nat_eq (open_now log) 0) (is_empty (welcomed (open_now log) log) || is_empty (informed (open_now log) log))
+    (plays_itself (last (informed (open_now log) log))) refl h
   where
-    board : (s : Bool) (o : Option Board) → is_spent like (open_now log) log ≡ s → last (shown (open_now log) log) ≡ o → 0 < open_now log → if_board allows s d o ≡ None → Yes like allows log d
+    board : (s : Bool) (o : Option Board) → is_spent like (open_now log) log ≡ s
+        → last (shown (open_now log) log) ≡ o → 0 < open_now log → if_board allows s d o ≡ None → Yes like allows log d
     board s None e f n h = cc
     board true (Some b) e f n h = cc
     board false (Some b) e f n h = record { some = n; fresh = e; on = b; is_last = f; allowed = h }
@@ -147,7 +157,10 @@ yes like allows log d h =
     none zero h = absurd (true≢false h)
     none (suc n) h = omega arith
 
-    one : (x y z : Bool) → nat_eq (open_now log) 0 ≡ x → (if x then Some Offline else (if y then Some NotReady else (if z then Some ServerPlays else if_board allows (is_spent like (open_now log) log) d (last (shown (open_now log) log))))) ≡ None → Yes like allows log d
+    one : (x y z : Bool) → nat_eq (open_now log) 0 ≡ x
+        → (if x then Some Offline else (if y then Some NotReady else (if z then Some ServerPlays
+        else if_board allows (is_spent like (open_now log) log) d (last (shown (open_now log) log)))))
+        ≡ None → Yes like allows log d
     one true y z e h = cc
     one false true z e h = cc
     one false false true e h = cc

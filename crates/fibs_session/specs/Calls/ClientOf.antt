@@ -5,17 +5,17 @@ use Rattle.fibs_messages.specs.Line.{ReadingValue, board_line, text_line, malfor
 use Rattle.fibs_boards.specs.StoredBoard.{fields_of}
 use Rattle.fibs_session.specs.History.Hearing.{line_reading}
 use Rattle.fibs_session.specs.Calls.SessionOf.{texts_of}
-use Rattle.fibs_session.specs.declared.client.kept.Kept.{Kept}
-use Rattle.fibs_session.specs.declared.client.kept.Kept.TheVariants as K
+use Rattle.fibs_session.specs.declared.client.owned_reading.OwnedReading.{OwnedReading}
+use Rattle.fibs_session.specs.declared.client.owned_reading.OwnedReading.TheVariants as K
 use Rattle.fibs_session.specs.declared.client.heard_line.Answer.{Answer}
 use Rattle.fibs_session.specs.declared.client.heard_line.HeardLine.{HeardLine}
 
--- the reading of a line from what was kept: a message is read again
-abbrev pub kept_reading : Kept → ReadLine → ReadingValue
-kept_reading K.Numbered l = line_reading l
-kept_reading (K.Board b) l = board_line (fields_of b)
-kept_reading K.Text l = text_line l.bytes
-kept_reading (K.Malformed number field fault) l = malformed_line number field fault
+-- the reading of a line from one that borrows nothing: a message is read again
+abbrev pub lent_reading : OwnedReading → ReadLine → ReadingValue
+lent_reading K.Numbered l = line_reading l
+lent_reading (K.Board b) l = board_line (fields_of b)
+lent_reading K.Text l = text_line l.bytes
+lent_reading (K.Malformed number field fault) l = malformed_line number field fault
 
 -- the commands and what is confirmed
 abbrev pub answer_commands : Option Answer → List (List ℕ)

@@ -8,7 +8,7 @@ use Rattle.fibs_session.specs.History.Hearing.{line_reading}
 use Rattle.fibs_session.specs.History.Machine.{Talk, Piece, step, is_online, line_heard}
 use Rattle.fibs_session.specs.Calls.SessionValue.{SessionValue}
 use Rattle.fibs_session.specs.Calls.SessionOf.{TakenValue, texts_of, ask_of}
-use Rattle.fibs_session.specs.Calls.ClientOf.{kept_reading}
+use Rattle.fibs_session.specs.Calls.ClientOf.{lent_reading}
 use Rattle.fibs_session.specs.Calls.Standing.{ClientValue, StandsAfter}
 use Rattle.fibs_session.specs.Calls.Doing.{SessionHears}
 use Rattle.fibs_session.specs.declared.client.heard_line.Answer.{Answer}
@@ -32,7 +32,7 @@ AnswersLine v None (Some a) v' = ⊥
 AnswersLine v (Some line) None v' = ⊥
 AnswersLine v (Some line) (Some a) v' =
     SessionHears v v' line (texts_of a.send.items) (option_map ask_of a.confirmed)
-    × (kept_reading a.kept line ≡ line_reading line)
+    × (lent_reading a.reading line ≡ line_reading line)
 
 -- by lines and session, while a connection is open
 pub record ReadsOnline (old new : ClientValue) (piece : List ℕ) (h : HeardLine) : Type 0 where
@@ -56,11 +56,11 @@ abbrev pub line_confirms : Talk → Option ReadLine → Option Ask
 line_confirms t None = None
 line_confirms t (Some l) = (line_heard t l).confirmed
 
--- what was kept is of the line
+-- the reading is of the line
 abbrev pub KeepsLine : Option ReadLine → Option Answer → Type 0
 KeepsLine line None = Unit {0}
 KeepsLine None (Some a) = ⊥
-KeepsLine (Some l) (Some a) = kept_reading a.kept l ≡ line_reading l
+KeepsLine (Some l) (Some a) = lent_reading a.reading l ≡ line_reading l
 
 -- the client still has the line that was heard
 unfoldable pub Keeps : ClientValue → HeardLine → Type 0

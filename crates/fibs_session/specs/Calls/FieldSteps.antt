@@ -17,7 +17,7 @@ use Rattle.fibs_session.specs.declared.refusal.PlainRefusal.{PlainRefusal}
 use Rattle.fibs_session.specs.declared.refusal.PlainRefusal.TheVariants as P
 use Rattle.fibs_session.specs.History.Words.{Ask, if_board, plays_itself}
 use Rattle.fibs_session.specs.History.Hearing.{flags_of, initial_commands}
-use Rattle.fibs_session.specs.History.Machine.{allows, says}
+use Rattle.fibs_session.specs.History.Machine.{allows, flag_is_on}
 use Rattle.fibs_session.specs.Calls.SessionValue.{SessionValue}
 
 abbrev pub fresh : List ℕ → Bool → SessionValue
@@ -103,8 +103,8 @@ with_ask v d None = v
 with_ask v d (Some b) = record v { waiting = Some (b, d) }
 
 abbrev pub may_send_of : SessionValue → PlainValue → Bool
-may_send_of v automove_off = says (λ f. f.automove) v.flags && not v.automove_sent
-may_send_of v greedy_off = says (λ f. f.greedy) v.flags && not v.greedy_sent
+may_send_of v automove_off = flag_is_on (λ f. f.automove) v.flags && not v.automove_sent
+may_send_of v greedy_off = flag_is_on (λ f. f.greedy) v.flags && not v.greedy_sent
 may_send_of v p = true
 
 abbrev pub plain_refusal_of : SessionValue → PlainValue → Option PlainRefusal

@@ -165,13 +165,13 @@ was_sent text [] = false
 was_sent text (t ∷ ts) = bytes_eq text t || was_sent text ts
 
 -- the flag is 1
-abbrev pub says : (Flags → Bool) → Option Flags → Bool
-says flag None = false
-says flag (Some f) = flag f
+abbrev pub flag_is_on : (Flags → Bool) → Option Flags → Bool
+flag_is_on flag None = false
+flag_is_on flag (Some f) = flag f
 
 -- that the latest message 2 says 1 for it, and that it was not sent on this connection
 abbrev pub is_on : Talk → (Flags → Bool) → PlainValue → Bool
-is_on t flag p = says flag (last (informed (open_now t.log) t.log)) && not (was_sent (plain_of p) t.commands)
+is_on t flag p = flag_is_on flag (last (informed (open_now t.log) t.log)) && not (was_sent (plain_of p) t.commands)
 
 -- only the two commands that turn something off ask for that
 abbrev pub may_send : Talk → PlainValue → Bool

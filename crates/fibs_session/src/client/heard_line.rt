@@ -1,9 +1,9 @@
 //! What a client has heard, without the line itself.
 
 ghost use Rattle.std.specs.Prelude.{◌≡◌, [], None};
-ghost use Rattle.fibs_session.specs.declared.client.kept.Kept.TheVariants.{Numbered};
+ghost use Rattle.fibs_session.specs.declared.client.owned_reading.OwnedReading.TheVariants.{Numbered};
 
-use super::kept::Kept;
+use super::owned_reading::OwnedReading;
 use crate::session::Outstanding;
 use arrayvec::ArrayVec;
 use fibs_commands::CommandText;
@@ -11,7 +11,7 @@ use fibs_commands::CommandText;
 /// The answer to a line, without the line.
 #[derive(Drop)]
 pub(crate) struct Answer {
-    pub(super) kept: Kept,
+    pub(super) reading: OwnedReading,
     pub(super) send: ArrayVec<CommandText, 3>,
     pub(super) confirmed: Option<Outstanding>,
 }
@@ -19,12 +19,12 @@ pub(crate) struct Answer {
 impl Answer {
     /// The answer to a message that is answered by nothing. The message is read where it is lent.
     pub(super) fn nothing() -> Answer
-        ensures kept { result.kept ≡ Numbered }
+        ensures reading { result.reading ≡ Numbered }
         ensures send { result.send.items ≡ [] }
         ensures confirmed { result.confirmed ≡ None }
     {
         Answer {
-            kept: Kept::Numbered,
+            reading: OwnedReading::Numbered,
             send: ArrayVec::new(),
             confirmed: None,
         }

@@ -6,7 +6,7 @@ ghost use Rattle.fibs_boards.specs.StoredBoard.{fields_of};
 ghost use Rattle.fibs_position.specs.DecisionValue.{decision_of};
 ghost use Rattle.fibs_session.specs.Calls.FieldSteps.{answer_of, decide_fields, decide_send, may_send_of};
 ghost use Rattle.fibs_session.specs.Calls.FieldSteps.{plain_refusal_of, plain_fields, plain_send, with_plain};
-ghost use Rattle.fibs_session.specs.History.Machine.{refusal_of, says};
+ghost use Rattle.fibs_session.specs.History.Machine.{flag_is_on, refusal_of};
 ghost use Rattle.fibs_commands.specs.PlainOf.{plain_value};
 
 use super::{Outstanding, Session};
@@ -75,7 +75,7 @@ impl Session {
 
     /// The server moves by itself.
     fn is_automove_on(&self) -> bool
-        ensures { result ≡ says (λ f. f.automove) (session_of self.now).flags }
+        ensures { result ≡ flag_is_on (λ f. f.automove) (session_of self.now).flags }
     {
         let Some(flags) = self.flags else {
             return false;
@@ -85,7 +85,7 @@ impl Session {
 
     /// The server bears off by itself.
     fn is_greedy_on(&self) -> bool
-        ensures { result ≡ says (λ f. f.greedy) (session_of self.now).flags }
+        ensures { result ≡ flag_is_on (λ f. f.greedy) (session_of self.now).flags }
     {
         let Some(flags) = self.flags else {
             return false;

@@ -1,9 +1,12 @@
 //! Bytes of any kind on one line of text.
-ghost use Rattle.std.specs.Prelude.{◌≡◌, ◌≤◌, ◌++◌, take, drop, length, OnOk};
+ghost use Rattle.std.specs.Prelude.{◌≡◌, ◌≤◌, ◌<◌, ◌+◌, ◌++◌, take, drop, length, OnOk};
 ghost use Rattle.std.specs.List.{list_any, position};
 ghost use Rattle.fibs_show.specs.Escape.{is_escaped, hex_escape, escaped};
+ghost use Rattle.fibs_show.specs.Writing.{Wrote, progress_of};
 
+use crate::writing::{Broken, write_bytes};
 use std::alloc::{AllocError, Global};
+use std::io::Write;
 
 const HEX_DIGITS: [u8; 16] = *b"0123456789abcdef";
 
@@ -41,24 +44,32 @@ pub fn hex_escape(byte: u8) -> [u8; 4]
     [b'\\', b'x', high, low]
 }
 
-/// Appends the escape of a byte.
-fn append_hex(byte: u8, text: &mut Vec<u8>) -> Result<(), AllocError>
-    ensures { OnOk result (text.new.items ≡ text.old.items ++ hex_escape byte) }
+/// What follows the byte at a place.
+fn after(bytes: &[u8], at: usize) -> &[u8]
+    requires { at < length bytes.now }
+    ensures { result.now ≡ drop (at + 1) bytes.now }
 {
-    text.extend_from_slice(&hex_escape(byte))
+    &bytes[at + 1..]
 }
 
-/// Appends the bytes, each run of printable ones at once and every other byte by its escape.
-fn append_runs(bytes: &[u8], text: &mut Vec<u8>) -> Result<(), AllocError>
-    ensures { OnOk result (text.new.items ≡ text.old.items ++ escaped bytes.now) }
+/// Writes the bytes, each run of those that are shown as they are at once, and every other byte by its escape.
+pub fn write_escaped<W: Write>(bytes: &[u8], writer: &mut W) -> Result<(), Broken>
+    ensures { Wrote (progress_of result) (W.contents writer.old) (W.contents writer.new) (escaped bytes.now) }
 {
     let mut rest = bytes;
     while let Some(at) = first_escaped(rest) {
-        text.extend_from_slice(&rest[..at])?;
-        append_hex(rest[at], text)?;
-        rest = &rest[at + 1..];
+        write_bytes(&rest[..at], writer)?;
+        write_bytes(&hex_escape(rest[at]), writer)?;
+        rest = after(rest, at);
     }
-    text.extend_from_slice(rest)
+    write_bytes(rest, writer)
+}
+
+/// Appends the bytes run by run.
+fn append_runs(bytes: &[u8], text: &mut Vec<u8>) -> Result<(), AllocError>
+    ensures { OnOk result (text.new.items ≡ text.old.items ++ escaped bytes.now) }
+{
+    write_escaped(bytes, text).map_err(|_| AllocError)
 }
 
 /// Appends the bytes, each that is not shown as it is by its escape. Where none is, which is the rule, it appends all

@@ -3,6 +3,7 @@ ghost use Rattle.std.specs.Prelude.{◌≡◌, ◌≤◌, ◌+◌, ◌++◌, len
 ghost use Rattle.arrayvec.specs.ArrayVec.{array_vec_len};
 
 use arrayvec::ArrayVec;
+use itoa::{Buffer, Integer};
 
 /// Appends bytes for which there is room.
 pub fn append<const N: usize>(text: &mut ArrayVec<u8, N>, bytes: &[u8])
@@ -10,4 +11,13 @@ pub fn append<const N: usize>(text: &mut ArrayVec<u8, N>, bytes: &[u8])
     ensures { text.new.items ≡ text.old.items ++ bytes.now }
 {
     let _fits = text.try_extend_from_slice(bytes);
+}
+
+/// Appends a number where there is room for the longest of its type.
+pub fn append_number<I: Integer, const N: usize>(text: &mut ArrayVec<u8, N>, number: I)
+    requires { array_vec_len text.old + I.MAX_STR_LEN ≤ N }
+    ensures text { text.new.items ≡ text.old.items ++ I.text number }
+    ensures short { array_vec_len text.new ≤ array_vec_len text.old + I.MAX_STR_LEN }
+{
+    append(text, Buffer::new().format(number).as_bytes());
 }

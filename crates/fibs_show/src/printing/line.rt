@@ -1,10 +1,8 @@
 //! One line of text for each line of the server.
 ghost use Rattle.std.specs.Prelude.{◌≡◌, ◌++◌, ◌∷◌, [], ℕ, List, codes, OnOk};
-ghost use Rattle.std.specs.Fmt.{decimal};
 ghost use Rattle.fibs_lines.specs.Lines.{value_of};
 ghost use Rattle.fibs_boards.specs.Board.{spelling};
-ghost use Rattle.fibs_fields.specs.Faults.{fault_name};
-ghost use Rattle.fibs_messages.specs.Line.{IsReading, ReadingValue};
+ghost use Rattle.fibs_messages.specs.Line.{IsReading, ReadingValue, malformed_line};
 ghost use Rattle.fibs_messages.specs.Message.{canonical};
 ghost use Rattle.fibs_messages.specs.Message.{message_of};
 ghost use Rattle.fibs_boards.specs.StoredBoard.{fields_of};
@@ -12,6 +10,7 @@ ghost use Rattle.fibs_show.specs.Escape.{escaped};
 ghost use Rattle.fibs_show.specs.Show.{reading_text, ShownLine};
 
 use super::escape::{append_escaped, escape_from};
+use super::malformed::malformed_text;
 use fibs_lines::Line;
 use fibs_messages::{Board, Fault, Message, Reading, print_message, read};
 use itoa::{Buffer, Integer};
@@ -31,15 +30,9 @@ fn append_malformed(
     fault: Fault,
     text: &mut Vec<u8>,
 ) -> Result<(), AllocError>
-    ensures { OnOk result (text.new.items ≡ text.old.items
-        ++ (codes "malformed " ++ (decimal number ++ (32 ∷ (decimal field ++ (32 ∷ fault_name fault)))))) }
+    ensures { OnOk result (text.new.items ≡ text.old.items ++ reading_text (malformed_line number field fault)) }
 {
-    text.extend_from_slice(b"malformed ")?;
-    append_number(number, text)?;
-    text.push(b' ')?;
-    append_number(field, text)?;
-    text.push(b' ')?;
-    text.extend_from_slice(fault.name().as_bytes())
+    text.extend_from_slice(malformed_text(number, field, fault).as_slice())
 }
 
 /// Appends what is printed for a message. It is not inlined, since room for its largest values is cleared at each call.

@@ -15,7 +15,7 @@ returns-in_ok-print_line-in-None-clause-ended g c = λ p t at wrote players. rec
 
 pub returns-in_ok-print_line-in-Some-clause-ended : goal.returns-in_ok-print_line-in-Some-clause-ended
 returns-in_ok-print_line-in-Some-clause-ended g c = λ p t at wrote players.
-    let text = ap (λ x. line_bytes (codes "lost " ++ x)) (c.text_bytes.ensures ∙ c.asked_command.ensures) ∙ sym (append-nil _) in
+    let text = ap (λ x. line_bytes (codes "lost " ++ x)) (c.text_bytes.ensures.value ∙ c.asked_command.ensures) ∙ sym (append-nil _) in
     let printed = subst (Appends (g.W.Write.contents c.args.out.now) (g.W.Write.contents c.print_line-in-Some.new.out)) text c.in_ok-print_line-in-Some.ensures in
     record {
       did = did_alone _ _ (only_print (lost_line (option_map ask_of c.lose-waited.result))) (Appends-nil wrote) (rw c.in-Some.is printed) (notes_nothing players);

@@ -3,7 +3,7 @@ use Rattle.std.specs.Io.KnownBytes.{Consumes}
 use Rattle.std.proofs.KnownBytes.{Consumes-nil, Consumes-trans, Consumes-kept, Keeps-refl}
 use Rattle.fibs_session.specs.History.Machine.{Piece, step}
 use Rattle.fibs_exchange.specs.declared.exchange.Ending.TheVariants.{Quiet}
-use Rattle.fibs_show.specs.declared.writing.Progress.TheVariants.{Whole, Broken}
+use Rattle.fibs_show.specs.Writing.{Whole, Broken}
 use Rattle.fibs_exchange.specs.Turns.Script.{outside}
 use Rattle.fibs_exchange.proofs.TurnLemmas.Wrote.{if_ok_weaker, consumes_none}
 use Rattle.fibs_exchange.proofs.TurnLemmas.Turns.{gone_nothing, gone_kept, gone_portion, broke_portion, still_open, turned}
@@ -42,16 +42,16 @@ returns-in-Err-2-clause-turned g c =
     (gone_kept t _ i.0 _ _ _ gone c.receive.ensures.apart c.flush.ensures.bytes refl) (h Whole (step t (Piece i.0)).talk gone.stands _ _))
     c.end_connection-in-Err-2.ensures.ended
 
-pub returns-in-Broken-clause-turned : goal.returns-in-Broken-clause-turned
-returns-in-Broken-clause-turned g c =
+pub returns-in-Err-Stream-clause-turned : goal.returns-in-Err-Stream-clause-turned
+returns-in-Err-Stream-clause-turned g c =
     let i = c.loop-made.invariant in
     let piece = take c.in-Ok.count c.receive.new.buf in
     let took = Consumes-trans _ _ _ i.0 piece i.1 (Consumes-kept _ _ _ piece c.in-Ok.ensures.bytes.0 c.hear_portion.ensures.apart) in
-    if_ok_weaker c.end_connection-in-Broken.result
+    if_ok_weaker c.end_connection-in-Err-Stream.result
     (λ e h t at on.
     let gone = gone_kept t _ i.0 _ _ _ (i.2 t at) c.receive.ensures.apart c.flush.ensures.bytes refl in
-    let talked = broke_portion c.pieces_join.ensures c.lines_only_grow.ensures t _ _ i.0 piece _ _ _ on gone (rw c.in-Broken.is at c.in_ok-hear_portion.ensures.talked (step t (Piece i.0)).talk gone.stands) in
-    turned Broken e t _ _ _ _ (i.0 ++ piece) _ _ _ on took talked (h Broken (step t (Piece talked.fed)).talk talked.stands _ _)) c.end_connection-in-Broken.ensures.ended
+    let talked = broke_portion c.pieces_join.ensures c.lines_only_grow.ensures t _ _ i.0 piece _ _ _ on gone ((rw c.in-Err-Stream.field-0-is at c.in-Err-Stream.ensures.talked) (step t (Piece i.0)).talk gone.stands) in
+    turned Broken e t _ _ _ _ (i.0 ++ piece) _ _ _ on took talked (h Broken (step t (Piece talked.fed)).talk talked.stands _ _)) c.end_connection-in-Err-Stream.ensures.ended
 
 pub loop-made-preserved : goal.loop-made-preserved
 loop-made-preserved g c =
@@ -62,7 +62,7 @@ loop-made-preserved g c =
       Consumes-trans _ _ _ i.0 piece i.1 (Consumes-kept _ _ _ piece c.in-Ok.ensures.bytes.0 c.hear_portion.ensures.apart),
       λ t at.
           let gone = gone_kept t _ i.0 _ _ _ (i.2 t at) c.receive.ensures.apart c.flush.ensures.bytes refl in
-          gone_portion c.pieces_join.ensures c.lines_only_grow.ensures t _ _ i.0 piece _ _ _ gone (rw c.in-Whole.is at c.in_ok-hear_portion.ensures.talked (step t (Piece i.0)).talk gone.stands),
+          gone_portion c.pieces_join.ensures c.lines_only_grow.ensures t _ _ i.0 piece _ _ _ gone (c.in-Ok-hear_portion.ensures.talked (step t (Piece i.0)).talk gone.stands),
       more_read _ _ i.0 c.in-Ok.count c.receive.new.buf i.3 (whole ∙ i.4),
       whole ∙ i.4,
     )
@@ -105,10 +105,9 @@ returns-in-Err-2-clause-stopped g c =
     (gone_kept t _ i.0 _ _ here gone c.receive.ensures.apart (Keeps-refl _) refl)
     (inr (refl, c.end_connection-in-Err-2.ensures.lost (step t (Piece i.0)).talk gone.stands)))
 
-pub returns-in_err-hear_portion-clause-stopped : goal.returns-in_err-hear_portion-clause-stopped
-returns-in_err-hear_portion-clause-stopped g c =
-    on_any_err c.from_residual-in_err-hear_portion.result
-    (λ t at on.
+pub returns-in-Err-Output-clause-stopped : goal.returns-in-Err-Output-clause-stopped
+returns-in-Err-Output-clause-stopped g c =
+    λ t at on.
     let i = c.loop-made.invariant in
     let piece = take c.in-Ok.count c.receive.new.buf in
     let took =
@@ -116,22 +115,22 @@ returns-in_err-hear_portion-clause-stopped g c =
     let here = outside (g.S.Write.contents c.receive.new.self) (g.W.Write.contents c.loop-made.out) c.loop-made.directory in
     let gone = gone_kept t _ i.0 _ _ here (i.2 t at) c.receive.ensures.apart (Keeps-refl _) refl in
     stopped_portion c.pieces_join.ensures c.lines_only_grow.ensures t _ _ _ _ i.0 piece _ here _ on took gone
-    (c.in_err-hear_portion.ensures.stopped (step t (Piece i.0)).talk gone.stands))
+    ((rw c.in-Err-Output.field-0-is at c.in-Err-Output.ensures.stopped) (step t (Piece i.0)).talk gone.stands)
 
-pub returns-in-Broken-clause-stopped : goal.returns-in-Broken-clause-stopped
-returns-in-Broken-clause-stopped g c =
+pub returns-in-Err-Stream-clause-stopped : goal.returns-in-Err-Stream-clause-stopped
+returns-in-Err-Stream-clause-stopped g c =
     let i = c.loop-made.invariant in
     let piece = take c.in-Ok.count c.receive.new.buf in
     let took =
     Consumes-trans _ _ _ i.0 piece i.1 (Consumes-kept _ _ _ piece c.in-Ok.ensures.bytes.0 c.hear_portion.ensures.apart) in
-    on_any_err c.end_connection-in-Broken.result
+    on_any_err c.end_connection-in-Err-Stream.result
     (λ t at on.
     let gone = gone_kept t _ i.0 _ _ _ (i.2 t at) c.receive.ensures.apart c.flush.ensures.bytes refl in
     let talked =
     broke_portion c.pieces_join.ensures c.lines_only_grow.ensures t _ _ i.0 piece _ _ _ on gone
-    (rw c.in-Broken.is at c.in_ok-hear_portion.ensures.talked (step t (Piece i.0)).talk gone.stands) in
+    ((rw c.in-Err-Stream.field-0-is at c.in-Err-Stream.ensures.talked) (step t (Piece i.0)).talk gone.stands) in
     stopped_broken t _ _ _ _ (i.0 ++ piece) _ _ on took talked
-    (c.end_connection-in-Broken.ensures.lost (step t (Piece talked.fed)).talk talked.stands))
+    (c.end_connection-in-Err-Stream.ensures.lost (step t (Piece talked.fed)).talk talked.stands))
 
 pub returns-in-Err-clause-few : goal.returns-in-Err-clause-few
 returns-in-Err-clause-few g c =
@@ -143,15 +142,15 @@ returns-in-Err-2-clause-few g c =
     let i = c.loop-made.invariant in
     few_and_none c.loop-made.made c.args.reads _ _ _ _ i.0 i.1 i.3 c.loop-made-test.true c.in-Err-2.ensures.bytes
 
-pub returns-in_err-hear_portion-clause-few : goal.returns-in_err-hear_portion-clause-few
-returns-in_err-hear_portion-clause-few g c =
+pub returns-in-Err-Output-clause-few : goal.returns-in-Err-Output-clause-few
+returns-in-Err-Output-clause-few g c =
     let i = c.loop-made.invariant in
     let whole : length c.receive.new.buf ≡ length c.loop-made.portion = search rules in
     few_and_portion c.loop-made.made c.args.reads _ _ _ _ _ i.0 c.in-Ok.count c.receive.new.buf i.1 i.3 c.loop-made-test.true (whole ∙ i.4)
     c.in-Ok.ensures.bytes.0 c.hear_portion.ensures.apart
 
-pub returns-in-Broken-clause-few : goal.returns-in-Broken-clause-few
-returns-in-Broken-clause-few g c =
+pub returns-in-Err-Stream-clause-few : goal.returns-in-Err-Stream-clause-few
+returns-in-Err-Stream-clause-few g c =
     let i = c.loop-made.invariant in
     let whole : length c.receive.new.buf ≡ length c.loop-made.portion = search rules in
     few_and_portion c.loop-made.made c.args.reads _ _ _ _ _ i.0 c.in-Ok.count c.receive.new.buf i.1 i.3 c.loop-made-test.true (whole ∙ i.4)

@@ -1,5 +1,5 @@
 use Rattle.std.proofs.Common.{None, inl, refl}
-use Rattle.fibs_show.specs.declared.writing.Progress.TheVariants.{Whole}
+use Rattle.fibs_show.specs.Writing.{Whole}
 use Rattle.fibs_exchange.proofs.TurnLemmas.Turns.{turned_nothing, turned_offline}
 use Rattle.fibs_exchange.proofs.TurnLemmas.Stops.{on_any_err, stopped_here}
 use Rattle.fibs_exchange.proofs.exchange.talk_offline.Goals as goal

@@ -4,7 +4,9 @@ use Rattle.fibs_messages.proofs.LineLemmas.ReadingValues.{has_one_number, reads_
 use Rattle.fibs_messages.proofs.line.message_number.Goals as goal
 
 pub returns-clause-number : goal.returns-clause-number
-returns-clause-number c = has_one_number c.args.line.now _ (sym (c.number_of.ensures.value ∙ ap number_word c.split.ensures.before))
+returns-clause-number c =
+    has_one_number c.args.line.now _ (sym (c.number_of.ensures.value ∙ ap number_word c.split.ensures.before))
 
 pub returns-clause-reading : goal.returns-clause-reading
-returns-clause-reading c = reads_any_number c.args.line.now _ (sym (c.number_of.ensures.value ∙ ap number_word c.split.ensures.before))
+returns-clause-reading c =
+    reads_any_number c.args.line.now _ (sym (c.number_of.ensures.value ∙ ap number_word c.split.ensures.before))

@@ -1,6 +1,5 @@
-use Rattle.std.proofs.Common.{rules, ◌≡◌, ◌≤◌, ◌<◌, ◌++◌, ℕ, List, [], arith, sym, subst, ap, ◌∙◌, take, length}
+use Rattle.std.proofs.Common.{rules, ◌≡◌, ◌<◌, ◌++◌, [], arith, sym, subst, ap, ◌∙◌, take, length}
 use Rattle.std.specs.Io.KnownBytes.{Appends, Consumes}
-use Rattle.std.proofs.lemmas.List.{length-take}
 use Rattle.fibs_show.specs.Show.{WroteLinesOf}
 use Rattle.fibs_show.specs.Writing.{GainedFront}
 use Rattle.fibs_show.proofs.ShowLemmas.{passed_more, passed_part, passed_front, passed_whole, passed_whole_front}
@@ -61,17 +60,17 @@ returns-in_err-append_portion-clause-few g c =
     passed_few _ _ _ _ _ _ _ piece _ _ _ c.loop-made.invariant.0 c.in-Ok.ensures.bytes.0 (portion_part c.in-Ok.count c.read.new.buf _ (whole ∙ c.loop-made.invariant.1))
     c.loop-made-test.true
 
-pub returns-in_err-write_text-clause-writer : goal.returns-in_err-write_text-clause-writer
-returns-in_err-write_text-clause-writer g c = λ _.
+pub returns-in_err-write_bytes-clause-writer : goal.returns-in_err-write_bytes-clause-writer
+returns-in_err-write_bytes-clause-writer g c = λ _.
     let shown = c.in_ok-append_portion.ensures in
     let before = g.W.Write.contents c.loop-made.writer in
-    let after = g.W.Write.contents c.write_text.new.writer in
-    let text : c.append_portion.new.text.items ≡ shown.0 = shown.1 ∙ ap (λ l. l ++ shown.0) c.loop-made.invariant.0.clear in
-    let broke : GainedFront before after shown.0 = subst (GainedFront before after) text c.in_err-write_text.ensures.1 in
+    let after = g.W.Write.contents c.write_bytes.new.writer in
+    let text : c.as_slice.result.now ≡ shown.0 = c.as_slice.ensures.value ∙ shown.1 ∙ ap (λ l. l ++ shown.0) c.loop-made.invariant.0.clear in
+    let broke : GainedFront before after shown.0 = subst (GainedFront before after) text c.in_err-write_bytes.ensures in
     passed_front _ _ _ _ _ _ _ _ _ _ shown.0 _ _ c.loop-made.invariant.0 c.in-Ok.ensures.bytes.0 shown.2 broke
 
-pub returns-in_err-write_text-clause-few : goal.returns-in_err-write_text-clause-few
-returns-in_err-write_text-clause-few g c =
+pub returns-in_err-write_bytes-clause-few : goal.returns-in_err-write_bytes-clause-few
+returns-in_err-write_bytes-clause-few g c =
     let piece = take c.in-Ok.count c.read.new.buf in
     let whole : length c.read.new.buf ≡ length c.loop-made.portion = search rules in
     passed_few _ _ _ _ _ _ _ piece _ _ _ c.loop-made.invariant.0 c.in-Ok.ensures.bytes.0 (portion_part c.in-Ok.count c.read.new.buf _ (whole ∙ c.loop-made.invariant.1))
@@ -83,9 +82,9 @@ loop-made-preserved g c =
     let whole : length c.read.new.buf ≡ length c.loop-made.portion = search rules in
     let shown = c.in_ok-append_portion.ensures in
     let before = g.W.Write.contents c.loop-made.writer in
-    let after = g.W.Write.contents c.write_text.new.writer in
-    let text : c.append_portion.new.text.items ≡ shown.0 = shown.1 ∙ ap (λ l. l ++ shown.0) c.loop-made.invariant.0.clear in
-    let wrote : Appends before after shown.0 = subst (Appends before after) text c.in_ok-write_text.ensures in
+    let after = g.W.Write.contents c.write_bytes.new.writer in
+    let text : c.as_slice.result.now ≡ shown.0 = c.as_slice.ensures.value ∙ shown.1 ∙ ap (λ l. l ++ shown.0) c.loop-made.invariant.0.clear in
+    let wrote : Appends before after shown.0 = subst (Appends before after) text c.in_ok-write_bytes.ensures in
     let some : 0 < length piece = portion_some c.in-Ok.count c.read.new.buf c.in-Ok.count-test.1 c.in-Ok.ensures.bound.0 in (
       passed_more _ _ _ _ _ _ _ _ _ _ shown.0 _ _ _ c.loop-made.invariant.0 c.in-Ok.ensures.bytes.0 some
           (portion_part c.in-Ok.count c.read.new.buf _ (whole ∙ c.loop-made.invariant.1)) shown.2 wrote c.clear.ensures.items,

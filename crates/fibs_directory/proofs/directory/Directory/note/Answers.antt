@@ -4,11 +4,13 @@ use Rattle.fibs_directory.proofs.directory.Directory.note.Goals as goal
 
 pub returns-in_ok-set-in-WhoInfo-clause-noted : goal.returns-in_ok-set-in-WhoInfo-clause-noted
 returns-in_ok-set-in-WhoInfo-clause-noted c =
-    noted_who_info c.args.message.now c.in-WhoInfo.info c.args.self.now c.set.new.self c.in-WhoInfo.is c.in_ok-set-in-WhoInfo.ensures.set
+    noted_who_info c.args.message.now
+    c.in-WhoInfo.info c.args.self.now c.set.new.self c.in-WhoInfo.is c.in_ok-set-in-WhoInfo.ensures.set
 
 pub returns-in-Logout-clause-noted : goal.returns-in-Logout-clause-noted
 returns-in-Logout-clause-noted c =
-    noted_logged_out c.args.message.now c.in-Logout.name c.in-Logout.text c.bytes-in-Logout.result.now c.args.self.now c.remove.new.self
+    noted_logged_out c.args.message.now
+    c.in-Logout.name c.in-Logout.text c.bytes-in-Logout.result.now c.args.self.now c.remove.new.self
     c.in-Logout.is c.bytes-in-Logout.ensures.value c.remove.ensures
 
 pub returns-in_default : goal.returns-in_default

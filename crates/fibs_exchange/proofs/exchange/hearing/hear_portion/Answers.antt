@@ -9,13 +9,14 @@ use Rattle.fibs_session.specs.Calls.Feeding.{FeedAnswers, Shows}
 use Rattle.fibs_session.specs.Calls.SessionOf.{taken_of}
 use Rattle.fibs_exchange.specs.Turns.Lines.{taken_act, piece_acts}
 use Rattle.fibs_exchange.specs.Turns.Script.{Did, outside, calls_of}
-use Rattle.fibs_show.specs.declared.writing.Progress.TheVariants.{Whole, Broken}
+use Rattle.fibs_show.specs.Writing.{Whole, Broken}
 use Rattle.fibs_exchange.proofs.TurnLemmas.Wrote.{front_more}
 use Rattle.fibs_exchange.proofs.TurnLemmas.Scripts.{did_nothing}
 use Rattle.fibs_exchange.proofs.TurnLemmas.Hearing.{taken_acts, acts_taken, taken_online, ends_taken, piece_online}
 use Rattle.fibs_exchange.proofs.TurnLemmas.Turns.{gone_nothing, gone_more, broke_at}
-use Rattle.fibs_exchange.proofs.TurnLemmas.Stops.{on_any_err, line_behind}
-use Rattle.fibs_exchange.proofs.exchange.hearing.hear_portion.Goals.{in-Some+in_ok-hear_line-in-Some+in-Whole, in-None}
+use Rattle.fibs_exchange.proofs.TurnLemmas.Stops.{line_behind}
+use Rattle.fibs_exchange.proofs.TurnLemmas.Faults.{printed_on, unprinted_on}
+use Rattle.fibs_exchange.proofs.exchange.hearing.hear_portion.Goals.{in-Some+in_ok-hear_line-in-Some, in-None}
 use Rattle.fibs_exchange.proofs.exchange.hearing.hear_portion.Goals as goal
 
 long : (n : ℕ) (xs : List ℕ) → 0 < n → n ≤ length xs → 0 < length (take n xs)
@@ -24,8 +25,13 @@ long n xs h k = omega (arith, h, k, length-take n xs)
 pub loop-rest-init : goal.loop-rest-init
 loop-rest-init g c = ([], refl, λ t at. gone_nothing c.empty_piece_is_nothing.ensures t _ _ at, Keeps-refl _)
 
-pub returns-in-Broken-clause-talked : goal.returns-in-Broken-clause-talked
-returns-in-Broken-clause-talked g c = λ t at.
+pub returns-in_err-hear_line-in-Some-clause-talked : goal.returns-in_err-hear_line-in-Some-clause-talked
+returns-in_err-hear_line-in-Some-clause-talked g c =
+    printed_on c.from_residual.result
+    (λ p. Did (outside (g.S.Write.contents c.loop-rest.stream) (g.W.Write.contents c.loop-rest.out) c.loop-rest.directory)
+    (outside (g.S.Write.contents c.hear_line.new.stream) (g.W.Write.contents c.hear_line.new.out) c.hear_line.new.directory)
+    (taken_act (taken_of c.in-Some.taken) ∷ []) p) _ _ c.from_residual.ensures.1
+    (λ did t at.
     let i = c.loop-rest.invariant in
     let rest = c.loop-rest.rest.now in
     let used = c.read-heard.result.used in
@@ -39,12 +45,12 @@ returns-in-Broken-clause-talked g c = λ t at.
     (c.read-heard.ensures.does.stands u gone.stands) (acts_taken c.loop-rest.client rest used (Some k) fed u gone.stands)
     (ends_taken c.loop-rest.client rest used k fed c.read-heard.ensures.in_range u gone.stands)
     (long used rest (c.read-heard.ensures.progress (grind (arith, c.is_empty.ensures, c.loop-rest-test.true))) c.read-heard.ensures.in_range)
-    (rw c.in-Broken.is at c.in_ok-hear_line-in-Some.ensures.did)
+    did) c.in_err-hear_line-in-Some.ensures.did
 
 pub returns-in_err-hear_line-in-Some-clause-stopped : goal.returns-in_err-hear_line-in-Some-clause-stopped
 returns-in_err-hear_line-in-Some-clause-stopped g c =
-    on_any_err c.from_residual.result
-    (λ t at.
+    unprinted_on c.from_residual.result _ _ _ c.from_residual.ensures.1
+    (λ wrote t at.
     let i = c.loop-rest.invariant in
     let rest = c.loop-rest.rest.now in
     let used = c.read-heard.result.used in
@@ -66,7 +72,7 @@ returns-in_err-hear_line-in-Some-clause-stopped g c =
     (c.read-heard.ensures.does.stands u gone.stands)
     (ends_taken c.loop-rest.client rest used k fed c.read-heard.ensures.in_range u gone.stands)
     (long used rest (c.read-heard.ensures.progress (grind (arith, c.is_empty.ensures, c.loop-rest-test.true)))
-    c.read-heard.ensures.in_range) (subst (Appends before after) calls c.in_err-hear_line-in-Some.ensures.stopped))
+    c.read-heard.ensures.in_range) (subst (Appends before after) calls wrote)) c.in_err-hear_line-in-Some.ensures.stopped
 
 pub loop-rest-preserved : goal.loop-rest-preserved
 loop-rest-preserved g c =
@@ -80,11 +86,11 @@ loop-rest-preserved g c =
     let before = outside (g.S.Write.contents c.loop-rest.stream) (g.W.Write.contents c.loop-rest.out) c.loop-rest.directory in
     let now = outside (g.S.Write.contents c.match-got.stream) (g.W.Write.contents c.match-got.out) c.match-got.directory in
     let did : Did before now (taken_acts taken) Whole = elim c.match-got.branch [
-      | in-Some+in_ok-hear_line-in-Some+in-Whole w ↦ rw (w.directory-is, w.stream-is, w.out-is, w.in-Some.is) (rw w.in-Whole.is at w.in_ok-hear_line-in-Some.ensures.did)
+      | in-Some+in_ok-hear_line-in-Some w ↦ rw (w.directory-is, w.stream-is, w.out-is, w.in-Some.is) w.in_ok-hear_line-in-Some.ensures.did
       | in-None w ↦ rw (w.directory-is, w.stream-is, w.out-is, w.in-None.is) (did_nothing _)
     ] in
     let apart : Keeps (g.S.Read.remaining c.loop-rest.stream) (g.S.Read.remaining c.match-got.stream) = elim c.match-got.branch [
-      | in-Some+in_ok-hear_line-in-Some+in-Whole w ↦ rw w.stream-is w.hear_line.ensures.apart
+      | in-Some+in_ok-hear_line-in-Some w ↦ rw w.stream-is w.hear_line.ensures.apart
       | in-None w ↦ rw w.stream-is (Keeps-refl _)
     ] in (
       i.0 ++ take used rest,

@@ -27,7 +27,7 @@ invariant_of-self-2 c =
     kept_on c.self.inside _ e c.self.invariant
     (served_stands c.servers_entries_are_silent.ensures (world_of c.self.inside) _ c.args.conn d1 d2 _ _
     (takes_after _ _ _ _ _ c.args.conn d1 d2 _ c.make_room.ensures.same c.take_next-served.ensures.takes) c.answer_line.ensures.value
-    (note_after _ _ _ _ _ c.args.conn _ c.reserve.ensures.items c.board-board.ensures.value (c.note_served.ensures _)) refl refl
+    (note_after _ _ _ _ _ _ c.args.conn _ c.reserve.ensures.items c.board-board.ensures.value c.note.ensures.items (c.entry.ensures _)) refl refl
     (may_seen _ _ e c.self.view_is c.requires.may))
     (omega (arith, all, c.answer_line.ensures.len, c.take_next-served.ensures.len, c.make_room.ensures.len, c.self.invariant.known))
 
@@ -39,5 +39,5 @@ returns-clause-ok c =
     goes_seen _ _ _ e c.self.view_is
     (served_stands c.servers_entries_are_silent.ensures (world_of c.self.inside) _ c.args.conn d1 d2 _ _
     (takes_after _ _ _ _ _ c.args.conn d1 d2 _ c.make_room.ensures.same c.take_next-served.ensures.takes) c.answer_line.ensures.value
-    (note_after _ _ _ _ _ c.args.conn _ c.reserve.ensures.items c.board-board.ensures.value (c.note_served.ensures _)) refl refl
+    (note_after _ _ _ _ _ _ c.args.conn _ c.reserve.ensures.items c.board-board.ensures.value c.note.ensures.items (c.entry.ensures _)) refl refl
     (may_seen _ _ e c.self.view_is c.requires.may))

@@ -6,4 +6,5 @@ use Rattle.fibs_session.proofs.client.run.append_all.Given as goal
 -- what is still to be written stands behind what was written
 abbrev pub invariant-loop-command : goal.invariant-loop-command
 invariant-loop-command l =
-    l.out.items ++ wire_of (texts_of (drop l.command-index l.commands)) ≡ l.fn.out.items ++ wire_of (texts_of l.commands)
+    l.out.items ++ wire_of (texts_of (drop l.command-index l.commands))
+    ≡ l.fn.out.items ++ wire_of (texts_of l.commands)

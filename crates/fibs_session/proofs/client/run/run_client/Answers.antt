@@ -11,11 +11,13 @@ loop-input-preserved c =
     let i = c.loop-input.input-index in
     let all = Out (login_of c.args.login) (map input_of xs) in
     goes_on _ _ _ _ (input_of c.input-item.result) _ all
-    (subst (λ later. Going c.loop-input.client c.loop-input.out.items later all) (next input_of xs i c.input-item.result c.input-item.is c.loop-input-test.true) c.loop-input.invariant)
+    (subst (λ later. Going c.loop-input.client c.loop-input.out.items later all)
+    (next input_of xs i c.input-item.result c.input-item.is c.loop-input-test.true) c.loop-input.invariant)
     c.in_ok-take_input.ensures
 
 pub returns : goal.returns
 returns c =
     let xs = c.args.inputs.now in
     let all = Out (login_of c.args.login) (map input_of xs) in
-    ends _ _ all (subst (λ later. Going c.loop-input.client c.loop-input.out.items later all) (none_left input_of xs c.loop-input.input-index c.loop-input-test.false) c.loop-input.invariant)
+    ends _ _ all (subst (λ later. Going c.loop-input.client c.loop-input.out.items later all)
+    (none_left input_of xs c.loop-input.input-index c.loop-input-test.false) c.loop-input.invariant)

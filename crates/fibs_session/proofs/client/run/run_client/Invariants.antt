@@ -7,4 +7,5 @@ use Rattle.fibs_session.proofs.client.run.run_client.Given as goal
 
 -- the inputs that are left give the bytes that are left
 abbrev pub invariant-loop-input : goal.invariant-loop-input
-invariant-loop-input l = Going l.client l.out.items (map input_of (drop l.input-index l.inputs)) (Out (login_of l.fn.login) (map input_of l.inputs))
+invariant-loop-input l = Going l.client
+    l.out.items (map input_of (drop l.input-index l.inputs)) (Out (login_of l.fn.login) (map input_of l.inputs))

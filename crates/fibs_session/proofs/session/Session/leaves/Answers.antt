@@ -12,4 +12,5 @@ returns c = λ unheard.
     let likeness : IsLikeness same_game = record { like_itself = s.itself; like_back = s.back; like_on = s.on } in
     let v = session_of c.args.self.now in
     let same = sym (c.is_unheard.ensures unheard v) in
-    line_hears likeness v (value_of c.args.line.now) v [] None (ap (λ h. h.session) same) (ap (λ h. h.send) same) (ap (λ h. h.confirmed) same)
+    line_hears likeness v (value_of c.args.line.now)
+    v [] None (ap (λ h. h.session) same) (ap (λ h. h.send) same) (ap (λ h. h.confirmed) same)
