@@ -19,8 +19,8 @@ use std::marker::Model;
 /// A wire one way: bytes are put at its end and taken at its front, and it has those on their way.
 ///
 /// Bytes that were taken go when they are more than those on their way, which are then moved to the front: fewer bytes
-/// than were taken since the last time. So all moves together are of fewer bytes than were taken, and beside the bytes on
-/// their way a wire holds at most as many that were taken.
+/// than were taken since the last time. So all moves together are of fewer bytes than were taken, and beside the bytes
+/// on their way a wire holds at most as many that were taken.
 #[derive(Drop)]
 pub struct Wire {
     bytes: Vec<u8>,
@@ -142,8 +142,8 @@ impl Wire {
         }
     }
 
-    /// All but the first `kept` bytes are lost. A wire that has none left holds no memory; of that of any other the part
-    /// that it needs no longer is given back where a smaller piece can be had.
+    /// All but the first `kept` bytes are lost. A wire that has none left holds no memory; of that of any other the
+    /// part that it needs no longer is given back where a smaller piece can be had.
     pub fn cut(&mut self, kept: usize)
         ensures items { self.new.items ≡ take kept self.old.items }
         ensures freed { self.new.items ≡ [] → self.new.room ≡ 0 }

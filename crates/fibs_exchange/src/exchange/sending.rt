@@ -51,7 +51,8 @@ fn wire_line(command: &CommandText) -> WireLine
 
 /// Writes a command and its line end, by one write where the stream takes all of it.
 pub fn send_command<S: Link>(command: &CommandText, stream: &mut S) -> Result<(), Broken>
-    ensures wrote { Wrote (progress_of result) (S.contents stream.old) (S.contents stream.new) (on_wire (text_of command.now)) }
+    ensures wrote { Wrote (progress_of result) (S.contents stream.old) (S.contents stream.new)
+        (on_wire (text_of command.now)) }
     ensures apart { Keeps (S.remaining stream.old) (S.remaining stream.new) }
 {
     send_bytes(wire_line(command).as_slice(), stream)
@@ -59,7 +60,8 @@ pub fn send_command<S: Link>(command: &CommandText, stream: &mut S) -> Result<()
 
 /// Writes the commands in order.
 pub(super) fn send_commands<S: Link>(commands: &[CommandText], stream: &mut S) -> Result<(), Broken>
-    ensures wrote { Wrote (progress_of result) (S.contents stream.old) (S.contents stream.new) (wire_of (texts_of commands.now)) }
+    ensures wrote { Wrote (progress_of result) (S.contents stream.old) (S.contents stream.new)
+        (wire_of (texts_of commands.now)) }
     ensures apart { Keeps (S.remaining stream.old) (S.remaining stream.new) }
 {
     for command in commands {

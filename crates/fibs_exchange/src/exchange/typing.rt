@@ -7,10 +7,12 @@ ghost use Rattle.fibs_messages.specs.Message.{MessageValue};
 ghost use Rattle.fibs_commands.specs.CommandReading.{read_command};
 ghost use Rattle.fibs_commands.specs.PlainReading.{read_plain};
 ghost use Rattle.fibs_exchange.specs.Turns.Acts.{line_bytes, text_of_lines};
-ghost use Rattle.fibs_exchange.specs.Turns.Answering.{typed_value, complaint_line, answered_act, IfPrinted, IfUnprinted};
+ghost use Rattle.fibs_exchange.specs.Turns.Answering.{typed_value, complaint_line, answered_act};
+ghost use Rattle.fibs_exchange.specs.Turns.Answering.{IfPrinted, IfUnprinted};
 ghost use Rattle.fibs_exchange.specs.Turns.Script.{Did, outside};
 ghost use Rattle.fibs_exchange.specs.Turns.Turn.{FitsStream};
-ghost use Rattle.fibs_exchange.specs.Turns.Typing.{shown_direction, typed_as, typed_now, typed_step, typed_act, plain_label};
+ghost use Rattle.fibs_exchange.specs.Turns.Typing.{shown_direction, typed_as, typed_now, typed_step, typed_act};
+ghost use Rattle.fibs_exchange.specs.Turns.Typing.{plain_label};
 ghost use Rattle.fibs_show.specs.Writing.{Whole};
 
 use super::ExchangeFault;

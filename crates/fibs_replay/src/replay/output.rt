@@ -59,7 +59,8 @@ pub fn refused_line(done: usize, why: WorldRefusal) -> LastLine
 /// Makes room for so many bytes more: where there is less, the text is written.
 fn make_room<W: Write>(text: &mut Portion, room: usize, writer: &mut W) -> Result<(), Broken>
     requires { room ≤ portion_len }
-    ensures { MadeRoom (progress_of result) room (W.contents writer.old) (W.contents writer.new) text.old.items text.new.items }
+    ensures { MadeRoom (progress_of result) room (W.contents writer.old) (W.contents writer.new)
+        text.old.items text.new.items }
 {
     if text.remaining_capacity() < room {
         write_bytes(text.as_slice(), writer)?;
