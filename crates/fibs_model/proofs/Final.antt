@@ -40,7 +40,7 @@ use Rattle.fibs_model.proofs.log.Told.{Told, AllAllowed, told_plain, told_no, to
 use Rattle.fibs_commands.specs.PlainCommands.{PlainValue}
 use Rattle.fibs_session.specs.History.Hearing.{line_reading}
 use Rattle.fibs_boards.specs.Board.{spelling}
-use Rattle.fibs_session.specs.History.Machine.{allows}
+use Rattle.fibs_session.specs.History.Allows.{allows}
 use Rattle.fibs_position.specs.GamePart.{same_game}
 use Rattle.fibs_position.specs.GoodBoard.{good as is_good}
 use Rattle.std.proofs.lemmas.Bool.Decides.{nat_tests}

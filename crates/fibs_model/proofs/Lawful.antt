@@ -14,7 +14,8 @@ use Rattle.fibs_commands.specs.FirstCommands.{style_text}
 use Rattle.fibs_session.specs.History.Hearing.{initial_commands}
 use Rattle.fibs_session.specs.History.Words.{IsLikeness}
 use Rattle.fibs_session.specs.History.Hearing.{line_reading}
-use Rattle.fibs_session.specs.History.Machine.{allows, on_wire}
+use Rattle.fibs_session.specs.History.Allows.{allows}
+use Rattle.fibs_session.specs.History.Machine.{on_wire}
 use Rattle.fibs_model.specs.Server.{is_die, user_decides, effect, decision_in, command}
 
 -- the bytes hold no CR

@@ -20,7 +20,8 @@ use Rattle.fibs_session.specs.History.Hearing.{Heard, heard, line_reading}
 use Rattle.fibs_session.specs.History.Machine.{Talk, Step, InputValue, step, noted as talk_noted, does, stays}
 use Rattle.fibs_session.specs.History.Machine.{is_online, opens, opened, loses, reads, with_bytes}
 use Rattle.fibs_session.specs.History.Machine.{hears_all as talk_hears_all, clicks_by, decides_on}
-use Rattle.fibs_session.specs.History.Machine.{sends_plain as talk_sends_plain, plain_refusal, unconfirmed_now, allows}
+use Rattle.fibs_session.specs.History.Allows.{allows}
+use Rattle.fibs_session.specs.History.Machine.{sends_plain as talk_sends_plain, plain_refusal, unconfirmed_now}
 use Rattle.fibs_session.specs.History.Machine.{gained, on_wire, wire_of}
 use Rattle.fibs_session.specs.History.Machine as M
 use Rattle.fibs_session.specs.Calls.Standing.{ClientValue, StandsAfter}

@@ -18,7 +18,8 @@ use Rattle.fibs_position.specs.declared.disallowed.Disallowed.{Disallowed}
 use Rattle.fibs_commands.specs.Commands.{command_of}
 use Rattle.fibs_commands.specs.CommandLaws.{IsOther}
 use Rattle.fibs_commands.specs.FirstCommands.{autoboard_text, moreboards_text, board_text}
-use Rattle.fibs_session.specs.History.Machine.{refusal_of, allows, on_wire}
+use Rattle.fibs_session.specs.History.Allows.{refusal_of, allows}
+use Rattle.fibs_session.specs.History.Machine.{on_wire}
 use Rattle.fibs_commands.specs.Logins.{IsLogin, login_text}
 use Rattle.fibs_model.specs.Events.{Event}
 use Rattle.fibs_model.specs.Headline.{Headline}

@@ -17,7 +17,8 @@ use Rattle.fibs_session.specs.declared.refusal.PlainRefusal.{PlainRefusal}
 use Rattle.fibs_session.specs.History.Hearing.{nothing_heard, flags_of, line_reading, Heard}
 use Rattle.fibs_session.specs.History.Log.{Entry, Opened, Welcomed, Informed, Shown, Clicked, Sent, Took, Undone, Lost}
 use Rattle.fibs_session.specs.History.Log as L
-use Rattle.fibs_session.specs.History.Machine.{allows, gained, on_wire, plain_refusal}
+use Rattle.fibs_session.specs.History.Allows.{allows}
+use Rattle.fibs_session.specs.History.Machine.{gained, on_wire, plain_refusal}
 use Rattle.fibs_session.specs.History.Words.{is_empty, last, open_now, shown, unconfirmed, answer}
 use Rattle.fibs_model.specs.Events.{Event, Open, Click, Plain, Deliver, Lose, Serve, Own, Repeat, Text}
 use Rattle.fibs_model.specs.Once.{taken_on, Leaves, Takes, NoneOwn}

@@ -14,7 +14,7 @@ use Rattle.fibs_position.specs.GoodBoard.{IsGood}
 use Rattle.fibs_session.specs.declared.refusal.Refusal.{Refusal}
 use Rattle.fibs_session.specs.History.Log.{Entry, Shown, Clicked, Sent, Took, Undone}
 use Rattle.fibs_session.specs.History.Words.{Ask, last, open_now, shown, sent, took, unconfirmed, answer}
-use Rattle.fibs_session.specs.History.Machine.{allows}
+use Rattle.fibs_session.specs.History.Allows.{allows}
 use Rattle.fibs_model.specs.Wires.{next_line}
 use Rattle.fibs_model.specs.World.{World}
 

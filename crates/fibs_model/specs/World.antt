@@ -14,7 +14,8 @@ use Rattle.fibs_session.specs.History.Log.{Entry}
 use Rattle.fibs_session.specs.History.Log as L
 use Rattle.fibs_session.specs.History.Words.{is_empty, last, open_now, shown, unconfirmed, answer}
 use Rattle.fibs_session.specs.History.Hearing.{Heard, heard, line_reading}
-use Rattle.fibs_session.specs.History.Machine.{Talk, allows, gained, on_wire, plain_refusal}
+use Rattle.fibs_session.specs.History.Allows.{allows}
+use Rattle.fibs_session.specs.History.Machine.{Talk, gained, on_wire, plain_refusal}
 use Rattle.fibs_model.specs.Wires.{Link, empty_link, next_line}
 use Rattle.fibs_model.specs.Server.{Served, Stale, LoggedIn, Took, Undone, Answered, answered, carried, obeyed, command}
 use Rattle.fibs_model.specs.Events.{Event, Open, Click, Plain, Deliver, Lose, Serve, Own, Repeat, Text}

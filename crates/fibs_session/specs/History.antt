@@ -2,6 +2,7 @@
 pub mod Log
 pub mod Words
 pub mod Asked
+pub mod Allows
 pub mod Hearing
 pub mod Refusals
 pub mod Machine

@@ -9,7 +9,8 @@ use Rattle.fibs_session.specs.declared.refusal.Refusal.{Refusal}
 use Rattle.fibs_session.specs.declared.refusal.PlainRefusal.{PlainRefusal}
 use Rattle.fibs_session.specs.History.Log.{Entry, Clicked, Sent}
 use Rattle.fibs_session.specs.History.Words.{open_now, answer}
-use Rattle.fibs_session.specs.History.Machine.{Talk, Step, answer_now, shown_now, allows, clicks_by, decides_on}
+use Rattle.fibs_session.specs.History.Allows.{allows}
+use Rattle.fibs_session.specs.History.Machine.{Talk, Step, answer_now, shown_now, clicks_by, decides_on}
 use Rattle.fibs_session.specs.History.Machine.{plain_refusal, sends_plain as talk_sends_plain, wire_of}
 use Rattle.fibs_session.specs.History.Machine as M
 use Rattle.fibs_session.specs.History.MachineLaws.{ServersEntriesAreSilent}

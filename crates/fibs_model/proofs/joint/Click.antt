@@ -26,7 +26,7 @@ use Rattle.fibs_model.proofs.joint.Joint.{View, view, Calm, Free, Live, Current,
 use Rattle.fibs_model.proofs.log.Lists.{to_list}
 use Rattle.fibs_model.proofs.joint.Joint.{linked_other, with_link, view_linked, joint_current}
 use Rattle.fibs_model.proofs.joint.Sending.{joint_noted, not_older, same_test}
-use Rattle.fibs_session.specs.History.Machine.{allows}
+use Rattle.fibs_session.specs.History.Allows.{allows}
 use Rattle.fibs_position.specs.GamePart.{same_game}
 use Rattle.fibs_position.specs.GoodBoard.{good as is_good}
 

@@ -12,7 +12,8 @@ use Rattle.fibs_position.specs.GamePart.{same_game}
 use Rattle.fibs_position.specs.GoodBoard.{good as is_good}
 use Rattle.fibs_session.specs.History.Log.{Entry, Took, Undone, Lost}
 use Rattle.fibs_session.specs.History.Log as L
-use Rattle.fibs_session.specs.History.Machine.{allows, gained, on_wire, plain_refusal}
+use Rattle.fibs_session.specs.History.Allows.{allows}
+use Rattle.fibs_session.specs.History.Machine.{gained, on_wire, plain_refusal}
 use Rattle.fibs_session.specs.History.Words.{Ask, is_empty, one_if, open_now, answer, sent, took}
 use Rattle.fibs_model.specs.Acts.{Act, Shows, Says, Serves, put_by, sending, acts_of, acts_at_line, acts_on, acts_from}
 use Rattle.fibs_model.specs.declared.refusal.WorldRefusal.TheVariants.{AlreadyOpen, NotOpen}

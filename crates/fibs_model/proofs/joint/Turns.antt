@@ -28,7 +28,7 @@ use Rattle.fibs_model.proofs.joint.Joint.{Joint, same_view, linked_same, linked_
 use Rattle.fibs_model.proofs.joint.Joint.{joint_current}
 use Rattle.fibs_model.proofs.joint.Sending.{joint_board, same_test, if_fact, relink, not_left, with_line}
 use Rattle.fibs_boards.specs.Board.{spelling}
-use Rattle.fibs_session.specs.History.Machine.{allows}
+use Rattle.fibs_session.specs.History.Allows.{allows}
 use Rattle.fibs_position.specs.GamePart.{same_game}
 use Rattle.fibs_position.specs.GoodBoard.{good as is_good}
 

@@ -17,7 +17,7 @@ use Rattle.fibs_session.specs.History.Words.{answer}
 use Rattle.fibs_model.specs.Headline.{InPairs, NoneUndone, InOrder, AllAnswered, AllOnShown, places, is_sent}
 use Rattle.fibs_model.specs.Headline.{is_took}
 use Rattle.fibs_model.proofs.log.Lists.{same_number, other_number, map_no_more, map_more, one_of_true, one_of_false}
-use Rattle.fibs_session.specs.History.Machine.{allows}
+use Rattle.fibs_session.specs.History.Allows.{allows}
 use Rattle.fibs_position.specs.GamePart.{same_game}
 use Rattle.fibs_position.specs.GoodBoard.{good as is_good}
 

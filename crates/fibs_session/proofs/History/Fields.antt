@@ -22,7 +22,8 @@ use Rattle.fibs_session.specs.History.Words.{welcomed, informed, welcomed_by, in
 use Rattle.fibs_session.specs.History.Words.{unconfirmed, IsLikeness}
 use Rattle.fibs_session.specs.History.Hearing.{Heard, heard, flags_of, initial_commands, confirmed_by_board}
 use Rattle.fibs_session.specs.declared.refusal.PlainRefusal.{PlainRefusal}
-use Rattle.fibs_session.specs.History.Machine.{Talk, start, noted, opened, was_sent, allows, answer_now, clicks}
+use Rattle.fibs_session.specs.History.Allows.{allows}
+use Rattle.fibs_session.specs.History.Machine.{Talk, start, noted, opened, was_sent, answer_now, clicks}
 use Rattle.fibs_session.specs.History.Machine.{clicks_by, decides_on, flag_is_on, is_online, heard_by, may_send}
 use Rattle.fibs_session.specs.History.Machine.{plain_refusal, plains, sends_plain}
 use Rattle.fibs_session.specs.Calls.SessionValue.{SessionValue, IsNoToggle, Quiet, At}
@@ -182,6 +183,58 @@ module _ (v : SessionValue) (t : Talk) (at : At v t) where
       no_texts refl (open_append 0 t.log (Clicked (open_now t.log) d a ∷ []))
       (λ d. record { no_welcome = refl; no_flags = refl; no_board = refl; no_sent = refl })
 
+  -- the answer to a click
+  pub answer_law : (d : Decision) → answer_of v d ≡ answer_now t d
+  answer_law d =
+      let e = sym at.is_open in
+      let o : not v.online ≡ nat_eq (open_now t.log) 0 = not_not _ _ at.has_connection ∙ ap (λ n. nat_eq n 0) e in
+      let w : not v.welcomed ≡ is_empty (welcomed (open_now t.log) t.log) =
+      not_not _ _ at.has_welcome ∙ ap (λ n. is_empty (welcomed n t.log)) e in
+      let f : v.flags ≡ last (informed (open_now t.log) t.log) = at.has_flags ∙ ap (λ n. last (informed n t.log)) e in
+      let i : not (is_some v.flags) ≡ is_empty (informed (open_now t.log) t.log) =
+      not_not _ _ (ap is_some f ∙ some_last (informed (open_now t.log) t.log)) in
+      let b : v.shown ≡ last (shown (open_now t.log) t.log) = at.on_board ∙ ap (λ n. last (shown n t.log)) e in
+      let k : is_some v.waiting ≡ is_spent same_game (open_now t.log) t.log =
+      ap is_some at.not_confirmed ∙ some_spent c t.log ∙ ap (λ n. is_spent same_game n t.log) e in
+      cc
+
+  -- a decision is sent, on the board that is shown
+  asked_here : (b : Board) (d : Decision)
+      → v.online ≡ true → last (shown c t.log) ≡ Some b → At (record v { waiting = Some (b, d) })
+      (noted t (Sent c b d ∷ []) (command_of (direction_of b) d ∷ []))
+  asked_here b d on lb =
+      let es : List Entry = Sent c b d ∷ [] in
+      let texts : List (List ℕ) = command_of (direction_of b) d ∷ [] in
+      let off : NoToggles texts = one_text _ (decision_no_toggle (direction_of b) d) in
+      let sp : is_spent same_game c (t.log ++ es) ≡ true = spent_sent same_game c t.log b d (before_last _ b lb) in
+      let ls : last (sent c (t.log ++ es)) ≡ Some (b, d) =
+      ap last (sent_more c t.log b d) ∙ last_snoc (sent c t.log) (b, d) in
+      let un : unconfirmed same_game c (t.log ++ es) ≡ Some (b, d) = rw (sp, ls) refl in
+      let here : open_now (t.log ++ es) ≡ c = open_append 0 t.log es ∙ at.is_open in
+      record {
+        conn = c;
+        is_open = here;
+        logs_in = at.logs_in;
+        no_toggle = at.no_toggle;
+        has_connection = at.has_connection;
+        has_welcome = at.has_welcome ∙ ap (λ l. not (is_empty l)) (sym (map_no_more (welcomed_by c) t.log es refl));
+        has_flags = at.has_flags ∙ ap last (sym (map_no_more (informed_by c) t.log es refl));
+        automove_gone = at.automove_gone ∙ sym (not_gone _ t.commands texts off.no_automove);
+        greedy_gone = at.greedy_gone ∙ sym (not_gone _ t.commands texts off.no_greedy);
+        on_board = at.on_board ∙ ap last (sym (map_no_more (shown_by c) t.log es refl));
+        not_confirmed = sym un;
+        numbered = numbered_own t.log es
+            c at.numbered refl at.is_open (not_zero c (sym on ∙ at.has_connection)) here (λ n. quiet_sent c n b d);
+      }
+
+  pub at_asked : (b : Board) (d : Decision)
+      → v.online ≡ true → last (shown (open_now t.log) t.log) ≡ Some b → At (record v { waiting = Some (b, d) })
+      (noted t (Sent (open_now t.log) b d ∷ []) (command_of (direction_of b) d ∷ []))
+  at_asked b d on lb =
+      subst (λ n. At (record v { waiting = Some (b, d) })
+      (noted t (Sent n b d ∷ []) (command_of (direction_of b) d ∷ [])))
+      (sym at.is_open) (asked_here b d on (ap (λ n. last (shown n t.log)) (sym at.is_open) ∙ lb))
+
   module _ (on : v.online ≡ true) where
     some : c ≡ 0 → ⊥
     some = not_zero c (sym on ∙ at.has_connection)
@@ -320,79 +373,52 @@ module _ (v : SessionValue) (t : Talk) (at : At v t) where
       pub heard_law : (r : ReadingValue) → HeardIs t (heard_fields v r) (heard_by t r)
       heard_law r = subst (λ n. HeardIs t (heard_fields v r) (heard n t.log r)) (sym at.is_open) (heard_at r)
 
-  -- a click
+-- two notings, one after the other
+pub noted_twice : (t : Talk) (xs ys : List Entry) (ps qs : List (List ℕ))
+    → noted (noted t xs ps) ys qs ≡ noted t (xs ++ ys) (ps ++ qs)
+noted_twice t xs ys ps qs = ap (λ l. with_both l ((t.commands ++ ps) ++ qs)) (append_assoc t.log xs ys)
+    ∙ ap (with_both (t.log ++ (xs ++ ys))) (append_assoc t.commands ps qs)
+  where
+    with_both : List Entry → List (List ℕ) → Talk
+    with_both log texts = record { login = t.login; log = log; stream = t.stream; commands = texts }
 
-  pub answer_law : (d : Decision) → answer_of v d ≡ answer_now t d
-  answer_law d =
-      let e = sym at.is_open in
-      let o : not v.online ≡ nat_eq (open_now t.log) 0 = not_not _ _ at.has_connection ∙ ap (λ n. nat_eq n 0) e in
-      let w : not v.welcomed ≡ is_empty (welcomed (open_now t.log) t.log) =
-      not_not _ _ at.has_welcome ∙ ap (λ n. is_empty (welcomed n t.log)) e in
-      let f : v.flags ≡ last (informed (open_now t.log) t.log) = at.has_flags ∙ ap (λ n. last (informed n t.log)) e in
-      let i : not (is_some v.flags) ≡ is_empty (informed (open_now t.log) t.log) =
-      not_not _ _ (ap is_some f ∙ some_last (informed (open_now t.log) t.log)) in
-      let b : v.shown ≡ last (shown (open_now t.log) t.log) = at.on_board ∙ ap (λ n. last (shown n t.log)) e in
-      let k : is_some v.waiting ≡ is_spent same_game (open_now t.log) t.log =
-      ap is_some at.not_confirmed ∙ some_spent c t.log ∙ ap (λ n. is_spent same_game n t.log) e in
-      cc
+-- a click with a yes, and the decision
+at_sent : (v : SessionValue) (t : Talk) (at : At v t) (b : Board) (d : Decision)
+    → v.online ≡ true → last (shown (open_now t.log) t.log) ≡ Some b → At (record v { waiting = Some (b, d) })
+    (noted t (Clicked (open_now t.log) d None ∷ Sent (open_now t.log) b d ∷ []) (command_of (direction_of b) d ∷ []))
+at_sent v t at b d on lb =
+    let n = open_now t.log in
+    let es : List Entry = Clicked n d None ∷ [] in
+    let texts : List (List ℕ) = command_of (direction_of b) d ∷ [] in
+    let t1 : Talk = noted t es [] in
+    let same : open_now t1.log ≡ n = open_append 0 t.log es in
+    let lb1 : last (shown (open_now t1.log) t1.log) ≡ Some b =
+    ap (λ m. last (shown m t1.log)) same ∙ ap last (map_no_more (shown_by n) t.log es refl) ∙ lb in
+    subst (At (record v { waiting = Some (b, d) })) (noted_twice t es (Sent n b d ∷ []) [] texts)
+    (subst (λ m. At (record v { waiting = Some (b, d) }) (noted t1 (Sent m b d ∷ []) texts))
+    same (at_asked v t1 (at_refused v t at d None) b d on lb1))
 
+module _ (v : SessionValue) (t : Talk) (at : At v t) where
   refused_by : (d : Decision) (a : Option Refusal) (why : Refusal)
       → a ≡ Some why → (At v (clicks_by t d a).talk) × ((clicks_by t d a).send ≡ [])
   refused_by d None why h = absurd cc
-  refused_by d (Some x) why h = (at_refused d (Some x), refl)
+  refused_by d (Some x) why h = (at_refused v t at d (Some x), refl)
 
   pub refused_law : (d : Decision) (why : Refusal)
       → answer_of v d ≡ Some why → (At v (clicks t d).talk) × ((clicks t d).send ≡ [])
-  refused_law d why h = refused_by d (answer_now t d) why (sym (answer_law d) ∙ h)
-
-  -- a decision is sent
-  pub at_sent : (b : Board) (d : Decision)
-      → v.online ≡ true → last (shown c t.log) ≡ Some b → At (record v { waiting = Some (b, d) })
-      (noted t (Clicked c d None ∷ Sent c b d ∷ []) (command_of (direction_of b) d ∷ []))
-  at_sent b d on lb =
-      let es : List Entry = Clicked c d None ∷ Sent c b d ∷ [] in
-      let log1 : List Entry = t.log ++ Clicked c d None ∷ [] in
-      let texts : List (List ℕ) = command_of (direction_of b) d ∷ [] in
-      let off : NoToggles texts = one_text _ (decision_no_toggle (direction_of b) d) in
-      let two : t.log ++ es ≡ log1 ++ Sent c b d ∷ [] =
-      sym (append_assoc t.log (Clicked c d None ∷ []) (Sent c b d ∷ [])) in
-      let sc : shown c log1 ≡ shown c t.log = map_no_more (shown_by c) t.log (Clicked c d None ∷ []) refl in
-      let sp : is_spent same_game c (t.log ++ es) ≡ true =
-      ap (is_spent same_game c) two ∙ spent_sent same_game c log1 b d (ap is_empty sc ∙ before_last _ b lb) in
-      let ls : last (sent c (t.log ++ es)) ≡ Some (b, d) =
-      ap (λ l. last (sent c l)) two ∙ ap last (sent_more c log1 b d) ∙ last_snoc (sent c log1) (b, d) in
-      let un : unconfirmed same_game c (t.log ++ es) ≡ Some (b, d) = rw (sp, ls) refl in
-      let here : open_now (t.log ++ es) ≡ c = open_append 0 t.log es ∙ at.is_open in
-      record {
-        conn = c;
-        is_open = here;
-        logs_in = at.logs_in;
-        no_toggle = at.no_toggle;
-        has_connection = at.has_connection;
-        has_welcome = at.has_welcome ∙ ap (λ l. not (is_empty l)) (sym (map_no_more (welcomed_by c) t.log es refl));
-        has_flags = at.has_flags ∙ ap last (sym (map_no_more (informed_by c) t.log es refl));
-        automove_gone = at.automove_gone ∙ sym (not_gone _ t.commands texts off.no_automove);
-        greedy_gone = at.greedy_gone ∙ sym (not_gone _ t.commands texts off.no_greedy);
-        on_board = at.on_board ∙ ap last (sym (map_no_more (shown_by c) t.log es refl));
-        not_confirmed = sym un;
-        numbered = numbered_own t.log es
-            c at.numbered refl at.is_open (not_zero c (sym on ∙ at.has_connection)) here (λ n. quiet_sent c n b d);
-      }
+  refused_law d why h = refused_by d (answer_now t d) why (sym (answer_law v t at d) ∙ h)
 
   pub sent_law : (d : Decision) → answer_of v d ≡ None
       → (b : Board) × (v.shown ≡ Some b)
       × At (with_ask v d v.shown) (clicks t d).talk × ((clicks t d).send ≡ command_of (direction_of b) d ∷ [])
   sent_law d h =
-      let y = yes same_game allows t.log d (sym (answer_law d) ∙ h) in
-      let lb : last (shown c t.log) ≡ Some y.on = ap (λ n. last (shown n t.log)) (sym at.is_open) ∙ y.is_last in
-      let ob : v.shown ≡ Some y.on = at.on_board ∙ lb in
-      let on : v.online ≡ true = online_law ∙ ap not (positive (open_now t.log) y.some) in
+      let y = yes same_game allows t.log d (sym (answer_law v t at d) ∙ h) in
+      let ob : v.shown ≡ Some y.on = at.on_board ∙ ap (λ n. last (shown n t.log)) (sym at.is_open) ∙ y.is_last in
+      let on : v.online ≡ true = online_law v t at ∙ ap not (positive (open_now t.log) y.some) in
       let step : clicks t d ≡ decides_on t d (Some y.on) =
-      ap (clicks_by t d) (sym (answer_law d) ∙ h) ∙ ap (decides_on t d) y.is_last in
+      ap (clicks_by t d) (sym (answer_law v t at d) ∙ h) ∙ ap (decides_on t d) y.is_last in
       let here : At (record v { waiting = Some (y.on, d) }) (decides_on t d (Some y.on)).talk =
-      subst (λ n. At (record v { waiting = Some (y.on, d) })
-      (noted t (Clicked n d None ∷ Sent n y.on d ∷ []) (command_of (direction_of y.on) d ∷ [])))
-      (sym at.is_open) (at_sent y.on d on lb) in (
+      at_sent v t at y.on d on y.is_last in (
         y.on,
         ob,
         subst (λ o. At (with_ask v d o) (clicks t d).talk)
@@ -420,7 +446,7 @@ module _ (v : SessionValue) (t : Talk) (at : At v t) where
 
   pub plain_law : (p : PlainValue) → plain_refusal_of v p ≡ plain_refusal t p
   plain_law p =
-      let o : v.online ≡ is_online t = online_law in
+      let o : v.online ≡ is_online t = online_law v t at in
       let m : may_send_of v p ≡ may_send t p = may_law p in
       cc
 
@@ -432,13 +458,13 @@ module _ (v : SessionValue) (t : Talk) (at : At v t) where
       same = ap open_now (append-nil t.log)
 
       quiet : (texts : List (List ℕ)) → NoToggles texts → At v (noted t [] texts)
-      quiet texts off = at_silent [] texts off refl same silent
+      quiet texts off = at_silent v t at [] texts off refl same silent
 
       go : (p : PlainValue) → At (with_plain v p) (noted t [] (plain_of p ∷ []))
-      go automove_off = at_quiet [] (plain_of automove_off ∷ []) true v.greedy_sent
+      go automove_off = at_quiet v t at [] (plain_of automove_off ∷ []) true v.greedy_sent
           (sym (gone_now (plain_of automove_off) t.commands (plain_of automove_off ∷ []) refl)) (at.greedy_gone
           ∙ sym (not_gone (plain_of greedy_off) t.commands (plain_of automove_off ∷ []) refl)) refl same silent
-      go greedy_off = at_quiet [] (plain_of greedy_off ∷ []) v.automove_sent true
+      go greedy_off = at_quiet v t at [] (plain_of greedy_off ∷ []) v.automove_sent true
           (at.automove_gone ∙ sym (not_gone (plain_of automove_off) t.commands (plain_of greedy_off ∷ []) refl))
           (sym (gone_now (plain_of greedy_off) t.commands (plain_of greedy_off ∷ []) refl)) refl same silent
       go board_again = quiet (plain_of board_again ∷ []) (record { no_automove = refl; no_greedy = refl })

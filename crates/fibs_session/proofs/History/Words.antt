@@ -7,7 +7,7 @@ use Rattle.fibs_position.specs.DecisionValue.{DecisionValue as Decision}
 use Rattle.fibs_position.specs.GamePart.{same_game}
 use Rattle.fibs_session.specs.declared.refusal.Refusal.{Refusal}
 use Rattle.fibs_session.specs.declared.refusal.Refusal.TheVariants.{Offline, NotReady, ServerPlays}
-use Rattle.fibs_session.specs.History.Log.{Entry, Flags, Opened, Welcomed, Informed, Shown, Clicked, Sent}
+use Rattle.fibs_session.specs.History.Log.{Entry, Flags, Opened, Welcomed, Informed, Shown, Sent}
 use Rattle.fibs_session.specs.History.Words.{one_if, is_empty, last, open_now, opened_by, connections, shown, sent}
 use Rattle.fibs_session.specs.History.Words.{welcomed, informed, welcomed_by, informed_by, shown_by, sent_by, is_spent}
 use Rattle.fibs_session.specs.History.Words.{unconfirmed, answer, if_board, plays_itself}
@@ -33,7 +33,7 @@ quiet_informed c d f h = record { no_welcome = refl; no_flags = other c d f h; n
 pub quiet_shown : (c d : ℕ) (b : Board) → (c ≡ d → ⊥) → Quiet d (Shown c b ∷ [])
 quiet_shown c d b h = record { no_welcome = refl; no_flags = refl; no_board = other c d b h; no_sent = refl }
 
-pub quiet_sent : (c d : ℕ) (b : Board) (m : Decision) → (c ≡ d → ⊥) → Quiet d (Clicked c m None ∷ Sent c b m ∷ [])
+pub quiet_sent : (c d : ℕ) (b : Board) (m : Decision) → (c ≡ d → ⊥) → Quiet d (Sent c b m ∷ [])
 quiet_sent c d b m h = record { no_welcome = refl; no_flags = refl; no_board = refl; no_sent = other c d (b, m) h }
 
 pub quiet_both : (c : ℕ) (xs ys : List Entry) → Quiet c xs → Quiet c ys → Quiet c (xs ++ ys)

@@ -17,7 +17,8 @@ use Rattle.fibs_session.specs.declared.refusal.PlainRefusal.{PlainRefusal}
 use Rattle.fibs_session.specs.declared.refusal.PlainRefusal.TheVariants as P
 use Rattle.fibs_session.specs.History.Words.{Ask, if_board, plays_itself}
 use Rattle.fibs_session.specs.History.Hearing.{flags_of, initial_commands}
-use Rattle.fibs_session.specs.History.Machine.{allows, flag_is_on}
+use Rattle.fibs_session.specs.History.Allows.{allows}
+use Rattle.fibs_session.specs.History.Machine.{flag_is_on}
 use Rattle.fibs_session.specs.Calls.SessionValue.{SessionValue}
 
 abbrev pub fresh : List ℕ → Bool → SessionValue

@@ -7,10 +7,7 @@ use Rattle.fibs_lines.specs.Lines.{ReadLine, lines_of}
 use Rattle.fibs_boards.specs.Board.{BoardFields}
 use Rattle.fibs_messages.specs.Line.{ReadingValue}
 use Rattle.fibs_position.specs.DecisionValue.{DecisionValue}
-use Rattle.fibs_position.specs.Allowed.{allowed_of}
 use Rattle.fibs_position.specs.DirectionOf.{direction_of}
-use Rattle.fibs_position.specs.declared.disallowed.Disallowed.{Disallowed}
-use Rattle.fibs_position.specs.declared.disallowed.Disallowed.TheVariants as D
 use Rattle.fibs_commands.specs.Commands.{command_of}
 use Rattle.fibs_position.specs.GamePart.{same_game}
 use Rattle.fibs_commands.specs.PlainCommands.{PlainValue, automove_off, greedy_off, plain_of, plain_fault_of}
@@ -19,6 +16,7 @@ use Rattle.fibs_session.specs.declared.refusal.Refusal.TheVariants as R
 use Rattle.fibs_session.specs.declared.refusal.PlainRefusal.{PlainRefusal}
 use Rattle.fibs_session.specs.declared.refusal.PlainRefusal.TheVariants as P
 use Rattle.fibs_session.specs.History.Log.{Entry, Flags, Opened, Clicked, Sent, Lost}
+use Rattle.fibs_session.specs.History.Allows.{allows}
 use Rattle.fibs_session.specs.History.Words.{Ask, last, open_now, connections, shown, informed, unconfirmed, answer}
 use Rattle.fibs_session.specs.History.Hearing.{Heard, heard, nothing_heard, line_reading}
 
@@ -130,15 +128,6 @@ abbrev pub shown_now : Talk → Option BoardFields
 shown_now t = last (shown (open_now t.log) t.log)
 
 -- Click
-
-abbrev pub refusal_of : Disallowed → Refusal
-refusal_of D.NotYours = R.NotYours
-refusal_of D.WrongKind = R.WrongKind
-refusal_of D.IllegalPlay = R.IllegalPlay
-
--- why a board does not allow a decision, if it does not
-abbrev pub allows : BoardFields → DecisionValue → Option Refusal
-allows b d = option_map refusal_of (allowed_of b d)
 
 -- the answer to a click
 abbrev pub answer_now : Talk → DecisionValue → Option Refusal

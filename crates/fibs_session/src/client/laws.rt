@@ -3,7 +3,7 @@
 
 ghost use Rattle.fibs_session.specs.History.Owing.{PiecesTakeFromWhatIsOwed};
 ghost use Rattle.fibs_session.specs.History.MachineLaws.{PiecesJoin, EmptyPieceIsNothing, InputsGoOn};
-ghost use Rattle.fibs_session.specs.History.MachineLaws.{ServersEntriesAreSilent};
+ghost use Rattle.fibs_session.specs.History.MachineLaws.{LinesOpenNoConnection, ServersEntriesAreSilent};
 
 /// Bytes may come in any pieces: two pieces after each other are one.
 pub fn pieces_join()
@@ -15,6 +15,11 @@ pub fn pieces_join()
 /// No bytes are no input.
 pub fn empty_piece_is_nothing()
     ensures { EmptyPieceIsNothing }
+{}
+
+/// No line opens or ends a connection.
+pub fn lines_open_no_connection()
+    ensures { LinesOpenNoConnection }
 {}
 
 /// What a server notes says nothing to a client.
