@@ -31,7 +31,7 @@ impl Session {
     ghost use Rattle.fibs_session.specs.Calls.SessionOf.{session_of, handed, refusal_in};
 
     /// The board on which a decision is made, or why it is refused: the first of the reasons, in the order below.
-    fn board_for(&self, decision: &Decision) -> Result<&Board, Refusal>
+    pub(super) fn board_for(&self, decision: &Decision) -> Result<&Board, Refusal>
         ensures refusal { result_err result ≡ answer_of (session_of self.now) (decision_of decision.now) }
         ensures board { IfOk result (λ board. (session_of self.now).shown ≡ Some (fields_of board.now)) }
     {
