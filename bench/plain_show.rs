@@ -5,7 +5,7 @@ use std::fmt::Write as _;
 use std::io::{self, Read, Write};
 
 /// How many bytes of a line are kept.
-const LIMIT: usize = 4096;
+const LINE_LIMIT: usize = 16_384;
 
 fn main() -> io::Result<()> {
     let mut input = io::stdin().lock();
@@ -22,7 +22,7 @@ fn main() -> io::Result<()> {
         output.write_all(&text)?;
         text.clear();
     }
-    let held = lines.kept.len().min(LIMIT);
+    let held = lines.kept.len().min(LINE_LIMIT);
     if held > 0 {
         writeln!(output, "unfinished {held}")?;
     }
@@ -38,8 +38,8 @@ enum Telnet {
     Option,
 }
 
-/// The unfinished line of a stream: its first bytes, one more than `LIMIT` where there are more, how many it has in all,
-/// and whether the last is a CR.
+/// The unfinished line of a stream: its first bytes, one more than `LINE_LIMIT` where there are more, how many it has in
+/// all, and whether the last is a CR.
 #[derive(Default)]
 struct Lines {
     telnet: Telnet,
@@ -74,7 +74,7 @@ impl Lines {
     }
 
     fn take(&mut self, run: &[u8]) {
-        let room = (LIMIT + 1).saturating_sub(self.kept.len());
+        let room = (LINE_LIMIT + 1).saturating_sub(self.kept.len());
         self.kept.extend_from_slice(&run[..run.len().min(room)]);
         self.length += run.len();
         self.ends_in_cr = run.ends_with(b"\r");
@@ -82,11 +82,11 @@ impl Lines {
 
     fn end(&mut self, line: &mut impl FnMut(&[u8], bool)) {
         let length = self.length - usize::from(self.ends_in_cr);
-        let mut bytes = &self.kept[..length.min(LIMIT)];
+        let mut bytes = &self.kept[..length.min(LINE_LIMIT)];
         while let Some(rest) = bytes.strip_prefix(b"login: ").or(bytes.strip_prefix(b"> ")) {
             bytes = rest;
         }
-        line(bytes, length > LIMIT);
+        line(bytes, length > LINE_LIMIT);
         self.kept.clear();
         self.length = 0;
         self.ends_in_cr = false;

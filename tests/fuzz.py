@@ -43,7 +43,8 @@ PIECES = [b'\xff\xfb\x01', b'\xff\xfe\n', b'\xff\xff', b'\xff', b'\xff\xf1', b'\
 ODD_ENDS = [b'\r\r\n', b'\n\n', b'\r\n\r\n', b'\xff\xfb\x01\n', b'\r\xff\xfb\x01\n', b'\xff\n', b' \n', b'  \r\n',
             b'\r \n', b'\xff\xff\n', b'\xff\xf9\r\n', b'\xff\xfb\r\n', b'\xff\xfb\n']
 ENDS = [b'\n', b'\r\n'] * 12 + ODD_ENDS
-UNFINISHED = [b'\xff', b'\xff\xfb', b'a', b'\r', b'a\r', b'> ', b'a' * 4095 + b'\r', b'a' * 4096 + b'\r', b'a' * 5000,
+UNFINISHED = [b'\xff', b'\xff\xfb', b'a', b'\r', b'a\r', b'> ', b'a' * 16383 + b'\r',
+              b'a' * 16384 + b'\r', b'a' * 20000,
               b'\xff\xff']
 
 # ---- Boards ----------------------------------------------------------------------------------------------------------
@@ -123,7 +124,7 @@ def good_board(rng, phase=None, is_wide=False):
         turn = -colour
     other_dice = [rng.randint(0, 6), rng.randint(0, 6)] if rng.random() < 0.2 else [0, 0]
     cube = rng.choice((1, 1, 2, 4, 64, 1048576, 524288, 3, 524289, rng.randint(1, 1048576)))
-    flags = [rng.choice((0, 1, 1)), rng.randint(0, 1), 1 if phase == 'answer' or rng.random() < 0.02 else 0]
+    flags = [rng.randint(0, 1), rng.randint(0, 1), 1 if phase == 'answer' or rng.random() < 0.02 else 0]
     score = [rng.choice((0, 3, 99999999)), rng.choice((0, 1, 99999998))]
     length = rng.choice((0, 1, 3, 5, 9999))
     ends = [0, 25] if direction == -1 else [25, 0]
@@ -182,6 +183,45 @@ def message(rng):
     return b' '.join([b'%d' % which] + [field_text(rng, kind, at == odd) for at, kind in enumerate(kinds)])
 
 
+def printed_field(rng, kind):
+    """The text of a field as it is printed."""
+    if kind is reference.FLAG:
+        return rng.choice((b'0', b'1'))
+    if kind is reference.name:
+        return rng.choice((b'ann', b'-', b'x', b'a\\b', b'x' * 64))
+    if kind is reference.word:
+        return rng.choice((b'host', b'-', b'192.168.1.30', b'x' * 70))
+    if kind is reference.rating:
+        return b'%d.%02d' % (rng.choice((0, 7, 1500, 9999999, 10000000, 42949672)), rng.randint(0, 99))
+    if kind in (reference.TEXT, reference.TAIL):
+        length = rng.choice((1, 2, 8, 14, 15, 16, 17, 18, 31, 32, 33, 34, 48, 64, 100))
+        return bytes(rng.choice(b'abz ~!') for _ in range(length - 1)) + b'z'
+    return b'%d' % rng.choice((0, 7, 10, 1041253132, 10 ** 18, 10 ** 19 - 1, 10 ** 19, 2 ** 64 - 1, 2 ** 64))
+
+
+def nearly_printed(rng):
+    """A line of a message as it is printed, or with one change by which it may be printed otherwise."""
+    which = rng.randint(1, 19)
+    texts = [b'%d' % which] + [printed_field(rng, kind) for kind in reference.MESSAGES[which]]
+    at = rng.randrange(len(texts))
+    change = rng.randrange(8)
+    if change == 0:
+        texts[at] += rng.choice((b' ', b'  '))
+    elif change == 1:
+        texts[at] = rng.choice((b'0', b' ', b'-')) + texts[at]
+    elif change == 2:
+        texts[at] = rng.choice((b'-', b''))
+    elif change == 3:
+        texts = [rng.choice((text[:-1], text[:-2], text[:-3], text + b'0')) if b'.' in text else text for text in texts]
+    elif change == 4:
+        del texts[at]
+    line = b' '.join(texts)
+    if change in (5, 6):
+        at = rng.randrange(len(line))
+        line = line[:at] + rng.choice((b'\\', b'\x00', b'\x1f', b'\x7f', b'\x80', b'\xfe')) + line[at + 1:]
+    return line
+
+
 def mutate_field(rng, line):
     separator = b':' if line.startswith(b'board:') else b' '
     texts = line.split(separator)
@@ -219,7 +259,7 @@ def mutate_bytes(rng, line):
 
 def long_line(rng, line):
     """Made as long as the limit or a neighbour, by bytes at its end or its start, or by a dropped CR or prompts."""
-    length = rng.choice((4095, 4096, 4097, 4098, 4102, 5000)) - len(line)
+    length = rng.choice((4096, 16383, 16384, 16385, 16386, 16390, 20000)) - len(line)
     pad = rng.choice((b' ', b'a', b'0', b':', b'\r', b'> ', b'login: ', b'\xff\xff', b'\xff\xfb\x01a'))
     size = len(reference.without_telnet(pad))
     padding = pad * (length // size) + b'x' * (length % size)
@@ -234,8 +274,12 @@ def show_line(rng):
         line = bytes(rng.choice(BYTES) for _ in range(rng.randint(0, 30)))
     elif kind < 0.25:
         line = random_board(rng)
+    elif kind < 0.5:
+        line = good_board(rng) + b' ' * rng.choice((0, 0, 0, 1, 2, 16))
+    elif kind < 0.75:
+        line = message(rng)
     else:
-        line = good_board(rng) if kind < 0.5 else message(rng)
+        return nearly_printed(rng) + rng.choice(ENDS)
     if rng.random() < 0.35:
         line = mutate_field(rng, line)
     while rng.random() < 0.25:
@@ -282,7 +326,8 @@ def a_word(line):
 # ---- Scripts for `replay` and `loop` ---------------------------------------------------------------------------------
 
 LOTS = b'4294967295'
-ANY_DECISION = [b'roll', b'double', b'accept', b'reject', b'move', b'move 8-5', b'move bar-20 24-18', b'move 3-off']
+ANY_DECISION = [b'roll', b'double', b'accept', b'reject', b'move', b'move 8-5', b'move bar-20 24-18', b'move 3-off',
+                b'resign n', b'resign g', b'resign b']
 FIRST = b'text 1 ann 1041253132 localhost'
 PLAIN = [b'board', b'who', b'say hi', b'say', b'say ', b'tell bob hi', b'tell  hi', b'tell bob', b'tell', b'shout x',
          b'whisper  x', b'kibitz y', b'message bob x', b'invite bob', b'invite bob 5', b'invite', b'invite  7',
@@ -291,7 +336,8 @@ PLAIN = [b'board', b'who', b'say hi', b'say', b'say ', b'tell bob hi', b'tell  h
          b'tell ' + b'n' * 65 + b' x', b'join a:b', b'invite bob 65535', b'invite bob 0']
 NOT_PLAIN = [b'invite bob ', b'invite bob 05', b'invite bob +5', b'invite bob 65536', b'invite bob 5 ', b'join bob ',
              b'join bob ann', b'toggle', b'toggle ', b'toggle double', b'toggle ready ', b'toggle  ready', b'who ',
-             b'board x', b'Who', b' who', b'', b'roll', b'move 8-5', b'login fibs_client 1008 ann secret',
+             b'board x', b'Who', b' who', b'', b'roll', b'move 8-5', b'resign n',
+             b'resign', b'login fibs_client 1008 ann secret',
              b'set boardstyle 3', b'toggle autoboard', b'bye ']
 NOT_EVENTS = [b'', b' open', b'open ', b'Open', b'open 1', b'deliver', b'deliver ', b'deliver 01',
               b'deliver 4294967296', b'deliver -1', b'deliver  1', b'deliver 1 ', b'deliver 0', b'lose',
@@ -301,7 +347,11 @@ NOT_EVENTS = [b'', b' open', b'open ', b'Open', b'open 1', b'deliver', b'deliver
               b'click move 8-5 6-5 8-5 6-5 6-5', b'click move 0-1', b'click move 3-0', b'click move off-3',
               b'click move 3-bar', b'click move bar-off', b'click move 5-5', b'click move 5-08', b'click move 5',
               b'click move 5-', b'click board', b'plain', b'plain  who', b'click move 5-8', b'click resign',
-              b'serve 4294967296 1 1', b'text', b'text ', b'text  x', b'x', b'\r', b'#']
+              b'click resign ', b'click resign x', b'click resign N', b'click resign n ', b'click resign  g',
+              b'click resign normal', b'click resign b b',
+              b'serve 4294967296 1 1', b'text', b'text ', b'text  x', b'x', b'\r', b'#', b'order', b'order ',
+              b'order  roll', b'order roll ', b'order Roll', b'order double', b'order roll 1', b'orders roll',
+              b'withdraw', b'withdraw ', b'withdraw  roll', b'withdraw roll ', b'withdraw order', b'roll']
 REFUSALS = [b'open', b'deliver 1', b'lose 1', b'serve 0 1 1', b'serve 1 0 1', b'serve 1 1 7', b'serve 9 1 1',
             b'serve 9 0 9', b'serve 1 1 1', b'serve 1 255 1', b'own BAD', b'own GOOD', b'text GOOD', b'serve 2 1 1',
             b'text > GOOD', b'text \xff\xfb\x01GOOD', b'serve 1 7 7', b'text GOOD\xff', b'text GOOD\xff\xfb',
@@ -413,6 +463,8 @@ def wishes(model):
         common.update({'settings': 10})
     if client.board and not client.waiting:
         common[click] = 40
+    # An order is given early and stands for long; now and then it is given twice, or withdrawn where none stands.
+    common.update({'order roll': 1 if client.ordered else 4, 'withdraw roll': 1 if client.ordered else 0.2})
     return common
 
 
@@ -425,7 +477,8 @@ def event(rng, model):
         return wish(rng) if wish is told else wish(rng, model)
     if wish == 'own' and model.board.phase() in reference.DECIDED and rng.random() < 0.9:
         return deliver(rng, model) if model.client.connection else b'open'
-    made = {'plain': b'plain ' + rng.choice(PLAIN), 'first': FIRST, 'own': b'own ' + good_board(rng)}
+    phase = 'roll' if model.client.connection and model.client.ordered and rng.random() < 0.3 else None
+    made = {'plain': b'plain ' + rng.choice(PLAIN), 'first': FIRST, 'own': b'own ' + good_board(rng, phase)}
     return settings(rng) if wish == 'settings' else made.get(wish, wish if isinstance(wish, bytes) else wish.encode())
 
 
@@ -580,6 +633,7 @@ def note(seen, kind, out):
     if kind == 'scripts':
         out = re.sub(rb'(?m)^(\w+) \d+', rb'\1', out)
         seen.update(re.findall(rb'^(?:clicked \w+|refused \d \w+|lost board|[a-z]+)', out, re.M))
+        seen[b'sent by an order'] += len(re.findall(rb'^shown .*\nsent ', out, re.M))
     elif kind == 'lines':
         seen.update(b'show ' + line.split(b':')[0].split(b' ')[0] for line in out.splitlines())
     else:

@@ -20,14 +20,14 @@ from talks import LOGIN, PATIENCE, PROGRAM, STYLE, WELCOME, Failed, Player, gree
 # The most memory that the program may hold, in kilobytes.
 MOST_MEMORY = 10000
 
-# The most that it may hold with 4096 players of whom the longest lines were told, which are 17 MB.
-MOST_MEMORY_OF_PLAYERS = 24000
+# The most that it may hold with 4096 players of whom the longest lines were told, which are 67 MB.
+MOST_MEMORY_OF_PLAYERS = 76000
 
 # How many players a directory has room for.
 MOST_PLAYERS = 4096
 
 # How many bytes of a line are kept.
-LINE = 4096
+LINE = 16384
 
 # How often a server is read for one typed line, and how many bytes these reads may give.
 TURN_READS = 4096

@@ -9,7 +9,7 @@ import sys
 
 # ---- From bytes to lines ------------------------------------------------------------------------------------------
 
-KEPT = 4096
+KEPT = 16384
 # 255 255 is data; 251 to 254 take one byte more, whatever it is; `?` because a stream may end inside a command.
 TELNET = re.compile(rb'\xff(?:(\xff)|[\xfb-\xfe].?|.?)', re.S)
 PROMPTS = re.compile(rb'\A(?:login: |> )*')
@@ -322,13 +322,14 @@ def plays(line):
 
 PLACE = rb'(?:[1-9]|1[0-9]|2[0-4])'
 MOVE = re.compile(rb'move((?: (?:bar|%s)-(?:off|%s)){0,4})' % (PLACE, PLACE))
+RESIGNATIONS = (b'resign n', b'resign g', b'resign b')
 POINTS = re.compile(rb'0|[1-9][0-9]{0,4}')
 PRINTED = re.compile(rb'[ -~]{1,400}')
 WORDS = {b'bar': BAR, b'off': OFF}
 
 def read_decision(text):
-    """A word, or a tuple of steps in own numbers; None where it is no decision."""
-    if text in (b'roll', b'double', b'accept', b'reject'):
+    """A text, or a tuple of steps in own numbers; None where it is no decision."""
+    if text in (b'roll', b'double', b'accept', b'reject') + RESIGNATIONS:
         return text
     if not MOVE.fullmatch(text):
         return None
@@ -380,6 +381,7 @@ class Client:
     def open(self, connection):
         self.connection, self.heard, self.handled = connection, b'', 0
         self.welcomed, self.settings, self.board, self.waiting, self.toggled = False, None, None, None, []
+        self.ordered = False
         connection.send(b'login fibs_client 1008 ann secret')
 
     def close(self):
@@ -413,6 +415,14 @@ class Client:
         if self.waiting and self.waiting[0].printed != board.printed:
             self.waiting = None
         self.board = board
+        if self.is_due():
+            self.decide(b'roll')
+
+    def is_due(self):
+        """Whether the standing order rolls on the board shown."""
+        if not self.ordered or self.board.fields[39] != 0 or self.board.phase() != 'RollOrDouble':
+            return False
+        return self.refusal(b'roll') is None
 
     def handle_welcome(self):
         self.note('welcomed', self.connection.number)
@@ -449,7 +459,7 @@ class Client:
             return 'NotYours'
         if not decides(phase, decision) or not self.board.cube_allows(decision):
             return 'WrongKind'
-        if phase == 'Move' and decision not in legal_plays(self.board.position(), self.board.dice()):
+        if isinstance(decision, tuple) and decision not in legal_plays(self.board.position(), self.board.dice()):
             return 'IllegalPlay'
         return None
 
@@ -458,9 +468,18 @@ class Client:
         number_of = self.connection.number if self.connection else 0
         self.note('clicked', number_of, reason or 'ok')
         if not reason:
-            self.waiting = self.board, decision
-            self.note('sent', number_of, *self.told(*self.waiting))
-            self.connection.send(print_decision(decision, self.board))
+            self.decide(decision)
+
+    def decide(self, decision):
+        self.waiting = self.board, decision
+        self.note('sent', self.connection.number, *self.told(*self.waiting))
+        self.connection.send(print_decision(decision, self.board))
+
+    def order(self, ordered):
+        """A standing order to roll is given, or withdrawn; one that stands is not given again."""
+        if self.connection is not None and self.ordered != ordered:
+            self.ordered = ordered
+            self.note('ordered' if ordered else 'withdrawn', self.connection.number)
 
     def plain(self, line, command):
         if self.connection is None or not has_text(command):
@@ -474,6 +493,8 @@ class Client:
 DECIDED = {'RollOrDouble': (b'roll', b'double'), 'AnswerDouble': (b'accept', b'reject'), 'Move': ()}
 
 def decides(phase, decision):
+    if decision in RESIGNATIONS:
+        return phase in ('RollOrDouble', 'Move')
     return isinstance(decision, tuple) if phase == 'Move' else decision in DECIDED[phase]
 
 # ---- The server ---------------------------------------------------------------------------------------------------
@@ -546,6 +567,12 @@ class Replay:
     def do_plain(self, line, command):
         self.client.plain(line, command)
 
+    def do_order(self):
+        self.client.order(True)
+
+    def do_withdraw(self):
+        self.client.order(False)
+
     def do_deliver(self, count):
         if not self.client.connection:
             raise Refused(3, 'NotOpen')
@@ -599,7 +626,7 @@ def decided(board, decision, dice):
     fields = board.fields
     if decision == b'roll':
         return board.with_fields({34: dice[0], 35: dice[1], 36: 0, 37: 0})
-    if decision == b'double':
+    if decision == b'double' or decision in RESIGNATIONS:
         return board.with_fields({33: -fields[42]})
     if decision == b'accept':
         return board.with_fields({33: -fields[42], 38: fields[38] * 2, 39: 1, 40: 0, 41: 0})
@@ -638,6 +665,8 @@ def read_event(line):
         values = None if space else ()
     elif what == b'text':
         values = (rest,)
+    elif what in (b'order', b'withdraw'):
+        values = () if rest == b'roll' else None
     elif what == b'click':
         values = (read_decision(rest),)
     elif what == b'plain':

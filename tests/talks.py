@@ -438,7 +438,7 @@ def a_line_of_megabytes(server):
     sender = threading.Thread(target=server.send, args=['a' * 5000000, '12 bob hi'])
     sender.start()
     player.type('')
-    player.sees('cut ' + 'a' * 4096, 'message 12 bob hi')
+    player.sees('cut ' + 'a' * 16384, 'message 12 bob hi')
     sender.join()
     player.quits()
 

@@ -33,13 +33,13 @@ Reads the server's bytes from standard input, and prints for each line one of
   board:...               a board of style 3 whose 53 fields are right
   message N ...           a numbered message of CLIP, its fields right
   text TEXT               any other line
-  cut TEXT                a line of more than 4096 bytes, of which these are the first
+  cut TEXT                a line of more than 16,384 bytes, of which these are the first
   malformed N FIELD WHY   a board (N is 0) or message N whose field FIELD is the first that is
                           wrong: WHY is Missing, Extra, NotANumber, OutOfRange or BadName
 
 and at the end, where bytes stand after the last line end,
 
-  unfinished COUNT        how many they are, up to 4096
+  unfinished COUNT        how many they are, up to 16,384
 
 Telnet commands, and the prompts `login: ` and `> ` at a line's start, are left out. In TEXT and
 in a message each backslash and each byte that is not printable ASCII is `\\x` and two hexadecimal
@@ -79,6 +79,8 @@ Each other line is one event:
   open                    the client connects; it logs in as ann, with the password secret
   click COMMAND           the player decides, as in `click roll` and `click move 24-18`
   plain COMMAND           the player sends another command, as in `plain say hello`
+  order roll              from now on the client rolls by itself where the player may not double,
+  withdraw roll           and no longer
   deliver N               the next N bytes reach the client, or all that are on their way
   lose K                  the connection breaks; of what is on its way to the server K bytes arrive
   serve C D1 D2           the server takes the next line of connection C, and rolls D1 and D2
@@ -103,9 +105,9 @@ For example, a player who clicks twice before the answer comes:
   end 12
 
 It prints what the client and the server noted, a line each: opened C, loggedin C, welcomed C,
-informed C AUTOMOVE GREEDY, shown C BOARD, clicked C ok or clicked C WHY, sent C BOARD COMMAND,
-took C BOARD COMMAND, undone C BOARD COMMAND, and lost C, or lost C BOARD COMMAND with what was not
-confirmed; C is the connection. The last line is one of
+informed C AUTOMOVE GREEDY, shown C BOARD, clicked C ok or clicked C WHY, ordered C, withdrawn C,
+sent C BOARD COMMAND, took C BOARD COMMAND, undone C BOARD COMMAND, and lost C, or
+lost C BOARD COMMAND with what was not confirmed; C is the connection. The last line is one of
 
   end DONE                each event was done, and DONE is how many
   refused DONE N WHY      the event after DONE ones may not be, with status 3
@@ -127,6 +129,9 @@ Then each line that is typed is one of
   roll                    roll the dice
   move 8-5 6-5            play, in the places of the board line; `move bar-20`, `move 3-off`
   double, accept, reject  offer the cube, take it, give the game up
+  resign n                offer to lose a single game; `resign g` a gammon, `resign b` a backgammon
+  order roll              roll by itself where you may not double, until `withdraw roll` or the end of
+                          the connection
   board                   ask for the board again
   who                     ask for the list of players
   say good luck           to the opponent; so `kibitz TEXT` and `whisper TEXT` to those who watch
@@ -144,7 +149,8 @@ Then each line that is typed is one of
 
 and is answered by one of
 
-  sent COMMAND            it went to the server
+  sent COMMAND            it went to the server; so says `sent roll` after a board that an order rolled
+  ordered, withdrawn      the order to roll is given, or withdrawn
   refused NUMBER WHY      it can't be sent now, or is against the rules: nothing was sent
   fault NUMBER WHY        a name or a text is none
   unknown                 it is no command, or has more than 4096 bytes

@@ -1,14 +1,16 @@
 -- The commands of decisions.
-use Rattle.std.proofs.Common.{◌≤◌, ◌+◌, ◌*◌, ℕ, List, [], ◌∷◌, length, get_or, refl, ap, arith, rules, map}
-use Rattle.std.proofs.Common.{length-append, length-take}
-use Rattle.std.specs.Prelude.{All, codes, take}
-use Rattle.std.proofs.lemmas.List.{append_cancel_left, length-map}
+use Rattle.std.proofs.Common.{◌≡◌, ◌≤◌, ◌*◌, ℕ, List, [], ◌∷◌, length, get_or, refl, ap, arith, rules}
+use Rattle.std.proofs.Common.{length-append}
+use Rattle.std.specs.Prelude.{All, codes}
+use Rattle.std.proofs.lemmas.List.{append_cancel_left}
 use Rattle.std.proofs.lemmas.List.Elements.{All-weaker, All-append, All-cons, All-nil, All-head, All-tail}
-use Rattle.std.proofs.lemmas.List.Elements.{All-from_recursion, All-map}
+use Rattle.std.proofs.lemmas.List.Elements.{All-from_recursion}
 use Rattle.fibs_rules.specs.Hop.{Hop, IsStep}
-use Rattle.fibs_position.specs.DecisionValue.{roll, double, accept, reject, move}
+use Rattle.fibs_position.specs.DecisionValue.{roll, double, accept, reject, move, resign}
 use Rattle.fibs_position.specs.declared.direction.Direction.{Direction}
-use Rattle.fibs_commands.specs.Commands.{step_text, steps_text, command_of}
+use Rattle.fibs_position.specs.declared.stake.Stake.{Stake}
+use Rattle.fibs_position.specs.declared.stake.Stake.TheVariants.{Normal, Gammon, Backgammon}
+use Rattle.fibs_commands.specs.Commands.{step_text, steps_text, stake_text, command_of}
 use Rattle.fibs_commands.specs.CommandLaws.{CommandsTellDecisions, CommandsAreShort, CommandsArePrinted}
 use Rattle.fibs_commands.specs.CommandLaws.{PlainInBothDirections}
 use Rattle.fibs_boards.specs.Printed.{IsPrinted}
@@ -40,9 +42,20 @@ steps_short direction (step ∷ steps) each =
       length-append (32 ∷ step_text direction step) (steps_text direction steps),
     )
 
--- a number by which the five words differ
-abbrev letters : List ℕ → ℕ
-letters text = get_or text 0 0 + get_or text 1 0
+-- the third letter, by which the six words differ
+abbrev third : List ℕ → ℕ
+third text = get_or text 2 0
+
+-- the first letter, by which stakes differ
+abbrev first : List ℕ → ℕ
+first text = get_or text 0 0
+
+-- stakes of one letter are one
+same_stake : (s t : Stake) → stake_text s ≡ stake_text t → s ≡ t
+same_stake Normal Normal e = refl
+same_stake Gammon Gammon e = refl
+same_stake Backgammon Backgammon e = refl
+same_stake s t e = absurd (omega (arith, ap first e))
 
 pub commands_tell_decisions : CommandsTellDecisions
 unfolding command_of
@@ -52,7 +65,9 @@ commands_tell_decisions direction accept accept ia ib e = refl
 commands_tell_decisions direction reject reject ia ib e = refl
 commands_tell_decisions direction (move xs) (move ys) ia ib e =
     ap (λ steps. move steps) (steps_injective direction xs ys ia.0 ib.0 (append_cancel_left (codes "move") _ _ e))
-commands_tell_decisions direction a b ia ib e = absurd (omega (arith, ap letters e))
+commands_tell_decisions direction (resign s) (resign t) ia ib e =
+    ap (λ stake. resign stake) (same_stake s t (append_cancel_left (codes "resign ") _ _ e))
+commands_tell_decisions direction a b ia ib e = absurd (omega (arith, ap third e))
 
 pub commands_are_short : CommandsAreShort
 unfolding command_of
@@ -62,6 +77,9 @@ commands_are_short direction accept is = omega arith
 commands_are_short direction reject is = omega arith
 commands_are_short direction (move steps) is =
     omega (arith, is.1, steps_short direction steps is.0, length-append (codes "move") (steps_text direction steps))
+commands_are_short direction (resign Normal) is = omega arith
+commands_are_short direction (resign Gammon) is = omega arith
+commands_are_short direction (resign Backgammon) is = omega arith
 
 pub commands_are_printed : CommandsArePrinted
 unfolding command_of
@@ -74,6 +92,12 @@ commands_are_printed direction (move steps) is = (
       (steps_printed direction steps is.0),
   omega (arith, length-append (codes "move") (steps_text direction steps)),
 )
+commands_are_printed direction (resign Normal) is =
+    (All-from_recursion IsPrinted (codes "resign n") (search rules), omega arith)
+commands_are_printed direction (resign Gammon) is =
+    (All-from_recursion IsPrinted (codes "resign g") (search rules), omega arith)
+commands_are_printed direction (resign Backgammon) is =
+    (All-from_recursion IsPrinted (codes "resign b") (search rules), omega arith)
 
 pub plain_in_both_directions : PlainInBothDirections
 unfolding command_of
@@ -82,3 +106,4 @@ plain_in_both_directions double still = refl
 plain_in_both_directions accept still = refl
 plain_in_both_directions reject still = refl
 plain_in_both_directions (move steps) still = absurd still
+plain_in_both_directions (resign stake) still = refl

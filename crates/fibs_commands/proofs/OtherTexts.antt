@@ -1,7 +1,7 @@
 -- No login, plain command or command that sets up a connection is the command of a decision.
-use Rattle.std.proofs.Common.{◌≡◌, ℕ, ◌+◌, ◌*◌, ◌==◌, ◌||◌, Bool, true, false, List, ◌∷◌, ◌++◌, Option, Some, None}
-use Rattle.std.proofs.Common.{get_or, codes, refl, sym, ap, ◌∙◌, true≢false}
-use Rattle.fibs_position.specs.DecisionValue.{DecisionValue, roll, double, accept, reject, move}
+use Rattle.std.proofs.Common.{◌≡◌, ℕ, ◌+◌, ◌*◌, ◌==◌, ◌||◌, Bool, true, false, List, Option, Some, None}
+use Rattle.std.proofs.Common.{get_or, refl, sym, ap, ◌∙◌, true≢false}
+use Rattle.fibs_position.specs.DecisionValue.{DecisionValue, roll, double, accept, reject, move, resign}
 use Rattle.fibs_position.specs.declared.direction.Direction.{Direction}
 use Rattle.fibs_commands.specs.Commands.{command_of}
 use Rattle.fibs_commands.specs.CommandReading.{read_command}
@@ -13,7 +13,7 @@ use Rattle.fibs_commands.specs.PlainCommands.{automove_off, greedy_off, bye, pla
 use Rattle.fibs_commands.specs.CommandLaws.{ReadCommandIsExact, IsSent, LoginsAreSent, PlainIsSent, FirstAreSent}
 use Rattle.fibs_commands.specs.CommandLaws.{IsOther, LoginIsOther, StyleIsOther, PlainIsOther, InitialAreOther}
 
--- a number of the first two letters, by which the words of decisions are known
+-- a number of the first two letters, by which the words of decisions are known: that of `resign` is that of `reject`
 abbrev letters : List ℕ → ℕ
 letters text = 2 * get_or text 0 0 + get_or text 1 0
 
@@ -28,6 +28,7 @@ command_letters direction double = refl
 command_letters direction accept = refl
 command_letters direction reject = refl
 command_letters direction (move steps) = refl
+command_letters direction (resign stake) = refl
 
 -- a text that begins with other letters is no decision
 other : ReadCommandIsExact → (text : List ℕ) → IsSent text → is_letters (letters text) ≡ false → IsOther text

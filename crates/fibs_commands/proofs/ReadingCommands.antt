@@ -1,10 +1,9 @@
 -- A text is read as a decision exactly where it is the command of that one.
-use Rattle.std.proofs.Common.{◌≡◌, ◌≢◌, ℕ, zero, suc, ◌+◌, ◌^◌, ◌-◌, ◌<◌, ◌≤◌, ◌==◌, ◌&&◌, ◌↔◌, Bool, true, false, cond}
-use Rattle.std.proofs.Common.{not, nat_le, nat_lt, nat_eq, List, [], ◌∷◌, ◌++◌, length, map, codes, decimal, Option}
+use Rattle.std.proofs.Common.{◌≡◌, ◌≢◌, ℕ, ◌+◌, ◌^◌, ◌<◌, ◌≤◌, ◌==◌, ◌&&◌, ◌↔◌, Bool, true, false, cond}
+use Rattle.std.proofs.Common.{nat_le, nat_lt, List, [], ◌∷◌, ◌++◌, length, map, codes, decimal, Option}
 use Rattle.std.proofs.Common.{Some, None, option_map, refl, ap, sym, ◌∙◌, subst, arith, append_assoc, append-nil}
-use Rattle.std.proofs.Common.{true≢false}
 use Rattle.std.specs.Prelude.{All}
-use Rattle.std.specs.List.{flat_map, slice_split, join_with_byte}
+use Rattle.std.specs.List.{flat_map, join_with_byte}
 use Rattle.std.specs.Str.{bytes_eq}
 use Rattle.std.proofs.lemmas.Bool.{and_parts}
 use Rattle.std.proofs.lemmas.Bool.Decides.{nat_tests}
@@ -16,19 +15,21 @@ use Rattle.fibs_fields.specs.Decimal.{decimal_up_to}
 use Rattle.fibs_fields.specs.Split.{before, after}
 use Rattle.fibs_rules.specs.Hop.{Hop, IsStep}
 use Rattle.fibs_position.specs.DirectionOf.{line_place}
-use Rattle.fibs_position.specs.DecisionValue.{DecisionValue, roll, double, accept, reject, move, IsDecision}
+use Rattle.fibs_position.specs.DecisionValue.{DecisionValue, roll, double, accept, reject, move, resign}
+use Rattle.fibs_position.specs.DecisionValue.{IsDecision}
 use Rattle.fibs_position.specs.declared.direction.Direction.{Direction}
 use Rattle.fibs_position.specs.declared.direction.Direction.TheVariants.{Down, Up}
-use Rattle.fibs_commands.specs.Commands.{place_text, step_text, steps_text, command_of}
+use Rattle.fibs_position.specs.declared.stake.Stake.{Stake}
+use Rattle.fibs_position.specs.declared.stake.Stake.TheVariants.{Normal, Gammon, Backgammon}
+use Rattle.fibs_commands.specs.Commands.{place_text, step_text, steps_text, stake_text, command_of}
 use Rattle.fibs_commands.specs.CommandReading.{ReadCommand, numbered_place, place_in, place_after, step_between}
-use Rattle.fibs_commands.specs.CommandReading.{step_in}
-use Rattle.fibs_commands.specs.CommandReading.{step_then, steps_in, play_from, turn_in, decision_in, words_after}
-use Rattle.fibs_commands.specs.CommandReading.{read_command}
+use Rattle.fibs_commands.specs.CommandReading.{step_in, step_then, steps_in, play_from, words_after, stake_in}
+use Rattle.fibs_commands.specs.CommandReading.{stake_after, turn_in, turn_alone, decision_in, read_command}
 use Rattle.fibs_commands.specs.CommandLaws.{ReadCommandIsExact}
-use Rattle.fibs_commands.proofs.PlaceLemmas.{place_cases, on_bar, borne_off, numbered, place_number, line_place_low}
+use Rattle.fibs_commands.proofs.PlaceLemmas.{place_cases, on_bar, borne_off, numbered, place_number}
 use Rattle.fibs_commands.proofs.PlaceLemmas.{word_differs}
 use Rattle.fibs_commands.proofs.StepLemmas.{place_no_dash, step_no_space}
-use Rattle.fibs_commands.proofs.SplitLemmas.{from, before_and_from, Without, split_there, words_of}
+use Rattle.fibs_commands.proofs.SplitLemmas.{from, before_and_from, split_there, words_of}
 
 -- what fibs_fields says of the numbers up to a limit
 abbrev pub DecimalsAreExact : Type 0
@@ -257,11 +258,6 @@ from_words (Some s) =
     ap (λ x. 32 ∷ x) (sym (join_with_byte-slice_split 32 s)) ∙ ap (λ x. 32 ∷ join_with_byte 32 x) words
     ∙ joined (before 32 s) (words_after (after 32 s)) ∙ ap spaced (sym words)
 
--- where no word follows, nothing does
-no_words : (o : Option (List ℕ)) → words_after o ≡ [] → o ≡ None
-no_words None e = refl
-no_words (Some s) e = let none : before 32 s ∷ words_after (after 32 s) ≡ [] = sym (words_of s) ∙ e in absurd cc
-
 -- steps as words
 spaced_steps : (direction : Direction) (steps : List Hop)
     → spaced (map (step_text direction) steps) ≡ steps_text direction steps
@@ -330,6 +326,42 @@ turn_reads direction word d h = one (bytes_eq word (codes "roll")) refl h
     one true t f = is (codes "roll") roll t tt refl (cc)
     one false t f = two (bytes_eq word (codes "double")) refl f
 
+-- what is read as a stake is its letter
+stake_reads : (letter : List ℕ) (stake : Stake) → stake_in letter ≡ Some stake → letter ≡ stake_text stake
+unfolding stake_in
+stake_reads letter stake h = one (bytes_eq letter (codes "n")) refl h
+  where
+    is : (text : List ℕ) (s : Stake) → bytes_eq letter text ≡ true → text ≡ stake_text s → s ≡ stake
+        → letter ≡ stake_text stake
+    is text s t of_it same = (bytes_eq-Decides letter text).0 t ∙ of_it ∙ ap stake_text same
+
+    three : (t : Bool) → bytes_eq letter (codes "b") ≡ t → cond t (Some Backgammon) None ≡ Some stake
+        → letter ≡ stake_text stake
+    three true t f = is (codes "b") Backgammon t refl (cc)
+    three false t f = absurd cc
+
+    two : (t : Bool) → bytes_eq letter (codes "g") ≡ t
+        → cond t (Some Gammon) (cond (bytes_eq letter (codes "b")) (Some Backgammon) None) ≡ Some stake
+        → letter ≡ stake_text stake
+    two true t f = is (codes "g") Gammon t refl (cc)
+    two false t f = three (bytes_eq letter (codes "b")) refl f
+
+    one : (t : Bool) → bytes_eq letter (codes "n") ≡ t
+        → cond t (Some Normal) (cond (bytes_eq letter (codes "g")) (Some Gammon)
+        (cond (bytes_eq letter (codes "b")) (Some Backgammon) None)) ≡ Some stake
+        → letter ≡ stake_text stake
+    one true t f = is (codes "n") Normal t refl (cc)
+    one false t f = two (bytes_eq letter (codes "g")) refl f
+
+-- the text of a resignation by its letter
+resign_text : (direction : Direction) (text word : List ℕ) (o : Option (List ℕ)) (stake : Stake)
+    → text ≡ word ++ from 32 o → word ≡ codes "resign" → stake_after o ≡ Some stake
+    → text ≡ command_of direction (resign stake)
+unfolding command_of
+resign_text direction text word None stake t w e = absurd cc
+resign_text direction text word (Some letter) stake t w e =
+    t ∙ ap (λ x. x ++ 32 ∷ letter) w ∙ ap (λ x. codes "resign " ++ x) (stake_reads letter stake e)
+
 -- the text of a play by its words
 play_text : (direction : Direction) (text word : List ℕ) (o : Option (List ℕ)) (steps : List Hop)
     → text ≡ word ++ from 32 o → word ≡ codes "move" → words_after o ≡ map (step_text direction) steps
@@ -362,12 +394,10 @@ command_reads decimals direction text d h = go (bytes_eq (before 32 text) (codes
     word : List ℕ
     word = before 32 text
 
-    alone : (t : Bool) → (length (words_after (after 32 text)) == 0) ≡ t
-        → cond t (turn_in (before 32 text)) None ≡ Some d → ReadCommand text direction d
-    alone true t f =
-        let none : length (words_after (after 32 text)) ≡ 0 = grind (arith, nat_tests) in
+    alone : (o : Option (List ℕ)) → after 32 text ≡ o → turn_alone (before 32 text) o ≡ Some d
+        → ReadCommand text direction d
+    alone None nothing f =
         let turn = turn_reads direction (before 32 text) d f in
-        let nothing : after 32 text ≡ None = no_words (after 32 text) (empty (words_after (after 32 text)) none) in
         record {
           valid =
               turn.0;
@@ -375,15 +405,32 @@ command_reads decimals direction text d h = go (bytes_eq (before 32 text) (codes
               before_and_from 32 text ∙ ap (λ x. before 32 text ++ from 32 x) nothing ∙ append-nil (before 32 text)
               ∙ turn.1;
         }
-      where
-        empty : (words : List (List ℕ)) → length words ≡ 0 → words ≡ []
-        empty [] e = refl
-        empty (w ∷ words) e = absurd (omega arith)
-    alone false t f = absurd cc
+    alone (Some rest) some f = absurd cc
+
+    resigns : (o : Option Stake) → stake_after (after 32 text) ≡ o → bytes_eq (before 32 text) (codes "resign") ≡ true
+        → option_map (λ stake. resign stake) o ≡ Some d → ReadCommand text direction d
+    resigns None e t f = absurd cc
+    resigns (Some stake) e t f =
+        let same : resign stake ≡ d = cc in
+        let is : ReadCommand text direction (resign stake) = record {
+          valid = tt;
+          text_is =
+              resign_text direction text (before 32 text) (after 32 text) stake (before_and_from 32 text)
+              ((bytes_eq-Decides (before 32 text) (codes "resign")).0 t) e;
+        } in
+        subst (ReadCommand text direction) same is
+
+    other : (t : Bool) → bytes_eq (before 32 text) (codes "resign") ≡ t
+        → cond t (option_map (λ stake. resign stake) (stake_after (after 32 text)))
+        (turn_alone (before 32 text) (after 32 text)) ≡ Some d
+        → ReadCommand text direction d
+    other true t f = resigns (stake_after (after 32 text)) refl t f
+    other false t f = alone (after 32 text) refl f
 
     go : (t : Bool) → bytes_eq (before 32 text) (codes "move") ≡ t
         → cond t (option_map (λ steps. move steps) (play_from direction [] (words_after (after 32 text))))
-        (cond (length (words_after (after 32 text)) == 0) (turn_in (before 32 text)) None) ≡ Some d
+        (cond (bytes_eq (before 32 text) (codes "resign")) (option_map (λ stake. resign stake)
+        (stake_after (after 32 text))) (turn_alone (before 32 text) (after 32 text))) ≡ Some d
         → ReadCommand text direction d
     go true t f =
         let play = play_reads decimals direction (words_after (after 32 text)) d f in
@@ -399,7 +446,7 @@ command_reads decimals direction text d h = go (bytes_eq (before 32 text) (codes
               ((bytes_eq-Decides (before 32 text) (codes "move")).0 t) are.1;
         } in
         subst (ReadCommand text direction) same is
-    go false t f = alone (length (words_after (after 32 text)) == 0) refl f
+    go false t f = other (bytes_eq (before 32 text) (codes "resign")) refl f
 
 -- a play is read by its command
 move_finds : DecimalsAreExact → (direction : Direction) (steps : List Hop) → All IsStep steps → length steps ≤ 4
@@ -417,9 +464,9 @@ move_finds decimals direction steps is few =
     let count : nat_le (0 + length words) 4 ≡ true =
     within (length words) (omega (arith, length-map steps (step_text direction))) in
     ap (read_command direction) text
-    ∙ ap (λ x. decision_in direction x (words_after (after 32 (codes "move" ++ from 32 rest.rest)))) apart.0
-    ∙ ap (λ x. decision_in direction (codes "move") (words_after x)) apart.1
-    ∙ ap (λ x. decision_in direction (codes "move") x) rest.words
+    ∙ ap (λ x. decision_in direction x (after 32 (codes "move" ++ from 32 rest.rest))) apart.0
+    ∙ ap (λ x. decision_in direction (codes "move") x) apart.1
+    ∙ ap (λ x. option_map (λ s. move s) (play_from direction [] x)) rest.words
     ∙ ap (λ t. option_map (λ s. move s) (cond t (option_map (λ later. [] ++ later) (steps_in direction words)) None))
     count
     ∙ ap (λ r. option_map (λ s. move s) (option_map (λ later. [] ++ later) r)) (steps_named decimals direction steps is)
@@ -430,12 +477,15 @@ move_finds decimals direction steps is few =
 -- each decision is read by its command
 command_finds : DecimalsAreExact → (direction : Direction) (d : DecisionValue) → IsDecision d
     → read_command direction (command_of direction d) ≡ Some d
-unfolding read_command decision_in turn_in command_of
+unfolding read_command decision_in stake_in turn_in command_of
 command_finds decimals direction roll is = refl
 command_finds decimals direction double is = refl
 command_finds decimals direction accept is = refl
 command_finds decimals direction reject is = refl
 command_finds decimals direction (move steps) is = move_finds decimals direction steps is.0 is.1
+command_finds decimals direction (resign Normal) is = refl
+command_finds decimals direction (resign Gammon) is = refl
+command_finds decimals direction (resign Backgammon) is = refl
 
 -- the function and the relation say the same
 pub read_command_is_exact : DecimalsAreExact → ReadCommandIsExact

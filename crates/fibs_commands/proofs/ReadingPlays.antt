@@ -1,13 +1,12 @@
 -- How a play is read, word by word.
-use Rattle.std.proofs.Common.{◌≡◌, ℕ, suc, ◌+◌, ◌<◌, ◌≤◌, ◌==◌, Bool, true, false, cond, codes, not, nat_le, nat_lt}
+use Rattle.std.proofs.Common.{◌≡◌, ℕ, suc, ◌+◌, ◌<◌, ◌≤◌, Bool, true, false, cond, nat_le, nat_lt}
 use Rattle.std.proofs.Common.{IsTrue, true≢false, List, [], ◌∷◌, ◌++◌, length, Option, Some, None, option_map, refl, ap}
 use Rattle.std.proofs.Common.{sym, ◌∙◌, arith, append_assoc, append-nil, length-append}
 use Rattle.std.proofs.lemmas.Bool.Decides.{nat_tests}
-use Rattle.std.specs.Str.{bytes_eq}
 use Rattle.fibs_fields.specs.Split.{before, after}
 use Rattle.fibs_rules.specs.Hop.{Hop}
 use Rattle.fibs_position.specs.declared.direction.Direction.{Direction}
-use Rattle.fibs_commands.specs.CommandReading.{decision_in, step_in, step_then, steps_in, play_from, words_after}
+use Rattle.fibs_commands.specs.CommandReading.{step_in, steps_in, play_from, words_after}
 use Rattle.fibs_commands.proofs.SplitLemmas.{words_of, left_len, after_shorter}
 
 -- a word that is no step ends the reading
@@ -91,17 +90,6 @@ pub none_left : (direction : Direction) (played : List Hop) (all : Option (List 
     → all ≡ play_from direction played (words_after o) → all ≡ Some played
 none_left direction played all o is few h =
     h ∙ ap (λ x. play_from direction played (words_after x)) is ∙ ended direction played few
-
--- after a word that is not `move`, no further word may stand
-pub no_more : (direction : Direction) (word : List ℕ) (o : Option (List ℕ)) (rest : List ℕ)
-    → bytes_eq word (codes "move") ≡ false → o ≡ Some rest → decision_in direction word (words_after o) ≡ None
-unfolding decision_in
-no_more direction word o rest other is =
-    let some : words_after o ≡ before 32 rest ∷ words_after (after 32 rest) = ap words_after is ∙ words_of rest in
-    rw (other, some, positive (length (words_after (after 32 rest)))) refl
-  where
-    positive : (n : ℕ) → (suc n == 0) ≡ false
-    positive n = grind (arith, nat_tests)
 
 -- less is left after a word
 pub less_left : (o p : Option (List ℕ)) (text : List ℕ) → o ≡ Some text → p ≡ after 32 text → left_len p < left_len o

@@ -1,6 +1,6 @@
 -- Every command is sent as the one line that it is.
-use Rattle.std.proofs.Common.{◌≡◌, ◌≢◌, ℕ, ◌+◌, ◌*◌, ◌^◌, ◌<◌, ◌≤◌, ◌==◌, ◌&&◌, Bool, true, false, not, nat_le, nat_lt}
-use Rattle.std.proofs.Common.{nat_eq, List, [], ◌∷◌, ◌++◌, length, codes, decimal, refl, ap, sym, ◌∙◌, arith, rules}
+use Rattle.std.proofs.Common.{◌≡◌, ◌≢◌, ℕ, ◌+◌, ◌≤◌, ◌&&◌, true, false, nat_le, nat_lt}
+use Rattle.std.proofs.Common.{nat_eq, List, [], ◌∷◌, ◌++◌, length, codes, decimal, refl, ap, ◌∙◌, arith, rules}
 use Rattle.std.proofs.Common.{length-append}
 use Rattle.std.specs.Prelude.{All}
 use Rattle.std.specs.List.{list_all, starts_with}
@@ -9,18 +9,17 @@ use Rattle.std.proofs.lemmas.Bool.Decides.{nat_tests}
 use Rattle.std.proofs.lemmas.Fmt.{decimal_is_IsNumeral, length-decimal-le}
 use Rattle.std.proofs.lemmas.Str.Parse.{digit_at}
 use Rattle.std.proofs.lemmas.List.Elements.{All-append, All-cons, All-weaker, All-from_recursion, All-from_get_or}
-use Rattle.fibs_lines.specs.Lines.{lines_of, login_prompt, command_prompt}
-use Rattle.fibs_lines.specs.StreamLaws.{IsSendable, with_line_end, EmptyStreamHasNoLine, SendableTextIsItsLine}
+use Rattle.fibs_lines.specs.Lines.{login_prompt, command_prompt}
+use Rattle.fibs_lines.specs.StreamLaws.{IsSendable, EmptyStreamHasNoLine, SendableTextIsItsLine}
 use Rattle.fibs_fields.specs.Name.{is_name}
 use Rattle.fibs_boards.specs.Printed.{IsPrinted}
-use Rattle.fibs_position.specs.DecisionValue.{DecisionValue, roll, double, accept, reject, move, IsDecision}
-use Rattle.fibs_position.specs.declared.direction.Direction.{Direction}
-use Rattle.fibs_commands.specs.Commands.{command_of, steps_text}
+use Rattle.fibs_position.specs.DecisionValue.{roll, double, accept, reject, move, resign}
+use Rattle.fibs_commands.specs.Commands.{command_of, stake_text, steps_text}
 use Rattle.fibs_commands.specs.FirstCommands.{style_text, autoboard_text, moreboards_text, board_text}
-use Rattle.fibs_commands.specs.Logins.{IsLogin, login_text, is_password, is_password_byte}
-use Rattle.fibs_commands.specs.PlainCommands.{PlainValue, board_again, who, say, tell, shout, whisper, kibitz}
+use Rattle.fibs_commands.specs.Logins.{login_text, is_password, is_password_byte}
+use Rattle.fibs_commands.specs.PlainCommands.{board_again, who, say, tell, shout, whisper, kibitz}
 use Rattle.fibs_commands.specs.PlainCommands.{leave_message, invite, invite_to, join, join_with, toggle_ready}
-use Rattle.fibs_commands.specs.PlainCommands.{automove_off, greedy_off, bye, plain_of, plain_fault_of, is_printed}
+use Rattle.fibs_commands.specs.PlainCommands.{automove_off, greedy_off, bye, plain_of, plain_fault_of}
 use Rattle.fibs_commands.specs.PlainCommands.{is_text_byte}
 use Rattle.fibs_commands.specs.CommandLaws.{CommandsAreShort, CommandsArePrinted, IsSent, DecisionsAreSent, PlainIsSent}
 use Rattle.fibs_commands.specs.CommandLaws.{LoginsAreSent, FirstAreSent}
@@ -112,6 +111,10 @@ decisions_are_sent laws printed short direction reject is =
 decisions_are_sent laws printed short direction (move steps) is =
     let few = short direction (move steps) is in
     sent laws (codes "move" ++ steps_text direction steps) (printed direction (move steps) is).0 (omega (arith, few))
+    refl refl
+decisions_are_sent laws printed short direction (resign stake) is =
+    let few = short direction (resign stake) is in
+    sent laws (codes "resign " ++ stake_text stake) (printed direction (resign stake) is).0 (omega (arith, few))
     refl refl
 
 -- logins

@@ -1,9 +1,10 @@
 -- What the laws of the commands say.
-use Rattle.std.specs.Prelude.{◌≡◌, ◌↔◌, ◌≤◌, ◌<◌, ℕ, true, false, List, [], ◌∷◌, Some, None, All, length}
+use Rattle.std.specs.Prelude.{◌≡◌, ◌↔◌, ◌≤◌, ◌<◌, ℕ, false, List, [], ◌∷◌, Some, None, All, length}
 use Rattle.fibs_lines.specs.Lines.{lines_of}
 use Rattle.fibs_lines.specs.StreamLaws.{IsSendable, with_line_end}
 use Rattle.fibs_boards.specs.Printed.{IsPrinted}
-use Rattle.fibs_position.specs.DecisionValue.{DecisionValue, roll, double, accept, reject, move, IsDecision}
+use Rattle.fibs_position.specs.DecisionValue.{DecisionValue, roll, double, accept, reject, move, resign}
+use Rattle.fibs_position.specs.DecisionValue.{IsDecision}
 use Rattle.fibs_position.specs.declared.direction.Direction.{Direction}
 use Rattle.fibs_position.specs.declared.direction.Direction.TheVariants.{Down, Up}
 use Rattle.fibs_commands.specs.Commands.{command_of}
@@ -36,6 +37,7 @@ MovesNothing double = Unit {0}
 MovesNothing accept = Unit {0}
 MovesNothing reject = Unit {0}
 MovesNothing (move steps) = ⊥
+MovesNothing (resign stake) = Unit {0}
 
 -- such a decision has one command in both directions
 abbrev pub PlainInBothDirections : Type 0

@@ -7,8 +7,11 @@ use Rattle.fibs_fields.specs.Decimal.{decimal_up_to}
 use Rattle.fibs_fields.specs.Split.{before, after}
 use Rattle.fibs_rules.specs.Hop.{Hop}
 use Rattle.fibs_position.specs.DirectionOf.{line_place}
-use Rattle.fibs_position.specs.DecisionValue.{DecisionValue, roll, double, accept, reject, move, IsDecision}
+use Rattle.fibs_position.specs.DecisionValue.{DecisionValue, roll, double, accept, reject, move, resign}
+use Rattle.fibs_position.specs.DecisionValue.{IsDecision}
 use Rattle.fibs_position.specs.declared.direction.Direction.{Direction}
+use Rattle.fibs_position.specs.declared.stake.Stake.{Stake}
+use Rattle.fibs_position.specs.declared.stake.Stake.TheVariants.{Normal, Gammon, Backgammon}
 use Rattle.fibs_commands.specs.Commands.{command_of}
 
 -- the text is this decision's command
@@ -56,7 +59,24 @@ unfoldable pub play_from : Direction → List Hop → List (List ℕ) → Option
 play_from direction steps words =
     cond (nat_le (length steps + length words) 4) (option_map (λ later. steps ++ later) (steps_in direction words)) None
 
--- a decision that moves no checker
+-- the words between the spaces of what follows a space, where there is one
+abbrev pub words_after : Option (List ℕ) → List (List ℕ)
+words_after None = []
+words_after (Some rest) = slice_split (λ b. b == 32) rest
+
+-- the stake of a letter
+unfoldable pub stake_in : List ℕ → Option Stake
+stake_in letter =
+    cond (bytes_eq letter (codes "n")) (Some Normal)
+    (cond (bytes_eq letter (codes "g")) (Some Gammon)
+    (cond (bytes_eq letter (codes "b")) (Some Backgammon) None))
+
+-- the stake of what follows a space, where there is one
+abbrev pub stake_after : Option (List ℕ) → Option Stake
+stake_after None = None
+stake_after (Some rest) = stake_in rest
+
+-- the decision of one word
 unfoldable pub turn_in : List ℕ → Option DecisionValue
 turn_in word =
     cond (bytes_eq word (codes "roll")) (Some roll)
@@ -64,17 +84,18 @@ turn_in word =
     (cond (bytes_eq word (codes "accept")) (Some accept)
     (cond (bytes_eq word (codes "reject")) (Some reject) None)))
 
--- the decision of a first word and of the words after it
-unfoldable pub decision_in : Direction → List ℕ → List (List ℕ) → Option DecisionValue
-decision_in direction word words =
-    cond (bytes_eq word (codes "move")) (option_map (λ steps. move steps) (play_from direction [] words))
-    (cond (length words == 0) (turn_in word) None)
+-- the decision of a word behind which nothing stands
+abbrev pub turn_alone : List ℕ → Option (List ℕ) → Option DecisionValue
+turn_alone word None = turn_in word
+turn_alone word (Some rest) = None
 
--- the words between the spaces of what follows a space, where there is one
-abbrev pub words_after : Option (List ℕ) → List (List ℕ)
-words_after None = []
-words_after (Some rest) = slice_split (λ b. b == 32) rest
+-- the decision of a first word and of what follows the space behind it
+unfoldable pub decision_in : Direction → List ℕ → Option (List ℕ) → Option DecisionValue
+decision_in direction word rest =
+    cond (bytes_eq word (codes "move")) (option_map (λ steps. move steps) (play_from direction [] (words_after rest)))
+    (cond (bytes_eq word (codes "resign")) (option_map (λ stake. resign stake) (stake_after rest))
+    (turn_alone word rest))
 
 -- the decision of a command
 unfoldable pub read_command : Direction → List ℕ → Option DecisionValue
-read_command direction text = decision_in direction (before 32 text) (words_after (after 32 text))
+read_command direction text = decision_in direction (before 32 text) (after 32 text)

@@ -7,14 +7,14 @@ ghost use Rattle.fibs_position.specs.DecisionValue.{decision_of};
 ghost use Rattle.fibs_position.specs.DecisionValue.{DecisionValue};
 ghost use Rattle.fibs_rules.specs.PlayValue.{hops_of};
 ghost use Rattle.fibs_rules.specs.Hop.{hop_of};
-ghost use Rattle.fibs_commands.specs.CommandReading.{ReadCommand, numbered_place, place_in, step_in, play_from, turn_in};
-ghost use Rattle.fibs_commands.specs.CommandReading.{words_after, read_command};
+ghost use Rattle.fibs_commands.specs.CommandReading.{ReadCommand, numbered_place, place_in, step_in, play_from};
+ghost use Rattle.fibs_commands.specs.CommandReading.{words_after, stake_in, turn_in, read_command};
 
 use super::decisions::{BAR, OFF};
 use crate::laws::read_command_is_exact;
 use fibs_fields::decimal::read_decimal;
 use fibs_fields::split::split;
-use fibs_position::{Decision, Direction, Play, Step};
+use fibs_position::{Decision, Direction, Play, Stake, Step};
 
 /// The place with one of the server's numbers, in the player's own numbering.
 fn numbered_place(name: &[u8], direction: Direction) -> Option<u8>
@@ -71,7 +71,23 @@ fn read_play(words: Option<&[u8]>, direction: Direction) -> Option<Play>
     Some(play)
 }
 
-/// The decision of a word, where it moves no checker.
+/// The stake that a letter says.
+#[tactic(auto, unfolding(crate::specs::CommandReading::stake_in))]
+fn read_stake(letter: &[u8]) -> Option<Stake>
+    ensures { result ≡ stake_in letter.now }
+{
+    if letter == b"n".as_slice() {
+        Some(Stake::Normal)
+    } else if letter == b"g".as_slice() {
+        Some(Stake::Gammon)
+    } else if letter == b"b".as_slice() {
+        Some(Stake::Backgammon)
+    } else {
+        None
+    }
+}
+
+/// The decision of one word.
 #[tactic(auto, unfolding(crate::specs::CommandReading::turn_in))]
 fn read_turn(word: &[u8]) -> Option<Decision>
     ensures { option_map decision_of result ≡ turn_in word.now }
@@ -97,6 +113,9 @@ fn read_words(text: &[u8], direction: Direction) -> Option<Decision>
     let (word, rest) = split(text, b' ');
     if word == b"move".as_slice() {
         return read_play(rest, direction).map(Decision::Move);
+    }
+    if word == b"resign".as_slice() {
+        return read_stake(rest?).map(Decision::Resign);
     }
     match rest {
         Some(_) => None,

@@ -3,11 +3,11 @@
 ghost use Rattle.std.specs.Prelude.{◌≡◌, ◌≤◌, ◌+◌, ◌++◌, length, codes};
 ghost use Rattle.fibs_position.specs.DecisionValue.{decision_of};
 ghost use Rattle.fibs_rules.specs.PlayValue.{hops_of};
-ghost use Rattle.fibs_commands.specs.Commands.{place_text, steps_text, command_of};
+ghost use Rattle.fibs_commands.specs.Commands.{place_text, steps_text, stake_text, command_of};
 ghost use Rattle.fibs_commands.specs.TextOf.{text_of};
 
 use super::text::{CommandText, command};
-use fibs_position::{Decision, Direction, Play};
+use fibs_position::{Decision, Direction, Play, Stake};
 use itoa::Buffer;
 
 /// The bar, in the player's own numbering.
@@ -48,9 +48,20 @@ fn move_text(play: &Play, direction: Direction) -> CommandText
     text
 }
 
-/// The command of a decision: `roll`, `double`, `accept`, `reject`, or `move` and for each step
-/// a space and `SOURCE-TARGET` in the server's place numbers, with `bar` and `off`. A play without
-/// a step is `move`.
+/// `resign` and the letter of the stake.
+fn resignation_text(stake: Stake) -> CommandText
+    ensures { text_of result ≡ codes "resign " ++ stake_text stake }
+{
+    match stake {
+        Stake::Normal => command("resign n"),
+        Stake::Gammon => command("resign g"),
+        Stake::Backgammon => command("resign b"),
+    }
+}
+
+/// The command of a decision: `roll`, `double`, `accept`, `reject`, `resign n`, `resign g`, `resign b`, or `move` and
+/// for each step a space and `SOURCE-TARGET` in the server's place numbers, with `bar` and `off`. A play without a step
+/// is `move`.
 ///
 /// `direction` is that of the board on which the player decides.
 #[tactic(auto, unfolding(crate::specs::Commands::command_of))]
@@ -63,5 +74,6 @@ pub fn decision_text(decision: &Decision, direction: Direction) -> CommandText
         Decision::Accept => command("accept"),
         Decision::Reject => command("reject"),
         Decision::Move(play) => move_text(play, direction),
+        Decision::Resign(stake) => resignation_text(*stake),
     }
 }

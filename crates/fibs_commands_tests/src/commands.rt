@@ -4,7 +4,7 @@ use fibs_commands::{
     Login, Plain, PlainFault, autoboard_text, board_text, decision_text, moreboards_text,
     plain_text, read_command, read_plain, style_text,
 };
-use fibs_position::{Decision, Direction, Play, Step};
+use fibs_position::{Decision, Direction, Play, Stake, Step};
 use std::process::Abort;
 
 /// The play of these steps, in the player's own numbering.
@@ -209,6 +209,9 @@ fn commands_are_read_as_the_decisions_that_print_them(rt: HostRuntime) {
         (Decision::Double, b"double".as_slice()),
         (Decision::Accept, b"accept".as_slice()),
         (Decision::Reject, b"reject".as_slice()),
+        (Decision::Resign(Stake::Normal), b"resign n".as_slice()),
+        (Decision::Resign(Stake::Gammon), b"resign g".as_slice()),
+        (Decision::Resign(Stake::Backgammon), b"resign b".as_slice()),
     ];
     for (decision, text) in words {
         assert!(rt;
@@ -225,7 +228,7 @@ fn commands_are_read_as_the_decisions_that_print_them(rt: HostRuntime) {
 
 #[test]
 fn every_other_line_is_no_decision(rt: HostRuntime) {
-    let lines: [&[u8]; 34] = [
+    let lines: [&[u8]; 45] = [
         b"",
         b" ",
         b"roll ",
@@ -236,6 +239,17 @@ fn every_other_line_is_no_decision(rt: HostRuntime) {
         b"roll\xff",
         b"double now",
         b"reject accept",
+        b"resign",
+        b"resign ",
+        b"resign x",
+        b"resign N",
+        b"resign n ",
+        b"resign  n",
+        b"resign n g",
+        b"resign normal",
+        b"resign gammon",
+        b" resign n",
+        b"Resign n",
         b"moves",
         b"move ",
         b"move24-18",
@@ -379,12 +393,17 @@ fn the_longest_play_is_printed_whole(rt: HostRuntime) {
 }
 
 #[test]
-fn other_decisions_are_one_word(rt: HostRuntime) -> Result<(), std::test::Fail> {
+fn other_decisions_have_one_text_in_both_directions(
+    rt: HostRuntime,
+) -> Result<(), std::test::Fail> {
     let rows = [
         (Decision::Roll, "roll"),
         (Decision::Double, "double"),
         (Decision::Accept, "accept"),
         (Decision::Reject, "reject"),
+        (Decision::Resign(Stake::Normal), "resign n"),
+        (Decision::Resign(Stake::Gammon), "resign g"),
+        (Decision::Resign(Stake::Backgammon), "resign b"),
     ];
     for (decision, text) in rows {
         for direction in [Direction::Down, Direction::Up] {

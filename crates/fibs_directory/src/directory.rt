@@ -17,7 +17,7 @@ use std::alloc::{AllocError, Global};
 use std::marker::Model;
 
 /// How many names a directory holds at most. The definitions have the same number once more.
-const LIMIT: usize = 4096;
+const MOST_PLAYERS: usize = 4096;
 
 /// The players of whom the server told in messages 5, until it told of their logout in a message 8.
 ///
@@ -120,7 +120,7 @@ impl Directory {
     fn is_full_for(&self, name: &[u8]) -> bool
         ensures { result ≡ is_full_for name.now self.now }
     {
-        self.len() >= LIMIT && !self.players.contains_key(name)
+        self.len() >= MOST_PLAYERS && !self.players.contains_key(name)
     }
 
     /// Sets the player of the message's name. All memory is there before anything changes.

@@ -184,13 +184,15 @@ fn a_line_may_come_in_three_turns(rt: HostRuntime) {
 }
 
 /// What is typed, the command that is sent, and the answer.
-static TYPED: [(&[u8], &[u8], &[u8]); 16] = [
+static TYPED: [(&[u8], &[u8], &[u8]); 18] = [
     (b"dance", b"", b"unknown\n"),
     (b"", b"", b"unknown\n"),
     (b"roll ", b"", b"unknown\n"),
     (b"\xff\x00", b"", b"unknown\n"),
     (b"roll", b"roll\r\n", b"sent roll\n"),
     (b"double", b"double\r\n", b"sent double\n"),
+    (b"resign g", b"resign g\r\n", b"sent resign g\n"),
+    (b"resign", b"", b"unknown\n"),
     (b"accept", b"", b"refused 8 WrongKind\n"),
     (b"move 24-18", b"", b"refused 8 WrongKind\n"),
     (b"who", b"who\r\n", b"sent who\n"),
@@ -407,7 +409,7 @@ fn repeated(bytes: &[u8], times: usize) -> Text {
 /// A line of which only the front is kept is no board.
 #[test]
 fn a_line_that_is_too_long_is_cut(rt: HostRuntime) {
-    let prompts = repeated(b"> ", 2048);
+    let prompts = repeated(b"> ", 8192);
     let mut seat = Seat::open(&rt, 1000);
     seat.hears(&rt, &[&prompts, BOARD, TO_ROLL, END]);
     seat.assert_did(&rt, "a line that is cut", &[], &[b"cut \n"]);
@@ -437,12 +439,14 @@ fn a_turn_reads_4096_times(rt: HostRuntime) {
 }
 
 /// What is typed, and what is printed.
-static OFFLINE: [(Option<&[u8]>, &[u8]); 5] = [
+static OFFLINE: [(Option<&[u8]>, &[u8]); 7] = [
     (None, b""),
     (Some(b"dance"), b"unknown\n"),
     (Some(b"roll"), b"refused 2 Offline\n"),
     (Some(b"say "), b"refused 2 Offline\n"),
     (Some(b"toggle greedy"), b"refused 2 Offline\n"),
+    (Some(b"order roll"), b"refused 2 Offline\n"),
+    (Some(b"withdraw roll"), b"refused 2 Offline\n"),
 ];
 
 #[test]

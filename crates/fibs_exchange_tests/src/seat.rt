@@ -5,7 +5,7 @@ ghost use Rattle.fibs_exchange.specs.Turns.Turn.{FitsStream, still_given};
 use fibs_exchange::exchange::{Ending, exchange};
 use fibs_session::{Client, Directory, Login};
 use fibs_test_tools::pipe::{After, Pipe, QUIET};
-use fibs_test_tools::text::{Text, joined};
+use fibs_test_tools::text::{TEXT_ROOM, Text, joined};
 use std::process::Abort;
 
 /// A client that has opened a connection.
@@ -76,7 +76,7 @@ impl Seat {
         requires { FitsStream self.old.client true }
         ensures { FitsStream self.new.client (still_given result true) }
     {
-        let mut out = Pipe::new(b"", 1, After::End, 8192);
+        let mut out = Pipe::new(b"", 1, After::End, TEXT_ROOM);
         let outcome = exchange(
             &mut self.client,
             &mut self.directory,

@@ -7,5 +7,6 @@ pub mod Advancing
 pub mod ReturnLemmas
 pub mod FeedLemmas
 pub mod StreamLawProofs
+pub mod SentLemmas
 pub mod EndsCounted
 pub mod LineEnds

@@ -13,6 +13,7 @@ use Rattle.std.specs.Str.Lines.{strip_carriage_return}
 use Rattle.fibs_lines.specs.Lines.{kept_limit, ReadLine, plain, finished_parts, login_prompt, command_prompt}
 use Rattle.fibs_lines.specs.Lines.{without_some_prompts, without_prompts, line_of, lines_of, rest_of}
 use Rattle.fibs_lines.specs.Standing.{telnet_of, AtLineStart}
+use Rattle.fibs_lines.specs.LinesValue.{limited}
 use Rattle.fibs_lines.specs.StreamLaws.{PartsAreLinesAndRest, EmptyStreamHasNoLine, LinesOnlyGrow, with_line_end}
 use Rattle.fibs_lines.specs.StreamLaws.{LineEndIsALineStart, LineStartReadsAlone, WhatFollowsALineEndReadsAlone}
 use Rattle.fibs_lines.specs.StreamLaws.{LinesFit, IsSendable, SendableTextIsItsLine, PromptsThen, PromptsAreRemoved}
@@ -170,10 +171,10 @@ IsRun-from_all (x ∷ l) h i =
 not_over : (n : ℕ) → n ≤ kept_limit → nat_lt kept_limit n ≡ false
 not_over n i = grind arith
 
-module _ (l : List ℕ) (h : IsSendable l) where
+module _ (l : List ℕ) (h : IsRun l) where
   -- the text and CR are a run
   begun : IsRun (l ++ 13 ∷ [])
-  begun = IsRun-append l (13 ∷ []) (IsRun-from_all l h.no_line_end h.no_command) (refl, tt)
+  begun = IsRun-append l (13 ∷ []) h (refl, tt)
 
   -- they are their own data
   gives : plain (l ++ 13 ∷ []) ≡ l ++ 13 ∷ []
@@ -202,27 +203,32 @@ module _ (l : List ℕ) (h : IsSendable l) where
       lines_of-is (l ++ 13 ∷ []) ∙ ap (λ p. map line_of (finished p)) gives
       ∙ ap (map line_of) (finished_none (l ++ 13 ∷ []) (has_end_run (l ++ 13 ∷ []) begun))
 
-  -- the line of that rest is the text
-  line_of_sent : line_of (l ++ 13 ∷ []) ≡ record { bytes = l; cut = false }
+  -- the line of that rest is what is kept of the text
+  line_of_run : line_of (l ++ 13 ∷ []) ≡ limited l false
   unfolding line_of
-  line_of_sent =
-      let line : strip_carriage_return (l ++ 13 ∷ []) ≡ l = strip-is (l ++ 13 ∷ []) ∙ without_return_yes l in
-      same_read_line _ _
-      (ap (λ p. without_prompts (take kept_limit p)) line ∙ ap without_prompts (take_all kept_limit l h.fits)
-      ∙ without_prompts_none l h.no_login_prompt h.no_command_prompt)
-      (ap (λ p. nat_lt kept_limit (length p)) line ∙ not_over (length l) h.fits)
+  line_of_run = ap (λ p. limited p false) (strip-is (l ++ 13 ∷ []) ∙ without_return_yes l)
 
   -- it is one line
-  lines_of_sent : lines_of (with_line_end l) ≡ record { bytes = l; cut = false } ∷ []
-  lines_of_sent =
+  pub lines_of_run : lines_of (with_line_end l) ≡ limited l false ∷ []
+  lines_of_run =
       ap lines_of split ∙ lines_of_end (l ++ 13 ∷ []) (10 ∷ []) ends
       ∙ ap (λ ls. ls ++ line_of (rest_of (l ++ 13 ∷ [])) ∷ []) none_before
-      ∙ ap (λ r. line_of r ∷ []) rest_before ∙ ap (λ x. x ∷ []) line_of_sent
+      ∙ ap (λ r. line_of r ∷ []) rest_before ∙ ap (λ x. x ∷ []) line_of_run
+
+-- of a sendable text all is kept
+limited_sent : (l : List ℕ) → IsSendable l → limited l false ≡ record { bytes = l; cut = false }
+limited_sent l h =
+    same_read_line _ _
+    (ap without_prompts (take_all kept_limit l h.fits)
+    ∙ without_prompts_none l h.no_login_prompt h.no_command_prompt)
+    (not_over (length l) h.fits)
 
 -- sent at a line's start, a sendable text is one uncut line that equals it
 pub sendable_text_is_its_line : SendableTextIsItsLine
 sendable_text_is_its_line s text a h =
-    lines_of-append s (with_line_end text) a ∙ ap (λ ls. lines_of s ++ ls) (lines_of_sent text h)
+    lines_of-append s (with_line_end text) a
+    ∙ ap (λ ls. lines_of s ++ ls)
+    (lines_of_run text (IsRun-from_all text h.no_line_end h.no_command) ∙ ap (λ x. x ∷ []) (limited_sent text h))
 
 -- the prompts at a line's start
 abbrev IsPrompt : List ℕ → Type 0

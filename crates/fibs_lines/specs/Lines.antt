@@ -8,7 +8,7 @@ use Rattle.fibs_lines.specs.declared.line.Line.{Line}
 
 -- how many bytes of a line are kept
 abbrev pub kept_limit : ℕ
-kept_limit = 4096
+kept_limit = 16384
 
 -- whether the telnet command c takes the byte after it along: 251 to 254 are WILL, WON'T, DO and DON'T (RFC 854)
 abbrev pub takes_option : ℕ → Bool

@@ -28,11 +28,14 @@ StandsAfter v s =
 
 -- ---- the `Lines` of the program as this value
 
--- the line that begins with these bytes, and goes on behind them where it is over
-abbrev pub kept_line : List ℕ → Bool → ReadLine
-kept_line front over =
-    let line = strip_carriage_return front in
+-- the line of these bytes, which goes on behind them where it is over
+abbrev pub limited : List ℕ → Bool → ReadLine
+limited line over =
     record { bytes = without_prompts (take kept_limit line); cut = over || nat_lt kept_limit (length line) }
+
+-- the same where one CR at their end belongs to the line's end
+abbrev pub kept_line : List ℕ → Bool → ReadLine
+kept_line front over = limited (strip_carriage_return front) over
 
 -- the bytes of a line that was lent stay where they are until the next call, and count as gone
 abbrev pub lines_value : Unfinished → Bool → LinesValue

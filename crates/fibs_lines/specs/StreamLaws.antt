@@ -49,6 +49,10 @@ LineStartReadsAlone = (s t : List ℕ) → AtLineStart s → ReadsAlone s t
 abbrev pub WhatFollowsALineEndReadsAlone : Type 0
 WhatFollowsALineEndReadsAlone = (t s : List ℕ) → ReadsAlone (with_line_end t) s
 
+-- a text in which no line ends and no telnet command begins
+abbrev pub IsUnbroken : List ℕ → Type 0
+IsUnbroken text = All (λ b. (b ≢ 10) × (b ≢ 255)) text
+
 -- no line is longer than the limit
 abbrev pub LinesFit : Type 0
 LinesFit = (s : List ℕ) → All (λ l. length l.bytes ≤ kept_limit) (lines_of s)

@@ -15,11 +15,13 @@ pub mod laws;
 mod line;
 mod lines;
 mod prompts;
+mod sent;
 mod telnet;
 mod unfinished;
 
 pub use line::Line;
 pub use lines::{Fed, Lines};
+pub use sent::sent_line;
 
 /// How many bytes of a line are kept. The definitions have the same number once more, as `kept_limit`.
-pub const LIMIT: usize = 4096;
+pub const LIMIT: usize = 16_384;

@@ -28,17 +28,23 @@ fn without_return(bytes: &[u8]) -> &[u8]
 
 impl<'a> Line<'a> {
     ghost use Rattle.fibs_lines.specs.Lines.{value_of};
-    ghost use Rattle.fibs_lines.specs.LinesValue.{kept_line};
+    ghost use Rattle.fibs_lines.specs.LinesValue.{kept_line, limited};
 
-    /// The line that begins with `front`, and goes on behind it where it is `over`.
-    pub(crate) fn from_front(front: &'a [u8], over: bool) -> Line<'a>
-        ensures { value_of result ≡ kept_line front.now over }
+    /// The line of these bytes, which goes on behind them where it is `over`.
+    pub(crate) fn limited(line: &'a [u8], over: bool) -> Line<'a>
+        ensures { value_of result ≡ limited line.now over }
     {
-        let line = without_return(front);
         let kept = &line[..line.len().min(LIMIT)];
         Line {
             bytes: &kept[prompts_len(kept)..],
             cut: over || line.len() > LIMIT,
         }
+    }
+
+    /// The line that begins with `front`, and goes on behind it where it is `over`.
+    pub(crate) fn from_front(front: &'a [u8], over: bool) -> Line<'a>
+        ensures { value_of result ≡ kept_line front.now over }
+    {
+        Line::limited(without_return(front), over)
     }
 }

@@ -74,7 +74,8 @@ impl Unfinished {
     pub(crate) fn reset(&mut self)
         ensures { kept self.new ≡ record { telnet = Telnet.Data; front = []; over = false } }
     {
-        *self = Unfinished::new();
+        self.telnet = Telnet::Data;
+        self.clear();
     }
 
     /// The line that has ended here.

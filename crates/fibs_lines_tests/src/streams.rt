@@ -1,6 +1,6 @@
 //! Tests of lines by worked streams, by every cut, and under refused memory.
 
-use fibs_lines::{LIMIT, Line, Lines};
+use fibs_lines::{LIMIT, Line, Lines, sent_line};
 use std::alloc::{AllocError, Allocator};
 use std::test::Fail;
 
@@ -233,6 +233,35 @@ fn lines_about_the_limit(rt: HostRuntime) -> Result<(), Fail> {
         let stream = case.stream.bytes(rt.alloc())?;
         let read = case.read.bytes(rt.alloc())?;
         assert!(rt; gives(&stream, &read, case.cut), "{}", case.name);
+    }
+    Ok(())
+}
+
+/// A text that is sent is read as its line, where it has neither LF nor 255.
+#[test]
+fn texts_as_they_are_sent(rt: HostRuntime) -> Result<(), Fail> {
+    let rows: [(&[u8], Option<&[u8]>); 8] = [
+        (b"", Some(b"")),
+        (b"a", Some(b"a")),
+        (b"a\r", Some(b"a\r")),
+        (b"a\rb", Some(b"a\rb")),
+        (b"> login: 5 a", Some(b"5 a")),
+        (b"a\nb", None),
+        (b"a\xff\xffb", None),
+        (b"\xff\xfb\x01a", None),
+    ];
+    for (text, read) in rows {
+        let line = sent_line(text).map(|line| line.bytes);
+        assert!(rt; line == read, "{text:?}");
+    }
+    let full = text(0, 16384, b"").bytes(rt.alloc())?;
+    for (count, cut) in [(16384, false), (16385, true)] {
+        let long = text(0, count, b"").bytes(rt.alloc())?;
+        let line = sent_line(&long).ok_or("no line")?;
+        assert!(rt;
+            line.bytes == full.as_slice() && line.cut == cut,
+            "{count} bytes"
+        );
     }
     Ok(())
 }

@@ -1,12 +1,12 @@
--- The fields of a message as they are printed, as values. No public contract rests on it.
-use Rattle.std.specs.Prelude.{List, map}
-use Rattle.fibs_messages.specs.declared.messages.print.Field.{Field}
-use Rattle.fibs_messages.specs.declared.messages.print.Field.TheVariants.{Name, Word, Tail, Flag, Number, Rating, Text}
+-- The fields of a message of the program as values.
+use Rattle.std.specs.Prelude.{ℕ, ◌-◌, List, map, Option, None, nat_eq, slice_get, if◌then◌else◌}
+use Rattle.fibs_messages.specs.declared.messages.field.Field.{Field}
+use Rattle.fibs_messages.specs.declared.messages.field.Field.TheVariants.{Name, Word, Tail, Flag, Number, Rating, Text}
 use Rattle.fibs_fields.specs.Field.{FieldValue, NameField, WordField, TailField, FlagField, NumberField, RatingField}
 use Rattle.fibs_fields.specs.Field.{TextField}
 use Rattle.fibs_fields.specs.Bytes.{name_bytes, word_bytes, tail_bytes}
 
--- a field that is printed
+-- a field
 abbrev pub value_of : Field → FieldValue
 value_of (Name name) = NameField (name_bytes name)
 value_of (Word word) = WordField (word_bytes word)
@@ -16,6 +16,10 @@ value_of (Number number) = NumberField number
 value_of (Rating rating) = RatingField rating
 value_of (Text text) = TextField text.now
 
--- all fields that are printed
+-- some fields
 abbrev pub values_of : List Field → List FieldValue
 values_of fields = map value_of fields
+
+-- the field of a number: they are counted from 1
+abbrev pub field_at : ℕ → List FieldValue → Option FieldValue
+field_at number fields = if nat_eq number 0 then None else slice_get fields (number - 1)

@@ -1,9 +1,10 @@
 -- What a caller reads: messages, and whole lines. Fields and boards are those of fibs_fields and fibs_boards.
 pub mod Message
+pub mod FieldOf
 pub mod Flags
 pub mod Line
 -- What only private functions and proofs say; on the reading of a line rests `reading_value` too.
 pub mod Bits
-pub mod FieldOf
 pub mod LineReading
 pub mod Settings
+pub mod Standing

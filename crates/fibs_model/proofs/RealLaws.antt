@@ -124,6 +124,7 @@ module _ (owed : Owed) where
     style_quiet = quiet _ owed.style;
     plain_quiet = λ p h. quiet _ (owed.plain p h);
     info_quiet = λ m. initial_quiet (autoboard m) (moreboards m);
+    due_yes = λ c log b h. ((owed.due c log b).0 h).yes;
     prints_line =
         λ b g. (
           record { bytes = spelling b; cut = false },

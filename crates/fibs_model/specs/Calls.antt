@@ -8,10 +8,10 @@ use Rattle.fibs_session.specs.History.Log as L
 use Rattle.fibs_session.specs.History.Machine.{on_wire, wire_of}
 use Rattle.fibs_model.specs.LinksOf.{LinkValue, link_at, set_link}
 use Rattle.fibs_model.specs.Server as V
-use Rattle.fibs_model.specs.Server.{is_die}
+use Rattle.fibs_model.specs.Server.{ServerValue, is_die}
 use Rattle.fibs_model.specs.WireLinks.{more_asked, more_coming, taken}
 use Rattle.fibs_model.specs.Wires.{next_line}
-use Rattle.fibs_model.specs.ServerOf.{ServerValue, after_line}
+use Rattle.fibs_model.specs.ServerOf.{after_line}
 use Rattle.fibs_model.specs.declared.world.link.Link as C
 use Rattle.fibs_model.specs.declared.refusal.WorldRefusal.{WorldRefusal}
 use Rattle.fibs_model.specs.declared.refusal.WorldRefusal.TheVariants.{NoSuchConnection, BadDice, NothingToServe}
@@ -33,6 +33,11 @@ abbrev pub click_entries : ℕ → DecisionValue → Option Refusal → Option B
 click_entries c d (Some why) b = L.Clicked c d (Some why) ∷ []
 click_entries c d None None = L.Clicked c d None ∷ []
 click_entries c d None (Some b) = L.Clicked c d None ∷ L.Sent c b d ∷ []
+
+-- what is noted of an order, or of its end, where the client does not refuse it
+abbrev pub unless_refused : Option Refusal → L.Entry → List L.Entry
+unless_refused (Some why) e = []
+unless_refused None e = e ∷ []
 
 -- what is noted of a line that the server took, with its board before
 abbrev pub served_entries : ℕ → BoardFields → V.Served → List L.Entry
@@ -62,7 +67,13 @@ serve_refusal links logged_in c d1 d2 =
 -- the server took the first len bytes that are on their way, with their line end, and this came of it
 pub record TakesLine (old new : ServerValue) (before after : C.Link) (c len d1 d2 : ℕ) (served : V.Served)
     : Type 0 where
-  pub answer : served ≡ V.answered old.board old.logged_in c before.fresh (take len before.to_server.items) d1 d2
+  pub answer : served ≡ V.answered old (record {
+    conn = c;
+    first = before.fresh;
+    text = take len before.to_server.items;
+    die = d1;
+    other_die = d2;
+  })
   pub server : new ≡ after_line old c served
   pub wire : after.to_server.items ≡ drop (len + 2) before.to_server.items
   pub begun : after.fresh ≡ false
@@ -73,6 +84,12 @@ pub record TakesNext (old new : ServerValue) (before after : List LinkValue) (c 
     : Type 0 where
   pub line : List ℕ × List ℕ
   pub next : next_line (link_at before c).asked ≡ Some line
-  pub answer : served ≡ V.answered old.board old.logged_in c (link_at before c).fresh line.0 d1 d2
+  pub answer : served ≡ V.answered old (record {
+    conn = c;
+    first = (link_at before c).fresh;
+    text = line.0;
+    die = d1;
+    other_die = d2;
+  })
   pub server : new ≡ after_line old c served
   pub links : after ≡ set_link before c (taken (link_at before c) line.1)

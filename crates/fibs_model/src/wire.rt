@@ -9,9 +9,9 @@ ghost use Rattle.fibs_session.specs.History.Machine.{on_wire};
 ghost use Rattle.fibs_model.specs.Refusals.{is_board_text, reads_as_board};
 ghost use Rattle.fibs_model.specs.Wires.{next_line};
 
-use crate::server::is_good;
-use fibs_lines::{Line, Lines};
+use fibs_lines::{Line, Lines, sent_line};
 use fibs_messages::{Reading, read};
+use fibs_position::is_good;
 use memchr::memmem;
 use std::alloc::{AllocError, Global};
 use std::marker::Model;
@@ -168,9 +168,8 @@ fn reads_as_board(line: &Line<'_>) -> bool
     }
 }
 
-/// With CR LF the text is more than one line, or one that reads as a good board: a server that sends it as a text would
-/// show a board that is not its own.
-pub fn is_board_text(text: &[u8]) -> bool
+/// Whether a reader of lines finds a board text, also where lines end or telnet commands begin in it.
+fn is_read_as_board_text(text: &[u8]) -> bool
     ensures { result ≡ is_board_text (lines_of (on_wire text.now)) }
 {
     fibs_lines::laws::empty_stream_has_no_line();
@@ -183,5 +182,17 @@ pub fn is_board_text(text: &[u8]) -> bool
     match lines.feed(b"\r\n").line {
         None => false,
         Some(line) => reads_as_board(&line),
+    }
+}
+
+/// With CR LF the text is more than one line, or one that reads as a good board: a server that sends it as a text would
+/// show a board that is not its own.
+pub fn is_board_text(text: &[u8]) -> bool
+    ensures { result ≡ is_board_text (lines_of (on_wire text.now)) }
+{
+    // Mostly the text is one line, and no reader is made for it, whose buffer is as large as a line may be.
+    match sent_line(text) {
+        Some(line) => reads_as_board(&line),
+        None => is_read_as_board_text(text),
     }
 }

@@ -26,7 +26,7 @@ struct Case {
     lines: &'static [(Line, &'static str, &'static [u8])],
 }
 
-static CASES: [Case; 8] = [
+static CASES: [Case; 9] = [
     Case {
         name: "a roll is carried out once",
         begins: TO_ROLL,
@@ -52,6 +52,16 @@ static CASES: [Case; 8] = [
             (Later(1, b"roll", [6, 7]), "Undone roll", TO_ROLL),
             (Later(1, b"reject", [1, 1]), "Undone reject", TO_ROLL),
             (Later(1, b"double", [1, 1]), "Took double", DOUBLED),
+        ],
+    },
+    Case {
+        name: "a resignation gives the turn away, once",
+        begins: TO_ROLL,
+        lines: &[
+            (First(1, b""), "LoggedIn", TO_ROLL),
+            (Later(1, b"resign x", [1, 1]), "Answered", TO_ROLL),
+            (Later(1, b"resign g", [1, 1]), "Took resign g", DOUBLED),
+            (Later(1, b"resign n", [1, 1]), "Undone resign n", DOUBLED),
         ],
     },
     Case {

@@ -149,12 +149,21 @@ fn boards_are_seen_as_the_client_reads_them(rt: HostRuntime) -> Result<(), Fail>
         ("a prompt", 1, b"> ", true),
         ("prompts of both kinds", 3, b"login: > ", true),
         ("a command", 2, b"\xff\xf1", true),
-        ("prompts up to the limit", 1988, b"> ", true),
-        ("prompts beyond the limit", 1989, b"> ", false),
+        ("prompts up to the limit", 8132, b"> ", true),
+        ("prompts beyond the limit", 8133, b"> ", false),
     ];
     for (name, times, front, is) in fronts {
         let text = repeated(rt.alloc(), times, front, TO_ROLL)?;
         assert_eq!(rt; is_board_text(text.as_slice()), is, "after {name}");
+    }
+    for (spaces, is) in [(4096, true), (16265, true), (16266, false), (16384, false)] {
+        let more = repeated(rt.alloc(), spaces, b" ", b"")?;
+        let text = joined(rt.alloc(), TO_ROLL, &more)?;
+        assert_eq!(rt;
+            is_board_text(text.as_slice()),
+            is,
+            "with {spaces} spaces at its end"
+        );
     }
     Ok(())
 }

@@ -5,7 +5,7 @@ use Rattle.fibs_boards.specs.Board.{BoardFields}
 use Rattle.fibs_position.specs.First.{IsFirst}
 use Rattle.fibs_position.specs.PositionValue.{PositionValue, position_of}
 use Rattle.fibs_rules.specs.LegalPlays.{LegalPlay, legal_of}
-use Rattle.fibs_position.specs.DecisionValue.{DecisionValue, roll, double, accept, reject, move}
+use Rattle.fibs_position.specs.DecisionValue.{DecisionValue, roll, double, accept, reject, move, resign}
 use Rattle.fibs_position.specs.Phases.{InPhase, decides, phase_in}
 use Rattle.fibs_position.specs.declared.phase.Phase.{Phase}
 use Rattle.fibs_position.specs.declared.phase.Phase.TheVariants.{AnswerDouble, RollOrDouble, Move}
@@ -16,13 +16,14 @@ use Rattle.fibs_position.specs.declared.disallowed.Disallowed.TheVariants.{NotYo
 abbrev pub UserDecides : PositionValue → Type 0
 UserDecides p = InPhase p AnswerDouble ⊎ InPhase p RollOrDouble ⊎ InPhase p Move
 
--- the phase of each kind of decision
-abbrev pub phase_for : DecisionValue → Phase
-phase_for roll = RollOrDouble
-phase_for double = RollOrDouble
-phase_for accept = AnswerDouble
-phase_for reject = AnswerDouble
-phase_for (move steps) = Move
+-- each kind of decision has its phase, but to resign, which a player may before he rolls and before he moves
+abbrev pub IsForPhase : PositionValue → DecisionValue → Type 0
+IsForPhase p roll = InPhase p RollOrDouble
+IsForPhase p double = InPhase p RollOrDouble
+IsForPhase p accept = InPhase p AnswerDouble
+IsForPhase p reject = InPhase p AnswerDouble
+IsForPhase p (move steps) = InPhase p Move
+IsForPhase p (resign stake) = InPhase p RollOrDouble ⊎ InPhase p Move
 
 -- a player doubles only where he may, and no cube shows more than 1,048,576
 abbrev pub CubeAllows : PositionValue → DecisionValue → Type 0
@@ -31,10 +32,11 @@ CubeAllows p double = (p.may_double ≢ pos 0) × (p.cube ≤ℤ pos 524288)
 CubeAllows p accept = p.cube ≤ℤ pos 524288
 CubeAllows p reject = Unit {0}
 CubeAllows p (move steps) = Unit {0}
+CubeAllows p (resign stake) = Unit {0}
 
--- a decision of the phase's kind, which the cube allows
+-- a decision of one of the phase's kinds, which the cube allows
 abbrev pub IsRightKind : PositionValue → DecisionValue → Type 0
-IsRightKind p decision = InPhase p (phase_for decision) × CubeAllows p decision
+IsRightKind p decision = IsForPhase p decision × CubeAllows p decision
 
 -- a move is legal by the rules
 abbrev pub IsLegal : PositionValue → DecisionValue → Type 0
@@ -43,6 +45,7 @@ IsLegal p double = Unit {0}
 IsLegal p accept = Unit {0}
 IsLegal p reject = Unit {0}
 IsLegal p (move steps) = LegalPlay p.standing steps
+IsLegal p (resign stake) = Unit {0}
 
 -- why a decision is not allowed
 abbrev pub Forbids : PositionValue → DecisionValue → Disallowed → Type 0
@@ -74,13 +77,15 @@ IsDisallowed b decision why = IsRefused (position_of b) decision why
 
 -- ---- the same as functions
 
--- a decision is of the kind of a phase
+-- a decision is of one of the kinds of a phase
 abbrev pub is_for : DecisionValue → Phase → Bool
 is_for roll RollOrDouble = true
 is_for double RollOrDouble = true
 is_for accept AnswerDouble = true
 is_for reject AnswerDouble = true
 is_for (move steps) Move = true
+is_for (resign stake) RollOrDouble = true
+is_for (resign stake) Move = true
 is_for decision phase = false
 
 -- the cube allows a decision
@@ -90,6 +95,7 @@ cube_allows p double = not (int_eq p.may_double (pos 0)) && int_le p.cube (pos 5
 cube_allows p accept = int_le p.cube (pos 524288)
 cube_allows p reject = true
 cube_allows p (move steps) = true
+cube_allows p (resign stake) = true
 
 -- a decision is no move, or a legal one
 abbrev pub is_legal : PositionValue → DecisionValue → Bool
@@ -98,6 +104,7 @@ is_legal p double = true
 is_legal p accept = true
 is_legal p reject = true
 is_legal p (move steps) = legal_of p.standing steps
+is_legal p (resign stake) = true
 
 -- a reason against a decision holds
 abbrev pub forbids : PositionValue → DecisionValue → Disallowed → Bool

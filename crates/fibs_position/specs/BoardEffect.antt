@@ -12,7 +12,7 @@ use Rattle.fibs_position.specs.OwnView.{turn, colour, NoDice, no_dice, own_view,
 use Rattle.fibs_position.specs.GoodBoard.{IsGood, good}
 use Rattle.fibs_rules.specs.Checkers.{Checkers}
 use Rattle.fibs_rules.specs.LaxPlays.{LaxRun, lax_of}
-use Rattle.fibs_position.specs.DecisionValue.{DecisionValue, roll, double, accept, reject, move}
+use Rattle.fibs_position.specs.DecisionValue.{DecisionValue, roll, double, accept, reject, move, resign}
 
 -- the board with the number of field n changed; every other field stays
 abbrev pub set_field : BoardFields → ℕ → ℤ → BoardFields
@@ -65,8 +65,8 @@ rolled b dice =
     set_fields b ((34, pos (slice_index dice 0)) ∷ (35, pos (slice_index dice 1)) ∷ (36, pos 0) ∷ (37, pos 0) ∷ [])
 
 -- the turn goes to the opponent, who has to answer
-abbrev pub doubled : BoardFields → BoardFields
-doubled b = set_fields b ((33, neg_ℤ (colour b)) ∷ [])
+abbrev pub turn_given : BoardFields → BoardFields
+turn_given b = set_fields b ((33, neg_ℤ (colour b)) ∷ [])
 
 -- the cube shows twice as much, the player alone may double next, and the opponent goes on
 abbrev pub accepted : BoardFields → BoardFields
@@ -89,11 +89,12 @@ after_move b q =
 -- the table of decisions: the condition of each, and the board afterwards
 abbrev pub Carries : BoardFields → DecisionValue → List ℕ → BoardFields → Type 0
 Carries b roll dice after = BeforeRoll b × AreThrown dice × (after ≡ rolled b dice)
-Carries b double dice after = BeforeRoll b × (after ≡ doubled b)
+Carries b double dice after = BeforeRoll b × (after ≡ turn_given b)
 Carries b accept dice after = IsDoubled b × (field_of b 38 ≤ℤ pos 524288) × (after ≡ accepted b)
 Carries b reject dice after = IsDoubled b × (after ≡ rejected b)
 Carries b (move steps) dice after =
     BeforeMove b × ((q : Checkers) × LaxRun (own_view b) steps q × (after ≡ after_move b q))
+Carries b (resign stake) dice after = HasTurn b × (after ≡ turn_given b)
 
 -- a decision on a good board leads to a board
 abbrev pub Effect : BoardFields → DecisionValue → List ℕ → BoardFields → Type 0
@@ -120,11 +121,12 @@ is_doubled b = not (int_eq (turn b) (pos 0)) && int_eq (field_of b 41) (pos 1)
 -- the board afterwards, where the condition of the decision holds
 abbrev pub carried : BoardFields → DecisionValue → List ℕ → Option BoardFields
 carried b roll dice = if (has_turn b && no_dice b) && are_thrown dice then Some (rolled b dice) else None
-carried b double dice = if has_turn b && no_dice b then Some (doubled b) else None
+carried b double dice = if has_turn b && no_dice b then Some (turn_given b) else None
 carried b accept dice = if is_doubled b && int_le (field_of b 38) (pos 524288) then Some (accepted b) else None
 carried b reject dice = if is_doubled b then Some (rejected b) else None
 carried b (move steps) dice =
     if has_turn b && not (no_dice b) then option_map (after_move b) (lax_of (own_view b) steps) else None
+carried b (resign stake) dice = if has_turn b then Some (turn_given b) else None
 
 -- the same on a good board, and none on any other
 unfoldable pub effect_of : BoardFields → DecisionValue → List ℕ → Option BoardFields

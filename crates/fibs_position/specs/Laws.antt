@@ -45,8 +45,8 @@ EffectIsGood =
     (b : BoardFields) (decision : DecisionValue) (dice : List ℕ) (after : BoardFields) → Effect b decision dice after
     → IsGood after × Differ b after
 
--- no three decisions are carried out one after another: after a roll there may be a move, and after any other decision
--- it is not the player's turn
+-- no three decisions are carried out one after another: after a roll there may be one more, and after any other it is
+-- not the player's turn
 abbrev pub NoThreeInARow : Type 0
 NoThreeInARow =
     (a b c after : BoardFields) (d e f : DecisionValue) (dice dice' dice'' : List ℕ)

@@ -4,12 +4,13 @@ ghost use Rattle.std.specs.Prelude.{◌≡◌, ◌↔◌, ◌≤◌, ◌≤ℤ�
 ghost use Rattle.std.specs.Prelude.{option_map, slice_index, ◌==◌, if◌then◌else◌, neg_ℤ};
 ghost use Rattle.fibs_boards.specs.Board.{BoardFields, can_have, field_of};
 ghost use Rattle.fibs_boards.specs.StoredBoard.{fields_of};
-ghost use Rattle.fibs_position.specs.BoardEffect.{set_field, set_fields, rolled, doubled, accepted, rejected, value_of};
-ghost use Rattle.fibs_position.specs.BoardEffect.{placed, after_move, Effect, is_die, are_thrown, has_turn, is_doubled};
-ghost use Rattle.fibs_position.specs.BoardEffect.{carried, effect_of};
-ghost use Rattle.fibs_position.specs.DecisionValue.{roll, double, accept, reject, move, decision_of};
+ghost use Rattle.fibs_position.specs.BoardEffect.{set_field, set_fields, rolled, turn_given, accepted, rejected};
+ghost use Rattle.fibs_position.specs.BoardEffect.{value_of, placed, after_move, Effect, is_die, are_thrown, has_turn};
+ghost use Rattle.fibs_position.specs.BoardEffect.{is_doubled, carried, effect_of};
+ghost use Rattle.fibs_position.specs.DecisionValue.{roll, double, accept, reject, move, resign, decision_of};
 ghost use Rattle.fibs_rules.specs.PlayValue.{hops_of};
 ghost use Rattle.fibs_position.specs.OwnView.{colour, no_dice, own_placed, other_placed};
+ghost use Rattle.fibs_position.specs.declared.stake.Stake.{Stake};
 
 use crate::decision::Decision;
 use crate::fields::{
@@ -87,8 +88,8 @@ fn rolled(board: Board, dice: [u8; 2]) -> Board
 }
 
 /// The turn goes to the opponent, who has to answer.
-fn doubled(board: Board) -> Board
-    ensures { fields_of result ≡ doubled (fields_of board) }
+fn turn_given(board: Board) -> Board
+    ensures { fields_of result ≡ turn_given (fields_of board) }
 {
     fields_have_their_ranges();
     set(board, TURN, -colour(&board))
@@ -182,7 +183,7 @@ fn double(board: &Board) -> Option<Board>
     ensures { (dice : List ℕ) → option_map fields_of result ≡ carried (fields_of board.now) double dice }
 {
     if is_before_roll(board) {
-        Some(doubled(*board))
+        Some(turn_given(*board))
     } else {
         None
     }
@@ -223,6 +224,17 @@ fn make_steps(board: &Board, play: &Play) -> Option<Board>
     }
 }
 
+fn resign(board: &Board) -> Option<Board>
+    ensures { (stake : Stake) (dice : List ℕ)
+        → option_map fields_of result ≡ carried (fields_of board.now) (resign stake) dice }
+{
+    if has_turn(board) {
+        Some(turn_given(*board))
+    } else {
+        None
+    }
+}
+
 /// What the table of decisions gives.
 fn by_table(board: &Board, decision: &Decision, dice: [u8; 2]) -> Option<Board>
     ensures { option_map fields_of result ≡ effect_of (fields_of board.now) (decision_of decision.now) dice }
@@ -236,6 +248,7 @@ fn by_table(board: &Board, decision: &Decision, dice: [u8; 2]) -> Option<Board>
         Decision::Accept => accept(board),
         Decision::Reject => reject(board),
         Decision::Move(play) => make_steps(board, play),
+        Decision::Resign(_) => resign(board),
     }
 }
 
@@ -251,6 +264,7 @@ fn by_table(board: &Board, decision: &Decision, dice: [u8; 2]) -> Option<Board>
 /// - Move, where the player has the turn, no double to answer and a die, and at each step in order a checker at its
 ///   source and no two opponents at its target: the checkers stand as moved and hit, those off are counted, the dice
 ///   are taken away, and the turn goes to the opponent, or the game is over with all fifteen off.
+/// - Resign, where the player has the turn and no double to answer: the turn goes to the opponent, whatever the stake.
 ///
 /// Fields that are not named stay. Of a move nothing else is asked: not the dice's lengths, the bar, bearing off, or
 /// the fullest use of the dice.

@@ -3,6 +3,7 @@
 ghost use Rattle.std.specs.Prelude.{◌≡◌};
 
 use crate::phase::Phase;
+use crate::stake::Stake;
 use fibs_rules::Play;
 
 /// What a player may decide.
@@ -18,6 +19,8 @@ pub enum Decision {
     Reject,
     /// To make these steps.
     Move(Play),
+    /// To offer to give up the game for this stake.
+    Resign(Stake),
 }
 
 impl Decision {
@@ -32,6 +35,7 @@ impl Decision {
             Decision::Roll | Decision::Double => matches!(phase, Phase::RollOrDouble),
             Decision::Accept | Decision::Reject => matches!(phase, Phase::AnswerDouble),
             Decision::Move(_) => matches!(phase, Phase::Move),
+            Decision::Resign(_) => matches!(phase, Phase::RollOrDouble | Phase::Move),
         }
     }
 }

@@ -10,7 +10,7 @@ use std::fmt;
 pub enum Disallowed {
     /// The player does not decide in this phase.
     NotYours,
-    /// The decision is not one of this phase, or the cube forbids it.
+    /// The decision is of another kind than those of the phase, or the cube forbids it.
     WrongKind,
     /// The move is not legal.
     IllegalPlay,

@@ -12,6 +12,7 @@ use crate::direction::Direction;
 use crate::disallowed::Disallowed;
 use crate::phase::Phase;
 use crate::position_fault::PositionFault;
+use crate::stake::Stake;
 use fibs_boards::laws::{fields_have_their_ranges, is_board_is_exact};
 pub use fibs_rules::laws::{
     legal_is_carried_out, legal_plays_are_steps, plays_are_their_steps, steps_are_their_places,
@@ -22,6 +23,13 @@ pub use fibs_rules::laws::{
 pub fn decisions_are_their_values(a: &Decision, b: &Decision) -> bool
     ensures test { IsTrue result ↔ (decision_of a.now ≡ decision_of b.now) }
     ensures same { decision_of a.now ≡ decision_of b.now → a.now ≡ b.now }
+{
+    a == b
+}
+
+/// Stakes are equal exactly where they are one.
+pub fn stakes_are_themselves(a: &Stake, b: &Stake) -> bool
+    ensures { IsTrue result ↔ (a.now ≡ b.now) }
 {
     a == b
 }

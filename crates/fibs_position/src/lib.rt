@@ -13,6 +13,7 @@ mod own_view;
 mod phase;
 mod position;
 mod position_fault;
+mod stake;
 
 pub use board_effect::effect;
 pub use decision::Decision;
@@ -24,3 +25,4 @@ pub use good_board::{is_good, phase_of};
 pub use phase::Phase;
 pub use position::Position;
 pub use position_fault::PositionFault;
+pub use stake::Stake;

@@ -225,11 +225,11 @@ impl Position {
         match decision {
             Decision::Double => self.may_double != 0 && self.cube <= MOST_DOUBLED,
             Decision::Accept => self.cube <= MOST_DOUBLED,
-            Decision::Roll | Decision::Reject | Decision::Move(_) => true,
+            Decision::Roll | Decision::Reject | Decision::Move(_) | Decision::Resign(_) => true,
         }
     }
 
-    /// The decision is of the phase's kind, and the cube allows it.
+    /// The decision is of one of the phase's kinds, and the cube allows it.
     fn is_right_kind(&self, phase: Phase, decision: &Decision) -> bool
         ensures { let d = decision_of decision.now in
             result ≡ (is_for d phase && cube_allows (position_value self.now) d) }
@@ -243,7 +243,11 @@ impl Position {
     {
         match decision {
             Decision::Move(play) => self.is_legal(play),
-            Decision::Roll | Decision::Double | Decision::Accept | Decision::Reject => true,
+            Decision::Roll
+            | Decision::Double
+            | Decision::Accept
+            | Decision::Reject
+            | Decision::Resign(_) => true,
         }
     }
 

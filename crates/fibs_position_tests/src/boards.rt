@@ -1,9 +1,9 @@
-//! Boards of both colours and directions, with the view of their player and what a roll, a double or an answer makes of
-//! them. The expected values are worked out from the rules alone, by another program.
+//! Boards of both colours and directions, with the view of their player and what a roll, a double, an answer or a
+//! resignation makes of them. The expected values are worked out from the rules alone, by another program.
 
 use crate::cases::{Case, check};
 use crate::choices::Choice;
-use fibs_position::{Direction, Phase};
+use fibs_position::{Direction, Phase, Stake};
 use std::test::Fail;
 
 static ROLLS: [Case; 13] = [
@@ -320,6 +320,94 @@ static ANSWERS: [Case; 9] = [
     },
 ];
 
+static RESIGNATIONS: [Case; 7] = [
+    Case {
+        name: "O resigns before the roll, with no dice thrown",
+        board: b"board:You:bob:5:0:0:0:-2:0:0:0:0:5:0:3:0:0:0:-5:5:0:0:0:-3:0:-5:0:0:0:0:2:0:1:0:0:3:1:2:1:1:0:1:-1:0:25:0:0:0:0:0:0:0:0",
+        own: &[(6, 5), (8, 3), (13, 5), (24, 2)],
+        other: &[(1, 2), (12, 5), (17, 3), (19, 5)],
+        direction: Direction::Down,
+        phase: Phase::RollOrDouble,
+        choice: Choice::Resign(Stake::Normal),
+        dice: [0, 0],
+        after: Some(&[(33, -1)]),
+    },
+    Case {
+        name: "X resigns before the roll",
+        board: b"board:You:bob:5:0:0:0:-2:0:0:0:0:5:0:3:0:0:0:-5:5:0:0:0:-3:0:-5:0:0:0:0:2:0:-1:0:0:0:0:64:1:1:0:-1:1:25:0:0:0:0:0:0:0:0:0",
+        own: &[(6, 5), (8, 3), (13, 5), (24, 2)],
+        other: &[(1, 2), (12, 5), (17, 3), (19, 5)],
+        direction: Direction::Up,
+        phase: Phase::RollOrDouble,
+        choice: Choice::Resign(Stake::Gammon),
+        dice: [6, 2],
+        after: Some(&[(33, 1)]),
+    },
+    Case {
+        name: "a resignation before a move keeps the dice",
+        board: b"board:You:bob:5:0:0:0:2:0:0:0:0:-5:0:-3:0:0:0:5:-5:0:0:0:3:0:5:0:0:0:0:-2:0:1:0:4:0:0:1:1:1:0:1:1:25:0:0:0:0:0:0:0:0:0",
+        own: &[(6, 5), (8, 3), (13, 5), (24, 2)],
+        other: &[(1, 2), (12, 5), (17, 3), (19, 5)],
+        direction: Direction::Up,
+        phase: Phase::Move,
+        choice: Choice::Resign(Stake::Backgammon),
+        dice: [6, 2],
+        after: Some(&[(33, -1)]),
+    },
+    Case {
+        name: "a resignation where no checker can be played is carried out",
+        board: b"board:You:bob:5:0:0:0:0:0:0:0:0:14:0:0:0:0:0:0:0:0:0:0:0:0:-2:-2:-2:-2:-2:-2:1:1:3:1:0:0:1:1:1:0:1:-1:0:25:0:3:1:0:0:0:0:0",
+        own: &[(6, 14), (25, 1)],
+        other: &[
+            (19, 2),
+            (20, 2),
+            (21, 2),
+            (22, 2),
+            (23, 2),
+            (24, 2),
+            (25, 3),
+        ],
+        direction: Direction::Down,
+        phase: Phase::Passing,
+        choice: Choice::Resign(Stake::Normal),
+        dice: [1, 1],
+        after: Some(&[(33, -1)]),
+    },
+    Case {
+        name: "a resignation with a double to answer",
+        board: b"board:You:bob:5:0:0:0:2:0:0:0:0:-5:0:-3:0:0:0:5:-5:0:0:0:3:0:5:0:0:0:0:-2:0:1:0:0:0:0:1:1:1:1:1:1:25:0:0:0:0:0:0:0:0:0",
+        own: &[(6, 5), (8, 3), (13, 5), (24, 2)],
+        other: &[(1, 2), (12, 5), (17, 3), (19, 5)],
+        direction: Direction::Up,
+        phase: Phase::AnswerDouble,
+        choice: Choice::Resign(Stake::Normal),
+        dice: [1, 1],
+        after: None,
+    },
+    Case {
+        name: "a resignation in the opponent's turn",
+        board: b"board:You:bob:5:0:0:0:2:0:0:0:0:-5:0:-3:0:0:0:5:-5:0:0:0:3:0:5:0:0:0:0:-2:0:-1:0:0:0:0:1:1:1:0:1:1:25:0:0:0:0:0:0:0:0:0",
+        own: &[(6, 5), (8, 3), (13, 5), (24, 2)],
+        other: &[(1, 2), (12, 5), (17, 3), (19, 5)],
+        direction: Direction::Up,
+        phase: Phase::OpponentActs,
+        choice: Choice::Resign(Stake::Gammon),
+        dice: [1, 1],
+        after: None,
+    },
+    Case {
+        name: "a resignation after the game",
+        board: b"board:You:bob:5:0:0:0:2:0:0:0:0:-5:0:-3:0:0:0:5:-5:0:0:0:3:0:5:0:0:0:0:-2:0:0:0:0:0:0:1:1:1:0:1:1:25:0:0:0:0:0:0:0:0:0",
+        own: &[(6, 5), (8, 3), (13, 5), (24, 2)],
+        other: &[(1, 2), (12, 5), (17, 3), (19, 5)],
+        direction: Direction::Up,
+        phase: Phase::Over,
+        choice: Choice::Resign(Stake::Backgammon),
+        dice: [1, 1],
+        after: None,
+    },
+];
+
 #[test]
 fn rolls(rt: HostRuntime) -> Result<(), Fail> {
     check(&rt, &ROLLS)
@@ -333,4 +421,9 @@ fn doubles(rt: HostRuntime) -> Result<(), Fail> {
 #[test]
 fn answers(rt: HostRuntime) -> Result<(), Fail> {
     check(&rt, &ANSWERS)
+}
+
+#[test]
+fn resignations(rt: HostRuntime) -> Result<(), Fail> {
+    check(&rt, &RESIGNATIONS)
 }

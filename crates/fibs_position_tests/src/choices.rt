@@ -1,6 +1,6 @@
 //! Tests of what a player may choose.
 
-use fibs_position::{Decision, Play, Step};
+use fibs_position::{Decision, Play, Stake, Step};
 use std::test::Fail;
 
 /// A decision of a test, a move by its steps.
@@ -11,6 +11,7 @@ pub enum Choice {
     Accept,
     Reject,
     Move(&'static [(u8, u8)]),
+    Resign(Stake),
 }
 
 /// The play of these steps.
@@ -32,6 +33,7 @@ impl Choice {
             Choice::Accept => Ok(Decision::Accept),
             Choice::Reject => Ok(Decision::Reject),
             Choice::Move(steps) => Ok(Decision::Move(play(steps)?)),
+            Choice::Resign(stake) => Ok(Decision::Resign(*stake)),
         }
     }
 }

@@ -4,7 +4,9 @@ ghost use Rattle.std.specs.Prelude.{◌≤◌};
 
 use crate::choices::{Choice, play};
 use fibs_messages::Board;
-use fibs_position::{Decision, Disallowed, Phase, Play, Position, PositionFault, differs, effect};
+use fibs_position::{
+    Decision, Disallowed, Phase, Play, Position, PositionFault, Stake, differs, effect,
+};
 use std::alloc::Global;
 use std::process::Abort;
 use std::test::Fail;
@@ -32,6 +34,7 @@ static PLAYS: [Row; 9] = [
             (Choice::Move(&[(24, 13)]), Err(Disallowed::IllegalPlay)),
             (Choice::Roll, Err(Disallowed::WrongKind)),
             (Choice::Accept, Err(Disallowed::WrongKind)),
+            (Choice::Resign(Stake::Gammon), Ok(())),
         ],
     },
     Row {
@@ -71,6 +74,7 @@ static PLAYS: [Row; 9] = [
             (Choice::Accept, Err(Disallowed::NotYours)),
             (Choice::Reject, Err(Disallowed::NotYours)),
             (Choice::Move(&[]), Err(Disallowed::NotYours)),
+            (Choice::Resign(Stake::Gammon), Err(Disallowed::NotYours)),
         ],
     },
     Row {
@@ -142,6 +146,7 @@ static ANSWERS: [Row; 8] = [
             (Choice::Accept, Err(Disallowed::WrongKind)),
             (Choice::Roll, Err(Disallowed::WrongKind)),
             (Choice::Reject, Ok(())),
+            (Choice::Resign(Stake::Gammon), Err(Disallowed::WrongKind)),
         ],
     },
     Row {
@@ -168,6 +173,9 @@ static ANSWERS: [Row; 8] = [
             (Choice::Double, Ok(())),
             (Choice::Reject, Err(Disallowed::WrongKind)),
             (Choice::Move(&[]), Err(Disallowed::WrongKind)),
+            (Choice::Resign(Stake::Normal), Ok(())),
+            (Choice::Resign(Stake::Gammon), Ok(())),
+            (Choice::Resign(Stake::Backgammon), Ok(())),
         ],
     },
     Row {
@@ -206,7 +214,10 @@ static ANSWERS: [Row; 8] = [
         phase: Phase::OpponentActs,
         most: 0,
         plays: &[],
-        answers: &[(Choice::Roll, Err(Disallowed::NotYours))],
+        answers: &[
+            (Choice::Roll, Err(Disallowed::NotYours)),
+            (Choice::Resign(Stake::Normal), Err(Disallowed::NotYours)),
+        ],
     },
     Row {
         name: "the game is over",
@@ -217,6 +228,7 @@ static ANSWERS: [Row; 8] = [
         answers: &[
             (Choice::Roll, Err(Disallowed::NotYours)),
             (Choice::Move(&[]), Err(Disallowed::NotYours)),
+            (Choice::Resign(Stake::Normal), Err(Disallowed::NotYours)),
         ],
     },
 ];

@@ -198,7 +198,7 @@ fn offline_no_board_is_shown_and_all_bytes_are_dropped(rt: HostRuntime) -> Resul
 fn a_board_in_a_line_that_was_cut_is_a_text(rt: HostRuntime) -> Result<(), Fail> {
     let mut client = ready()?;
     client.feed(TO_ROLL);
-    for _ in 0..500usize {
+    for _ in 0..1700usize {
         client.feed(b"          ");
     }
     let taken = client.feed(b"\r\n").taken.ok_or("no line")?;

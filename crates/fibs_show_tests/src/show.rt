@@ -1,10 +1,10 @@
 //! The engines over streams in memory.
 use fibs_show::fault::EngineFault;
-use fibs_show::show::{StreamFault, show, show_portions, show_stream};
+use fibs_show::show::{StreamFault, show, show_portions};
 use fibs_test_tools::devices::{Endless, FailsOnce};
 use fibs_test_tools::outcome::Outcome;
 use fibs_test_tools::pipe::{After, FAULT, Pipe};
-use fibs_test_tools::text::{Text, joined, text_of};
+use fibs_test_tools::text::{TEXT_ROOM, Text, joined, text_of};
 use std::alloc::Global;
 use std::process::Abort;
 
@@ -31,7 +31,7 @@ fn shown(alloc: Global, input: &[u8], most: usize, after: After, room: usize) ->
 /// Asserts what `show` prints, however its input is cut.
 fn assert_shown(rt: &(impl Abort + AllocGlobal), input: &[u8], wanted: &[u8]) {
     for most in [1, 2, 7, 1024, 5000] {
-        let outcome = shown(rt.alloc(), input, most, After::End, 8192);
+        let outcome = shown(rt.alloc(), input, most, After::End, TEXT_ROOM);
         assert!(rt;
             outcome.is(Ok(0), wanted, b""),
             "a stream in portions, at {}: {:?}",
@@ -119,11 +119,11 @@ fn drops_a_telnet_command_inside_a_field(rt: HostRuntime) {
 #[test]
 fn cuts_long_lines(rt: HostRuntime) {
     let cases: [(&[u8], usize, &[u8], &[u8], usize); 5] = [
-        (b"", 4096, b"\r\n", b"text ", 4096),
-        (b"", 4097, b"\r\n", b"cut ", 4096),
-        (b"> ", 4096, b"\n", b"cut ", 4094),
-        (b"board:", 4096, b"\n", b"cut board:", 4090),
-        (b"\n", 4098, b"", b"text \nunfinished 4096", 0),
+        (b"", 16384, b"\r\n", b"text ", 16384),
+        (b"", 16385, b"\r\n", b"cut ", 16384),
+        (b"> ", 16384, b"\n", b"cut ", 16382),
+        (b"board:", 16384, b"\n", b"cut board:", 16378),
+        (b"\n", 16386, b"", b"text \nunfinished 16384", 0),
     ];
     for (front, count, end, wanted_front, wanted_count) in cases {
         let input = long_line(front, count, end);
@@ -285,7 +285,7 @@ fn writes_nothing_after_a_failed_write(rt: HostRuntime) {
         for failing in 0..wanted.len().div_ceil(most) {
             let mut reader = Pipe::new(b"a\nbc\nd", 100, After::End, 0);
             let mut writer = FailsOnce::new(failing, most);
-            let ending = show_stream(rt.alloc(), &mut reader, &mut writer);
+            let ending = show_portions(rt.alloc(), 1000, &mut [0; 1024], &mut reader, &mut writer);
             assert_eq!(rt; ending, Err(StreamFault::Writer), "{failing} of {most}");
             assert_eq!(rt;
                 Some(writer.output()),
@@ -307,6 +307,7 @@ fn says_what_failed(rt: HostRuntime) {
     for (after, room, wanted) in cases {
         let mut reader = Pipe::new(b"a\n", 1, after, 0);
         let mut writer = Pipe::new(b"", 1, After::End, room);
-        assert_eq!(rt; show_stream(rt.alloc(), &mut reader, &mut writer), wanted);
+        let ending = show_portions(rt.alloc(), 1000, &mut [0; 1024], &mut reader, &mut writer);
+        assert_eq!(rt; ending, wanted);
     }
 }

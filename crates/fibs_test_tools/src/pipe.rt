@@ -36,7 +36,7 @@ pub struct Pipe<'a> {
 
 impl<'a> Pipe<'a> {
     /// A pipe that gives `input` in reads of at most `most` bytes, and takes `room` bytes, and no
-    /// more than 8192, before a write fails.
+    /// more than `TEXT_ROOM`, before a write fails.
     pub fn new(input: &'a [u8], most: usize, after: After, room: usize) -> Pipe<'a>
         ensures input { result.input.now ≡ input.entry.now }
         ensures output { result.output.items ≡ [] }

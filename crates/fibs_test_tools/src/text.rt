@@ -2,8 +2,11 @@
 
 use arrayvec::ArrayVec;
 
-/// At most 8192 bytes.
-pub type Text = ArrayVec<u8, 8192>;
+/// The most bytes of a text: more than a line has that is printed whole.
+pub const TEXT_ROOM: usize = 20_480;
+
+/// At most `TEXT_ROOM` bytes.
+pub type Text = ArrayVec<u8, TEXT_ROOM>;
 
 /// These parts, one after another.
 pub fn joined(parts: &[&[u8]]) -> Text {

@@ -4,29 +4,16 @@ ghost use Rattle.std.specs.Prelude.{◌≡◌, ◌∷◌, [], ◌++◌, decimal,
 ghost use Rattle.std.specs.List.{flat_map};
 ghost use Rattle.fibs_fields.specs.Field.{NameField, FlagField, NumberField, RatingField, TextField};
 ghost use Rattle.fibs_messages.specs.FieldOf.{value_of, values_of};
-ghost use Rattle.fibs_messages.specs.Message.{MessageText, canonical, canonical_field, message_of, own_info_fields};
-ghost use Rattle.fibs_messages.specs.Message.{who_info_fields};
+ghost use Rattle.fibs_messages.specs.Message.{MessageText, canonical, canonical_field, message_of};
 ghost use Rattle.fibs_fields.specs.Bytes.{name_bytes};
 
 use crate::laws::messages_are_well_formed;
+use crate::messages::field::{Field, own_info_fields, who_info_fields};
 use crate::messages::message::{Message, OwnInfo, WhoInfo};
 use fibs_fields::name::Name;
 use fibs_fields::rating::append_rating;
-use fibs_fields::word::{Tail, Word};
 use itoa::Buffer;
 use std::alloc::{AllocError, Global};
-
-/// A field of a message.
-#[derive(Clone, Copy)]
-pub enum Field<'a> {
-    Name(Name<'a>),
-    Word(Word<'a>),
-    Tail(Tail<'a>),
-    Flag(bool),
-    Number(u64),
-    Rating(u32),
-    Text(&'a [u8]),
-}
 
 /// Appends a space and the bytes.
 fn append_piece(out: &mut Vec<u8>, bytes: &[u8]) -> Result<(), AllocError>
@@ -115,53 +102,6 @@ fn append_fields(out: &mut Vec<u8>, number: u8, fields: &[Field<'_>]) -> Result<
         append_field(out, field)?;
     }
     Ok(())
-}
-
-fn own_info_fields<'a>(info: &OwnInfo<'a>) -> [Field<'a>; 21]
-    ensures { values_of result ≡ own_info_fields info.now }
-{
-    [
-        Field::Name(info.name),
-        Field::Flag(info.allowpip),
-        Field::Flag(info.autoboard),
-        Field::Flag(info.autodouble),
-        Field::Flag(info.automove),
-        Field::Flag(info.away),
-        Field::Flag(info.bell),
-        Field::Flag(info.crawford),
-        Field::Flag(info.double),
-        Field::Number(info.experience),
-        Field::Flag(info.greedy),
-        Field::Flag(info.moreboards),
-        Field::Flag(info.moves),
-        Field::Flag(info.notify),
-        Field::Rating(info.rating),
-        Field::Flag(info.ratings),
-        Field::Flag(info.ready),
-        Field::Word(info.redoubles),
-        Field::Flag(info.report),
-        Field::Flag(info.silent),
-        Field::Word(info.timezone),
-    ]
-}
-
-fn who_info_fields<'a>(info: &WhoInfo<'a>) -> [Field<'a>; 12]
-    ensures { values_of result ≡ who_info_fields info.now }
-{
-    [
-        Field::Name(info.name),
-        Field::Name(info.opponent),
-        Field::Name(info.watching),
-        Field::Flag(info.ready),
-        Field::Flag(info.away),
-        Field::Rating(info.rating),
-        Field::Number(info.experience),
-        Field::Number(info.idle),
-        Field::Number(info.login),
-        Field::Word(info.hostname),
-        Field::Word(info.client),
-        Field::Tail(info.email),
-    ]
 }
 
 // The longer messages stay out of line, so that no other pays for clearing their room.

@@ -11,14 +11,15 @@ use Rattle.fibs_session.specs.History.Log as L
 use Rattle.fibs_session.specs.History.Machine.{on_wire}
 use Rattle.fibs_session.specs.History.Words.{Ask, one_if, is_empty}
 use Rattle.fibs_model.specs.Acts.{Act, Shows, Says, Serves, sending, acts_of, acts_at_line, acts_on, acts_from}
-use Rattle.fibs_model.specs.Events.{Event, Open, Click, Plain, Deliver, Lose, Serve, Own, Repeat, Text}
+use Rattle.fibs_model.specs.Events.{Event, Open, Click, Plain, Deliver, Lose, Serve, Own, Repeat, Text, Order, Withdraw}
 use Rattle.fibs_model.specs.Joint.{served_by, served_at, decisions_of}
 use Rattle.fibs_model.specs.Joint as S
 use Rattle.fibs_model.specs.Runs.{after_all}
-use Rattle.fibs_model.specs.Server.{Served, answered}
+use Rattle.fibs_model.specs.Server.{Served}
 use Rattle.fibs_model.specs.Server as V
-use Rattle.fibs_model.specs.Wires.{Link, next_line}
+use Rattle.fibs_model.specs.Wires.{Link, taken, next_line}
 use Rattle.fibs_model.specs.World.{World, after, noted, linked, is_talking, does_served, serves}
+use Rattle.fibs_model.proofs.Answering.{answered_at as answered}
 use Rattle.fibs_model.proofs.Steps.{NoAnswers, Adds, Fits, fits, sends_log, adds}
 use Rattle.fibs_model.proofs.joint.Sending.{if_fact}
 use Rattle.fibs_model.proofs.log.Lists.{same_number, other_number}
@@ -102,12 +103,7 @@ notes_line : (c : ℕ) (w : World) (conn d1 d2 : ℕ) (o : Option (List ℕ × L
     → Notes c w (serves conn w d1 d2 o) (if nat_eq c w.logged_in then acts_at_line w conn d1 d2 o else [])
 notes_line c w conn d1 d2 None = ([], sym (append-nil w.log), only_none c w.logged_in [] refl)
 notes_line c w conn d1 d2 (Some p) =
-    let l : Link = record {
-      heard = (w.links conn).heard;
-      coming = (w.links conn).coming;
-      served = (w.links conn).served ++ on_wire p.0;
-      asked = p.1;
-    } in
+    let l : Link = taken (w.links conn) (on_wire p.0) p.1 in
     let first = is_empty (w.links conn).served in
     notes_served c conn d1 d2 w l (answered w.board w.logged_in conn first p.0 d1 d2)
     (fits w.board w.logged_in conn first p.0 d1 d2)
@@ -128,6 +124,8 @@ notes c login w (Own b) = (
 notes c login w Repeat =
     notes_none c w _ (sending w (Shows w.board)) (adds login w Repeat tt) (no_shows w w.board)
 notes c login w (Text t) = notes_none c w _ (sending w (Says t)) (adds login w (Text t) tt) (no_says w t)
+notes c login w Order = notes_none c w _ [] (adds login w Order tt) refl
+notes c login w Withdraw = notes_none c w _ [] (adds login w Withdraw tt) refl
 
 -- over a list of events
 pub serves_all : (c : ℕ) (login : List ℕ) (es : List Event) (w : World)

@@ -1,9 +1,7 @@
 -- The four facts of the joint statement hold after every list of events.
-use Rattle.std.proofs.Common.{◌⊎◌}
-use Rattle.std.proofs.Common.{◌≡◌, ℕ, ◌+◌, ◌<◌, ◌≤◌, Bool, true, false, not, ◌&&◌, List, [], ◌∷◌, ◌++◌, Option, Some}
-use Rattle.std.proofs.Common.{None}
-use Rattle.std.proofs.Common.{nat_eq, take, drop, flat_map, refl, sym, ◌∙◌, ap, subst, inl, inr, append-nil, append_assoc}
-use Rattle.std.proofs.Common.{true≢false, arith, if◌then◌else◌}
+use Rattle.std.proofs.Common.{◌≡◌, ◌⊎◌, ℕ, ◌+◌, ◌<◌, ◌≤◌, Bool, true, false, not, ◌&&◌, List, [], ◌∷◌, ◌++◌, Option}
+use Rattle.std.proofs.Common.{Some, None, nat_eq, take, drop, flat_map, refl, sym, ◌∙◌, ap, subst, inl, inr, append-nil}
+use Rattle.std.proofs.Common.{append_assoc, true≢false, arith, if◌then◌else◌}
 use Rattle.std.proofs.lemmas.Bool.{cases_lt, eqb-true}
 use Rattle.std.proofs.lemmas.Bool.Decides.{eqb_tells}
 use Rattle.fibs_boards.specs.Board.{BoardFields as Board, spelling}
@@ -13,20 +11,21 @@ use Rattle.fibs_position.specs.GoodBoard.{good as is_good}
 use Rattle.fibs_session.specs.History.Log.{Entry, Took, Undone, Lost}
 use Rattle.fibs_session.specs.History.Log as L
 use Rattle.fibs_session.specs.History.Allows.{allows}
-use Rattle.fibs_session.specs.History.Machine.{gained, on_wire, plain_refusal}
+use Rattle.fibs_session.specs.History.Machine.{gained, on_wire, plain_refusal, order_refusal, withdraw_refusal}
 use Rattle.fibs_session.specs.History.Words.{Ask, is_empty, one_if, open_now, answer, sent, took}
 use Rattle.fibs_model.specs.Acts.{Act, Shows, Says, Serves, put_by, sending, acts_of, acts_at_line, acts_on, acts_from}
 use Rattle.fibs_model.specs.declared.refusal.WorldRefusal.TheVariants.{AlreadyOpen, NotOpen}
-use Rattle.fibs_model.specs.Events.{Event, Open, Click, Plain, Deliver, Lose, Serve, Own, Repeat, Text}
+use Rattle.fibs_model.specs.Events.{Event, Open, Click, Plain, Deliver, Lose, Serve, Own, Repeat, Text, Order, Withdraw}
 use Rattle.fibs_model.specs.Headline.{NoneUndone}
 use Rattle.fibs_model.specs.Joint.{Carried, Steady, served_by, served_at, decisions_of, at_most_one, Left, LastUnserved}
 use Rattle.fibs_model.specs.Joint as S
 use Rattle.fibs_model.specs.Refusals.{refusal}
 use Rattle.fibs_model.specs.Runs.{AllAccepted, after_all}
-use Rattle.fibs_model.specs.Server.{Served, Stale, LoggedIn, answered, user_decides}
+use Rattle.fibs_model.specs.Server.{Served, Stale, LoggedIn, user_decides}
 use Rattle.fibs_model.specs.Server as V
-use Rattle.fibs_model.specs.Wires.{Link}
+use Rattle.fibs_model.specs.Wires.{Link, taken}
 use Rattle.fibs_model.specs.World.{World, start, after, noted, linked, sends, does_served, serves, talk_of}
+use Rattle.fibs_model.proofs.Answering.{answered_at as answered}
 use Rattle.fibs_model.proofs.Lawful.{Lawful, IsQuiet}
 use Rattle.fibs_model.proofs.Final.{kept, told_start}
 use Rattle.fibs_model.proofs.log.Lists.{other_number}
@@ -34,6 +33,7 @@ use Rattle.fibs_model.proofs.log.Past.{open_append}
 use Rattle.fibs_model.proofs.joint.Acting.{Kept, only, only_none, kept_is, kept_quiet, kept_alike, kept_sends}
 use Rattle.fibs_model.proofs.joint.Acting.{kept_serves, kept_login}
 use Rattle.fibs_model.proofs.joint.Carrying.{alike_linked, alike_asks, alike_hears_all, alike_clicks, alike_plain}
+use Rattle.fibs_model.proofs.joint.Carrying.{alike_unless}
 use Rattle.fibs_model.proofs.joint.Carrying.{carried_is, carried_delivered, carried_lost, carried_none}
 use Rattle.fibs_model.proofs.joint.EachEvent.{served, joint_after, joint_start, not_refused, is_open}
 use Rattle.fibs_model.proofs.joint.Joint.{Joint, linked_same, linked_other}
@@ -193,12 +193,7 @@ kept_line : (acts : ℕ → List Act) (w : World) (c d1 d2 : ℕ) (line : List �
     (acts_of w (answered w.board w.logged_in c (is_empty (w.links c).served) line.0 d1 d2)))
     (serves c w d1 d2 (Some line))
 kept_line acts w c d1 d2 line low k =
-    let l : Link = record {
-      heard = (w.links c).heard;
-      coming = (w.links c).coming;
-      served = (w.links c).served ++ on_wire line.0;
-      asked = line.1;
-    } in
+    let l : Link = taken (w.links c) (on_wire line.0) line.1 in
     kept_served acts c (linked w c l) (answered w.board w.logged_in c (is_empty (w.links c).served) line.0 d1 d2) low
     (kept_alike acts w (linked w c l) (alike_linked w c l refl refl) k)
 
@@ -237,6 +232,12 @@ kept_after acts login w Repeat j h k =
     (steady_shows w.board (acts w.logged_in) k.now) k
 kept_after acts login w (Text t) j h k =
     kept_sends acts w w.board (Says t) t refl k.now (steady_says w.board t (acts w.logged_in) k.now) k
+kept_after acts login w Order j h k =
+    kept_no_acts acts w _
+    (kept_alike acts w _ (alike_unless w (L.Ordered (open_now w.log)) (order_refusal w.log) refl) k)
+kept_after acts login w Withdraw j h k =
+    kept_no_acts acts w _
+    (kept_alike acts w _ (alike_unless w (L.Withdrawn (open_now w.log)) (withdraw_refusal w.log) refl) k)
 
 -- at first nothing was done
 kept_start : (b : Board) → Kept (λ c. []) (start b)

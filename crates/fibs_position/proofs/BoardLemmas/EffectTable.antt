@@ -10,9 +10,9 @@ use Rattle.fibs_boards.specs.Board.{BoardFields, field_of}
 use Rattle.fibs_position.specs.OwnView.{turn, colour, first_die, second_die, NoDice, no_dice, own_view}
 use Rattle.fibs_position.specs.GoodBoard.{good}
 use Rattle.fibs_rules.specs.LaxPlays.{lax_of}
-use Rattle.fibs_position.specs.DecisionValue.{DecisionValue, roll, double, accept, reject, move}
+use Rattle.fibs_position.specs.DecisionValue.{DecisionValue, roll, double, accept, reject, move, resign}
 use Rattle.fibs_position.specs.BoardEffect.{IsDie, AreThrown, HasTurn, BeforeRoll, BeforeMove, IsDoubled, rolled}
-use Rattle.fibs_position.specs.BoardEffect.{doubled, accepted, rejected, after_move, Carries, Effect, is_die}
+use Rattle.fibs_position.specs.BoardEffect.{turn_given, accepted, rejected, after_move, Carries, Effect, is_die}
 use Rattle.fibs_position.specs.BoardEffect.{are_thrown, has_turn, is_doubled, carried, effect_of}
 use Rattle.fibs_rules.proofs.RuleLemmas.LaxPlays.{lax_sound, lax_complete}
 use Rattle.fibs_position.proofs.BoardLemmas.GoodTest.{BoardTest, good_tells, good_from}
@@ -87,7 +87,8 @@ carried_sound b roll dice after e =
     test in
     (h.0, h.1, cc)
 carried_sound b double dice after e =
-    let (test, is) = kept (has_turn b && no_dice b) (Some (doubled b)) after e in ((before_roll_decides b).0 test, cc)
+    let (test, is) = kept (has_turn b && no_dice b) (Some (turn_given b)) after e in
+    ((before_roll_decides b).0 test, cc)
 carried_sound b accept dice after e =
     let (test, is) = kept (is_doubled b && int_le (field_of b 38) (pos 524288)) (Some (accepted b)) after e in
     let h =
@@ -101,6 +102,8 @@ carried_sound b (move steps) dice after e =
     kept (has_turn b && not (no_dice b)) (option_map (after_move b) (lax_of (own_view b) steps)) after e in
     let (q, reached, so) = mapped (after_move b) (lax_of (own_view b) steps) after is in
     ((before_move_decides b).0 test, (q, lax_sound (own_view b) q steps reached, sym so))
+carried_sound b (resign stake) dice after e =
+    let (test, is) = kept (has_turn b) (Some (turn_given b)) after e in ((turn_decides b).0 test, cc)
 
 -- what is in the table the function gives
 carried_complete : (b : BoardFields) (d : DecisionValue) (dice : List ℕ) (after : BoardFields) → Carries b d dice after
@@ -110,7 +113,7 @@ carried_complete b roll dice after (before, thrown, is) =
     ((Decides-and (has_turn b && no_dice b) (are_thrown dice) (before_roll_decides b) (thrown_decides dice)).1
     (before, thrown)) ∙ ap Some (sym is)
 carried_complete b double dice after (before, is) =
-    under (has_turn b && no_dice b) (Some (doubled b)) ((before_roll_decides b).1 before) ∙ ap Some (sym is)
+    under (has_turn b && no_dice b) (Some (turn_given b)) ((before_roll_decides b).1 before) ∙ ap Some (sym is)
 carried_complete b accept dice after (asked, small, is) =
     under (is_doubled b && int_le (field_of b 38) (pos 524288)) (Some (accepted b))
     ((Decides-and (is_doubled b) (int_le (field_of b 38) (pos 524288)) (doubled_decides b)
@@ -121,6 +124,8 @@ carried_complete b (move steps) dice after (before, (q, run, is)) =
     under (has_turn b && not (no_dice b)) (option_map (after_move b) (lax_of (own_view b) steps))
     ((before_move_decides b).1 before)
     ∙ ap (option_map (after_move b)) (lax_complete (own_view b) q steps run) ∙ ap Some (sym is)
+carried_complete b (resign stake) dice after (has, is) =
+    under (has_turn b) (Some (turn_given b)) ((turn_decides b).1 has) ∙ ap Some (sym is)
 
 -- the function is the relation
 pub effect_exact : BoardTest → (b : BoardFields) (d : DecisionValue) (dice : List ℕ) (after : BoardFields)

@@ -6,9 +6,9 @@ use Rattle.std.specs.Ordering.{int_eq}
 use Rattle.std.proofs.lemmas.Bool.{false≢true}
 use Rattle.std.proofs.lemmas.Bool.Decides.{Decides-and, Decides-not, Decides-int_eq}
 use Rattle.fibs_position.specs.PositionValue.{PositionValue}
-use Rattle.fibs_position.specs.DecisionValue.{DecisionValue, roll, double, accept, reject, move}
+use Rattle.fibs_position.specs.DecisionValue.{DecisionValue, roll, double, accept, reject, move, resign}
 use Rattle.fibs_position.specs.Phases.{InPhase, decides, phase_in}
-use Rattle.fibs_position.specs.Allowed.{UserDecides, phase_for, CubeAllows, IsRightKind, IsLegal, Forbids, reasons}
+use Rattle.fibs_position.specs.Allowed.{UserDecides, IsForPhase, CubeAllows, IsRightKind, IsLegal, Forbids, reasons}
 use Rattle.fibs_position.specs.Allowed.{IsRefused, MayDecide, is_for, cube_allows, is_legal, forbids, refusal_of}
 use Rattle.fibs_position.specs.declared.phase.Phase.{Phase}
 use Rattle.fibs_position.specs.declared.phase.Phase.TheVariants.{Over, AnswerDouble, OpponentActs, RollOrDouble, Move}
@@ -47,29 +47,57 @@ user_to p small (inr (inr h)) = inr (inr ((phase_exact p Move small).1 h))
 pub user_decides : (p : PositionValue) → SmallDice p.standing → Decides (decides (phase_in p)) (UserDecides p)
 user_decides p small = let d = deciding (phase_in p) in (λ e. user_from p small (d.0 e), λ h. d.1 (user_to p small h))
 
--- each kind of decision has one phase
-for_sound : (d : DecisionValue) (phase : Phase) → is_for d phase ≡ true → phase ≡ phase_for d
+-- the phases of each kind of decision
+abbrev IsOneFor : DecisionValue → Phase → Type 0
+IsOneFor roll phase = phase ≡ RollOrDouble
+IsOneFor double phase = phase ≡ RollOrDouble
+IsOneFor accept phase = phase ≡ AnswerDouble
+IsOneFor reject phase = phase ≡ AnswerDouble
+IsOneFor (move steps) phase = phase ≡ Move
+IsOneFor (resign stake) phase = (phase ≡ RollOrDouble) ⊎ (phase ≡ Move)
+
+-- the test of a kind holds of its phases alone
+for_sound : (d : DecisionValue) (phase : Phase) → is_for d phase ≡ true → IsOneFor d phase
 for_sound roll RollOrDouble e = refl
 for_sound double RollOrDouble e = refl
 for_sound accept AnswerDouble e = refl
 for_sound reject AnswerDouble e = refl
 for_sound (move steps) Move e = refl
+for_sound (resign stake) RollOrDouble e = inl refl
+for_sound (resign stake) Move e = inr refl
 for_sound d phase e = absurd (false≢true e)
 
--- that phase is its phase
-for_own : (d : DecisionValue) → is_for d (phase_for d) ≡ true
-for_own roll = refl
-for_own double = refl
-for_own accept = refl
-for_own reject = refl
-for_own (move steps) = refl
+-- where it holds of one phase alone, it tells whether a position is in it
+one_decides : (p : PositionValue) (d : DecisionValue) (phase : Phase) → SmallDice p.standing
+    → ((other : Phase) → is_for d other ≡ true → other ≡ phase) → is_for d phase ≡ true
+    → Decides (is_for d (phase_in p)) (InPhase p phase)
+one_decides p d phase small alone own =
+    let exact = phase_exact p phase small in
+    (λ e. exact.0 (alone (phase_in p) e), λ h. ap (is_for d) (exact.1 h) ∙ own)
+
+-- a player resigns before the roll and before the move
+resign_sound : (p : PositionValue) → SmallDice p.standing → (phase_in p ≡ RollOrDouble) ⊎ (phase_in p ≡ Move)
+    → InPhase p RollOrDouble ⊎ InPhase p Move
+resign_sound p small (inl e) = inl ((phase_exact p RollOrDouble small).0 e)
+resign_sound p small (inr e) = inr ((phase_exact p Move small).0 e)
+
+resign_complete : (p : PositionValue) (d : DecisionValue) → SmallDice p.standing → is_for d RollOrDouble ≡ true
+    → is_for d Move ≡ true → InPhase p RollOrDouble ⊎ InPhase p Move → is_for d (phase_in p) ≡ true
+resign_complete p d small rolls moves (inl h) = ap (is_for d) ((phase_exact p RollOrDouble small).1 h) ∙ rolls
+resign_complete p d small rolls moves (inr h) = ap (is_for d) ((phase_exact p Move small).1 h) ∙ moves
 
 -- the test of kind and phase
 phase_decides : (p : PositionValue) (d : DecisionValue) → SmallDice p.standing
-    → Decides (is_for d (phase_in p)) (InPhase p (phase_for d))
-phase_decides p d small =
-    let exact = phase_exact p (phase_for d) small in
-    (λ e. exact.0 (for_sound d (phase_in p) e), λ h. ap (is_for d) (exact.1 h) ∙ for_own d)
+    → Decides (is_for d (phase_in p)) (IsForPhase p d)
+phase_decides p roll small = one_decides p roll RollOrDouble small (for_sound roll) refl
+phase_decides p double small = one_decides p double RollOrDouble small (for_sound double) refl
+phase_decides p accept small = one_decides p accept AnswerDouble small (for_sound accept) refl
+phase_decides p reject small = one_decides p reject AnswerDouble small (for_sound reject) refl
+phase_decides p (move steps) small = one_decides p (move steps) Move small (for_sound (move steps)) refl
+phase_decides p (resign stake) small = (
+  λ e. resign_sound p small (for_sound (resign stake) (phase_in p) e),
+  resign_complete p (resign stake) small refl refl,
+)
 
 -- the test of the cube
 cube_decides : (p : PositionValue) (d : DecisionValue) → Decides (cube_allows p d) (CubeAllows p d)
@@ -81,6 +109,7 @@ cube_decides p double =
 cube_decides p accept = int_le_decides p.cube (pos 524288)
 cube_decides p reject = (λ _. tt, λ _. refl)
 cube_decides p (move steps) = (λ _. tt, λ _. refl)
+cube_decides p (resign stake) = (λ _. tt, λ _. refl)
 
 -- the test of the right kind
 kind_decides : (p : PositionValue) (d : DecisionValue) → SmallDice p.standing
@@ -97,6 +126,7 @@ legal_decides p accept small = (λ _. tt, λ _. refl)
 legal_decides p reject small = (λ _. tt, λ _. refl)
 legal_decides p (move steps) small =
     (legal_sound p.standing steps small.first small.second, legal_complete p.standing steps small.first small.second)
+legal_decides p (resign stake) small = (λ _. tt, λ _. refl)
 
 -- the test of each reason
 forbids_decides : (p : PositionValue) (d : DecisionValue) → SmallDice p.standing → (why : Disallowed)

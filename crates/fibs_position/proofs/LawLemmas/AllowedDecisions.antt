@@ -5,12 +5,12 @@ use Rattle.fibs_boards.specs.Board.{BoardFields}
 use Rattle.fibs_boards.specs.FieldRanges.{FieldRanges}
 use Rattle.fibs_position.specs.OwnView.{standing_of}
 use Rattle.fibs_position.specs.PositionValue.{position_of}
-use Rattle.fibs_position.specs.DecisionValue.{DecisionValue, roll, double, accept, reject, move, IsDecision}
+use Rattle.fibs_position.specs.DecisionValue.{DecisionValue, roll, double, accept, reject, move, resign, IsDecision}
 use Rattle.fibs_position.specs.Phases.{phase_in, decides}
 use Rattle.fibs_position.specs.Allowed.{IsAllowed, refusal_of, forbids}
 use Rattle.fibs_position.specs.Laws.{AllowedDecides, AllowedIsADecision, DecisionsAreValid}
 use Rattle.fibs_position.specs.Laws.{AllowedActs}
-use Rattle.fibs_position.specs.declared.decision.Decision.TheVariants.{Roll, Double, Accept, Reject, Move}
+use Rattle.fibs_position.specs.declared.decision.Decision.TheVariants.{Roll, Double, Accept, Reject, Move, Resign}
 use Rattle.fibs_position.specs.declared.disallowed.Disallowed.{Disallowed}
 use Rattle.fibs_position.specs.declared.disallowed.Disallowed.TheVariants as D
 use Rattle.fibs_rules.proofs.LawLemmas.PlaySteps.{legal_plays_are_steps, plays_are_steps}
@@ -37,6 +37,7 @@ decision_valid b double h = tt
 decision_valid b accept h = tt
 decision_valid b reject h = tt
 decision_valid b (move steps) h = legal_plays_are_steps (standing_of b) steps h.legal
+decision_valid b (resign stake) h = tt
 
 -- so is what the function allows
 pub allowed_is_a_decision : BoardTest → FieldRanges → AllowedIsADecision
@@ -49,6 +50,7 @@ decisions_are_valid Double = tt
 decisions_are_valid Accept = tt
 decisions_are_valid Reject = tt
 decisions_are_valid (Move play) = plays_are_steps play
+decisions_are_valid (Resign stake) = tt
 
 -- what is allowed is carried out, to a good board that differs
 pub allowed_acts : BoardTest → FieldRanges → AllowedActs

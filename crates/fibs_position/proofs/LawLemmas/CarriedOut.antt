@@ -9,13 +9,14 @@ use Rattle.std.proofs.lemmas.Bool.Decides.{Decides-int_eq}
 use Rattle.fibs_boards.specs.Board.{BoardFields, IsBoard, field_of, can_have, field_values}
 use Rattle.fibs_boards.specs.FieldRanges.{FieldRanges}
 use Rattle.fibs_position.specs.First.{IsFirst}
+use Rattle.fibs_position.specs.GoodBoard.{IsGood}
 use Rattle.fibs_position.specs.OwnView.{turn, colour, natural, standing_of}
 use Rattle.fibs_position.specs.PositionValue.{position_of}
 use Rattle.fibs_position.specs.GamePart.{Differ}
-use Rattle.fibs_position.specs.DecisionValue.{roll, double, accept, reject, move}
+use Rattle.fibs_position.specs.DecisionValue.{roll, double, accept, reject, move, resign}
 use Rattle.fibs_position.specs.Phases.{PhaseFits, IsPhase}
-use Rattle.fibs_position.specs.BoardEffect.{HasTurn, BeforeRoll, BeforeMove, IsDoubled, rolled, doubled, accepted}
-use Rattle.fibs_position.specs.BoardEffect.{rejected, after_move}
+use Rattle.fibs_position.specs.BoardEffect.{HasTurn, BeforeRoll, BeforeMove, IsDoubled, rolled, turn_given}
+use Rattle.fibs_position.specs.BoardEffect.{accepted, rejected, after_move}
 use Rattle.fibs_position.specs.Laws.{PhaseIsExact, AllowedIsExact, EffectIsExact, AllowedIsTheUsers}
 use Rattle.fibs_position.specs.Laws.{AllowedIsCarriedOut, EffectIsGood}
 use Rattle.fibs_position.specs.declared.phase.Phase.{Phase}
@@ -117,6 +118,11 @@ before_move_from ranges b board h =
     let (turns, rest) = has_turn_from ranges b Move board (λ e. absurd cc) (λ e. absurd cc) (λ e. absurd cc) h in
     (turns, (later_first (PhaseFits (position_of b)) RollOrDouble (Move ∷ Passing ∷ []) Move (λ e. absurd cc) rest).0)
 
+-- in either the player has the turn
+has_turn_in : FieldRanges → (b : BoardFields) → IsBoard b → IsPhase b RollOrDouble ⊎ IsPhase b Move → HasTurn b
+has_turn_in ranges b board (inl h) = (before_roll_from ranges b board h).0
+has_turn_in ranges b board (inr h) = (before_move_from ranges b board h).0
+
 -- the phase of answering is where a double is to be answered
 doubled_from : (b : BoardFields) → IsPhase b AnswerDouble → IsDoubled b
 doubled_from b h =
@@ -137,12 +143,14 @@ pub allowed_carried : FieldRanges → AllowedIsCarriedOut
 allowed_carried ranges b roll dice good h thrown =
     (rolled b dice, (good, (before_roll_from ranges b good.board h.right.0, thrown, refl)))
 allowed_carried ranges b double dice good h thrown =
-    (doubled b, (good, (before_roll_from ranges b good.board h.right.0, refl)))
+    (turn_given b, (good, (before_roll_from ranges b good.board h.right.0, refl)))
 allowed_carried ranges b accept dice good h thrown = (accepted b, (good, (doubled_from b h.right.0, h.right.1, refl)))
 allowed_carried ranges b reject dice good h thrown = (rejected b, (good, (doubled_from b h.right.0, refl)))
 allowed_carried ranges b (move steps) dice good h thrown =
     let (q, run) = legal_lax (standing_of b) steps h.legal in
     (after_move b q, (good, (before_move_from ranges b good.board h.right.0, (q, run, refl))))
+allowed_carried ranges b (resign stake) dice good h thrown =
+    (turn_given b, (good, (has_turn_in ranges b good.board h.right.0, refl)))
 
 -- ---- what is carried out is good and differs
 
@@ -175,6 +183,19 @@ cube_may ranges b board small =
     let range = (ranges.cube 38 (field_of b 38) refl).0 (ranges.held b 38 board (lit≤ tt) (lit≤ tt)) in
     may_cube ranges (field_of b 38 +ℤ field_of b 38) (omega (arith, ints, range.0)) (omega (arith, ints))
 
+-- where a player who has the turn gives it to the opponent, the board stays good, and differs
+given_good_differs : FieldRanges → (b : BoardFields) → IsGood b → HasTurn b
+    → IsGood (turn_given b) × Differ b (turn_given b)
+unfolding field_values
+given_good_differs ranges b good has =
+    let changes : List (ℕ × ℤ) = (33, neg_ℤ (colour b)) ∷ [] in
+    let given : field_of (turn_given b) 33 ≡ neg_ℤ (colour b) = field_after ranges changes b 33 good.board (lit≤ tt) in
+    let apart : field_of b 33 ≢ field_of (turn_given b) 33 =
+    λ e. turned ranges b (neg_ℤ (colour b)) good.board (inr refl) (sym has.0 ∙ e ∙ given) in (
+      good_after ranges b changes good refl (opposite_may ranges b good.board, tt),
+      differs_at b (turn_given b) 33 (lit≤ tt) (lit≤ tt) apart,
+    )
+
 -- what is carried out leaves a good board, which differs
 pub effect_good_differs : FieldRanges → EffectIsGood
 unfolding field_values
@@ -192,14 +213,7 @@ effect_good_differs ranges b roll dice after (good, (before, thrown, is)) =
       differs_at b (rolled b dice) 34 (lit≤ tt) (lit≤ tt) apart,
     )
 effect_good_differs ranges b double dice after (good, (before, is)) =
-    let changes : List (ℕ × ℤ) = (33, neg_ℤ (colour b)) ∷ [] in
-    let given : field_of (doubled b) 33 ≡ neg_ℤ (colour b) = field_after ranges changes b 33 good.board (lit≤ tt) in
-    let apart : field_of b 33 ≢ field_of (doubled b) 33 =
-    λ e. turned ranges b (neg_ℤ (colour b)) good.board (inr refl) (sym before.0.0 ∙ e ∙ given) in
-    rw is (
-      good_after ranges b changes good refl (opposite_may ranges b good.board, tt),
-      differs_at b (doubled b) 33 (lit≤ tt) (lit≤ tt) apart,
-    )
+    rw is (given_good_differs ranges b good before.0)
 effect_good_differs ranges b accept dice after (good, (asked, small, is)) =
     let changes : List (ℕ × ℤ) =
     (41, pos 0) ∷ (38, field_of b 38 +ℤ field_of b 38) ∷ (39, pos 1) ∷ (40, pos 0) ∷ (33, neg_ℤ (colour b)) ∷ [] in
@@ -224,3 +238,5 @@ effect_good_differs ranges b (move steps) dice after (good, (before, (q, run, is
     let apart : field_of b 33 ≢ field_of (after_move b q) 33 =
     λ e. turned ranges b next good.board (either_turn b (slice_index q.own 0 == 15)) (sym before.0.0 ∙ e ∙ given) in
     rw is (good_moved ranges b q steps good run, differs_at b (after_move b q) 33 (lit≤ tt) (lit≤ tt) apart)
+effect_good_differs ranges b (resign stake) dice after (good, (has, is)) =
+    rw is (given_good_differs ranges b good has)

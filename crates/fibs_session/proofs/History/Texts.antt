@@ -2,7 +2,7 @@
 use Rattle.std.proofs.Common.{◌≡◌, ℕ, Bool, true, false, ◌||◌, List, [], ◌∷◌, ◌++◌, if◌then◌else◌, refl, ap, ◌∙◌}
 use Rattle.std.specs.Str.{bytes_eq}
 use Rattle.fibs_messages.specs.Message.{MessageValue}
-use Rattle.fibs_position.specs.DecisionValue.{DecisionValue, roll, double, accept, reject, move}
+use Rattle.fibs_position.specs.DecisionValue.{DecisionValue, roll, double, accept, reject, move, resign}
 use Rattle.fibs_position.specs.declared.direction.Direction.{Direction}
 use Rattle.fibs_commands.specs.Commands.{command_of}
 use Rattle.fibs_messages.specs.Flags.{autoboard, moreboards}
@@ -91,3 +91,4 @@ decision_no_toggle direction double = record { no_automove = refl; no_greedy = r
 decision_no_toggle direction accept = record { no_automove = refl; no_greedy = refl }
 decision_no_toggle direction reject = record { no_automove = refl; no_greedy = refl }
 decision_no_toggle direction (move steps) = record { no_automove = refl; no_greedy = refl }
+decision_no_toggle direction (resign stake) = record { no_automove = refl; no_greedy = refl }

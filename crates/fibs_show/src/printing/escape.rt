@@ -18,14 +18,15 @@ fn is_escaped(byte: u8) -> bool
 }
 
 /// Where the first byte stands that is not shown as it is.
-pub fn first_escaped(bytes: &[u8]) -> Option<usize>
+fn first_escaped(bytes: &[u8]) -> Option<usize>
     ensures { result ≡ position is_escaped bytes.now }
 {
     bytes.iter().position(|byte| is_escaped(*byte))
 }
 
 /// Whether some byte is not shown as it is. It looks at each byte, so that the compiler can test many at once.
-fn has_escaped(bytes: &[u8]) -> bool
+#[inline(always)]
+fn any_escaped(bytes: &[u8]) -> bool
     ensures { result ≡ list_any is_escaped bytes.now }
 {
     let mut found = false;
@@ -35,8 +36,28 @@ fn has_escaped(bytes: &[u8]) -> bool
     found
 }
 
+/// How many bytes are tested at once.
+const WINDOW: usize = 16;
+
+/// Whether some byte is not shown as it is, by windows. The last one, which is tested first, may begin within another.
+fn has_escaped(bytes: &[u8]) -> bool
+    ensures { result ≡ list_any is_escaped bytes.now }
+{
+    let len = bytes.len();
+    if len < WINDOW {
+        return any_escaped(bytes);
+    }
+    let mut found = any_escaped(&bytes[len - WINDOW..]);
+    let mut at = 0;
+    while at < len - WINDOW {
+        found |= any_escaped(&bytes[at..at + WINDOW]);
+        at += WINDOW;
+    }
+    found
+}
+
 /// The escape of a byte: `\x` and two hexadecimal digits.
-pub fn hex_escape(byte: u8) -> [u8; 4]
+fn hex_escape(byte: u8) -> [u8; 4]
     ensures { result ≡ hex_escape byte }
 {
     let high = HEX_DIGITS[usize::from(byte / 16)];

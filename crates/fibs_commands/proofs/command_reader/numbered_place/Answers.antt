@@ -1,5 +1,4 @@
-use Rattle.std.proofs.Common.{◌≡◌, ◌≤◌, Fits, w8, arith}
-use Rattle.fibs_position.specs.DirectionOf.{line_place}
+use Rattle.std.proofs.Common.{◌≤◌, arith}
 use Rattle.fibs_commands.proofs.PlaceLemmas.{line_place_low}
 use Rattle.fibs_commands.proofs.command_reader.numbered_place.Goals as goal
 

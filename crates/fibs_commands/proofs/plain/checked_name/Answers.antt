@@ -1,4 +1,3 @@
-use Rattle.std.proofs.Common.{ap, sym, ◌∙◌}
 use Rattle.fibs_commands.proofs.PrintedLemmas.{name_is_printed}
 use Rattle.fibs_commands.proofs.plain.checked_name.Goals as goal
 

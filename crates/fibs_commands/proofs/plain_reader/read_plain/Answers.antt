@@ -1,5 +1,5 @@
 use Rattle.std.proofs.Common.{ap, sym, ◌∙◌}
-use Rattle.fibs_fields.specs.Split.{before, after, seen}
+use Rattle.fibs_fields.specs.Split.{before, seen}
 use Rattle.fibs_commands.specs.PlainReading.{plain_in, read_plain}
 use Rattle.fibs_commands.proofs.plain_reader.read_plain.Goals as goal
 

@@ -1,7 +1,7 @@
 use Rattle.std.proofs.Common.{sym, ap, ◌∙◌}
 use Rattle.fibs_boards.specs.StoredBoard.{fields_of}
 use Rattle.fibs_rules.specs.PlayValue.{hops_of}
-use Rattle.fibs_position.specs.DecisionValue.{roll, double, accept, reject, move, decision_of}
+use Rattle.fibs_position.specs.DecisionValue.{roll, double, accept, reject, move, resign, decision_of}
 use Rattle.fibs_position.specs.BoardEffect.{effect_of}
 use Rattle.fibs_position.proofs.BoardLemmas.EffectTable.{effect_good, effect_bad}
 use Rattle.fibs_position.proofs.board_effect.by_table.Goals as goal
@@ -45,3 +45,10 @@ returns-in-Move c =
     let good = sym c.is_good.ensures.value ∙ c.if-not-is_good.false in
     c.make_steps.ensures c.args.dice ∙ sym (effect_good b (move (hops_of c.in-Move.play)) c.args.dice good)
     ∙ ap (λ d. effect_of b (decision_of d) c.args.dice) (sym c.in-Move.is)
+
+pub returns-in-Resign : goal.returns-in-Resign
+returns-in-Resign c =
+    let b = fields_of c.args.board.now in
+    let good = sym c.is_good.ensures.value ∙ c.if-not-is_good.false in
+    c.resign.ensures c.in-Resign.field-0 c.args.dice ∙ sym (effect_good b (resign c.in-Resign.field-0) c.args.dice good)
+    ∙ ap (λ d. effect_of b (decision_of d) c.args.dice) (sym c.in-Resign.is)
