@@ -1,7 +1,8 @@
 -- What the program does with a command line.
 use Rattle.std.specs.Prelude.{◌≡◌, ◌⊎◌, ◌++◌, ◌∷◌, [], ℕ, List, Option, Some, None, Result, Ok, Err}
 use Rattle.std.specs.Io.KnownBytes.{Appends, Keeps, IsAtEnd}
-use Rattle.std.specs.Prelude.{string_bytes, codes}
+use Rattle.std.specs.Prelude.{string_bytes, codes, IfOk}
+use Rattle.std.specs.Borrow.{Bor}
 use Rattle.fibs_boards.specs.Board.{BoardFields}
 use Rattle.fibs_messages.specs.Line.{ReadingValue, board_line, IsReading}
 use Rattle.fibs_position.specs.GoodBoard.{IsGood}
@@ -58,12 +59,24 @@ RanScript (Ok status) a b = Replayed status a.input b.input a.out b.out
 RanScript (Err fault.Device) a b = ReplayFailed a.input b.input a.out b.out
 RanScript (Err fault.Memory) a b = ReplayedInPart a.input b.input a.out b.out
 
+-- a status with which a conversation may end
+abbrev pub IsConversationStatus : ℕ → Type 0
+IsConversationStatus status = (status ≡ 0) ⊎ (status ≡ 3)
+
+-- a conversation ended so, whose password is the first line that is typed, or, where a file is named, that of the file:
+-- what a file holds no clause can say
+abbrev pub ConversedBy : Option (Bor (List ℕ)) → List ℕ → Result ℕ EngineFault
+    → Option (List ℕ) → Option (List ℕ) → Option (List ℕ) → Option (List ℕ) → Option (List ℕ) → Type 0
+ConversedBy None name result left held now other then = Conversed name result left held now other then
+ConversedBy (Some file) name result left held now other then = IfOk result IsConversationStatus
+
 -- an engine answered so for a request
 abbrev pub Served : Request → Result ℕ EngineFault → Streams → Streams → Type 0
 Served Show result a b = Showed result a b × Keeps a.err b.err
 Served (Plays line) result a b = Played line.now result a b × Keeps a.input b.input
 Served Replay result a b = RanScript result a b × Keeps a.err b.err
-Served (Connect host port name) result a b = Conversed name.now result a.input a.out b.out a.err b.err
+Served (Connect host port name file) result a b =
+    ConversedBy file name.now result a.input a.out b.out a.err b.err
 Served Loop result a b = EndsScript result × Keeps a.err b.err
 
 -- a command line is answered so: help is printed on standard output with status 0, and what is wrong with it on

@@ -14,7 +14,7 @@ Examples:
   nc fibs.com 4321 | fibs show   the same of a connection, as its lines come
   fibs plays board:You:...       list the plays of a board
   fibs replay < double-click.txt run a script of clicks, cuts and losses, and print what happened
-  fibs connect HOST PORT NAME    log in, and play
+  fibs connect HOST PORT NAME    log in, and play; `fibs-play HOST PORT NAME` hides the password
   fibs loop < double-click.txt   play the same over sockets of this machine
 
 Exit status: 0 done, 2 wrong arguments, 3 refused input, 4 input, output or a socket of `loop` failed,
@@ -117,15 +117,14 @@ const CONNECT: &str = "Log in at a server, and play";
 const CONNECT_LONG: &str = "\
 Log in at a server, and play.
 
-HOST is a name or an address, PORT 1 to 65535. The first line of standard input is the password: it is
-never printed, but a terminal shows what is typed. This hides it, and shows what is typed after it:
-
-  stty -echo; { head -n 1; stty echo; cat; } | fibs connect fibs.com 4321 ann
+HOST is a name or an address, PORT 1 to 65535. The password is the first line of FILE, where
+`--password-file` names one: a file, a named pipe or /dev/fd/3. Else it is the first line of standard input,
+which a terminal shows as it is typed; `fibs-play HOST PORT NAME` asks for it and shows none of it.
 
 Then each line that is typed is one of
 
   roll                    roll the dice
-  move 8-5 6-5            play, in the places of the board line; `move bar-20`, `move 3-off`
+  move 8-5 6-5            play, in the places of the board; `move bar-20`, `move 3-off`
   double, accept, reject  offer the cube, take it, give the game up
   board                   ask for the board again
   who                     ask for the list of players
@@ -158,6 +157,9 @@ was played on.
 `lost`, or `lost COMMAND` with what was not confirmed, says that the connection is over: nothing is
 sent again by itself, and `open` shows where the game stands.
 
+Where one types at a terminal, the server is heard while nothing is typed, and no empty line is needed.
+Where it is printed on a terminal, a board is drawn, and messages and phases are put into words.
+
 A password or NAME that is none ends it with status 3, and `fault NUMBER WHY` on standard error.";
 
 const LOOP: &str = "Play a script over sockets of this machine";
@@ -189,6 +191,8 @@ pub enum Request<'a> {
         port: u16,
         /// The player's name.
         name: &'a str,
+        /// The file whose first line is the password, where it is not the first line that is typed.
+        password_file: Option<&'a str>,
     },
     /// To play a script over sockets of this machine.
     Loop,
@@ -288,7 +292,15 @@ fn connect<'a>(alloc: Global) -> Result<Command<'a>, AllocError> {
         .long_about(CONNECT_LONG)
         .arg(Arg::new(alloc, "HOST").required(true))?
         .arg(port.required(true))?
-        .arg(Arg::new(alloc, "NAME").required(true))
+        .arg(Arg::new(alloc, "NAME").required(true))?
+        .arg(password_file(alloc))
+}
+
+fn password_file<'a>(alloc: Global) -> Arg<'a> {
+    Arg::new(alloc, "password-file")
+        .long("password-file")
+        .value_name("FILE")
+        .help("The file whose first line is the password")
 }
 
 fn play_loop<'a>(alloc: Global) -> Command<'a> {
@@ -307,6 +319,7 @@ fn request_of<'a>(matches: &ArgMatches<'a>) -> Option<Request<'a>> {
             host: matches.get_str("HOST")?,
             port: matches.get_one("PORT")?,
             name: matches.get_str("NAME")?,
+            password_file: matches.get_str("password-file"),
         }),
         "loop" => Some(Request::Loop),
         _ => None,

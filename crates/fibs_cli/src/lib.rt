@@ -3,7 +3,9 @@
 #![tactic(auto)]
 
 pub mod arguments;
+pub mod password;
 pub mod program;
+pub mod seat;
 
 pub use fibs_connect::connect::converse;
 pub use fibs_exchange::exchange::link::Link;

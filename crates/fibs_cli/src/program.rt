@@ -1,11 +1,13 @@
 //! What the program does with a command line: which engine runs on which devices, what is printed, and the exit status.
-ghost use Rattle.std.specs.Prelude.{◌≡◌};
-ghost use Rattle.fibs_cli.specs.Program.{Answered, SaysWhy, Served, fault_line, status_of, streams};
+ghost use Rattle.std.specs.Prelude.{◌≡◌, IfOk};
+ghost use Rattle.fibs_cli.specs.Program.{Answered, IsConversationStatus, SaysWhy, Served, fault_line};
+ghost use Rattle.fibs_cli.specs.Program.{status_of, streams};
 ghost use Rattle.fibs_show.specs.Printing.{Printed};
 ghost use Rattle.fibs_show.specs.Status.{code_of};
 ghost use Rattle.fibs_loop.specs.Looping.{EndsScript};
 
 use crate::arguments::{Answer, Request};
+use crate::password::{UNREADABLE, first_line};
 use fibs_connect::connect::converse;
 use fibs_loop::play_loop::play_loop;
 use fibs_replay::replay::replay;
@@ -17,9 +19,15 @@ use fibs_show::writing::write_bytes;
 use std::alloc::Global;
 use std::io::{Read, Write};
 use std::net::{Net, TcpListener, TcpStream};
+use std::rt::Files;
 
 /// Does what a command line calls for: it runs an engine, prints help on `out`, or says on `err` what is wrong.
-pub fn answer<N: Net<Listener = TcpListener, Stream = TcpStream>, R: Read, W: Write, E: Write>(
+pub fn answer<
+    N: Net<Listener = TcpListener, Stream = TcpStream> + Files,
+    R: Read,
+    W: Write,
+    E: Write,
+>(
     rt: &N,
     alloc: Global,
     answer: &Answer<'_>,
@@ -40,7 +48,12 @@ pub fn answer<N: Net<Listener = TcpListener, Stream = TcpStream>, R: Read, W: Wr
 }
 
 /// Runs the engine that a request asks for.
-fn serve<N: Net<Listener = TcpListener, Stream = TcpStream>, R: Read, W: Write, E: Write>(
+fn serve<
+    N: Net<Listener = TcpListener, Stream = TcpStream> + Files,
+    R: Read,
+    W: Write,
+    E: Write,
+>(
     rt: &N,
     alloc: Global,
     request: Request<'_>,
@@ -56,10 +69,41 @@ fn serve<N: Net<Listener = TcpListener, Stream = TcpStream>, R: Read, W: Write, 
         Request::Show => show(alloc, input, out),
         Request::Plays(line) => plays(alloc, line.as_bytes(), out, err),
         Request::Replay => replay(alloc, input, out),
-        Request::Connect { host, port, name } => {
-            converse(rt, alloc, host, port, name.as_bytes(), input, out, err)
-        }
+        Request::Connect {
+            host,
+            port,
+            name,
+            password_file,
+        } => match password_file {
+            None => converse(rt, alloc, host, port, name.as_bytes(), input, out, err),
+            Some(path) => {
+                converse_by_file(rt, alloc, host, port, name.as_bytes(), path, input, out, err)
+            }
+        },
         Request::Loop => play_here(rt, alloc, input, out),
+    }
+}
+
+/// Talks with a server for a player whose password a file holds.
+fn converse_by_file<N: Net<Stream = TcpStream> + Files, R: Read, W: Write, E: Write>(
+    rt: &N,
+    alloc: Global,
+    host: &str,
+    port: u16,
+    name: &[u8],
+    path: &str,
+    input: &mut R,
+    out: &mut W,
+    err: &mut E,
+) -> Result<u8, EngineFault>
+    ensures { IfOk result IsConversationStatus }
+{
+    match first_line(rt, alloc, path)? {
+        None => print_text(UNREADABLE, Status::Refused, err),
+        Some(line) => {
+            let mut typed = line.as_slice().chain(input);
+            converse(rt, alloc, host, port, name, &mut typed, out, err)
+        }
     }
 }
 

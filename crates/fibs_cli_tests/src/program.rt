@@ -7,6 +7,7 @@ use fibs_test_tools::pipe::{After, Pipe};
 use fibs_test_tools::text::text_of;
 use std::alloc::{AllocError, Global};
 use std::net::{Net, TcpListener, TcpStream};
+use std::rt::Files;
 use std::test::Fail;
 
 /// The words after the program's name, what is on standard input, and what comes of them.
@@ -78,7 +79,7 @@ fn line_of(alloc: Global, words: &[&str]) -> Result<Vec<String>, AllocError> {
 }
 
 /// How the program answers a command line, and what it prints.
-fn answered<N: Net<Listener = TcpListener, Stream = TcpStream> + AllocGlobal>(
+fn answered<N: Net<Listener = TcpListener, Stream = TcpStream> + Files + AllocGlobal>(
     rt: &N,
     words: &[&str],
     input: &[u8],
