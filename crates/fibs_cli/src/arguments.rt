@@ -127,6 +127,8 @@ Then each line that is typed is one of
   roll                    roll the dice
   move 8-5 6-5            play, in the places of the board line; `move bar-20`, `move 3-off`
   double, accept, reject  offer the cube, take it, give the game up
+  order roll              roll by itself where you may not double, until `withdraw roll` or the end of
+                          the connection
   board                   ask for the board again
   who                     ask for the list of players
   say good luck           to the opponent; so `kibitz TEXT` and `whisper TEXT` to those who watch
@@ -144,7 +146,8 @@ Then each line that is typed is one of
 
 and is answered by one of
 
-  sent COMMAND            it went to the server
+  sent COMMAND            it went to the server; so says `sent roll` after a board that an order rolled
+  ordered, withdrawn      the order to roll is given, or withdrawn
   refused NUMBER WHY      it can't be sent now, or is against the rules: nothing was sent
   fault NUMBER WHY        a name or a text is none
   unknown                 it is no command, or has more than 4096 bytes

@@ -12,4 +12,4 @@ pub use fibs_loop::play_loop::play_loop;
 pub use fibs_replay::replay::replay;
 pub use fibs_show::fault::EngineFault;
 pub use fibs_show::plays::plays;
-pub use fibs_show::show::{StreamFault, show, show_portions, show_stream};
+pub use fibs_show::show::{StreamFault, show, show_portions};

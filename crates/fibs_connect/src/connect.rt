@@ -14,6 +14,7 @@ use dial::{Dial, Server};
 use fibs_exchange::exchange::printing::print_reason;
 use fibs_session::{Login, PlainFault};
 use fibs_show::fault::EngineFault;
+use fibs_show::limits::MOST_INPUT_READS;
 use fibs_show::status::Status;
 use seat::{Going, Seat};
 use std::alloc::Global;
@@ -22,9 +23,6 @@ use std::net::{Net, TcpStream};
 pub use typed_lines::TypedFault;
 use typed_lines::{TypedLine, TypedLines};
 
-/// The most times that the user's lines are read.
-const MAX_READS: u32 = 1_000_000_000;
-
 /// Talks with a server for a player.
 ///
 /// The first line of `typed` is the password. Where it or the name has a fault, `err` is given `fault NUMBER NAME`, and
@@ -32,6 +30,8 @@ const MAX_READS: u32 = 1_000_000_000;
 /// `open` connects again, `players` lists the players that are known, `quit` ends, and all others are turns of the
 /// client (`exchange`), which an empty line takes without a word. Where no connection can be made it says so, and goes
 /// on. At the end of the lines, and after `quit`, the status is 0.
+///
+/// It reads at most 1,000,000,000 times, and at most 1024 bytes at once.
 ///
 /// Errors: `Device` where a line can't be read, or what is printed can't be written. Never `Memory`: what the directory
 /// refuses is printed.
@@ -49,7 +49,7 @@ pub fn converse<N: Net<Stream = TcpStream>, R: Read, W: Write, E: Write>(
         (W.contents out.old) (W.contents out.new) (E.contents err.old) (E.contents err.new) }
 {
     let mut server = Server::new(rt, host, port);
-    converse_with(&mut server, alloc, name, MAX_READS, typed, out, err)
+    converse_with(&mut server, alloc, name, MOST_INPUT_READS, typed, out, err)
 }
 
 /// The same with any maker of connections, and with at most so many reads of what is typed.

@@ -1,6 +1,5 @@
 -- What a turn does, act by act.
 pub mod Wrote
-pub mod Escapes
 pub mod Scripts
 pub mod Hearing
 pub mod Typed

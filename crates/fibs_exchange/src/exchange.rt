@@ -1,17 +1,17 @@
 //! One turn of a client with its stream.
-ghost use Rattle.std.specs.Prelude.{◌≡◌, ◌++◌, ◌*◌, ◌↔◌, ◌⊎◌, ℕ, List, Option, None, true, false, length};
+ghost use Rattle.std.specs.Prelude.{◌≡◌, ◌↔◌, ◌⊎◌, List, None, true, false};
 ghost use Rattle.std.specs.Prelude.{IfOk, OnErr, IsTrue};
 ghost use Rattle.std.specs.IoError.{error_kind};
-ghost use Rattle.fibs_session.specs.History.Machine.{Talk, Lose, step, is_online};
+ghost use Rattle.fibs_session.specs.History.Machine.{Talk, is_online};
 ghost use Rattle.fibs_session.specs.Calls.Standing.{StandsAfter};
 ghost use Rattle.fibs_messages.specs.Message.{MessageValue};
 ghost use Rattle.fibs_exchange.specs.Turns.Script.{outside, known_before, known_after};
-ghost use Rattle.fibs_exchange.specs.Turns.Turn.{Ended, Turned, Stopped, FitsStream, bytes_of, is_there, still_given};
+ghost use Rattle.fibs_exchange.specs.Turns.Turn.{Turned, Stopped, FitsStream, bytes_of, is_there, still_given};
 ghost use Rattle.fibs_show.specs.Reads.{LostAtMost, turn_limit};
-ghost use Rattle.fibs_show.specs.Writing.{Progress};
 
 mod hearing;
 pub mod link;
+pub mod loss;
 pub mod printing;
 pub mod sending;
 mod turn_fault;
@@ -19,10 +19,11 @@ mod typing;
 
 use fibs_session::{Client, Directory, Outstanding};
 use fibs_show::fault::EngineFault;
+use fibs_show::limits::READ_PORTION;
+use fibs_show::writing::Broken;
 use hearing::hear_portion;
 use link::Link;
-use printing::{asked_command, print_line};
-use sending::text_bytes;
+use loss::end_connection;
 use std::io;
 use std::io::{ErrorKind, Write};
 use thiserror::Error;
@@ -30,10 +31,7 @@ use turn_fault::TurnFault;
 use typing::{type_line, type_offline};
 
 /// The most times that a stream is read in one turn.
-const MAX_READS: u32 = 4096;
-
-/// How many bytes are asked for at once.
-const PORTION: usize = 1024;
+const MOST_TURN_READS: u32 = 4096;
 
 /// How a turn ended.
 #[derive(Clone, Copy)]
@@ -52,6 +50,16 @@ pub enum ExchangeFault {
     Output,
 }
 
+impl From<Broken> for ExchangeFault {
+    ghost use Rattle.fibs_exchange.specs.declared.exchange.ExchangeFault.TheVariants.{Output};
+
+    ghost from_gives = { λ _ e. e ≡ Output };
+
+    fn from(_broken: Broken) -> ExchangeFault {
+        ExchangeFault::Output
+    }
+}
+
 impl From<ExchangeFault> for EngineFault {
     ghost use Rattle.fibs_show.specs.declared.fault.EngineFault.TheVariants.{Device};
 
@@ -60,22 +68,6 @@ impl From<ExchangeFault> for EngineFault {
     fn from(_fault: ExchangeFault) -> EngineFault {
         EngineFault::Device
     }
-}
-
-/// The connection is over.
-pub fn end_connection<W: Write>(client: &mut Client, out: &mut W) -> Result<Ending, ExchangeFault>
-    ensures ended { IfOk result (λ e. (p : Progress) → (t : Talk) → StandsAfter client.old t →
-        (wrote : Option (List ℕ)) → (players : List MessageValue) →
-        Ended p t client.new (outside wrote (W.contents out.old) players)
-        (outside wrote (W.contents out.new) players) e) }
-    ensures lost { (t : Talk) → StandsAfter client.old t → StandsAfter client.new (step t Lose).talk }
-{
-    let waited = client.lose();
-    match &waited {
-        None => print_line(b"lost", b"", out)?,
-        Some(asked) => print_line(b"lost ", text_bytes(&asked_command(asked)), out)?,
-    }
-    Ok(Ending::Lost(waited))
 }
 
 /// Whether a read gave nothing because nothing has come yet. Each other error of a read ends the connection.
@@ -102,33 +94,13 @@ fn listen<S: Link, W: Write>(
         (S.contents stream.old) (S.contents stream.new)) }
     ensures few { LostAtMost turn_limit (S.remaining stream.old) (S.remaining stream.new) }
 {
-    listen_portions(client, directory, stream, out, MAX_READS, &mut [0; PORTION])
-}
-
-/// The same with at most so many reads, each of at most as many bytes as `portion` has room for.
-fn listen_portions<S: Link, W: Write>(
-    client: &mut Client,
-    directory: &mut Directory,
-    stream: &mut S,
-    out: &mut W,
-    reads: u32,
-    portion: &mut [u8],
-) -> Result<Ending, ExchangeFault>
-    ensures turned { IfOk result (λ e. (t : Talk) → StandsAfter client.old t → is_online t ≡ true →
-        Turned t client.new None (S.remaining stream.old) (S.remaining stream.new)
-        (outside (S.contents stream.old) (W.contents out.old) directory.old)
-        (outside (S.contents stream.new) (W.contents out.new) directory.new) e) }
-    ensures stopped { OnErr result ((t : Talk) → StandsAfter client.old t → is_online t ≡ true →
-        Stopped t client.new None (S.remaining stream.old) (S.remaining stream.new)
-        (S.contents stream.old) (S.contents stream.new)) }
-    ensures few { LostAtMost (reads * length portion.old) (S.remaining stream.old) (S.remaining stream.new) }
-{
     fibs_session::client::laws::pieces_join();
     fibs_session::client::laws::empty_piece_is_nothing();
     fibs_lines::laws::lines_only_grow();
-    for made in 0..reads {
+    let mut portion = [0; READ_PORTION];
+    for made in 0..MOST_TURN_READS {
         out.flush().map_err(|_| ExchangeFault::Output)?;
-        let count = match stream.receive(portion) {
+        let count = match stream.receive(&mut portion) {
             Ok(0) => return end_connection(client, out),
             Ok(count) => count,
             Err(error) if is_quiet(&error) => return Ok(Ending::Quiet),
@@ -200,8 +172,9 @@ fn talk_offline<W: Write>(
 /// 1024 bytes at once.
 ///
 /// A stream is given exactly where the client is online; without one nothing is read. A typed line is a decision in the
-/// place numbers of the board shown, else a plain command. For each line the commands that it calls for are written
-/// first, then it is printed, then the directory is told. Only the directory takes memory: what it refuses is printed.
+/// place numbers of the board shown, else a plain command, else a standing order to roll or its withdrawal. For each
+/// line the commands that it calls for are written first, the `roll` of a standing order that it makes due among them;
+/// then it is printed, then the directory is told. Only the directory takes memory: what it refuses is printed.
 ///
 /// Errors: `Output` where what is printed can't be written. The client is then as after its last finished call: it made
 /// the typed call, then it was fed what was read, all of it or up to the end of the line that is not printed, and then

@@ -437,12 +437,14 @@ fn a_turn_reads_4096_times(rt: HostRuntime) {
 }
 
 /// What is typed, and what is printed.
-static OFFLINE: [(Option<&[u8]>, &[u8]); 5] = [
+static OFFLINE: [(Option<&[u8]>, &[u8]); 7] = [
     (None, b""),
     (Some(b"dance"), b"unknown\n"),
     (Some(b"roll"), b"refused 2 Offline\n"),
     (Some(b"say "), b"refused 2 Offline\n"),
     (Some(b"toggle greedy"), b"refused 2 Offline\n"),
+    (Some(b"order roll"), b"refused 2 Offline\n"),
+    (Some(b"withdraw roll"), b"refused 2 Offline\n"),
 ];
 
 #[test]

@@ -4,6 +4,10 @@
 #[cfg(test)]
 mod exchange;
 #[cfg(test)]
+mod orders;
+#[cfg(test)]
+mod printing;
+#[cfg(test)]
 mod refused_notes;
 #[cfg(test)]
 mod seat;

@@ -14,7 +14,11 @@ use Rattle.fibs_show.specs.declared.fault.EngineFault.TheVariants.{Device, Memor
 -- the first that fits does fit
 first_fits : {X : Type 0} (fits : X → Type 0) (xs : List X) (x : X) → IsFirst fits xs x → fits x
 first_fits fits [] x first = absurd first
-first_fits fits (y ∷ ys) x first = elim first [ inl head ↦ subst fits (sym head.1) head.0 | inr later ↦ first_fits fits ys x later.1 ]
+first_fits fits (y ∷ ys) x first = elim first [
+  | inl head ↦ subst fits
+      (sym head.1) head.0
+  | inr later ↦ first_fits fits ys x later.1
+]
 
 -- a good board has no fault
 no_fault : (b : BoardFields) (fault : PositionFault) → IsGood b → HasFault b fault → ⊥
@@ -23,7 +27,8 @@ no_fault b TooManyOwn good fault = let few = good.own in omega arith
 no_fault b TooManyOther good fault = let few = good.other in omega arith
 
 -- and so it is not refused
-pub good_not_refused : (b : BoardFields) (reading : ReadingValue) (why : List ℕ) → reading ≡ board_line b → IsGood b → Refusal reading why → ⊥
+pub good_not_refused : (b : BoardFields) (reading : ReadingValue) (why : List ℕ) → reading ≡ board_line b → IsGood b
+    → Refusal reading why → ⊥
 good_not_refused b reading why e good refusal =
     let told = subst (λ r. Refusal r why) e refusal in
     no_fault b told.0 good (first_fits (HasFault b) faults told.0 told.1)

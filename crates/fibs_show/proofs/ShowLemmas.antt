@@ -29,18 +29,21 @@ cut_line line e =
     subst P (sym e) refl
 
 -- a line that was not
-pub read_line : (line : ReadLine) (r : ReadingValue) → line.cut ≡ false → IsReading line.bytes r → ShownLine line (reading_text r)
+pub read_line : (line : ReadLine) (r : ReadingValue) → line.cut ≡ false → IsReading line.bytes r
+    → ShownLine line (reading_text r)
 read_line line r e h =
     let P : Bool → Type 0 = λ b. ShownAs b line.bytes (reading_text r) in
     subst P (sym e) (r, h, refl)
 
 -- a line's text and its end are appended
-pub line_more : (before mid after shown : List ℕ) → mid ≡ before ++ shown → after ≡ mid ++ (10 ∷ []) → after ≡ before ++ (shown ++ (10 ∷ []))
+pub line_more : (before mid after shown : List ℕ) → mid ≡ before ++ shown → after ≡ mid ++ (10 ∷ [])
+    → after ≡ before ++ (shown ++ (10 ∷ []))
 line_more before mid after shown first last =
     last ∙ ap (λ l. l ++ (10 ∷ [])) first ∙ append_assoc before shown (10 ∷ [])
 
 -- what is printed for some lines, and then for others
-pub shown_append : (ls ms : List ReadLine) (x y : List ℕ) → ShownLines ls x → ShownLines ms y → ShownLines (ls ++ ms) (x ++ y)
+pub shown_append : (ls ms : List ReadLine) (x y : List ℕ) → ShownLines ls x → ShownLines ms y
+    → ShownLines (ls ++ ms) (x ++ y)
 shown_append [] ms x y a b = subst (ShownLines ms) (ap (λ l. l ++ y) (sym a)) b
 shown_append (l ∷ ls) ms x y a b =
     (a.0, a.1 ++ y, a.2, shown_append ls ms a.1 y a.3 b, ap (λ t. t ++ y) a.4 ∙ append_assoc a.0 (10 ∷ a.1) y)
@@ -53,7 +56,8 @@ pub lent_none : ShownLent None []
 unfolding ShownLent
 lent_none = refl
 
-pub lent_some : (line : Line) (text : List ℕ) → ShownLine (value_of line) text → ShownLent (Some line) (text ++ (10 ∷ []))
+pub lent_some : (line : Line) (text : List ℕ) → ShownLine (value_of line) text
+    → ShownLent (Some line) (text ++ (10 ∷ []))
 unfolding ShownLent
 lent_some line text h = (text, [], h, refl, refl)
 
@@ -68,7 +72,8 @@ shows_nothing lines = record {
 
 -- a further part of the portion was fed
 pub shows_more : (old mid now : LinesValue) (front rest added text : List ℕ) (fed : Fed) → Shows old mid front added
-    → ((s : List ℕ) → StandsAfter mid s → StandsAfter now (s ++ take fed.used rest)) → ((s : List ℕ) → StandsAfter mid s → Feeds s rest fed)
+    → ((s : List ℕ) → StandsAfter mid s → StandsAfter now (s ++ take fed.used rest))
+    → ((s : List ℕ) → StandsAfter mid s → Feeds s rest fed)
     → ShownLent fed.line text → Shows old now (front ++ take fed.used rest) (added ++ text)
 unfolding ShownLent
 shows_more old mid now front rest added text fed before moves feeds lent =
@@ -85,12 +90,15 @@ shows_more old mid now front rest added text fed before moves feeds lent =
     }
 
 -- the part that was used joins the front
-pub front_more : (portion front rest : List ℕ) (used : ℕ) → portion ≡ front ++ rest → portion ≡ (front ++ take used rest) ++ drop used rest
+pub front_more : (portion front rest : List ℕ) (used : ℕ) → portion ≡ front ++ rest
+    → portion ≡ (front ++ take used rest) ++ drop used rest
 front_more portion front rest used e =
-    e ∙ ap (λ l. front ++ l) (sym (take-append-drop used rest)) ∙ sym (append_assoc front (take used rest) (drop used rest))
+    e ∙ ap (λ l. front ++ l) (sym (take-append-drop used rest))
+    ∙ sym (append_assoc front (take used rest) (drop used rest))
 
 -- what a list that grows where a call succeeds is then
-pub on_ok_grown : {T E A : Type 0} (r : Result T E) (now grown kept wanted : List A) → now ≡ (if is_ok r then grown else kept) → grown ≡ wanted → OnOk r (now ≡ wanted)
+pub on_ok_grown : {T E A : Type 0} (r : Result T E) (now grown kept wanted : List A)
+    → now ≡ (if is_ok r then grown else kept) → grown ≡ wanted → OnOk r (now ≡ wanted)
 on_ok_grown (Ok x) now grown kept wanted e same = e ∙ same
 on_ok_grown (Err x) now grown kept wanted e same = tt
 
@@ -106,7 +114,8 @@ kept_consumes (Some xs) (Some ys) h = sym h
 
 -- what the loop over portions keeps after so many reads of at most `size` bytes: the bytes that were read, what is
 -- printed for their lines, and that this was written
-pub record Passed (left still held now : Option (List ℕ)) (lines : LinesValue) (text : List ℕ) (reads size : ℕ) : Type 0 where
+pub record Passed (left still held now : Option (List ℕ)) (lines : LinesValue) (text : List ℕ)
+    (reads size : ℕ) : Type 0 where
   pub stream : List ℕ
   pub shown : List ℕ
   pub took : Consumes left still stream
@@ -117,7 +126,8 @@ pub record Passed (left still held now : Option (List ℕ)) (lines : LinesValue)
   pub enough : reads ≤ length stream
   pub few : length stream ≤ reads * size
 
-pub passed_nothing : (left held : Option (List ℕ)) (lines : LinesValue) (text : List ℕ) (size : ℕ) → EmptyStreamHasNoLine → StandsAfter lines [] → text ≡ []
+pub passed_nothing : (left held : Option (List ℕ)) (lines : LinesValue) (text : List ℕ) (size : ℕ)
+    → EmptyStreamHasNoLine → StandsAfter lines [] → text ≡ []
     → Passed left left held held lines text 0 size
 passed_nothing left held lines text size law stands clear = record {
   stream = [];
@@ -132,17 +142,22 @@ passed_nothing left held lines text size law stands clear = record {
 }
 
 -- one read more, of at least one byte
-read_more : (stream piece : List ℕ) (reads size : ℕ) → reads ≤ length stream → length stream ≤ reads * size → 0 < length piece → length piece ≤ size
+read_more : (stream piece : List ℕ) (reads size : ℕ) → reads ≤ length stream → length stream ≤ reads * size
+    → 0 < length piece → length piece ≤ size
     → (reads + 1 ≤ length (stream ++ piece)) × (length (stream ++ piece) ≤ (reads + 1) * size)
 read_more stream piece reads size enough few some fits =
     let both = length-append stream piece in
     (omega (arith, both), rw both (omega arith))
 
 -- a portion was read, and its lines were written
-pub passed_more : (left still less held now more : Option (List ℕ)) (lines after : LinesValue) (text piece added cleared : List ℕ) (reads size : ℕ)
-    → Passed left still held now lines text reads size → Consumes still less piece → 0 < length piece → length piece ≤ size
-    → Shows lines after piece added → Appends now more added → cleared ≡ [] → Passed left less held more after cleared (reads + 1) size
-passed_more left still less held now more lines after text piece added cleared reads size p took some fits shows wrote clear =
+pub passed_more : (left still less held now more : Option (List ℕ)) (lines after : LinesValue)
+    (text piece added cleared : List ℕ) (reads size : ℕ)
+    → Passed left still held now lines text reads size → Consumes still less piece → 0 < length piece
+    → length piece ≤ size
+    → Shows lines after piece added → Appends now more added → cleared ≡ []
+    → Passed left less held more after cleared (reads + 1) size
+passed_more left still less held now more lines after text piece added cleared reads size p took some fits shows
+    wrote clear =
     let bounds = read_more p.stream piece reads size p.enough p.few some fits in
     record {
       stream = p.stream ++ piece;
@@ -158,25 +173,30 @@ passed_more left still less held now more lines after text piece added cleared r
     }
 
 -- the lines of what was read before the last piece stand written
-pub passed_part : (left still less held now : Option (List ℕ)) (lines : LinesValue) (text piece : List ℕ) (reads size : ℕ) → (p : Passed left still held now lines text reads size)
+pub passed_part : (left still less held now : Option (List ℕ)) (lines : LinesValue) (text piece : List ℕ)
+    (reads size : ℕ) → (p : Passed left still held now lines text reads size)
     → Consumes still less piece → WroteLinesOf p.stream piece left less held now
 passed_part left still less held now lines text piece reads size p took =
     (p.shown, Consumes-trans left still less p.stream piece p.took took, p.says, p.wrote)
 
 -- all the lines of what was read stand written
-pub passed_read : (left still less held now : Option (List ℕ)) (lines : LinesValue) (text : List ℕ) (reads size : ℕ) → Passed left still held now lines text reads size
+pub passed_read : (left still less held now : Option (List ℕ)) (lines : LinesValue) (text : List ℕ) (reads size : ℕ)
+    → Passed left still held now lines text reads size
     → Keeps still less → WroteRead left less held now
 passed_read left still less held now lines text reads size p kept =
     (p.stream, passed_part left still less held now lines text [] reads size p (kept_consumes still less kept))
 
 -- a write of the lines of a portion failed
-pub passed_front : (left still less held now more : Option (List ℕ)) (lines after : LinesValue) (text piece added : List ℕ) (reads size : ℕ)
-    → Passed left still held now lines text reads size → Consumes still less piece → Shows lines after piece added → GainedFront now more added
+pub passed_front : (left still less held now more : Option (List ℕ)) (lines after : LinesValue)
+    (text piece added : List ℕ) (reads size : ℕ)
+    → Passed left still held now lines text reads size → Consumes still less piece → Shows lines after piece added
+    → GainedFront now more added
     → WroteFront left less held more
 passed_front left still less held now more lines after text piece added reads size p took shows broke =
     let stream = p.stream ++ piece in
     let shown = p.shown ++ added in
-    let says : ShownLines (lines_of stream) shown = subst (λ ls. ShownLines ls shown) (sym (shows.gains p.stream p.stands))
+    let says : ShownLines (lines_of stream) shown =
+    subst (λ ls. ShownLines ls shown) (sym (shows.gains p.stream p.stands))
     (shown_append (lines_of p.stream) shows.gained p.shown added p.says shows.shown) in
     let ending : List ℕ = unfinished_text (min kept_limit (length (rest_of stream))) in (
       stream,
@@ -196,21 +216,26 @@ ends_all left still less held now lines text ending reads size p took ends = (
 )
 
 -- at the end everything is written
-pub passed_whole : (left still less held now more : Option (List ℕ)) (lines : LinesValue) (text ending : List ℕ) (reads size : ℕ)
-    → Passed left still held now lines text reads size → Consumes still less [] → EndsText lines ending → Appends now more ending → WroteAll left less held more
+pub passed_whole : (left still less held now more : Option (List ℕ)) (lines : LinesValue) (text ending : List ℕ)
+    (reads size : ℕ)
+    → Passed left still held now lines text reads size → Consumes still less [] → EndsText lines ending
+    → Appends now more ending → WroteAll left less held more
 passed_whole left still less held now more lines text ending reads size p took ends wrote =
     let all = ends_all left still less held now lines text ending reads size p took ends in
     (p.stream, p.shown ++ ending, all.0, all.1, Appends-trans held now more p.shown ending p.wrote wrote)
 
 -- or the last write failed
-pub passed_whole_front : (left still less held now more : Option (List ℕ)) (lines : LinesValue) (text ending : List ℕ) (reads size : ℕ)
-    → Passed left still held now lines text reads size → Consumes still less [] → EndsText lines ending → GainedFront now more ending → WroteFront left less held more
+pub passed_whole_front : (left still less held now more : Option (List ℕ)) (lines : LinesValue)
+    (text ending : List ℕ) (reads size : ℕ)
+    → Passed left still held now lines text reads size → Consumes still less [] → EndsText lines ending
+    → GainedFront now more ending → WroteFront left less held more
 passed_whole_front left still less held now more lines text ending reads size p took ends broke =
     let all = ends_all left still less held now lines text ending reads size p took ends in
     (p.stream, p.shown ++ ending, all.0, all.1, front_after held now more p.shown ending p.wrote broke)
 
 -- at most so many bytes were read, whether or not one more read gave some
-pub passed_few : (left still less held now : Option (List ℕ)) (lines : LinesValue) (text piece : List ℕ) (made reads size : ℕ) → Passed left still held now lines text made size
+pub passed_few : (left still less held now : Option (List ℕ)) (lines : LinesValue) (text piece : List ℕ)
+    (made reads size : ℕ) → Passed left still held now lines text made size
     → Consumes still less piece → length piece ≤ size → made < reads → LostAtMost (reads * size) left less
 passed_few left still less held now lines text piece made reads size p took fits more =
     let both = length-append p.stream piece in
@@ -219,7 +244,8 @@ passed_few left still less held now lines text piece made reads size p took fits
     (p.stream ++ piece, rw both (omega (arith, all)), Consumes-trans left still less p.stream piece p.took took)
 
 -- a part of a portion fits where the portion does
-pub portion_part : (count : ℕ) (portion : List ℕ) (size : ℕ) → length portion ≡ size → length (take count portion) ≤ size
+pub portion_part : (count : ℕ) (portion : List ℕ) (size : ℕ) → length portion ≡ size
+    → length (take count portion) ≤ size
 portion_part count portion size whole = omega (arith, length-take count portion, whole)
 
 -- and it has a byte where something was counted

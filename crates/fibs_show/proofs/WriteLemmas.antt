@@ -17,7 +17,8 @@ left_over held now bytes front (missing ∷ rest) cut some wrote = (front, rest,
 pub took_nothing : (held mid now : Option (List ℕ)) (bytes front rest : List ℕ) → bytes ≡ front ++ rest
     → false ≡ (length rest == 0) → Appends held mid front → Appends mid now [] → GainedFront held now bytes
 took_nothing held mid now bytes front rest cut some wrote none =
-    left_over held now bytes front rest cut some (subst (Appends held now) (append-nil front) (Appends-trans held mid now front [] wrote none))
+    left_over held now bytes front rest cut some
+    (subst (Appends held now) (append-nil front) (Appends-trans held mid now front [] wrote none))
 
 -- a write failed
 pub failed_write : (held mid now : Option (List ℕ)) (bytes front rest : List ℕ) → bytes ≡ front ++ rest

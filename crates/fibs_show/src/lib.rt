@@ -2,6 +2,7 @@
 #![tactic(auto)]
 
 pub mod fault;
+pub mod limits;
 pub mod plays;
 pub mod printing;
 pub mod retrying;

@@ -47,38 +47,3 @@ pub fn write_retrying<W: Write>(writer: &mut W, buf: &[u8]) -> io::Result<usize>
     }
     writer.write(buf)
 }
-
-/// A device whose reads and writes are made again where a signal interrupts them.
-#[derive(Drop)]
-pub struct Retrying<D> {
-    device: D,
-}
-
-impl<D> Retrying<D> {
-    /// The device, each of whose calls is made again where a signal interrupts it.
-    pub fn new(device: D) -> Retrying<D>
-        ensures { result.device ≡ device }
-    {
-        Retrying { device }
-    }
-}
-
-impl<R: Read> Read for Retrying<R> {
-    ghost remaining = { λ d. R.remaining d.device };
-
-    fn read(&mut self, buf: &mut [u8]) -> io::Result<usize> {
-        read_retrying(&mut self.device, buf)
-    }
-}
-
-impl<W: Write> Write for Retrying<W> {
-    ghost contents = { λ d. W.contents d.device };
-
-    fn write(&mut self, buf: &[u8]) -> io::Result<usize> {
-        write_retrying(&mut self.device, buf)
-    }
-
-    fn flush(&mut self) -> io::Result<()> {
-        self.device.flush()
-    }
-}

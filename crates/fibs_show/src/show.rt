@@ -8,18 +8,13 @@ ghost use Rattle.fibs_show.specs.Shows.{EndsText, Shows};
 ghost use Rattle.fibs_show.specs.Writing.{GainedFront};
 
 use crate::fault::EngineFault;
+use crate::limits::{MOST_INPUT_READS, READ_PORTION};
 use crate::printing::line::{append_line, append_number};
 use crate::status::Status;
 use crate::writing::{Broken, write_bytes};
 use fibs_lines::{Lines, laws};
 use std::alloc::{AllocError, Global};
 use std::io::{Read, Write};
-
-/// The most times that a reader is asked for bytes.
-const MAX_READS: u32 = 1_000_000_000;
-
-/// How many bytes are asked for at once.
-const PORTION: usize = 1024;
 
 /// Why a stream was not shown to its end.
 #[derive(Clone, Copy, Debug, PartialEq, Eq)]
@@ -69,7 +64,8 @@ impl From<AllocError> for StreamFault {
     }
 }
 
-/// Prints what each line that is read says, to the reader's end.
+/// Prints what each line that is read says, to the reader's end. It reads at most 1,000,000,000 times, and at most 1024
+/// bytes at once.
 ///
 /// After a device's fault the writer has either all that is printed for the lines that were read, where the reader
 /// failed or did not end; or a front of what is printed for what was read, where the writer failed, and then nothing
@@ -88,35 +84,16 @@ pub fn show<R: Read, W: Write>(
         ⊎ WroteFront (R.remaining reader.old) (R.remaining reader.new) (W.contents writer.old) (W.contents writer.new) }
     ensures memory { IsErrOf result EngineFault.Memory →
         WroteLines (R.remaining reader.old) (R.remaining reader.new) (W.contents writer.old) (W.contents writer.new) }
+    ensures few { LostAtMost (MOST_INPUT_READS * READ_PORTION) (R.remaining reader.old) (R.remaining reader.new) }
 {
-    match show_stream(alloc, reader, writer) {
+    let mut portion = [0; READ_PORTION];
+    match show_portions(alloc, MOST_INPUT_READS, &mut portion, reader, writer) {
         Ok(()) => Ok(Status::Done.code()),
         Err(fault) => Err(fault.engine_fault()),
     }
 }
 
-/// The same, and it says what failed.
-pub fn show_stream<R: Read, W: Write>(
-    alloc: Global,
-    reader: &mut R,
-    writer: &mut W,
-) -> Result<(), StreamFault>
-    ensures whole { OnOk result (WroteAll (R.remaining reader.old) (R.remaining reader.new)
-        (W.contents writer.old) (W.contents writer.new)) }
-    ensures end { OnOk result (IsAtEnd (R.remaining reader.new)) }
-    ensures reader { IsErrOf result StreamFault.Reader →
-        WroteRead (R.remaining reader.old) (R.remaining reader.new) (W.contents writer.old) (W.contents writer.new) }
-    ensures endless { IsErrOf result StreamFault.Endless →
-        WroteRead (R.remaining reader.old) (R.remaining reader.new) (W.contents writer.old) (W.contents writer.new) }
-    ensures writer { IsErrOf result StreamFault.Writer →
-        WroteFront (R.remaining reader.old) (R.remaining reader.new) (W.contents writer.old) (W.contents writer.new) }
-    ensures memory { IsErrOf result StreamFault.Memory →
-        WroteLines (R.remaining reader.old) (R.remaining reader.new) (W.contents writer.old) (W.contents writer.new) }
-{
-    show_portions(alloc, MAX_READS, &mut [0; PORTION], reader, writer)
-}
-
-/// The same with at most so many reads, each of at most as many bytes as `portion` has room for.
+/// The same with at most so many reads, each of at most as many bytes as `portion` has room for. It says what failed.
 ///
 /// It says `Endless` only where each of so many reads gave a byte.
 pub fn show_portions<R: Read, W: Write>(

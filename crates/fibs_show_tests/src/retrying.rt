@@ -1,6 +1,6 @@
 //! Devices of which a signal interrupts calls.
 use fibs_show::fault::EngineFault;
-use fibs_show::retrying::{RETRIES, Retrying};
+use fibs_show::retrying::{RETRIES, read_retrying, write_retrying};
 use fibs_show::show::show;
 use fibs_test_tools::outcome::Outcome;
 use fibs_test_tools::pipe::{After, Pipe};
@@ -56,14 +56,38 @@ impl Write for Disturbed<'_> {
     }
 }
 
+/// A device whose reads and writes are made again where a signal interrupts them.
+#[derive(Drop)]
+struct Retrying<D> {
+    device: D,
+}
+
+impl<R: Read> Read for Retrying<R> {
+    fn read(&mut self, buf: &mut [u8]) -> io::Result<usize> {
+        read_retrying(&mut self.device, buf)
+    }
+}
+
+impl<W: Write> Write for Retrying<W> {
+    fn write(&mut self, buf: &[u8]) -> io::Result<usize> {
+        write_retrying(&mut self.device, buf)
+    }
+
+    fn flush(&mut self) -> io::Result<()> {
+        self.device.flush()
+    }
+}
+
 /// How `show` ends, and what it prints, where so many reads in a row and so many writes in a row are interrupted.
 fn shown(alloc: Global, reads: u32, writes: u32) -> Outcome {
     let mut input = Disturbed::new(Pipe::new(b"hi\nyou\n", 1, After::End, 0), reads);
     let mut output = Disturbed::new(Pipe::new(b"", 1, After::End, 100), writes);
     let ending = show(
         alloc,
-        &mut Retrying::new(&mut input),
-        &mut Retrying::new(&mut output),
+        &mut Retrying { device: &mut input },
+        &mut Retrying {
+            device: &mut output,
+        },
     );
     Outcome {
         ending,

@@ -6,20 +6,19 @@ ghost use Rattle.fibs_fields.specs.Split.{before, after};
 ghost use Rattle.fibs_connect.specs.Converse.Typing.{kept_typed, rest_or_nothing};
 ghost use Rattle.fibs_connect.specs.Converse.Reading.{ahead, FitsDevice, TakesLine};
 
+use super::wish::TYPED_LIMIT;
 use arrayvec::ArrayVec;
 use fibs_messages::split;
 use fibs_show::fault::EngineFault;
+use fibs_show::limits::READ_PORTION;
 use std::io::Read;
 use std::marker::Model;
 
-/// How many bytes are asked for at once.
-const PORTION: usize = 1024;
-
 /// How many bytes of a line are kept: one more than a line may have, which shows that it is too long.
-const KEPT: usize = 4097;
+const KEPT: usize = TYPED_LIMIT + 1;
 
 /// One byte more than is kept of a line, since it may be the CR before the line end.
-const ROOM: usize = 4098;
+const ROOM: usize = KEPT + 1;
 
 /// The bytes of a typed line.
 pub type TypedLine = ArrayVec<u8, ROOM>;
@@ -46,7 +45,7 @@ impl From<TypedFault> for EngineFault {
 /// The lines that a user types, as they come. It takes no memory but its own.
 #[derive(Drop)]
 pub struct TypedLines {
-    portion: [u8; PORTION],
+    portion: [u8; READ_PORTION],
     taken: usize,
     filled: usize,
     /// How many reads may still be made.
@@ -103,7 +102,7 @@ impl TypedLines {
         ensures ended { result.ended ≡ false }
     {
         TypedLines {
-            portion: [0; PORTION],
+            portion: [0; READ_PORTION],
             taken: 0,
             filled: 0,
             reads,

@@ -3,7 +3,7 @@ ghost use Rattle.std.specs.Prelude.{◌≡◌};
 ghost use Rattle.fibs_connect.specs.Converse.Wishes.{wish_of, wish_value};
 
 /// The longest line that may be typed.
-const LIMIT: usize = 4096;
+pub const TYPED_LIMIT: usize = 4096;
 
 /// What a typed line asks for.
 #[derive(Clone, Copy)]
@@ -32,7 +32,7 @@ pub fn wish_of(line: &[u8]) -> Wish<'_>
         Wish::Players
     } else if line == b"quit".as_slice() {
         Wish::Quit
-    } else if line.len() > LIMIT {
+    } else if line.len() > TYPED_LIMIT {
         Wish::TooLong
     } else if line.is_empty() {
         Wish::Listen

@@ -55,7 +55,8 @@ module _ (r : Result ⊤ TurnFault) where
       → (Holds Broken → Now Broken) → IfPrinted (Err e) Holds → IfPrinted r Now
   printed_on Holds Now e h more p = go r e h p
     where
-      go : (s : Result ⊤ TurnFault) (x : TurnFault) → IsErrAnd s (λ y. y ≡ x) → IfPrinted (Err x) Holds → IfPrinted s Now
+      go : (s : Result ⊤ TurnFault) (x : TurnFault) → IsErrAnd s (λ y. y ≡ x) → IfPrinted (Err x) Holds
+          → IfPrinted s Now
       go (Ok y) x k q = absurd k
       go (Err Stream) Stream k q = more q
       go (Err Stream) Output k q = absurd cc
@@ -65,7 +66,8 @@ module _ (r : Result ⊤ TurnFault) where
       → (P → Now) → IfUnprinted (Err e) P → IfUnprinted r Now
   unprinted_on P Now e h more p = go r e h p
     where
-      go : (s : Result ⊤ TurnFault) (x : TurnFault) → IsErrAnd s (λ y. y ≡ x) → IfUnprinted (Err x) P → IfUnprinted s Now
+      go : (s : Result ⊤ TurnFault) (x : TurnFault) → IsErrAnd s (λ y. y ≡ x) → IfUnprinted (Err x) P
+          → IfUnprinted s Now
       go (Ok y) x k q = absurd k
       go (Err Output) Output k q = more q
       go (Err Output) Stream k q = absurd cc

@@ -6,12 +6,14 @@ use Rattle.std.proofs.Math.Seq.{take-append-add, take-add, drop-append_seam, dro
 use Rattle.std.proofs.lemmas.List.{nil_from_length}
 use Rattle.fibs_lines.specs.Lines.{ReadLine, lines_of}
 use Rattle.fibs_lines.specs.StreamLaws.{LinesOnlyGrow}
+use Rattle.fibs_boards.specs.Board.{BoardFields}
 use Rattle.fibs_messages.specs.Message.{MessageValue}
 use Rattle.fibs_messages.specs.Line.{ReadingValue, numbered_line, board_line, text_line, malformed_line}
 use Rattle.fibs_position.specs.GoodBoard.{good}
-use Rattle.fibs_session.specs.History.Log.{Entry, Opened, Lost}
+use Rattle.fibs_session.specs.History.Log.{Entry, Opened, Lost, Shown}
 use Rattle.fibs_session.specs.History.Words.{Ask, open_from, open_now}
-use Rattle.fibs_session.specs.History.Hearing.{Heard, heard, nothing_heard, line_reading}
+use Rattle.fibs_session.specs.History.Hearing.{Heard, heard, nothing_heard, line_reading, shown_entries}
+use Rattle.fibs_session.specs.History.Orders.{is_due}
 use Rattle.fibs_session.specs.History.Machine.{Talk, Step, Piece, step, stays, is_online, reads, hears, hears_all}
 use Rattle.fibs_session.specs.History.Machine.{heard_by, line_heard, with_bytes, gained}
 use Rattle.fibs_session.specs.Calls.Standing.{ClientValue, StandsAfter}
@@ -29,13 +31,20 @@ open_append o (Opened c ∷ xs) ys = open_append c xs ys
 open_append o (Lost c u ∷ xs) ys = open_append 0 xs ys
 open_append o (e ∷ xs) ys = open_append o xs ys
 
-if_open : (b : Bool) (g h : Heard) (o : ℕ) → open_from o g.entries ≡ o → open_from o h.entries ≡ o → open_from o (if b then g else h).entries ≡ o
+if_open : (b : Bool) (g h : Heard) (o : ℕ) → open_from o g.entries ≡ o → open_from o h.entries ≡ o
+    → open_from o (if b then g else h).entries ≡ o
 if_open true g h o e f = e
 if_open false g h o e f = f
 
+shown_open : (c : ℕ) (b : BoardFields) (rolls : Bool) (o : ℕ) → open_from o (shown_entries c b rolls) ≡ o
+shown_open c b true o = refl
+shown_open c b false o = refl
+
 heard_open : (c : ℕ) (log : List Entry) (r : ReadingValue) (o : ℕ) → open_from o (heard c log r).entries ≡ o
-heard_open c log (numbered_line m) o = if_open (nat_eq m.number 1) _ _ o refl (if_open (nat_eq m.number 2) _ _ o refl refl)
-heard_open c log (board_line b) o = if_open (good b) _ _ o refl refl
+heard_open c log (numbered_line m) o = if_open (nat_eq m.number 1) _ _ o refl
+    (if_open (nat_eq m.number 2) _ _ o refl refl)
+heard_open c log (board_line b) o =
+    if_open (good b) _ _ o (shown_open c b (is_due c (log ++ Shown c b ∷ []) b) o) refl
 heard_open c log (text_line text) o = refl
 heard_open c log (malformed_line number k f) o = refl
 
@@ -67,9 +76,11 @@ one_send : (t : Talk) (l : ReadLine) → (hears_all t (l ∷ [])).send ≡ (hear
 unfolding hears_all
 one_send t l = append-nil (heard_by t (line_reading l)).send
 
-acts_append : (log : List Entry) (ls ms : List ReadLine) → line_acts log (ls ++ ms) ≡ line_acts log ls ++ line_acts (log_after log ls) ms
+acts_append : (log : List Entry) (ls ms : List ReadLine)
+    → line_acts log (ls ++ ms) ≡ line_acts log ls ++ line_acts (log_after log ls) ms
 acts_append log [] ms = refl
-acts_append log (l ∷ ls) ms = ap (λ acts. line_act log l ∷ acts) (acts_append (log ++ (heard (open_now log) log (line_reading l)).entries) ls ms)
+acts_append log (l ∷ ls) ms = ap (λ acts. line_act log l ∷ acts)
+    (acts_append (log ++ (heard (open_now log) log (line_reading l)).entries) ls ms)
 
 abbrev acts_if : Bool → Talk → List ℕ → List Act
 acts_if b t bytes = if b then line_acts t.log (gained t.stream bytes) else []
@@ -77,13 +88,15 @@ acts_if b t bytes = if b then line_acts t.log (gained t.stream bytes) else []
 abbrev reads_if : Bool → Talk → List ℕ → Step
 reads_if b t bytes = if b then hears_all (with_bytes t bytes) (gained t.stream bytes) else stays t
 
-online_acts : (t : Talk) (bytes : List ℕ) → is_online t ≡ true → piece_acts t bytes ≡ line_acts t.log (gained t.stream bytes)
+online_acts : (t : Talk) (bytes : List ℕ) → is_online t ≡ true
+    → piece_acts t bytes ≡ line_acts t.log (gained t.stream bytes)
 online_acts t bytes on = ap (λ b. acts_if b t bytes) on
 
 offline_acts : (t : Talk) (bytes : List ℕ) → is_online t ≡ false → piece_acts t bytes ≡ []
 offline_acts t bytes off = ap (λ b. acts_if b t bytes) off
 
-online_reads : (t : Talk) (bytes : List ℕ) → is_online t ≡ true → step t (Piece bytes) ≡ hears_all (with_bytes t bytes) (gained t.stream bytes)
+online_reads : (t : Talk) (bytes : List ℕ) → is_online t ≡ true
+    → step t (Piece bytes) ≡ hears_all (with_bytes t bytes) (gained t.stream bytes)
 online_reads t bytes on = ap (λ b. reads_if b t bytes) on
 
 offline_reads : (t : Talk) (bytes : List ℕ) → is_online t ≡ false → step t (Piece bytes) ≡ stays t
@@ -94,19 +107,23 @@ pub piece_online : (t : Talk) (bytes : List ℕ) → is_online (step t (Piece by
 piece_online t bytes = go (is_online t) refl
   where
     go : (b : Bool) → is_online t ≡ b → is_online (step t (Piece bytes)).talk ≡ is_online t
-    go true on = ap (λ s. is_online s.talk) (online_reads t bytes on) ∙ ap (λ n. not (nat_eq n 0)) (all_open (with_bytes t bytes) (gained t.stream bytes))
+    go true on = ap (λ s. is_online s.talk) (online_reads t bytes on)
+        ∙ ap (λ n. not (nat_eq n 0)) (all_open (with_bytes t bytes) (gained t.stream bytes))
     go false off = ap (λ s. is_online s.talk) (offline_reads t bytes off)
 
 -- it is put behind the stream
-pub piece_stream : (t : Talk) (bytes : List ℕ) → is_online t ≡ true → (step t (Piece bytes)).talk.stream ≡ t.stream ++ bytes
-piece_stream t bytes on = ap (λ s. s.talk.stream) (online_reads t bytes on) ∙ all_stream (with_bytes t bytes) (gained t.stream bytes)
+pub piece_stream : (t : Talk) (bytes : List ℕ) → is_online t ≡ true
+    → (step t (Piece bytes)).talk.stream ≡ t.stream ++ bytes
+piece_stream t bytes on = ap (λ s. s.talk.stream) (online_reads t bytes on)
+    ∙ all_stream (with_bytes t bytes) (gained t.stream bytes)
 
 -- no bytes call for nothing
 pub no_acts : (t : Talk) → piece_acts t [] ≡ []
 no_acts t = go (is_online t) refl
   where
     none : gained t.stream [] ≡ []
-    none = ap (λ s. drop (length (lines_of t.stream)) (lines_of s)) (append-nil t.stream) ∙ drop-length (lines_of t.stream)
+    none = ap (λ s. drop (length (lines_of t.stream)) (lines_of s)) (append-nil t.stream)
+        ∙ drop-length (lines_of t.stream)
 
     go : (b : Bool) → is_online t ≡ b → piece_acts t [] ≡ []
     go true on = online_acts t [] on ∙ ap (line_acts t.log) none
@@ -118,41 +135,60 @@ module _ (grow : LinesOnlyGrow) where
       let a = grow s p in
       let b = grow (s ++ p) q in
       let first : gained s p ≡ a.0 = ap (drop (length (lines_of s))) a.1 ∙ drop-append_seam (lines_of s) a.0 in
-      let second : gained (s ++ p) q ≡ b.0 = ap (drop (length (lines_of (s ++ p)))) b.1 ∙ drop-append_seam (lines_of (s ++ p)) b.0 in
+      let second : gained (s ++ p) q ≡ b.0 = ap (drop (length (lines_of (s ++ p)))) b.1
+      ∙ drop-append_seam (lines_of (s ++ p)) b.0 in
       let whole : lines_of (s ++ (p ++ q)) ≡ lines_of s ++ (a.0 ++ b.0) =
       ap lines_of (sym (append_assoc s p q)) ∙ b.1 ∙ ap (λ l. l ++ b.0) a.1 ∙ append_assoc (lines_of s) a.0 b.0 in
-      ap (drop (length (lines_of s))) whole ∙ drop-append_seam (lines_of s) (a.0 ++ b.0) ∙ ap (λ l. l ++ b.0) (sym first) ∙ ap (λ l. gained s p ++ l) (sym second)
+      ap (drop (length (lines_of s))) whole ∙ drop-append_seam (lines_of s) (a.0 ++ b.0)
+      ∙ ap (λ l. l ++ b.0) (sym first) ∙ ap (λ l. gained s p ++ l) (sym second)
 
   -- bytes may come in any pieces
-  pub acts_join : (t : Talk) (p q : List ℕ) → piece_acts t (p ++ q) ≡ piece_acts t p ++ piece_acts (step t (Piece p)).talk q
+  pub acts_join : (t : Talk) (p q : List ℕ)
+      → piece_acts t (p ++ q) ≡ piece_acts t p ++ piece_acts (step t (Piece p)).talk q
   acts_join t p q = go (is_online t) refl
     where
       go : (b : Bool) → is_online t ≡ b → piece_acts t (p ++ q) ≡ piece_acts t p ++ piece_acts (step t (Piece p)).talk q
       go false off =
-          offline_acts t (p ++ q) off ∙ sym (offline_acts t q off) ∙ ap (λ s. piece_acts s.talk q) (sym (offline_reads t p off))
+          offline_acts t (p ++ q) off ∙ sym (offline_acts t q off)
+          ∙ ap (λ s. piece_acts s.talk q) (sym (offline_reads t p off))
           ∙ ap (λ l. l ++ piece_acts (step t (Piece p)).talk q) (sym (offline_acts t p off))
       go true on =
           let u : Talk = (step t (Piece p)).talk in
           let first : List ReadLine = gained t.stream p in
-          let log : u.log ≡ log_after t.log first = ap (λ s. s.talk.log) (online_reads t p on) ∙ all_log (with_bytes t p) first in
+          let log : u.log ≡ log_after t.log first = ap (λ s. s.talk.log) (online_reads t p on)
+          ∙ all_log (with_bytes t p) first in
           let later : piece_acts u q ≡ line_acts (log_after t.log first) (gained (t.stream ++ p) q) =
           online_acts u q (piece_online t p ∙ on) ∙ ap (λ l. line_acts l (gained u.stream q)) log
           ∙ ap (λ s. line_acts (log_after t.log first) (gained s q)) (piece_stream t p on) in
-          online_acts t (p ++ q) on ∙ ap (line_acts t.log) (gained_more t.stream p q) ∙ acts_append t.log first (gained (t.stream ++ p) q)
+          online_acts t (p ++ q) on ∙ ap (line_acts t.log) (gained_more t.stream p q)
+          ∙ acts_append t.log first (gained (t.stream ++ p) q)
           ∙ ap (λ l. l ++ line_acts (log_after t.log first) (gained (t.stream ++ p) q)) (sym (online_acts t p on))
           ∙ ap (λ l. piece_acts t p ++ l) (sym later)
 
   -- where a front has all lines, so has a longer one
-  middle : (s all : List ℕ) (n k : ℕ) → n ≤ k → lines_of (s ++ take n all) ≡ lines_of (s ++ all) → lines_of (s ++ take k all) ≡ lines_of (s ++ all)
+  middle : (s all : List ℕ) (n k : ℕ) → n ≤ k → lines_of (s ++ take n all) ≡ lines_of (s ++ all)
+      → lines_of (s ++ take k all) ≡ lines_of (s ++ all)
   middle s all n k h e =
       let more = grow (s ++ take n all) (take (k - n) (drop n all)) in
       let rest = grow (s ++ take k all) (drop k all) in
-      let split : take k all ≡ take n all ++ take (k - n) (drop n all) = ap (λ m. take m all) {x = k} {y = n + (k - n)} (omega (arith, h)) ∙ take-add n (k - n) all in
+      let split : take k all ≡ take n all ++ take (k - n) (drop n all) =
+      ap (λ m. take m all) {x = k} {y = n + (k - n)} (omega (arith, h)) ∙ take-add n (k - n) all in
       let to_k : lines_of (s ++ take k all) ≡ lines_of (s ++ take n all) ++ more.0 =
-      ap (λ l. lines_of (s ++ l)) split ∙ ap lines_of (sym (append_assoc s (take n all) (take (k - n) (drop n all)))) ∙ more.1 in
+      ap (λ l. lines_of (s ++ l)) split ∙ ap lines_of (sym (append_assoc s (take n all) (take (k - n) (drop n all))))
+      ∙ more.1 in
       let to_all : lines_of (s ++ all) ≡ lines_of (s ++ take k all) ++ rest.0 =
-      ap (λ l. lines_of (s ++ l)) (sym (take-append-drop k all)) ∙ ap lines_of (sym (append_assoc s (take k all) (drop k all))) ∙ rest.1 in
-      let none : rest.0 ≡ [] = nil_from_length rest.0 (omega (arith, ap length to_k, ap length to_all, ap length e, length-append (lines_of (s ++ take n all)) more.0, length-append (lines_of (s ++ take k all)) rest.0)) in
+      ap (λ l. lines_of (s ++ l)) (sym (take-append-drop k all))
+      ∙ ap lines_of (sym (append_assoc s (take k all) (drop k all))) ∙ rest.1 in
+      let none : rest.0 ≡ [] = nil_from_length rest.0
+      (omega (
+        arith,
+        ap length to_k,
+        ap length to_all,
+        ap length e,
+        length-append
+            (lines_of (s ++ take n all)) more.0,
+        length-append (lines_of (s ++ take k all)) rest.0,
+      )) in
       sym (to_all ∙ ap (λ l. lines_of (s ++ take k all) ++ l) none ∙ append-nil (lines_of (s ++ take k all)))
 
   -- a line that ends behind a front ends with both
@@ -160,8 +196,10 @@ module _ (grow : LinesOnlyGrow) where
   ends_joined s f g ends long = λ n lt same.
       let j = n - length f in
       let less : j < length g = omega (arith, lt, long, length-append f g) in
-      let here : lines_of (s ++ take (length f + j) (f ++ g)) ≡ lines_of (s ++ (f ++ g)) = middle s (f ++ g) n (length f + j) (omega arith) same in
-      ends j less (ap lines_of (append_assoc s f (take j g)) ∙ ap (λ l. lines_of (s ++ l)) (sym (take-append-add f g j)) ∙ here ∙ ap lines_of (sym (append_assoc s f g)))
+      let here : lines_of (s ++ take (length f + j) (f ++ g)) ≡ lines_of (s ++ (f ++ g)) =
+      middle s (f ++ g) n (length f + j) (omega arith) same in
+      ends j less (ap lines_of (append_assoc s f (take j g))
+      ∙ ap (λ l. lines_of (s ++ l)) (sym (take-append-add f g j)) ∙ here ∙ ap lines_of (sym (append_assoc s f g)))
 
 -- ---- what was taken
 
@@ -170,38 +208,53 @@ abbrev pub taken_acts : Option TakenValue → List Act
 taken_acts None = []
 taken_acts (Some t) = taken_act t ∷ []
 
-gained_lines : (s piece : List ℕ) (used : ℕ) (line : Option ReadLine) → Gains s piece used line → gained s (take used piece) ≡ in_list line
-gained_lines s piece used line g = ap (drop (length (lines_of s))) g.gains ∙ drop-append_seam (lines_of s) (in_list line)
+gained_lines : (s piece : List ℕ) (used : ℕ) (line : Option ReadLine) → Gains s piece used line
+    → gained s (take used piece) ≡ in_list line
+gained_lines s piece used line g = ap (drop (length (lines_of s))) g.gains
+    ∙ drop-append_seam (lines_of s) (in_list line)
 
 abbrev heard_if : Bool → Talk → ReadLine → Heard
 heard_if b t l = if b then heard_by t (line_reading l) else nothing_heard
 
 -- the line's act is that of the history
-one_act : (old : ClientValue) (piece : List ℕ) (used : ℕ) (k : TakenValue) → FeedAnswers old piece used (Some k) → (t : Talk) → StandsAfter old t → is_online t ≡ true → line_act t.log k.line ≡ taken_act k
+one_act : (old : ClientValue) (piece : List ℕ) (used : ℕ) (k : TakenValue) → FeedAnswers old piece used (Some k)
+    → (t : Talk) → StandsAfter old t → is_online t ≡ true → line_act t.log k.line ≡ taken_act k
 one_act old piece used k f t at on =
     let p : List ℕ = take used piece in
     let lines : gained t.stream p ≡ k.line ∷ [] = gained_lines t.stream piece used (Some k.line) (f.uses t at on) in
     let send : k.send ≡ (heard_by t (line_reading k.line)).send =
-    f.hands t at ∙ ap (λ s. s.send) (online_reads t p on) ∙ ap (λ ls. (hears_all (with_bytes t p) ls).send) lines ∙ one_send (with_bytes t p) k.line in
-    let confirmed : k.confirmed ≡ (heard_by t (line_reading k.line)).confirmed = f.confirms t at on ∙ ap (λ b. (heard_if b t k.line).confirmed) on in
-    ap (λ c. heard_act k.line (line_reading k.line) (heard_by t (line_reading k.line)).send c) (sym confirmed)
-    ∙ ap (λ s. heard_act k.line (line_reading k.line) s k.confirmed) (sym send)
-    ∙ ap (λ r. heard_act k.line r k.send k.confirmed) (sym f.reading)
+    f.hands t at ∙ ap (λ s. s.send) (online_reads t p on) ∙ ap (λ ls. (hears_all (with_bytes t p) ls).send) lines
+    ∙ one_send (with_bytes t p) k.line in
+    let confirmed : k.confirmed ≡ (heard_by t (line_reading k.line)).confirmed = f.confirms t at on
+    ∙ ap (λ b. (heard_if b t k.line).confirmed) on in
+    let rolled : k.rolled ≡ (heard_by t (line_reading k.line)).rolled =
+    f.rolls t at on ∙ ap (λ b. (heard_if b t k.line).rolled) on in
+    let h : Heard = heard_by t (line_reading k.line) in
+    ap (heard_act k.line (line_reading k.line) h.send h.confirmed) (sym rolled)
+    ∙ ap (λ c. heard_act k.line (line_reading k.line) h.send c k.rolled) (sym confirmed)
+    ∙ ap (λ s. heard_act k.line (line_reading k.line) s k.confirmed k.rolled) (sym send)
+    ∙ ap (λ r. heard_act k.line r k.send k.confirmed k.rolled) (sym f.reading)
 
-pub acts_taken : (old : ClientValue) (piece : List ℕ) (used : ℕ) (taken : Option TakenValue) → FeedAnswers old piece used taken → (t : Talk) → StandsAfter old t → piece_acts t (take used piece) ≡ taken_acts taken
+pub acts_taken : (old : ClientValue) (piece : List ℕ) (used : ℕ) (taken : Option TakenValue)
+    → FeedAnswers old piece used taken → (t : Talk) → StandsAfter old t
+    → piece_acts t (take used piece) ≡ taken_acts taken
 acts_taken old piece used taken f t at = go (is_online t) refl taken f
   where
     p : List ℕ
     p = take used piece
 
-    go : (b : Bool) → is_online t ≡ b → (taken : Option TakenValue) → FeedAnswers old piece used taken → piece_acts t p ≡ taken_acts taken
+    go : (b : Bool) → is_online t ≡ b → (taken : Option TakenValue) → FeedAnswers old piece used taken
+        → piece_acts t p ≡ taken_acts taken
     go false off taken f = offline_acts t p off ∙ ap taken_acts (sym (f.offline t at off).1)
-    go true on None f = online_acts t p on ∙ ap (line_acts t.log) (gained_lines t.stream piece used None (f.uses t at on))
+    go true on None f = online_acts t p on ∙ ap (line_acts t.log)
+        (gained_lines t.stream piece used None (f.uses t at on))
     go true on (Some k) f =
-        online_acts t p on ∙ ap (line_acts t.log) (gained_lines t.stream piece used (Some k.line) (f.uses t at on)) ∙ ap (λ act. act ∷ []) (one_act old piece used k f t at on)
+        online_acts t p on ∙ ap (line_acts t.log) (gained_lines t.stream piece used (Some k.line) (f.uses t at on))
+        ∙ ap (λ act. act ∷ []) (one_act old piece used k f t at on)
 
 -- what is taken is taken online
-pub taken_online : (old : ClientValue) (piece : List ℕ) (used : ℕ) (k : TakenValue) → FeedAnswers old piece used (Some k) → (t : Talk) → StandsAfter old t → is_online t ≡ true
+pub taken_online : (old : ClientValue) (piece : List ℕ) (used : ℕ) (k : TakenValue)
+    → FeedAnswers old piece used (Some k) → (t : Talk) → StandsAfter old t → is_online t ≡ true
 taken_online old piece used k f t at = go (is_online t) refl
   where
     never : Some k ≡ None → is_online t ≡ true
@@ -212,14 +265,19 @@ taken_online old piece used k f t at = go (is_online t) refl
     go false off = never (f.offline t at off).1
 
 -- the bytes up to a line that is taken end it
-pub ends_taken : (old : ClientValue) (piece : List ℕ) (used : ℕ) (k : TakenValue) → FeedAnswers old piece used (Some k) → used ≤ length piece → (t : Talk) → StandsAfter old t → EndsALine t.stream (take used piece)
+pub ends_taken : (old : ClientValue) (piece : List ℕ) (used : ℕ) (k : TakenValue)
+    → FeedAnswers old piece used (Some k) → used ≤ length piece → (t : Talk) → StandsAfter old t
+    → EndsALine t.stream (take used piece)
 ends_taken old piece used k f fits t at = λ n lt same.
     let g = f.uses t at (taken_online old piece used k f t at) in
     let s = t.stream in
     let less : n < used = omega (arith, lt, length-take used piece) in
-    let shorter : take used piece ≡ take n piece ++ take (used - n) (drop n piece) = ap (λ m. take m piece) {x = used} {y = n + (used - n)} (omega (arith, less)) ∙ take-add n (used - n) piece in
+    let shorter : take used piece ≡ take n piece ++ take (used - n) (drop n piece) =
+    ap (λ m. take m piece) {x = used} {y = n + (used - n)} (omega (arith, less)) ∙ take-add n (used - n) piece in
     let front : take n (take used piece) ≡ take n piece =
-    ap (take n) shorter ∙ ap (λ m. take m (take n piece ++ take (used - n) (drop n piece))) {x = n} {y = length (take n piece) + 0} (omega (arith, less, fits, length-take n piece))
+    ap (take n) shorter ∙ ap (λ m. take m (take n piece ++ take (used - n) (drop n piece))) {x = n} {y =
+    length (take n piece) + 0} (omega (arith, less, fits, length-take n piece))
     ∙ take-append-add (take n piece) (take (used - n) (drop n piece)) 0 ∙ append-nil (take n piece) in
-    let all : lines_of s ≡ lines_of s ++ (k.line ∷ []) = sym (g.shortest n less) ∙ ap (λ l. lines_of (s ++ l)) (sym front) ∙ same ∙ g.gains in
+    let all : lines_of s ≡ lines_of s ++ (k.line ∷ []) = sym (g.shortest n less)
+    ∙ ap (λ l. lines_of (s ++ l)) (sym front) ∙ same ∙ g.gains in
     omega (arith, ap length all, length-append (lines_of s) (k.line ∷ []))

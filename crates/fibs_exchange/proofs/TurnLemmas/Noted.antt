@@ -48,7 +48,8 @@ numbered c log m some = one (nat_eq m.number 1) refl
     one false e = two e (nat_eq m.number 2) refl
 
 -- a line that calls for commands
-line_telling : (log : List Entry) (r : ReadingValue) → wire_of (heard (open_now log) log r).send ≢ [] → AllByRecursion TellsNothing (messages_in r)
+line_telling : (log : List Entry) (r : ReadingValue) → wire_of (heard (open_now log) log r).send ≢ []
+    → AllByRecursion TellsNothing (messages_in r)
 line_telling log (numbered_line m) some = (numbered (open_now log) log m (λ e. some (ap wire_of e)), tt)
 line_telling log (board_line b) some = tt
 line_telling log (text_line text) some = tt
@@ -56,7 +57,11 @@ line_telling log (malformed_line number k f) some = tt
 
 lines_telling : (log : List Entry) (ls : List ReadLine) → AllTelling (line_acts log ls)
 lines_telling log [] = tt
-lines_telling log (l ∷ ls) = (line_telling log (line_reading l), lines_telling (log ++ (heard (open_now log) log (line_reading l)).entries) ls)
+lines_telling log (l ∷ ls) = (
+  line_telling log (line_reading l),
+  lines_telling
+      (log ++ (heard (open_now log) log (line_reading l)).entries) ls,
+)
 
 piece_telling : (t : Talk) (bytes : List ℕ) → AllTelling (piece_acts t bytes)
 piece_telling t bytes = go (is_online t)
@@ -67,7 +72,11 @@ piece_telling t bytes = go (is_online t)
 
 typed_telling : (t : Talk) (typed : Option (List ℕ)) → AllTelling (typed_acts t typed)
 typed_telling t None = tt
-typed_telling t (Some text) = (λ some. subst (AllByRecursion TellsNothing) (sym (typed_notes t (typed_now t text))) tt, tt)
+typed_telling t (Some text) = (
+  λ some. subst (AllByRecursion TellsNothing)
+      (sym (typed_notes t (typed_now t text))) tt,
+  tt,
+)
 
 telling_joined : (xs ys : List Act) → AllTelling xs → AllTelling ys → AllTelling (xs ++ ys)
 telling_joined [] ys h k = k
@@ -81,15 +90,19 @@ filled : (part rest : List ℕ) (missing : ℕ) → part ++ (missing ∷ rest) �
 filled [] rest missing = λ h. absurd cc
 filled (x ∷ part) rest missing = λ h. absurd cc
 
-in_hand : (p : Progress) (hand : List Act) (part : List ℕ) → InHand p hand part → AllTelling hand → AllByRecursion (λ act. AllByRecursion TellsNothing act.notes) hand
+in_hand : (p : Progress) (hand : List Act) (part : List ℕ) → InHand p hand part → AllTelling hand
+    → AllByRecursion (λ act. AllByRecursion TellsNothing act.notes) hand
 in_hand Whole hand part h all = subst (AllByRecursion (λ act. AllByRecursion TellsNothing act.notes)) (sym h.0) tt
 in_hand Broken hand part h all =
     let one = subst AllTelling h.3 all in
-    subst (AllByRecursion (λ act. AllByRecursion TellsNothing act.notes)) (sym h.3) (one.0 (λ e. filled part h.2 h.1 (sym h.4 ∙ e)), tt)
+    subst (AllByRecursion (λ act. AllByRecursion TellsNothing act.notes)) (sym h.3)
+    (one.0 (λ e. filled part h.2 h.1 (sym h.4 ∙ e)), tt)
 
 pub turns_leave_no_player : TurnsLeaveNoPlayer
 turns_leave_no_player t new typed left still a b e turned =
     let d = turned.did in
     let u = talk_after t typed in
     in_hand turned.progress d.hand d.part d.in_hand
-    (telling_last (acts_of d.done) d.hand (subst AllTelling d.acts (telling_joined (typed_acts t typed) (piece_acts u turned.fed) (typed_telling t typed) (piece_telling u turned.fed))))
+    (telling_last (acts_of d.done) d.hand (subst AllTelling d.acts
+    (telling_joined (typed_acts t typed) (piece_acts u turned.intake.fed) (typed_telling t typed)
+    (piece_telling u turned.intake.fed))))

@@ -10,15 +10,13 @@ use Rattle.fibs_session.specs.History.Machine.{Talk, Piece, Lose, step, is_onlin
 use Rattle.fibs_session.specs.History.MachineLaws.{PiecesJoin, EmptyPieceIsNothing}
 use Rattle.fibs_session.specs.Calls.Standing.{ClientValue, StandsAfter}
 use Rattle.fibs_show.specs.Writing.{Progress, Whole, Broken}
-use Rattle.fibs_show.specs.Writing.{Wrote}
 use Rattle.fibs_exchange.specs.Turns.Acts.{Act}
 use Rattle.fibs_exchange.specs.Turns.Lines.{piece_acts}
-use Rattle.fibs_exchange.specs.Turns.Script.{Outside, Did, calls_of}
-use Rattle.fibs_exchange.specs.Turns.Turn.{EndsALine, Talked, FedToALine, StopsAs, Stopped}
+use Rattle.fibs_exchange.specs.Turns.Script.{Outside, Did, Called, calls_of}
+use Rattle.fibs_exchange.specs.Turns.Turn.{EndsALine, Talked, FedToALine, StopsAt, all_fed, line_fed, lost, Stopped}
 use Rattle.fibs_exchange.specs.Turns.Typing.{typed_now, typed_step, typed_act}
 use Rattle.fibs_exchange.proofs.TurnLemmas.Hearing.{piece_stream, ends_joined, acts_join, no_acts}
-use Rattle.fibs_exchange.proofs.TurnLemmas.Scripts.{did_wrote}
-use Rattle.fibs_exchange.proofs.TurnLemmas.Wrote.{wrote_more}
+use Rattle.fibs_exchange.proofs.TurnLemmas.Scripts.{did_wrote, did_called, all_called, called_after}
 use Rattle.fibs_exchange.proofs.TurnLemmas.Typed.{typed_stays}
 use Rattle.fibs_exchange.proofs.TurnLemmas.Turns.{Gone, never}
 
@@ -30,15 +28,17 @@ on_any_err (Err e) p = p
 -- all that was read is heard
 pub stopped_whole : (t : Talk) (y z : ClientValue) (left still : Option (List ℕ)) (read : List ℕ) (a b : Outside)
     → is_online t ≡ true → Consumes left still read → Gone t y read a b
-    → StopsAs Whole t.stream read [] (step t (Piece read)).talk z → Stopped t z None left still a.wrote b.wrote
+    → StopsAt Whole t.stream read [] (step t (Piece read)).talk z → Stopped t z None left still a.wrote b.wrote
 stopped_whole t y z left still read a b on took g at = record {
-  read = read;
-  took = took;
-  fed = read;
-  rest = [];
-  cut = sym (append-nil read);
+  intake = record {
+    read = read;
+    took = took;
+    fed = read;
+    rest = [];
+    cut = sym (append-nil read);
+  };
   progress = Whole;
-  calls = did_wrote Whole a b (piece_acts t read) g.did;
+  calls = did_called Whole a b (piece_acts t read) g.did;
   stands = at;
   offline = never on;
 }
@@ -48,14 +48,16 @@ pub stopped_broken : (t : Talk) (y z : ClientValue) (left still : Option (List �
     → is_online t ≡ true → Consumes left still read → (k : Talked t y read a b Broken)
     → StandsAfter z (step (step t (Piece k.fed)).talk Lose).talk → Stopped t z None left still a.wrote b.wrote
 stopped_broken t y z left still read a b on took k at = record {
-  read = read;
-  took = took;
-  fed = k.fed;
-  rest = k.rest;
-  cut = k.cut;
+  intake = record {
+    read = read;
+    took = took;
+    fed = k.fed;
+    rest = k.rest;
+    cut = k.cut;
+  };
   progress = Broken;
-  calls = did_wrote Broken a b (piece_acts t k.fed) k.did;
-  stands = inr (k.extent.0, at);
+  calls = did_called Broken a b (piece_acts t k.fed) k.did;
+  stands = lost k.extent.0 at;
   offline = never on;
 }
 
@@ -77,8 +79,10 @@ module _ (join : PiecesJoin) (grow : LinesOnlyGrow) where
           omega (arith, long, length-append front piece),
         );
         calls = subst (Appends a.wrote now)
-            (sym (flat_map-append (λ (x : Act). x.writes) (piece_acts t front) later) ∙ ap calls_of (sym (acts_join grow t front piece)))
-            (Appends-trans a.wrote b.wrote now (calls_of (piece_acts t front)) (calls_of later) (did_wrote Whole a b (piece_acts t front) did) calls);
+            (sym (flat_map-append (λ (x : Act). x.writes) (piece_acts t front) later)
+            ∙ ap calls_of (sym (acts_join grow t front piece)))
+            (Appends-trans a.wrote b.wrote now (calls_of (piece_acts t front)) (calls_of later)
+            (did_wrote a b (piece_acts t front) did) calls);
         stands = subst (λ s. StandsAfter z s.talk) (sym (join t front piece)) at;
       }
 
@@ -93,14 +97,16 @@ module _ (join : PiecesJoin) (grow : LinesOnlyGrow) where
       let whole : FedToALine t z (read ++ portion) a.wrote now =
       line_behind t z read k.fed k.rest (read ++ portion) a b now cut on g.did k.stands k.ends.0 k.ends.1 k.calls in
       record {
-        read = read ++ portion;
-        took = took;
-        fed = whole.fed;
-        rest = whole.rest;
-        cut = whole.cut;
+        intake = record {
+          read = read ++ portion;
+          took = took;
+          fed = whole.fed;
+          rest = whole.rest;
+          cut = whole.cut;
+        };
         progress = Whole;
-        calls = whole.calls;
-        stands = inl (refl, inr whole.ends, whole.stands);
+        calls = all_called a.wrote now (piece_acts t whole.fed) whole.calls;
+        stands = line_fed refl whole.ends.0 whole.ends.1 whole.stands;
         offline = never on;
       }
 
@@ -111,40 +117,55 @@ pub stopped_typed : (t : Talk) (z : ClientValue) (text : List ℕ) (left mid sti
     → Stopped t z (Some text) left still a.wrote now
 stopped_typed t z text left mid still now a b on k did u =
     let act : Act = typed_act t (typed_now t text) in
-    let later : List Act = piece_acts (typed_step t (typed_now t text)).talk u.fed in
+    let later : List Act = piece_acts (typed_step t (typed_now t text)).talk u.intake.fed in
     record {
-      read = u.read;
-      took = Consumes-trans left mid still [] u.read (Consumes-kept left left mid [] (Consumes-nil left) k) u.took;
-      fed = u.fed;
-      rest = u.rest;
-      cut = u.cut;
+      intake = record {
+        read = u.intake.read;
+        took = Consumes-trans left mid still [] u.intake.read
+            (Consumes-kept left left mid [] (Consumes-nil left) k) u.intake.took;
+        fed = u.intake.fed;
+        rest = u.intake.rest;
+        cut = u.intake.cut;
+      };
       progress = u.progress;
-      calls = wrote_more u.progress a.wrote b.wrote now act.writes (calls_of later)
-          (subst (Appends a.wrote b.wrote) (append-nil act.writes) (did_wrote Whole a b (act ∷ []) did)) u.calls;
+      calls = called_after u.progress a.wrote b.wrote now (act ∷ []) later (did_wrote a b (act ∷ []) did) u.calls;
       stands = subst
-          (λ s. StopsAs u.progress s u.fed u.rest (step (typed_step t (typed_now t text)).talk (Piece u.fed)).talk z)
+          (λ s. StopsAt u.progress s u.intake.fed u.intake.rest
+          (step (typed_step t (typed_now t text)).talk (Piece u.intake.fed)).talk z)
           (typed_stays t (typed_now t text)).stream u.stands;
       offline = never on;
     }
 
 -- nothing was read after it
 pub stopped_here : (p : Progress) (t : Talk) (z : ClientValue) (text : List ℕ) (left still wrote now : Option (List ℕ))
-    → EmptyPieceIsNothing → Keeps left still → Wrote p wrote now (typed_act t (typed_now t text)).writes
-    → StopsAs p t.stream [] [] (typed_step t (typed_now t text)).talk z → Stopped t z (Some text) left still wrote now
+    → EmptyPieceIsNothing → Keeps left still → Called wrote now (typed_act t (typed_now t text) ∷ []) p
+    → StopsAt p t.stream [] [] (typed_step t (typed_now t text)).talk z → Stopped t z (Some text) left still wrote now
 stopped_here p t z text left still wrote now empty k w at =
     let u : Talk = (typed_step t (typed_now t text)).talk in
     let act : Act = typed_act t (typed_now t text) in
     record {
-      read = [];
-      took = Consumes-kept left left still [] (Consumes-nil left) k;
-      fed = [];
-      rest = [];
-      cut = refl;
+      intake = record {
+        read = [];
+        took = Consumes-kept left left still [] (Consumes-nil left) k;
+        fed = [];
+        rest = [];
+        cut = refl;
+      };
       progress = p;
-      calls = subst (Wrote p wrote now) (sym (append-nil act.writes) ∙ ap (λ l. act.writes ++ calls_of l) (sym (no_acts u))) w;
-      stands = subst (λ s. StopsAs p t.stream [] [] s.talk z) (sym (empty u)) at;
+      calls = subst (λ l. Called wrote now (act ∷ l) p) (sym (no_acts u)) w;
+      stands = subst (λ s. StopsAt p t.stream [] [] s.talk z) (sym (empty u)) at;
       offline = λ off. refl;
     }
+
+-- what it is answered was not printed
+pub stopped_unprinted : (t : Talk) (z : ClientValue) (text : List ℕ) (left still wrote now : Option (List ℕ))
+    → EmptyPieceIsNothing → Keeps left still → Appends wrote now (typed_act t (typed_now t text)).writes
+    → StandsAfter z (typed_step t (typed_now t text)).talk → Stopped t z (Some text) left still wrote now
+stopped_unprinted t z text left still wrote now empty k w at =
+    let act : Act = typed_act t (typed_now t text) in
+    stopped_here Whole t z text left still wrote now empty k
+    (all_called wrote now (act ∷ []) (subst (Appends wrote now) (sym (append-nil act.writes)) w))
+    (all_fed refl refl at)
 
 -- its command was not written whole
 pub stopped_unsent : (t : Talk) (z : ClientValue) (text : List ℕ) (left still : Option (List ℕ)) (a b : Outside)
@@ -152,7 +173,6 @@ pub stopped_unsent : (t : Talk) (z : ClientValue) (text : List ℕ) (left still 
     → StandsAfter z (step (typed_step t (typed_now t text)).talk Lose).talk
     → Stopped t z (Some text) left still a.wrote b.wrote
 stopped_unsent t z text left still a b empty k did at =
-    let act : Act = typed_act t (typed_now t text) in
     stopped_here Broken t z text left still a.wrote b.wrote empty k
-    (subst (Wrote Broken a.wrote b.wrote) (append-nil act.writes) (did_wrote Broken a b (act ∷ []) did))
-    (inr ((λ n lt same. omega (arith, lt)), at))
+    (did_called Broken a b (typed_act t (typed_now t text) ∷ []) did)
+    (lost (λ n lt same. omega (arith, lt)) at)

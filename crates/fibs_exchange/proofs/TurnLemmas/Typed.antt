@@ -10,17 +10,19 @@ use Rattle.arrayvec.specs.ArrayString.{ArrayString as CommandText}
 use Rattle.fibs_commands.specs.PlainCommands.{PlainValue}
 use Rattle.fibs_session.specs.declared.refusal.Refusal.{Refusal}
 use Rattle.fibs_session.specs.declared.refusal.PlainRefusal.{PlainRefusal}
-use Rattle.fibs_session.specs.History.Log.{Entry, Clicked, Sent}
-use Rattle.fibs_session.specs.History.Words.{last, open_now, shown}
+use Rattle.fibs_session.specs.History.Log.{Entry, Clicked, Sent, Ordered, Withdrawn}
+use Rattle.fibs_session.specs.History.Words.{last, open_from, open_now, shown}
 use Rattle.fibs_session.specs.History.Machine.{Talk, Step, Click, PlainInput, step, stays, is_online, answer_now}
-use Rattle.fibs_session.specs.History.Machine.{plain_refusal, on_wire, clicks_by, decides_on, sends_plain}
+use Rattle.fibs_session.specs.History.Machine.{plain_refusal, on_wire, clicks_by, decides_on, sends_plain, notes_if}
+use Rattle.fibs_session.specs.History.Machine.{order_refusal, withdraw_refusal}
 use Rattle.fibs_session.specs.Calls.SessionOf.{handed, refusal_in}
 use Rattle.fibs_messages.specs.Message.{MessageValue}
 use Rattle.fibs_show.specs.Writing.{Wrote}
 use Rattle.fibs_show.specs.Writing.{Whole, Broken}
 use Rattle.fibs_exchange.specs.Turns.Acts.{Act, answer_act, line_bytes, text_of_lines}
 use Rattle.fibs_exchange.specs.Turns.Script.{Did, Notes, outside}
-use Rattle.fibs_exchange.specs.Turns.Typing.{TypedValue, typed_decision, typed_plain, typed_neither, typed_step, typed_act}
+use Rattle.fibs_exchange.specs.Turns.Typing.{TypedValue, typed_decision, typed_plain, typed_order, typed_withdrawal}
+use Rattle.fibs_exchange.specs.Turns.Typing.{typed_none, typed_step, typed_act}
 use Rattle.fibs_exchange.proofs.TurnLemmas.Hearing.{open_append}
 use Rattle.fibs_exchange.proofs.TurnLemmas.Scripts.{did_alone, did_part, notes_nothing}
 
@@ -34,20 +36,37 @@ stays_itself t = record { stream = refl; online = refl }
 
 decides : (t : Talk) (d : DecisionValue) (b : Option BoardFields) → Stays t (decides_on t d b).talk
 decides t d None = stays_itself t
-decides t d (Some b) = record { stream = refl; online = ap (λ n. not (nat_eq n 0)) (open_append 0 t.log (Clicked (open_now t.log) d None ∷ Sent (open_now t.log) b d ∷ [])) }
+decides t d (Some b) = record {
+  stream = refl;
+  online = ap (λ n. not (nat_eq n 0))
+      (open_append 0 t.log (Clicked (open_now t.log) d None ∷ Sent (open_now t.log) b d ∷ []));
+}
 
 clicks : (t : Talk) (d : DecisionValue) (a : Option Refusal) → Stays t (clicks_by t d a).talk
-clicks t d (Some why) = record { stream = refl; online = ap (λ n. not (nat_eq n 0)) (open_append 0 t.log (Clicked (open_now t.log) d (Some why) ∷ [])) }
+clicks t d (Some why) = record {
+  stream = refl;
+  online = ap (λ n. not (nat_eq n 0)) (open_append 0 t.log (Clicked (open_now t.log) d (Some why) ∷ []));
+}
 clicks t d None = decides t d (last (shown (open_now t.log) t.log))
 
 says : (t : Talk) (p : PlainValue) (a : Option PlainRefusal) → Stays t (sends_plain t p a).talk
 says t p (Some why) = stays_itself t
 says t p None = record { stream = refl; online = ap (λ n. not (nat_eq n 0)) (ap open_now (append-nil t.log)) }
 
+orders : (t : Talk) (e : Entry) (why : Option Refusal) → ((o : ℕ) → open_from o (e ∷ []) ≡ o)
+    → Stays t (notes_if t e why).talk
+orders t e (Some why) same = stays_itself t
+orders t e None same = record {
+  stream = refl;
+  online = ap (λ n. not (nat_eq n 0)) (open_append 0 t.log (e ∷ []) ∙ same (open_now t.log));
+}
+
 pub typed_stays : (t : Talk) (v : TypedValue) → Stays t (typed_step t v).talk
 typed_stays t (typed_decision d) = clicks t d (answer_now t d)
 typed_stays t (typed_plain p) = says t p (plain_refusal t p)
-typed_stays t typed_neither = stays_itself t
+typed_stays t typed_order = orders t (Ordered (open_now t.log)) (order_refusal t.log) (λ o. refl)
+typed_stays t typed_withdrawal = orders t (Withdrawn (open_now t.log)) (withdraw_refusal t.log) (λ o. refl)
+typed_stays t typed_none = stays_itself t
 
 -- it tells the directory nothing
 
@@ -58,17 +77,21 @@ answer_notes (Some line) send = refl
 pub typed_notes : (t : Talk) (v : TypedValue) → (typed_act t v).notes ≡ []
 typed_notes t (typed_decision d) = answer_notes _ _
 typed_notes t (typed_plain p) = answer_notes _ _
-typed_notes t typed_neither = refl
+typed_notes t typed_order = refl
+typed_notes t typed_withdrawal = refl
+typed_notes t typed_none = refl
 
 -- ---- the answer of a call
 
 -- a command that is handed out
-pub sent_act : {E : Type 0} (line : E → List ℕ) (why : Option E) (command : CommandText) (send : List (List ℕ)) → None ≡ why → text_of command ∷ [] ≡ send
+pub sent_act : {E : Type 0} (line : E → List ℕ) (why : Option E) (command : CommandText) (send : List (List ℕ))
+    → None ≡ why → text_of command ∷ [] ≡ send
     → answer_act None (text_of command ∷ []) ≡ answer_act (option_map line why) send
 sent_act line why command send e f = ap (answer_act None) f ∙ ap (λ w. answer_act (option_map line w) send) e
 
 -- a refusal
-pub refused_act : {E : Type 0} (line : E → List ℕ) (why : Option E) (reason : E) (send : List (List ℕ)) → Some reason ≡ why
+pub refused_act : {E : Type 0} (line : E → List ℕ) (why : Option E) (reason : E) (send : List (List ℕ))
+    → Some reason ≡ why
     → answer_act (Some (line reason)) [] ≡ answer_act (option_map line why) send
 refused_act line why reason send e = ap (λ w. answer_act (option_map line w) send) e
 
@@ -82,24 +105,36 @@ module _ (t : Talk) (v : TypedValue) where
   quiet : (players : List MessageValue) → Notes players players (typed_act t v).notes
   quiet players = subst (Notes players players) (sym (typed_notes t v)) (notes_nothing players)
 
-  -- it is said why nothing is sent
-  pub did_complaint : (line : List ℕ) (wrote before after : Option (List ℕ)) (players : List MessageValue) → answer_act (Some line) [] ≡ typed_act t v
-      → Appends wrote wrote [] → Appends before after (line_bytes line) → Did (outside wrote before players) (outside wrote after players) (typed_act t v ∷ []) Whole
-  did_complaint line wrote before after players is nothing printed =
-      did_alone (outside wrote before players) (outside wrote after players) (typed_act t v) (subst (λ (a : Act). Appends wrote wrote a.writes) is nothing)
-      (subst (λ (a : Act). Appends before after (text_of_lines a.prints)) is (subst (Appends before after) (sym (append-nil (line_bytes line))) printed)) (quiet players)
+  -- it is answered by a line
+  pub did_reply : (line : List ℕ) (wrote before after : Option (List ℕ)) (players : List MessageValue)
+      → answer_act (Some line) [] ≡ typed_act t v
+      → Appends wrote wrote [] → Appends before after (line_bytes line)
+      → Did (outside wrote before players) (outside wrote after players) (typed_act t v ∷ []) Whole
+  did_reply line wrote before after players is nothing printed =
+      did_alone (outside wrote before players) (outside wrote after players) (typed_act t v)
+      (subst (λ (a : Act). Appends wrote wrote a.writes) is nothing)
+      (subst (λ (a : Act). Appends before after (text_of_lines a.prints)) is
+      (subst (Appends before after) (sym (append-nil (line_bytes line))) printed)) (quiet players)
 
   -- the command was written and printed
-  pub did_sent : (text : List ℕ) (wrote now before after : Option (List ℕ)) (players : List MessageValue) → answer_act None (text ∷ []) ≡ typed_act t v
-      → Appends wrote now (on_wire text) → Appends before after (line_bytes (codes "sent " ++ text)) → Did (outside wrote before players) (outside now after players) (typed_act t v ∷ []) Whole
+  pub did_sent : (text : List ℕ) (wrote now before after : Option (List ℕ)) (players : List MessageValue)
+      → answer_act None (text ∷ []) ≡ typed_act t v
+      → Appends wrote now (on_wire text) → Appends before after (line_bytes (codes "sent " ++ text))
+      → Did (outside wrote before players) (outside now after players) (typed_act t v ∷ []) Whole
   did_sent text wrote now before after players is written printed =
       did_alone (outside wrote before players) (outside now after players) (typed_act t v)
-      (subst (λ (a : Act). Appends wrote now a.writes) is (subst (Appends wrote now) (sym (append-nil (on_wire text))) written))
-      (subst (λ (a : Act). Appends before after (text_of_lines a.prints)) is (subst (Appends before after) (sym (append-nil (line_bytes (codes "sent " ++ text)))) printed)) (quiet players)
+      (subst (λ (a : Act). Appends wrote now a.writes) is
+      (subst (Appends wrote now) (sym (append-nil (on_wire text))) written))
+      (subst (λ (a : Act). Appends before after (text_of_lines a.prints)) is
+      (subst (Appends before after) (sym (append-nil
+      (line_bytes (codes "sent " ++ text)))) printed)) (quiet players)
 
   -- a write failed
-  pub did_unsent : (text : List ℕ) (wrote now printed : Option (List ℕ)) (players : List MessageValue) → answer_act None (text ∷ []) ≡ typed_act t v
-      → Wrote Broken wrote now (on_wire text) → Did (outside wrote printed players) (outside now printed players) (typed_act t v ∷ []) Broken
+  pub did_unsent : (text : List ℕ) (wrote now printed : Option (List ℕ)) (players : List MessageValue)
+      → answer_act None (text ∷ []) ≡ typed_act t v
+      → Wrote Broken wrote now (on_wire text) → Did (outside wrote printed players) (outside now printed players)
+      (typed_act t v ∷ []) Broken
   did_unsent text wrote now printed players is written =
       did_part (outside wrote printed players) (outside now printed players) (typed_act t v)
-      (subst (λ (a : Act). Wrote Broken wrote now a.writes) is (subst (Wrote Broken wrote now) (sym (append-nil (on_wire text))) written)) refl refl
+      (subst (λ (a : Act). Wrote Broken wrote now a.writes) is
+      (subst (Wrote Broken wrote now) (sym (append-nil (on_wire text))) written)) refl refl

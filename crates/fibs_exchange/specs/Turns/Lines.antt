@@ -1,5 +1,5 @@
 -- What is done for a line of the server.
-use Rattle.std.specs.Prelude.{◌++◌, ℕ, List, [], ◌∷◌, codes, Option, Some, None, if◌then◌else◌}
+use Rattle.std.specs.Prelude.{◌++◌, ℕ, Bool, List, [], ◌∷◌, codes, Option, Some, None, if◌then◌else◌}
 use Rattle.fibs_lines.specs.Lines.{ReadLine}
 use Rattle.fibs_messages.specs.Message.{MessageValue}
 use Rattle.fibs_messages.specs.Line.{ReadingValue, numbered_line, board_line, text_line, malformed_line}
@@ -38,6 +38,10 @@ abbrev pub confirmed_lines : Option Ask → List (List ℕ)
 confirmed_lines None = []
 confirmed_lines (Some ask) = (codes "confirmed " ++ asked_text ask) ∷ []
 
+-- and where it makes a standing order due, that `roll` was sent
+abbrev pub rolled_lines : Bool → List (List ℕ)
+rolled_lines rolled = if rolled then codes "sent roll" ∷ [] else []
+
 -- the directory is told each message
 abbrev pub messages_in : ReadingValue → List MessageValue
 messages_in (numbered_line m) = m ∷ []
@@ -45,23 +49,24 @@ messages_in (board_line b) = []
 messages_in (text_line text) = []
 messages_in (malformed_line number k f) = []
 
--- a line, its reading, the commands that it calls for, and the decision that it confirms
-abbrev pub heard_act : ReadLine → ReadingValue → List (List ℕ) → Option Ask → Act
-heard_act line r send confirmed = record {
+-- a line, its reading, the commands that it calls for, the decision that it confirms, and whether it makes a standing
+-- order due
+abbrev pub heard_act : ReadLine → ReadingValue → List (List ℕ) → Option Ask → Bool → Act
+heard_act line r send confirmed rolled = record {
   writes = wire_of send;
-  prints = heard_text line r ∷ (phase_lines r ++ confirmed_lines confirmed);
+  prints = heard_text line r ∷ (phase_lines r ++ (confirmed_lines confirmed ++ rolled_lines rolled));
   notes = messages_in r;
 }
 
 -- the same of what the client has taken
 abbrev pub taken_act : TakenValue → Act
-taken_act t = heard_act t.line t.reading t.send t.confirmed
+taken_act t = heard_act t.line t.reading t.send t.confirmed t.rolled
 
 -- what a line calls for, by the history before it
 abbrev pub line_act : List Entry → ReadLine → Act
 line_act log line =
     let h = heard (open_now log) log (line_reading line) in
-    heard_act line (line_reading line) h.send h.confirmed
+    heard_act line (line_reading line) h.send h.confirmed h.rolled
 
 -- and each of several lines, by the history before it
 abbrev pub line_acts : List Entry → List ReadLine → List Act

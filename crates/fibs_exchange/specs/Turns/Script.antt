@@ -79,6 +79,16 @@ pub record Did (a b : Outside) (script : List Act) (p : Progress) : Type 0 where
   pub printed : Appends a.printed b.printed (prints_of done)
   pub noted : Notes a.players b.players (notes_of done)
 
+-- the commands of a script were written, each act's whole, up to the last act where a write failed: of its commands a
+-- part was written
+pub record Called (wrote now : Option (List ℕ)) (script : List Act) (p : Progress) : Type 0 where
+  pub done : List Act
+  pub hand : List Act
+  pub part : List ℕ
+  pub acts : script ≡ done ++ hand
+  pub in_hand : InHand p hand part
+  pub calls : Appends wrote now (calls_of done ++ part)
+
 -- the known bytes behind a `&mut` that may be absent, as the call begins
 abbrev pub known_before : {S : Type 0} → (S → Option (List ℕ)) → Option (MutBor S) → Option (List ℕ)
 known_before contents None = None

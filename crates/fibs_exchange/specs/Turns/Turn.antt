@@ -1,6 +1,6 @@
 -- One turn of a client with its stream: the typed line, the lines that are heard, and the end of the connection.
 use Rattle.std.specs.Prelude.{◌≡◌, ◌≢◌, ◌<◌, ◌≤◌, ◌*◌, ℕ, Bool, true, false, List, [], ◌∷◌, ◌++◌, length, take}
-use Rattle.std.specs.Prelude.{Option, Some, None, option_map, ◌⊎◌}
+use Rattle.std.specs.Prelude.{Option, Some, None, option_map}
 use Rattle.std.specs.Borrow.{Bor}
 use Rattle.std.specs.Io.KnownBytes.{Appends, Consumes}
 use Rattle.fibs_lines.specs.Lines.{lines_of}
@@ -14,8 +14,7 @@ use Rattle.fibs_show.specs.Writing.{Progress, Whole, Broken}
 use Rattle.fibs_exchange.specs.Turns.Acts.{Act, only_print, lost_line}
 use Rattle.fibs_exchange.specs.Turns.Lines.{piece_acts}
 use Rattle.fibs_exchange.specs.Turns.Typing.{talk_after, typed_acts}
-use Rattle.fibs_exchange.specs.Turns.Script.{Outside, Did, calls_of}
-use Rattle.fibs_show.specs.Writing.{Wrote}
+use Rattle.fibs_exchange.specs.Turns.Script.{Outside, Did, Called, calls_of}
 
 abbrev pub bytes_of : Option (Bor (List ℕ)) → Option (List ℕ)
 bytes_of None = None
@@ -74,26 +73,31 @@ pub record Ended (p : Progress) (t : Talk) (new : ClientValue) (a b : Outside) (
 
 -- ---- all of it
 
--- the same where the command of the typed line may have failed: then nothing is fed
-abbrev pub ReadExtent : Progress → List ℕ → List ℕ → List ℕ → Type 0
-ReadExtent Whole stream fed rest = rest ≡ []
-ReadExtent Broken stream fed rest = EndsALine stream fed
-
--- a client that stood after t made the typed call, then it was fed the bytes that were read, and then it lost its
--- connection where it is lost; what that calls for was done, in this order
-pub record Turned (t : Talk) (new : ClientValue) (typed left still : Option (List ℕ)) (a b : Outside) (e : Ending)
-    : Type 0 where
+-- what a turn takes in: the bytes that were read, and the front of them that was fed
+pub record Intake (left still : Option (List ℕ)) : Type 0 where
   pub read : List ℕ
   pub took : Consumes left still read
   pub fed : List ℕ
   pub rest : List ℕ
   pub cut : read ≡ fed ++ rest
+
+-- all is fed; after a failed write just up to the end of the line whose command failed, and nothing where that of the
+-- typed line failed
+abbrev pub IntakeExtent : Progress → List ℕ → List ℕ → List ℕ → Type 0
+IntakeExtent Whole stream fed rest = rest ≡ []
+IntakeExtent Broken stream fed rest = EndsALine stream fed
+
+-- a client that stood after t made the typed call, then it was fed the bytes that were read, and then it lost its
+-- connection where it is lost; what that calls for was done, in this order
+pub record Turned (t : Talk) (new : ClientValue) (typed left still : Option (List ℕ)) (a b : Outside) (e : Ending)
+    : Type 0 where
+  pub intake : Intake left still
   pub progress : Progress
-  pub extent : ReadExtent progress t.stream fed rest
+  pub extent : IntakeExtent progress t.stream intake.fed intake.rest
   pub mid : Outside
-  pub did : Did a mid (typed_acts t typed ++ piece_acts (talk_after t typed) fed) progress
-  pub ended : Ended progress (step (talk_after t typed) (Piece fed)).talk new mid b e
-  pub offline : is_online t ≡ false → read ≡ []
+  pub did : Did a mid (typed_acts t typed ++ piece_acts (talk_after t typed) intake.fed) progress
+  pub ended : Ended progress (step (talk_after t typed) (Piece intake.fed)).talk new mid b e
+  pub offline : is_online t ≡ false → intake.read ≡ []
   pub quiet : is_online t ≡ false → e ≡ Quiet
 
 -- ---- a print that fails
@@ -107,27 +111,19 @@ pub record FedToALine (t : Talk) (new : ClientValue) (bytes : List ℕ) (wrote n
   pub calls : Appends wrote now (calls_of (piece_acts t fed))
   pub stands : StandsAfter new (step t (Piece fed)).talk
 
--- no byte is left, or those that were fed end a line
-abbrev pub FedInLines : List ℕ → List ℕ → List ℕ → Type 0
-FedInLines stream fed rest = (rest ≡ []) ⊎ (EndsALine stream fed × (0 < length fed))
-
--- how the client that stood after t stands where a print failed. It lost its connection only where all is fed, or a
--- write had failed before
-abbrev pub StopsAs : Progress → List ℕ → List ℕ → List ℕ → Talk → ClientValue → Type 0
-StopsAs p stream fed rest t new =
-    ((p ≡ Whole) × FedInLines stream fed rest × StandsAfter new t)
-    ⊎ (ReadExtent p stream fed rest × StandsAfter new (step t Lose).talk)
+-- what is not printed: the answer to the typed line or a line that was heard, up to whose end all is fed, and every
+-- write went well; or the end of the connection
+pub data StopsAt (p : Progress) (stream fed rest : List ℕ) (t : Talk) (new : ClientValue) : Type 0 where
+  all_fed : p ≡ Whole → rest ≡ [] → StandsAfter new t → StopsAt p stream fed rest t new
+  line_fed : p ≡ Whole → EndsALine stream fed → 0 < length fed → StandsAfter new t → StopsAt p stream fed rest t new
+  lost : IntakeExtent p stream fed rest → StandsAfter new (step t Lose).talk → StopsAt p stream fed rest t new
 
 -- the client is as after its last finished call: one that stood after t made the typed call, then it was fed the bytes
 -- that were read, all or up to the end of a line, and then it may have lost its connection. The commands of these calls
--- were written
+-- were written, where a write failed all but a part of the last
 pub record Stopped (t : Talk) (new : ClientValue) (typed left still wrote now : Option (List ℕ)) : Type 0 where
-  pub read : List ℕ
-  pub took : Consumes left still read
-  pub fed : List ℕ
-  pub rest : List ℕ
-  pub cut : read ≡ fed ++ rest
+  pub intake : Intake left still
   pub progress : Progress
-  pub calls : Wrote progress wrote now (calls_of (typed_acts t typed ++ piece_acts (talk_after t typed) fed))
-  pub stands : StopsAs progress t.stream fed rest (step (talk_after t typed) (Piece fed)).talk new
-  pub offline : is_online t ≡ false → read ≡ []
+  pub calls : Called wrote now (typed_acts t typed ++ piece_acts (talk_after t typed) intake.fed) progress
+  pub stands : StopsAt progress t.stream intake.fed intake.rest (step (talk_after t typed) (Piece intake.fed)).talk new
+  pub offline : is_online t ≡ false → intake.read ≡ []

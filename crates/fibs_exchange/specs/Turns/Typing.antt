@@ -1,5 +1,6 @@
 -- What is done for a line that the user types.
-use Rattle.std.specs.Prelude.{◌++◌, ℕ, List, [], ◌∷◌, codes, Option, Some, None, option_map}
+use Rattle.std.specs.Prelude.{◌++◌, ℕ, List, [], ◌∷◌, codes, cond, Option, Some, None, option_map}
+use Rattle.std.specs.Str.{bytes_eq}
 use Rattle.std.specs.Fmt.{decimal}
 use Rattle.fibs_boards.specs.Board.{BoardFields}
 use Rattle.fibs_position.specs.DecisionValue.{DecisionValue}
@@ -11,23 +12,31 @@ use Rattle.fibs_session.specs.declared.refusal.Refusal.{Refusal}
 use Rattle.fibs_session.specs.declared.refusal.PlainRefusal.{PlainRefusal}
 use Rattle.fibs_session.specs.declared.refusal.PlainRefusal.TheVariants as P
 use Rattle.fibs_session.specs.History.Machine.{Talk, Step, Click, PlainInput, step, stays, shown_now, answer_now}
-use Rattle.fibs_session.specs.History.Machine.{plain_refusal}
+use Rattle.fibs_session.specs.History.Machine.{plain_refusal, Order, Withdraw, order_refusal, withdraw_refusal}
 use Rattle.fibs_session.specs.History.Refusals.{refusal_number, refusal_name, plain_refusal_number, plain_refusal_name}
 use Rattle.fibs_commands.specs.CommandReading.{read_command}
 use Rattle.fibs_commands.specs.PlainReading.{read_plain}
 use Rattle.fibs_exchange.specs.Turns.Acts.{Act, only_print, answer_act}
 
--- what was typed: a decision, a plain command, or neither
+-- what was typed: a decision, a plain command, a standing order to roll, its withdrawal, or none of these
 pub data TypedValue : Type 0 where
   typed_decision : DecisionValue → TypedValue
   typed_plain : PlainValue → TypedValue
-  typed_neither : TypedValue
+  typed_order : TypedValue
+  typed_withdrawal : TypedValue
+  typed_none : TypedValue
 
--- a line that is both is a decision
-abbrev pub typed_as : Option DecisionValue → Option PlainValue → TypedValue
-typed_as (Some d) p = typed_decision d
-typed_as None (Some p) = typed_plain p
-typed_as None None = typed_neither
+-- a standing order is given, and withdrawn, by these words
+abbrev pub order_in : List ℕ → TypedValue
+order_in text =
+    cond (bytes_eq text (codes "order roll")) typed_order
+    (cond (bytes_eq text (codes "withdraw roll")) typed_withdrawal typed_none)
+
+-- a line is tried as a decision, then as a plain command, then as a standing order
+abbrev pub typed_as : Option DecisionValue → Option PlainValue → TypedValue → TypedValue
+typed_as (Some d) p order = typed_decision d
+typed_as None (Some p) order = typed_plain p
+typed_as None None order = order
 
 -- plays are typed in the numbers of the board that is shown
 abbrev pub shown_direction : Option BoardFields → Direction
@@ -35,7 +44,7 @@ shown_direction None = Down
 shown_direction (Some b) = direction_of b
 
 abbrev pub typed_now : Talk → List ℕ → TypedValue
-typed_now t text = typed_as (read_command (shown_direction (shown_now t)) text) (read_plain text)
+typed_now t text = typed_as (read_command (shown_direction (shown_now t)) text) (read_plain text) (order_in text)
 
 -- the lines that say why nothing is sent
 
@@ -54,17 +63,27 @@ plain_label (P.Fault fault) = codes "fault "
 abbrev pub plain_line : PlainRefusal → List ℕ
 plain_line why = reason_line (plain_label why) (plain_refusal_number why) (plain_refusal_name why)
 
+-- a standing order is answered by a word, or by why it is refused
+abbrev pub order_line : List ℕ → Option Refusal → List ℕ
+order_line word None = word
+order_line word (Some why) = refused_line why
+
 -- what the client does with it
 abbrev pub typed_step : Talk → TypedValue → Step
 typed_step t (typed_decision d) = step t (Click d)
 typed_step t (typed_plain p) = step t (PlainInput p)
-typed_step t typed_neither = stays t
+typed_step t typed_order = step t Order
+typed_step t typed_withdrawal = step t Withdraw
+typed_step t typed_none = stays t
 
--- what it calls for: the command is written and then printed as sent, or it is said why not
+-- what it calls for: the command is written and then printed as sent, or it is said why not. A standing order sends
+-- nothing by itself
 abbrev pub typed_act : Talk → TypedValue → Act
 typed_act t (typed_decision d) = answer_act (option_map refused_line (answer_now t d)) (step t (Click d)).send
 typed_act t (typed_plain p) = answer_act (option_map plain_line (plain_refusal t p)) (step t (PlainInput p)).send
-typed_act t typed_neither = only_print (codes "unknown")
+typed_act t typed_order = only_print (order_line (codes "ordered") (order_refusal t.log))
+typed_act t typed_withdrawal = only_print (order_line (codes "withdrawn") (withdraw_refusal t.log))
+typed_act t typed_none = only_print (codes "unknown")
 
 -- the same of a line that may have been typed
 

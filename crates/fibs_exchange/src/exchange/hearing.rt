@@ -1,95 +1,72 @@
 //! Lines of the server are heard.
-ghost use Rattle.std.specs.Prelude.{◌≡◌, ◌++◌, ◌∷◌, [], List, Option, Some, None, if◌then◌else◌, option_map};
+ghost use Rattle.std.specs.Prelude.{◌≡◌, ◌++◌, ◌∷◌, [], List, Option, Some, None, option_map};
 ghost use Rattle.std.specs.Prelude.{OnOk};
 ghost use Rattle.fibs_exchange.specs.Turns.Answering.{IfPrinted, IfUnprinted};
 ghost use Rattle.std.specs.Io.KnownBytes.{Appends, Keeps};
 ghost use Rattle.fibs_lines.specs.Lines.{value_of};
 ghost use Rattle.fibs_messages.specs.Line.{reading_of};
-ghost use Rattle.fibs_messages.specs.Line.{malformed_line};
-ghost use Rattle.fibs_show.specs.Show.{reading_text};
-ghost use Rattle.fibs_boards.specs.StoredBoard.{fields_of};
-ghost use Rattle.fibs_position.specs.GoodBoard.{good};
-ghost use Rattle.fibs_position.specs.Phases.{phase_of};
 ghost use Rattle.fibs_session.specs.History.Machine.{Talk};
 ghost use Rattle.fibs_session.specs.Calls.SessionOf.{ask_of, taken_of};
 ghost use Rattle.fibs_session.specs.Calls.Standing.{StandsAfter};
 ghost use Rattle.fibs_exchange.specs.Turns.Acts.{line_bytes, text_of_lines};
 ghost use Rattle.fibs_exchange.specs.Turns.Lines.{said_text, heard_text, phase_lines, confirmed_lines, messages_in};
-ghost use Rattle.fibs_exchange.specs.Turns.Lines.{taken_act};
+ghost use Rattle.fibs_exchange.specs.Turns.Lines.{rolled_lines, taken_act};
 ghost use Rattle.fibs_exchange.specs.Turns.Script.{Did, Notes, outside, directory_lines, noted_unless};
 ghost use Rattle.fibs_exchange.specs.Turns.Turn.{Talked, FedToALine};
 ghost use Rattle.fibs_directory.specs.declared.fault.DirectoryFault.{DirectoryFault};
 
 use super::ExchangeFault;
 use super::link::Link;
-use super::printing::{
-    asked_command, print, print_labelled, print_line, print_number, print_reason,
-};
+use super::printing::{HeardText, append_labelled, asked_command, print, print_line, print_reason};
 use super::sending::{send_commands, text_bytes};
 use super::turn_fault::TurnFault;
-use fibs_messages::{Board, Fault, Reading};
-use fibs_position::{Phase, Position};
+use fibs_messages::Reading;
+use fibs_position::phase_of;
 use fibs_session::{Client, Directory, Outstanding, Taken};
+use fibs_show::printing::malformed::malformed_text;
 use std::io::Write;
 
-/// Prints what is wrong with a line.
-fn print_malformed<W: Write>(
-    number: u8,
-    field: usize,
-    fault: Fault,
-    out: &mut W,
-) -> Result<(), ExchangeFault>
-    ensures { OnOk result (Appends (W.contents out.old) (W.contents out.new)
-        (reading_text (malformed_line number field fault))) }
-{
-    print(b"malformed ", out)?;
-    print_number(number, out)?;
-    print(b" ", out)?;
-    print_number(field, out)?;
-    print(b" ", out)?;
-    print(fault.name().as_bytes(), out)
-}
-
-/// Prints a whole line: a message as it was spelled.
-fn print_said<W: Write>(
+/// Appends a whole line: a message as it was spelled.
+fn append_said(
     bytes: &[u8],
     reading: &Reading<'_>,
-    out: &mut W,
+    text: &mut HeardText,
 ) -> Result<(), ExchangeFault>
-    ensures { OnOk result (Appends (W.contents out.old) (W.contents out.new)
-        (said_text bytes.now (reading_of reading.now))) }
+    ensures { OnOk result (text.new.items ≡ text.old.items ++ said_text bytes.now (reading_of reading.now)) }
 {
     match reading {
-        Reading::Numbered(_) => print_labelled(b"message ", bytes, out),
-        Reading::Board(board) => print(board.print().as_slice(), out),
-        Reading::Text(text) => print_labelled(b"text ", text, out),
+        Reading::Numbered(_) => append_labelled(b"message ", bytes, text),
+        Reading::Board(board) => print(board.print().as_slice(), text),
+        Reading::Text(said) => append_labelled(b"text ", said, text),
         Reading::Malformed {
             number,
             field,
             fault,
-        } => print_malformed(*number, *field, *fault, out),
+        } => print(malformed_text(*number, *field, *fault).as_slice(), text),
     }
 }
 
-/// Prints a line: of one that was cut the kept bytes.
-fn print_kept<W: Write>(taken: &Taken<'_>, out: &mut W) -> Result<(), ExchangeFault>
-    ensures { OnOk result (Appends (W.contents out.old) (W.contents out.new)
-        (heard_text (value_of taken.now.line) (reading_of taken.now.reading))) }
+/// Appends a line: of one that was cut the kept bytes.
+fn append_kept(taken: &Taken<'_>, text: &mut HeardText) -> Result<(), ExchangeFault>
+    ensures { OnOk result (text.new.items
+        ≡ text.old.items ++ heard_text (value_of taken.now.line) (reading_of taken.now.reading)) }
 {
     if taken.line.cut {
-        return print_labelled(b"cut ", taken.line.bytes, out);
+        return append_labelled(b"cut ", taken.line.bytes, text);
     }
-    print_said(taken.line.bytes, &taken.reading, out)
+    append_said(taken.line.bytes, &taken.reading, text)
 }
 
-/// The phase of a board that has a position.
-fn phase_of(board: &Board) -> Option<Phase>
-    ensures { result ≡ if good (fields_of board.now) then Some (phase_of (fields_of board.now)) else None }
+/// Prints a line. It is not inlined, since the room for the longest is cleared at each call.
+#[inline(never)]
+fn print_heard<W: Write>(taken: &Taken<'_>, out: &mut W) -> Result<(), ExchangeFault>
+    ensures { OnOk result (Appends (W.contents out.old) (W.contents out.new)
+        (line_bytes (heard_text (value_of taken.now.line) (reading_of taken.now.reading)))) }
 {
-    match Position::of(board) {
-        Ok(position) => Some(position.phase()),
-        Err(_) => None,
-    }
+    let mut text = HeardText::new();
+    append_kept(taken, &mut text)?;
+    print(b"\n", &mut text)?;
+    print(text.as_slice(), out)
 }
 
 /// Prints the phase of a good board.
@@ -120,15 +97,25 @@ fn print_confirmed<W: Write>(
     }
 }
 
+/// Prints that a standing order sent its `roll`.
+fn print_rolled<W: Write>(rolled: bool, out: &mut W) -> Result<(), ExchangeFault>
+    ensures { OnOk result (Appends (W.contents out.old) (W.contents out.new) (text_of_lines (rolled_lines rolled))) }
+{
+    if rolled {
+        return print_line(b"sent roll", b"", out);
+    }
+    Ok(())
+}
+
 /// Prints what a line calls for.
 fn print_taken<W: Write>(taken: &Taken<'_>, out: &mut W) -> Result<(), ExchangeFault>
     ensures { OnOk result (Appends (W.contents out.old) (W.contents out.new)
         (text_of_lines (taken_act (taken_of taken.now)).prints)) }
 {
-    print_kept(taken, out)?;
-    print(b"\n", out)?;
+    print_heard(taken, out)?;
     print_phase(&taken.reading, out)?;
-    print_confirmed(&taken.confirmed, out)
+    print_confirmed(&taken.confirmed, out)?;
+    print_rolled(taken.rolled, out)
 }
 
 /// Tells the directory a message, and prints why where it refuses.

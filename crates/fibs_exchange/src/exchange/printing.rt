@@ -1,8 +1,6 @@
-//! Lines are printed, with no memory taken.
-ghost use Rattle.std.specs.Prelude.{◌≡◌, ◌<◌, ◌+◌, ◌++◌, drop, length, OnOk, IfSome};
+//! Lines are printed, each by one write where the writer takes all of it, with no memory taken.
+ghost use Rattle.std.specs.Prelude.{◌≡◌, ◌≤◌, ◌+◌, ◌++◌, length, OnOk, IfSome};
 ghost use Rattle.std.specs.Io.KnownBytes.{Appends};
-ghost use Rattle.fibs_boards.specs.StoredBoard.{fields_of};
-ghost use Rattle.fibs_position.specs.DirectionOf.{direction_of};
 ghost use Rattle.fibs_commands.specs.TextOf.{text_of};
 ghost use Rattle.fibs_session.specs.Calls.SessionOf.{ask_of};
 ghost use Rattle.fibs_show.specs.Escape.{escaped};
@@ -10,45 +8,53 @@ ghost use Rattle.fibs_exchange.specs.Turns.Acts.{line_bytes, asked_text};
 ghost use Rattle.fibs_exchange.specs.Turns.Typing.{reason_line};
 
 use super::ExchangeFault;
-use fibs_messages::Board;
+use arrayvec::ArrayVec;
+use fibs_lines::LIMIT;
 use fibs_position::Direction;
 use fibs_session::{CommandText, Outstanding, decision_text};
-use fibs_show::printing::escape::{first_escaped, hex_escape};
-use itoa::{Buffer, Integer};
+use fibs_show::printing::escape::write_escaped;
+use fibs_show::printing::fixed::{append, append_number};
+use fibs_show::writing::write_bytes;
 use std::fmt::Display;
 use std::io::Write;
 
-/// The number of the field of a board that says which way the player goes.
-const DIRECTION_FIELD: usize = 43;
+/// How long a label and a text may be that make up a line.
+const PARTS_LEN: usize = 600;
 
-/// Prints bytes.
+/// A line in the program's own words, with its line end.
+type OwnLine = ArrayVec<u8, 640>;
+
+/// A line of the server as it is printed: behind `message ` each of its bytes may be escaped.
+pub(super) type HeardText = ArrayVec<u8, HEARD_LEN>;
+
+/// Room for the longest of these, and a line end.
+const HEARD_LEN: usize = 4 * LIMIT + 9;
+
+/// Prints bytes. After a failed write it makes no other.
 pub fn print<W: Write>(bytes: &[u8], out: &mut W) -> Result<(), ExchangeFault>
     ensures { OnOk result (Appends (W.contents out.old) (W.contents out.new) bytes.now) }
 {
-    out.write_all(bytes).map_err(|_| ExchangeFault::Output)
-}
-
-/// Prints a number.
-pub fn print_number<I: Integer, W: Write>(number: I, out: &mut W) -> Result<(), ExchangeFault>
-    ensures { OnOk result (Appends (W.contents out.old) (W.contents out.new) (I.text number)) }
-{
-    print(Buffer::new().format(number).as_bytes(), out)
+    write_bytes(bytes, out)?;
+    Ok(())
 }
 
 /// Prints a line of a label and a text.
 pub fn print_line<W: Write>(label: &[u8], text: &[u8], out: &mut W) -> Result<(), ExchangeFault>
+    requires { length label.now + length text.now ≤ PARTS_LEN }
     ensures { OnOk result (Appends (W.contents out.old) (W.contents out.new) (line_bytes (label.now ++ text.now))) }
 {
-    print(label, out)?;
-    print(text, out)?;
-    print(b"\n", out)
+    let mut line = OwnLine::new();
+    append(&mut line, label);
+    append(&mut line, text);
+    line.push(b'\n');
+    print(line.as_slice(), out)
 }
 
-/// Prints the name that a value displays.
-fn print_name<T: Display + Drop, W: Write>(name: T, out: &mut W) -> Result<(), ExchangeFault>
-    ensures { OnOk result (IfSome (T.output name) (Appends (W.contents out.old) (W.contents out.new))) }
+/// Appends the name that a value displays.
+fn append_name<T: Display + Drop>(name: T, line: &mut OwnLine) -> Result<(), ExchangeFault>
+    ensures { OnOk result (IfSome (T.output name) (λ text. line.new.items ≡ line.old.items ++ text)) }
 {
-    out.write_fmt(name).map_err(|_| ExchangeFault::Output)
+    line.write_fmt(name).map_err(|_| ExchangeFault::Output)
 }
 
 /// Prints a line that says why something was not done: a label, and the number and the name of the reason.
@@ -58,63 +64,35 @@ pub fn print_reason<T: Display + Drop, W: Write>(
     name: T,
     out: &mut W,
 ) -> Result<(), ExchangeFault>
+    requires { length label.now ≤ PARTS_LEN }
     ensures { OnOk result (IfSome (T.output name) (λ text.
         Appends (W.contents out.old) (W.contents out.new) (line_bytes (reason_line label.now number text)))) }
 {
-    print(label, out)?;
-    print_number(number, out)?;
-    print(b" ", out)?;
-    print_name(name, out)?;
-    print(b"\n", out)
+    let mut line = OwnLine::new();
+    append(&mut line, label);
+    append_number(&mut line, number);
+    line.push(b' ');
+    append_name(name, &mut line)?;
+    print(b"\n", &mut line)?;
+    print(line.as_slice(), out)
 }
 
-/// What follows the byte at a place.
-fn after(bytes: &[u8], at: usize) -> &[u8]
-    requires { at < length bytes.now }
-    ensures { result.now ≡ drop (at + 1) bytes.now }
-{
-    &bytes[at + 1..]
-}
-
-/// Prints bytes, each that is not shown as it is by its escape.
-fn print_escaped<W: Write>(bytes: &[u8], out: &mut W) -> Result<(), ExchangeFault>
-    ensures { OnOk result (Appends (W.contents out.old) (W.contents out.new) (escaped bytes.now)) }
-{
-    let mut rest = bytes;
-    while let Some(at) = first_escaped(rest) {
-        print(&rest[..at], out)?;
-        print(&hex_escape(rest[at]), out)?;
-        rest = after(rest, at);
-    }
-    print(rest, out)
-}
-
-/// Prints a label, and bytes of any kind.
-pub(super) fn print_labelled<W: Write>(
+/// Appends a label, and bytes of any kind.
+pub(super) fn append_labelled(
     label: &[u8],
     bytes: &[u8],
-    out: &mut W,
+    text: &mut HeardText,
 ) -> Result<(), ExchangeFault>
-    ensures { OnOk result (Appends (W.contents out.old) (W.contents out.new) (label.now ++ escaped bytes.now)) }
+    ensures { OnOk result (text.new.items ≡ text.old.items ++ (label.now ++ escaped bytes.now)) }
 {
-    print(label, out)?;
-    print_escaped(bytes, out)
-}
-
-/// The direction of a board.
-pub fn direction_of(board: &Board) -> Direction
-    ensures { result ≡ direction_of (fields_of board.now) }
-{
-    if board.field(DIRECTION_FIELD) == -1 {
-        Direction::Down
-    } else {
-        Direction::Up
-    }
+    print(label, text)?;
+    write_escaped(bytes, text)?;
+    Ok(())
 }
 
 /// The command of a decision that was sent, in the numbers of the board that it was made on.
 pub(super) fn asked_command(asked: &Outstanding) -> CommandText
     ensures { text_of result ≡ asked_text (ask_of asked.now) }
 {
-    decision_text(&asked.decision, direction_of(&asked.board))
+    decision_text(&asked.decision, Direction::of(&asked.board))
 }

@@ -18,7 +18,7 @@ fn is_escaped(byte: u8) -> bool
 }
 
 /// Where the first byte stands that is not shown as it is.
-pub fn first_escaped(bytes: &[u8]) -> Option<usize>
+fn first_escaped(bytes: &[u8]) -> Option<usize>
     ensures { result ≡ position is_escaped bytes.now }
 {
     bytes.iter().position(|byte| is_escaped(*byte))
@@ -36,7 +36,7 @@ fn has_escaped(bytes: &[u8]) -> bool
 }
 
 /// The escape of a byte: `\x` and two hexadecimal digits.
-pub fn hex_escape(byte: u8) -> [u8; 4]
+fn hex_escape(byte: u8) -> [u8; 4]
     ensures { result ≡ hex_escape byte }
 {
     let high = HEX_DIGITS[usize::from(byte / 16)];

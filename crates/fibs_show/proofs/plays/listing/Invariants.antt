@@ -5,4 +5,5 @@ use Rattle.fibs_show.specs.Plays.{play_line}
 use Rattle.fibs_show.proofs.plays.listing.Given as goal
 
 abbrev pub invariant-loop-play : goal.invariant-loop-play
-invariant-loop-play l = l.text.items ≡ l.initial.text.items ++ flat_map (play_line l.direction) (map hops_of (take l.play-index l.plays))
+invariant-loop-play l = l.text.items ≡ l.initial.text.items ++ flat_map (play_line l.direction)
+    (map hops_of (take l.play-index l.plays))

@@ -9,7 +9,9 @@ pub returns : goal.returns
 returns c =
     let plays = c.in_ok-plays.plays.items in
     let direction = (position_value c.args.position.now).direction in
-    let same : listing c.phase.result c.direction.result (map hops_of c.as_slice.result.now) ≡ listing c.phase.result direction (map hops_of plays) =
+    let same : listing c.phase.result c.direction.result
+    (map hops_of c.as_slice.result.now) ≡ listing c.phase.result direction (map hops_of plays) =
     ap (λ d. listing c.phase.result d (map hops_of c.as_slice.result.now)) c.direction.ensures
     ∙ ap (λ l. listing c.phase.result direction (map hops_of l)) c.as_slice.ensures.value in
-    IfOk-weaker c.listing.result _ _ (λ text is. (c.phase.result, map hops_of plays, c.phase.ensures.first, c.in_ok-plays.ensures, is ∙ same)) c.listing.ensures
+    IfOk-weaker c.listing.result _ _ (λ text is.
+    (c.phase.result, map hops_of plays, c.phase.ensures.first, c.in_ok-plays.ensures, is ∙ same)) c.listing.ensures

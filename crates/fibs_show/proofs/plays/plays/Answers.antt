@@ -25,7 +25,8 @@ pub returns-in-Ok-clause-good_silent : goal.returns-in-Ok-clause-good_silent
 returns-in-Ok-clause-good_silent g c = λ b is good. Keeps-refl (g.E.Write.contents c.args.err.now)
 
 pub returns-in-Ok-clause-memory : goal.returns-in-Ok-clause-memory
-returns-in-Ok-clause-memory g c = λ failed. (c.print_plays.ensures.memory failed, Keeps-refl (g.E.Write.contents c.args.err.now))
+returns-in-Ok-clause-memory g c = λ failed.
+    (c.print_plays.ensures.memory failed, Keeps-refl (g.E.Write.contents c.args.err.now))
 
 pub returns-in-Ok-clause-refused : goal.returns-in-Ok-clause-refused
 returns-in-Ok-clause-refused g c = λ reading why is refusal.
@@ -46,11 +47,13 @@ returns-in-Err-clause-good_silent g c = λ b is good. absurd (c.in-Err.ensures.b
 
 pub returns-in-Err-clause-refused : goal.returns-in-Err-clause-refused
 returns-in-Err-clause-refused g c = λ reading why is refusal.
-    let text : c.as_slice.result.now ≡ why ++ 10 ∷ [] = c.as_slice.ensures.value ∙ c.in-Err.ensures.refused reading why is refusal in
+    let text : c.as_slice.result.now ≡ why ++ 10 ∷ [] = c.as_slice.ensures.value
+    ∙ c.in-Err.ensures.refused reading why is refusal in
     rw (← text) c.print_refusal.ensures
 
 pub returns-in-Err-clause-refused_silent : goal.returns-in-Err-clause-refused_silent
 returns-in-Err-clause-refused_silent g c = λ reading why is refusal. Keeps-refl (g.W.Write.contents c.args.out.now)
 
 pub returns-in-Err-clause-memory : goal.returns-in-Err-clause-memory
-returns-in-Err-clause-memory g c = λ failed. absurd (device_alone c.print_refusal.result _ _ c.print_refusal.ensures failed)
+returns-in-Err-clause-memory g c = λ failed. absurd
+    (device_alone c.print_refusal.result _ _ c.print_refusal.ensures failed)

@@ -25,4 +25,5 @@ returns-in-Err-clause-refused c = λ reading why is refusal.
     let told = subst (λ r. Refusal r why) (sym board) refusal in
     let first = (c.in-Err.ensures.fault told.0).1 told.1 in
     let same : c.in-Err.fault ≡ told.0 = cc in
-    c.no_position.ensures ∙ ap (λ f. (codes "position " ++ position_fault_name f) ++ 10 ∷ []) same ∙ ap (λ l. l ++ 10 ∷ []) (sym told.2)
+    c.no_position.ensures ∙ ap (λ f. (codes "position " ++ position_fault_name f) ++ 10 ∷ []) same
+    ∙ ap (λ l. l ++ 10 ∷ []) (sym told.2)

@@ -16,25 +16,30 @@ pub returns-in_err-send_commands-clause-did : goal.returns-in_err-send_commands-
 returns-in_err-send_commands-clause-did g c =
     at_stream c.from_residual.result _ c.from_residual.ensures.1
     (did_part _ _ (taken_act (taken_of c.args.taken.now))
-    (subst (λ l. Wrote Broken (g.S.Write.contents c.args.stream.now) (g.S.Write.contents c.send_commands.new.stream) (wire_of (texts_of l))) c.as_slice.ensures.value c.in_err-send_commands.ensures.wrote) refl refl)
+    (subst (λ l. Wrote Broken (g.S.Write.contents c.args.stream.now) (g.S.Write.contents c.send_commands.new.stream)
+    (wire_of (texts_of l))) c.as_slice.ensures.value c.in_err-send_commands.ensures.wrote) refl refl)
 
 pub returns-clause-did : goal.returns-clause-did
 returns-clause-did g c =
     let act = taken_act (taken_of c.args.taken.now) in
     let note = c.in_ok-note_taken.ensures in
     did_act _ _ act note.0
-    (subst (λ l. Wrote Whole (g.S.Write.contents c.args.stream.now) (g.S.Write.contents c.send_commands.new.stream) (wire_of (texts_of l))) c.as_slice.ensures.value c.in_ok-send_commands.ensures.wrote)
-    (Appends-trans _ _ _ (text_of_lines act.prints) (text_of_lines (directory_lines note.0)) c.in_ok-print_taken.ensures note.1) note.2
+    (subst (λ l. Wrote Whole (g.S.Write.contents c.args.stream.now) (g.S.Write.contents c.send_commands.new.stream)
+    (wire_of (texts_of l))) c.as_slice.ensures.value c.in_ok-send_commands.ensures.wrote)
+    (Appends-trans _ _ _ (text_of_lines act.prints)
+    (text_of_lines (directory_lines note.0)) c.in_ok-print_taken.ensures note.1) note.2
 
 pub returns-in_err-print_taken-clause-stopped : goal.returns-in_err-print_taken-clause-stopped
 returns-in_err-print_taken-clause-stopped g c =
     on_any_unprinted c.from_residual-in_err-print_taken.result
-    (subst (λ l. Appends (g.S.Write.contents c.args.stream.now) (g.S.Write.contents c.send_commands.new.stream) (wire_of (texts_of l))) c.as_slice.ensures.value c.in_ok-send_commands.ensures.wrote)
+    (subst (λ l. Appends (g.S.Write.contents c.args.stream.now) (g.S.Write.contents c.send_commands.new.stream)
+    (wire_of (texts_of l))) c.as_slice.ensures.value c.in_ok-send_commands.ensures.wrote)
 
 pub returns-in_err-note_taken-clause-stopped : goal.returns-in_err-note_taken-clause-stopped
 returns-in_err-note_taken-clause-stopped g c =
     on_any_unprinted c.from_residual-in_err-note_taken.result
-    (subst (λ l. Appends (g.S.Write.contents c.args.stream.now) (g.S.Write.contents c.send_commands.new.stream) (wire_of (texts_of l))) c.as_slice.ensures.value c.in_ok-send_commands.ensures.wrote)
+    (subst (λ l. Appends (g.S.Write.contents c.args.stream.now) (g.S.Write.contents c.send_commands.new.stream)
+    (wire_of (texts_of l))) c.as_slice.ensures.value c.in_ok-send_commands.ensures.wrote)
 
 pub returns-in_err-send_commands-clause-stopped : goal.returns-in_err-send_commands-clause-stopped
 returns-in_err-send_commands-clause-stopped g c = printed_at_stream c.from_residual.result

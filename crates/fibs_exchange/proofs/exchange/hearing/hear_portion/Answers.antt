@@ -28,8 +28,10 @@ loop-rest-init g c = ([], refl, λ t at. gone_nothing c.empty_piece_is_nothing.e
 pub returns-in_err-hear_line-in-Some-clause-talked : goal.returns-in_err-hear_line-in-Some-clause-talked
 returns-in_err-hear_line-in-Some-clause-talked g c =
     printed_on c.from_residual.result
-    (λ p. Did (outside (g.S.Write.contents c.loop-rest.stream) (g.W.Write.contents c.loop-rest.out) c.loop-rest.directory)
-    (outside (g.S.Write.contents c.hear_line.new.stream) (g.W.Write.contents c.hear_line.new.out) c.hear_line.new.directory)
+    (λ p. Did (outside (g.S.Write.contents c.loop-rest.stream)
+    (g.W.Write.contents c.loop-rest.out) c.loop-rest.directory)
+    (outside (g.S.Write.contents c.hear_line.new.stream)
+    (g.W.Write.contents c.hear_line.new.out) c.hear_line.new.directory)
     (taken_act (taken_of c.in-Some.taken) ∷ []) p) _ _ c.from_residual.ensures.1
     (λ did t at.
     let i = c.loop-rest.invariant in
@@ -38,13 +40,18 @@ returns-in_err-hear_line-in-Some-clause-talked g c =
     let k = taken_of c.in-Some.taken in
     let gone = i.2 t at in
     let u = (step t (Piece i.0)).talk in
-    let shown = subst (λ x. Shows c.read-heard.new.self c.read-heard.result (option_map taken_of x)) c.in-Some.is (c.got-got.ensures.shows c.read-heard.ensures.keeps) in
+    let shown = subst (λ x. Shows c.read-heard.new.self c.read-heard.result (option_map taken_of x)) c.in-Some.is
+    (c.got-got.ensures.shows c.read-heard.ensures.keeps) in
     let fed : FeedAnswers c.loop-rest.client rest used (Some k) = c.read-heard.ensures.answers (Some k) shown in
-    broke_at c.pieces_join.ensures c.lines_only_grow.ensures t c.read-heard.new.self i.0 (take used rest) (drop used rest) c.args.portion.now (taken_act k ∷ []) _ _ _
-    (front_more c.args.portion.now i.0 rest used i.1) (sym (piece_online t i.0) ∙ taken_online c.loop-rest.client rest used k fed u gone.stands) gone.did
-    (c.read-heard.ensures.does.stands u gone.stands) (acts_taken c.loop-rest.client rest used (Some k) fed u gone.stands)
+    broke_at c.pieces_join.ensures c.lines_only_grow.ensures t c.read-heard.new.self i.0 (take used rest)
+    (drop used rest) c.args.portion.now (taken_act k ∷ []) _ _ _
+    (front_more c.args.portion.now i.0 rest used i.1)
+    (sym (piece_online t i.0) ∙ taken_online c.loop-rest.client rest used k fed u gone.stands) gone.did
+    (c.read-heard.ensures.does.stands u gone.stands)
+    (acts_taken c.loop-rest.client rest used (Some k) fed u gone.stands)
     (ends_taken c.loop-rest.client rest used k fed c.read-heard.ensures.in_range u gone.stands)
-    (long used rest (c.read-heard.ensures.progress (grind (arith, c.is_empty.ensures, c.loop-rest-test.true))) c.read-heard.ensures.in_range)
+    (long used rest (c.read-heard.ensures.progress
+    (grind (arith, c.is_empty.ensures, c.loop-rest-test.true))) c.read-heard.ensures.in_range)
     did) c.in_err-hear_line-in-Some.ensures.did
 
 pub returns-in_err-hear_line-in-Some-clause-stopped : goal.returns-in_err-hear_line-in-Some-clause-stopped
@@ -72,7 +79,8 @@ returns-in_err-hear_line-in-Some-clause-stopped g c =
     (c.read-heard.ensures.does.stands u gone.stands)
     (ends_taken c.loop-rest.client rest used k fed c.read-heard.ensures.in_range u gone.stands)
     (long used rest (c.read-heard.ensures.progress (grind (arith, c.is_empty.ensures, c.loop-rest-test.true)))
-    c.read-heard.ensures.in_range) (subst (Appends before after) calls wrote)) c.in_err-hear_line-in-Some.ensures.stopped
+    c.read-heard.ensures.in_range) (subst (Appends before after) calls wrote))
+    c.in_err-hear_line-in-Some.ensures.stopped
 
 pub loop-rest-preserved : goal.loop-rest-preserved
 loop-rest-preserved g c =
@@ -83,23 +91,30 @@ loop-rest-preserved g c =
     let taken = option_map taken_of c.got-got.result.taken in
     let shown = c.got-got.ensures.shows c.read-heard.ensures.keeps in
     let fed : FeedAnswers c.loop-rest.client rest h taken = c.read-heard.ensures.answers taken shown in
-    let before = outside (g.S.Write.contents c.loop-rest.stream) (g.W.Write.contents c.loop-rest.out) c.loop-rest.directory in
-    let now = outside (g.S.Write.contents c.match-got.stream) (g.W.Write.contents c.match-got.out) c.match-got.directory in
+    let before = outside (g.S.Write.contents c.loop-rest.stream)
+    (g.W.Write.contents c.loop-rest.out) c.loop-rest.directory in
+    let now = outside (g.S.Write.contents c.match-got.stream)
+    (g.W.Write.contents c.match-got.out) c.match-got.directory in
     let did : Did before now (taken_acts taken) Whole = elim c.match-got.branch [
-      | in-Some+in_ok-hear_line-in-Some w ↦ rw (w.directory-is, w.stream-is, w.out-is, w.in-Some.is) w.in_ok-hear_line-in-Some.ensures.did
+      | in-Some+in_ok-hear_line-in-Some w ↦ rw
+          (w.directory-is, w.stream-is, w.out-is, w.in-Some.is) w.in_ok-hear_line-in-Some.ensures.did
       | in-None w ↦ rw (w.directory-is, w.stream-is, w.out-is, w.in-None.is) (did_nothing _)
     ] in
-    let apart : Keeps (g.S.Read.remaining c.loop-rest.stream) (g.S.Read.remaining c.match-got.stream) = elim c.match-got.branch [
+    let apart : Keeps (g.S.Read.remaining c.loop-rest.stream) (g.S.Read.remaining c.match-got.stream) =
+    elim c.match-got.branch [
       | in-Some+in_ok-hear_line-in-Some w ↦ rw w.stream-is w.hear_line.ensures.apart
       | in-None w ↦ rw w.stream-is (Keeps-refl _)
     ] in (
       i.0 ++ take used rest,
-      front_more c.args.portion.now i.0 rest used i.1 ∙ ap (λ l. i.0 ++ take used rest ++ l) (sym (take_rest rest used)),
+      front_more c.args.portion.now i.0 rest used i.1
+          ∙ ap (λ l. i.0 ++ take used rest ++ l) (sym (take_rest rest used)),
       λ t at.
           let gone = i.2 t at in
           let u = (step t (Piece i.0)).talk in
           rw c.got-got.ensures.used
-          (gone_more c.pieces_join.ensures c.lines_only_grow.ensures t c.read-heard.new.self i.0 (take h rest) (taken_acts taken) _ before now gone.did
-          (c.read-heard.ensures.does.stands u gone.stands) (acts_taken c.loop-rest.client rest h taken fed u gone.stands) did),
+          (gone_more c.pieces_join.ensures c.lines_only_grow.ensures t c.read-heard.new.self i.0 (take h rest)
+          (taken_acts taken) _ before now gone.did
+          (c.read-heard.ensures.does.stands u gone.stands)
+          (acts_taken c.loop-rest.client rest h taken fed u gone.stands) did),
       Keeps-trans _ _ _ i.3 apart,
     )

@@ -10,12 +10,14 @@ use Rattle.fibs_exchange.proofs.exchange.hearing.note_taken.Goals as goal
 
 pub returns-in-Err : goal.returns-in-Err
 returns-in-Err g c =
-    let text = ap (λ n. line_bytes (reason_line (codes "directory ") n (directory_fault_name c.in-Err.fault))) c.number.ensures ∙ sym (append-nil _) in
+    let text = ap (λ n. line_bytes (reason_line (codes "directory ") n
+    (directory_fault_name c.in-Err.fault))) c.number.ensures ∙ sym (append-nil _) in
     on_ok_weaker c.print_reason.result
     (λ h. (
       Some c.in-Err.fault,
       subst (Appends (g.W.Write.contents c.args.out.now) (g.W.Write.contents c.print_reason.new.out)) text h,
-      λ before is. subst (IsDirectory (before ++ [])) (sym c.in-Err.ensures.unchanged) (subst (λ ms. IsDirectory ms c.args.directory.now) (sym (append-nil before)) is),
+      λ before is. subst (IsDirectory (before ++ [])) (sym c.in-Err.ensures.unchanged)
+          (subst (λ ms. IsDirectory ms c.args.directory.now) (sym (append-nil before)) is),
     )) c.print_reason.ensures
 
 pub returns-in-Ok : goal.returns-in-Ok

@@ -15,7 +15,8 @@ loop-rest-preserved g c =
     let rest = c.loop-rest.rest.now in
     let count = c.in-Ok.count in (
       front ++ take count rest,
-      front_more c.args.bytes.now front rest count c.loop-rest.invariant.1 ∙ ap (λ l. front ++ take count rest ++ l) (sym (take_rest rest count)),
+      front_more c.args.bytes.now front rest count c.loop-rest.invariant.1
+          ∙ ap (λ l. front ++ take count rest ++ l) (sym (take_rest rest count)),
       Appends-trans _ _ _ front (take count rest) c.loop-rest.invariant.2 c.in-Ok.ensures.bytes,
       Keeps-trans _ _ _ c.loop-rest.invariant.3 c.transmit.ensures.apart,
     )
@@ -24,10 +25,13 @@ pub returns-in-Ok-eq0-clause-wrote : goal.returns-in-Ok-eq0-clause-wrote
 returns-in-Ok-eq0-clause-wrote g c =
     let mid = g.S.Write.contents c.loop-rest.stream in
     let now = g.S.Write.contents c.transmit.new.self in
-    let none : Appends mid now [] = subst (λ n. Appends mid now (take n c.loop-rest.rest.now)) c.in-Ok-eq0.field-0-test c.in-Ok-eq0.ensures.bytes in
-    took_nothing _ mid now _ c.loop-rest.invariant.0 c.loop-rest.rest.now c.loop-rest.invariant.1 c.loop-rest-test.ensures c.loop-rest.invariant.2 none
+    let none : Appends mid now [] = subst (λ n. Appends mid now
+    (take n c.loop-rest.rest.now)) c.in-Ok-eq0.field-0-test c.in-Ok-eq0.ensures.bytes in
+    took_nothing _ mid now _ c.loop-rest.invariant.0 c.loop-rest.rest.now c.loop-rest.invariant.1
+    c.loop-rest-test.ensures c.loop-rest.invariant.2 none
 
 pub returns-in-Err-clause-wrote : goal.returns-in-Err-clause-wrote
 returns-in-Err-clause-wrote g c =
-    failed_write _ (g.S.Write.contents c.loop-rest.stream) (g.S.Write.contents c.transmit.new.self) _ c.loop-rest.invariant.0 c.loop-rest.rest.now
+    failed_write _ (g.S.Write.contents c.loop-rest.stream)
+    (g.S.Write.contents c.transmit.new.self) _ c.loop-rest.invariant.0 c.loop-rest.rest.now
     c.loop-rest.invariant.1 c.loop-rest-test.ensures c.loop-rest.invariant.2 c.in-Err.ensures.bytes

@@ -6,20 +6,22 @@ use Rattle.fibs_show.specs.Writing.{Whole, Broken}
 use Rattle.fibs_exchange.specs.Turns.Acts.{Act, line_bytes}
 use Rattle.fibs_session.specs.History.Machine.{Talk, on_wire}
 use Rattle.fibs_session.specs.Calls.Standing.{StandsAfter}
-use Rattle.fibs_exchange.specs.Turns.Answering.{complaint_line}
+use Rattle.fibs_exchange.specs.Turns.Answering.{reply_line}
 use Rattle.fibs_exchange.specs.Turns.Typing.{typed_now, typed_act}
-use Rattle.fibs_exchange.proofs.TurnLemmas.Typed.{did_complaint, did_sent, did_unsent}
+use Rattle.fibs_exchange.proofs.TurnLemmas.Typed.{did_reply, did_sent, did_unsent}
 use Rattle.fibs_exchange.proofs.TurnLemmas.Faults.{at_stream, at_output, on_any_unprinted, printed_at_stream}
 use Rattle.fibs_exchange.proofs.exchange.typing.type_line.Goals as goal
 
-pub returns-in_ok-print_complaint-in-Complaint-clause-did : goal.returns-in_ok-print_complaint-in-Complaint-clause-did
-returns-in_ok-print_complaint-in-Complaint-clause-did g c = λ t at players.
-    did_complaint t (typed_now t c.args.text.now) (complaint_line c.in-Complaint.complaint) _ _ _ players (c.in-Complaint.ensures.act t at) (Appends-nil _) c.in_ok-print_complaint-in-Complaint.ensures
+pub returns-in_ok-print_reply-in-Said-clause-did : goal.returns-in_ok-print_reply-in-Said-clause-did
+returns-in_ok-print_reply-in-Said-clause-did g c = λ t at players.
+    did_reply t (typed_now t c.args.text.now) (reply_line c.in-Said.reply) _ _ _ players
+    (c.in-Said.ensures.act t at) (Appends-nil _) c.in_ok-print_reply-in-Said.ensures
 
 pub returns-in_err-send_command-in-Sent-clause-did : goal.returns-in_err-send_command-in-Sent-clause-did
 returns-in_err-send_command-in-Sent-clause-did g c =
     at_stream c.from_residual-in_err-send_command-in-Sent.result _ c.from_residual-in_err-send_command-in-Sent.ensures.1
-    (λ t at players. did_unsent t (typed_now t c.args.text.now) (text_of c.in-Sent.command) _ _ _ players (c.in-Sent.ensures.act t at)
+    (λ t at players. did_unsent t (typed_now t c.args.text.now) (text_of c.in-Sent.command) _ _ _ players
+    (c.in-Sent.ensures.act t at)
     c.in_err-send_command-in-Sent.ensures.wrote)
 
 pub returns-in_err-send_command-in-Sent-clause-stopped : goal.returns-in_err-send_command-in-Sent-clause-stopped
@@ -29,8 +31,9 @@ returns-in_err-send_command-in-Sent-clause-stopped g c =
     (g.S.Write.contents c.send_command.new.stream) (typed_act t (typed_now t c.args.text.now)).writes)
     c.from_residual-in_err-send_command-in-Sent.ensures.1
 
-pub returns-in_err-print_complaint-in-Complaint-clause-did : goal.returns-in_err-print_complaint-in-Complaint-clause-did
-returns-in_err-print_complaint-in-Complaint-clause-did g c = at_output c.from_residual.result _ c.from_residual.ensures.1
+pub returns-in_err-print_reply-in-Said-clause-did : goal.returns-in_err-print_reply-in-Said-clause-did
+returns-in_err-print_reply-in-Said-clause-did g c =
+    at_output c.from_residual.result _ c.from_residual.ensures.1
 
 pub returns-in_err-print_line-in-Sent-clause-did : goal.returns-in_err-print_line-in-Sent-clause-did
 returns-in_err-print_line-in-Sent-clause-did g c =
@@ -38,14 +41,17 @@ returns-in_err-print_line-in-Sent-clause-did g c =
 
 pub returns-in_ok-print_line-in-Sent-clause-did : goal.returns-in_ok-print_line-in-Sent-clause-did
 returns-in_ok-print_line-in-Sent-clause-did g c = λ t at players.
-    let printed = subst (λ l. Appends (g.W.Write.contents c.args.out.now) (g.W.Write.contents c.print_line.new.out) (line_bytes (codes "sent " ++ l))) c.text_bytes.ensures.value c.in_ok-print_line-in-Sent.ensures in
-    did_sent t (typed_now t c.args.text.now) (text_of c.in-Sent.command) _ _ _ _ players (c.in-Sent.ensures.act t at) c.in_ok-send_command-in-Sent.ensures.wrote printed
+    let printed = subst (λ l. Appends (g.W.Write.contents c.args.out.now) (g.W.Write.contents c.print_line.new.out)
+    (line_bytes (codes "sent " ++ l))) c.text_bytes.ensures.value c.in_ok-print_line-in-Sent.ensures in
+    did_sent t (typed_now t c.args.text.now) (text_of c.in-Sent.command) _ _ _ _ players
+    (c.in-Sent.ensures.act t at) c.in_ok-send_command-in-Sent.ensures.wrote printed
 
-pub returns-in_err-print_complaint-in-Complaint-clause-stopped : goal.returns-in_err-print_complaint-in-Complaint-clause-stopped
-returns-in_err-print_complaint-in-Complaint-clause-stopped g c =
+pub returns-in_err-print_reply-in-Said-clause-stopped :
+    goal.returns-in_err-print_reply-in-Said-clause-stopped
+returns-in_err-print_reply-in-Said-clause-stopped g c =
     let wrote = g.S.Write.contents c.args.stream.now in
     on_any_unprinted c.from_residual.result
-    (λ t at. subst (λ (a : Act). Appends wrote wrote a.writes) (c.in-Complaint.ensures.act t at) (Appends-nil wrote))
+    (λ t at. subst (λ (a : Act). Appends wrote wrote a.writes) (c.in-Said.ensures.act t at) (Appends-nil wrote))
 
 pub returns-in_err-print_line-in-Sent-clause-stopped : goal.returns-in_err-print_line-in-Sent-clause-stopped
 returns-in_err-print_line-in-Sent-clause-stopped g c =

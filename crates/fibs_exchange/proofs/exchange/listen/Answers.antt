@@ -1,19 +1,27 @@
-use Rattle.std.proofs.Common.{rules, ◌≡◌, ◌++◌, arith, length, ℕ, List, [], take, refl, sym, ap, subst, ◌∙◌, inl, inr}
+use Rattle.std.proofs.Common.{rules, ◌≡◌, ◌++◌, arith, length, ℕ, List, [], take, refl, sym, ap, subst, ◌∙◌}
 use Rattle.std.specs.Io.KnownBytes.{Consumes}
 use Rattle.std.proofs.KnownBytes.{Consumes-nil, Consumes-trans, Consumes-kept, Keeps-refl}
 use Rattle.fibs_session.specs.History.Machine.{Piece, step}
 use Rattle.fibs_exchange.specs.declared.exchange.Ending.TheVariants.{Quiet}
 use Rattle.fibs_show.specs.Writing.{Whole, Broken}
 use Rattle.fibs_exchange.specs.Turns.Script.{outside}
+use Rattle.fibs_exchange.specs.Turns.Turn.{all_fed, lost}
 use Rattle.fibs_exchange.proofs.TurnLemmas.Wrote.{if_ok_weaker, consumes_none}
-use Rattle.fibs_exchange.proofs.TurnLemmas.Turns.{gone_nothing, gone_kept, gone_portion, broke_portion, still_open, turned}
+use Rattle.fibs_exchange.proofs.TurnLemmas.Turns.{gone_nothing, gone_kept, gone_portion, broke_portion, still_open}
+use Rattle.fibs_exchange.proofs.TurnLemmas.Turns.{turned}
 use Rattle.fibs_exchange.proofs.TurnLemmas.Turns.{turned_whole}
 use Rattle.fibs_exchange.proofs.TurnLemmas.Reads.{more_read, few_reads, few_and_none, few_and_portion}
 use Rattle.fibs_exchange.proofs.TurnLemmas.Stops.{on_any_err, stopped_whole, stopped_broken, stopped_portion}
-use Rattle.fibs_exchange.proofs.exchange.listen_portions.Goals as goal
+use Rattle.fibs_exchange.proofs.exchange.listen.Goals as goal
 
 pub loop-made-init : goal.loop-made-init
-loop-made-init g c = ([], Consumes-nil _, (λ t at. gone_nothing c.empty_piece_is_nothing.ensures t _ _ at), omega arith, refl)
+loop-made-init g c = (
+  [],
+  Consumes-nil _,
+  (λ t at. gone_nothing c.empty_piece_is_nothing.ensures t _ _ at),
+  omega arith,
+  refl,
+)
 
 pub returns-in-Ok-eq0-clause-turned : goal.returns-in-Ok-eq0-clause-turned
 returns-in-Ok-eq0-clause-turned g c =
@@ -24,13 +32,16 @@ returns-in-Ok-eq0-clause-turned g c =
     if_ok_weaker c.end_connection.result
     (λ e h t at on.
     let gone = i.2 t at in
-    turned_whole e t _ _ _ _ i.0 _ _ _ on took (gone_kept t _ i.0 _ _ _ gone c.receive.ensures.apart c.flush.ensures.bytes refl) (h Whole (step t (Piece i.0)).talk gone.stands _ _)) c.end_connection.ensures.ended
+    turned_whole e t _ _ _ _ i.0 _ _ _ on took
+    (gone_kept t _ i.0 _ _ _ gone c.receive.ensures.apart c.flush.ensures.bytes refl)
+    (h Whole (step t (Piece i.0)).talk gone.stands _ _)) c.end_connection.ensures.ended
 
 pub returns-in-Err-clause-turned : goal.returns-in-Err-clause-turned
 returns-in-Err-clause-turned g c = λ t at on.
     let i = c.loop-made.invariant in
     let gone = gone_kept t _ i.0 _ _ _ (i.2 t at) c.receive.ensures.apart c.flush.ensures.bytes refl in
-    turned_whole Quiet t _ _ _ _ i.0 _ _ _ on (Consumes-kept _ _ _ i.0 i.1 c.in-Err.ensures.bytes) gone (still_open _ _ _ gone.stands)
+    turned_whole Quiet t _ _ _ _ i.0 _ _ _ on (Consumes-kept _ _ _ i.0 i.1 c.in-Err.ensures.bytes) gone
+    (still_open _ _ _ gone.stands)
 
 pub returns-in-Err-2-clause-turned : goal.returns-in-Err-2-clause-turned
 returns-in-Err-2-clause-turned g c =
@@ -39,19 +50,23 @@ returns-in-Err-2-clause-turned g c =
     (λ e h t at on.
     let gone = i.2 t at in
     turned_whole e t _ _ _ _ i.0 _ _ _ on (Consumes-kept _ _ _ i.0 i.1 c.in-Err-2.ensures.bytes)
-    (gone_kept t _ i.0 _ _ _ gone c.receive.ensures.apart c.flush.ensures.bytes refl) (h Whole (step t (Piece i.0)).talk gone.stands _ _))
+    (gone_kept t _ i.0 _ _ _ gone c.receive.ensures.apart c.flush.ensures.bytes refl)
+    (h Whole (step t (Piece i.0)).talk gone.stands _ _))
     c.end_connection-in-Err-2.ensures.ended
 
 pub returns-in-Err-Stream-clause-turned : goal.returns-in-Err-Stream-clause-turned
 returns-in-Err-Stream-clause-turned g c =
     let i = c.loop-made.invariant in
     let piece = take c.in-Ok.count c.receive.new.buf in
-    let took = Consumes-trans _ _ _ i.0 piece i.1 (Consumes-kept _ _ _ piece c.in-Ok.ensures.bytes.0 c.hear_portion.ensures.apart) in
+    let took = Consumes-trans _ _ _ i.0 piece i.1
+    (Consumes-kept _ _ _ piece c.in-Ok.ensures.bytes.0 c.hear_portion.ensures.apart) in
     if_ok_weaker c.end_connection-in-Err-Stream.result
     (λ e h t at on.
     let gone = gone_kept t _ i.0 _ _ _ (i.2 t at) c.receive.ensures.apart c.flush.ensures.bytes refl in
-    let talked = broke_portion c.pieces_join.ensures c.lines_only_grow.ensures t _ _ i.0 piece _ _ _ on gone ((rw c.in-Err-Stream.field-0-is at c.in-Err-Stream.ensures.talked) (step t (Piece i.0)).talk gone.stands) in
-    turned Broken e t _ _ _ _ (i.0 ++ piece) _ _ _ on took talked (h Broken (step t (Piece talked.fed)).talk talked.stands _ _)) c.end_connection-in-Err-Stream.ensures.ended
+    let talked = broke_portion c.pieces_join.ensures c.lines_only_grow.ensures t _ _ i.0 piece _ _ _ on gone
+    ((rw c.in-Err-Stream.field-0-is at c.in-Err-Stream.ensures.talked) (step t (Piece i.0)).talk gone.stands) in
+    turned Broken e t _ _ _ _ (i.0 ++ piece) _ _ _ on took talked
+    (h Broken (step t (Piece talked.fed)).talk talked.stands _ _)) c.end_connection-in-Err-Stream.ensures.ended
 
 pub loop-made-preserved : goal.loop-made-preserved
 loop-made-preserved g c =
@@ -59,10 +74,12 @@ loop-made-preserved g c =
     let piece = take c.in-Ok.count c.receive.new.buf in
     let whole : length c.receive.new.buf ≡ length c.loop-made.portion = search rules in (
       i.0 ++ piece,
-      Consumes-trans _ _ _ i.0 piece i.1 (Consumes-kept _ _ _ piece c.in-Ok.ensures.bytes.0 c.hear_portion.ensures.apart),
+      Consumes-trans _ _ _ i.0 piece i.1 (Consumes-kept _ _ _ piece c.in-Ok.ensures.bytes.0
+          c.hear_portion.ensures.apart),
       λ t at.
           let gone = gone_kept t _ i.0 _ _ _ (i.2 t at) c.receive.ensures.apart c.flush.ensures.bytes refl in
-          gone_portion c.pieces_join.ensures c.lines_only_grow.ensures t _ _ i.0 piece _ _ _ gone (c.in-Ok-hear_portion.ensures.talked (step t (Piece i.0)).talk gone.stands),
+          gone_portion c.pieces_join.ensures c.lines_only_grow.ensures t _ _ i.0 piece _ _ _ gone
+          (c.in-Ok-hear_portion.ensures.talked (step t (Piece i.0)).talk gone.stands),
       more_read _ _ i.0 c.in-Ok.count c.receive.new.buf i.3 (whole ∙ i.4),
       whole ∙ i.4,
     )
@@ -79,7 +96,7 @@ returns-in_err-map_err-clause-stopped g c =
     (λ t at on.
     let i = c.loop-made.invariant in
     let gone = i.2 t at in
-    stopped_whole t _ _ _ _ i.0 _ _ on i.1 gone (inl (refl, inl refl, gone.stands)))
+    stopped_whole t _ _ _ _ i.0 _ _ on i.1 gone (all_fed refl refl gone.stands))
 
 pub returns-in-Ok-eq0-clause-stopped : goal.returns-in-Ok-eq0-clause-stopped
 returns-in-Ok-eq0-clause-stopped g c =
@@ -87,23 +104,26 @@ returns-in-Ok-eq0-clause-stopped g c =
     let bytes = rw c.in-Ok-eq0.is at c.receive.ensures.bytes in
     let took : Consumes (g.S.Read.remaining c.args.stream.now) (g.S.Read.remaining c.receive.new.self) i.0 =
     consumes_none _ _ _ i.0 c.in-Ok-eq0.field-0 c.receive.new.buf i.1 bytes.0 c.in-Ok-eq0.field-0-test in
-    let here = outside (g.S.Write.contents c.receive.new.self) (g.W.Write.contents c.loop-made.out) c.loop-made.directory in
+    let here = outside (g.S.Write.contents c.receive.new.self)
+    (g.W.Write.contents c.loop-made.out) c.loop-made.directory in
     on_any_err c.end_connection.result
     (λ t at on.
     let gone = i.2 t at in
-    stopped_whole t _ _ _ _ i.0 _ here on took (gone_kept t _ i.0 _ _ here gone c.receive.ensures.apart (Keeps-refl _) refl)
-    (inr (refl, c.end_connection.ensures.lost (step t (Piece i.0)).talk gone.stands)))
+    stopped_whole t _ _ _ _ i.0 _ here on took
+    (gone_kept t _ i.0 _ _ here gone c.receive.ensures.apart (Keeps-refl _) refl)
+    (lost refl (c.end_connection.ensures.lost (step t (Piece i.0)).talk gone.stands)))
 
 pub returns-in-Err-2-clause-stopped : goal.returns-in-Err-2-clause-stopped
 returns-in-Err-2-clause-stopped g c =
     let i = c.loop-made.invariant in
-    let here = outside (g.S.Write.contents c.receive.new.self) (g.W.Write.contents c.loop-made.out) c.loop-made.directory in
+    let here = outside (g.S.Write.contents c.receive.new.self)
+    (g.W.Write.contents c.loop-made.out) c.loop-made.directory in
     on_any_err c.end_connection-in-Err-2.result
     (λ t at on.
     let gone = i.2 t at in
     stopped_whole t _ _ _ _ i.0 _ here on (Consumes-kept _ _ _ i.0 i.1 c.in-Err-2.ensures.bytes)
     (gone_kept t _ i.0 _ _ here gone c.receive.ensures.apart (Keeps-refl _) refl)
-    (inr (refl, c.end_connection-in-Err-2.ensures.lost (step t (Piece i.0)).talk gone.stands)))
+    (lost refl (c.end_connection-in-Err-2.ensures.lost (step t (Piece i.0)).talk gone.stands)))
 
 pub returns-in-Err-Output-clause-stopped : goal.returns-in-Err-Output-clause-stopped
 returns-in-Err-Output-clause-stopped g c =
@@ -111,8 +131,10 @@ returns-in-Err-Output-clause-stopped g c =
     let i = c.loop-made.invariant in
     let piece = take c.in-Ok.count c.receive.new.buf in
     let took =
-    Consumes-trans _ _ _ i.0 piece i.1 (Consumes-kept _ _ _ piece c.in-Ok.ensures.bytes.0 c.hear_portion.ensures.apart) in
-    let here = outside (g.S.Write.contents c.receive.new.self) (g.W.Write.contents c.loop-made.out) c.loop-made.directory in
+    Consumes-trans _ _ _ i.0 piece i.1 (Consumes-kept _ _ _ piece c.in-Ok.ensures.bytes.0
+    c.hear_portion.ensures.apart) in
+    let here = outside (g.S.Write.contents c.receive.new.self)
+    (g.W.Write.contents c.loop-made.out) c.loop-made.directory in
     let gone = gone_kept t _ i.0 _ _ here (i.2 t at) c.receive.ensures.apart (Keeps-refl _) refl in
     stopped_portion c.pieces_join.ensures c.lines_only_grow.ensures t _ _ _ _ i.0 piece _ here _ on took gone
     ((rw c.in-Err-Output.field-0-is at c.in-Err-Output.ensures.stopped) (step t (Piece i.0)).talk gone.stands)
@@ -122,7 +144,8 @@ returns-in-Err-Stream-clause-stopped g c =
     let i = c.loop-made.invariant in
     let piece = take c.in-Ok.count c.receive.new.buf in
     let took =
-    Consumes-trans _ _ _ i.0 piece i.1 (Consumes-kept _ _ _ piece c.in-Ok.ensures.bytes.0 c.hear_portion.ensures.apart) in
+    Consumes-trans _ _ _ i.0 piece i.1 (Consumes-kept _ _ _ piece c.in-Ok.ensures.bytes.0
+    c.hear_portion.ensures.apart) in
     on_any_err c.end_connection-in-Err-Stream.result
     (λ t at on.
     let gone = gone_kept t _ i.0 _ _ _ (i.2 t at) c.receive.ensures.apart c.flush.ensures.bytes refl in
@@ -135,23 +158,25 @@ returns-in-Err-Stream-clause-stopped g c =
 pub returns-in-Err-clause-few : goal.returns-in-Err-clause-few
 returns-in-Err-clause-few g c =
     let i = c.loop-made.invariant in
-    few_and_none c.loop-made.made c.args.reads _ _ _ _ i.0 i.1 i.3 c.loop-made-test.true c.in-Err.ensures.bytes
+    few_and_none c.loop-made.made 4096 _ _ _ _ i.0 i.1 i.3 c.loop-made-test.true c.in-Err.ensures.bytes
 
 pub returns-in-Err-2-clause-few : goal.returns-in-Err-2-clause-few
 returns-in-Err-2-clause-few g c =
     let i = c.loop-made.invariant in
-    few_and_none c.loop-made.made c.args.reads _ _ _ _ i.0 i.1 i.3 c.loop-made-test.true c.in-Err-2.ensures.bytes
+    few_and_none c.loop-made.made 4096 _ _ _ _ i.0 i.1 i.3 c.loop-made-test.true c.in-Err-2.ensures.bytes
 
 pub returns-in-Err-Output-clause-few : goal.returns-in-Err-Output-clause-few
 returns-in-Err-Output-clause-few g c =
     let i = c.loop-made.invariant in
     let whole : length c.receive.new.buf ≡ length c.loop-made.portion = search rules in
-    few_and_portion c.loop-made.made c.args.reads _ _ _ _ _ i.0 c.in-Ok.count c.receive.new.buf i.1 i.3 c.loop-made-test.true (whole ∙ i.4)
+    few_and_portion c.loop-made.made 4096 _ _ _ _ _ i.0 c.in-Ok.count c.receive.new.buf i.1 i.3 c.loop-made-test.true
+    (whole ∙ i.4)
     c.in-Ok.ensures.bytes.0 c.hear_portion.ensures.apart
 
 pub returns-in-Err-Stream-clause-few : goal.returns-in-Err-Stream-clause-few
 returns-in-Err-Stream-clause-few g c =
     let i = c.loop-made.invariant in
     let whole : length c.receive.new.buf ≡ length c.loop-made.portion = search rules in
-    few_and_portion c.loop-made.made c.args.reads _ _ _ _ _ i.0 c.in-Ok.count c.receive.new.buf i.1 i.3 c.loop-made-test.true (whole ∙ i.4)
+    few_and_portion c.loop-made.made 4096 _ _ _ _ _ i.0 c.in-Ok.count c.receive.new.buf i.1 i.3 c.loop-made-test.true
+    (whole ∙ i.4)
     c.in-Ok.ensures.bytes.0 c.hear_portion.ensures.apart

@@ -4,12 +4,13 @@ use Rattle.fibs_session.specs.History.Machine.{Talk}
 use Rattle.fibs_session.specs.Calls.Standing.{StandsAfter}
 use Rattle.fibs_exchange.specs.Turns.Script.{outside}
 use Rattle.fibs_exchange.proofs.TurnLemmas.Turns.{Gone}
-use Rattle.fibs_exchange.proofs.exchange.listen_portions.Given as goal
+use Rattle.fibs_exchange.proofs.exchange.listen.Given as goal
 
 -- all that was read is fed, and what its lines call for is done; each read gave no more than there was room for
 abbrev pub invariant-loop-made : goal.invariant-loop-made
-invariant-loop-made g l = (read : List ℕ) × Consumes (g.S.Read.remaining l.initial.stream) (g.S.Read.remaining l.stream) read
+invariant-loop-made g l = (read : List ℕ)
+    × Consumes (g.S.Read.remaining l.initial.stream) (g.S.Read.remaining l.stream) read
     × ((t : Talk) → StandsAfter l.initial.client t → Gone t l.client read
     (outside (g.S.Write.contents l.initial.stream) (g.W.Write.contents l.initial.out) l.initial.directory)
     (outside (g.S.Write.contents l.stream) (g.W.Write.contents l.out) l.directory))
-    × (length read ≤ l.made * length l.initial.portion) × (length l.portion ≡ length l.initial.portion)
+    × (length read ≤ l.made * 1024) × (length l.portion ≡ 1024)

@@ -1,0 +1,124 @@
+//! How the lines of a turn are printed.
+use super::seat::Seat;
+use fibs_exchange::exchange::{Ending, exchange};
+use fibs_test_tools::pipe::{After, Pipe, QUIET};
+use fibs_test_tools::text::{Text, joined};
+use std::io;
+use std::io::Write;
+use std::process::Abort;
+
+/// What the server sends until the client is ready.
+const READY: &[u8] = b"1 ann 1041253132 localhost\r\n\
+    2 ann 1 1 0 0 0 0 1 1 10 0 1 0 1 1500.00 0 0 0 0 0 UTC\r\n\
+    board:You:bob:3:0:1:0:-2:0:0:0:0:5:0:3:0:0:0:-5:5:0:0:0:-3:0:-5:0:0:0:0:2:0\
+    :1:0:0:0:0:1:1:1:0:1:-1:0:25:0:0:0:0:0:0:0:0\r\n";
+
+/// Lines of each kind, the last of which confirms `roll`.
+const LINES: &[u8] = b"1 ann 1041253132 localhost\r\n\
+    a\x1b\\\r\n\
+    3 x\r\n\
+    board:You:bob:3:0:1:0:-2:0:0:0:0:5:0:3:0:0:0:-5:5:0:0:0:-3:0:-5:0:0:0:0:2:0\
+    :1:6:2:0:0:1:1:1:0:1:-1:0:25:0:0:0:0:0:0:0:0\r\n";
+
+/// A writer that counts its writes and their bytes.
+#[derive(Debug, PartialEq, Eq, Drop)]
+struct Counts {
+    writes: usize,
+    bytes: usize,
+}
+
+impl Write for Counts {
+    fn write(&mut self, buf: &[u8]) -> io::Result<usize> {
+        self.writes = self.writes.saturating_add(1);
+        self.bytes = self.bytes.saturating_add(buf.len());
+        Ok(buf.len())
+    }
+
+    fn flush(&mut self) -> io::Result<()> {
+        Ok(())
+    }
+}
+
+/// What a ready client prints in a turn: a line that is typed, and what the server sends.
+fn counted(
+    rt: &(impl Abort + AllocGlobal),
+    typed: Option<&[u8]>,
+    input: &[u8],
+    after: After,
+) -> Counts {
+    let mut seat = Seat::open(rt, 1000);
+    seat.hears(rt, &[READY]);
+    let mut pipe = Pipe::new(input, 1000, after, 100);
+    let mut out = Counts {
+        writes: 0,
+        bytes: 0,
+    };
+    let outcome = exchange(
+        &mut seat.client,
+        &mut seat.directory,
+        Some(&mut pipe),
+        typed,
+        &mut out,
+    );
+    let _ending: Ending = outcome.expect(rt, "all is printed");
+    out
+}
+
+/// What is typed, what the server sends, and what is printed.
+static PRINTED: [(Option<&[u8]>, &[u8], After, &[u8]); 6] = [
+    (
+        Some(b"roll"),
+        LINES,
+        After::End,
+        b"sent roll\nmessage 1 ann 1041253132 localhost\ntext a\\x1b\\x5c\nmalformed 3 1 Extra\n\
+        board:You:bob:3:0:1:0:-2:0:0:0:0:5:0:3:0:0:0:-5:5:0:0:0:-3:0:-5:0:0:0:0:2:0\
+        :1:6:2:0:0:1:1:1:0:1:-1:0:25:0:0:0:0:0:0:0:0\nphase Move\nconfirmed roll\nlost\n",
+    ),
+    (Some(b"roll"), b"", After::End, b"sent roll\nlost roll\n"),
+    (Some(b"dance"), b"", QUIET, b"unknown\n"),
+    (Some(b"accept"), b"", QUIET, b"refused 8 WrongKind\n"),
+    (Some(b"say "), b"", QUIET, b"fault 2 BadText\n"),
+    (None, b"", QUIET, b""),
+];
+
+fn lines_in(text: &[u8]) -> usize {
+    text.iter().filter(|byte| **byte == b'\n').count()
+}
+
+/// Each line leaves with its line end by one write.
+#[test]
+fn a_printed_line_is_one_write(rt: HostRuntime) {
+    for (typed, input, after, printed) in &PRINTED {
+        let wanted = Counts {
+            writes: lines_in(printed),
+            bytes: printed.len(),
+        };
+        assert_eq!(rt; counted(&rt, *typed, input, *after), wanted, "{typed:?}");
+    }
+}
+
+/// So many bytes that are escaped.
+fn escapes(count: usize) -> Text {
+    let mut text = Text::new();
+    for _ in 0..count {
+        let _fits = text.try_extend_from_slice(b"\x01");
+    }
+    text
+}
+
+/// There is room for the longest line, each of whose bytes is escaped: one that is kept whole, one that is cut, and a
+/// message.
+#[test]
+fn the_longest_line_is_one_write(rt: HostRuntime) {
+    let whole = joined(&[&escapes(4096), b"\r\n"]);
+    let cut = joined(&[&escapes(4097), b"\r\n"]);
+    let message = joined(&[b"13 eve ", &escapes(4089), b"\r\n"]);
+    for (input, bytes) in [
+        (&whole, 5 + 4 * 4096 + 1),
+        (&cut, 4 + 4 * 4096 + 1),
+        (&message, 8 + 7 + 4 * 4089 + 1),
+    ] {
+        let wanted = Counts { writes: 1, bytes };
+        assert_eq!(rt; counted(&rt, None, input, QUIET), wanted, "{bytes} bytes");
+    }
+}
