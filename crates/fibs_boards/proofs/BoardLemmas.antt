@@ -4,6 +4,7 @@ pub mod BoardEquality
 pub mod BoardHeads
 pub mod BoardTests
 pub mod BoardTexts
+pub mod CheckedLines
 pub mod EachLine
 pub mod FieldGroups
 pub mod FieldRangeLaws

@@ -4,6 +4,7 @@ ghost use Rattle.std.specs.Prelude.{◌≡◌, ◌↔◌, ◌⊎◌, ℕ, List, 
 ghost use Rattle.std.specs.Prelude.{true};
 ghost use Rattle.fibs_boards.specs.Board.{BoardFields, IsBoard, BoardText, Wrong, is_board, spelling};
 ghost use Rattle.fibs_boards.specs.FieldRanges.{FieldRanges};
+ghost use Rattle.fibs_fields.specs.Spaces.{without_spaces};
 ghost use Rattle.fibs_boards.specs.StoredBoard.{fields_of, read_fields};
 ghost use Rattle.fibs_boards.specs.declared.board.Board.{Board};
 
@@ -35,6 +36,11 @@ pub fn prints_tell_boards(a: &Board, b: &Board) -> bool
 {
     a.print().as_slice() == b.print().as_slice()
 }
+
+/// A line that says a board is that board's spelling, but for the spaces at its end.
+pub fn lines_of_boards_are_their_spellings()
+    ensures { (line : List ℕ) → (b : BoardFields) → BoardText b line → without_spaces line ≡ spelling b }
+{}
 
 /// Each line says a board or has a first wrong field, never both, and no second one of either.
 pub fn each_line_is_one_board_or_wrong()

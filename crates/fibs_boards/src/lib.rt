@@ -2,6 +2,7 @@
 #![tactic(auto)]
 
 pub mod board;
+pub mod check;
 mod field_ranges;
 pub mod laws;
 mod print;

@@ -64,13 +64,13 @@ numbers_from n (v ∷ vs) (p ∷ ps) narrow h =
     record { zs = here.0 ∷ rest.zs; fit = (this.1, rest.fit); spelled = (λ i. this.0 i ∷ tail i) }
 
 -- pieces that are the fields of a board
-record AreFields (ps : List (List ℕ)) : Type 0 where
-  board : BoardFields
-  is_board : IsBoard board
-  spelled : ps ≡ texts board
+pub record AreFields (ps : List (List ℕ)) : Type 0 where
+  pub board : BoardFields
+  pub is_board : IsBoard board
+  pub spelled : ps ≡ texts board
 
 -- pieces without a fault are such
-fields_from : (ps : List (List ℕ)) → first_fault 1 kinds ps ≡ None → AreFields ps
+pub fields_from : (ps : List (List ℕ)) → first_fault 1 kinds ps ≡ None → AreFields ps
 fields_from [] h = absurd (some_none _ h)
 fields_from (w ∷ []) h = let word = no_fault 1 _ _ h in absurd (some_none _ word.1)
 fields_from (w ∷ p ∷ []) h =

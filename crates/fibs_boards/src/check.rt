@@ -1,0 +1,56 @@
+//! Whether a line says a board, found without making one.
+
+ghost use Rattle.std.specs.Prelude.{◌≡◌, IfOk, IfErr, Ok, Err, map};
+ghost use Rattle.std.specs.Result.{result_err};
+ghost use Rattle.fibs_boards.specs.Board.{BoardFields, BoardText, Wrong, field_values, kinds, pieces, spelling};
+ghost use Rattle.fibs_boards.specs.BoardReading.{first_fault, pieces_left};
+ghost use Rattle.fibs_boards.specs.Checked.{line_checked};
+ghost use Rattle.fibs_fields.specs.Field.{a_number_of};
+ghost use Rattle.fibs_fields.specs.FieldReading.{left_of};
+ghost use Rattle.fibs_fields.specs.Spaces.{without_spaces};
+
+use crate::field_ranges::values_of;
+use fibs_fields::fault::FieldFault;
+use fibs_fields::reader::Fields;
+use fibs_fields::trailing_spaces::without_spaces;
+
+/// Whether the numbers of fields 4 to 53, which end the line, are right.
+fn check_numbers(fields: &mut Fields<'_>) -> Result<(), FieldFault>
+    requires { (left_of fields.old).separator ≡ 58 }
+    ensures { first_fault 4 (map a_number_of field_values) (pieces_left (left_of fields.old)) ≡ result_err result }
+{
+    for i in 0..50 {
+        fields.number_of(values_of(i), i + 4)?;
+    }
+    fields.end(54)
+}
+
+/// The line without the spaces at its end, where its fields are those of a board, or the leftmost wrong field.
+fn check_fields(line: &[u8]) -> Result<&[u8], FieldFault>
+    ensures kept { IfOk (line_checked result) (λ text. text ≡ without_spaces line.now) }
+    ensures fault { first_fault 1 kinds (pieces (without_spaces line.now)) ≡ result_err (line_checked result) }
+{
+    let kept = without_spaces(line);
+    let mut fields = Fields::new(Some(kept), b':');
+    fields.this_word(b"board", 1)?;
+    fields.name(2)?;
+    fields.name(3)?;
+    check_numbers(&mut fields)?;
+    Ok(kept)
+}
+
+/// The line that is printed for the board that a line says, or the leftmost wrong field, as `Board::read` finds it.
+///
+/// No board is made, and nothing is printed: a line that says a board is its spelling, but for the spaces at its end.
+pub fn check_board(line: &[u8]) -> Result<&[u8], FieldFault>
+    // What is given is printed for the board that the line says.
+    ensures found { IfOk (line_checked result) (λ text. (b : BoardFields) × BoardText b line.now × (text ≡ spelling b)) }
+    // Of each line that says a board it is given.
+    ensures only { (b : BoardFields) → BoardText b line.now → line_checked result ≡ Ok (spelling b) }
+    // The fault is that of the first wrong field.
+    ensures wrong { IfErr (line_checked result) (λ e. Wrong line.now e.field e.fault) }
+    // Of each line with a wrong field it is given.
+    ensures least { (e : FieldFault) → Wrong line.now e.field e.fault → line_checked result ≡ Err e }
+{
+    check_fields(line)
+}
