@@ -3,7 +3,7 @@
 ghost use Rattle.std.specs.Prelude.{◌≡◌, ◌↔◌, ◌-◌, ◌≤◌, ◌&&◌, ◌||◌, ℕ, cond, decimal, length, min, nat_le, pos, true};
 ghost use Rattle.std.specs.Prelude.{drop, [], ◌∷◌, option_map, Some, None, MatchOption, if◌then◌else◌};
 ghost use Rattle.std.specs.Char.{is_ascii_digit};
-ghost use Rattle.std.specs.List.{list_all};
+ghost use Rattle.std.specs.List.{list_all, prefix_len};
 ghost use Rattle.std.specs.Str.Parse.{digits_value, starts_with_minus};
 ghost use Rattle.fibs_fields.specs.Field.{flag_values, number_values};
 ghost use Rattle.fibs_fields.specs.FieldReading.{Gives};
@@ -19,6 +19,19 @@ fn are_digits(text: &[u8]) -> bool
     ensures { result ≡ list_all is_ascii_digit text.now }
 {
     text.iter().all(u8::is_ascii_digit)
+}
+
+/// How many digits stand at the front of a text.
+#[inline(always)]
+pub fn digit_run(text: &[u8]) -> usize
+    ensures { result ≡ prefix_len is_ascii_digit text.now }
+{
+    for i in 0..text.len() {
+        if !text[i].is_ascii_digit() {
+            return i;
+        }
+    }
+    text.len()
 }
 
 /// Whether the text is digits that begin with no 0.

@@ -1,7 +1,7 @@
 //! Names of players.
 
 ghost use Rattle.std.specs.Prelude.{◌≡◌, ◌==◌, true, IsSome, IsTrue, ◌↔◌, IfSome, codes};
-ghost use Rattle.std.specs.List.{list_all};
+ghost use Rattle.std.specs.List.{list_all, prefix_len};
 ghost use Rattle.fibs_fields.specs.Name.{is_name, is_name_byte};
 
 use crate::dash::is_dash;
@@ -18,6 +18,19 @@ fn is_name_byte(byte: &u8) -> bool
     ensures { result ≡ is_name_byte byte.now }
 {
     *byte >= 33 && *byte <= 126 && *byte != b':'
+}
+
+/// How many bytes at the front of a text a name may have.
+#[inline(always)]
+pub fn name_run(text: &[u8]) -> usize
+    ensures { result ≡ prefix_len is_name_byte text.now }
+{
+    for i in 0..text.len() {
+        if !is_name_byte(&text[i]) {
+            return i;
+        }
+    }
+    text.len()
 }
 
 /// Whether each of them is.
