@@ -2,6 +2,7 @@
 pub mod Equality
 pub mod FieldFaults
 pub mod FieldValues
+pub mod NameFronts
 pub mod Options
 pub mod Spaces
 pub mod Splits

@@ -1,8 +1,9 @@
 //! Names of players.
 
-ghost use Rattle.std.specs.Prelude.{◌≡◌, ◌==◌, true, IsSome, IsTrue, ◌↔◌, IfSome, codes};
+ghost use Rattle.std.specs.Prelude.{◌≡◌, ◌==◌, true, IsSome, IsTrue, ◌↔◌, IfSome, Some, codes};
 ghost use Rattle.std.specs.List.{list_all, prefix_len};
 ghost use Rattle.fibs_fields.specs.Name.{is_name, is_name_byte};
+ghost use Rattle.fibs_fields.specs.Split.{before, after};
 
 use crate::dash::is_dash;
 
@@ -62,6 +63,20 @@ impl<'a> Name<'a> {
         ensures { name_bytes result ≡ bytes.now }
     {
         Name { bytes }
+    }
+
+    /// The name at the front of a text and what follows the byte after it, where that is this one, which no name has.
+    #[inline(always)]
+    pub(crate) fn before(text: &'a [u8], byte: u8) -> Option<(Name<'a>, &'a [u8])>
+        ensures name { IfSome result (λ x. name_bytes x.0 ≡ before byte text.now) }
+        ensures valid { IfSome result (λ x. is_name (before byte text.now) ≡ true) }
+        ensures rest { IfSome result (λ x. Some x.1.now ≡ after byte text.now) }
+    {
+        let len = name_run(text);
+        if len == 0 || len > 64 || len >= text.len() || text[len] != byte || is_name_byte(&byte) {
+            return None;
+        }
+        Some((Name::of_valid(&text[..len]), &text[len + 1..]))
     }
 
     /// Its bytes.

@@ -79,10 +79,10 @@ impl<'a> Fields<'a> {
         }
     }
 
-    /// The next field as a name.
-    #[inline(always)]
+    /// The next field as a name, where it ends the line or is none.
+    #[inline(never)]
     #[tactic(auto, unfolding(crate::specs::FieldReading::field_at, crate::specs::FieldReading::text_at, crate::specs::FieldReading::value_in))]
-    pub fn name(&mut self, field: usize) -> Result<Name<'a>, FieldFault>
+    fn any_name(&mut self, field: usize) -> Result<Name<'a>, FieldFault>
         ensures { Gives (λ name. (NameField (name_bytes name), left_of self.new)) result
             (field_at a_name field (left_of self.old)) }
     {
@@ -94,6 +94,22 @@ impl<'a> Fields<'a> {
                 fault: Fault::BadName,
             }),
         }
+    }
+
+    /// The next field as a name. Where a separator follows it, it is found in one pass with it.
+    #[inline(always)]
+    #[tactic(auto, unfolding(crate::specs::FieldReading::field_at, crate::specs::FieldReading::text_at, crate::specs::FieldReading::value_in))]
+    pub fn name(&mut self, field: usize) -> Result<Name<'a>, FieldFault>
+        ensures { Gives (λ name. (NameField (name_bytes name), left_of self.new)) result
+            (field_at a_name field (left_of self.old)) }
+    {
+        if let Some(rest) = self.rest {
+            if let Some((name, after)) = Name::before(rest, self.separator) {
+                self.rest = Some(after);
+                return Ok(name);
+            }
+        }
+        self.any_name(field)
     }
 
     /// The next field as a word.

@@ -1,4 +1,4 @@
-use Rattle.std.proofs.Common.{◌≡◌, ℕ, get_or, length, true, sym, ◌∙◌, arith}
+use Rattle.std.proofs.Common.{◌≡◌, get_or, length, true, sym, ◌∙◌, arith}
 use Rattle.std.proofs.lemmas.List.Sums.{prefix_len_is}
 use borrow.Author.Count.{below_more}
 use Rattle.fibs_fields.specs.Name.{is_name_byte}
