@@ -1,4 +1,5 @@
 -- Messages: their table, their fields, their lines.
+pub mod BeginningFields
 pub mod CanonicalLines
 pub mod FieldTexts
 pub mod Fronts
@@ -8,3 +9,4 @@ pub mod MessageReadings
 pub mod MessageTable
 pub mod NumberWords
 pub mod Rows
+pub mod StandingFields

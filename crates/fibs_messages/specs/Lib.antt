@@ -7,3 +7,4 @@ pub mod Bits
 pub mod FieldOf
 pub mod LineReading
 pub mod Settings
+pub mod Standing

@@ -19,8 +19,8 @@ use crate::line::{Reading, read};
 use crate::messages::message::{Message, OwnInfo, WhoInfo};
 pub use fibs_boards::laws::{
     boards_are_valid, each_line_is_one_board_or_wrong, fields_have_their_ranges,
-    fields_tell_boards, is_board_is_exact, print_reads_back, prints_tell_boards,
-    spellings_tell_boards,
+    fields_tell_boards, is_board_is_exact, lines_of_boards_are_their_spellings, print_reads_back,
+    prints_tell_boards, spellings_tell_boards,
 };
 use fibs_fields::fault::Fault;
 pub use fibs_fields::laws::{

@@ -7,11 +7,13 @@ mod line;
 mod messages;
 
 pub use fibs_boards::board::Board;
+pub use fibs_boards::check::check_board;
 pub use fibs_fields::decimal::read_decimal;
 pub use fibs_fields::fault::{Fault, FieldFault};
 pub use fibs_fields::name::Name;
 pub use fibs_fields::split::split;
 pub use fibs_fields::word::{Tail, Word};
 pub use line::{Reading, message_number, read};
+pub use messages::canonical::canonical_line;
 pub use messages::message::{Message, OwnInfo, WhoInfo};
 pub use messages::print::print_message;

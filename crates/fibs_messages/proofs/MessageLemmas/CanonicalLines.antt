@@ -45,7 +45,7 @@ field_text (TextField []) h = no_text
 field_text (TextField (b ∷ s)) h = spelled (tt, refl)
 
 -- and so of all fields
-fields_text : (vs : List FieldValue) → AllByRecursion IsValue vs → FieldsText vs (flat_map canonical_field vs)
+pub fields_text : (vs : List FieldValue) → AllByRecursion IsValue vs → FieldsText vs (flat_map canonical_field vs)
 fields_text [] h = no_fields
 fields_text (v ∷ vs) h = more_fields (field_text v h.0) (fields_text vs h.1)
 

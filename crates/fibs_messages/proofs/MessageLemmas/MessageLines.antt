@@ -103,12 +103,12 @@ number_ends n lt =
 -- ---- lines
 
 -- spaces begin with a space
-spaces_head : (n : ℕ) → HeadIs 32 (replicate n 32)
+pub spaces_head : (n : ℕ) → HeadIs 32 (replicate n 32)
 spaces_head zero = tt
 spaces_head (suc n) = refl
 
 -- what stands before the first c, with more behind it
-before-append : (c : ℕ) (w s : List ℕ) → HeadIs c s → before c (w ++ s) ≡ before c w
+pub before-append : (c : ℕ) (w s : List ℕ) → HeadIs c s → before c (w ++ s) ≡ before c w
 before-append c [] [] h = refl
 before-append c [] (b ∷ s) h = rw (eq-eqb b c h) refl
 before-append c (b ∷ w) s h = elim (cases_eq b c) [
@@ -156,13 +156,13 @@ line_reads m line t =
     }
 
 -- what is kept, and the spaces behind it
-record Kept (n : ℕ) (line : List ℕ) : Type 0 where
-  spaces : ℕ
-  none : drops_spaces n ≡ false → spaces ≡ 0
-  line_is : line ≡ kept n line ++ replicate spaces 32
+pub record Kept (n : ℕ) (line : List ℕ) : Type 0 where
+  pub spaces : ℕ
+  pub none : drops_spaces n ≡ false → spaces ≡ 0
+  pub line_is : line ≡ kept n line ++ replicate spaces 32
 
 -- what is kept of a line
-kept_part : (n : ℕ) (line : List ℕ) → Kept n line
+pub kept_part : (n : ℕ) (line : List ℕ) → Kept n line
 kept_part n line = elim (cases_Bool (drops_spaces n)) [
   | inl e ↦ let d = spaces_after line in record { spaces = d.0; none = λ f. absurd cc; line_is = rw e d.1 }
   | inr e ↦ record { spaces = 0; none = λ f. refl; line_is = rw e (sym (append-nil line)) }

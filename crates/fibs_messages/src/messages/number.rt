@@ -28,14 +28,20 @@ fn drops_spaces(number: u8) -> bool
     number <= 6 || number == 10 || number == 11
 }
 
+/// What is kept of the line of a message.
+pub fn kept(number: u8, line: &[u8]) -> &[u8]
+    ensures { result.now ≡ kept number line.now }
+{
+    if drops_spaces(number) {
+        without_spaces(line)
+    } else {
+        line
+    }
+}
+
 /// What follows the number and a space.
 pub fn rest_of(number: u8, line: &[u8]) -> Option<&[u8]>
     ensures { seen result ≡ after 32 (kept number line.now) }
 {
-    let kept = if drops_spaces(number) {
-        without_spaces(line)
-    } else {
-        line
-    };
-    split(kept, b' ').1
+    split(kept(number, line), b' ').1
 }
