@@ -182,6 +182,45 @@ def message(rng):
     return b' '.join([b'%d' % which] + [field_text(rng, kind, at == odd) for at, kind in enumerate(kinds)])
 
 
+def printed_field(rng, kind):
+    """The text of a field as it is printed."""
+    if kind is reference.FLAG:
+        return rng.choice((b'0', b'1'))
+    if kind is reference.name:
+        return rng.choice((b'ann', b'-', b'x', b'a\\b', b'x' * 64))
+    if kind is reference.word:
+        return rng.choice((b'host', b'-', b'192.168.1.30', b'x' * 70))
+    if kind is reference.rating:
+        return b'%d.%02d' % (rng.choice((0, 7, 1500, 9999999, 10000000, 42949672)), rng.randint(0, 99))
+    if kind in (reference.TEXT, reference.TAIL):
+        length = rng.choice((1, 2, 8, 14, 15, 16, 17, 18, 31, 32, 33, 34, 48, 64, 100))
+        return bytes(rng.choice(b'abz ~!') for _ in range(length - 1)) + b'z'
+    return b'%d' % rng.choice((0, 7, 10, 1041253132, 10 ** 18, 10 ** 19 - 1, 10 ** 19, 2 ** 64 - 1, 2 ** 64))
+
+
+def nearly_printed(rng):
+    """A line of a message as it is printed, or with one change by which it may be printed otherwise."""
+    which = rng.randint(1, 19)
+    texts = [b'%d' % which] + [printed_field(rng, kind) for kind in reference.MESSAGES[which]]
+    at = rng.randrange(len(texts))
+    change = rng.randrange(8)
+    if change == 0:
+        texts[at] += rng.choice((b' ', b'  '))
+    elif change == 1:
+        texts[at] = rng.choice((b'0', b' ', b'-')) + texts[at]
+    elif change == 2:
+        texts[at] = rng.choice((b'-', b''))
+    elif change == 3:
+        texts = [rng.choice((text[:-1], text[:-2], text[:-3], text + b'0')) if b'.' in text else text for text in texts]
+    elif change == 4:
+        del texts[at]
+    line = b' '.join(texts)
+    if change in (5, 6):
+        at = rng.randrange(len(line))
+        line = line[:at] + rng.choice((b'\\', b'\x00', b'\x1f', b'\x7f', b'\x80', b'\xfe')) + line[at + 1:]
+    return line
+
+
 def mutate_field(rng, line):
     separator = b':' if line.startswith(b'board:') else b' '
     texts = line.split(separator)
@@ -234,8 +273,12 @@ def show_line(rng):
         line = bytes(rng.choice(BYTES) for _ in range(rng.randint(0, 30)))
     elif kind < 0.25:
         line = random_board(rng)
+    elif kind < 0.5:
+        line = good_board(rng) + b' ' * rng.choice((0, 0, 0, 1, 2, 16))
+    elif kind < 0.75:
+        line = message(rng)
     else:
-        line = good_board(rng) if kind < 0.5 else message(rng)
+        return nearly_printed(rng) + rng.choice(ENDS)
     if rng.random() < 0.35:
         line = mutate_field(rng, line)
     while rng.random() < 0.25:

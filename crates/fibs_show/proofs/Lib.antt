@@ -1,4 +1,5 @@
 pub mod EscapeLemmas
+pub mod EscapeWindows
 pub mod WriteLemmas
 pub mod ShowLemmas
 pub mod PlaysLemmas

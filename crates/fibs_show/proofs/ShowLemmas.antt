@@ -2,6 +2,8 @@
 use Rattle.std.proofs.Common.{◌≡◌, ℕ, ◌≤◌, List, [], ◌∷◌, ◌++◌, Bool, true, false, Option, None, Some, Result, Ok, Err}
 use Rattle.std.proofs.Common.{OnOk, refl, sym, ap, subst, ◌∙◌, append_assoc, append-nil, take, drop, take-append-drop}
 use Rattle.std.proofs.Common.{length, codes, is_ok, if◌then◌else◌, ◌≢◌, min, arith, ◌<◌, ◌+◌, ◌*◌, length-append}
+use Rattle.std.proofs.Common.{not, true≢false, is_some}
+use Rattle.std.specs.Prelude.{◌↔◌}
 use Rattle.std.proofs.lemmas.List.{length-take}
 use Rattle.std.proofs.Math.Nat.{mul-le-mul_right}
 use Rattle.std.specs.Io.KnownBytes.{Appends, Consumes, Keeps}
@@ -14,6 +16,7 @@ use Rattle.fibs_lines.specs.Feeding.{Feeds, lent_lines}
 use Rattle.fibs_lines.specs.declared.lines.Fed.{Fed}
 use Rattle.fibs_lines.specs.declared.line.Line.{Line}
 use Rattle.fibs_messages.specs.Line.{ReadingValue, IsReading}
+use Rattle.fibs_messages.specs.Message.{HasNumber, IsNumbered}
 use Rattle.fibs_show.specs.Escape.{escaped}
 use Rattle.fibs_show.specs.Show.{reading_text, ShownAs, ShownLine, ShownLines, ShowText, WroteLinesOf, WroteRead}
 use Rattle.fibs_show.specs.Show.{WroteFront, WroteAll, unfinished_text}
@@ -33,6 +36,26 @@ pub read_line : (line : ReadLine) (r : ReadingValue) → line.cut ≡ false → 
 read_line line r e h =
     let P : Bool → Type 0 = λ b. ShownAs b line.bytes (reading_text r) in
     subst P (sym e) (r, h, refl)
+
+-- what is read of a line is printed, where a call appends it
+pub reading_shown : {T E : Type 0} (r : Result T E) (line old now shown : List ℕ) (reading : ReadingValue)
+    → IsReading line reading → shown ≡ reading_text reading → OnOk r (now ≡ old ++ shown)
+    → OnOk r ((x : ReadingValue) × IsReading line x × (now ≡ old ++ reading_text x))
+reading_shown (Ok t) line old now shown reading reads same e = (reading, reads, e ∙ ap (λ (l : List ℕ). old ++ l) same)
+reading_shown (Err e) line old now shown reading reads same h = tt
+
+-- a line that does not begin with `board:`
+pub no_board : (line : List ℕ) (test found : Bool) → found ≡ test → found ≡ false → test ≡ true → ⊥
+no_board line test found is other holds = true≢false (sym holds ∙ (sym is ∙ other))
+
+-- a line in which no number is found
+pub no_number : (line : List ℕ) (found : Option ℕ) (none : Bool) → is_some found ≡ not none → none ≡ true
+    → ((n : ℕ) → (found ≡ Some n) ↔ HasNumber line n) → IsNumbered line → ⊥
+no_number line None none is absent exact w = none_some w.0 ((exact w.0).1 w.1)
+  where
+    none_some : (n : ℕ) → ◌≡◌ {A = Option ℕ} None (Some n) → ⊥
+    none_some n e = cc
+no_number line (Some n) none is absent exact w = true≢false (is ∙ ap not absent)
 
 -- a line's text and its end are appended
 pub line_more : (before mid after shown : List ℕ) → mid ≡ before ++ shown → after ≡ mid ++ (10 ∷ []) → after ≡ before ++ (shown ++ (10 ∷ []))

@@ -25,12 +25,33 @@ pub fn first_escaped(bytes: &[u8]) -> Option<usize>
 }
 
 /// Whether some byte is not shown as it is. It looks at each byte, so that the compiler can test many at once.
-fn has_escaped(bytes: &[u8]) -> bool
+#[inline(always)]
+fn any_escaped(bytes: &[u8]) -> bool
     ensures { result ≡ list_any is_escaped bytes.now }
 {
     let mut found = false;
     for byte in bytes {
         found |= is_escaped(*byte);
+    }
+    found
+}
+
+/// How many bytes are tested at once.
+const WINDOW: usize = 16;
+
+/// Whether some byte is not shown as it is, by windows. The last one, which is tested first, may begin within another.
+fn has_escaped(bytes: &[u8]) -> bool
+    ensures { result ≡ list_any is_escaped bytes.now }
+{
+    let len = bytes.len();
+    if len < WINDOW {
+        return any_escaped(bytes);
+    }
+    let mut found = any_escaped(&bytes[len - WINDOW..]);
+    let mut at = 0;
+    while at < len - WINDOW {
+        found |= any_escaped(&bytes[at..at + WINDOW]);
+        at += WINDOW;
     }
     found
 }

@@ -2,7 +2,7 @@
 ghost use Rattle.std.specs.Prelude.{◌≡◌, ◌++◌, ◌∷◌, [], ℕ, List, codes, OnOk};
 ghost use Rattle.fibs_lines.specs.Lines.{value_of};
 ghost use Rattle.fibs_boards.specs.Board.{spelling};
-ghost use Rattle.fibs_messages.specs.Line.{IsReading, ReadingValue, malformed_line};
+ghost use Rattle.fibs_messages.specs.Line.{IsBoardLine, IsReading, ReadingValue, malformed_line};
 ghost use Rattle.fibs_messages.specs.Message.{canonical};
 ghost use Rattle.fibs_messages.specs.Message.{message_of};
 ghost use Rattle.fibs_boards.specs.StoredBoard.{fields_of};
@@ -12,7 +12,10 @@ ghost use Rattle.fibs_show.specs.Show.{reading_text, ShownLine};
 use super::escape::{append_escaped, escape_from};
 use super::malformed::malformed_text;
 use fibs_lines::Line;
-use fibs_messages::{Board, Fault, Message, Reading, print_message, read};
+use fibs_messages::{
+    Board, Fault, Message, Reading, canonical_line, check_board, message_number, print_message,
+    read,
+};
 use itoa::{Buffer, Integer};
 use std::alloc::{AllocError, Global};
 
@@ -67,10 +70,32 @@ fn append_text(bytes: &[u8], text: &mut Vec<u8>) -> Result<(), AllocError>
     append_escaped(bytes, text)
 }
 
-/// Appends what is printed for a line that was not cut.
+/// Appends what is printed for a board line. A line that says a board is copied.
+fn append_board_line(line: &[u8], text: &mut Vec<u8>) -> Result<(), AllocError>
+    requires { IsBoardLine line.now }
+    ensures { OnOk result ((reading : ReadingValue) × IsReading line.now reading
+        × (text.new.items ≡ text.old.items ++ reading_text reading)) }
+{
+    match check_board(line) {
+        Ok(board) => text.extend_from_slice(board),
+        Err(wrong) => append_malformed(0, wrong.field, wrong.fault, text),
+    }
+}
+
+/// Appends what is printed for a message, by its canonical line.
+fn append_canonical(canonical: &[u8], text: &mut Vec<u8>) -> Result<(), AllocError>
+    ensures { OnOk result (text.new.items ≡ text.old.items ++ (codes "message " ++ escaped canonical.now)) }
+{
+    text.extend_from_slice(b"message ")?;
+    append_escaped(canonical, text)
+}
+
+/// Appends what is printed for a line that is read for it. It is not inlined, since room for what is read is cleared
+/// at each call.
 ///
 /// What `read` answers is matched where it stands: a name for it would be a copy of its hundreds of bytes.
-fn append_reading(alloc: Global, line: &[u8], text: &mut Vec<u8>) -> Result<(), AllocError>
+#[inline(never)]
+fn append_read(alloc: Global, line: &[u8], text: &mut Vec<u8>) -> Result<(), AllocError>
     ensures { OnOk result ((reading : ReadingValue) × IsReading line.now reading
         × (text.new.items ≡ text.old.items ++ reading_text reading)) }
 {
@@ -83,6 +108,23 @@ fn append_reading(alloc: Global, line: &[u8], text: &mut Vec<u8>) -> Result<(), 
             field,
             fault,
         } => append_malformed(number, field, fault, text),
+    }
+}
+
+/// Appends what is printed for a line that was not cut. Nearly all lines of a server stand as they are printed.
+fn append_reading(alloc: Global, line: &[u8], text: &mut Vec<u8>) -> Result<(), AllocError>
+    ensures { OnOk result ((reading : ReadingValue) × IsReading line.now reading
+        × (text.new.items ≡ text.old.items ++ reading_text reading)) }
+{
+    if line.starts_with(b"board:") {
+        return append_board_line(line, text);
+    }
+    if message_number(line).is_none() {
+        return append_text(line, text);
+    }
+    match canonical_line(line) {
+        Some(canonical) => append_canonical(canonical, text),
+        None => append_read(alloc, line, text),
     }
 }
 
