@@ -14,10 +14,12 @@ use fibs_fields::fault::FieldFault;
 use fibs_fields::reader::Fields;
 use fibs_fields::trailing_spaces::without_spaces;
 
-/// Whether the numbers of fields 4 to 53, which end the line, are right.
-fn check_numbers(fields: &mut Fields<'_>) -> Result<(), FieldFault>
-    requires { (left_of fields.old).separator ≡ 58 }
-    ensures { first_fault 4 (map a_number_of field_values) (pieces_left (left_of fields.old)) ≡ result_err result }
+/// Whether the numbers of fields 4 to 53, which end the line, are right. It is not inlined, and has the fields for
+/// itself, so that its loop stays in registers.
+#[inline(never)]
+fn check_numbers(mut fields: Fields<'_>) -> Result<(), FieldFault>
+    requires { (left_of fields).separator ≡ 58 }
+    ensures { first_fault 4 (map a_number_of field_values) (pieces_left (left_of fields.entry)) ≡ result_err result }
 {
     for i in 0..50 {
         fields.number_of(values_of(i), i + 4)?;
@@ -35,7 +37,7 @@ fn check_fields(line: &[u8]) -> Result<&[u8], FieldFault>
     fields.this_word(b"board", 1)?;
     fields.name(2)?;
     fields.name(3)?;
-    check_numbers(&mut fields)?;
+    check_numbers(fields)?;
     Ok(kept)
 }
 
