@@ -12,7 +12,7 @@ use crate::decimal::{flag_in, number_in, unsigned_in};
 use crate::fault::{Fault, FieldFault};
 use crate::name::Name;
 use crate::rating::rating_in;
-use crate::split::split;
+use crate::split::{before_one, split};
 use crate::values::Values;
 use crate::word::{Tail, Word};
 
@@ -65,10 +65,10 @@ impl<'a> Fields<'a> {
         }
     }
 
-    /// The next field as one of these numbers.
-    #[inline(always)]
+    /// The next field as one of these numbers, however it is spelled.
+    #[inline(never)]
     #[tactic(auto, unfolding(crate::specs::FieldReading::next_at, crate::specs::FieldReading::text_at))]
-    pub fn number_of(&mut self, values: Values, field: usize) -> Result<i32, FieldFault>
+    fn any_number_of(&mut self, values: Values, field: usize) -> Result<i32, FieldFault>
         ensures { Gives (λ number. (number, left_of self.new)) result
             (next_at (number_in values) field (left_of self.old)) }
     {
@@ -77,6 +77,24 @@ impl<'a> Fields<'a> {
             Ok(number) => Ok(number),
             Err(fault) => Err(FieldFault { field, fault }),
         }
+    }
+
+    /// The next field as one of these numbers. Most have one digit, and a separator follows it.
+    #[inline(always)]
+    #[tactic(auto, unfolding(crate::specs::FieldReading::next_at, crate::specs::FieldReading::text_at))]
+    pub fn number_of(&mut self, values: Values, field: usize) -> Result<i32, FieldFault>
+        ensures { Gives (λ number. (number, left_of self.new)) result
+            (next_at (number_in values) field (left_of self.old)) }
+    {
+        if let Some(rest) = self.rest {
+            if let Some((digit, after)) = before_one(rest, self.separator) {
+                if let Ok(number) = number_in(values, digit) {
+                    self.rest = Some(after);
+                    return Ok(number);
+                }
+            }
+        }
+        self.any_number_of(values, field)
     }
 
     /// The next field as a name, where it ends the line or is none.

@@ -1,6 +1,6 @@
 //! A text is split at a byte.
 
-ghost use Rattle.std.specs.Prelude.{◌≡◌};
+ghost use Rattle.std.specs.Prelude.{◌≡◌, IfSome, Some};
 ghost use Rattle.fibs_fields.specs.Split.{seen, before, after};
 
 use bstr::ByteSlice;
@@ -24,4 +24,16 @@ pub fn split(text: &[u8], byte: u8) -> (&[u8], Option<&[u8]>)
         Some(at) => (&text[..at], Some(&text[at + 1..])),
         None => (text, None),
     }
+}
+
+/// The text before the first `byte` and what follows it, where that text is one byte.
+#[inline(always)]
+pub(crate) fn before_one(text: &[u8], byte: u8) -> Option<(&[u8], &[u8])>
+    ensures before { IfSome result (λ x. x.0.now ≡ before byte text.now) }
+    ensures after { IfSome result (λ x. Some x.1.now ≡ after byte text.now) }
+{
+    if text.len() < 2 || text[0] == byte || text[1] != byte {
+        return None;
+    }
+    Some((&text[..1], &text[2..]))
 }

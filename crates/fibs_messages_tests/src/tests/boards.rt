@@ -2,7 +2,9 @@
 
 use arrayvec::ArrayVec;
 use fibs_messages::laws::{print_reads_back, prints_tell_boards};
-use fibs_messages::{Board, Fault, FieldFault, Name, Reading, read, read_decimal, split};
+use fibs_messages::{
+    Board, Fault, FieldFault, Name, Reading, check_board, read, read_decimal, split,
+};
 
 /// A board line as the server sends it.
 const LINE: &[u8] =
@@ -67,6 +69,35 @@ fn reads_and_prints_a_real_line(rt: HostRuntime) {
     }
     assert_eq!(rt; print_reads_back(&board), Ok(board));
     assert!(rt; prints_tell_boards(&board, &board));
+}
+
+/// Whether the line says a board, and is the real line but for spaces at its end.
+fn is_copied(line: &[u8]) -> bool {
+    match check_board(line) {
+        Ok(copied) => copied == LINE,
+        Err(_) => false,
+    }
+}
+
+#[test]
+fn a_line_is_copied_without_its_spaces(rt: HostRuntime) {
+    assert!(rt; is_copied(LINE));
+    assert!(rt; is_copied(line_with(53, b"0   ").as_slice()));
+    assert!(rt; !is_copied(line_with(53, b"1").as_slice()));
+    let wrong: [(usize, &[u8], Fault); 4] = [
+        (1, b"boar", Fault::BadName),
+        (2, b"", Fault::BadName),
+        (7, b"-0", Fault::NotANumber),
+        (52, b"0 ", Fault::NotANumber),
+    ];
+    for (field, text, fault) in wrong {
+        let line = line_with(field, text);
+        let is_named = match check_board(line.as_slice()) {
+            Ok(_) => false,
+            Err(found) => found == FieldFault { field, fault },
+        };
+        assert!(rt; is_named, "{field}");
+    }
 }
 
 #[test]

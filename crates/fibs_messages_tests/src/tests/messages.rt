@@ -1,7 +1,7 @@
 //! Tests of messages by worked lines.
 
 use fibs_messages::laws::{canonical_lines_read_back, messages_are_well_formed};
-use fibs_messages::{Fault, Message, Reading, Tail, Word, print_message, read};
+use fibs_messages::{Fault, Message, Reading, Tail, Word, canonical_line, print_message, read};
 use std::alloc::{AllocError, Global};
 use std::process::Abort;
 use std::test::Fail;
@@ -107,6 +107,50 @@ fn reads_messages_and_prints_them(rt: HostRuntime) -> Result<(), Fail> {
         assert!(rt; is_right, "{line:?}");
     }
     Ok(())
+}
+
+/// What is said at once to be printed for a line.
+fn is_copied_as(line: &[u8], canonical: Option<&[u8]>) -> bool {
+    match (canonical_line(line), canonical) {
+        (Some(copied), Some(wanted)) => copied == wanted,
+        (None, None) => true,
+        _ => false,
+    }
+}
+
+#[test]
+fn lines_of_the_specification_are_copied(rt: HostRuntime) {
+    for (line, _) in &PRINTED[..19] {
+        assert!(rt; is_copied_as(line, Some(*line)), "{line:?}");
+    }
+}
+
+/// Lines that are messages, and what is copied of them, if anything.
+static COPIED: [(&[u8], Option<&[u8]>); 14] = [
+    (b"6  ", Some(b"6")),
+    (b"1 bob 5 host  ", Some(b"1 bob 5 host")),
+    (b"12 bob  x ", Some(b"12 bob  x ")),
+    (b"9 bob 0 x", Some(b"9 bob 0 x")),
+    (
+        b"5 a - - 1 0 0.07 9999999999999999999 0 0 h - b ",
+        Some(b"5 a - - 1 0 0.07 9999999999999999999 0 0 h - b"),
+    ),
+    (b"5 a - - 1 0 1500.5 0 3 0 h - b", None),
+    (b"5 a - - 1 0 1500 0 3 0 h - b", None),
+    (b"5 a - - 1 0 01.50 0 3 0 h - b", None),
+    (b"5 a - - 1 0 1.505 0 3 0 h - b", None),
+    (b"5 a - - 1 0 1.50 0 03 0 h - b", None),
+    (b"5 a - - 1  0 1.50 0 3 0 h - b", None),
+    (b"12 bob ", None),
+    (b"17 ", None),
+    (b"20 x", None),
+];
+
+#[test]
+fn other_spellings_are_not_copied(rt: HostRuntime) {
+    for (line, canonical) in &COPIED {
+        assert!(rt; is_copied_as(line, *canonical), "{line:?}");
+    }
 }
 
 #[test]

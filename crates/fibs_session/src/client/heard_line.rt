@@ -19,6 +19,7 @@ pub(crate) struct Answer {
 
 impl Answer {
     /// The answer to a message that is answered by nothing. The message is read where it is lent.
+    #[inline(always)]
     pub(super) fn nothing() -> Answer
         ensures reading { result.reading ≡ Numbered }
         ensures send { result.send.items ≡ [] }

@@ -34,6 +34,7 @@ pub(super) struct Reply {
 
 impl Reply {
     /// Commands alone.
+    #[inline(always)]
     fn of(send: ArrayVec<CommandText, 3>) -> Reply
         ensures send { result.send ≡ send }
         ensures confirmed { result.confirmed ≡ None }
@@ -48,6 +49,7 @@ impl Reply {
 }
 
 /// The reading of a line. One that was cut is a text.
+#[inline(always)]
 pub(crate) fn read_line<'a>(line: &Line<'a>) -> Reading<'a>
     ensures { reading_of result ≡ line_reading (value_of line.now) }
 {
@@ -90,6 +92,7 @@ impl Session {
     ghost use Rattle.fibs_session.specs.Calls.SessionOf.{session_of, ask_of, texts_of};
 
     /// A board that has a position was heard.
+    #[inline(always)]
     fn note_board(&mut self, heard: ShownBoard) -> Option<Outstanding>
         ensures fields { session_of self.new ≡ with_board (session_of self.old) (fields_of heard.board) }
         ensures result { option_map ask_of result ≡ confirmed_of (session_of self.old) (fields_of heard.board) }
@@ -106,6 +109,7 @@ impl Session {
     }
 
     /// A message was heard.
+    #[inline(always)]
     fn note_message(&mut self, message: &Message<'_>) -> ArrayVec<CommandText, 3>
         ensures fields { session_of self.new ≡ (message_fields (session_of self.old) (message_of message.now)).session }
         ensures send { texts_of result.items ≡ (message_fields (session_of self.old) (message_of message.now)).send }
@@ -147,6 +151,7 @@ impl Session {
 
     /// A board that has a position was heard. It is shown and confirms, and only then is the standing order asked: a
     /// decision that it confirms waits no longer.
+    #[inline(always)]
     fn note_shown(&mut self, heard: ShownBoard) -> Reply
         ensures fields { let v = with_board (session_of self.old) (fields_of heard.board) in
             session_of self.new ≡ with_roll v (fields_of heard.board) (due_of v (fields_of heard.board)) }
@@ -171,6 +176,7 @@ impl Session {
     }
 
     /// What a reading says, online.
+    #[inline(always)]
     fn note(&mut self, reading: &Reading<'_>) -> Reply
         ensures fields { session_of self.new ≡ (heard_fields (session_of self.old) (reading_of reading.now)).session }
         ensures send { texts_of result.send.items
@@ -192,6 +198,7 @@ impl Session {
     }
 
     /// What a reading says. Offline it says nothing.
+    #[inline(always)]
     pub(super) fn note_line(&mut self, reading: &Reading<'_>) -> Reply
         ensures fields { session_of self.new ≡ (line_fields (session_of self.old) (reading_of reading.now)).session }
         ensures send { texts_of result.send.items
