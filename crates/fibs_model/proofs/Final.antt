@@ -33,10 +33,12 @@ use Rattle.fibs_model.proofs.wires.Boards.{waiting, boards, gained_none}
 use Rattle.fibs_model.proofs.joint.Joint.{view, Live, Held, Current, Joint}
 use Rattle.fibs_model.proofs.log.Lists.{to_list}
 use Rattle.fibs_model.proofs.joint.Sending.{if_fact, same_test}
-use Rattle.fibs_model.proofs.joint.Click.{yes}
+use Rattle.fibs_model.proofs.log.Yes.{yes}
 use Rattle.fibs_model.proofs.joint.EachEvent.{served, joint_after, joint_start}
 use Rattle.fibs_model.proofs.log.Moved.{all_moved_on}
-use Rattle.fibs_model.proofs.log.Told.{Told, AllAllowed, told_plain, told_no, told_yes, told_took, answered, on_shown}
+use Rattle.fibs_model.proofs.log.Called.{own_of, clicks_sent_of}
+use Rattle.fibs_model.proofs.log.Fitting.{answered, on_shown}
+use Rattle.fibs_model.proofs.log.Told.{Told, AllAllowed, told_plain, told_no, told_yes, told_took}
 use Rattle.fibs_commands.specs.PlainCommands.{PlainValue}
 use Rattle.fibs_session.specs.History.Hearing.{line_reading}
 use Rattle.fibs_boards.specs.Board.{spelling}
@@ -188,10 +190,9 @@ module _ (law : Lawful) where
       record {
         seen = λ c. tt;
         legal = λ c. tt;
-        pairs = tt;
+        called = refl;
         undone = tt;
-        answers = tt;
-        boards = tt;
+        fit = tt;
         order = λ c i h. absurd (omega arith);
       }
 
@@ -257,12 +258,13 @@ module _ (law : Lawful) where
             prefix = λ c. (to_list (j.settled c).p, sym (j.settled c).owed);
             order = t.order;
             legal = λ c. all_legal (sent c w.log) (t.legal c);
-            own_click = t.pairs;
-            on_shown = on_shown w.log t.boards;
+            own = own_of w.log t.called;
+            clicks_sent = clicks_sent_of w.log t.called;
+            on_shown = on_shown w.log t.fit;
             at_most_one = λ c. few (j.settled c).p _ _ (j.settled c).owed;
             moved_on = all_moved_on law w.log (λ c. ((j.settled c).p, (j.settled c).owed)) j.moved;
             none_undone = t.undone;
-            answered = answered w.log t.answers;
+            answered = answered w.log t.fit;
             at_rest = rests w j;
           }
 

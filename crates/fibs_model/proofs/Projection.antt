@@ -38,7 +38,7 @@ use Rattle.fibs_model.proofs.log.Lists.{same_number, other_number, map_no_more}
 use Rattle.fibs_model.proofs.log.Past.{open_append}
 use Rattle.fibs_model.proofs.joint.Joint.{linked_same, linked_other}
 use Rattle.fibs_model.proofs.joint.Sending.{if_fact}
-use Rattle.fibs_model.proofs.joint.Click.{yes}
+use Rattle.fibs_model.proofs.log.Yes.{yes}
 use Rattle.fibs_model.proofs.joint.EachEvent.{said, is_open}
 
 talk_path : (login : List ℕ) (l l' : List Entry) (s s' : List ℕ) (c c' : List (List ℕ)) → l ≡ l' → s ≡ s' → c ≡ c' →

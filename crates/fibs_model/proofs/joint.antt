@@ -1,6 +1,7 @@
 -- The joint statement, and that each event keeps it.
 pub mod Joint
 pub mod Sending
+pub mod Asked
 pub mod Deliver
 pub mod Click
 pub mod Turns

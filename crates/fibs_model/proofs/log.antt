@@ -3,4 +3,7 @@ pub mod Lists
 pub mod Moving
 pub mod Moved
 pub mod Past
+pub mod Yes
+pub mod Called
+pub mod Fitting
 pub mod Told

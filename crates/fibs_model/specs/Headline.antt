@@ -48,14 +48,25 @@ abbrev pub AllLegal : List Ask → Type 0
 AllLegal [] = Unit {0}
 AllLegal (a ∷ rest) = IsGood a.0 × IsAllowed a.0 a.1 × AllLegal rest
 
--- A click that is answered by yes and a Sent come in pairs of one connection and one decision, the Sent directly after
--- its click; neither stands without the other.
-abbrev pub InPairs : List Entry → Type 0
-InPairs [] = Unit {0}
-InPairs (Clicked c d None ∷ Sent c' b d' ∷ later) = (c ≡ c') × (d ≡ d') × InPairs later
-InPairs (Clicked c d None ∷ later) = ⊥
-InPairs (Sent c b d ∷ later) = ⊥
-InPairs (e ∷ later) = InPairs later
+-- what a Sent answers, behind the log before it: a click there of this decision that was answered by yes
+pub data Answers (c : ℕ) (b : BoardFields) : List Entry → DecisionValue → Type 0 where
+  its_click : (before : List Entry) (d : DecisionValue) → Answers c b (before ++ Clicked c d None ∷ []) d
+
+-- each decision sent stands directly after what it answers
+abbrev pub AllAnswerTheirs : List Entry → Type 0
+AllAnswerTheirs log =
+    (before later : List Entry) (c : ℕ) (b : BoardFields) (d : DecisionValue) → log ≡ before ++ Sent c b d ∷ later
+    → Answers c b before d
+
+-- the next entry is this decision, sent on c
+abbrev pub SentNext : ℕ → DecisionValue → List Entry → Type 0
+SentNext c d later = (b : BoardFields) × (rest : List Entry) × (later ≡ Sent c b d ∷ rest)
+
+-- each click that was answered by yes is directly followed by its decision
+abbrev pub AllClicksSent : List Entry → Type 0
+AllClicksSent log =
+    (before later : List Entry) (c : ℕ) (d : DecisionValue) → log ≡ before ++ Clicked c d None ∷ later
+    → SentNext c d later
 
 -- each decision was sent with the board that was the last one shown before it on that connection
 abbrev pub AllOnShown : List Entry → Type 0
@@ -100,9 +111,10 @@ pub record Headline (w : World) : Type 0 where
   pub on_shown : AllOnShown w.log
   -- each is legal;
   pub legal : (c : ℕ) → AllLegal (sent c w.log)
-  -- each answers its own click there: it stands directly after it, and each click answered by yes is directly followed
-  -- by its decision;
-  pub own_click : InPairs w.log
+  -- each answers its own click there: it stands directly after it,
+  pub own : AllAnswerTheirs w.log
+  -- and each click answered by yes is directly followed by its decision;
+  pub clicks_sent : AllClicksSent w.log
   -- at most the last is missing;
   pub at_most_one : (c : ℕ) → length (sent c w.log) ≤ length (took c w.log) + 1
   -- and none once a differing board is shown.

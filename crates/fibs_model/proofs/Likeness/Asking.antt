@@ -26,7 +26,7 @@ use Rattle.fibs_model.specs.Server.{command}
 use Rattle.fibs_model.specs.WireLinks.{more_asked}
 use Rattle.fibs_model.specs.World.{World, after, noted, linked, asks, clicks, sends_out, sends_plain, talk_of}
 use Rattle.fibs_model.specs.WorldOf.{WorldValue, StandsFor, Goes}
-use Rattle.fibs_model.proofs.joint.Click.{yes}
+use Rattle.fibs_model.proofs.log.Yes.{yes}
 use Rattle.fibs_model.proofs.joint.EachEvent.{said}
 use Rattle.fibs_model.proofs.log.Past.{open_append}
 use Rattle.fibs_model.proofs.Likeness.Whole as whole

@@ -14,50 +14,13 @@ use Rattle.fibs_session.specs.History.Log.{Opened, LoggedIn, Welcomed, Informed,
 use Rattle.fibs_session.specs.History.Log.{Lost}
 use Rattle.fibs_session.specs.History.Words.{Ask, one_if, last, shown, shown_by, open_now, sent, took, sent_by, took_by}
 use Rattle.fibs_session.specs.History.Words.{answer}
-use Rattle.fibs_model.specs.Headline.{InPairs, NoneUndone, InOrder, AllAnswered, AllOnShown, places, is_sent}
-use Rattle.fibs_model.specs.Headline.{is_took}
+use Rattle.fibs_model.specs.Headline.{NoneUndone, InOrder, places, is_sent, is_took}
+use Rattle.fibs_model.proofs.log.Called.{Called, called_append}
+use Rattle.fibs_model.proofs.log.Fitting.{AllFit, fit_append}
 use Rattle.fibs_model.proofs.log.Lists.{same_number, other_number, map_no_more, map_more, one_of_true, one_of_false}
 use Rattle.fibs_session.specs.History.Machine.{allows}
 use Rattle.fibs_position.specs.GamePart.{same_game}
 use Rattle.fibs_position.specs.GoodBoard.{good as is_good}
-
--- by recursion: the clicks of later, after before
-abbrev pub Answers : List Entry → List Entry → Type 0
-Answers before [] = Unit {0}
-Answers before (Clicked c d a ∷ later) =
-    (c ≡ open_now before) × (a ≡ answer same_game allows before d) × Answers (before ++ Clicked c d a ∷ []) later
-Answers before (e ∷ later) = Answers (before ++ e ∷ []) later
-
--- by recursion: the decisions sent later, after before
-abbrev pub OnShown : List Entry → List Entry → Type 0
-OnShown before [] = Unit {0}
-OnShown before (Sent c b d ∷ later) = (last (shown c before) ≡ Some b) × OnShown (before ++ Sent c b d ∷ []) later
-OnShown before (e ∷ later) = OnShown (before ++ e ∷ []) later
-
--- decisions on boards shown, in two parts of a log
-on_append : (before xs ys : List Entry) → OnShown before xs → OnShown (before ++ xs) ys → OnShown before (xs ++ ys)
-on_append before [] ys h k = subst (λ l. OnShown l ys) (append-nil before) k
-on_append before (Sent c b d ∷ later) ys h k = (
-  h.0,
-  on_append (before ++ Sent c b d ∷ []) later ys h.1
-      (subst (λ l. OnShown l ys) (sym (append_assoc before (Sent c b d ∷ []) later)) k),
-)
-on_append before (e ∷ later) ys h k =
-    on_append (before ++ e ∷ []) later ys h (subst (λ l. OnShown l ys) (sym (append_assoc before (e ∷ []) later)) k)
-
--- the clause, from the recursion
-pub on_shown : (log : List Entry) → OnShown [] log → AllOnShown log
-on_shown log h before later c b d e = go [] before later (subst (OnShown []) e h)
-  where
-    go : (first before later : List Entry) → OnShown first (before ++ Sent c b d ∷ later)
-        → last (shown c (first ++ before)) ≡ Some b
-    go first [] later h = subst (λ l. last (shown c l) ≡ Some b) (sym (append-nil first)) h.0
-    go first (Sent c' b' d' ∷ before) later h =
-        subst (λ l. last (shown c l) ≡ Some b) (append_assoc first (Sent c' b' d' ∷ []) before)
-        (go (first ++ Sent c' b' d' ∷ []) before later h.1)
-    go first (x ∷ before) later h =
-        subst (λ l. last (shown c l) ≡ Some b) (append_assoc first (x ∷ []) before)
-        (go (first ++ x ∷ []) before later h)
 
 -- each of the decisions was allowed on its board, which is good, by the tests
 abbrev pub AllAllowed : List Ask → Type 0
@@ -73,27 +36,10 @@ AllGood (b ∷ rest) = (is_good b ≡ true) × AllGood rest
 pub record Told (log : List Entry) : Type 0 where
   pub seen : (c : ℕ) → AllGood (shown c log)
   pub legal : (c : ℕ) → AllAllowed (sent c log)
-  pub pairs : InPairs log
+  pub called : Called None [] log
   pub undone : NoneUndone log
-  pub answers : Answers [] log
-  pub boards : OnShown [] log
+  pub fit : AllFit [] log
   pub order : (c : ℕ) → InOrder c log
-
--- clicks and decisions in pairs, in two parts of a log
-pairs_append : (xs ys : List Entry) → InPairs xs → InPairs ys → InPairs (xs ++ ys)
-pairs_append [] ys h k = k
-pairs_append (Clicked c d None ∷ Sent c' b d' ∷ later) ys h k = (h.0, h.1, pairs_append later ys h.2 k)
-pairs_append (Clicked c d (Some x) ∷ later) ys h k = pairs_append later ys h k
-pairs_append (Sent c b d ∷ later) ys h k = absurd h
-pairs_append (Opened c ∷ later) ys h k = pairs_append later ys h k
-pairs_append (LoggedIn c ∷ later) ys h k = pairs_append later ys h k
-pairs_append (Welcomed c ∷ later) ys h k = pairs_append later ys h k
-pairs_append (Informed c f ∷ later) ys h k = pairs_append later ys h k
-pairs_append (Shown c b ∷ later) ys h k = pairs_append later ys h k
-pairs_append (Took c b d ∷ later) ys h k = pairs_append later ys h k
-pairs_append (Undone c b d ∷ later) ys h k = pairs_append later ys h k
-pairs_append (Lost c u ∷ later) ys h k = pairs_append later ys h k
-pairs_append (Clicked c d None ∷ later) ys h k = absurd h
 
 -- none is Undone, in two parts of a log
 undone_append : (xs ys : List Entry) → NoneUndone xs → NoneUndone ys → NoneUndone (xs ++ ys)
@@ -116,35 +62,6 @@ last_good : (xs : List Board) (b : Board) → AllGood xs → last xs ≡ Some b 
 last_good [] b h e = cc
 last_good (x ∷ []) b h e = let s : x ≡ b = cc in subst (λ z. is_good z ≡ true) s h.0
 last_good (x ∷ y ∷ xs) b h e = last_good (y ∷ xs) b h.1 e
-
--- all clicks carry their answers, in two parts of a log
-answers_append : (before xs ys : List Entry) → Answers before xs → Answers (before ++ xs) ys → Answers before (xs ++ ys)
-answers_append before [] ys h k = subst (λ l. Answers l ys) (append-nil before) k
-answers_append before (Clicked c d a ∷ later) ys h k = (
-  h.0,
-  h.1,
-  answers_append (before ++ Clicked c d a ∷ []) later ys h.2
-      (subst (λ l. Answers l ys) (sym (append_assoc before (Clicked c d a ∷ []) later)) k),
-)
-answers_append before (e ∷ later) ys h k =
-    answers_append (before ++ e ∷ []) later ys h
-    (subst (λ l. Answers l ys) (sym (append_assoc before (e ∷ []) later)) k)
-
--- the clause, from the recursion
-pub answered : (log : List Entry) → Answers [] log → AllAnswered log
-answered log h before later c d a e =
-    go [] before later (subst (Answers []) e h)
-  where
-    go : (first before later : List Entry) → Answers first (before ++ Clicked c d a ∷ later)
-        → (c ≡ open_now (first ++ before)) × (a ≡ answer same_game allows (first ++ before) d)
-    go first [] later h =
-        subst (λ l. (c ≡ open_now l) × (a ≡ answer same_game allows l d)) (sym (append-nil first)) (h.0, h.1)
-    go first (Clicked c' d' a' ∷ before) later h =
-        subst (λ l. (c ≡ open_now l) × (a ≡ answer same_game allows l d))
-        (append_assoc first (Clicked c' d' a' ∷ []) before) (go (first ++ Clicked c' d' a' ∷ []) before later h.2)
-    go first (x ∷ before) later h =
-        subst (λ l. (c ≡ open_now l) × (a ≡ answer same_game allows l d)) (append_assoc first (x ∷ []) before)
-        (go (first ++ x ∷ []) before later h)
 
 -- places
 
@@ -277,34 +194,33 @@ one_good b false h = tt
 
 -- what is told of a plain entry alone
 plain_told : (log : List Entry) (e : Entry) → IsPlain e
-    → InPairs (e ∷ []) × NoneUndone (e ∷ []) × Answers log (e ∷ []) × OnShown log (e ∷ [])
+    → Called None log (e ∷ []) × NoneUndone (e ∷ []) × AllFit log (e ∷ [])
     × ((c : ℕ) → (sent c (e ∷ []) ≡ []) × (took c (e ∷ []) ≡ []) × AllGood (shown c (e ∷ [])))
-plain_told log (Opened c) h = (tt, tt, tt, tt, λ c. (refl, refl, tt))
-plain_told log (LoggedIn c) h = (tt, tt, tt, tt, λ c. (refl, refl, tt))
-plain_told log (Welcomed c) h = (tt, tt, tt, tt, λ c. (refl, refl, tt))
-plain_told log (Informed c f) h = (tt, tt, tt, tt, λ c. (refl, refl, tt))
-plain_told log (Shown d b) h = (tt, tt, tt, tt, λ c. (refl, refl, one_good b (nat_eq d c) h))
-plain_told log (Lost c u) h = (tt, tt, tt, tt, λ c. (refl, refl, tt))
+plain_told log (Opened c) h = ((refl, refl), tt, (tt, tt), λ c. (refl, refl, tt))
+plain_told log (LoggedIn c) h = ((refl, refl), tt, (tt, tt), λ c. (refl, refl, tt))
+plain_told log (Welcomed c) h = ((refl, refl), tt, (tt, tt), λ c. (refl, refl, tt))
+plain_told log (Informed c f) h = ((refl, refl), tt, (tt, tt), λ c. (refl, refl, tt))
+plain_told log (Shown d b) h = ((refl, refl), tt, (tt, tt), λ c. (refl, refl, one_good b (nat_eq d c) h))
+plain_told log (Lost c u) h = ((refl, refl), tt, (tt, tt), λ c. (refl, refl, tt))
 plain_told log (Clicked c d a) h = absurd h
 plain_told log (Sent c b d) h = absurd h
 plain_told log (Took c b d) h = absurd h
 plain_told log (Undone c b d) h = absurd h
 
 -- what is told of a log and of more entries is told of both
-grown : (log es : List Entry) → Told log → InPairs es → NoneUndone es → Answers log es → OnShown log es
+grown : (log es : List Entry) → Told log → Called None log es → NoneUndone es → AllFit log es
     → ((c : ℕ) → AllGood (shown c es)) → ((c : ℕ) → AllAllowed (sent c es)) → ((c : ℕ) → InOrder c (log ++ es))
     → Told (log ++ es)
-grown log es t p u a s g l o = record {
+grown log es t p u f g l o = record {
   seen =
       λ c. subst (AllGood) (sym (map_more (shown_by c) log es (shown c es) refl))
       (good_append (shown c log) (shown c es) (t.seen c) (g c));
   legal =
       λ c. subst (AllAllowed) (sym (map_more (sent_by c) log es (sent c es) refl))
       (legal_append (sent c log) (sent c es) (t.legal c) (l c));
-  pairs = pairs_append log es t.pairs p;
+  called = called_append None [] log es t.called p;
   undone = undone_append log es t.undone u;
-  answers = answers_append [] log es t.answers a;
-  boards = on_append [] log es t.boards s;
+  fit = fit_append [] log es t.fit f;
   order = o;
 }
 
@@ -312,22 +228,24 @@ grown log es t p u a s g l o = record {
 pub told_plain : (log : List Entry) (e : Entry) → IsPlain e → Told log → Told (log ++ e ∷ [])
 told_plain log e h t =
     let q = plain_told log e h in
-    grown log (e ∷ []) t q.0 q.1 q.2 q.3 (λ c. (q.4 c).2) (λ c. subst (AllAllowed) (sym (q.4 c).0) tt)
-    (λ c. order_more c log (e ∷ []) (t.order c) (q.4 c).1)
+    grown log (e ∷ []) t q.0 q.1 q.2 (λ c. (q.3 c).2) (λ c. subst (AllAllowed) (sym (q.3 c).0) tt)
+    (λ c. order_more c log (e ∷ []) (t.order c) (q.3 c).1)
 
 -- a click is noted that is refused
 pub told_no : (log : List Entry) (d : Decision) (x : Refusal) → answer same_game allows log d ≡ Some x → Told log
     → Told (log ++ Clicked (open_now log) d (Some x) ∷ [])
 told_no log d x h t =
-    grown log _ t tt tt (refl, sym h, tt) tt (λ c. tt) (λ c. tt) (λ c. order_more c log _ (t.order c) refl)
+    grown log _ t (refl, refl) tt ((refl, sym h), tt) (λ c. tt) (λ c. tt) (λ c. order_more c log _ (t.order c) refl)
 
 -- a click is noted that is answered by yes, with what is sent
 pub told_yes : (log : List Entry) (d : Decision) (b : Board) → answer same_game allows log d ≡ None → allows b d ≡ None
     → last (shown (open_now log) log) ≡ Some b → Told log
     → Told (log ++ Clicked (open_now log) d None ∷ Sent (open_now log) b d ∷ [])
 told_yes log d b h k la t =
-    grown log _ t (refl, refl, tt) tt (refl, sym h, tt)
-    (ap last (map_no_more (shown_by (open_now log)) log (Clicked (open_now log) d None ∷ []) refl) ∙ la, tt)
+    grown log _ t (refl, (refl, refl)) tt (
+      (refl, sym h),
+      (ap last (map_no_more (shown_by (open_now log)) log (Clicked (open_now log) d None ∷ []) refl) ∙ la, tt),
+    )
     (λ c. tt)
     (λ c. one (nat_eq (open_now log) c)) (λ c. order_more c log _ (t.order c) refl)
   where
@@ -338,7 +256,7 @@ told_yes log d b h k la t =
 -- a decision took effect that was sent and had not yet
 pub told_took : (log : List Entry) (c : ℕ) (b : Board) (d : Decision) → length (took c log) < length (sent c log)
     → Told log → Told (log ++ Took c b d ∷ [])
-told_took log c b d lt t = grown log _ t tt tt tt tt (λ e. tt) (λ e. tt) (λ e. elim (eqb_tells e c) [
+told_took log c b d lt t = grown log _ t (refl, refl) tt (tt, tt) (λ e. tt) (λ e. tt) (λ e. elim (eqb_tells e c) [
   | inl q ↦ subst (λ e. InOrder e (log ++ Took c b d ∷ [])) (sym q.1) (order_took c log b d (t.order c) lt)
   | inr q ↦
       order_more e log _ (t.order e)
