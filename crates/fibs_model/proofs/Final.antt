@@ -14,12 +14,13 @@ use Rattle.fibs_messages.specs.Line.{ReadingValue, numbered_line, board_line, te
 use Rattle.fibs_session.specs.declared.refusal.PlainRefusal.{PlainRefusal}
 use Rattle.fibs_session.specs.History.Hearing.{nothing_heard, flags_of}
 use Rattle.fibs_session.specs.History.Machine.{plain_refusal}
-use Rattle.fibs_model.specs.Wires.{next_line}
+use Rattle.fibs_model.specs.Wires.{delivered, taken, next_line}
 use Rattle.fibs_model.specs.Server.{is_die, decision_in, command, effect, carried, obeyed, answered as answered_now}
 use Rattle.fibs_model.specs.Server.{Stale, LoggedIn as LoggedInNow}
 use Rattle.fibs_model.specs.Events.{Event, Open, Click, Plain, Deliver, Lose, Serve, Own, Repeat, Text}
 use Rattle.fibs_model.specs.World.{does_heard, does_served, sends_plain, talk_of, World, noted, linked, sends}
-use Rattle.fibs_model.specs.World.{is_talking, sends_out, clicks, hears, hears_all, takes_line, obeys, carries_out}
+use Rattle.fibs_model.specs.World.{is_talking, sends_out, clicks, hears, hears_all, takes_line}
+use Rattle.fibs_model.proofs.joint.Turns.{obeys, carries_out}
 use Rattle.fibs_model.specs.World.{serves, after, start}
 use Rattle.fibs_model.specs.Refusals.{refusal}
 use Rattle.fibs_model.specs.Headline.{Headline, IsAtRest, AllLegal}
@@ -158,13 +159,7 @@ module _ (law : Lawful) where
   told_after login w (Click d) j k h = told_click w d h
   told_after login w (Plain p) j k h = told_said w p (plain_refusal (talk_of login w) p) h
   told_after login w (Deliver n) j k h = told_hears_all (open_now w.log)
-      (linked w (open_now w.log)
-      (record {
-        heard = (w.links (open_now w.log)).heard ++ take n (w.links (open_now w.log)).coming;
-        coming = drop n (w.links (open_now w.log)).coming;
-        served = (w.links (open_now w.log)).served;
-        asked = (w.links (open_now w.log)).asked;
-      }))
+      (linked w (open_now w.log) (delivered (w.links (open_now w.log)) n))
       (gained (w.links (open_now w.log)).heard (take n (w.links (open_now w.log)).coming)) h
   told_after login w (Lose n) j k h =
       told_plain w.log (Lost (open_now w.log) (unconfirmed same_game (open_now w.log) w.log)) tt h
@@ -172,14 +167,7 @@ module _ (law : Lawful) where
       let s = served w c d1 d2 k in
       subst (λ o. Told (serves c w d1 d2 o).log) (sym s.next)
       (told_serve w c d1 d2 s.line.0 s.line.1
-      (linked w c
-      (record {
-        heard = (w.links c).heard;
-        coming = (w.links c).coming;
-        served = (w.links c).served ++ on_wire s.line.0;
-        asked = s.line.1;
-      })) j h s.die1 s.die2 s.next s.some refl
-      refl refl)
+      (linked w c (taken (w.links c) (on_wire s.line.0) s.line.1)) j h s.die1 s.die2 s.next s.some refl refl refl)
   told_after login w (Own b) j k h = told_sends (record w { board = b }) (spelling b) h
   told_after login w Repeat j k h = told_sends w (spelling w.board) h
   told_after login w (Text t) j k h = told_sends w t h

@@ -23,7 +23,7 @@ use Rattle.fibs_model.specs.Events.{Event, Open, Click, Plain, Deliver, Lose, Se
 use Rattle.fibs_model.specs.Once.{taken_on, Leaves, Takes, NoneOwn}
 use Rattle.fibs_model.specs.Server.{Served, effect, carried, obeyed, answered, decision_in}
 use Rattle.fibs_model.specs.Server as V
-use Rattle.fibs_model.specs.Wires.{Link, next_line}
+use Rattle.fibs_model.specs.Wires.{Link, delivered, taken, next_line}
 use Rattle.fibs_model.specs.World.{World, after, noted, linked, sends, is_talking, does_heard, hears, hears_all}
 use Rattle.fibs_model.specs.World.{sends_out, clicks, sends_plain, does_served, takes_line, serves, talk_of}
 use Rattle.fibs_model.proofs.joint.Sending.{if_fact}
@@ -201,12 +201,7 @@ moves_line : EffectIsExact → EffectIsGood → (w : World) (c d1 d2 : ℕ) (o :
     → Moves w (serves c w d1 d2 o) (Serve c d1 d2)
 moves_line exact good w c d1 d2 None = inl (leaves w w (adds_same w w refl refl))
 moves_line exact good w c d1 d2 (Some p) =
-    let l : Link = record {
-      heard = (w.links c).heard;
-      coming = (w.links c).coming;
-      served = (w.links c).served ++ on_wire p.0;
-      asked = p.1;
-    } in
+    let l : Link = taken (w.links c) (on_wire p.0) p.1 in
     let first = is_empty (w.links c).served in
     moves_linked w (takes_line c (linked w c l) first p.0 d1 d2) c l (Serve c d1 d2)
     (moves_served exact good c d1 d2 (linked w c l) (answered w.board w.logged_in c first p.0 d1 d2)
@@ -226,8 +221,7 @@ adds login w (Click d) h = adds_clicks (open_now w.log) w d (answer same_game al
 adds login w (Plain p) h = adds_plain w p (plain_refusal (talk_of login w) p)
 adds login w (Deliver n) h =
     let l : Link = w.links (open_now w.log) in
-    let w1 : World = linked w (open_now w.log)
-    (record { heard = l.heard ++ take n l.coming; coming = drop n l.coming; served = l.served; asked = l.asked }) in
+    let w1 : World = linked w (open_now w.log) (delivered l n) in
     adds_on w w1 (after login w (Deliver n)) (adds_same w w1 refl refl)
     (adds_hears_all (open_now w.log) w1 (gained l.heard (take n l.coming)))
 adds login w (Lose k) h = record {

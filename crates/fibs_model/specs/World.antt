@@ -1,7 +1,7 @@
 -- The world as a machine over events: a server, the wires to its connections, and the log of what happened. It holds no
 -- client: what a client answers is read from the log and from the commands handed out, by the client's own definitions.
 use Rattle.std.specs.Prelude.{ℕ, ◌+◌, Bool, not, ◌&&◌, List, [], ◌∷◌, ◌++◌, Option, Some, None, if◌then◌else◌, nat_eq}
-use Rattle.std.specs.Prelude.{flat_map, take, drop}
+use Rattle.std.specs.Prelude.{take}
 use Rattle.fibs_lines.specs.Lines.{ReadLine}
 use Rattle.fibs_boards.specs.Board.{BoardFields, spelling}
 use Rattle.fibs_messages.specs.Line.{ReadingValue}
@@ -14,9 +14,9 @@ use Rattle.fibs_session.specs.History.Log.{Entry}
 use Rattle.fibs_session.specs.History.Log as L
 use Rattle.fibs_session.specs.History.Words.{is_empty, last, open_now, shown, unconfirmed, answer}
 use Rattle.fibs_session.specs.History.Hearing.{Heard, heard, line_reading}
-use Rattle.fibs_session.specs.History.Machine.{Talk, allows, gained, on_wire, plain_refusal}
-use Rattle.fibs_model.specs.Wires.{Link, empty_link, next_line}
-use Rattle.fibs_model.specs.Server.{Served, Stale, LoggedIn, Took, Undone, Answered, answered, carried, obeyed, command}
+use Rattle.fibs_session.specs.History.Machine.{Talk, allows, gained, on_wire, wire_of, plain_refusal}
+use Rattle.fibs_model.specs.Wires.{Link, empty_link, more_coming, delivered, more_asked, taken, cut_off, next_line}
+use Rattle.fibs_model.specs.Server.{Served, Stale, LoggedIn, Took, Undone, Answered, answered, command}
 use Rattle.fibs_model.specs.Events.{Event, Open, Click, Plain, Deliver, Lose, Serve, Own, Repeat, Text}
 
 pub record World : Type 0 where
@@ -57,16 +57,7 @@ handed w c texts = record w { commands = λ d. if nat_eq d c then w.commands c +
 
 -- the client hands out commands, which go on the wire to the server, each with CR LF
 abbrev pub asks : World → ℕ → List (List ℕ) → World
-asks w c texts =
-    handed
-    (linked w c
-    (record {
-      heard = (w.links c).heard;
-      coming = (w.links c).coming;
-      served = (w.links c).served;
-      asked = (w.links c).asked ++ flat_map on_wire texts;
-    }))
-    c texts
+asks w c texts = handed (linked w c (more_asked (w.links c) (wire_of texts))) c texts
 
 -- the connection that is logged in is open
 abbrev pub is_talking : World → Bool
@@ -75,14 +66,7 @@ is_talking w = nat_eq (open_now w.log) w.logged_in && not (nat_eq w.logged_in 0)
 -- the server sends a line with CR LF to the connection logged in; it is dropped where there is none, or it is lost
 abbrev pub sends : World → List ℕ → World
 sends w line =
-    if is_talking w then linked w w.logged_in
-    (record {
-      heard = (w.links w.logged_in).heard;
-      coming = (w.links w.logged_in).coming ++ on_wire line;
-      served = (w.links w.logged_in).served;
-      asked = (w.links w.logged_in).asked;
-    })
-    else w
+    if is_talking w then linked w w.logged_in (more_coming (w.links w.logged_in) (on_wire line)) else w
 
 -- the client heard a line: its own definition says what that gives
 abbrev pub does_heard : ℕ → World → Heard → World
@@ -119,12 +103,6 @@ does_served c w (Took d b) = sends (noted (record w { board = b }) (L.Took c w.b
 does_served c w (Undone d) = sends (noted w (L.Undone c w.board d ∷ [])) (spelling w.board)
 does_served c w Answered = sends w (spelling w.board)
 
-abbrev pub carries_out : ℕ → World → DecisionValue → Option BoardFields → World
-carries_out c w d o = does_served c w (carried d o)
-
-abbrev pub obeys : ℕ → World → ℕ → ℕ → Option DecisionValue → World
-obeys c w d1 d2 o = does_served c w (obeyed w.board d1 d2 o)
-
 abbrev pub takes_line : ℕ → World → Bool → List ℕ → ℕ → ℕ → World
 takes_line c w first text d1 d2 = does_served c w (answered w.board w.logged_in c first text d1 d2)
 
@@ -132,15 +110,7 @@ takes_line c w first text d1 d2 = does_served c w (answered w.board w.logged_in 
 abbrev pub serves : ℕ → World → ℕ → ℕ → Option (List ℕ × List ℕ) → World
 serves c w d1 d2 None = w
 serves c w d1 d2 (Some p) =
-    takes_line c
-    (linked w c
-    (record {
-      heard = (w.links c).heard;
-      coming = (w.links c).coming;
-      served = (w.links c).served ++ on_wire p.0;
-      asked = p.1;
-    }))
-    (is_empty (w.links c).served) p.0 d1 d2
+    takes_line c (linked w c (taken (w.links c) (on_wire p.0) p.1)) (is_empty (w.links c).served) p.0 d1 d2
 
 -- What an event does that is not refused, one line for each. `login` is the command that logs the user in.
 abbrev pub after : List ℕ → World → Event → World
@@ -151,15 +121,11 @@ after login w (Plain p) = sends_plain w p (plain_refusal (talk_of login w) p)
 after login w (Deliver n) =
     let c : ℕ = open_now w.log in
     let l : Link = w.links c in
-    hears_all c
-    (linked w c
-    (record { heard = l.heard ++ take n l.coming; coming = drop n l.coming; served = l.served; asked = l.asked }))
-    (gained l.heard (take n l.coming))
+    hears_all c (linked w c (delivered l n)) (gained l.heard (take n l.coming))
 after login w (Lose k) =
     let c : ℕ = open_now w.log in
     let l : Link = w.links c in
-    noted (linked w c (record { heard = l.heard; coming = []; served = l.served; asked = take k l.asked }))
-    (L.Lost c (unconfirmed same_game c w.log) ∷ [])
+    noted (linked w c (cut_off l k)) (L.Lost c (unconfirmed same_game c w.log) ∷ [])
 after login w (Serve c d1 d2) = serves c w d1 d2 (next_line (w.links c).asked)
 after login w (Own b) = sends (record w { board = b }) (spelling b)
 after login w Repeat = sends w (spelling w.board)

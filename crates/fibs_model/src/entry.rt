@@ -6,9 +6,8 @@ ghost use Rattle.fibs_messages.specs.Message.{message_of};
 ghost use Rattle.fibs_session.specs.History.Hearing.{heard, heard_message};
 ghost use Rattle.fibs_session.specs.History.Log as L;
 
-use crate::server::is_good;
 use fibs_messages::{Board, Message, Reading};
-use fibs_position::Decision;
+use fibs_position::{Decision, is_good};
 use fibs_session::{Outstanding, Refusal};
 
 /// What is noted as it happens. `conn` is the connection's number, from 1.

@@ -106,14 +106,6 @@ impl Model for Server {
         (good (fields_of s.board) ≡ true) × (position_value s.position ≡ position_of (fields_of s.board)) };
 }
 
-/// The board is good.
-pub(crate) fn is_good(board: &Board) -> bool
-    ensures { result ≡ good (fields_of board.now) }
-{
-    fibs_position::laws::good_is_exact();
-    Position::of(board).is_ok()
-}
-
 impl Server {
     ghost use Rattle.fibs_model.specs.ServerOf.{served_of, after_line};
 

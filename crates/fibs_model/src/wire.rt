@@ -9,9 +9,9 @@ ghost use Rattle.fibs_session.specs.History.Machine.{on_wire};
 ghost use Rattle.fibs_model.specs.Refusals.{is_board_text, reads_as_board};
 ghost use Rattle.fibs_model.specs.Wires.{next_line};
 
-use crate::server::is_good;
 use fibs_lines::{Line, Lines};
 use fibs_messages::{Reading, read};
+use fibs_position::is_good;
 use memchr::memmem;
 use std::alloc::{AllocError, Global};
 use std::marker::Model;

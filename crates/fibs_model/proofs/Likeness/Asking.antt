@@ -29,7 +29,7 @@ use Rattle.fibs_model.specs.WorldOf.{WorldValue, StandsFor, Goes}
 use Rattle.fibs_model.proofs.log.Yes.{yes}
 use Rattle.fibs_model.proofs.joint.EachEvent.{said}
 use Rattle.fibs_model.proofs.log.Past.{open_append}
-use Rattle.fibs_model.proofs.Likeness.Whole as whole
+use Rattle.fibs_model.specs.Wires as whole
 use Rattle.fibs_model.proofs.Likeness.Links.{links_linked, length_set_link}
 use Rattle.fibs_model.proofs.Likeness.Events.{current_known, client_after, sound_after}
 
@@ -47,7 +47,8 @@ record Asks (v : WorldValue) (w w' : World) (send : List (List ℕ)) (entries : 
   links : (d : ℕ) → kept_of (w'.links d) ≡ link_at (ask_links v.links v.current send) d
 
 -- nothing is handed out
-asks_nothing : (v : WorldValue) (login : List ℕ) (w : World) (e : Entry) (send : List (List ℕ)) → StandsFor v login w → send ≡ [] → open_now (w.log ++ e ∷ []) ≡ open_now w.log
+asks_nothing : (v : WorldValue) (login : List ℕ) (w : World) (e : Entry) (send : List (List ℕ)) → StandsFor v login w
+    → send ≡ [] → open_now (w.log ++ e ∷ []) ≡ open_now w.log
     → Asks v w (noted w (e ∷ [])) send (e ∷ [])
 asks_nothing v login w e send s none here = record {
   board = refl;
@@ -59,7 +60,8 @@ asks_nothing v login w e send s none here = record {
 }
 
 -- a command is handed out
-asks_one : (v : WorldValue) (login : List ℕ) (w : World) (es : List Entry) (send : List (List ℕ)) (t : List ℕ) → StandsFor v login w → send ≡ t ∷ [] → 0 < open_now w.log
+asks_one : (v : WorldValue) (login : List ℕ) (w : World) (es : List Entry) (send : List (List ℕ)) (t : List ℕ)
+    → StandsFor v login w → send ≡ t ∷ [] → 0 < open_now w.log
     → open_now (w.log ++ es) ≡ open_now w.log → Asks v w (asks (noted w es) (open_now w.log) (t ∷ [])) send es
 asks_one v login w es send t s one some here = record {
   board = refl;
@@ -68,15 +70,22 @@ asks_one v login w es send t s one some here = record {
   log = refl;
   here = here;
   links = λ d.
-      subst (λ ts. kept_of ((asks (noted w es) (open_now w.log) (t ∷ [])).links d) ≡ link_at (ask_links v.links v.current ts) d) (sym one)
-      (subst (λ c. kept_of ((linked w c (whole.more_asked (w.links c) (wire_of (t ∷ [])))).links d) ≡ link_at (set_link v.links v.current (more_asked (link_at v.links v.current) (wire_of (t ∷ [])))) d) s.current
-      (links_linked w v.links v.current _ (whole.more_asked (w.links v.current) (wire_of (t ∷ []))) s.links (ap (λ l. more_asked l (wire_of (t ∷ []))) (sym (s.links v.current))) (omega (arith, some, s.current)) (current_known v login w s) d));
+      subst (λ ts. kept_of ((asks (noted w es) (open_now w.log) (t ∷ [])).links d) ≡ link_at
+      (ask_links v.links v.current ts) d) (sym one)
+      (subst (λ c. kept_of ((linked w c (whole.more_asked (w.links c) (wire_of (t ∷ [])))).links d) ≡ link_at
+      (set_link v.links v.current (more_asked (link_at v.links v.current) (wire_of (t ∷ [])))) d) s.current
+      (links_linked w v.links v.current _ (whole.more_asked (w.links v.current) (wire_of (t ∷ []))) s.links
+      (ap (λ l. more_asked l (wire_of (t ∷ []))) (sym (s.links v.current))) (omega (arith, some, s.current))
+      (current_known v login w s) d));
 }
 
 module _ (law : ServersEntriesAreSilent) (v v' : WorldValue) (send : List (List ℕ))
-    (server : v'.server ≡ v.server) (links : v'.links ≡ ask_links v.links v.current send) (current : v'.current ≡ v.current) where
-  stands_on : (login : List ℕ) (w : World) (e : Event) (i : M.InputValue) (entries : List Entry) → StandsFor v login w → v'.log ≡ v.log ++ entries
-      → Asks v w (after login w e) send entries → refusal w e ≡ None → input_of w e ≡ Some i → Does v.client v'.client i send → StandsFor v' login (after login w e)
+    (server : v'.server ≡ v.server) (links : v'.links ≡ ask_links v.links v.current send)
+    (current : v'.current ≡ v.current) where
+  stands_on : (login : List ℕ) (w : World) (e : Event) (i : M.InputValue) (entries : List Entry) → StandsFor v login w
+      → v'.log ≡ v.log ++ entries
+      → Asks v w (after login w e) send entries → refusal w e ≡ None → input_of w e ≡ Some i
+      → Does v.client v'.client i send → StandsFor v' login (after login w e)
   stands_on login w e i entries s log a may is does = record {
     board = ap (λ x. x.board) server ∙ s.board ∙ sym a.board;
     logged_in = ap (λ x. x.logged_in) server ∙ s.logged_in ∙ sym a.logged_in;
@@ -89,34 +98,45 @@ module _ (law : ServersEntriesAreSilent) (v v' : WorldValue) (send : List (List 
   }
 
   -- a click
-  pub clicked_stands : (d : DecisionValue) (a : Option Refusal) (b : Option BoardFields) → v'.log ≡ v.log ++ click_entries v.current d a b
-      → ((t : Talk) → StandsAfter v.client t → a ≡ answer_now t d) → ((t : Talk) → StandsAfter v.client t → b ≡ shown_now t)
+  pub clicked_stands : (d : DecisionValue) (a : Option Refusal) (b : Option BoardFields)
+      → v'.log ≡ v.log ++ click_entries v.current d a b
+      → ((t : Talk) → StandsAfter v.client t → a ≡ answer_now t d)
+      → ((t : Talk) → StandsAfter v.client t → b ≡ shown_now t)
       → Does v.client v'.client (M.Click d) send → Goes v v' (Click d)
   clicked_stands d a b log answers boards does login w s =
       let t : Talk = talk_of login w in
       stands_on login w (Click d) (M.Click d) (click_entries v.current d a b) s log
       (subst (λ n. Asks v w (after login w (Click d)) send (click_entries n d a b)) (sym s.current)
-      (subst (λ x. Asks v w (after login w (Click d)) send (click_entries (open_now w.log) d x b)) (sym (answers t s.client))
-      (subst (λ x. Asks v w (after login w (Click d)) send (click_entries (open_now w.log) d (answer_now t d) x)) (sym (boards t s.client))
+      (subst (λ x. Asks v w (after login w (Click d)) send (click_entries (open_now w.log) d x b))
+      (sym (answers t s.client))
+      (subst (λ x. Asks v w (after login w (Click d)) send (click_entries (open_now w.log) d (answer_now t d) x))
+      (sym (boards t s.client))
       (go (answer same_game allows w.log d) refl (does.hands t s.client)))))
       refl refl does
     where
       go : (x : Option Refusal) → answer same_game allows w.log d ≡ x → send ≡ (clicks_by (talk_of login w) d x).send
-          → Asks v w (clicks (open_now w.log) w d x) send (click_entries (open_now w.log) d x (shown_now (talk_of login w)))
-      go (Some x) e none = asks_nothing v login w (Clicked (open_now w.log) d (Some x)) send s none (open_append 0 w.log (Clicked (open_now w.log) d (Some x) ∷ []))
+          → Asks v w (clicks (open_now w.log) w d x) send
+          (click_entries (open_now w.log) d x (shown_now (talk_of login w)))
+      go (Some x) e none = asks_nothing v login w (Clicked (open_now w.log) d (Some x)) send s none
+          (open_append 0 w.log (Clicked (open_now w.log) d (Some x) ∷ []))
       go None e one =
           let y = yes same_game allows w.log d e in
-          subst (λ o. send ≡ (decides_on (talk_of login w) d o).send → Asks v w (sends_out (open_now w.log) w d o) send (click_entries (open_now w.log) d None o)) (sym y.is_last)
-          (λ one. asks_one v login w (Clicked (open_now w.log) d None ∷ Sent (open_now w.log) y.on d ∷ []) send (command y.on d) s one y.some
+          subst (λ o. send ≡ (decides_on (talk_of login w) d o).send
+          → Asks v w (sends_out (open_now w.log) w d o) send (click_entries (open_now w.log) d None o)) (sym y.is_last)
+          (λ one. asks_one v login w (Clicked (open_now w.log) d None ∷ Sent (open_now w.log) y.on d ∷ []) send
+          (command y.on d) s one y.some
           (open_append 0 w.log (Clicked (open_now w.log) d None ∷ Sent (open_now w.log) y.on d ∷ []))) one
 
   -- a plain command
-  pub said_stands : (p : PlainValue) → v'.log ≡ v.log → Does v.client v'.client (M.PlainInput p) send → Goes v v' (Plain p)
+  pub said_stands : (p : PlainValue) → v'.log ≡ v.log → Does v.client v'.client (M.PlainInput p) send
+      → Goes v v' (Plain p)
   said_stands p log does login w s =
       let t : Talk = talk_of login w in
-      stands_on login w (Plain p) (M.PlainInput p) [] s (log ∙ sym (append-nil v.log)) (go (plain_refusal t p) refl (does.hands t s.client)) refl refl does
+      stands_on login w (Plain p) (M.PlainInput p) [] s (log ∙ sym (append-nil v.log))
+      (go (plain_refusal t p) refl (does.hands t s.client)) refl refl does
     where
-      go : (x : Option PlainRefusal) → plain_refusal (talk_of login w) p ≡ x → send ≡ (talk_sends_plain (talk_of login w) p x).send → Asks v w (sends_plain w p x) send []
+      go : (x : Option PlainRefusal) → plain_refusal (talk_of login w) p ≡ x
+          → send ≡ (talk_sends_plain (talk_of login w) p x).send → Asks v w (sends_plain w p x) send []
       go (Some why) e none = record {
         board = refl;
         logged_in = refl;
@@ -127,11 +147,21 @@ module _ (law : ServersEntriesAreSilent) (v v' : WorldValue) (send : List (List 
       }
       go None e one =
           let a = asks_one v login w [] send (plain_of p) s one (said login w p e).0 (ap open_now (append-nil w.log)) in
-          record { board = refl; logged_in = refl; count = refl; log = sym (append-nil w.log); here = refl; links = λ d. a.links d }
+          record {
+            board = refl;
+            logged_in = refl;
+            count = refl;
+            log = sym (append-nil w.log);
+            here = refl;
+            links =
+                λ d. a.links d;
+          }
 
 -- after a growth
-pub asked_after : (links grown new : List LinkValue) (c : ℕ) (send : List (List ℕ)) → grown ≡ links → new ≡ ask_links grown c send → new ≡ ask_links links c send
+pub asked_after : (links grown new : List LinkValue) (c : ℕ) (send : List (List ℕ)) → grown ≡ links
+    → new ≡ ask_links grown c send → new ≡ ask_links links c send
 asked_after links grown new c send g n = n ∙ ap (λ ls. ask_links ls c send) g
 
-pub noted_after : (log grown new : List C.Entry) (entries : List Entry) → grown ≡ log → map entry_of new ≡ map entry_of grown ++ entries → map entry_of new ≡ map entry_of log ++ entries
+pub noted_after : (log grown new : List C.Entry) (entries : List Entry) → grown ≡ log
+    → map entry_of new ≡ map entry_of grown ++ entries → map entry_of new ≡ map entry_of log ++ entries
 noted_after log grown new entries g n = n ∙ ap (λ l. map entry_of l ++ entries) g

@@ -18,7 +18,8 @@ use Rattle.fibs_model.specs.declared.refusal.WorldRefusal.TheVariants.{BadBoard}
 use Rattle.fibs_model.proofs.Projection.{talk_is_projected}
 
 -- it stands for the machine's
-pub new_stands : (v : WorldValue) (login : List ℕ) (b : BoardFields) → v.server.board ≡ b → v.server.logged_in ≡ 0 → v.links ≡ [] → v.log ≡ [] → v.current ≡ 0 → StandsAfter v.client (M.start login)
+pub new_stands : (v : WorldValue) (login : List ℕ) (b : BoardFields) → v.server.board ≡ b → v.server.logged_in ≡ 0
+    → v.links ≡ [] → v.log ≡ [] → v.current ≡ 0 → StandsAfter v.client (M.start login)
     → StandsFor v login (start b)
 new_stands v login b board who links log current client = record {
   board = board;
@@ -36,12 +37,14 @@ new_stands v login b board who links log current client = record {
     none (suc c) = refl
 
 -- after no event
-pub new_after : (v : WorldValue) (name password : List ℕ) (b : BoardFields) → IsLogin name password → IsGood b → StandsFor v (login_text name password) (start b) → WorldStandsAfter v name password b []
+pub new_after : (v : WorldValue) (name password : List ℕ) (b : BoardFields) → IsLogin name password → IsGood b
+    → StandsFor v (login_text name password) (start b) → WorldStandsAfter v name password b []
 unfolding WorldStandsAfter MayBe world_after
 new_after v name password b login is_good s = record { is_login = login; is_good = is_good; may_be = tt; stands = s }
 
 -- a board that is refused is not good
-pub refused : {A E : Type 0} → GoodIsExact → (r : Result A E) (b : BoardFields) (e : E) → r ≡ Err e → IsOk r ↔ IsGood b → Some BadBoard ≡ (if good b then None else Some BadBoard)
+pub refused : {A E : Type 0} → GoodIsExact → (r : Result A E) (b : BoardFields) (e : E) → r ≡ Err e → IsOk r ↔ IsGood b
+    → Some BadBoard ≡ (if good b then None else Some BadBoard)
 refused law r b e is ok = go (good b) refl
   where
     go : (t : Bool) → good b ≡ t → Some BadBoard ≡ (if t then None else Some BadBoard)

@@ -19,24 +19,30 @@ at_number links zero h = absurd (omega (arith, h))
 at_number links (suc c) h = ap (λ n. get_or links n no_link) {x = c} {y = suc c - 1} (omega arith)
 
 -- the wires of a connection, seen
-pub link_was : (links : List Link) (c : ℕ) (l : Link) → 0 < c → c ≤ length links → l ≡ get_or links (c - 1) l → link_at (seen links) c ≡ link_of l
+pub link_was : (links : List Link) (c : ℕ) (l : Link) → 0 < c → c ≤ length links → l ≡ get_or links (c - 1) l
+    → link_at (seen links) c ≡ link_of l
 link_was links c l some known is =
-    at_number (seen links) c some ∙ get_or-map link_of links (c - 1) l no_link (omega (arith, some, known)) ∙ ap link_of (sym is)
+    at_number (seen links) c some ∙ get_or-map link_of links (c - 1) l no_link (omega (arith, some, known))
+    ∙ ap link_of (sym is)
 
 -- they become others, seen
-pub link_set : (links : List Link) (c : ℕ) (k : Link) (v : LinkValue) → link_of k ≡ v → seen (slice_set links (c - 1) k) ≡ set_link (seen links) c v
+pub link_set : (links : List Link) (c : ℕ) (k : Link) (v : LinkValue) → link_of k ≡ v
+    → seen (slice_set links (c - 1) k) ≡ set_link (seen links) c v
 link_set links c k v e = map-set link_of links (c - 1) k ∙ ap (slice_set (seen links) (c - 1)) e
 
 -- the wires after it, connection by connection
 pub link_at_set : (links : List LinkValue) (c d : ℕ) (l : LinkValue) → 0 < c → c ≤ length links
     → link_at (set_link links c l) d ≡ (if nat_eq d c then l else link_at links d)
-link_at_set links c zero l some known = sym (ap (λ b. if b then l else no_link) (other_number zero c (λ e. absurd (omega arith))))
+link_at_set links c zero l some known =
+    sym (ap (λ b. if b then l else no_link) (other_number zero c (λ e. absurd (omega arith))))
 link_at_set links c (suc d) l some known = elim (eqb_tells (suc d) c) [
   | inl e ↦
       let i : d ≡ c - 1 = let e1 = e.1 in omega arith in
-      subst (λ n. get_or (slice_set links (c - 1) l) n no_link ≡ (if nat_eq (suc d) c then l else link_at links (suc d))) (sym i)
+      subst (λ n. get_or (slice_set links (c - 1) l) n
+      no_link ≡ (if nat_eq (suc d) c then l else link_at links (suc d))) (sym i)
       (get_or-set_same links (c - 1) l no_link (omega (arith, some, known))
-      ∙ sym (ap (λ b. if b then l else link_at links (suc d)) (subst (λ n. nat_eq (suc d) n ≡ true) e.1 (same_number (suc d)))))
+      ∙ sym (ap (λ b. if b then l else link_at links (suc d))
+      (subst (λ n. nat_eq (suc d) n ≡ true) e.1 (same_number (suc d)))))
   | inr m ↦
       let i : d ≡ c - 1 → ⊥ = λ e. m.1 (omega (arith, e, some)) in
       get_or-set_other links (c - 1) d l no_link i
@@ -47,17 +53,22 @@ pub length_set_link : (links : List LinkValue) (c : ℕ) (l : LinkValue) → len
 length_set_link links c l = length-set links (c - 1) l
 
 -- the wires of a new connection
-pub link_at_push : (links : List LinkValue) (d : ℕ) (l : LinkValue) → link_at (links ++ l ∷ []) d ≡ (if nat_eq d (length links + 1) then l else link_at links d)
-link_at_push links zero l = sym (ap (λ b. if b then l else no_link) (other_number zero (length links + 1) (λ e. absurd (omega arith))))
+pub link_at_push : (links : List LinkValue) (d : ℕ) (l : LinkValue)
+    → link_at (links ++ l ∷ []) d ≡ (if nat_eq d (length links + 1) then l else link_at links d)
+link_at_push links zero l = sym
+    (ap (λ b. if b then l else no_link) (other_number zero (length links + 1) (λ e. absurd (omega arith))))
 link_at_push links (suc d) l = elim (eqb_tells (suc d) (length links + 1)) [
   | inl e ↦
       let i : d ≡ length links = let e1 = e.1 in omega arith in
-      subst (λ n. get_or (links ++ l ∷ []) n no_link ≡ (if nat_eq (suc d) (length links + 1) then l else link_at links (suc d))) (sym i)
+      subst (λ n. get_or (links ++ l ∷ []) n
+      no_link ≡ (if nat_eq (suc d) (length links + 1) then l else link_at links (suc d))) (sym i)
       (last_one links
-      ∙ sym (ap (λ b. if b then l else link_at links (suc d)) (subst (λ n. nat_eq (suc d) n ≡ true) e.1 (same_number (suc d)))))
+      ∙ sym (ap (λ b. if b then l else link_at links (suc d))
+      (subst (λ n. nat_eq (suc d) n ≡ true) e.1 (same_number (suc d)))))
   | inr m ↦
       let i : d ≡ length links → ⊥ = λ e. m.1 (omega (arith, e)) in
-      before links d i ∙ sym (ap (λ b. if b then l else link_at links (suc d)) (other_number (suc d) (length links + 1) m.1))
+      before links d i ∙ sym (ap (λ b. if b then l else link_at links (suc d))
+      (other_number (suc d) (length links + 1) m.1))
 ]
   where
     last_one : (ls : List LinkValue) → get_or (ls ++ l ∷ []) (length ls) no_link ≡ l
@@ -72,17 +83,20 @@ link_at_push links (suc d) l = elim (eqb_tells (suc d) (length links + 1)) [
 
 -- beyond the last there is none
 pub link_at_none : (links : List LinkValue) → link_at links (length links + 1) ≡ no_link
-link_at_none links = subst (λ n. link_at links n ≡ no_link) {x = suc (length links)} {y = length links + 1} (omega arith) (none links)
+link_at_none links = subst (λ n. link_at links n ≡ no_link) {x = suc (length links)} {y = length links + 1}
+    (omega arith) (none links)
   where
     none : (ls : List LinkValue) → get_or ls (length ls) no_link ≡ no_link
     none [] = refl
     none (x ∷ ls) = none ls
 
 -- the wires of one connection of the machine become others
-pub links_linked : (w : World) (links : List LinkValue) (c : ℕ) (v : LinkValue) (l : W.Link) → ((d : ℕ) → kept_of (w.links d) ≡ link_at links d) → v ≡ kept_of l → 0 < c → c ≤ length links
+pub links_linked : (w : World) (links : List LinkValue) (c : ℕ) (v : LinkValue) (l : W.Link)
+    → ((d : ℕ) → kept_of (w.links d) ≡ link_at links d) → v ≡ kept_of l → 0 < c → c ≤ length links
     → (d : ℕ) → kept_of ((linked w c l).links d) ≡ link_at (set_link links c v) d
 links_linked w links c v l same e some known d =
-    kept_if (nat_eq d c) l (w.links d) ∙ ap (λ x. if nat_eq d c then kept_of l else x) (same d) ∙ ap (λ x. if nat_eq d c then x else link_at links d) (sym e) ∙ sym (link_at_set links c d v some known)
+    kept_if (nat_eq d c) l (w.links d) ∙ ap (λ x. if nat_eq d c then kept_of l else x) (same d)
+    ∙ ap (λ x. if nat_eq d c then x else link_at links d) (sym e) ∙ sym (link_at_set links c d v some known)
 
 -- a value by its parts
 pub value_path : {c c' a a' : List ℕ} {f f' : Bool} → c ≡ c' → a ≡ a' → f ≡ f'
@@ -90,7 +104,8 @@ pub value_path : {c c' a a' : List ℕ} {f f' : Bool} → c ≡ c' → a ≡ a' 
 value_path c a f = cc
 
 -- The program's calls on the wires l of a connection, which become k.
-module _ (links : List Link) (c : ℕ) (l k : Link) (some : 0 < c) (known : c ≤ length links) (is : l ≡ get_or links (c - 1) l) where
+module _ (links : List Link) (c : ℕ) (l k : Link) (some : 0 < c) (known : c ≤ length links)
+    (is : l ≡ get_or links (c - 1) l) where
   was : link_at (seen links) c ≡ link_of l
   was = link_was links c l some known is
 
@@ -99,16 +114,19 @@ module _ (links : List Link) (c : ℕ) (l k : Link) (some : 0 < c) (known : c �
   same_seen e = map-set_same link_of links (c - 1) k l (e ∙ ap link_of is)
 
   -- more bytes are put on the wire to the client
-  pub coming_seen : (t : List ℕ) → k.to_client.items ≡ l.to_client.items ++ t → k.to_server.items ≡ l.to_server.items → k.fresh ≡ l.fresh
+  pub coming_seen : (t : List ℕ) → k.to_client.items ≡ l.to_client.items ++ t → k.to_server.items ≡ l.to_server.items
+      → k.fresh ≡ l.fresh
       → seen (slice_set links (c - 1) k) ≡ set_link (seen links) c (more_coming (link_at (seen links) c) t)
   coming_seen t i j f = link_set links c k _ (value_path i j f ∙ ap (λ v. more_coming v t) (sym was))
 
   -- more bytes are put on the wire to the server
-  pub asked_seen : (t : List ℕ) → k.to_client.items ≡ l.to_client.items → k.to_server.items ≡ l.to_server.items ++ t → k.fresh ≡ l.fresh
+  pub asked_seen : (t : List ℕ) → k.to_client.items ≡ l.to_client.items → k.to_server.items ≡ l.to_server.items ++ t
+      → k.fresh ≡ l.fresh
       → seen (slice_set links (c - 1) k) ≡ set_link (seen links) c (more_asked (link_at (seen links) c) t)
   asked_seen t i j f = link_set links c k _ (value_path i j f ∙ ap (λ v. more_asked v t) (sym was))
 
   -- of the wire to the client nothing is left, of the one to the server so many bytes
-  pub cut_seen : (kept : ℕ) → k.to_client.items ≡ [] → k.to_server.items ≡ take kept l.to_server.items → k.fresh ≡ l.fresh
+  pub cut_seen : (kept : ℕ) → k.to_client.items ≡ [] → k.to_server.items ≡ take kept l.to_server.items
+      → k.fresh ≡ l.fresh
       → seen (slice_set links (c - 1) k) ≡ set_link (seen links) c (cut_off (link_at (seen links) c) kept)
   cut_seen kept i j f = link_set links c k _ (value_path i j f ∙ ap (λ v. cut_off v kept) (sym was))

@@ -16,13 +16,15 @@ use Rattle.fibs_model.specs.WorldOf.{WorldValue, Goes, May}
 use Rattle.fibs_model.specs.declared.refusal.WorldRefusal.TheVariants.{NotOpen}
 use Rattle.fibs_model.proofs.joint.EachEvent.{is_open}
 use Rattle.fibs_model.proofs.log.Past.{open_append}
-use Rattle.fibs_model.proofs.Likeness.Whole as whole
+use Rattle.fibs_model.specs.Wires as whole
 use Rattle.fibs_model.proofs.Likeness.Links.{links_linked, length_set_link}
 use Rattle.fibs_model.proofs.Likeness.Events.{current_known, client_after, sound_after}
 
 module _ (law : ServersEntriesAreSilent) (v v' : WorldValue) (k : ℕ) (u : Option Ask)
-    (server : v'.server ≡ v.server) (links : v'.links ≡ set_link v.links v.current (cut_off (link_at v.links v.current) k))
-    (log : v'.log ≡ v.log ++ L.Lost v.current u ∷ []) (waited : (t : Talk) → StandsAfter v.client t → u ≡ unconfirmed_now t)
+    (server : v'.server ≡ v.server)
+    (links : v'.links ≡ set_link v.links v.current (cut_off (link_at v.links v.current) k))
+    (log : v'.log ≡ v.log ++ L.Lost v.current u ∷ [])
+    (waited : (t : Talk) → StandsAfter v.client t → u ≡ unconfirmed_now t)
     (current : v'.current ≡ 0) (does : Does v.client v'.client M.Lose []) (may : May v (Lose k)) where
   -- the world after it
   pub lost_stands : Goes v v' (Lose k)
@@ -32,16 +34,21 @@ module _ (law : ServersEntriesAreSilent) (v v' : WorldValue) (k : ℕ) (u : Opti
       let some : 0 < c = is_open NotOpen c r in
       let known = current_known v login w s in
       let noted : v.log ++ L.Lost v.current u ∷ [] ≡ w.log ++ L.Lost c (unconfirmed same_game c w.log) ∷ [] =
-      ap (λ l. l ++ L.Lost v.current u ∷ []) s.log ∙ ap (λ n. w.log ++ L.Lost n u ∷ []) s.current ∙ ap (λ x. w.log ++ L.Lost c x ∷ []) (waited (talk_of login w) s.client) in
+      ap (λ l. l ++ L.Lost v.current u ∷ []) s.log ∙ ap (λ n. w.log ++ L.Lost n u ∷ []) s.current
+      ∙ ap (λ x. w.log ++ L.Lost c x ∷ []) (waited (talk_of login w) s.client) in
       record {
         board = ap (λ x. x.board) server ∙ s.board;
         logged_in = ap (λ x. x.logged_in) server ∙ s.logged_in;
         count = ap length links ∙ length_set_link v.links v.current _ ∙ s.count;
         log = log ∙ noted;
         current = current ∙ sym (open_append 0 w.log (L.Lost c (unconfirmed same_game c w.log) ∷ []));
-        links = λ d. subst (λ n. kept_of ((linked w n (whole.cut_off (w.links n) k)).links d) ≡ link_at v'.links d) s.current
-            (subst (λ ls. kept_of ((linked w v.current (whole.cut_off (w.links v.current) k)).links d) ≡ link_at ls d) (sym links)
-            (links_linked w v.links v.current (cut_off (link_at v.links v.current) k) (whole.cut_off (w.links v.current) k) s.links (ap (λ l. cut_off l k) (sym (s.links v.current))) (omega (arith, some, s.current)) known d));
+        links = λ d. subst (λ n. kept_of ((linked w n (whole.cut_off (w.links n) k)).links d) ≡ link_at v'.links d)
+            s.current
+            (subst (λ ls. kept_of ((linked w v.current (whole.cut_off (w.links v.current) k)).links d) ≡ link_at ls d)
+            (sym links)
+            (links_linked w v.links v.current (cut_off (link_at v.links v.current) k)
+            (whole.cut_off (w.links v.current) k) s.links (ap (λ l. cut_off l k) (sym (s.links v.current)))
+            (omega (arith, some, s.current)) known d));
         client = client_after law login w (Lose k) M.Lose v.client v'.client [] s.sound r refl does s.client;
         sound = sound_after login w (Lose k) s.sound r;
       }

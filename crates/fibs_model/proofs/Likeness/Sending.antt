@@ -21,7 +21,7 @@ use Rattle.fibs_model.specs.World.{World, after, linked, is_talking, sends, talk
 use Rattle.fibs_model.specs.WorldOf.{WorldValue, StandsFor, Goes, May}
 use Rattle.fibs_model.proofs.joint.Sending.{if_fact, some_of}
 use Rattle.fibs_model.proofs.log.Lists.{and_left, and_right}
-use Rattle.fibs_model.proofs.Likeness.Whole as whole
+use Rattle.fibs_model.specs.Wires as whole
 use Rattle.fibs_model.proofs.Likeness.Links.{links_linked, length_set_link}
 use Rattle.fibs_model.proofs.Likeness.Events.{current_known, client_waits, sound_after}
 
@@ -38,10 +38,12 @@ sends_rest w t = if_fact (Rest w) (is_talking w) _ _
     (λ z. record { board = refl; logged_in = refl; count = refl; log = refl })
 
 pub length_sent : (l c : ℕ) (links : List LinkValue) (line : List ℕ) → length (send_links l c links line) ≡ length links
-length_sent l c links line = if_fact (λ ls. length ls ≡ length links) (nat_eq c l && not (nat_eq l 0)) _ _ (λ z. length_set_link links c _) (λ z. refl)
+length_sent l c links line = if_fact (λ ls. length ls ≡ length links) (nat_eq c l && not (nat_eq l 0)) _ _
+    (λ z. length_set_link links c _) (λ z. refl)
 
 -- the wires after it, where l is logged in, and c open
-pub sent_links : (w : World) (links : List LinkValue) (l c : ℕ) (line : List ℕ) → ((d : ℕ) → kept_of (w.links d) ≡ link_at links d) → l ≡ w.logged_in → c ≡ open_now w.log → c ≤ length links
+pub sent_links : (w : World) (links : List LinkValue) (l c : ℕ) (line : List ℕ)
+    → ((d : ℕ) → kept_of (w.links d) ≡ link_at links d) → l ≡ w.logged_in → c ≡ open_now w.log → c ≤ length links
     → (d : ℕ) → kept_of ((sends w line).links d) ≡ link_at (send_links l c links line) d
 sent_links w links l c line same is here known d =
     subst (λ n. kept_of ((sends w line).links d) ≡ link_at (send_links n c links line) d) (sym is)
@@ -49,22 +51,29 @@ sent_links w links l c line same is here known d =
     (go (is_talking w) refl))
   where
     go : (b : Bool) → is_talking w ≡ b
-        → kept_of ((if b then linked w w.logged_in (whole.more_coming (w.links w.logged_in) (on_wire line)) else w).links d)
-        ≡ link_at (if b then set_link links (open_now w.log) (more_coming (link_at links (open_now w.log)) (on_wire line)) else links) d
+        → kept_of ((if b then linked w w.logged_in (whole.more_coming (w.links w.logged_in) (on_wire line)) else
+        w).links d)
+        ≡ link_at (if b then set_link links (open_now w.log)
+        (more_coming (link_at links (open_now w.log)) (on_wire line)) else links) d
     go false e = same d
     go true e =
         let k : open_now w.log ≡ w.logged_in = eqb-true _ _ (and_left _ _ e) in
         let within : w.logged_in ≤ length links = omega (arith, known, k, here) in
         let some : 0 < w.logged_in = some_of w.logged_in (and_right _ _ e) in
-        subst (λ n. kept_of ((linked w w.logged_in (whole.more_coming (w.links w.logged_in) (on_wire line))).links d) ≡ link_at (set_link links n (more_coming (link_at links n) (on_wire line))) d) (sym k)
-        (links_linked w links w.logged_in _ (whole.more_coming (w.links w.logged_in) (on_wire line)) same (ap (λ x. more_coming x (on_wire line)) (sym (same w.logged_in))) some within d)
+        subst (λ n. kept_of ((linked w w.logged_in (whole.more_coming (w.links w.logged_in) (on_wire line))).links d)
+        ≡ link_at (set_link links n (more_coming (link_at links n) (on_wire line))) d) (sym k)
+        (links_linked w links w.logged_in _ (whole.more_coming (w.links w.logged_in) (on_wire line)) same
+        (ap (λ x. more_coming x (on_wire line)) (sym (same w.logged_in))) some within d)
 
 -- The server's board is b, and a line is sent: w' is the machine's world before the line.
 module _ (law : ServersEntriesAreSilent) (v v' : WorldValue) (line : List ℕ)
-    (logged_in : v'.server.logged_in ≡ v.server.logged_in) (links : v'.links ≡ send_links v.server.logged_in v.current v.links line)
+    (logged_in : v'.server.logged_in ≡ v.server.logged_in)
+    (links : v'.links ≡ send_links v.server.logged_in v.current v.links line)
     (log : v'.log ≡ v.log) (current : v'.current ≡ v.current) (client : v'.client ≡ v.client) where
-  stands_on : (login : List ℕ) (w w' : World) (e : Event) → StandsFor v login w → Rest w' (after login w e) → w'.log ≡ w.log → w'.logged_in ≡ w.logged_in → w'.count ≡ w.count
-      → v'.server.board ≡ w'.board → ((d : ℕ) → (after login w e).links d ≡ (sends w' line).links d) → ((d : ℕ) → w'.links d ≡ w.links d)
+  stands_on : (login : List ℕ) (w w' : World) (e : Event) → StandsFor v login w → Rest w' (after login w e)
+      → w'.log ≡ w.log → w'.logged_in ≡ w.logged_in → w'.count ≡ w.count
+      → v'.server.board ≡ w'.board → ((d : ℕ) → (after login w e).links d ≡ (sends w' line).links d)
+      → ((d : ℕ) → w'.links d ≡ w.links d)
       → refusal w e ≡ None → input_of w e ≡ None → StandsFor v' login (after login w e)
   stands_on login w w' e s r same who many board wires old may waits = record {
     board = board ∙ sym r.board;
@@ -73,15 +82,18 @@ module _ (law : ServersEntriesAreSilent) (v v' : WorldValue) (line : List ℕ)
     log = log ∙ s.log ∙ sym same ∙ sym r.log;
     current = current ∙ s.current ∙ ap open_now (sym same ∙ sym r.log);
     links = λ d. ap kept_of (wires d)
-        ∙ sent_links w' v.links v.server.logged_in v.current line (λ x. ap kept_of (old x) ∙ s.links x) (s.logged_in ∙ sym who) (s.current ∙ ap open_now (sym same)) (current_known v login w s) d
+        ∙ sent_links w' v.links v.server.logged_in v.current line (λ x. ap kept_of (old x) ∙ s.links x)
+        (s.logged_in ∙ sym who) (s.current ∙ ap open_now (sym same)) (current_known v login w s) d
         ∙ ap (λ ls. link_at ls d) (sym links);
-    client = client_waits law login w e v'.client s.sound may waits (subst (λ x. StandsAfter x (talk_of login w)) (sym client) s.client);
+    client = client_waits law login w e v'.client s.sound may waits
+        (subst (λ x. StandsAfter x (talk_of login w)) (sym client) s.client);
     sound = sound_after login w e s.sound may;
   }
 
   pub own_stands : (b : BoardFields) → v'.server.board ≡ b → line ≡ spelling b → May v (Own b) → Goes v v' (Own b)
   own_stands b board is may login w s =
-      stands_on login w (record w { board = b }) (Own b) s (sends_rest (record w { board = b }) (spelling b)) refl refl refl board
+      stands_on login w (record w { board = b }) (Own b) s (sends_rest (record w { board = b }) (spelling b)) refl refl
+      refl board
       (λ d. ap (λ t. (sends (record w { board = b }) t).links d) (sym is)) (λ d. refl) (may login w s) refl
 
   pub repeat_stands : v'.server ≡ v.server → line ≡ spelling v.server.board → Goes v v' Repeat
@@ -91,14 +103,16 @@ module _ (law : ServersEntriesAreSilent) (v v' : WorldValue) (line : List ℕ)
 
   pub text_stands : v'.server ≡ v.server → May v (Text line) → Goes v v' (Text line)
   text_stands server may login w s =
-      stands_on login w w (Text line) s (sends_rest w line) refl refl refl (ap (λ x. x.board) server ∙ s.board) (λ d. refl) (λ d. refl) (may login w s) refl
+      stands_on login w w (Text line) s (sends_rest w line) refl refl refl (ap (λ x. x.board) server ∙ s.board)
+      (λ d. refl) (λ d. refl) (may login w s) refl
 
 -- the server takes a board that may be
 no_error : {A E : Type 0} (r : Result A E) → result_err r ≡ None → IsOk r
 no_error (Ok x) h = refl
 no_error (Err e) h = cc
 
-pub own_is_ok : {A : Type 0} (r : Result A WorldRefusal) (v : WorldValue) (login : List ℕ) (w : World) (b : BoardFields) → StandsFor v login w → May v (Own b)
+pub own_is_ok : {A : Type 0} (r : Result A WorldRefusal) (v : WorldValue) (login : List ℕ) (w : World) (b : BoardFields)
+    → StandsFor v login w → May v (Own b)
     → result_err r ≡ own_refusal v.server.board b → IsOk r
 own_is_ok r v login w b s may e = no_error r (e ∙ ap (λ x. own_refusal x b) s.board ∙ may login w s)
 
@@ -107,5 +121,7 @@ of_ok (Ok x) is p = p
 of_ok (Err e) is p = absurd (true≢false (sym is))
 
 -- after a growth
-pub sent_after : (links grown new : List LinkValue) (logged_in now c : ℕ) (line : List ℕ) → grown ≡ links → now ≡ logged_in → new ≡ send_links now c grown line → new ≡ send_links logged_in c links line
-sent_after links grown new logged_in now c line g i n = n ∙ ap (λ ls. send_links now c ls line) g ∙ ap (λ l. send_links l c links line) i
+pub sent_after : (links grown new : List LinkValue) (logged_in now c : ℕ) (line : List ℕ) → grown ≡ links
+    → now ≡ logged_in → new ≡ send_links now c grown line → new ≡ send_links logged_in c links line
+sent_after links grown new logged_in now c line g i n =
+    n ∙ ap (λ ls. send_links now c ls line) g ∙ ap (λ l. send_links l c links line) i

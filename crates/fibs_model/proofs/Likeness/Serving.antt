@@ -15,14 +15,13 @@ use Rattle.fibs_model.specs.Events.{Serve}
 use Rattle.fibs_model.specs.LinksOf.{LinkValue, kept_of, link_at}
 use Rattle.fibs_model.specs.Server.{Served, Stale, LoggedIn, Took, Undone, Answered, answered}
 use Rattle.fibs_model.specs.ServerOf.{ServerValue, after_line}
-use Rattle.fibs_model.specs.Wires as W
+use Rattle.fibs_model.specs.Wires as whole
 use Rattle.fibs_model.specs.Wires.{next_line}
 use Rattle.fibs_model.specs.WireLinks.{taken}
 use Rattle.fibs_model.specs.World.{World, after, linked, noted, sends, serves, does_served, talk_of}
 use Rattle.fibs_model.specs.WorldOf.{WorldValue, StandsFor, Goes, May}
 use Rattle.fibs_model.proofs.joint.EachEvent.{served}
 use Rattle.fibs_model.proofs.log.Past.{open_append}
-use Rattle.fibs_model.proofs.Likeness.Whole as whole
 use Rattle.fibs_model.proofs.Likeness.Whole.{some_taken}
 use Rattle.fibs_model.proofs.Likeness.Links.{links_linked, length_set_link, value_path}
 use Rattle.fibs_model.proofs.Likeness.Sending.{sent_links, sends_rest, length_sent}
@@ -38,7 +37,8 @@ record Fits (holder : ServerValue) (wires : List LinkValue) (entries : List Entr
   links : (d : ℕ) → kept_of (w.links d) ≡ link_at wires d
 
 -- a line is sent
-fits_sends : (server : ServerValue) (links : List LinkValue) (log : List Entry) (current : ℕ) (w : World) (line : List ℕ) → current ≤ length links → Fits server links log current w
+fits_sends : (server : ServerValue) (links : List LinkValue) (log : List Entry) (current : ℕ) (w : World)
+    (line : List ℕ) → current ≤ length links → Fits server links log current w
     → Fits server (send_links server.logged_in current links line) log current (sends w line)
 fits_sends server links log current w line known f =
     let r = sends_rest w line in
@@ -52,11 +52,22 @@ fits_sends server links log current w line known f =
     }
 
 -- a line of c is answered, where w is the world without the line
-fits_served : (server : ServerValue) (links : List LinkValue) (log : List Entry) (current c : ℕ) (w : World) (s : Served) → current ≤ length links → Fits server links log current w
+fits_served : (server : ServerValue) (links : List LinkValue) (log : List Entry) (current c : ℕ) (w : World)
+    (s : Served) → current ≤ length links → Fits server links log current w
     → Fits (after_line server c s)
-    (if is_answered s then send_links (after_line server c s).logged_in current links (spelling (after_line server c s).board) else links)
+    (if is_answered s then send_links (after_line server c s).logged_in current links
+    (spelling (after_line server c s).board) else links)
     (log ++ served_entries c server.board s) current (does_served c w s)
-fits_served server links log current c w Stale known f = record { board = f.board; logged_in = f.logged_in; count = f.count; log = append-nil log ∙ f.log; current = f.current; links = f.links }
+fits_served server links log current c w Stale known f =
+    record {
+      board = f.board;
+      logged_in = f.logged_in;
+      count = f.count;
+      log = append-nil log
+          ∙ f.log;
+      current = f.current;
+      links = f.links;
+    }
 fits_served server links log current c w LoggedIn known f = record {
   board = f.board;
   logged_in = refl;
@@ -66,7 +77,8 @@ fits_served server links log current c w LoggedIn known f = record {
   links = f.links;
 }
 fits_served server links log current c w (Took d b) known f =
-    fits_sends (after_line server c (Took d b)) links (log ++ L.Took c server.board d ∷ []) current (noted (record w { board = b }) (L.Took c w.board d ∷ [])) (spelling b) known
+    fits_sends (after_line server c (Took d b)) links (log ++ L.Took c server.board d ∷ []) current
+    (noted (record w { board = b }) (L.Took c w.board d ∷ [])) (spelling b) known
     (record {
       board = refl;
       logged_in = f.logged_in;
@@ -76,7 +88,8 @@ fits_served server links log current c w (Took d b) known f =
       links = f.links;
     })
 fits_served server links log current c w (Undone d) known f =
-    subst (λ x. Fits server (send_links server.logged_in current links (spelling server.board)) (log ++ L.Undone c server.board d ∷ []) current (sends (noted w (L.Undone c w.board d ∷ [])) (spelling x))) f.board
+    subst (λ x. Fits server (send_links server.logged_in current links (spelling server.board))
+    (log ++ L.Undone c server.board d ∷ []) current (sends (noted w (L.Undone c w.board d ∷ [])) (spelling x))) f.board
     (fits_sends server links _ current (noted w (L.Undone c w.board d ∷ [])) (spelling server.board) known
     (record {
       board = f.board;
@@ -87,19 +100,33 @@ fits_served server links log current c w (Undone d) known f =
       links = f.links;
     }))
 fits_served server links log current c w Answered known f =
-    subst (λ x. Fits server (send_links server.logged_in current links (spelling server.board)) (log ++ []) current (sends w (spelling x))) f.board
+    subst (λ x. Fits server (send_links server.logged_in current links (spelling server.board)) (log ++ []) current
+    (sends w (spelling x))) f.board
     (fits_sends server links _ current w (spelling server.board) known
-    (record { board = f.board; logged_in = f.logged_in; count = f.count; log = append-nil log ∙ f.log; current = f.current; links = f.links }))
+    (record {
+      board = f.board;
+      logged_in = f.logged_in;
+      count = f.count;
+      log = append-nil log
+          ∙ f.log;
+      current = f.current;
+      links = f.links;
+    }))
 
-module _ (law : ServersEntriesAreSilent) (v v' : WorldValue) (c d1 d2 : ℕ) (s : Served) (wires : List LinkValue) (takes : TakesNext v.server v'.server v.links wires c d1 d2 s)
-    (links : v'.links ≡ (if is_answered s then send_links v'.server.logged_in v.current wires (spelling v'.server.board) else wires))
-    (log : v'.log ≡ v.log ++ served_entries c v.server.board s) (current : v'.current ≡ v.current) (client : v'.client ≡ v.client) (may : May v (Serve c d1 d2)) where
-  fits : (login : List ℕ) (w : World) → StandsFor v login w → Fits v'.server v'.links v'.log v'.current (after login w (Serve c d1 d2))
+module _ (law : ServersEntriesAreSilent) (v v' : WorldValue) (c d1 d2 : ℕ) (s : Served) (wires : List LinkValue)
+    (takes : TakesNext v.server v'.server v.links wires c d1 d2 s)
+    (links : v'.links ≡ (if is_answered s then send_links v'.server.logged_in v.current wires (spelling v'.server.board)
+    else wires))
+    (log : v'.log ≡ v.log ++ served_entries c v.server.board s) (current : v'.current ≡ v.current)
+    (client : v'.client ≡ v.client) (may : May v (Serve c d1 d2)) where
+  fits : (login : List ℕ) (w : World) → StandsFor v login w
+      → Fits v'.server v'.links v'.log v'.current (after login w (Serve c d1 d2))
   fits login w h =
       let r = served w c d1 d2 (may login w h) in
       let p = takes.line in
-      let found : next_line (w.links c).asked ≡ Some p = ap (λ (l : LinkValue). next_line l.asked) (h.links c) ∙ takes.next in
-      let l1 : W.Link = whole.taken (w.links c) (on_wire p.0) p.1 in
+      let found : next_line (w.links c).asked ≡ Some p =
+      ap (λ (l : LinkValue). next_line l.asked) (h.links c) ∙ takes.next in
+      let l1 : whole.Link = whole.taken (w.links c) (on_wire p.0) p.1 in
       let w1 : World = linked w c l1 in
       let known = current_known v login w h in
       let before : Fits v.server wires v.log v.current w1 = record {
@@ -108,7 +135,9 @@ module _ (law : ServersEntriesAreSilent) (v v' : WorldValue) (c d1 d2 : ℕ) (s 
         count = ap length takes.links ∙ length_set_link v.links c _ ∙ h.count;
         log = h.log;
         current = h.current;
-        links = λ d. links_linked w v.links c _ l1 h.links (ap (λ x. taken x p.1) (sym (h.links c)) ∙ value_path refl refl (sym (some_taken (w.links c).served p.0))) r.some (omega (arith, r.known, h.count)) d ∙ ap (λ ls. link_at ls d) (sym takes.links);
+        links = λ d. links_linked w v.links c _ l1 h.links
+            (ap (λ x. taken x p.1) (sym (h.links c)) ∙ value_path refl refl (sym (some_taken (w.links c).served p.0)))
+            r.some (omega (arith, r.known, h.count)) d ∙ ap (λ ls. link_at ls d) (sym takes.links);
       } in
       let many : length wires ≡ length v.links = ap length takes.links ∙ length_set_link v.links c _ in
       let after_it = fits_served v.server wires v.log v.current c w1 s (omega (arith, many, known)) before in
@@ -121,8 +150,10 @@ module _ (law : ServersEntriesAreSilent) (v v' : WorldValue) (c d1 d2 : ℕ) (s 
       (subst (λ x. Fits v'.server v'.links v'.log v'.current (does_served c w1 x)) is
       (subst (λ x. Fits v'.server v'.links v'.log x (does_served c w1 s)) (sym current)
       (subst (λ x. Fits v'.server v'.links x v.current (does_served c w1 s)) (sym log)
-      (subst (λ x. Fits v'.server x (v.log ++ served_entries c v.server.board s) v.current (does_served c w1 s)) (sym links)
-      (subst (λ x. Fits x (if is_answered s then send_links x.logged_in v.current wires (spelling x.board) else wires) (v.log ++ served_entries c v.server.board s) v.current (does_served c w1 s)) (sym takes.server) after_it)))))
+      (subst (λ x. Fits v'.server x (v.log ++ served_entries c v.server.board s) v.current (does_served c w1 s))
+      (sym links)
+      (subst (λ x. Fits x (if is_answered s then send_links x.logged_in v.current wires (spelling x.board) else wires)
+      (v.log ++ served_entries c v.server.board s) v.current (does_served c w1 s)) (sym takes.server) after_it)))))
 
   pub served_stands : Goes v v' (Serve c d1 d2)
   served_stands login w h =
@@ -135,19 +166,23 @@ module _ (law : ServersEntriesAreSilent) (v v' : WorldValue) (c d1 d2 : ℕ) (s 
         log = f.log;
         current = f.current;
         links = f.links;
-        client = client_waits law login w (Serve c d1 d2) v'.client h.sound r refl (subst (λ x. StandsAfter x (talk_of login w)) (sym client) h.client);
+        client = client_waits law login w (Serve c d1 d2) v'.client h.sound r refl
+            (subst (λ x. StandsAfter x (talk_of login w)) (sym client) h.client);
         sound = sound_after login w (Serve c d1 d2) h.sound r;
       }
 
 -- the connection is one of those
-pub serve_known : (v : WorldValue) (login : List ℕ) (w : World) (c d1 d2 : ℕ) → StandsFor v login w → May v (Serve c d1 d2) → c ≤ length v.links
+pub serve_known : (v : WorldValue) (login : List ℕ) (w : World) (c d1 d2 : ℕ) → StandsFor v login w
+    → May v (Serve c d1 d2) → c ≤ length v.links
 serve_known v login w c d1 d2 s may = let r = served w c d1 d2 (may login w s) in omega (arith, r.known, s.count)
 
 -- after a growth
-pub takes_after : (old new : ServerValue) (links grown after : List LinkValue) (c d1 d2 : ℕ) (s : Served) → grown ≡ links → TakesNext old new grown after c d1 d2 s → TakesNext old new links after c d1 d2 s
+pub takes_after : (old new : ServerValue) (links grown after : List LinkValue) (c d1 d2 : ℕ) (s : Served)
+    → grown ≡ links → TakesNext old new grown after c d1 d2 s → TakesNext old new links after c d1 d2 s
 takes_after old new links grown after c d1 d2 s g t = subst (λ ls. TakesNext old new ls after c d1 d2 s) g t
 
-pub note_after : (log grown new : List C.Entry) (es : List L.Entry) (board before : BoardFields) (c : ℕ) (s : Served) → grown ≡ log → board ≡ before
+pub note_after : (log grown new : List C.Entry) (es : List L.Entry) (board before : BoardFields) (c : ℕ) (s : Served)
+    → grown ≡ log → board ≡ before
     → map entry_of new ≡ map entry_of grown ++ es → es ≡ served_entries c board s
     → map entry_of new ≡ map entry_of log ++ served_entries c before s
 note_after log grown new es board before c s g b n e =

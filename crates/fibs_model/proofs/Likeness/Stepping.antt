@@ -49,7 +49,8 @@ told w Repeat = tt
 told w (Text t) = if_told (is_board_text (lines_of (on_wire t))) _ _ tt tt
 
 -- what the table tells is told
-pub tells : (why : WorldRefusal) (answer : Option WorldRefusal) → IsTold answer → Some why ≡ answer → Agrees (Some why) answer
+pub tells : (why : WorldRefusal) (answer : Option WorldRefusal) → IsTold answer → Some why ≡ answer
+    → Agrees (Some why) answer
 tells Memory answer t e = absurd (subst IsTold (sym e) t)
 tells AlreadyOpen answer t e = sym e
 tells NotOpen answer t e = sym e
@@ -61,9 +62,11 @@ tells BadBoard answer t e = sym e
 tells BadDice answer t e = sym e
 
 -- the table of a Serve, by the program's wires
-pub serve_agrees : (v : WorldValue) (login : List ℕ) (w : World) (c d1 d2 : ℕ) → StandsFor v login w → serve_refusal v.links v.server.logged_in c d1 d2 ≡ refusal w (Serve c d1 d2)
+pub serve_agrees : (v : WorldValue) (login : List ℕ) (w : World) (c d1 d2 : ℕ) → StandsFor v login w
+    → serve_refusal v.links v.server.logged_in c d1 d2 ≡ refusal w (Serve c d1 d2)
 serve_agrees v login w c d1 d2 s =
-    ap (λ n. table n v.server.logged_in (link_at v.links c)) s.count ∙ ap (λ n. table w.count n (link_at v.links c)) s.logged_in ∙ ap (table w.count w.logged_in) (sym (s.links c))
+    ap (λ n. table n v.server.logged_in (link_at v.links c)) s.count
+    ∙ ap (λ n. table w.count n (link_at v.links c)) s.logged_in ∙ ap (table w.count w.logged_in) (sym (s.links c))
   where
     table : ℕ → ℕ → LinkValue → Option WorldRefusal
     table count logged_in l =
@@ -73,41 +76,51 @@ serve_agrees v login w c d1 d2 s =
 
 -- One event more.
 
-all_more : (login : List ℕ) (w : World) (es : List Event) (e : Event) → AllAccepted login w es → refusal (after_all login w es) e ≡ None → AllAccepted login w (es ++ e ∷ [])
+all_more : (login : List ℕ) (w : World) (es : List Event) (e : Event) → AllAccepted login w es
+    → refusal (after_all login w es) e ≡ None → AllAccepted login w (es ++ e ∷ [])
 all_more login w [] e h r = (r, tt)
 all_more login w (x ∷ es) e h r = (h.0, all_more login (after login w x) es e h.1 r)
 
-after_more : (login : List ℕ) (w : World) (es : List Event) (e : Event) → after_all login w (es ++ e ∷ []) ≡ after login (after_all login w es) e
+after_more : (login : List ℕ) (w : World) (es : List Event) (e : Event)
+    → after_all login w (es ++ e ∷ []) ≡ after login (after_all login w es) e
 after_more login w [] e = refl
 after_more login w (x ∷ es) e = after_more login (after login w x) es e
 
-may_more : (login : List ℕ) (first : BoardFields) (es : List Event) (e : Event) → MayBe login first es → refusal (world_after login first es) e ≡ None → MayBe login first (es ++ e ∷ [])
+may_more : (login : List ℕ) (first : BoardFields) (es : List Event) (e : Event) → MayBe login first es
+    → refusal (world_after login first es) e ≡ None → MayBe login first (es ++ e ∷ [])
 unfolding MayBe world_after
 may_more login first es e h r = all_more login (start first) es e h r
 
-world_more : (login : List ℕ) (first : BoardFields) (es : List Event) (e : Event) → world_after login first (es ++ e ∷ []) ≡ after login (world_after login first es) e
+world_more : (login : List ℕ) (first : BoardFields) (es : List Event) (e : Event)
+    → world_after login first (es ++ e ∷ []) ≡ after login (world_after login first es) e
 unfolding world_after
 world_more login first es e = after_more login (start first) es e
 
 -- the world stands for the machine's
-pub stands_for : (v : WorldValue) (name password : List ℕ) (first : BoardFields) (es : List Event) → WorldStandsAfter v name password first es
+pub stands_for : (v : WorldValue) (name password : List ℕ) (first : BoardFields) (es : List Event)
+    → WorldStandsAfter v name password first es
     → StandsFor v (login_text name password) (machine_after name password first es)
 unfolding WorldStandsAfter
 stands_for v name password first es h = h.stands
 
 -- an event that may be was done
-pub stands_more : (v v' : WorldValue) (name password : List ℕ) (first : BoardFields) (es : List Event) (e : Event) → WorldStandsAfter v name password first es
-    → refusal (machine_after name password first es) e ≡ None → Goes v v' e → WorldStandsAfter v' name password first (es ++ e ∷ [])
+pub stands_more : (v v' : WorldValue) (name password : List ℕ) (first : BoardFields) (es : List Event) (e : Event)
+    → WorldStandsAfter v name password first es
+    → refusal (machine_after name password first es) e ≡ None → Goes v v' e
+    → WorldStandsAfter v' name password first (es ++ e ∷ [])
 unfolding WorldStandsAfter
 stands_more v v' name password first es e h r goes = record {
   is_login = h.is_login;
   is_good = h.is_good;
   may_be = may_more (login_text name password) first es e h.may_be r;
-  stands = subst (StandsFor v' (login_text name password)) (sym (world_more (login_text name password) first es e)) (goes (login_text name password) (machine_after name password first es) h.stands);
+  stands = subst (StandsFor v' (login_text name password)) (sym (world_more (login_text name password) first es e))
+      (goes (login_text name password) (machine_after name password first es) h.stands);
 }
 
 -- nothing was done
-pub stands_still : (v v' : WorldValue) (name password : List ℕ) (first : BoardFields) (es : List Event) → v' ≡ v → WorldStandsAfter v name password first es
+pub stands_still : (v v' : WorldValue) (name password : List ℕ) (first : BoardFields) (es : List Event) → v' ≡ v
+    → WorldStandsAfter v name password first es
     → WorldStandsAfter v' name password first (es ++ [])
 stands_still v v' name password first es same h =
-    subst (λ x. WorldStandsAfter v' name password first x) (sym (append-nil es)) (subst (λ x. WorldStandsAfter x name password first es) (sym same) h)
+    subst (λ x. WorldStandsAfter v' name password first x) (sym (append-nil es))
+    (subst (λ x. WorldStandsAfter x name password first es) (sym same) h)

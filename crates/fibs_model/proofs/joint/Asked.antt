@@ -10,7 +10,7 @@ use Rattle.fibs_session.specs.History.Machine.{allows, on_wire}
 use Rattle.fibs_session.specs.History.Words.{Ask, is_empty, last, open_from, open_now, shown, sent, took, is_spent}
 use Rattle.fibs_session.specs.History.Words.{shown_by, sent_by, took_by}
 use Rattle.fibs_model.specs.Server.{command}
-use Rattle.fibs_model.specs.Wires.{Link}
+use Rattle.fibs_model.specs.Wires.{Link, more_asked}
 use Rattle.fibs_model.specs.World.{World, noted, asks}
 use Rattle.fibs_model.proofs.Lawful.{Lawful}
 use Rattle.fibs_model.proofs.log.Lists.{to_list, same_number, other_number, one_of_false, one_of_true, before_last}
@@ -24,32 +24,27 @@ use Rattle.fibs_model.proofs.joint.Joint.{linked_other, with_link, view_linked, 
 use Rattle.fibs_model.proofs.joint.Sending.{same_test}
 
 -- entries that are none of Shown, Sent and Took, and leave open what is open
-pub record IsSilent (es : List Entry) : Type 0 where
+pub record ChangesNothing (es : List Entry) : Type 0 where
   pub shows_none : (c : ℕ) → shown c es ≡ []
   pub sends_none : (c : ℕ) → sent c es ≡ []
   pub takes_none : (c : ℕ) → took c es ≡ []
   pub stays_open : (o : ℕ) → open_from o es ≡ o
 
 -- no entries
-pub none_silent : IsSilent []
-none_silent = record { shows_none = λ c. refl; sends_none = λ c. refl; takes_none = λ c. refl; stays_open = λ o. refl }
+pub no_entries : ChangesNothing []
+no_entries = record { shows_none = λ c. refl; sends_none = λ c. refl; takes_none = λ c. refl; stays_open = λ o. refl }
 
 module _ (law : Lawful) where
-  -- Behind silent entries a decision is sent on the connection that is logged in and open: nothing was sent in this
-  -- stretch, and the board shown last allows it. The boards still to be noted are that one.
-  pub joint_asked : (more : List Board) (w : World) (first : List Entry) (d : Decision) (b : Board) → IsSilent first
-      → Joint more w → open_now w.log ≡ w.logged_in → 0 < w.logged_in → is_spent same_game w.logged_in w.log ≡ false
+  -- Behind entries that change nothing a decision is sent on the connection that is logged in and open: nothing was
+  -- sent in this stretch, and the board shown last allows it. The boards still to be noted are that one.
+  pub joint_asked : (more : List Board) (w : World) (first : List Entry) (d : Decision) (b : Board)
+      → ChangesNothing first → Joint more w → open_now w.log ≡ w.logged_in → 0 < w.logged_in
+      → is_spent same_game w.logged_in w.log ≡ false
       → last (shown w.logged_in w.log) ≡ Some b → allows b d ≡ None
       → Joint more
       (asks (noted w (first ++ Sent w.logged_in b d ∷ [])) w.logged_in (command b d ∷ []))
-  joint_asked more w first d b silent j here some fresh la al =
-      let l' : Link =
-      record {
-        heard = (w.links w.logged_in).heard;
-        coming = (w.links w.logged_in).coming;
-        served = (w.links w.logged_in).served;
-        asked = (w.links w.logged_in).asked ++ flat_map on_wire (command b d ∷ []);
-      } in
+  joint_asked more w first d b idle j here some fresh la al =
+      let l' : Link = more_asked (w.links w.logged_in) (flat_map on_wire (command b d ∷ [])) in
       let one : List Entry = Sent w.logged_in b d ∷ [] in
       let es : List Entry = first ++ Sent w.logged_in b d ∷ [] in
       let n : World = noted w es in
@@ -61,10 +56,10 @@ module _ (law : Lawful) where
       let asked : sent w.logged_in es ≡ (b, d) ∷ [] =
       map_more (sent_by w.logged_in) first one ((b, d) ∷ [])
       (ap (λ l. l ++ []) (one_of_true (nat_eq w.logged_in w.logged_in) (b, d) (same_number w.logged_in)))
-      ∙ ap (λ l. l ++ (b, d) ∷ []) (silent.sends_none w.logged_in) in
+      ∙ ap (λ l. l ++ (b, d) ∷ []) (idle.sends_none w.logged_in) in
       let shows : (e : ℕ) → shown e es ≡ [] =
-      λ e. map_no_more (shown_by e) first one refl ∙ silent.shows_none e in
-      let takes : (e : ℕ) → took e es ≡ [] = λ e. map_no_more (took_by e) first one refl ∙ silent.takes_none e in
+      λ e. map_no_more (shown_by e) first one refl ∙ idle.shows_none e in
+      let takes : (e : ℕ) → took e es ≡ [] = λ e. map_no_more (took_by e) first one refl ∙ idle.takes_none e in
       let ss : sent w.logged_in n.log ≡ sent w.logged_in w.log ++ (b, d) ∷ [] =
       map_more (sent_by w.logged_in) w.log es ((b, d) ∷ []) asked in
       let st : took w.logged_in n.log ≡ took w.logged_in w.log =
@@ -73,7 +68,7 @@ module _ (law : Lawful) where
       map_no_more (shown_by w.logged_in) w.log es (shows w.logged_in) in
       let two : w.log ++ es ≡ (w.log ++ first) ++ one = sym (append_assoc w.log first one) in
       let sc : shown w.logged_in (w.log ++ first) ≡ shown w.logged_in w.log =
-      map_no_more (shown_by w.logged_in) w.log first (silent.shows_none w.logged_in) in
+      map_no_more (shown_by w.logged_in) w.log first (idle.shows_none w.logged_in) in
       let sp : is_spent same_game w.logged_in n.log ≡ true = ap (is_spent same_game w.logged_in) two
       ∙ spent_sent same_game w.logged_in (w.log ++ first) b d (ap is_empty sc ∙ before_last _ b la) in
       let cl : Calm w.board (b ∷ waiting more (w.links w.logged_in)) = rw la at f.1.calm in
@@ -90,11 +85,11 @@ module _ (law : Lawful) where
       let v' =
       subst (λ (u : View). Current true u w.board (waiting more u.link)) (sym (view_linked n w.logged_in l')) v in
       joint_current more more w w' j some refl refl
-      (open_append 0 w.log es ∙ open_append (open_now w.log) first one ∙ silent.stays_open (open_now w.log))
+      (open_append 0 w.log es ∙ open_append (open_now w.log) first one ∙ idle.stays_open (open_now w.log))
       (λ e m. same_view w w' es e refl (shows e)
       (map_no_more (sent_by e) first one (ap (λ l. l ++ [])
       (one_of_false (nat_eq w.logged_in e) (b, d) (other_number w.logged_in e (λ z. m (sym z)))))
-      ∙ silent.sends_none e)
+      ∙ idle.sends_none e)
       (takes e) (linked_other n w.logged_in e l' m))
       j.good
       (rw t v')

@@ -16,7 +16,7 @@ use Rattle.fibs_session.specs.declared.refusal.PlainRefusal.{PlainRefusal}
 use Rattle.fibs_session.specs.declared.refusal.Refusal.{Refusal}
 use Rattle.fibs_boards.specs.Board.{BoardFields as Board}
 use Rattle.fibs_model.specs.Joint.{Carried}
-use Rattle.fibs_model.specs.Wires.{Link}
+use Rattle.fibs_model.specs.Wires.{Link, more_asked}
 use Rattle.fibs_model.specs.World.{World, noted, linked, asks, does_heard, hears, hears_all, sends_out, clicks}
 use Rattle.fibs_model.specs.World.{sends_plain}
 use Rattle.fibs_model.proofs.log.Past.{open_append}
@@ -77,12 +77,7 @@ alike_linked w c l h k = record {
 -- commands are handed out
 pub alike_asks : (w : World) (c : ℕ) (ts : List (List ℕ)) → Alike w (asks w c ts)
 alike_asks w c ts =
-    let l : Link = record {
-      heard = (w.links c).heard;
-      coming = (w.links c).coming;
-      served = (w.links c).served;
-      asked = (w.links c).asked ++ flat_map on_wire ts;
-    } in
+    let l : Link = more_asked (w.links c) (flat_map on_wire ts) in
     let a = alike_linked w c l refl refl in
     record { board = refl; logged_in = refl; here = refl; heard = a.heard; coming = a.coming }
 

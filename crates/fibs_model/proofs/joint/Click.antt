@@ -10,13 +10,13 @@ use Rattle.fibs_session.specs.History.Words.{last, open_now, shown, is_spent, an
 use Rattle.fibs_model.specs.World.{World, clicks}
 use Rattle.fibs_model.proofs.Lawful.{Lawful}
 use Rattle.fibs_model.proofs.log.Yes.{Yes, yes}
-use Rattle.fibs_model.proofs.joint.Asked.{IsSilent, joint_asked}
+use Rattle.fibs_model.proofs.joint.Asked.{ChangesNothing, joint_asked}
 use Rattle.fibs_model.proofs.joint.Joint.{Joint}
 use Rattle.fibs_model.proofs.joint.Sending.{joint_noted, not_older}
 
 -- a click says nothing of the wires and the boards
-click_silent : (c : ℕ) (d : Decision) → IsSilent (Clicked c d None ∷ [])
-click_silent c d =
+click_alone : (c : ℕ) (d : Decision) → ChangesNothing (Clicked c d None ∷ [])
+click_alone c d =
     record { shows_none = λ e. refl; sends_none = λ e. refl; takes_none = λ e. refl; stays_open = λ o. refl }
 
 module _ (law : Lawful) where
@@ -35,7 +35,7 @@ module _ (law : Lawful) where
           subst (λ c. (0 < c) × (is_spent same_game c w.log ≡ false) × (last (shown c w.log) ≡ Some y.on)) k
           (y.some, y.fresh, y.is_last) in
           rw y.is_last (rw k (joint_asked law [] w (Clicked w.logged_in d None ∷ []) d y.on
-          (click_silent w.logged_in d) j k z.0 z.1 z.2 y.allowed))
+          (click_alone w.logged_in d) j k z.0 z.1 z.2 y.allowed))
         where
           here : Yes same_game allows w.log d → open_now w.log ≡ w.logged_in
           here y = elim (eqb_tells (open_now w.log) w.logged_in) [

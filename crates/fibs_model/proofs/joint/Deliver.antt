@@ -8,7 +8,7 @@ use Rattle.fibs_boards.specs.Board.{BoardFields as Board}
 use Rattle.fibs_session.specs.History.Log.{Welcomed, Informed, Shown}
 use Rattle.fibs_session.specs.History.Words.{Ask, one_if, is_empty, last, each, open_now, shown, sent, took, welcomed}
 use Rattle.fibs_session.specs.History.Words.{informed, is_spent}
-use Rattle.fibs_model.specs.Wires.{Link}
+use Rattle.fibs_model.specs.Wires.{Link, delivered}
 use Rattle.fibs_model.specs.World.{does_heard, World, noted, linked, hears, hears_all}
 use Rattle.fibs_model.proofs.log.Moving.{has_moved_on}
 use Rattle.fibs_model.proofs.Lawful.{Lawful, AllQuiet}
@@ -244,11 +244,6 @@ module _ (law : Lawful) where
   hears_lines c (l ∷ ls) more w some y =
       let y' = subst (λ bs. Hearing c bs w) (append_assoc (board_of (line_reading l)) (boards ls) more) y in
       hears_lines c ls more _ some (hears_one c (boards ls ++ more) w (line_reading l) some y')
-
-  -- the wire after so many bytes were delivered
-  abbrev pub delivered : Link → ℕ → Link
-  delivered l n =
-      record { heard = l.heard ++ take n l.coming; coming = drop n l.coming; served = l.served; asked = l.asked }
 
   -- bytes are delivered to the open connection
   pub joint_deliver : (w : World) (c n : ℕ) → Joint [] w → open_now w.log ≡ c → 0 < c

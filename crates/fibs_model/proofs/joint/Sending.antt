@@ -8,7 +8,7 @@ use Rattle.fibs_boards.specs.Board.{BoardFields as Board}
 use Rattle.fibs_session.specs.History.Log.{Entry}
 use Rattle.fibs_session.specs.History.Words.{Ask, last, open_from, open_now, shown, sent, took}
 use Rattle.fibs_lines.specs.Lines.{lines_of}
-use Rattle.fibs_model.specs.Wires.{Link}
+use Rattle.fibs_model.specs.Wires.{Link, more_asked, more_coming}
 use Rattle.fibs_model.specs.Server.{user_decides}
 use Rattle.fibs_model.specs.World.{World, noted, linked, asks, sends, is_talking}
 use Rattle.fibs_model.proofs.Lawful.{Lawful, AllQuiet}
@@ -127,12 +127,7 @@ module _ (law : Lawful) where
           let a = subst (λ t. Ahead t (view w c)) (same_test _ _ h) (j.ahead c lt) in
           let v : Ahead true
           (with_link (view w c)
-          (record {
-            heard = (w.links c).heard;
-            coming = (w.links c).coming;
-            served = (w.links c).served;
-            asked = (w.links c).asked ++ flat_map on_wire ts;
-          })) =
+          (more_asked (w.links c) (flat_map on_wire ts))) =
           record {
             seen = a.seen;
             sends = a.sends;
@@ -157,13 +152,7 @@ module _ (law : Lawful) where
           let cur =
           subst (λ o. Current o (view w w.logged_in) w.board (waiting x (w.links w.logged_in))) t
           (j.current some) in
-          let l : Link =
-          record {
-            heard = (w.links w.logged_in).heard;
-            coming = (w.links w.logged_in).coming;
-            served = (w.links w.logged_in).served;
-            asked = (w.links w.logged_in).asked ++ flat_map on_wire ts;
-          } in
+          let l : Link = more_asked (w.links w.logged_in) (flat_map on_wire ts) in
           let v : Current true (with_link (view w w.logged_in) l) w.board (waiting x l) =
           record {
             p = cur.p;
@@ -217,7 +206,7 @@ not_left false false h k = refl
 
 -- one more line is sent
 abbrev pub with_line : Link → List ℕ → Link
-with_line l t = record { heard = l.heard; coming = l.coming ++ on_wire t; served = l.served; asked = l.asked }
+with_line l t = more_coming l (on_wire t)
 
 -- a fact on a choice
 pub if_fact : {A : Type 0} (P : A → Type 0) (z : Bool) (a b : A) → (z ≡ true → P a) → (z ≡ false → P b)

@@ -17,7 +17,7 @@ use Rattle.fibs_model.specs.Joint as S
 use Rattle.fibs_model.specs.Runs.{after_all}
 use Rattle.fibs_model.specs.Server.{Served, answered}
 use Rattle.fibs_model.specs.Server as V
-use Rattle.fibs_model.specs.Wires.{Link, next_line}
+use Rattle.fibs_model.specs.Wires.{Link, taken, next_line}
 use Rattle.fibs_model.specs.World.{World, after, noted, linked, is_talking, does_served, serves}
 use Rattle.fibs_model.proofs.Steps.{NoAnswers, Adds, Fits, fits, sends_log, adds}
 use Rattle.fibs_model.proofs.joint.Sending.{if_fact}
@@ -102,12 +102,7 @@ notes_line : (c : ℕ) (w : World) (conn d1 d2 : ℕ) (o : Option (List ℕ × L
     → Notes c w (serves conn w d1 d2 o) (if nat_eq c w.logged_in then acts_at_line w conn d1 d2 o else [])
 notes_line c w conn d1 d2 None = ([], sym (append-nil w.log), only_none c w.logged_in [] refl)
 notes_line c w conn d1 d2 (Some p) =
-    let l : Link = record {
-      heard = (w.links conn).heard;
-      coming = (w.links conn).coming;
-      served = (w.links conn).served ++ on_wire p.0;
-      asked = p.1;
-    } in
+    let l : Link = taken (w.links conn) (on_wire p.0) p.1 in
     let first = is_empty (w.links conn).served in
     notes_served c conn d1 d2 w l (answered w.board w.logged_in conn first p.0 d1 d2)
     (fits w.board w.logged_in conn first p.0 d1 d2)

@@ -22,7 +22,7 @@ use Rattle.fibs_model.specs.Refusals.{refusal}
 use Rattle.fibs_model.specs.Runs.{AllAccepted, after_all}
 use Rattle.fibs_model.specs.Server.{Served, Stale, LoggedIn, answered, user_decides}
 use Rattle.fibs_model.specs.Server as V
-use Rattle.fibs_model.specs.Wires.{Link}
+use Rattle.fibs_model.specs.Wires.{Link, taken}
 use Rattle.fibs_model.specs.World.{World, start, after, noted, linked, sends, does_served, serves, talk_of}
 use Rattle.fibs_model.proofs.Lawful.{Lawful, IsQuiet}
 use Rattle.fibs_model.proofs.Final.{kept, told_start}
@@ -190,12 +190,7 @@ kept_line : (acts : ℕ → List Act) (w : World) (c d1 d2 : ℕ) (line : List �
     (acts_of w (answered w.board w.logged_in c (is_empty (w.links c).served) line.0 d1 d2)))
     (serves c w d1 d2 (Some line))
 kept_line acts w c d1 d2 line low k =
-    let l : Link = record {
-      heard = (w.links c).heard;
-      coming = (w.links c).coming;
-      served = (w.links c).served ++ on_wire line.0;
-      asked = line.1;
-    } in
+    let l : Link = taken (w.links c) (on_wire line.0) line.1 in
     kept_served acts c (linked w c l) (answered w.board w.logged_in c (is_empty (w.links c).served) line.0 d1 d2) low
     (kept_alike acts w (linked w c l) (alike_linked w c l refl refl) k)
 

@@ -9,10 +9,10 @@ use Rattle.fibs_session.specs.History.Log.{Entry}
 use Rattle.fibs_session.specs.History.Log.{Opened, LoggedIn, Took, Lost}
 use Rattle.fibs_session.specs.History.Words.{Ask, is_empty, last, each, open_now, shown, sent, took, sent_by, took_by}
 use Rattle.fibs_session.specs.History.Words.{is_spent}
-use Rattle.fibs_model.specs.Wires.{next_line, Link}
-use Rattle.fibs_model.specs.Server.{is_die, Stale, LoggedIn as LoggedInNow, decision_in, command}
-use Rattle.fibs_model.specs.World.{World, noted, linked, asks, sends, is_talking, takes_line, obeys, carries_out}
-use Rattle.fibs_model.specs.World.{does_served}
+use Rattle.fibs_model.specs.Wires.{next_line, Link, more_asked, taken, cut_off}
+use Rattle.fibs_model.specs.Server.{is_die, Stale, LoggedIn as LoggedInNow, decision_in, command, carried, obeyed}
+use Rattle.fibs_position.specs.DecisionValue.{DecisionValue as Decision}
+use Rattle.fibs_model.specs.World.{World, noted, linked, asks, sends, is_talking, takes_line, does_served}
 use Rattle.fibs_model.proofs.Lawful.{Lawful, IsQuiet}
 use Rattle.fibs_session.specs.History.Machine.{on_wire, gained}
 use Rattle.std.specs.Prelude.{nat_lt, if◌then◌else◌}
@@ -31,6 +31,14 @@ use Rattle.fibs_boards.specs.Board.{spelling}
 use Rattle.fibs_session.specs.History.Machine.{allows}
 use Rattle.fibs_position.specs.GamePart.{same_game}
 use Rattle.fibs_position.specs.GoodBoard.{good as is_good}
+
+-- what comes of a decision, by the board to which it leads
+abbrev pub carries_out : ℕ → World → Decision → Option Board → World
+carries_out c w d o = does_served c w (carried d o)
+
+-- what comes of a later line of the connection logged in, by the decision that it says
+abbrev pub obeys : ℕ → World → ℕ → ℕ → Option Decision → World
+obeys c w d1 d2 o = does_served c w (obeyed w.board d1 d2 o)
 
 -- a connection is not 0
 no_number : (d : ℕ) → 0 < d → nat_eq 0 d ≡ false
@@ -67,10 +75,6 @@ module _ (law : Lawful) where
         held = c.held;
         live = λ h. absurd (true≢false (sym h));
       }
-
-  -- the wire after a loss that keeps so many bytes
-  abbrev pub cut_off : Link → ℕ → Link
-  cut_off l k = record { heard = l.heard; coming = []; served = l.served; asked = take k l.asked }
 
   -- the open connection is lost
   pub joint_lose : (w : World) (c k : ℕ) (u : Option Ask) → Joint [] w → open_now w.log ≡ c → 0 < c
@@ -171,13 +175,7 @@ module _ (law : Lawful) where
       let c : ℕ = w.count + 1 in
       let lo = j.low in
       let n : World = noted (record w { count = w.count + 1 }) (Opened (w.count + 1) ∷ []) in
-      let l' : Link =
-      record {
-        heard = (w.links (w.count + 1)).heard;
-        coming = (w.links (w.count + 1)).coming;
-        served = (w.links (w.count + 1)).served;
-        asked = (w.links (w.count + 1)).asked ++ flat_map on_wire (login ∷ []);
-      } in
+      let l' : Link = more_asked (w.links (w.count + 1)) (flat_map on_wire (login ∷ [])) in
       let w' : World = asks n (w.count + 1) (login ∷ []) in
       let oc : open_now w'.log ≡ w.count + 1 = open_append 0 w.log (Opened (w.count + 1) ∷ []) in
       let same : (d : ℕ) → (d ≡ w.count + 1 → ⊥) → view w' d ≡ view w d =
@@ -236,10 +234,6 @@ module _ (law : Lawful) where
             (rw (a.heard, a.coming) whole_none));
       }
 
-  -- the wire after a line was taken
-  abbrev pub taken : Link → List ℕ → List ℕ → Link
-  taken l t rest = record { heard = l.heard; coming = l.coming; served = l.served ++ on_wire t; asked = rest }
-
   -- bytes that a line was added to
   not_empty : (xs t : List ℕ) → is_empty (xs ++ on_wire t) ≡ false
   not_empty [] [] = refl
@@ -249,10 +243,10 @@ module _ (law : Lawful) where
   -- the first line of a connection is its login
   joint_login : (w : World) (c : ℕ) (t rest : List ℕ) → Joint [] w → 0 < c → c ≤ w.count → w.logged_in < c
       → next_line (w.links c).asked ≡ Some (t, rest)
-      → Joint [] (noted (record (linked w c (taken (w.links c) t rest)) { logged_in = c }) (LoggedIn c ∷ []))
+      → Joint [] (noted (record (linked w c (taken (w.links c) (on_wire t) rest)) { logged_in = c }) (LoggedIn c ∷ []))
   joint_login w c t rest j some few lt next =
-      let l' : Link = taken (w.links c) t rest in
-      let n : World = linked w c (taken (w.links c) t rest) in
+      let l' : Link = taken (w.links c) (on_wire t) rest in
+      let n : World = linked w c (taken (w.links c) (on_wire t) rest) in
       let w' : World = noted (record n { logged_in = c }) (LoggedIn c ∷ []) in
       let oc : open_now w'.log ≡ open_now w.log = open_append 0 w.log (LoggedIn c ∷ []) in
       let same : (d : ℕ) → (d ≡ c → ⊥) → view w' d ≡ view w d =
@@ -287,7 +281,8 @@ module _ (law : Lawful) where
           | inl e ↦
               subst (λ d. Settled (view w' d)) (sym e.1)
               (subst Settled (sym here) (let s = j.settled c in
-              let s' : Settled (with_link (view w c) (taken (w.links c) t rest)) = record { p = s.p; owed = s.owed } in
+              let s' : Settled (with_link (view w c) (taken (w.links c) (on_wire t) rest)) =
+              record { p = s.p; owed = s.owed } in
               s'))
           | inr m ↦ subst Settled (sym (same d m.1)) (j.settled d)
         ];
@@ -317,9 +312,9 @@ module _ (law : Lawful) where
       → (cur : Current (nat_eq (open_now w.log) w.logged_in) (view w w.logged_in) w.board
       (waiting [] (w.links w.logged_in)))
       → OnWay (nat_eq (open_now w.log) w.logged_in) cur.p rest
-      → Joint [] (linked w w.logged_in (taken (w.links w.logged_in) t rest))
+      → Joint [] (linked w w.logged_in (taken (w.links w.logged_in) (on_wire t) rest))
   joint_taken w t rest j some cur way =
-      let l' : Link = taken (w.links w.logged_in) t rest in
+      let l' : Link = taken (w.links w.logged_in) (on_wire t) rest in
       let w' : World = linked w w.logged_in l' in
       let v : Current (nat_eq (open_now w.log) w.logged_in) (with_link (view w w.logged_in) l') w.board
       (waiting [] l') = record {
@@ -420,10 +415,10 @@ module _ (law : Lawful) where
       → OnWay (nat_eq (open_now w.log) w.logged_in) None rest
       → Joint []
       (sends
-      (noted (record (linked w w.logged_in (taken (w.links w.logged_in) t rest)) { board = b })
+      (noted (record (linked w w.logged_in (taken (w.links w.logged_in) (on_wire t) rest)) { board = b })
       (Took w.logged_in w.board a.1 ∷ [])) (spelling b))
   joint_decision w t rest a b j some cur isp ise al good un way =
-      let l1 : Link = taken (w.links w.logged_in) t rest in
+      let l1 : Link = taken (w.links w.logged_in) (on_wire t) rest in
       let w1 : World = linked w w.logged_in l1 in
       let es : List Entry = Took w.logged_in w.board a.1 ∷ [] in
       let n : World = noted (record w1 { board = b }) es in
@@ -459,31 +454,33 @@ module _ (law : Lawful) where
   -- the server takes a connection's next line
   pub joint_serve : (w : World) (c d1 d2 : ℕ) (t rest : List ℕ) → Joint [] w → 0 < c → c ≤ w.count → w.logged_in ≤ c
       → is_die d1 ≡ true → is_die d2 ≡ true → next_line (w.links c).asked ≡ Some (t, rest)
-      → Joint [] (takes_line c (linked w c (taken (w.links c) t rest)) (is_empty (w.links c).served) t d1 d2)
+      → Joint [] (takes_line c (linked w c (taken (w.links c) (on_wire t) rest)) (is_empty (w.links c).served) t d1 d2)
   joint_serve w c d1 d2 t rest j some few le i1 i2 next = elim (eqb_tells c w.logged_in) [
     | inl e ↦ rw e.1 (at_current (rw e.1 at some) (rw e.1 at next))
     | inr m ↦ at_ahead m.1
   ]
     where
       at_ahead : (c ≡ w.logged_in → ⊥)
-          → Joint [] (takes_line c (linked w c (taken (w.links c) t rest)) (is_empty (w.links c).served) t d1 d2)
+          → Joint [] (takes_line c (linked w c (taken (w.links c) (on_wire t) rest)) (is_empty (w.links c).served) t d1
+          d2)
       at_ahead m =
           let lt : w.logged_in < c = omega arith in
           let z : is_empty (w.links c).served ≡ true = ap is_empty (j.ahead c lt).served in
-          subst (λ s. Joint [] (takes_line c (linked w c (taken (w.links c) t rest)) s t d1 d2)) (sym z)
+          subst (λ s. Joint [] (takes_line c (linked w c (taken (w.links c) (on_wire t) rest)) s t d1 d2)) (sym z)
           (subst
-          (λ s. Joint [] (does_served c (linked w c (taken (w.links c) t rest)) (if s then Stale else LoggedInNow)))
+          (λ s. Joint [] (does_served c (linked w c (taken (w.links c) (on_wire t) rest))
+          (if s then Stale else LoggedInNow)))
           (sym (not_below c w.logged_in lt)) (joint_login w c t rest j some few lt next))
 
       at_current : 0 < w.logged_in → next_line (w.links w.logged_in).asked ≡ Some (t, rest)
           → Joint []
-          (takes_line w.logged_in (linked w w.logged_in (taken (w.links w.logged_in) t rest))
+          (takes_line w.logged_in (linked w w.logged_in (taken (w.links w.logged_in) (on_wire t) rest))
           (is_empty (w.links w.logged_in).served) t d1 d2)
       at_current have nx =
           let cur = j.current have in
           subst
           (λ s. Joint []
-          (takes_line w.logged_in (linked w w.logged_in (taken (w.links w.logged_in) t rest)) s t d1 d2))
+          (takes_line w.logged_in (linked w w.logged_in (taken (w.links w.logged_in) (on_wire t) rest)) s t d1 d2))
           (sym cur.begun)
           (rw (same_number w.logged_in)
           (line cur (way_serve law _ cur.p (w.links w.logged_in).asked t rest cur.way nx)))
@@ -495,16 +492,16 @@ module _ (law : Lawful) where
               ⊎ ((a : Ask) × (cur.p ≡ Some a) × (t ≡ command a.0 a.1)
               × OnWay (nat_eq (open_now w.log) w.logged_in) None rest)
               → Joint []
-              (obeys w.logged_in (linked w w.logged_in (taken (w.links w.logged_in) t rest)) d1 d2
+              (obeys w.logged_in (linked w w.logged_in (taken (w.links w.logged_in) (on_wire t) rest)) d1 d2
               (decision_in w.board t))
           line cur (inl q) =
-              let l1 : Link = taken (w.links w.logged_in) t rest in
+              let l1 : Link = taken (w.links w.logged_in) (on_wire t) rest in
               let w1 : World = linked w w.logged_in l1 in
               let j1 : Joint [] w1 = joint_taken w t rest j have cur q.1 in
               subst (λ m. Joint [] (obeys w.logged_in w1 d1 d2 m)) (sym (q.0.quiet w.board))
               (joint_board law w1 w.board j1 j.good (inl refl))
           line cur (inr q) =
-              let l1 : Link = taken (w.links w.logged_in) t rest in
+              let l1 : Link = taken (w.links w.logged_in) (on_wire t) rest in
               let w1 : World = linked w w.logged_in l1 in
               let a : Ask = q.0 in
               let held = subst (Held w.board) q.1 cur.held in

@@ -11,5 +11,7 @@ returns-clause-items c =
     let left = c.len-len.result - count in
     let same : left ≡ 0 + left = omega arith in
     let rest : length (drop count all) ≡ left = omega (arith, own, c.len-len.ensures, length-drop count all) in
-    c.truncate.ensures.items ∙ ap (take left) c.copy_within.ensures.items ∙ ap (λ n. take n (paste all 0 (drop count all) left)) same
-    ∙ take-paste all 0 (drop count all) left (omega arith) (omega (arith, rest)) ∙ take_all left (drop count all) (omega (arith, rest))
+    c.truncate.ensures.items ∙ ap (take left) c.copy_within.ensures.items
+    ∙ ap (λ n. take n (paste all 0 (drop count all) left)) same
+    ∙ take-paste all 0 (drop count all) left (omega arith) (omega (arith, rest))
+    ∙ take_all left (drop count all) (omega (arith, rest))

@@ -16,7 +16,8 @@ invariant_of-self-2 c =
     (clicked_stands c.servers_entries_are_silent.ensures (world_of c.self.inside) _ _ refl
     (asked_after _ _ _ _ _ c.make_room.ensures.same c.hand_out.ensures.value) refl
     d _ _ (noted_after _ _ _ _ c.reserve.ensures.items c.note_click.ensures)
-    c.decide-answer.ensures.refusal (λ t h. ap (option_map fields_of) c.copied-shown.ensures ∙ c.shown.ensures t h) c.decide-answer.ensures.does)
+    c.decide-answer.ensures.refusal (λ t h. ap (option_map fields_of) c.copied-shown.ensures ∙ c.shown.ensures t h)
+    c.decide-answer.ensures.does)
     (omega (arith, all, c.hand_out.ensures.len, c.make_room.ensures.len, c.self.invariant.known))
 
 pub returns-clause-ok : goal.returns-clause-ok
@@ -26,4 +27,5 @@ returns-clause-ok c =
     (clicked_stands c.servers_entries_are_silent.ensures (world_of c.self.inside) _ _ refl
     (asked_after _ _ _ _ _ c.make_room.ensures.same c.hand_out.ensures.value) refl
     d _ _ (noted_after _ _ _ _ c.reserve.ensures.items c.note_click.ensures)
-    c.decide-answer.ensures.refusal (λ t h. ap (option_map fields_of) c.copied-shown.ensures ∙ c.shown.ensures t h) c.decide-answer.ensures.does)
+    c.decide-answer.ensures.refusal (λ t h. ap (option_map fields_of) c.copied-shown.ensures ∙ c.shown.ensures t h)
+    c.decide-answer.ensures.does)

@@ -12,7 +12,8 @@ invariant_of-self-2 c =
     let e = Deliver c.args.n in
     kept_on c.self.inside _ e c.self.invariant
     (heard_stands c.servers_entries_are_silent.ensures (world_of c.self.inside) _ c.args.n refl
-    (heard_after _ _ _ _ _ _ _ _ _ _ c.make_room.ensures.same (ap (map entry_of) c.reserve.ensures.items) c.hear_next.ensures.hears) refl
+    (heard_after _ _ _ _ _ _ _ _ _ _ c.make_room.ensures.same (ap (map entry_of) c.reserve.ensures.items)
+    c.hear_next.ensures.hears) refl
     (may_seen _ _ e c.self.view_is c.requires.may))
     (omega (arith, all, c.hear_next.ensures.len, c.make_room.ensures.len, c.self.invariant.known))
 
@@ -21,5 +22,6 @@ returns-clause-ok c =
     let e = Deliver c.args.n in
     goes_seen _ _ _ e c.self.view_is
     (heard_stands c.servers_entries_are_silent.ensures (world_of c.self.inside) _ c.args.n refl
-    (heard_after _ _ _ _ _ _ _ _ _ _ c.make_room.ensures.same (ap (map entry_of) c.reserve.ensures.items) c.hear_next.ensures.hears) refl
+    (heard_after _ _ _ _ _ _ _ _ _ _ c.make_room.ensures.same (ap (map entry_of) c.reserve.ensures.items)
+    c.hear_next.ensures.hears) refl
     (may_seen _ _ e c.self.view_is c.requires.may))

@@ -13,14 +13,20 @@ invariant_of-result c = record {
   known = omega arith;
   login = login_of c.args.login;
   world = start (fields_of c.args.board);
-  stands = new_stands _ (login_of c.args.login) (fields_of c.args.board) c.in-Ok.ensures.begins.0 c.in-Ok.ensures.begins.1 (ap (map link_of) c.new-in-Ok-2.ensures.items) (ap (map entry_of) c.new-in-Ok-3.ensures.items) refl c.new-in-Ok.ensures;
+  stands = new_stands _ (login_of c.args.login) (fields_of c.args.board) c.in-Ok.ensures.begins.0
+      c.in-Ok.ensures.begins.1 (ap (map link_of) c.new-in-Ok-2.ensures.items)
+      (ap (map entry_of) c.new-in-Ok-3.ensures.items) refl c.new-in-Ok.ensures;
 }
 
 pub returns-in-Err-clause-refusal : goal.returns-in-Err-clause-refusal
-returns-in-Err-clause-refusal c = refused c.good_is_exact.ensures c.new.result (fields_of c.args.board) _ c.in-Err.is c.new.ensures.good
+returns-in-Err-clause-refusal c =
+    refused c.good_is_exact.ensures c.new.result (fields_of c.args.board) _ c.in-Err.is c.new.ensures.good
 
 pub returns-in-Ok-clause-stands : goal.returns-in-Ok-clause-stands
 returns-in-Ok-clause-stands c =
-    new_after _ (name_of c.args.login) (password_of c.args.login) (fields_of c.args.board) (record { is_user = c.args.login.user; is_secret = c.args.login.secret })
+    new_after _ (name_of c.args.login) (password_of c.args.login) (fields_of c.args.board)
+    (record { is_user = c.args.login.user; is_secret = c.args.login.secret })
     (c.new.ensures.good.0 (ap is_ok c.in-Ok.is))
-    (new_stands _ (login_of c.args.login) (fields_of c.args.board) c.in-Ok.ensures.begins.0 c.in-Ok.ensures.begins.1 (ap (map link_of) c.new-in-Ok-2.ensures.items) (ap (map entry_of) c.new-in-Ok-3.ensures.items) refl c.new-in-Ok.ensures)
+    (new_stands _ (login_of c.args.login) (fields_of c.args.board) c.in-Ok.ensures.begins.0 c.in-Ok.ensures.begins.1
+    (ap (map link_of) c.new-in-Ok-2.ensures.items) (ap (map entry_of) c.new-in-Ok-3.ensures.items) refl
+    c.new-in-Ok.ensures)

@@ -11,7 +11,8 @@ invariant_of-self-2 c =
     let all = c.send_line.new.links.ok.0 in
     kept_on c.self.inside _ Repeat c.self.invariant
     (repeat_stands c.servers_entries_are_silent.ensures (world_of c.self.inside) _ _ refl
-    (sent_after _ _ _ _ _ _ _ c.make_room.ensures.same c.logged_in.ensures c.send_line.ensures.value) refl refl refl refl
+    (sent_after _ _ _ _ _ _ _ c.make_room.ensures.same c.logged_in.ensures c.send_line.ensures.value) refl refl refl
+    refl
     (c.deref.ensures.0 ∙ c.print-line.ensures.text ∙ ap spelling c.board.ensures.value))
     (omega (arith, all, c.send_line.ensures.len, c.make_room.ensures.len, c.self.invariant.known))
 
@@ -19,5 +20,6 @@ pub returns-clause-ok : goal.returns-clause-ok
 returns-clause-ok c =
     goes_seen _ _ _ Repeat c.self.view_is
     (repeat_stands c.servers_entries_are_silent.ensures (world_of c.self.inside) _ _ refl
-    (sent_after _ _ _ _ _ _ _ c.make_room.ensures.same c.logged_in.ensures c.send_line.ensures.value) refl refl refl refl
+    (sent_after _ _ _ _ _ _ _ c.make_room.ensures.same c.logged_in.ensures c.send_line.ensures.value) refl refl refl
+    refl
     (c.deref.ensures.0 ∙ c.print-line.ensures.text ∙ ap spelling c.board.ensures.value))

@@ -9,6 +9,7 @@ use Rattle.fibs_model.proofs.world.World.run.Given as goal
 abbrev pub invariant-loop-event : goal.invariant-loop-event
 invariant-loop-event l = record {
   count : l.done ≡ l.event-index;
-  stands : (name password : List ℕ) (first : BoardFields) (before : List Event) → WorldStandsAfter l.fn.self name password first before
+  stands : (name password : List ℕ) (first : BoardFields) (before : List Event)
+      → WorldStandsAfter l.fn.self name password first before
       → WorldStandsAfter l.self name password first (before ++ take l.done (map event_of l.events));
 }

@@ -12,11 +12,13 @@ take_next-served-requires-clause-known c =
     let d1 = slice_index c.args.dice 0 in
     let d2 = slice_index c.args.dice 1 in
     let before = c.self.inside.links.ok.0 in
-    let known = serve_known (world_of c.self.inside) _ _ c.args.conn d1 d2 c.self.invariant.stands (may_seen _ _ (Serve c.args.conn d1 d2) c.self.view_is c.requires.may) in
+    let known = serve_known (world_of c.self.inside) _ _ c.args.conn d1 d2 c.self.invariant.stands
+    (may_seen _ _ (Serve c.args.conn d1 d2) c.self.view_is c.requires.may) in
     omega (arith, c.make_room.ensures.len, before, length-map c.self.inside.links.items link_of, known)
 
 pub answer_line-requires-clause-room : goal.answer_line-requires-clause-room
-answer_line-requires-clause-room c = λ some. c.take_next-served.ensures.room c.self.inside.current 331 some (c.in_ok-make_room.ensures.to_client some)
+answer_line-requires-clause-room c =
+    λ some. c.take_next-served.ensures.room c.self.inside.current 331 some (c.in_ok-make_room.ensures.to_client some)
 
 pub invariant_of-self-2 : goal.invariant_of-self-2
 invariant_of-self-2 c =
@@ -26,10 +28,19 @@ invariant_of-self-2 c =
     let all = c.answer_line.new.links.ok.0 in
     kept_on c.self.inside _ e c.self.invariant
     (served_stands c.servers_entries_are_silent.ensures (world_of c.self.inside) _ c.args.conn d1 d2 _ _
-    (takes_after _ _ _ _ _ c.args.conn d1 d2 _ c.make_room.ensures.same c.take_next-served.ensures.takes) c.answer_line.ensures.value
-    (note_after _ _ _ _ _ _ c.args.conn _ c.reserve.ensures.items c.board-board.ensures.value c.note.ensures.items (c.entry.ensures _)) refl refl
+    (takes_after _ _ _ _ _ c.args.conn d1 d2 _ c.make_room.ensures.same c.take_next-served.ensures.takes)
+    c.answer_line.ensures.value
+    (note_after _ _ _ _ _ _ c.args.conn _ c.reserve.ensures.items c.board-board.ensures.value c.note.ensures.items
+    (c.entry.ensures _)) refl refl
     (may_seen _ _ e c.self.view_is c.requires.may))
-    (omega (arith, all, c.answer_line.ensures.len, c.take_next-served.ensures.len, c.make_room.ensures.len, c.self.invariant.known))
+    (omega (
+      arith,
+      all,
+      c.answer_line.ensures.len,
+      c.take_next-served.ensures.len,
+      c.make_room.ensures.len,
+      c.self.invariant.known,
+    ))
 
 pub returns-clause-ok : goal.returns-clause-ok
 returns-clause-ok c =
@@ -38,6 +49,8 @@ returns-clause-ok c =
     let e = Serve c.args.conn d1 d2 in
     goes_seen _ _ _ e c.self.view_is
     (served_stands c.servers_entries_are_silent.ensures (world_of c.self.inside) _ c.args.conn d1 d2 _ _
-    (takes_after _ _ _ _ _ c.args.conn d1 d2 _ c.make_room.ensures.same c.take_next-served.ensures.takes) c.answer_line.ensures.value
-    (note_after _ _ _ _ _ _ c.args.conn _ c.reserve.ensures.items c.board-board.ensures.value c.note.ensures.items (c.entry.ensures _)) refl refl
+    (takes_after _ _ _ _ _ c.args.conn d1 d2 _ c.make_room.ensures.same c.take_next-served.ensures.takes)
+    c.answer_line.ensures.value
+    (note_after _ _ _ _ _ _ c.args.conn _ c.reserve.ensures.items c.board-board.ensures.value c.note.ensures.items
+    (c.entry.ensures _)) refl refl
     (may_seen _ _ e c.self.view_is c.requires.may))

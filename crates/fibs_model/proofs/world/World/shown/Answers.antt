@@ -10,4 +10,5 @@ use Rattle.fibs_model.proofs.world.World.shown.Goals as goal
 pub returns : goal.returns
 returns c = λ name password first events h.
     let t = talk_of (login_text name password) (machine_after name password first events) in
-    c.shown.ensures t (subst (λ (v : WorldValue). StandsAfter v.client t) (sym c.self.view_is) (stands_for c.args.self.now name password first events h).client)
+    c.shown.ensures t (subst (λ (v : WorldValue). StandsAfter v.client t) (sym c.self.view_is)
+    (stands_for c.args.self.now name password first events h).client)

@@ -9,36 +9,43 @@ use Rattle.fibs_model.proofs.world.World.step.Goals as goal
 pub returns-in-Some-clause-refusal : goal.returns-in-Some-clause-refusal
 returns-in-Some-clause-refusal c = λ name password first events h.
     tells c.in-Some.why _ (told (machine_after name password first events) (event_of c.args.event.now))
-    (sym c.in-Some.is ∙ c.refusal.ensures (login_text name password) (machine_after name password first events) (stands_for c.args.self.now name password first events h))
+    (sym c.in-Some.is ∙ c.refusal.ensures (login_text name password) (machine_after name password first events)
+    (stands_for c.args.self.now name password first events h))
 
 pub returns-in-Some-clause-headline : goal.returns-in-Some-clause-headline
 returns-in-Some-clause-headline c = λ name password first events h.
-    headline_of c.headline.ensures.headline c.args.self.now name password first _ (stands_still c.args.self.now c.args.self.now name password first events refl h)
+    headline_of c.headline.ensures.headline c.args.self.now name password first _
+    (stands_still c.args.self.now c.args.self.now name password first events refl h)
 
 pub returns-in-Ok-clause-refusal : goal.returns-in-Ok-clause-refusal
 returns-in-Ok-clause-refusal c = λ name password first events h.
-    sym (c.refusal.ensures (login_text name password) (machine_after name password first events) (stands_for c.args.self.now name password first events h)) ∙ c.in-None.is
+    sym (c.refusal.ensures (login_text name password) (machine_after name password first events)
+    (stands_for c.args.self.now name password first events h)) ∙ c.in-None.is
 
 pub returns-in-Ok-clause-stands : goal.returns-in-Ok-clause-stands
 returns-in-Ok-clause-stands c = λ name password first events h.
     stands_more c.args.self.now c.take.new.self name password first events (event_of c.args.event.now) h
-    (sym (c.refusal.ensures (login_text name password) (machine_after name password first events) (stands_for c.args.self.now name password first events h)) ∙ c.in-None.is)
+    (sym (c.refusal.ensures (login_text name password) (machine_after name password first events)
+    (stands_for c.args.self.now name password first events h)) ∙ c.in-None.is)
     c.in-Ok.ensures.ok
 
 pub returns-in-Ok-clause-headline : goal.returns-in-Ok-clause-headline
 returns-in-Ok-clause-headline c = λ name password first events h.
     headline_of c.headline.ensures.headline c.take.new.self name password first _
     (stands_more c.args.self.now c.take.new.self name password first events (event_of c.args.event.now) h
-    (sym (c.refusal.ensures (login_text name password) (machine_after name password first events) (stands_for c.args.self.now name password first events h)) ∙ c.in-None.is)
+    (sym (c.refusal.ensures (login_text name password) (machine_after name password first events)
+    (stands_for c.args.self.now name password first events h)) ∙ c.in-None.is)
     c.in-Ok.ensures.ok)
 
 pub returns-in-Err-clause-refusal : goal.returns-in-Err-clause-refusal
 returns-in-Err-clause-refusal c = λ name password first events h.
-    sym (c.refusal.ensures (login_text name password) (machine_after name password first events) (stands_for c.args.self.now name password first events h)) ∙ c.in-None.is
+    sym (c.refusal.ensures (login_text name password) (machine_after name password first events)
+    (stands_for c.args.self.now name password first events h)) ∙ c.in-None.is
 
 pub returns-in-Err-clause-headline : goal.returns-in-Err-clause-headline
 returns-in-Err-clause-headline c = λ name password first events h.
-    headline_of c.headline.ensures.headline c.args.self.now name password first _ (stands_still c.args.self.now c.args.self.now name password first events refl h)
+    headline_of c.headline.ensures.headline c.args.self.now name password first _
+    (stands_still c.args.self.now c.args.self.now name password first events refl h)
 
 pub returns-in-Some-clause-once : goal.returns-in-Some-clause-once
 returns-in-Some-clause-once c = λ name password first events h. c.once.ensures (login_text name password) first _

@@ -11,7 +11,8 @@ invariant_of-self-2 c =
     let e = Text c.args.line.now in
     kept_on c.self.inside _ e c.self.invariant
     (text_stands c.servers_entries_are_silent.ensures (world_of c.self.inside) _ _ refl
-    (sent_after _ _ _ _ _ _ _ c.make_room.ensures.same c.logged_in.ensures c.send_line.ensures.value) refl refl refl refl
+    (sent_after _ _ _ _ _ _ _ c.make_room.ensures.same c.logged_in.ensures c.send_line.ensures.value) refl refl refl
+    refl
     (may_seen _ _ e c.self.view_is c.requires.may))
     (omega (arith, all, c.send_line.ensures.len, c.make_room.ensures.len, c.self.invariant.known))
 
@@ -20,5 +21,6 @@ returns-clause-ok c =
     let e = Text c.args.line.now in
     goes_seen _ _ _ e c.self.view_is
     (text_stands c.servers_entries_are_silent.ensures (world_of c.self.inside) _ _ refl
-    (sent_after _ _ _ _ _ _ _ c.make_room.ensures.same c.logged_in.ensures c.send_line.ensures.value) refl refl refl refl
+    (sent_after _ _ _ _ _ _ _ c.make_room.ensures.same c.logged_in.ensures c.send_line.ensures.value) refl refl refl
+    refl
     (may_seen _ _ e c.self.view_is c.requires.may))

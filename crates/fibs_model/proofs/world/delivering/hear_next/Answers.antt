@@ -11,5 +11,6 @@ hear_link-requires-clause-bytes c =
 pub returns-clause-hears : goal.returns-clause-hears
 returns-clause-hears c =
     let all = c.args.links.now.ok.0 in
-    heard_next c.args.links.now.items c.args.conn c.index_mut.result.now _ c.requires.some (omega (arith, all, c.requires.known)) c.index_mut.ensures.value
+    heard_next c.args.links.now.items c.args.conn c.index_mut.result.now _ c.requires.some
+    (omega (arith, all, c.requires.known)) c.index_mut.ensures.value
     c.args.client.now _ c.args.n _ _ c.hear_link.ensures.hears c.hear_link.ensures.left c.hear_link.ensures.fresh

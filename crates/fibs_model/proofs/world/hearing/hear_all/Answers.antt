@@ -23,11 +23,14 @@ loop-rest-preserved c =
     record {
       done = i.done ++ take used rest;
       whole = done_more c.args.piece.now i.done rest used i.whole;
-      heard = hears_joined c.pieces_join.ensures _ _ _ c.args.conn i.done (take used rest) _ _ _ _ _ _ i.heard c.hear_line-used.ensures.hears;
-      entries = subst (λ r. vec_len c.hear_line-used.new.log + count_by is_line_end r ≤ vec_capacity c.hear_line-used.new.log) (sym (rest_is used rest)) c.hear_line-used.ensures.entries;
+      heard = hears_joined c.pieces_join.ensures _ _ _ c.args.conn i.done (take used rest) _ _ _ _ _ _ i.heard
+          c.hear_line-used.ensures.hears;
+      entries = subst (λ r. vec_len c.hear_line-used.new.log + count_by is_line_end r ≤ vec_capacity
+          c.hear_line-used.new.log) (sym (rest_is used rest)) c.hear_line-used.ensures.entries;
       talks = (
         (step t (Piece (take used rest))).talk,
-        still_talking c.loop-rest.client c.hear_line-used.new.client c.args.conn (take used rest) c.hear_line-used.ensures.hears.writes.send t c.hear_line-used.ensures.hears.writes.does i.talks.1,
+        still_talking c.loop-rest.client c.hear_line-used.new.client c.args.conn (take used rest)
+            c.hear_line-used.ensures.hears.writes.send t c.hear_line-used.ensures.hears.writes.does i.talks.1,
         c.hear_line-used.ensures.bytes t i.talks.1 i.talks.2,
       );
     }

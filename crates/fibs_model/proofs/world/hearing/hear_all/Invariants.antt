@@ -12,7 +12,8 @@ abbrev pub invariant-loop-rest : goal.invariant-loop-rest
 invariant-loop-rest l = record {
   done : List ℕ;
   whole : l.fn.piece ≡ done ++ l.rest;
-  heard : HearsPiece l.fn.client l.client l.conn done (map entry_of l.fn.log.items) (map entry_of l.log.items) l.fn.wire.items l.wire.items;
+  heard : HearsPiece l.fn.client l.client l.conn done (map entry_of l.fn.log.items) (map entry_of l.log.items)
+      l.fn.wire.items l.wire.items;
   entries : vec_len l.log + count_by is_line_end l.rest ≤ vec_capacity l.log;
   talks : (t : Talk) × IsTalking l.client l.conn t × (owed t ≤ l.wire.room);
 }
