@@ -15,12 +15,13 @@ use Rattle.fibs_session.specs.declared.refusal.PlainRefusal.{PlainRefusal}
 use Rattle.fibs_session.specs.History.Hearing.{nothing_heard, flags_of}
 use Rattle.fibs_session.specs.History.Machine.{plain_refusal}
 use Rattle.fibs_model.specs.Wires.{delivered, taken, next_line}
-use Rattle.fibs_model.specs.Server.{is_die, decision_in, command, effect, carried, obeyed, answered as answered_now}
+use Rattle.fibs_model.specs.Server.{is_die, decision_in, command, effect, carried, obeyed}
 use Rattle.fibs_model.specs.Server.{Stale, LoggedIn as LoggedInNow}
 use Rattle.fibs_model.specs.Events.{Event, Open, Click, Plain, Deliver, Lose, Serve, Own, Repeat, Text}
 use Rattle.fibs_model.specs.World.{does_heard, does_served, sends_plain, talk_of, World, noted, linked, sends}
-use Rattle.fibs_model.specs.World.{is_talking, sends_out, clicks, hears, hears_all, takes_line}
-use Rattle.fibs_model.proofs.joint.Turns.{obeys, carries_out}
+use Rattle.fibs_model.specs.World.{is_talking, sends_out, clicks, hears, hears_all}
+use Rattle.fibs_model.proofs.Answering.{answered_at as answered_now, takes_line}
+use Rattle.fibs_model.proofs.Answering.{obeys, carries_out}
 use Rattle.fibs_model.specs.World.{serves, after, start}
 use Rattle.fibs_model.specs.Refusals.{refusal}
 use Rattle.fibs_model.specs.Headline.{Headline, IsAtRest, AllLegal}

@@ -1,5 +1,6 @@
 pub mod Outcomes
 pub mod Lawful
+pub mod Answering
 pub mod log
 pub mod wires
 pub mod joint

@@ -26,7 +26,7 @@ use Rattle.fibs_session.specs.History.Machine as M
 use Rattle.fibs_session.specs.Calls.Standing.{ClientValue, StandsAfter}
 use Rattle.fibs_session.specs.History.MachineLaws.{ServersEntriesAreSilent, IsServers, logs_in, takes, undoes}
 use Rattle.fibs_model.specs.Wires.{Link, delivered, more_asked, taken, cut_off, next_line}
-use Rattle.fibs_model.specs.Server.{Served, Stale, LoggedIn, Took, Undone, Answered, answered, command}
+use Rattle.fibs_model.specs.Server.{Served, Stale, LoggedIn, Took, Undone, Answered, command}
 use Rattle.fibs_model.specs.Events.{Event, Open, Click, Plain, Deliver, Lose, Serve, Own, Repeat, Text}
 use Rattle.fibs_model.specs.World.{World, noted, linked, asks, is_talking, sends, does_heard, hears_all, sends_out}
 use Rattle.fibs_model.specs.World.{clicks, sends_plain, does_served, serves, after, talk_of}
@@ -34,6 +34,7 @@ use Rattle.fibs_model.specs.declared.refusal.WorldRefusal.TheVariants.{AlreadyOp
 use Rattle.fibs_model.specs.Refusals.{refusal}
 use Rattle.fibs_model.specs.Clients.{IsWorld, AllServers, Steps, Silence, Follows, input_of, left_of, TalkIsProjected}
 use Rattle.fibs_model.specs.Clients.{ClientFollows}
+use Rattle.fibs_model.proofs.Answering.{answered_at as answered}
 use Rattle.fibs_model.proofs.log.Lists.{same_number, other_number, map_no_more}
 use Rattle.fibs_model.proofs.log.Past.{open_append}
 use Rattle.fibs_model.proofs.joint.Joint.{linked_same, linked_other}

@@ -21,11 +21,12 @@ use Rattle.fibs_session.specs.History.Machine.{allows, gained, on_wire, plain_re
 use Rattle.fibs_session.specs.History.Words.{is_empty, last, open_now, shown, unconfirmed, answer}
 use Rattle.fibs_model.specs.Events.{Event, Open, Click, Plain, Deliver, Lose, Serve, Own, Repeat, Text}
 use Rattle.fibs_model.specs.Once.{taken_on, Leaves, Takes, NoneOwn}
-use Rattle.fibs_model.specs.Server.{Served, effect, carried, obeyed, answered, decision_in}
+use Rattle.fibs_model.specs.Server.{Served, effect, carried, obeyed, decision_in}
 use Rattle.fibs_model.specs.Server as V
 use Rattle.fibs_model.specs.Wires.{Link, delivered, taken, next_line}
 use Rattle.fibs_model.specs.World.{World, after, noted, linked, sends, is_talking, does_heard, hears, hears_all}
-use Rattle.fibs_model.specs.World.{sends_out, clicks, sends_plain, does_served, takes_line, serves, talk_of}
+use Rattle.fibs_model.specs.World.{sends_out, clicks, sends_plain, does_served, serves, talk_of}
+use Rattle.fibs_model.proofs.Answering.{answered_at as answered, takes_line}
 use Rattle.fibs_model.proofs.joint.Sending.{if_fact}
 
 -- none of the entries is an answer of the server's to a decision

@@ -3,11 +3,10 @@ use Rattle.std.specs.Prelude.{ℕ, List, [], ◌∷◌, ◌++◌, Option, Some, 
 use Rattle.fibs_boards.specs.Board.{BoardFields, spelling}
 use Rattle.fibs_position.specs.DecisionValue.{DecisionValue}
 use Rattle.fibs_session.specs.History.Machine.{on_wire}
-use Rattle.fibs_session.specs.History.Words.{is_empty}
 use Rattle.fibs_model.specs.Events.{Event, Open, Click, Plain, Deliver, Lose, Serve, Own, Repeat, Text}
 use Rattle.fibs_model.specs.Server.{Served, Stale, LoggedIn, Took, Undone, Answered, answered}
 use Rattle.fibs_model.specs.Wires.{next_line}
-use Rattle.fibs_model.specs.World.{World, after, is_talking, start}
+use Rattle.fibs_model.specs.World.{World, after, is_talking, start, server_of, line_of}
 
 -- an act of the server on a connection
 pub data Act : Type 0 where
@@ -43,7 +42,7 @@ acts_of w Answered = sending w (Shows w.board)
 -- what it does at the next line of c, with two dice
 abbrev pub acts_at_line : World → ℕ → ℕ → ℕ → Option (List ℕ × List ℕ) → List Act
 acts_at_line w c d1 d2 None = []
-acts_at_line w c d1 d2 (Some p) = acts_of w (answered w.board w.logged_in c (is_empty (w.links c).served) p.0 d1 d2)
+acts_at_line w c d1 d2 (Some p) = acts_of w (answered (server_of w) (line_of w c p.0 d1 d2))
 
 -- what it does at an event that is accepted, on the connection that is logged in before it
 abbrev pub acts_at : World → Event → List Act

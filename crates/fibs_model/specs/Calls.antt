@@ -8,10 +8,10 @@ use Rattle.fibs_session.specs.History.Log as L
 use Rattle.fibs_session.specs.History.Machine.{on_wire, wire_of}
 use Rattle.fibs_model.specs.LinksOf.{LinkValue, link_at, set_link}
 use Rattle.fibs_model.specs.Server as V
-use Rattle.fibs_model.specs.Server.{is_die}
+use Rattle.fibs_model.specs.Server.{ServerValue, is_die}
 use Rattle.fibs_model.specs.WireLinks.{more_asked, more_coming, taken}
 use Rattle.fibs_model.specs.Wires.{next_line}
-use Rattle.fibs_model.specs.ServerOf.{ServerValue, after_line}
+use Rattle.fibs_model.specs.ServerOf.{after_line}
 use Rattle.fibs_model.specs.declared.world.link.Link as C
 use Rattle.fibs_model.specs.declared.refusal.WorldRefusal.{WorldRefusal}
 use Rattle.fibs_model.specs.declared.refusal.WorldRefusal.TheVariants.{NoSuchConnection, BadDice, NothingToServe}
@@ -62,7 +62,13 @@ serve_refusal links logged_in c d1 d2 =
 -- the server took the first len bytes that are on their way, with their line end, and this came of it
 pub record TakesLine (old new : ServerValue) (before after : C.Link) (c len d1 d2 : ℕ) (served : V.Served)
     : Type 0 where
-  pub answer : served ≡ V.answered old.board old.logged_in c before.fresh (take len before.to_server.items) d1 d2
+  pub answer : served ≡ V.answered old (record {
+    conn = c;
+    first = before.fresh;
+    text = take len before.to_server.items;
+    die = d1;
+    other_die = d2;
+  })
   pub server : new ≡ after_line old c served
   pub wire : after.to_server.items ≡ drop (len + 2) before.to_server.items
   pub begun : after.fresh ≡ false
@@ -73,6 +79,12 @@ pub record TakesNext (old new : ServerValue) (before after : List LinkValue) (c 
     : Type 0 where
   pub line : List ℕ × List ℕ
   pub next : next_line (link_at before c).asked ≡ Some line
-  pub answer : served ≡ V.answered old.board old.logged_in c (link_at before c).fresh line.0 d1 d2
+  pub answer : served ≡ V.answered old (record {
+    conn = c;
+    first = (link_at before c).fresh;
+    text = line.0;
+    die = d1;
+    other_die = d2;
+  })
   pub server : new ≡ after_line old c served
   pub links : after ≡ set_link before c (taken (link_at before c) line.1)

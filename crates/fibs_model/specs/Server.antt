@@ -1,5 +1,5 @@
 -- The model server: what it answers to a line, by its board and by the number of the connection that is logged in.
-use Rattle.std.specs.Prelude.{ℕ, Bool, true, false, not, ◌&&◌, List, [], ◌∷◌, Option, Some, None, if◌then◌else◌, nat_eq}
+use Rattle.std.specs.Prelude.{ℕ, Bool, not, ◌&&◌, List, [], ◌∷◌, Option, Some, None, if◌then◌else◌, nat_eq}
 use Rattle.std.specs.Prelude.{nat_lt}
 use Rattle.fibs_boards.specs.Board.{BoardFields}
 use Rattle.fibs_position.specs.DecisionValue.{DecisionValue}
@@ -36,6 +36,19 @@ decision_in b text = read_command (direction_of b) text
 abbrev pub command : BoardFields → DecisionValue → List ℕ
 command b d = command_of (direction_of b) d
 
+-- a server: a good board, and the connection that is logged in, or 0
+pub record ServerValue : Type 0 where
+  pub board : BoardFields
+  pub logged_in : ℕ
+
+-- a line that it takes: of which connection, whether as the first there, and the dice, should it be a roll
+pub record TakenLine : Type 0 where
+  pub conn : ℕ
+  pub first : Bool
+  pub text : List ℕ
+  pub die : ℕ
+  pub other_die : ℕ
+
 -- what comes of a line
 pub data Served : Type 0 where
   -- it is of a connection older than the one logged in, or a later line of one that isn't logged in
@@ -54,13 +67,13 @@ abbrev pub carried : DecisionValue → Option BoardFields → Served
 carried d None = Undone d
 carried d (Some b) = Took d b
 
--- a later line of the connection that is logged in
+-- a later line of the connection that is logged in, by the decision that it says
 abbrev pub obeyed : BoardFields → ℕ → ℕ → Option DecisionValue → Served
 obeyed now d1 d2 None = Answered
 obeyed now d1 d2 (Some d) = carried d (effect now d d1 d2)
 
--- a line of the connection c, on the board `now`, with two dice: the first line of a connection is its login
-abbrev pub answered : BoardFields → ℕ → ℕ → Bool → List ℕ → ℕ → ℕ → Served
-answered now logged_in c true text d1 d2 = if nat_lt c logged_in then Stale else LoggedIn
-answered now logged_in c false text d1 d2 =
-    if nat_eq c logged_in then obeyed now d1 d2 (decision_in now text) else Stale
+-- the first line of a connection is its login
+abbrev pub answered : ServerValue → TakenLine → Served
+answered s l =
+    if l.first then (if nat_lt l.conn s.logged_in then Stale else LoggedIn)
+    else (if nat_eq l.conn s.logged_in then obeyed s.board l.die l.other_die (decision_in s.board l.text) else Stale)

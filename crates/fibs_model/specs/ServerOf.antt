@@ -1,15 +1,21 @@
 -- A server of the program as a value, and what its calls do.
-use Rattle.std.specs.Prelude.{ℕ}
+use Rattle.std.specs.Prelude.{ℕ, Bool, List, slice_index}
 use Rattle.fibs_boards.specs.Board.{BoardFields}
 use Rattle.fibs_position.specs.DecisionValue.{decision_of}
 use Rattle.fibs_model.specs.Server as V
+use Rattle.fibs_model.specs.Server.{ServerValue}
 use Rattle.fibs_model.specs.declared.server.Served.{Served}
 use Rattle.fibs_model.specs.declared.server.Served.TheVariants as S
 
--- a good board, and the connection that is logged in, or 0
-pub record ServerValue : Type 0 where
-  pub board : BoardFields
-  pub logged_in : ℕ
+-- a line with its dice
+abbrev pub taken_line : ℕ → Bool → List ℕ → List ℕ → V.TakenLine
+taken_line conn first text dice = record {
+  conn = conn;
+  first = first;
+  text = text;
+  die = slice_index dice 0;
+  other_die = slice_index dice 1;
+}
 
 -- an answer, with the board after it
 abbrev pub served_of : Served → BoardFields → V.Served

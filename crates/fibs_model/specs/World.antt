@@ -16,7 +16,7 @@ use Rattle.fibs_session.specs.History.Words.{is_empty, last, open_now, shown, un
 use Rattle.fibs_session.specs.History.Hearing.{Heard, heard, line_reading}
 use Rattle.fibs_session.specs.History.Machine.{Talk, allows, gained, on_wire, wire_of, plain_refusal}
 use Rattle.fibs_model.specs.Wires.{Link, empty_link, more_coming, delivered, more_asked, taken, cut_off, next_line}
-use Rattle.fibs_model.specs.Server.{Served, Stale, LoggedIn, Took, Undone, Answered, answered, command}
+use Rattle.fibs_model.specs.Server.{ServerValue, TakenLine, Served, Stale, LoggedIn, Took, Undone, Answered, answered, command}
 use Rattle.fibs_model.specs.Events.{Event, Open, Click, Plain, Deliver, Lose, Serve, Own, Repeat, Text}
 
 pub record World : Type 0 where
@@ -103,14 +103,19 @@ does_served c w (Took d b) = sends (noted (record w { board = b }) (L.Took c w.b
 does_served c w (Undone d) = sends (noted w (L.Undone c w.board d ∷ [])) (spelling w.board)
 does_served c w Answered = sends w (spelling w.board)
 
-abbrev pub takes_line : ℕ → World → Bool → List ℕ → ℕ → ℕ → World
-takes_line c w first text d1 d2 = does_served c w (answered w.board w.logged_in c first text d1 d2)
+-- the server, and the line of c that it takes next: the first where none was taken before
+abbrev pub server_of : World → ServerValue
+server_of w = record { board = w.board; logged_in = w.logged_in }
 
--- the server takes a line of c, its first where none was taken before
+abbrev pub line_of : World → ℕ → List ℕ → ℕ → ℕ → TakenLine
+line_of w c text d1 d2 =
+    record { conn = c; first = is_empty (w.links c).served; text = text; die = d1; other_die = d2 }
+
+-- the server takes the next line of c, where there is one
 abbrev pub serves : ℕ → World → ℕ → ℕ → Option (List ℕ × List ℕ) → World
 serves c w d1 d2 None = w
 serves c w d1 d2 (Some p) =
-    takes_line c (linked w c (taken (w.links c) (on_wire p.0) p.1)) (is_empty (w.links c).served) p.0 d1 d2
+    does_served c (linked w c (taken (w.links c) (on_wire p.0) p.1)) (answered (server_of w) (line_of w c p.0 d1 d2))
 
 -- What an event does that is not refused, one line for each. `login` is the command that logs the user in.
 abbrev pub after : List ℕ → World → Event → World

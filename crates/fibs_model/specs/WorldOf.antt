@@ -8,7 +8,7 @@ use Rattle.fibs_model.specs.EntryOf.{entry_of}
 use Rattle.fibs_model.specs.Events.{Event}
 use Rattle.fibs_model.specs.LinksOf.{LinkValue, kept_of, seen, link_at}
 use Rattle.fibs_model.specs.Refusals.{refusal}
-use Rattle.fibs_model.specs.ServerOf.{ServerValue}
+use Rattle.fibs_model.specs.Server.{ServerValue}
 use Rattle.fibs_model.specs.World.{World, talk_of, after}
 use Rattle.fibs_model.specs.declared.world.World.TheInside.{Inside}
 

@@ -96,7 +96,7 @@ impl Model for Server {
     ghost use Rattle.fibs_boards.specs.StoredBoard.{fields_of};
     ghost use Rattle.fibs_position.specs.GoodBoard.{good};
     ghost use Rattle.fibs_position.specs.PositionValue.{position_of, position_value};
-    ghost use Rattle.fibs_model.specs.ServerOf.{ServerValue};
+    ghost use Rattle.fibs_model.specs.Server.{ServerValue};
 
     ghost Value = { ServerValue };
 
@@ -107,7 +107,7 @@ impl Model for Server {
 }
 
 impl Server {
-    ghost use Rattle.fibs_model.specs.ServerOf.{served_of, after_line};
+    ghost use Rattle.fibs_model.specs.ServerOf.{served_of, after_line, taken_line};
 
     /// A server with a good board, and no connection logged in. Any other board is refused, with the first of its
     /// faults.
@@ -189,9 +189,9 @@ impl Server {
     pub fn serve(&mut self, conn: usize, first: bool, text: &[u8], dice: [u8; 2]) -> Served
         requires { 1 ≤ conn }
         ensures answer { served_of result self.new.board ≡
-            answered self.old.board self.old.logged_in conn first text.now (slice_index dice 0) (slice_index dice 1) }
+            answered self.old (taken_line conn first text.now dice) }
         ensures after { self.new ≡ after_line self.old conn
-            (answered self.old.board self.old.logged_in conn first text.now (slice_index dice 0) (slice_index dice 1)) }
+            (answered self.old (taken_line conn first text.now dice)) }
     {
         if first {
             if conn < self.logged_in {

@@ -15,10 +15,11 @@ use Rattle.fibs_model.specs.Events.{Event, Open, Click, Plain, Deliver, Lose, Se
 use Rattle.fibs_model.specs.Joint.{served_by, served_at, decisions_of}
 use Rattle.fibs_model.specs.Joint as S
 use Rattle.fibs_model.specs.Runs.{after_all}
-use Rattle.fibs_model.specs.Server.{Served, answered}
+use Rattle.fibs_model.specs.Server.{Served}
 use Rattle.fibs_model.specs.Server as V
 use Rattle.fibs_model.specs.Wires.{Link, taken, next_line}
 use Rattle.fibs_model.specs.World.{World, after, noted, linked, is_talking, does_served, serves}
+use Rattle.fibs_model.proofs.Answering.{answered_at as answered}
 use Rattle.fibs_model.proofs.Steps.{NoAnswers, Adds, Fits, fits, sends_log, adds}
 use Rattle.fibs_model.proofs.joint.Sending.{if_fact}
 use Rattle.fibs_model.proofs.log.Lists.{same_number, other_number}

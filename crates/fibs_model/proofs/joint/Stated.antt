@@ -20,10 +20,11 @@ use Rattle.fibs_model.specs.Joint.{Carried, Steady, served_by, served_at, decisi
 use Rattle.fibs_model.specs.Joint as S
 use Rattle.fibs_model.specs.Refusals.{refusal}
 use Rattle.fibs_model.specs.Runs.{AllAccepted, after_all}
-use Rattle.fibs_model.specs.Server.{Served, Stale, LoggedIn, answered, user_decides}
+use Rattle.fibs_model.specs.Server.{Served, Stale, LoggedIn, user_decides}
 use Rattle.fibs_model.specs.Server as V
 use Rattle.fibs_model.specs.Wires.{Link, taken}
 use Rattle.fibs_model.specs.World.{World, start, after, noted, linked, sends, does_served, serves, talk_of}
+use Rattle.fibs_model.proofs.Answering.{answered_at as answered}
 use Rattle.fibs_model.proofs.Lawful.{Lawful, IsQuiet}
 use Rattle.fibs_model.proofs.Final.{kept, told_start}
 use Rattle.fibs_model.proofs.log.Lists.{other_number}

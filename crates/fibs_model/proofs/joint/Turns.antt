@@ -10,9 +10,10 @@ use Rattle.fibs_session.specs.History.Log.{Opened, LoggedIn, Took, Lost}
 use Rattle.fibs_session.specs.History.Words.{Ask, is_empty, last, each, open_now, shown, sent, took, sent_by, took_by}
 use Rattle.fibs_session.specs.History.Words.{is_spent}
 use Rattle.fibs_model.specs.Wires.{next_line, Link, more_asked, taken, cut_off}
-use Rattle.fibs_model.specs.Server.{is_die, Stale, LoggedIn as LoggedInNow, decision_in, command, carried, obeyed}
+use Rattle.fibs_model.specs.Server.{is_die, Stale, LoggedIn as LoggedInNow, decision_in, command}
 use Rattle.fibs_position.specs.DecisionValue.{DecisionValue as Decision}
-use Rattle.fibs_model.specs.World.{World, noted, linked, asks, sends, is_talking, takes_line, does_served}
+use Rattle.fibs_model.specs.World.{World, noted, linked, asks, sends, is_talking, does_served}
+use Rattle.fibs_model.proofs.Answering.{takes_line, obeys, carries_out}
 use Rattle.fibs_model.proofs.Lawful.{Lawful, IsQuiet}
 use Rattle.fibs_session.specs.History.Machine.{on_wire, gained}
 use Rattle.std.specs.Prelude.{nat_lt, if◌then◌else◌}
@@ -31,14 +32,6 @@ use Rattle.fibs_boards.specs.Board.{spelling}
 use Rattle.fibs_session.specs.History.Machine.{allows}
 use Rattle.fibs_position.specs.GamePart.{same_game}
 use Rattle.fibs_position.specs.GoodBoard.{good as is_good}
-
--- what comes of a decision, by the board to which it leads
-abbrev pub carries_out : ℕ → World → Decision → Option Board → World
-carries_out c w d o = does_served c w (carried d o)
-
--- what comes of a later line of the connection logged in, by the decision that it says
-abbrev pub obeys : ℕ → World → ℕ → ℕ → Option Decision → World
-obeys c w d1 d2 o = does_served c w (obeyed w.board d1 d2 o)
 
 -- a connection is not 0
 no_number : (d : ℕ) → 0 < d → nat_eq 0 d ≡ false
