@@ -1,24 +1,27 @@
 -- The headline, after every list of events.
 use Rattle.std.proofs.Common.{◌≡◌, ℕ, ◌+◌, ◌<◌, ◌≤◌, Bool, true, false, List, [], ◌∷◌, ◌++◌, Option, Some, None, nat_eq}
-use Rattle.std.proofs.Common.{take, drop, length, refl, sym, ◌∙◌, ap, subst, inl, inr, ◌⊎◌, true≢false, arith}
+use Rattle.std.proofs.Common.{take, length, refl, sym, ◌∙◌, ap, subst, inl, inr, ◌⊎◌, true≢false, arith}
 use Rattle.std.proofs.Common.{length-append}
 use Rattle.std.proofs.lemmas.Bool.Decides.{eqb_tells}
 use Rattle.fibs_boards.specs.Board.{BoardFields as Board}
 use Rattle.fibs_position.specs.DecisionValue.{DecisionValue as Decision}
 use Rattle.fibs_session.specs.declared.refusal.Refusal.{Refusal}
-use Rattle.fibs_session.specs.History.Log.{Opened, LoggedIn, Welcomed, Informed, Shown, Took, Lost}
+use Rattle.fibs_session.specs.History.Log.{Entry, Opened, LoggedIn, Welcomed, Informed, Shown, Took, Lost, Ordered}
+use Rattle.fibs_session.specs.History.Log.{Withdrawn}
+use Rattle.fibs_session.specs.History.Orders.{is_due}
 use Rattle.fibs_session.specs.History.Words.{Ask, is_empty, open_now, sent, took, unconfirmed, answer}
 use Rattle.std.specs.Prelude.{nat_lt}
 use Rattle.std.proofs.Common.{append-nil}
 use Rattle.fibs_messages.specs.Line.{ReadingValue, numbered_line, board_line, text_line, malformed_line}
 use Rattle.fibs_session.specs.declared.refusal.PlainRefusal.{PlainRefusal}
-use Rattle.fibs_session.specs.History.Hearing.{nothing_heard, flags_of}
-use Rattle.fibs_session.specs.History.Machine.{plain_refusal}
+use Rattle.fibs_session.specs.History.Hearing.{nothing_heard, flags_of, shows_board}
+use Rattle.fibs_session.specs.History.Machine.{plain_refusal, order_refusal, withdraw_refusal}
 use Rattle.fibs_model.specs.Wires.{delivered, taken, next_line}
 use Rattle.fibs_model.specs.Server.{is_die, decision_in, command, effect, carried, obeyed}
 use Rattle.fibs_model.specs.Server.{Stale, LoggedIn as LoggedInNow}
-use Rattle.fibs_model.specs.Events.{Event, Open, Click, Plain, Deliver, Lose, Serve, Own, Repeat, Text}
-use Rattle.fibs_model.specs.World.{does_heard, does_served, sends_plain, talk_of, World, noted, linked, sends}
+use Rattle.fibs_model.specs.Events.{Event, Open, Click, Plain, Deliver, Lose, Serve, Own, Repeat, Text, Order, Withdraw}
+use Rattle.fibs_model.specs.World.{does_heard, does_served, sends_plain, notes_unless, talk_of, World, noted, linked}
+use Rattle.fibs_model.specs.World.{sends}
 use Rattle.fibs_model.specs.World.{is_talking, sends_out, clicks, hears, hears_all}
 use Rattle.fibs_model.proofs.Answering.{answered_at as answered_now, takes_line}
 use Rattle.fibs_model.proofs.Answering.{obeys, carries_out}
@@ -38,13 +41,17 @@ use Rattle.fibs_model.proofs.joint.Sending.{if_fact, same_test}
 use Rattle.fibs_model.proofs.log.Yes.{yes}
 use Rattle.fibs_model.proofs.joint.EachEvent.{served, joint_after, joint_start}
 use Rattle.fibs_model.proofs.log.Moved.{all_moved_on}
-use Rattle.fibs_model.proofs.log.Called.{own_of, clicks_sent_of}
-use Rattle.fibs_model.proofs.log.Fitting.{answered, on_shown}
-use Rattle.fibs_model.proofs.log.Told.{Told, AllAllowed, told_plain, told_no, told_yes, told_took}
+use Rattle.fibs_model.proofs.log.Called.{own_of, clicks_sent_of, orders_sent_of}
+use Rattle.fibs_model.proofs.log.Due.{due_rolls}
+use Rattle.fibs_model.proofs.joint.Carrying.{alike_hears}
+use Rattle.fibs_model.proofs.log.Fitting.{answered, on_shown, shown_here}
+use Rattle.fibs_model.proofs.log.Told.{Told, AllAllowed, IsPlain, told_plain, told_shown, told_rolled, told_no}
+use Rattle.fibs_model.proofs.log.Told.{told_yes}
+use Rattle.fibs_model.proofs.log.Told.{told_took}
 use Rattle.fibs_commands.specs.PlainCommands.{PlainValue}
 use Rattle.fibs_session.specs.History.Hearing.{line_reading}
 use Rattle.fibs_boards.specs.Board.{spelling}
-use Rattle.fibs_session.specs.History.Machine.{allows}
+use Rattle.fibs_session.specs.History.Allows.{allows}
 use Rattle.fibs_position.specs.GamePart.{same_game}
 use Rattle.fibs_position.specs.GoodBoard.{good as is_good}
 use Rattle.std.proofs.lemmas.Bool.Decides.{nat_tests}
@@ -63,22 +70,31 @@ module _ (law : Lawful) where
   told_nothing : (c : ℕ) (w : World) → Told w.log → Told (does_heard c w nothing_heard).log
   told_nothing c w h = subst Told (sym (append-nil w.log)) h
 
-  -- a line that is heard adds a plain entry, or none
-  told_hears : (c : ℕ) (w : World) (x : ReadingValue) → Told w.log → Told (hears c w x).log
-  told_hears c w (board_line b) h =
-      if_fact (λ z. Tells (does_heard c w z)) (is_good b) _ _ (λ z. told_plain w.log (Shown c b) z h)
-      (λ z. told_nothing c w h)
-  told_hears c w (numbered_line m) h =
+  -- a good board is shown, and where a standing order is then due its roll is sent
+  told_shows : (c : ℕ) (w : World) (b : Board) → is_good b ≡ true → open_now w.log ≡ c → Told w.log → (rolls : Bool)
+      → is_due c (w.log ++ Shown c b ∷ []) b ≡ rolls → Told (does_heard c w (shows_board c w.log b rolls)).log
+  told_shows c w b good here h false due = told_shown w.log c b good (sym here) due h
+  told_shows c w b good here h true due =
+      told_rolled w.log c b good (sym here) due (due_rolls law c w.log b here due).allowed h
+
+  -- a line that is heard adds a board with or without a roll, a plain entry, or none
+  told_hears : (c : ℕ) (w : World) (x : ReadingValue) → open_now w.log ≡ c → Told w.log → Told (hears c w x).log
+  told_hears c w (board_line b) here h =
+      if_fact (λ z. Tells (does_heard c w z)) (is_good b) _ _
+      (λ z. told_shows c w b z here h (is_due c (w.log ++ Shown c b ∷ []) b) refl) (λ z. told_nothing c w h)
+  told_hears c w (numbered_line m) here h =
       if_fact (λ z. Tells (does_heard c w z)) (nat_eq m.number 1) _ _ (λ z. told_plain w.log (Welcomed c) tt h)
       (λ z. if_fact (λ z. Tells (does_heard c w z)) (nat_eq m.number 2) _ _
       (λ z. told_plain w.log (Informed c (flags_of m)) tt h) (λ z. told_nothing c w h))
-  told_hears c w (text_line t) h = told_nothing c w h
-  told_hears c w (malformed_line n k f) h = told_nothing c w h
+  told_hears c w (text_line t) here h = told_nothing c w h
+  told_hears c w (malformed_line n k f) here h = told_nothing c w h
 
   -- so do lines, one after another
-  told_hears_all : (c : ℕ) (w : World) (ls : List Line) → Told w.log → Told (hears_all c w ls).log
-  told_hears_all c w [] h = h
-  told_hears_all c w (l ∷ ls) h = told_hears_all c (hears c w (line_reading l)) ls (told_hears c w (line_reading l) h)
+  told_hears_all : (c : ℕ) (w : World) (ls : List Line) → open_now w.log ≡ c → Told w.log → Told (hears_all c w ls).log
+  told_hears_all c w [] here h = h
+  told_hears_all c w (l ∷ ls) here h =
+      told_hears_all c (hears c w (line_reading l)) ls ((alike_hears c w (line_reading l)).here ∙ here)
+      (told_hears c w (line_reading l) here h)
 
   -- a click adds its answer, and after a yes what is sent
   told_click : (w : World) (d : Decision) → Told w.log
@@ -153,6 +169,11 @@ module _ (law : Lawful) where
   told_said w p None h = h
   told_said w p (Some why) h = h
 
+  -- an order adds its entry, or nothing
+  told_unless : (w : World) (e : Entry) (o : Option Refusal) → IsPlain e → Told w.log → Told (notes_unless w e o).log
+  told_unless w e (Some why) p h = h
+  told_unless w e None p h = told_plain w.log e p h
+
   -- each event keeps what is told of the log
   told_after : (login : List ℕ) (w : World) (e : Event) → Joint [] w → refusal w e ≡ None → Told w.log
       → Told (after login w e).log
@@ -161,7 +182,7 @@ module _ (law : Lawful) where
   told_after login w (Plain p) j k h = told_said w p (plain_refusal (talk_of login w) p) h
   told_after login w (Deliver n) j k h = told_hears_all (open_now w.log)
       (linked w (open_now w.log) (delivered (w.links (open_now w.log)) n))
-      (gained (w.links (open_now w.log)).heard (take n (w.links (open_now w.log)).coming)) h
+      (gained (w.links (open_now w.log)).heard (take n (w.links (open_now w.log)).coming)) refl h
   told_after login w (Lose n) j k h =
       told_plain w.log (Lost (open_now w.log) (unconfirmed same_game (open_now w.log) w.log)) tt h
   told_after login w (Serve c d1 d2) j k h =
@@ -172,6 +193,8 @@ module _ (law : Lawful) where
   told_after login w (Own b) j k h = told_sends (record w { board = b }) (spelling b) h
   told_after login w Repeat j k h = told_sends w (spelling w.board) h
   told_after login w (Text t) j k h = told_sends w t h
+  told_after login w Order j k h = told_unless w (Ordered (open_now w.log)) (order_refusal w.log) tt h
+  told_after login w Withdraw j k h = told_unless w (Withdrawn (open_now w.log)) (withdraw_refusal w.log) tt h
 
   -- it holds of the empty log
   pub told_start : (b : Board) → Told (start b).log
@@ -247,8 +270,9 @@ module _ (law : Lawful) where
             prefix = λ c. (to_list (j.settled c).p, sym (j.settled c).owed);
             order = t.order;
             legal = λ c. all_legal (sent c w.log) (t.legal c);
-            own = own_of w.log t.called;
+            own = own_of w.log t.called (shown_here w.log t.fit) (on_shown w.log t.fit);
             clicks_sent = clicks_sent_of w.log t.called;
+            orders_sent = orders_sent_of w.log t.called;
             on_shown = on_shown w.log t.fit;
             at_most_one = λ c. few (j.settled c).p _ _ (j.settled c).owed;
             moved_on = all_moved_on law w.log (λ c. ((j.settled c).p, (j.settled c).owed)) j.moved;

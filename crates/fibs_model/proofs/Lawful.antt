@@ -5,16 +5,19 @@ use Rattle.fibs_lines.specs.StreamLaws.{EmptyStreamHasNoLine, LinesOnlyGrow, Wha
 use Rattle.fibs_boards.specs.Board.{BoardFields, spelling}
 use Rattle.fibs_messages.specs.Line.{board_line}
 use Rattle.fibs_messages.specs.Message.{MessageValue}
-use Rattle.fibs_position.specs.DecisionValue.{DecisionValue}
+use Rattle.fibs_position.specs.DecisionValue.{DecisionValue, roll}
 use Rattle.fibs_position.specs.Allowed.{IsAllowed}
 use Rattle.fibs_position.specs.GoodBoard.{IsGood, good}
 use Rattle.fibs_position.specs.GamePart.{Differ, same_game}
 use Rattle.fibs_commands.specs.PlainCommands.{PlainValue, plain_of, plain_fault_of}
 use Rattle.fibs_commands.specs.FirstCommands.{style_text}
 use Rattle.fibs_session.specs.History.Hearing.{initial_commands}
-use Rattle.fibs_session.specs.History.Words.{IsLikeness}
+use Rattle.fibs_session.specs.History.Log.{Entry}
+use Rattle.fibs_session.specs.History.Orders.{is_due}
+use Rattle.fibs_session.specs.History.Words.{IsLikeness, answer}
 use Rattle.fibs_session.specs.History.Hearing.{line_reading}
-use Rattle.fibs_session.specs.History.Machine.{allows, on_wire}
+use Rattle.fibs_session.specs.History.Allows.{allows}
+use Rattle.fibs_session.specs.History.Machine.{on_wire}
 use Rattle.fibs_model.specs.Server.{is_die, user_decides, effect, decision_in, command}
 
 -- the bytes hold no CR
@@ -57,6 +60,9 @@ pub record Lawful : Type 0 where
   pub style_quiet : IsQuiet style_text
   pub plain_quiet : (p : PlainValue) → plain_fault_of p ≡ None → IsQuiet (plain_of p)
   pub info_quiet : (m : MessageValue) → AllQuiet (initial_commands m)
+  -- a standing order that is due is answered by yes
+  pub due_yes : (c : ℕ) (log : List Entry) (b : BoardFields) → is_due c log b ≡ true
+      → answer same_game allows log roll ≡ None
   -- a printed board gives one line, which reads as that board
   pub prints_line : (b : BoardFields) → good b ≡ true
       → (l : ReadLine) × (lines_of (on_wire (spelling b)) ≡ l ∷ []) × (line_reading l ≡ board_line b)

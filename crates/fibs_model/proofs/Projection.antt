@@ -1,6 +1,6 @@
 -- The client's machine is a projection of the world's.
 use Rattle.std.proofs.Common.{◌≡◌, ℕ, ◌+◌, ◌<◌, Bool, true, false, not, List, [], ◌∷◌, ◌++◌, Option, Some, None, nat_eq}
-use Rattle.std.proofs.Common.{flat_map, take, drop, length, refl, sym, ◌∙◌, suc, ap, subst, inl, inr, append-nil}
+use Rattle.std.proofs.Common.{flat_map, take, length, refl, sym, ◌∙◌, suc, ap, subst, inl, inr, append-nil}
 use Rattle.std.proofs.Common.{append_assoc, length-append, arith, if◌then◌else◌}
 use Rattle.std.proofs.lemmas.Bool.Decides.{eqb_tells}
 use Rattle.std.proofs.lemmas.List.Concat.{flat_map-append}
@@ -16,20 +16,22 @@ use Rattle.fibs_session.specs.declared.refusal.PlainRefusal.{PlainRefusal}
 use Rattle.fibs_session.specs.History.Log.{Entry}
 use Rattle.fibs_session.specs.History.Log as L
 use Rattle.fibs_session.specs.History.Words.{is_empty, open_from, open_now, opened_by, connections, unconfirmed, answer}
-use Rattle.fibs_session.specs.History.Hearing.{Heard, heard, line_reading}
+use Rattle.fibs_session.specs.History.Hearing.{Heard, heard, shown_entries, line_reading}
+use Rattle.fibs_session.specs.History.Orders.{is_due}
 use Rattle.fibs_session.specs.History.Machine.{Talk, Step, InputValue, step, noted as talk_noted, does, stays}
 use Rattle.fibs_session.specs.History.Machine.{is_online, opens, opened, loses, reads, with_bytes}
 use Rattle.fibs_session.specs.History.Machine.{hears_all as talk_hears_all, clicks_by, decides_on}
-use Rattle.fibs_session.specs.History.Machine.{sends_plain as talk_sends_plain, plain_refusal, unconfirmed_now, allows}
-use Rattle.fibs_session.specs.History.Machine.{gained, on_wire, wire_of}
+use Rattle.fibs_session.specs.History.Allows.{allows}
+use Rattle.fibs_session.specs.History.Machine.{sends_plain as talk_sends_plain, plain_refusal, unconfirmed_now}
+use Rattle.fibs_session.specs.History.Machine.{gained, on_wire, wire_of, notes_if, order_refusal, withdraw_refusal}
 use Rattle.fibs_session.specs.History.Machine as M
 use Rattle.fibs_session.specs.Calls.Standing.{ClientValue, StandsAfter}
 use Rattle.fibs_session.specs.History.MachineLaws.{ServersEntriesAreSilent, IsServers, logs_in, takes, undoes}
 use Rattle.fibs_model.specs.Wires.{Link, delivered, more_asked, taken, cut_off, next_line}
 use Rattle.fibs_model.specs.Server.{Served, Stale, LoggedIn, Took, Undone, Answered, command}
-use Rattle.fibs_model.specs.Events.{Event, Open, Click, Plain, Deliver, Lose, Serve, Own, Repeat, Text}
+use Rattle.fibs_model.specs.Events.{Event, Open, Click, Plain, Deliver, Lose, Serve, Own, Repeat, Text, Order, Withdraw}
 use Rattle.fibs_model.specs.World.{World, noted, linked, asks, is_talking, sends, does_heard, hears_all, sends_out}
-use Rattle.fibs_model.specs.World.{clicks, sends_plain, does_served, serves, after, talk_of}
+use Rattle.fibs_model.specs.World.{clicks, sends_plain, notes_unless, does_served, serves, after, talk_of}
 use Rattle.fibs_model.specs.declared.refusal.WorldRefusal.TheVariants.{AlreadyOpen, NotOpen}
 use Rattle.fibs_model.specs.Refusals.{refusal}
 use Rattle.fibs_model.specs.Clients.{IsWorld, AllServers, Steps, Silence, Follows, input_of, left_of, TalkIsProjected}
@@ -168,7 +170,12 @@ pub heard_open : (c : ℕ) (log : List Entry) (r : ReadingValue) (o : ℕ)
     → (flat_map opened_by (heard c log r).entries ≡ []) × (open_from o (heard c log r).entries ≡ o)
 heard_open c log (numbered_line m) o =
     if_open (nat_eq m.number 1) _ _ o (refl, refl) (if_open (nat_eq m.number 2) _ _ o (refl, refl) (refl, refl))
-heard_open c log (board_line b) o = if_open (good b) _ _ o (refl, refl) (refl, refl)
+heard_open c log (board_line b) o = if_open (good b) _ _ o (shows (is_due c (log ++ L.Shown c b ∷ []) b)) (refl, refl)
+  where
+    shows : (rolls : Bool)
+        → (flat_map opened_by (shown_entries c b rolls) ≡ []) × (open_from o (shown_entries c b rolls) ≡ o)
+    shows true = (refl, refl)
+    shows false = (refl, refl)
 heard_open c log (text_line text) o = (refl, refl)
 heard_open c log (malformed_line number k f) o = (refl, refl)
 
@@ -414,6 +421,13 @@ serve login w c d1 d2 (Some p) i =
     serve_silence login w (linked w c l) c (answered w.board w.logged_in c (is_empty (w.links c).served) p.0 d1 d2) i
     (silent_linked w w [] c l refl (silent_itself w)) refl
 
+-- an order is noted or not
+unless : (login : List ℕ) (w : World) (e : Entry) (o : Option Refusal) → IsWorld w → flat_map opened_by (e ∷ []) ≡ []
+    → open_from (open_now w.log) (e ∷ []) ≡ open_now w.log
+    → Fits login w (notes_unless w e o) (notes_if (talk_of login w) e o)
+unless login w e (Some why) i none same = fits_nothing login w i
+unless login w e None i none same = fits_noted login w (e ∷ []) i none same
+
 both : (login : List ℕ) (w : World) (e : Event) → IsWorld w → refusal w e ≡ None → Both login w e
 both login w Open i h = opening login w i (open_closed (nat_eq (open_now w.log) 0) h)
 both login w (Click d) i h = click login w d i
@@ -426,6 +440,12 @@ both login w (Own b) i h = silence login w _ [] i tt
     (record { log = sym (append-nil w.log); count = refl; heard = λ d. refl; commands = λ d. refl }))
 both login w Repeat i h = silence login w _ [] i tt (silent_sends w w [] (spelling w.board) (silent_itself w))
 both login w (Text t) i h = silence login w _ [] i tt (silent_sends w w [] t (silent_itself w))
+both login w Order i h =
+    let f = unless login w (L.Ordered (open_now w.log)) (order_refusal w.log) i refl refl in
+    (f.world, record { talk = f.talk; asked = f.asked })
+both login w Withdraw i h =
+    let f = unless login w (L.Withdrawn (open_now w.log)) (withdraw_refusal w.log) i refl refl in
+    (f.world, record { talk = f.talk; asked = f.asked })
 
 pub talk_is_projected : TalkIsProjected
 talk_is_projected = record {

@@ -18,7 +18,8 @@ use Rattle.fibs_position.specs.declared.disallowed.Disallowed.{Disallowed}
 use Rattle.fibs_commands.specs.Commands.{command_of}
 use Rattle.fibs_commands.specs.CommandLaws.{IsOther}
 use Rattle.fibs_commands.specs.FirstCommands.{autoboard_text, moreboards_text, board_text}
-use Rattle.fibs_session.specs.History.Machine.{refusal_of, allows, on_wire}
+use Rattle.fibs_session.specs.History.Allows.{refusal_of, allows}
+use Rattle.fibs_session.specs.History.Machine.{on_wire}
 use Rattle.fibs_commands.specs.Logins.{IsLogin, login_text}
 use Rattle.fibs_model.specs.Events.{Event}
 use Rattle.fibs_model.specs.Headline.{Headline}
@@ -123,6 +124,7 @@ module _ (owed : Owed) where
     style_quiet = quiet _ owed.style;
     plain_quiet = λ p h. quiet _ (owed.plain p h);
     info_quiet = λ m. initial_quiet (autoboard m) (moreboards m);
+    due_yes = λ c log b h. ((owed.due c log b).0 h).yes;
     prints_line =
         λ b g. (
           record { bytes = spelling b; cut = false },

@@ -1,7 +1,7 @@
 -- What one event notes, and what becomes of the server's board: a decision is carried out, or the board is left.
 use Rattle.std.proofs.Common.{◌≡◌, ◌⊎◌, inl, inr, ℕ, ◌+◌, Bool, true, false, List, [], ◌∷◌, ◌++◌, Option, Some, None}
 use Rattle.std.proofs.Common.{nat_eq, refl, sym, ◌∙◌, ap, subst, append-nil, append_assoc}
-use Rattle.std.specs.Prelude.{nat_lt, take, drop}
+use Rattle.std.specs.Prelude.{nat_lt, take}
 use Rattle.std.proofs.lemmas.Bool.{eqb-true}
 use Rattle.fibs_boards.specs.Board.{BoardFields as Board, spelling}
 use Rattle.fibs_lines.specs.Lines.{ReadLine as Line}
@@ -14,18 +14,22 @@ use Rattle.fibs_position.specs.Laws.{EffectIsExact, EffectIsGood}
 use Rattle.fibs_commands.specs.PlainCommands.{PlainValue}
 use Rattle.fibs_session.specs.declared.refusal.Refusal.{Refusal}
 use Rattle.fibs_session.specs.declared.refusal.PlainRefusal.{PlainRefusal}
-use Rattle.fibs_session.specs.History.Hearing.{nothing_heard, flags_of, line_reading, Heard}
+use Rattle.fibs_session.specs.History.Hearing.{nothing_heard, flags_of, line_reading, shown_entries, shows_board, Heard}
 use Rattle.fibs_session.specs.History.Log.{Entry, Opened, Welcomed, Informed, Shown, Clicked, Sent, Took, Undone, Lost}
+use Rattle.fibs_session.specs.History.Log.{Ordered, Withdrawn}
+use Rattle.fibs_session.specs.History.Orders.{is_due}
 use Rattle.fibs_session.specs.History.Log as L
-use Rattle.fibs_session.specs.History.Machine.{allows, gained, on_wire, plain_refusal}
+use Rattle.fibs_session.specs.History.Allows.{allows}
+use Rattle.fibs_session.specs.History.Machine.{gained, on_wire, plain_refusal, order_refusal, withdraw_refusal}
 use Rattle.fibs_session.specs.History.Words.{is_empty, last, open_now, shown, unconfirmed, answer}
-use Rattle.fibs_model.specs.Events.{Event, Open, Click, Plain, Deliver, Lose, Serve, Own, Repeat, Text}
+use Rattle.fibs_model.specs.Events.{Event, Open, Click, Plain, Deliver, Lose, Serve, Own, Repeat, Text, Order, Withdraw}
 use Rattle.fibs_model.specs.Once.{taken_on, Leaves, Takes, NoneOwn}
 use Rattle.fibs_model.specs.Server.{Served, effect, carried, obeyed, decision_in}
 use Rattle.fibs_model.specs.Server as V
 use Rattle.fibs_model.specs.Wires.{Link, delivered, taken, next_line}
 use Rattle.fibs_model.specs.World.{World, after, noted, linked, sends, is_talking, does_heard, hears, hears_all}
-use Rattle.fibs_model.specs.World.{sends_out, clicks, sends_plain, does_served, serves, talk_of}
+use Rattle.fibs_model.specs.World.{sends_out, clicks, sends_plain, notes_unless, does_served, serves}
+use Rattle.fibs_model.specs.World.{talk_of}
 use Rattle.fibs_model.proofs.Answering.{answered_at as answered, takes_line}
 use Rattle.fibs_model.proofs.joint.Sending.{if_fact}
 
@@ -81,8 +85,13 @@ adds_heard c w h n = record { board = refl; more = h.entries; log = refl; none =
 adds_hears : (c : ℕ) (w : World) (x : ReadingValue) → Adds w (hears c w x)
 adds_hears c w (board_line b) =
     if_fact (λ h. Adds w (does_heard c w h)) (is_good b) _ _
-    (λ z. record { board = refl; more = Shown c b ∷ []; log = refl; none = tt })
+    (λ z. adds_heard c w (shows_board c w.log b (is_due c (w.log ++ Shown c b ∷ []) b))
+    (shows_none (is_due c (w.log ++ Shown c b ∷ []) b)))
     (λ z. adds_heard c w nothing_heard tt)
+  where
+    shows_none : (rolls : Bool) → NoAnswers (shown_entries c b rolls)
+    shows_none true = tt
+    shows_none false = tt
 adds_hears c w (numbered_line m) =
     if_fact (λ h. Adds w (does_heard c w h)) (nat_eq m.number 1) _ _
     (λ z. record { board = refl; more = Welcomed c ∷ []; log = refl; none = tt })
@@ -113,6 +122,11 @@ adds_clicks c w d None = out (last (shown c w.log))
 adds_plain : (w : World) (p : PlainValue) (o : Option PlainRefusal) → Adds w (sends_plain w p o)
 adds_plain w p None = adds_same w _ refl refl
 adds_plain w p (Some why) = adds_same w w refl refl
+
+-- an order is noted or not
+adds_unless : (w : World) (e : Entry) (o : Option Refusal) → NoAnswers (e ∷ []) → Adds w (notes_unless w e o)
+adds_unless w e (Some why) h = adds_same w w refl refl
+adds_unless w e None h = record { board = refl; more = e ∷ []; log = refl; none = h }
 
 -- of the server's answer: a decision is one of the connection logged in, and what is carried out leads to that board
 abbrev pub Fits : Board → ℕ → ℕ → ℕ → ℕ → Served → Type 0
@@ -235,6 +249,8 @@ adds login w (Serve c d1 d2) h = absurd h
 adds login w (Own b) h = absurd h
 adds login w Repeat h = adds_sends w (spelling w.board)
 adds login w (Text t) h = adds_sends w t
+adds login w Order h = adds_unless w (Ordered (open_now w.log)) (order_refusal w.log) tt
+adds login w Withdraw h = adds_unless w (Withdrawn (open_now w.log)) (withdraw_refusal w.log) tt
 
 -- each event that is no board of the server's own leaves the server's board, or a decision takes effect
 pub moves : EffectIsExact → EffectIsGood → (login : List ℕ) (w : World) (e : Event) → NoneOwn (e ∷ [])
@@ -248,3 +264,5 @@ moves exact good login w (Serve c d1 d2) h = moves_line exact good w c d1 d2 (ne
 moves exact good login w (Own b) h = absurd h
 moves exact good login w Repeat h = inl (leaves w _ (adds login w Repeat tt))
 moves exact good login w (Text t) h = inl (leaves w _ (adds login w (Text t) tt))
+moves exact good login w Order h = inl (leaves w _ (adds login w Order tt))
+moves exact good login w Withdraw h = inl (leaves w _ (adds login w Withdraw tt))

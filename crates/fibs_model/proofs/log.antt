@@ -4,6 +4,7 @@ pub mod Moving
 pub mod Moved
 pub mod Past
 pub mod Yes
+pub mod Due
 pub mod Called
 pub mod Fitting
 pub mod Told

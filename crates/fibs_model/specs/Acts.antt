@@ -3,7 +3,7 @@ use Rattle.std.specs.Prelude.{ℕ, List, [], ◌∷◌, ◌++◌, Option, Some, 
 use Rattle.fibs_boards.specs.Board.{BoardFields, spelling}
 use Rattle.fibs_position.specs.DecisionValue.{DecisionValue}
 use Rattle.fibs_session.specs.History.Machine.{on_wire}
-use Rattle.fibs_model.specs.Events.{Event, Open, Click, Plain, Deliver, Lose, Serve, Own, Repeat, Text}
+use Rattle.fibs_model.specs.Events.{Event, Open, Click, Plain, Deliver, Lose, Serve, Own, Repeat, Text, Order, Withdraw}
 use Rattle.fibs_model.specs.Server.{Served, Stale, LoggedIn, Took, Undone, Answered, answered}
 use Rattle.fibs_model.specs.Wires.{next_line}
 use Rattle.fibs_model.specs.World.{World, after, is_talking, start, server_of, line_of}
@@ -55,6 +55,8 @@ acts_at w (Serve c d1 d2) = acts_at_line w c d1 d2 (next_line (w.links c).asked)
 acts_at w (Own b) = sending w (Shows b)
 acts_at w Repeat = sending w (Shows w.board)
 acts_at w (Text t) = sending w (Says t)
+acts_at w Order = []
+acts_at w Withdraw = []
 
 -- what it does at an event on the connection c
 abbrev pub acts_on : World → Event → ℕ → List Act

@@ -34,6 +34,11 @@ click_entries c d (Some why) b = L.Clicked c d (Some why) ∷ []
 click_entries c d None None = L.Clicked c d None ∷ []
 click_entries c d None (Some b) = L.Clicked c d None ∷ L.Sent c b d ∷ []
 
+-- what is noted of an order, or of its end, where the client does not refuse it
+abbrev pub unless_refused : Option Refusal → L.Entry → List L.Entry
+unless_refused (Some why) e = []
+unless_refused None e = e ∷ []
+
 -- what is noted of a line that the server took, with its board before
 abbrev pub served_entries : ℕ → BoardFields → V.Served → List L.Entry
 served_entries c before V.Stale = []

@@ -8,7 +8,7 @@ use Rattle.fibs_session.specs.History.Machine as M
 use Rattle.fibs_session.specs.History.MachineLaws.{IsServers}
 use Rattle.fibs_session.specs.Calls.Standing.{ClientValue, StandsAfter}
 use Rattle.fibs_session.specs.Calls.Doing.{Does}
-use Rattle.fibs_model.specs.Events.{Event, Open, Click, Plain, Deliver, Lose, Serve, Own, Repeat, Text}
+use Rattle.fibs_model.specs.Events.{Event, Open, Click, Plain, Deliver, Lose, Serve, Own, Repeat, Text, Order, Withdraw}
 use Rattle.fibs_model.specs.World.{World, start, after, talk_of}
 use Rattle.fibs_model.specs.Refusals.{refusal}
 
@@ -30,6 +30,8 @@ input_of w (Serve c d1 d2) = None
 input_of w (Own b) = None
 input_of w Repeat = None
 input_of w (Text t) = None
+input_of w Order = Some M.Order
+input_of w Withdraw = Some M.Withdraw
 
 -- what of the bytes on their way to the server an event leaves there
 abbrev pub left_of : Event → List ℕ → List ℕ

@@ -18,3 +18,5 @@ event_of (E.Serve conn dice) = V.Serve conn (slice_index dice 0) (slice_index di
 event_of (E.Own b) = V.Own (fields_of b)
 event_of E.Repeat = V.Repeat
 event_of (E.Text text) = V.Text text.now
+event_of E.Order = V.Order
+event_of E.Withdraw = V.Withdraw

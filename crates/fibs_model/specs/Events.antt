@@ -24,3 +24,7 @@ pub data Event : Type 0 where
   Repeat : Event
   -- the server sends a line
   Text : List ℕ → Event
+  -- the user gives a standing order to roll
+  Order : Event
+  -- the user withdraws it
+  Withdraw : Event

@@ -1,20 +1,22 @@
 -- The headline: what holds after every list of events. It speaks of the log of the whole list and of real boards, equal
 -- in all 53 fields (the project's own).
 --
---     The decisions that take effect on each connection, with the positions that they change, are a prefix of those
---     sent there with the boards then shown: each legal, each answering its own click there, at most the last missing,
+--     Over every list of opens, clicks, deliveries in any cut, server steps, losses and logins, the decisions that take
+--     effect on each connection, with the positions that they change, are a prefix of those sent there with the boards
+--     then shown: each legal, each answering its own click or a standing order given there, at most the last missing,
 --     none once a differing board is shown.
-use Rattle.std.specs.Prelude.{◌≡◌, ℕ, ◌+◌, ◌<◌, ◌≤◌, Bool, false, List, [], ◌∷◌, ◌++◌, Option, Some, None}
+use Rattle.std.specs.Prelude.{◌≡◌, ℕ, ◌+◌, ◌<◌, ◌≤◌, Bool, true, false, List, [], ◌∷◌, ◌++◌, Option, Some, None}
 use Rattle.std.specs.Prelude.{if◌then◌else◌, nat_eq, length, slice_index}
 use Rattle.fibs_boards.specs.Board.{BoardFields}
 use Rattle.fibs_position.specs.Allowed.{IsAllowed}
-use Rattle.fibs_position.specs.DecisionValue.{DecisionValue}
+use Rattle.fibs_position.specs.DecisionValue.{DecisionValue, roll}
 use Rattle.fibs_position.specs.GamePart.{Differ, same_game}
 use Rattle.fibs_position.specs.GoodBoard.{IsGood}
 use Rattle.fibs_session.specs.declared.refusal.Refusal.{Refusal}
 use Rattle.fibs_session.specs.History.Log.{Entry, Shown, Clicked, Sent, Took, Undone}
+use Rattle.fibs_session.specs.History.Orders.{is_due}
 use Rattle.fibs_session.specs.History.Words.{Ask, last, open_now, shown, sent, took, unconfirmed, answer}
-use Rattle.fibs_session.specs.History.Machine.{allows}
+use Rattle.fibs_session.specs.History.Allows.{allows}
 use Rattle.fibs_model.specs.Wires.{next_line}
 use Rattle.fibs_model.specs.World.{World}
 
@@ -48,9 +50,12 @@ abbrev pub AllLegal : List Ask → Type 0
 AllLegal [] = Unit {0}
 AllLegal (a ∷ rest) = IsGood a.0 × IsAllowed a.0 a.1 × AllLegal rest
 
--- what a Sent answers, behind the log before it: a click there of this decision that was answered by yes
+-- what a Sent answers, behind the log before it: a click there of this decision that was answered by yes, or, where it
+-- is a roll, a board shown there, this one, at which a standing order of that connection was due
 pub data Answers (c : ℕ) (b : BoardFields) : List Entry → DecisionValue → Type 0 where
   its_click : (before : List Entry) (d : DecisionValue) → Answers c b (before ++ Clicked c d None ∷ []) d
+  its_order : (before : List Entry) → c ≡ open_now before → is_due c (before ++ Shown c b ∷ []) b ≡ true
+      → Answers c b (before ++ Shown c b ∷ []) roll
 
 -- each decision sent stands directly after what it answers
 abbrev pub AllAnswerTheirs : List Entry → Type 0
@@ -62,11 +67,17 @@ AllAnswerTheirs log =
 abbrev pub SentNext : ℕ → DecisionValue → List Entry → Type 0
 SentNext c d later = (b : BoardFields) × (rest : List Entry) × (later ≡ Sent c b d ∷ rest)
 
--- each click that was answered by yes is directly followed by its decision
+-- each click that was answered by yes is directly followed by its decision,
 abbrev pub AllClicksSent : List Entry → Type 0
 AllClicksSent log =
     (before later : List Entry) (c : ℕ) (d : DecisionValue) → log ≡ before ++ Clicked c d None ∷ later
     → SentNext c d later
+
+-- and each board at which a standing order is due by a roll
+abbrev pub AllOrdersSent : List Entry → Type 0
+AllOrdersSent log =
+    (before later : List Entry) (c : ℕ) (b : BoardFields) → log ≡ before ++ Shown c b ∷ later
+    → is_due c (before ++ Shown c b ∷ []) b ≡ true → SentNext c roll later
 
 -- each decision was sent with the board that was the last one shown before it on that connection
 abbrev pub AllOnShown : List Entry → Type 0
@@ -111,10 +122,13 @@ pub record Headline (w : World) : Type 0 where
   pub on_shown : AllOnShown w.log
   -- each is legal;
   pub legal : (c : ℕ) → AllLegal (sent c w.log)
-  -- each answers its own click there: it stands directly after it,
+  -- each answers its own click or a standing order given there: it stands directly after its click, or, a roll, after
+  -- the board at which the order is due;
   pub own : AllAnswerTheirs w.log
-  -- and each click answered by yes is directly followed by its decision;
+  -- each click answered by yes is directly followed by its decision,
   pub clicks_sent : AllClicksSent w.log
+  -- and each board at which a standing order is due by a roll;
+  pub orders_sent : AllOrdersSent w.log
   -- at most the last is missing;
   pub at_most_one : (c : ℕ) → length (sent c w.log) ≤ length (took c w.log) + 1
   -- and none once a differing board is shown.

@@ -9,6 +9,7 @@ use Rattle.fibs_position.specs.Laws.{GoodIsExact, SameGameIsALikeness, AllowedDe
 use Rattle.fibs_position.specs.Laws.{AllowedIsExact, SameGameIsExact}
 use Rattle.fibs_commands.specs.CommandLaws.{CommandsArePrinted, ReadCommandIsExact, LoginIsOther, StyleIsOther}
 use Rattle.fibs_commands.specs.CommandLaws.{PlainIsOther, InitialAreOther}
+use Rattle.fibs_session.specs.History.Orders.{DueOrders}
 
 pub record Owed : Type 0 where
   pub empty : EmptyStreamHasNoLine
@@ -33,3 +34,4 @@ pub record Owed : Type 0 where
   pub style : StyleIsOther
   pub plain : PlainIsOther
   pub initial : InitialAreOther
+  pub due : DueOrders

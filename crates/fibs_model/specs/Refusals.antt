@@ -12,7 +12,7 @@ use Rattle.fibs_model.specs.declared.refusal.WorldRefusal.TheVariants.{AlreadyOp
 use Rattle.fibs_model.specs.declared.refusal.WorldRefusal.TheVariants.{NothingToServe, BoardAsText, BadDice}
 use Rattle.fibs_model.specs.Wires.{next_line}
 use Rattle.fibs_model.specs.Server.{is_die, own_refusal}
-use Rattle.fibs_model.specs.Events.{Event, Open, Click, Plain, Deliver, Lose, Serve, Own, Repeat, Text}
+use Rattle.fibs_model.specs.Events.{Event, Open, Click, Plain, Deliver, Lose, Serve, Own, Repeat, Text, Order, Withdraw}
 use Rattle.fibs_model.specs.World.{World}
 
 -- a good board
@@ -41,3 +41,5 @@ refusal w (Serve c d1 d2) =
 refusal w (Own b) = own_refusal w.board b
 refusal w Repeat = None
 refusal w (Text t) = if is_board_text (lines_of (on_wire t)) then Some BoardAsText else None
+refusal w Order = None
+refusal w Withdraw = None

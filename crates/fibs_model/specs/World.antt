@@ -14,10 +14,12 @@ use Rattle.fibs_session.specs.History.Log.{Entry}
 use Rattle.fibs_session.specs.History.Log as L
 use Rattle.fibs_session.specs.History.Words.{is_empty, last, open_now, shown, unconfirmed, answer}
 use Rattle.fibs_session.specs.History.Hearing.{Heard, heard, line_reading}
-use Rattle.fibs_session.specs.History.Machine.{Talk, allows, gained, on_wire, wire_of, plain_refusal}
+use Rattle.fibs_session.specs.History.Allows.{allows}
+use Rattle.fibs_session.specs.History.Machine.{Talk, gained, on_wire, wire_of, plain_refusal}
+use Rattle.fibs_session.specs.History.Machine.{order_refusal, withdraw_refusal}
 use Rattle.fibs_model.specs.Wires.{Link, empty_link, more_coming, delivered, more_asked, taken, cut_off, next_line}
 use Rattle.fibs_model.specs.Server.{ServerValue, TakenLine, Served, Stale, LoggedIn, Took, Undone, Answered, answered, command}
-use Rattle.fibs_model.specs.Events.{Event, Open, Click, Plain, Deliver, Lose, Serve, Own, Repeat, Text}
+use Rattle.fibs_model.specs.Events.{Event, Open, Click, Plain, Deliver, Lose, Serve, Own, Repeat, Text, Order, Withdraw}
 
 pub record World : Type 0 where
   -- the server's board
@@ -95,6 +97,11 @@ abbrev pub sends_plain : World → PlainValue → Option PlainRefusal → World
 sends_plain w p (Some why) = w
 sends_plain w p None = asks w (open_now w.log) (plain_of p ∷ [])
 
+-- an entry is noted, where the client does not refuse
+abbrev pub notes_unless : World → Entry → Option Refusal → World
+notes_unless w e (Some why) = w
+notes_unless w e None = noted w (e ∷ [])
+
 -- what the server's answer to a line of c changes: a login is answered by nothing, every later line by one board line
 abbrev pub does_served : ℕ → World → Served → World
 does_served c w Stale = w
@@ -135,3 +142,5 @@ after login w (Serve c d1 d2) = serves c w d1 d2 (next_line (w.links c).asked)
 after login w (Own b) = sends (record w { board = b }) (spelling b)
 after login w Repeat = sends w (spelling w.board)
 after login w (Text t) = sends w t
+after login w Order = notes_unless w (L.Ordered (open_now w.log)) (order_refusal w.log)
+after login w Withdraw = notes_unless w (L.Withdrawn (open_now w.log)) (withdraw_refusal w.log)

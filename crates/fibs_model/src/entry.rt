@@ -1,6 +1,6 @@
 //! What is noted of the world.
 
-ghost use Rattle.std.specs.Prelude.{◌≡◌, List};
+ghost use Rattle.std.specs.Prelude.{◌≡◌, ◌++◌, List, true};
 ghost use Rattle.fibs_messages.specs.Line.{reading_of};
 ghost use Rattle.fibs_messages.specs.Message.{message_of};
 ghost use Rattle.fibs_session.specs.History.Hearing.{heard, heard_message};
@@ -53,7 +53,7 @@ pub enum Entry {
         /// Whether the client sent it, or why not.
         answer: Result<(), Refusal>,
     },
-    /// The client sent what the entry before it decided.
+    /// The client sent what the click before it decided, or the roll of a standing order on the board shown before it.
     Sent {
         /// The connection.
         conn: usize,
@@ -87,10 +87,20 @@ pub enum Entry {
         /// The decision that waited on it, with the board on which it was made.
         unconfirmed: Option<Outstanding>,
     },
+    /// The user gave a standing order to roll.
+    Ordered {
+        /// The connection.
+        conn: usize,
+    },
+    /// The user withdrew it.
+    Withdrawn {
+        /// The connection.
+        conn: usize,
+    },
 }
 
 impl Entry {
-    ghost use Rattle.fibs_model.specs.EntryOf.{entries_of};
+    ghost use Rattle.fibs_model.specs.EntryOf.{entries_of, roll_entries};
 
     /// The entry of a message that the client heard.
     fn of_message(conn: usize, message: &Message<'_>) -> Option<Entry>
@@ -108,10 +118,12 @@ impl Entry {
         }
     }
 
-    /// The entry of a line that the client heard: what is noted of it is just this, whatever was noted before it.
+    /// The entry of a line that the client heard. Whatever was noted before it, just this is noted of it, and behind
+    /// it, where a standing order rolls at it, the roll (`of_roll`).
     pub fn of_reading(conn: usize, reading: &Reading<'_>) -> Option<Entry>
-        ensures { (before : List L.Entry) →
-            entries_of result ≡ (heard conn before (reading_of reading.now)).entries }
+        ensures { (before : List L.Entry) → (heard conn before (reading_of reading.now)).entries
+            ≡ entries_of result ++ roll_entries conn (reading_of reading.now)
+            (heard conn before (reading_of reading.now)).rolled }
     {
         match reading {
             Reading::Numbered(message) => Entry::of_message(conn, message),
@@ -126,6 +138,20 @@ impl Entry {
                 }
             }
             Reading::Text(_) | Reading::Malformed { .. } => None,
+        }
+    }
+
+    /// The entry of the roll that a standing order sent at a line: on the line's board.
+    pub fn of_roll(conn: usize, reading: &Reading<'_>) -> Option<Entry>
+        ensures { entries_of result ≡ roll_entries conn (reading_of reading.now) true }
+    {
+        match reading {
+            Reading::Board(board) => Some(Entry::Sent {
+                conn,
+                board: *board,
+                decision: Decision::Roll,
+            }),
+            Reading::Numbered(_) | Reading::Text(_) | Reading::Malformed { .. } => None,
         }
     }
 }

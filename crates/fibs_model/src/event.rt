@@ -31,4 +31,8 @@ pub enum Event<'a> {
     Repeat,
     /// The server sends a line, which is given without its line end.
     Text(&'a [u8]),
+    /// The user gives a standing order to roll; it is noted where the client takes it.
+    Order,
+    /// The user withdraws the standing order; that is noted where the client takes it.
+    Withdraw,
 }

@@ -29,6 +29,7 @@ fn layers_below()
     fibs_session::laws::style_is_other();
     fibs_session::laws::plain_is_other();
     fibs_session::laws::initial_are_other();
+    fibs_session::client::laws::a_due_order_says();
 }
 
 /// After every list of events that may be, from every good first board on and for every login, the headline holds.

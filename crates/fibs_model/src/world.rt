@@ -25,6 +25,7 @@ mod link;
 mod links;
 mod losing;
 mod opening;
+mod ordering;
 mod refusing;
 mod sending;
 mod serving;

@@ -1,5 +1,6 @@
 //! Histories of the world, worked out by hand.
 
+mod orders;
 mod refused_memory;
 
 use crate::boards::*;
@@ -23,6 +24,8 @@ enum Act {
     Own(&'static [u8]),
     Repeat,
     Text(&'static [u8]),
+    Order,
+    Withdraw,
 }
 
 use Act::{Click, Deliver, Lose, Open, Own, Repeat, Say, Serve, Text};
@@ -145,6 +148,8 @@ fn event(act: Act) -> Result<Event<'static>, Fail> {
         Own(line) => Event::Own(board(line)?),
         Repeat => Event::Repeat,
         Text(line) => Event::Text(line),
+        Act::Order => Event::Order,
+        Act::Withdraw => Event::Withdraw,
     })
 }
 
@@ -156,6 +161,12 @@ fn board_name(board: &Board) -> &'static str {
     }
     if line.as_slice() == TO_MOVE {
         return "to move";
+    }
+    if line.as_slice() == MUST_ROLL {
+        return "must roll";
+    }
+    if line.as_slice() == ROLLED {
+        return "rolled";
     }
     if line.as_slice() == ONE_STEP {
         return "one step";
@@ -220,17 +231,19 @@ fn text_of(alloc: Global, entry: &Entry) -> Result<String, Fail> {
             None => Ok(format!(in alloc; "lost {conn}")?),
             Some(Outstanding { board, decision }) => ask(alloc, "lost", *conn, board, decision),
         },
+        Entry::Ordered { conn } => Ok(format!(in alloc; "ordered {conn}")?),
+        Entry::Withdrawn { conn } => Ok(format!(in alloc; "withdrawn {conn}")?),
     }
 }
 
-/// Does the events one by one; each adds its entries, or is refused and adds none.
-fn play(
+/// Does the events of a part of a story one by one; each adds its entries, or is refused and adds none.
+fn play_part(
     rt: &impl Abort,
     alloc: Global,
-    begins: &[u8],
+    world: &mut World,
+    name: &str,
     story: &[(Act, &[&str])],
 ) -> Result<(), Fail> {
-    let mut world = world(alloc, begins)?;
     let mut number = 0_u32;
     for (act, told) in story {
         number = number.saturating_add(1);
@@ -244,12 +257,23 @@ fn play(
                 }
             }
         }
-        assert_eq!(rt; added.len(), told.len(), "event {number}");
+        assert_eq!(rt; added.len(), told.len(), "{name}: event {number}");
         for (text, wanted) in added.iter().zip(*told) {
-            assert_eq!(rt; text.as_str(), *wanted, "event {number}");
+            assert_eq!(rt; text.as_str(), *wanted, "{name}: event {number}");
         }
     }
     Ok(())
+}
+
+/// Does the events of a story from its first board on.
+fn play(
+    rt: &impl Abort,
+    alloc: Global,
+    begins: &[u8],
+    story: &[(Act, &[&str])],
+) -> Result<(), Fail> {
+    let mut world = world(alloc, begins)?;
+    play_part(rt, alloc, &mut world, "the story", story)
 }
 
 /// Does the events in a row: how many are done, and the refusal.

@@ -4,5 +4,7 @@ pub mod Past
 pub mod Words
 pub mod Texts
 pub mod Fields
+pub mod Steps
+pub mod Due
 pub mod Joins
 pub mod Owing

@@ -2,6 +2,8 @@
 pub mod Log
 pub mod Words
 pub mod Asked
+pub mod Allows
+pub mod Orders
 pub mod Hearing
 pub mod Refusals
 pub mod Machine

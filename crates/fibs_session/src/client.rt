@@ -3,6 +3,7 @@
 ghost use Rattle.std.specs.Borrow.{sem};
 ghost use Rattle.std.specs.Io.BufRead.{Rests};
 ghost use Rattle.std.specs.Option.{option_copied};
+ghost use Rattle.std.specs.Result.{result_err};
 ghost use Rattle.std.specs.Prelude.{◌≡◌, IsErr, ◌<◌, ◌≤◌, Option, [], length, take, option_map};
 ghost use Rattle.fibs_boards.specs.StoredBoard.{fields_of};
 ghost use Rattle.fibs_position.specs.DecisionValue.{decision_of};
@@ -10,6 +11,7 @@ ghost use Rattle.fibs_session.specs.Calls.Doing.{Does};
 ghost use Rattle.fibs_session.specs.Calls.Standing.{StandsAfter};
 ghost use Rattle.fibs_session.specs.History.Machine.{Talk, start, Open, Lose, Piece, Click, PlainInput, open_refusal};
 ghost use Rattle.fibs_session.specs.History.Machine.{unconfirmed_now, answer_now, plain_refusal, shown_now};
+ghost use Rattle.fibs_session.specs.History.Machine.{Order, Withdraw, order_refusal, withdraw_refusal, ordered_now};
 ghost use Rattle.fibs_commands.specs.LoginOf.{login_of};
 ghost use Rattle.fibs_commands.specs.PlainOf.{plain_value};
 
@@ -37,8 +39,9 @@ use std::marker::Model;
 /// A client of the server: it is given the bytes that come, in any pieces, and hands out the commands that are to be
 /// sent.
 ///
-/// It opens and loses connections with `open` and `lose`; `feed` takes what the server sends, `decide` and `plain` what
-/// the user says. What it answers is a function of what has happened alone. No call takes memory.
+/// It opens and loses connections with `open` and `lose`; `feed` takes what the server sends, `decide`, `plain`,
+/// `order_roll` and `withdraw_roll` what the user says. What it answers is a function of what has happened alone. No
+/// call takes memory.
 ///
 /// A proof of a caller learns nothing of the client after `feed`, whose answer borrows it: such a caller takes the two
 /// halves of `feed`, `read` and then `got`.
@@ -118,6 +121,34 @@ impl Client {
         self.session.plain(plain)
     }
 
+    /// Gives a standing order to roll, which stands until it is withdrawn or the connection ends. It hands out nothing
+    /// itself: `feed` then hands out `roll` at each board at which it is due. When it is due, and refused as by
+    /// `Session::order_roll`.
+    pub fn order_roll(&mut self) -> Result<(), Refusal>
+        ensures does { Does self.old self.new Order [] }
+        ensures refusal { (t : Talk) → StandsAfter self.old t → result_err result ≡ order_refusal t.log }
+        ensures kept { IsErr result → self.new ≡ self.old }
+    {
+        self.session.order_roll()
+    }
+
+    /// Withdraws the standing order to roll. A `roll` that it sent goes on waiting. Refused as by
+    /// `Session::withdraw_roll`.
+    pub fn withdraw_roll(&mut self) -> Result<(), Refusal>
+        ensures does { Does self.old self.new Withdraw [] }
+        ensures refusal { (t : Talk) → StandsAfter self.old t → result_err result ≡ withdraw_refusal t.log }
+        ensures kept { IsErr result → self.new ≡ self.old }
+    {
+        self.session.withdraw_roll()
+    }
+
+    /// Whether a standing order to roll stands on the open connection.
+    pub fn ordered(&self) -> bool
+        ensures { (t : Talk) → StandsAfter self.now t → result ≡ ordered_now t }
+    {
+        self.session.ordered()
+    }
+
     /// The board that was shown last on this connection.
     pub fn shown(&self) -> Option<&Board>
         ensures { (t : Talk) → StandsAfter self.now t → option_map fields_of (option_copied result) ≡ shown_now t }
@@ -159,6 +190,7 @@ impl Client {
                     reading,
                     send,
                     confirmed,
+                    rolled,
                 } = self.session.line(&line);
                 let reading = OwnedReading::of(&reading);
                 HeardLine {
@@ -167,6 +199,7 @@ impl Client {
                         reading,
                         send,
                         confirmed,
+                        rolled,
                     }),
                 }
             }
@@ -204,6 +237,7 @@ impl Client {
                     reading,
                     send,
                     confirmed,
+                    rolled,
                 },
             ) => match self.lines.line() {
                 None => Got { used, taken: None },
@@ -214,6 +248,7 @@ impl Client {
                         reading: reading.with_line(&line),
                         send,
                         confirmed,
+                        rolled,
                     }),
                 },
             },

@@ -7,8 +7,8 @@ ghost use Rattle.fibs_session.specs.History.Refusals.{plain_refusal_name};
 use fibs_commands::PlainFault;
 use std::fmt;
 
-/// Why a client refuses to open a connection, to send a decision or to send a plain command. Of several reasons the
-/// first is told.
+/// Why a client refuses to open a connection, to send a decision or a plain command, or to take or end a standing
+/// order. Of several reasons the first is told.
 #[derive(Clone, Copy, Debug, PartialEq, Eq)]
 pub enum Refusal {
     /// A connection is open.
@@ -31,10 +31,14 @@ pub enum Refusal {
     IllegalPlay,
     /// The server does not do by itself what the command turns off, or the command was already sent.
     NotOn,
+    /// A standing order to roll stands on this connection.
+    AlreadyOrdered,
+    /// No standing order to roll stands on this connection.
+    NotOrdered,
 }
 
 impl Refusal {
-    /// The refusal's number, 1 to 10.
+    /// The refusal's number, 1 to 12.
     pub fn number(self) -> u8
         ensures { result ≡ refusal_number self }
     {
@@ -49,6 +53,8 @@ impl Refusal {
             Refusal::WrongKind => 8,
             Refusal::IllegalPlay => 9,
             Refusal::NotOn => 10,
+            Refusal::AlreadyOrdered => 11,
+            Refusal::NotOrdered => 12,
         }
     }
 
@@ -67,6 +73,8 @@ impl Refusal {
             Refusal::WrongKind => "WrongKind",
             Refusal::IllegalPlay => "IllegalPlay",
             Refusal::NotOn => "NotOn",
+            Refusal::AlreadyOrdered => "AlreadyOrdered",
+            Refusal::NotOrdered => "NotOrdered",
         }
     }
 }

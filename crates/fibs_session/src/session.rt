@@ -1,7 +1,8 @@
 //! What a client has heard on a connection, and the decision that it waits for.
 
 ghost use Rattle.std.specs.Option.{option_copied};
-ghost use Rattle.std.specs.Prelude.{◌≡◌, IsErr, None, [], true, option_map};
+ghost use Rattle.std.specs.Result.{result_err};
+ghost use Rattle.std.specs.Prelude.{◌≡◌, IsErr, None, [], true, false, option_map};
 ghost use Rattle.fibs_lines.specs.Lines.{value_of};
 ghost use Rattle.fibs_messages.specs.Line.{reading_of};
 ghost use Rattle.fibs_boards.specs.StoredBoard.{fields_of};
@@ -11,12 +12,14 @@ ghost use Rattle.fibs_session.specs.Calls.Standing.{SessionStandsAfter};
 ghost use Rattle.fibs_session.specs.History.Hearing.{line_reading};
 ghost use Rattle.fibs_session.specs.History.Machine.{Talk, start, Open, Lose, Click, PlainInput, open_refusal};
 ghost use Rattle.fibs_session.specs.History.Machine.{unconfirmed_now, answer_now, plain_refusal, shown_now, is_online};
+ghost use Rattle.fibs_session.specs.History.Machine.{Order, Withdraw, order_refusal, withdraw_refusal, ordered_now};
 ghost use Rattle.fibs_commands.specs.LoginOf.{login_of};
 ghost use Rattle.fibs_commands.specs.PlainOf.{plain_value};
 
 mod connection;
 mod deciding;
 mod hearing;
+mod ordering;
 mod shown_board;
 mod taken;
 
@@ -25,8 +28,8 @@ use fibs_commands::{CommandText, Login, Plain};
 use fibs_lines::Line;
 use fibs_messages::Board;
 use fibs_position::{Decision, laws};
-use hearing::is_unheard;
 pub(crate) use hearing::read_line;
+use hearing::{Reply, is_unheard};
 use shown_board::ShownBoard;
 pub use taken::{Outstanding, Taken};
 
@@ -40,8 +43,9 @@ pub(crate) struct ServerFlags {
 /// A session with the server: one connection after another, each from `open` to `lose`.
 ///
 /// It is told the lines that come (`line`), the user's decisions (`decide`) and his other commands (`plain`), and hands
-/// out the commands that are to be sent. A decision waits until a board comes whose game part differs. Nothing is known
-/// of an earlier connection. No call takes memory.
+/// out the commands that are to be sent. A decision waits until a board comes whose game part differs. A standing order
+/// (`order_roll`) rolls for the user where he may not double. Nothing is known of an earlier connection. No call takes
+/// memory.
 #[derive(Clone, Copy)]
 pub struct Session {
     login: Login,
@@ -54,6 +58,8 @@ pub struct Session {
     greedy_sent: bool,
     shown: Option<ShownBoard>,
     waiting: Option<Outstanding>,
+    /// A standing order to roll stands.
+    ordered: bool,
 }
 
 impl Session {
@@ -90,29 +96,34 @@ impl Session {
     /// The first message 1 of a connection is answered by `set boardstyle 3`; the first message 2 by `toggle autoboard`
     /// and `toggle moreboards`, each where that setting is 0, and then by `board`. A board that has a position is shown
     /// from now on; where its game part differs from that of the board shown before, a decision that waits is
-    /// confirmed.
+    /// confirmed. Where a standing order is then due, it is answered by `roll`, which waits (`rolled`).
     pub fn line<'a>(&mut self, line: &Line<'a>) -> Taken<'a>
         ensures line { value_of result.line ≡ value_of line.now }
         ensures reading { reading_of result.reading ≡ line_reading (value_of line.now) }
         ensures hears { SessionHears (session_of self.old) (session_of self.new) (value_of line.now)
-            (texts_of result.send.items) (option_map ask_of result.confirmed) }
+            (texts_of result.send.items) (option_map ask_of result.confirmed) result.rolled }
     {
         laws::same_game_is_a_likeness();
         let reading = read_line(line);
-        let heard = self.note_line(&reading);
-        let (send, confirmed) = heard;
+        let reply = self.note_line(&reading);
+        let Reply {
+            send,
+            confirmed,
+            rolled,
+        } = reply;
         Taken {
             line: *line,
             reading,
             send,
             confirmed,
+            rolled,
         }
     }
 
     /// Whether a line is a message that changes nothing and is answered by nothing. Its fields are not read.
     pub(crate) fn leaves(&self, line: &Line<'_>) -> bool
         ensures { result ≡ true →
-            SessionHears (session_of self.now) (session_of self.now) (value_of line.now) [] None }
+            SessionHears (session_of self.now) (session_of self.now) (value_of line.now) [] None false }
     {
         laws::same_game_is_a_likeness();
         is_unheard(line)
@@ -146,6 +157,39 @@ impl Session {
         ensures kept { IsErr result → session_of self.new ≡ session_of self.old }
     {
         self.note_plain(plain)
+    }
+
+    /// Gives a standing order to roll, which stands until it is withdrawn or the connection ends.
+    ///
+    /// It is due at a board that comes while it stands, where field 39 says that the player may not double, the phase
+    /// is `RollOrDouble`, and `decide` would take `Roll`: then `line` hands out `roll`, which waits. So it rolls at
+    /// most once until a board comes whose game part differs. The order itself hands out nothing, also where such a
+    /// board is shown. `Offline`; `AlreadyOrdered` where one stands. After a refusal the session is as before.
+    pub fn order_roll(&mut self) -> Result<(), Refusal>
+        ensures does { SessionDoes (session_of self.old) (session_of self.new) Order [] }
+        ensures refusal { (t : Talk) → SessionStandsAfter (session_of self.old) t →
+            result_err result ≡ order_refusal t.log }
+        ensures kept { IsErr result → session_of self.new ≡ session_of self.old }
+    {
+        self.note_order()
+    }
+
+    /// Withdraws the standing order to roll. A `roll` that it sent goes on waiting. `Offline`; `NotOrdered` where none
+    /// stands. After a refusal the session is as before.
+    pub fn withdraw_roll(&mut self) -> Result<(), Refusal>
+        ensures does { SessionDoes (session_of self.old) (session_of self.new) Withdraw [] }
+        ensures refusal { (t : Talk) → SessionStandsAfter (session_of self.old) t →
+            result_err result ≡ withdraw_refusal t.log }
+        ensures kept { IsErr result → session_of self.new ≡ session_of self.old }
+    {
+        self.note_withdrawal()
+    }
+
+    /// Whether a standing order to roll stands on the open connection.
+    pub fn ordered(&self) -> bool
+        ensures { (t : Talk) → SessionStandsAfter (session_of self.now) t → result ≡ ordered_now t }
+    {
+        self.ordered
     }
 
     /// The board that was shown last on this connection.

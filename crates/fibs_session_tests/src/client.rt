@@ -1,7 +1,7 @@
 //! Sessions and clients over hand-worked histories.
 
-use crate::histories::{BOARDS, BYTES, CONNECTIONS, Case, DECISIONS, FLAGS, MESSAGES};
-use crate::lines::{INFO, INFO_NO_AUTOBOARD, TO_MOVE, TO_ROLL, WELCOME};
+use crate::histories::{BOARDS, BYTES, CONNECTIONS, Case, DECISIONS, FLAGS, MESSAGES, ORDERS};
+use crate::lines::{INFO, INFO_NO_AUTOBOARD, NO_DOUBLE, TO_MOVE, TO_ROLL, WELCOME};
 use crate::steps::{Act, Cut, client_says, session_says};
 use fibs_lines::LIMIT;
 use fibs_messages::{Board, Reading};
@@ -112,6 +112,35 @@ fn boards_are_shown_and_other_commands_sent(rt: HostRuntime) -> Result<(), Fail>
 }
 
 #[test]
+fn standing_orders_roll_where_they_are_due(rt: HostRuntime) -> Result<(), Fail> {
+    check(rt.alloc(), &ORDERS)
+}
+
+/// A client tells whether an order stands, and what it has sent.
+#[test]
+fn a_roll_of_an_order_is_told_as_one(rt: HostRuntime) -> Result<(), Fail> {
+    let mut client = ready()?;
+    assert!(rt; !client.ordered());
+    assert_eq!(rt; client.order_roll(), Ok(()));
+    assert!(rt; client.ordered());
+    client.feed(NO_DOUBLE);
+    let taken = client.feed(b"\r\n").taken.ok_or("no line")?;
+    assert!(rt; taken.rolled && taken.confirmed.is_none());
+    assert_eq!(rt; taken.send.len(), 1);
+    let asked = Outstanding {
+        board: board_of(NO_DOUBLE)?,
+        decision: Decision::Roll,
+    };
+    assert!(rt; client.waiting() == Some(&asked));
+    assert!(rt; client.ordered(), "it stands until it is withdrawn");
+    assert!(rt; client.lose() == Some(asked));
+    assert!(rt; !client.ordered());
+    client.open().ok().ok_or("open")?;
+    assert!(rt; !client.ordered(), "a connection has orders of its own");
+    Ok(())
+}
+
+#[test]
 fn a_line_is_shown_with_its_reading(rt: HostRuntime) -> Result<(), Fail> {
     let mut client = ready()?;
     let got = client.feed(b"[board]\r\nrest");
@@ -206,6 +235,32 @@ fn run_in(alloc: Global) -> Result<Vec<u8>, Fail> {
     }
 }
 
+/// A run hands out the roll of an order among the other commands; an order itself hands out nothing.
+#[test]
+fn a_run_rolls_by_a_standing_order(rt: HostRuntime) -> Result<(), Fail> {
+    let inputs = [
+        Input::Withdraw,
+        Input::Open,
+        Input::Order,
+        Input::Order,
+        Input::Piece(WELCOME),
+        Input::Piece(b"\r\n"),
+        Input::Piece(INFO),
+        Input::Piece(b"\r\n"),
+        Input::Piece(NO_DOUBLE),
+        Input::Piece(b"\r\n"),
+        Input::Piece(NO_DOUBLE),
+        Input::Withdraw,
+        Input::Piece(b"\r\n"),
+    ];
+    let bytes = run_client(rt.alloc(), login()?, &inputs)?;
+    assert_eq!(rt;
+        bytes.as_slice(),
+        b"login fibs_client 1008 ann secret\r\nset boardstyle 3\r\nboard\r\nroll\r\n".as_slice()
+    );
+    Ok(())
+}
+
 /// Where a growth is refused, the run says so, and the next one is whole.
 #[test]
 fn runs_hand_out_their_commands_under_refused_memory(rt: HostRuntime) -> Result<(), Fail> {
@@ -230,6 +285,8 @@ fn refusals_are_told_by_their_numbers_and_names(rt: HostRuntime) -> Result<(), F
         "WrongKind",
         "IllegalPlay",
         "NotOn",
+        "AlreadyOrdered",
+        "NotOrdered",
     ];
     let refusals = [
         Refusal::AlreadyOpen,
@@ -242,6 +299,8 @@ fn refusals_are_told_by_their_numbers_and_names(rt: HostRuntime) -> Result<(), F
         Refusal::WrongKind,
         Refusal::IllegalPlay,
         Refusal::NotOn,
+        Refusal::AlreadyOrdered,
+        Refusal::NotOrdered,
     ];
     let mut number = 0u8;
     for (why, name) in refusals.iter().zip(names) {

@@ -53,3 +53,27 @@ pub(crate) const GIVEN_AWAY: &[u8] =
 /// A board of another player.
 pub(crate) const OF_OTHERS: &[u8] =
     b"board:ann:bob:3:0:1:0:-2:0:0:0:0:5:0:3:0:0:0:-5:5:0:0:0:-3:0:-5:0:0:0:0:2:0:1:0:0:0:0:1:1:1:0:1:-1:0:25:0:0:0:0:0:0:0:0";
+
+/// The user rolls, and may not double.
+pub(crate) const NO_DOUBLE: &[u8] =
+    b"board:You:bob:3:0:1:0:-2:0:0:0:0:5:0:3:0:0:0:-5:5:0:0:0:-3:0:-5:0:0:0:0:2:0:1:0:0:0:0:1:0:1:0:1:-1:0:25:0:0:0:0:0:0:0:0";
+
+/// The same game: field 50 alone is another.
+pub(crate) const NO_DOUBLE_AGAIN: &[u8] =
+    b"board:You:bob:3:0:1:0:-2:0:0:0:0:5:0:3:0:0:0:-5:5:0:0:0:-3:0:-5:0:0:0:0:2:0:1:0:0:0:0:1:0:1:0:1:-1:0:25:0:0:0:0:1:0:0:0";
+
+/// Another game: the player has a point.
+pub(crate) const NO_DOUBLE_SCORED: &[u8] =
+    b"board:You:bob:3:1:1:0:-2:0:0:0:0:5:0:3:0:0:0:-5:5:0:0:0:-3:0:-5:0:0:0:0:2:0:1:0:0:0:0:1:0:1:0:1:-1:0:25:0:0:0:0:0:0:0:0";
+
+/// He has rolled 6 and 2.
+pub(crate) const NO_DOUBLE_TO_MOVE: &[u8] =
+    b"board:You:bob:3:0:1:0:-2:0:0:0:0:5:0:3:0:0:0:-5:5:0:0:0:-3:0:-5:0:0:0:0:2:0:1:6:2:0:0:1:0:1:0:1:-1:0:25:0:0:0:0:0:0:0:0";
+
+/// He rolls, and may not double; the cube is at its limit.
+pub(crate) const NO_DOUBLE_HIGH_CUBE: &[u8] =
+    b"board:You:bob:3:0:1:0:-2:0:0:0:0:5:0:3:0:0:0:-5:5:0:0:0:-3:0:-5:0:0:0:0:2:0:1:0:0:0:0:1048576:0:1:0:1:-1:0:25:0:0:0:0:0:0:0:0";
+
+/// The user rolls or doubles by field 39, though the cube is at its limit.
+pub(crate) const HIGH_CUBE: &[u8] =
+    b"board:You:bob:3:0:1:0:-2:0:0:0:0:5:0:3:0:0:0:-5:5:0:0:0:-3:0:-5:0:0:0:0:2:0:1:0:0:0:0:1048576:1:1:0:1:-1:0:25:0:0:0:0:0:0:0:0";

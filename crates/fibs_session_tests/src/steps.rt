@@ -29,6 +29,8 @@ pub(crate) enum Act {
     Bye,
     Say(&'static [u8]),
     Tell(&'static [u8], &'static [u8]),
+    Order,
+    Withdraw,
 }
 
 /// A move of one step.
@@ -59,6 +61,8 @@ pub(crate) fn input_of(act: Act) -> Result<Input<'static>, Fail> {
         Act::Bye => Input::Plain(Plain::Bye),
         Act::Say(text) => Input::Plain(Plain::Say(text)),
         Act::Tell(name, text) => Input::Plain(Plain::Tell(name, text)),
+        Act::Order => Input::Order,
+        Act::Withdraw => Input::Withdraw,
     })
 }
 
@@ -106,12 +110,29 @@ fn push_plain(
     }
 }
 
+/// Appends the word, or the refusal's name.
+fn push_done(
+    alloc: Global,
+    out: &mut String,
+    done: &str,
+    answer: Result<(), Refusal>,
+) -> Result<(), Fail> {
+    match answer {
+        Ok(()) => push_part(out, "", done),
+        Err(why) => push_part(out, "", format!(in alloc; "{why}")?.as_str()),
+    }
+}
+
 /// Appends what answers a line.
 fn push_taken(out: &mut String, taken: &Taken<'_>) -> Result<(), Fail> {
     for command in taken.send.as_slice() {
         push_part(out, "", command.as_str())?;
     }
-    push_asked(out, "confirmed ", &taken.confirmed)
+    push_asked(out, "confirmed ", &taken.confirmed)?;
+    if taken.rolled {
+        push_part(out, "", "rolled")?;
+    }
+    Ok(())
 }
 
 /// Feeds the bytes.
@@ -172,6 +193,8 @@ pub(crate) fn client_says(
         }
         Input::Click(decision) => push_answer(alloc, &mut out, &client.decide(&decision))?,
         Input::Plain(plain) => push_plain(alloc, &mut out, &client.plain(&plain))?,
+        Input::Order => push_done(alloc, &mut out, "ordered", client.order_roll())?,
+        Input::Withdraw => push_done(alloc, &mut out, "withdrawn", client.withdraw_roll())?,
     }
     Ok(out)
 }
@@ -188,6 +211,8 @@ pub(crate) fn session_says(alloc: Global, session: &mut Session, act: Act) -> Re
         }
         Input::Click(decision) => push_answer(alloc, &mut out, &session.decide(&decision))?,
         Input::Plain(plain) => push_plain(alloc, &mut out, &session.plain(&plain))?,
+        Input::Order => push_done(alloc, &mut out, "ordered", session.order_roll())?,
+        Input::Withdraw => push_done(alloc, &mut out, "withdrawn", session.withdraw_roll())?,
     }
     Ok(out)
 }

@@ -7,10 +7,12 @@ use Rattle.fibs_position.specs.GamePart.{same_game}
 use Rattle.fibs_commands.specs.PlainCommands.{PlainValue, plain_of}
 use Rattle.fibs_session.specs.declared.refusal.Refusal.{Refusal}
 use Rattle.fibs_session.specs.declared.refusal.PlainRefusal.{PlainRefusal}
-use Rattle.fibs_session.specs.History.Log.{Entry, Clicked, Sent}
-use Rattle.fibs_session.specs.History.Words.{open_now, answer}
-use Rattle.fibs_session.specs.History.Machine.{Talk, Step, answer_now, shown_now, allows, clicks_by, decides_on}
-use Rattle.fibs_session.specs.History.Machine.{plain_refusal, sends_plain as talk_sends_plain, wire_of}
+use Rattle.fibs_session.specs.History.Log.{Entry, Clicked, Sent, Ordered, Withdrawn}
+use Rattle.fibs_session.specs.History.Words.{open_from, open_now, answer}
+use Rattle.fibs_session.specs.History.Allows.{allows}
+use Rattle.fibs_session.specs.History.Machine.{Talk, Step, answer_now, shown_now, clicks_by, decides_on}
+use Rattle.fibs_session.specs.History.Machine.{plain_refusal, order_refusal, withdraw_refusal, wire_of}
+use Rattle.fibs_session.specs.History.Machine.{sends_plain as talk_sends_plain}
 use Rattle.fibs_session.specs.History.Machine as M
 use Rattle.fibs_session.specs.History.MachineLaws.{ServersEntriesAreSilent}
 use Rattle.fibs_session.specs.Calls.Standing.{StandsAfter}
@@ -19,12 +21,13 @@ use Rattle.fibs_model.specs.EntryOf.{entry_of}
 use Rattle.fibs_model.specs.declared.entry.Entry as C
 use Rattle.fibs_model.specs.Clients.{input_of}
 use Rattle.fibs_model.specs.Refusals.{refusal}
-use Rattle.fibs_model.specs.Calls.{ask_links, click_entries}
-use Rattle.fibs_model.specs.Events.{Event, Click, Plain}
+use Rattle.fibs_model.specs.Calls.{ask_links, click_entries, unless_refused}
+use Rattle.fibs_model.specs.Events.{Event, Click, Plain, Order, Withdraw}
 use Rattle.fibs_model.specs.LinksOf.{LinkValue, kept_of, link_at, set_link}
 use Rattle.fibs_model.specs.Server.{command}
 use Rattle.fibs_model.specs.WireLinks.{more_asked}
-use Rattle.fibs_model.specs.World.{World, after, noted, linked, asks, clicks, sends_out, sends_plain, talk_of}
+use Rattle.fibs_model.specs.World.{World, after, noted, linked, asks, clicks, sends_out, sends_plain, notes_unless}
+use Rattle.fibs_model.specs.World.{talk_of}
 use Rattle.fibs_model.specs.WorldOf.{WorldValue, StandsFor, Goes}
 use Rattle.fibs_model.proofs.log.Yes.{yes}
 use Rattle.fibs_model.proofs.joint.EachEvent.{said}
@@ -156,6 +159,51 @@ module _ (law : ServersEntriesAreSilent) (v v' : WorldValue) (send : List (List 
             links =
                 λ d. a.links d;
           }
+
+  -- an order is given or withdrawn, or refused
+  noted_or_not : (e : Event) (i : M.InputValue) (note : ℕ → Entry) (refuse : List Entry → Option Refusal)
+      → ((login : List ℕ) (w : World) → after login w e ≡ notes_unless w (note (open_now w.log)) (refuse w.log))
+      → ((w : World) → refusal w e ≡ None) → ((w : World) → input_of w e ≡ Some i)
+      → ((o n : ℕ) → open_from o (note n ∷ []) ≡ o) → send ≡ [] → (o : Option Refusal)
+      → v'.log ≡ v.log ++ unless_refused o (note v.current)
+      → ((t : Talk) → StandsAfter v.client t → o ≡ refuse t.log) → Does v.client v'.client i send → Goes v v' e
+  noted_or_not e i note refuse is may input silent none o log answers does login w s =
+      stands_on login w e i (unless_refused o (note v.current)) s log
+      (subst (λ x. Asks v w x send (unless_refused o (note v.current))) (sym (is login w))
+      (subst (λ n. Asks v w (notes_unless w (note (open_now w.log)) (refuse w.log)) send (unless_refused o (note n)))
+      (sym s.current)
+      (subst (λ x. Asks v w (notes_unless w (note (open_now w.log)) (refuse w.log)) send
+      (unless_refused x (note (open_now w.log)))) (sym (answers (talk_of login w) s.client)) (go (refuse w.log)))))
+      (may w) (input w) does
+    where
+      go : (x : Option Refusal)
+          → Asks v w (notes_unless w (note (open_now w.log)) x) send (unless_refused x (note (open_now w.log)))
+      go (Some why) = record {
+        board = refl;
+        logged_in = refl;
+        count = refl;
+        log = sym (append-nil w.log);
+        here = refl;
+        links = λ d. s.links d ∙ ap (λ ts. link_at (ask_links v.links v.current ts) d) (sym none);
+      }
+      go None =
+          asks_nothing v login w (note (open_now w.log)) send s none
+          (open_append 0 w.log (note (open_now w.log) ∷ []) ∙ silent (open_now w.log) (open_now w.log))
+
+  -- a standing order is given
+  pub ordered_stands : send ≡ [] → (o : Option Refusal) → v'.log ≡ v.log ++ unless_refused o (Ordered v.current)
+      → ((t : Talk) → StandsAfter v.client t → o ≡ order_refusal t.log) → Does v.client v'.client M.Order send
+      → Goes v v' Order
+  ordered_stands =
+      noted_or_not Order M.Order Ordered order_refusal (λ login w. refl) (λ w. refl) (λ w. refl) (λ o n. refl)
+
+  -- and withdrawn
+  pub withdrawn_stands : send ≡ [] → (o : Option Refusal) → v'.log ≡ v.log ++ unless_refused o (Withdrawn v.current)
+      → ((t : Talk) → StandsAfter v.client t → o ≡ withdraw_refusal t.log) → Does v.client v'.client M.Withdraw send
+      → Goes v v' Withdraw
+  withdrawn_stands =
+      noted_or_not Withdraw M.Withdraw Withdrawn withdraw_refusal (λ login w. refl) (λ w. refl) (λ w. refl)
+      (λ o n. refl)
 
 -- after a growth
 pub asked_after : (links grown new : List LinkValue) (c : ℕ) (send : List (List ℕ)) → grown ≡ links

@@ -1,5 +1,6 @@
 -- Bytes are delivered to the client.
-use Rattle.std.proofs.Common.{◌≡◌, ◌≤◌, ◌<◌, ◌+◌, ◌-◌, ℕ, zero, suc, Bool, true, false, inl, inr, List, [], ◌∷◌, ◌++◌}
+use Rattle.std.proofs.Common.{◌≡◌, ◌≤◌, ◌<◌, ◌+◌, ◌-◌, ◌*◌, ℕ, zero, suc, Bool, true, false, inl, inr, List, [], ◌∷◌}
+use Rattle.std.proofs.Common.{◌++◌}
 use Rattle.std.proofs.Common.{length, take, drop, get_or, nat_eq, if◌then◌else◌, refl, sym, ap, subst, ◌∙◌, arith}
 use Rattle.std.proofs.Common.{append-nil, append_assoc}
 use Rattle.std.specs.Prelude.{slice_set}
@@ -10,15 +11,15 @@ use Rattle.fibs_session.specs.Calls.Doing.{Does}
 use Rattle.fibs_session.specs.Calls.Standing.{ClientValue}
 use Rattle.fibs_session.specs.History.Hearing.{Heard, heard, line_reading}
 use Rattle.fibs_session.specs.History.Log.{Entry}
-use Rattle.fibs_session.specs.History.Machine.{Talk, Piece, step, gained, on_wire, wire_of}
+use Rattle.fibs_session.specs.History.Machine.{Talk, Piece, step, gained, on_wire, wire_of, ordered_now}
 use Rattle.fibs_session.specs.History.Machine as M
 use Rattle.fibs_session.specs.History.MachineLaws.{ServersEntriesAreSilent}
-use Rattle.fibs_session.specs.History.Owing.{owed}
+use Rattle.fibs_session.specs.History.Owing.{owed_on, owed, entries_owed}
 use Rattle.fibs_session.specs.History.Words.{is_empty, open_now, welcomed, informed}
 use Rattle.fibs_model.specs.Clients.{Steps}
 use Rattle.fibs_model.specs.Events.{Deliver}
-use Rattle.fibs_model.specs.HearingOf.{HearsPiece, HearsNext, IsTalking}
-use Rattle.fibs_model.specs.LinksOf.{LinkValue, kept_of, link_of, seen, link_at, set_link}
+use Rattle.fibs_model.specs.HearingOf.{HearsPiece, HearsNext, IsTalking, RoomForPiece, RoomForNext}
+use Rattle.fibs_model.specs.LinksOf.{LinkValue, kept_of, link_of, seen, link_at, set_link, RoomToServer}
 use Rattle.fibs_model.specs.Wires.{Link}
 use Rattle.fibs_model.specs.WireLinks as value
 use Rattle.fibs_model.specs.World.{World, after, linked, hears_all, does_heard, talk_of}
@@ -30,6 +31,7 @@ use Rattle.fibs_model.proofs.joint.EachEvent.{is_open}
 use Rattle.fibs_model.proofs.joint.Joint.{linked_same}
 use Rattle.fibs_model.proofs.log.Lists.{same_number, other_number}
 use Rattle.fibs_model.proofs.log.Past.{open_append}
+use Rattle.fibs_model.proofs.Likeness.Hearing.{ends}
 use Rattle.fibs_model.proofs.Likeness.Events.{current_known, client_after, sound_after}
 use Rattle.fibs_model.proofs.Likeness.Links.{links_linked, length_set_link, link_set, link_was, value_path}
 use Rattle.fibs_model.specs.Wires.{more_asked, delivered}
@@ -100,15 +102,19 @@ pub deliver_open : (v : WorldValue) (login : List ℕ) (w : World) (n : ℕ) →
 deliver_open v login w n s may = let some =
     is_open NotOpen (open_now w.log) (may login w s) in omega (arith, some, s.current)
 
--- no more is owed than this
-pub owed_at_most : (t : Talk) → owed t ≤ 62
-owed_at_most t = go (is_empty (welcomed (open_now t.log) t.log)) (is_empty (informed (open_now t.log) t.log))
-  where
-    go : (a b : Bool) → (if a then 18 else 0) + (if b then 44 else 0) ≤ 62
-    go true true = omega arith
-    go true false = omega arith
-    go false true = omega arith
-    go false false = omega arith
+-- where there is room for what the next bytes of a connection may add, there is for what that piece may
+pub room_next : (links : List C.Link) (c : ℕ) (l : C.Link) → 0 < c → c ≤ length links → l ≡ get_or links (c - 1) l
+    → (client : ClientValue) (n len capacity : ℕ) → RoomForNext client c n links len capacity
+    → RoomForPiece client c (take n l.to_client.items) len capacity l.to_server.room
+room_next links c l some known is client n len capacity r =
+    let piece : take n (link_at (seen links) c).coming ≡ take n l.to_client.items =
+    ap (λ (x : LinkValue). take n x.coming) (link_was links c l some known is) in
+    record {
+      talk = r.talk;
+      talks = r.talks;
+      entries = subst (λ p. len + entries_owed r.talk (ends p) ≤ capacity) piece r.entries;
+      commands = subst (λ p. owed r.talk (ends p) ≤ l.to_server.room) piece (r.commands l is);
+    }
 
 module _ (law : ServersEntriesAreSilent) (v v' : WorldValue) (n : ℕ) (server : v'.server ≡ v.server)
     (next : HearsNext v.client v'.client v.current n v.links v'.links v.log v'.log) (current : v'.current ≡ v.current)

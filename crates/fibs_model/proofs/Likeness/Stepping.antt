@@ -8,7 +8,7 @@ use Rattle.fibs_commands.specs.Logins.{login_text}
 use Rattle.fibs_session.specs.History.Machine.{on_wire}
 use Rattle.fibs_lines.specs.Lines.{lines_of}
 use Rattle.fibs_model.specs.Calls.{serve_refusal}
-use Rattle.fibs_model.specs.Events.{Event, Open, Click, Plain, Deliver, Lose, Serve, Own, Repeat, Text}
+use Rattle.fibs_model.specs.Events.{Event, Open, Click, Plain, Deliver, Lose, Serve, Own, Repeat, Text, Order, Withdraw}
 use Rattle.fibs_model.specs.LinksOf.{LinkValue, link_at}
 use Rattle.fibs_model.specs.Refusals.{refusal, is_board_text}
 use Rattle.fibs_model.specs.Runs.{AllAccepted, MayBe, after_all, world_after}
@@ -47,6 +47,8 @@ told w (Serve c d1 d2) =
 told w (Own b) = if_told (not (good b)) _ _ tt (if_told (user_decides w.board) _ _ tt tt)
 told w Repeat = tt
 told w (Text t) = if_told (is_board_text (lines_of (on_wire t))) _ _ tt tt
+told w Order = tt
+told w Withdraw = tt
 
 -- what the table tells is told
 pub tells : (why : WorldRefusal) (answer : Option WorldRefusal) → IsTold answer → Some why ≡ answer

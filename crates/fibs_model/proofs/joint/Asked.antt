@@ -6,7 +6,8 @@ use Rattle.fibs_position.specs.DecisionValue.{DecisionValue as Decision}
 use Rattle.fibs_position.specs.GamePart.{same_game}
 use Rattle.fibs_position.specs.GoodBoard.{good as is_good}
 use Rattle.fibs_session.specs.History.Log.{Entry, Sent}
-use Rattle.fibs_session.specs.History.Machine.{allows, on_wire}
+use Rattle.fibs_session.specs.History.Allows.{allows}
+use Rattle.fibs_session.specs.History.Machine.{on_wire}
 use Rattle.fibs_session.specs.History.Words.{Ask, is_empty, last, open_from, open_now, shown, sent, took, is_spent}
 use Rattle.fibs_session.specs.History.Words.{shown_by, sent_by, took_by}
 use Rattle.fibs_model.specs.Server.{command}

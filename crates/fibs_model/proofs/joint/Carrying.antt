@@ -5,11 +5,12 @@ use Rattle.std.proofs.lemmas.Bool.Decides.{eqb_tells}
 use Rattle.std.proofs.lemmas.List.{take-append-drop}
 use Rattle.fibs_lines.specs.Lines.{ReadLine as Line}
 use Rattle.fibs_messages.specs.Line.{ReadingValue, numbered_line, board_line, text_line, malformed_line}
-use Rattle.fibs_position.specs.DecisionValue.{DecisionValue as Decision}
+use Rattle.fibs_position.specs.DecisionValue.{DecisionValue as Decision, roll}
 use Rattle.fibs_position.specs.GoodBoard.{good as is_good}
-use Rattle.fibs_session.specs.History.Hearing.{line_reading, flags_of}
+use Rattle.fibs_session.specs.History.Hearing.{line_reading, flags_of, shows_board}
 use Rattle.fibs_session.specs.History.Log.{Entry, Welcomed, Informed, Shown, Clicked, Sent}
 use Rattle.fibs_session.specs.History.Machine.{on_wire}
+use Rattle.fibs_session.specs.History.Orders.{is_due}
 use Rattle.fibs_session.specs.History.Words.{last, open_from, open_now, shown}
 use Rattle.fibs_commands.specs.PlainCommands.{PlainValue}
 use Rattle.fibs_session.specs.declared.refusal.PlainRefusal.{PlainRefusal}
@@ -18,7 +19,7 @@ use Rattle.fibs_boards.specs.Board.{BoardFields as Board}
 use Rattle.fibs_model.specs.Joint.{Carried}
 use Rattle.fibs_model.specs.Wires.{Link, more_asked}
 use Rattle.fibs_model.specs.World.{World, noted, linked, asks, does_heard, hears, hears_all, sends_out, clicks}
-use Rattle.fibs_model.specs.World.{sends_plain}
+use Rattle.fibs_model.specs.World.{sends_plain, notes_unless}
 use Rattle.fibs_model.proofs.log.Past.{open_append}
 use Rattle.fibs_model.proofs.joint.Joint.{linked_same, linked_other}
 use Rattle.fibs_model.proofs.joint.Sending.{if_fact}
@@ -87,11 +88,16 @@ alike_does : (w : World) (c : ℕ) (es : List Entry) (ts : List (List ℕ)) → 
 alike_does w c es ts h =
     alike_then w (noted w es) (asks (noted w es) c ts) (alike_noted w es h) (alike_asks (noted w es) c ts)
 
+-- a board is shown, and a roll is sent on it or not
+alike_shows : (c : ℕ) (w : World) (b : Board) (rolls : Bool) → Alike w (does_heard c w (shows_board c w.log b rolls))
+alike_shows c w b true = alike_does w c (Shown c b ∷ Sent c b roll ∷ []) _ refl
+alike_shows c w b false = alike_does w c (Shown c b ∷ []) [] refl
+
 -- a line is heard
 pub alike_hears : (c : ℕ) (w : World) (x : ReadingValue) → Alike w (hears c w x)
 alike_hears c w (board_line b) =
     if_fact (λ h. Alike w (does_heard c w h)) (is_good b) _ _
-    (λ z. alike_does w c (Shown c b ∷ []) [] refl) (λ z. alike_does w c [] [] refl)
+    (λ z. alike_shows c w b (is_due c (w.log ++ Shown c b ∷ []) b)) (λ z. alike_does w c [] [] refl)
 alike_hears c w (numbered_line m) =
     if_fact (λ h. Alike w (does_heard c w h)) (nat_eq m.number 1) _ _
     (λ z. alike_does w c (Welcomed c ∷ []) _ refl)
@@ -121,6 +127,12 @@ alike_clicks c w d None = alike_sends_out c w d (last (shown c w.log))
 pub alike_plain : (w : World) (p : PlainValue) (o : Option PlainRefusal) → Alike w (sends_plain w p o)
 alike_plain w p (Some why) = alike_same w
 alike_plain w p None = alike_asks w (open_now w.log) _
+
+-- an order is noted or not
+pub alike_unless : (w : World) (e : Entry) (o : Option Refusal) → open_from (open_now w.log) (e ∷ []) ≡ open_now w.log
+    → Alike w (notes_unless w e o)
+alike_unless w e (Some why) h = alike_same w
+alike_unless w e None h = alike_noted w (e ∷ []) h
 
 -- the same bytes
 pub carried_is : (put put' : List ℕ) (z z' : Bool) (l l' : Link) → put' ≡ put → z' ≡ z → l'.heard ≡ l.heard

@@ -1,27 +1,33 @@
 -- The joint statement is kept where the client hears lines.
-use Rattle.std.proofs.Common.{◌≡◌, ℕ, ◌<◌, true, false, ◌&&◌, List, [], ◌∷◌, ◌++◌, Option, Some, None, nat_eq, take}
+use Rattle.std.proofs.Common.{◌≡◌, ℕ, ◌<◌, Bool, true, false, ◌&&◌, List, [], ◌∷◌, ◌++◌, Option, Some, None, nat_eq}
+use Rattle.std.proofs.Common.{take}
 use Rattle.std.proofs.Common.{drop, refl, sym, ◌∙◌, zero, suc, ap, subst, inl, inr, ◌⊎◌, append-nil, append_assoc}
 use Rattle.std.proofs.Common.{true≢false, arith}
 use Rattle.std.proofs.lemmas.Bool.Decides.{eqb_tells}
 use Rattle.std.proofs.lemmas.Bool.{cases_Bool}
 use Rattle.fibs_boards.specs.Board.{BoardFields as Board}
-use Rattle.fibs_session.specs.History.Log.{Welcomed, Informed, Shown}
+use Rattle.fibs_position.specs.DecisionValue.{roll}
+use Rattle.fibs_session.specs.History.Log.{Welcomed, Informed, Shown, Sent}
+use Rattle.fibs_session.specs.History.Orders.{is_due}
 use Rattle.fibs_session.specs.History.Words.{Ask, one_if, is_empty, last, each, open_now, shown, sent, took, welcomed}
 use Rattle.fibs_session.specs.History.Words.{informed, is_spent}
 use Rattle.fibs_model.specs.Wires.{Link, delivered}
-use Rattle.fibs_model.specs.World.{does_heard, World, noted, linked, hears, hears_all}
+use Rattle.fibs_model.specs.Server.{command}
+use Rattle.fibs_model.specs.World.{does_heard, World, noted, linked, asks, hears, hears_all}
 use Rattle.fibs_model.proofs.log.Moving.{has_moved_on}
 use Rattle.fibs_model.proofs.Lawful.{Lawful, AllQuiet}
 use Rattle.std.specs.Prelude.{if◌then◌else◌}
 use Rattle.fibs_messages.specs.Line.{ReadingValue, numbered_line, board_line, text_line, malformed_line}
 use Rattle.fibs_commands.specs.FirstCommands.{style_text}
 use Rattle.fibs_session.specs.History.Hearing.{initial_commands}
-use Rattle.fibs_session.specs.History.Hearing.{Heard, nothing_heard, flags_of, confirmed_by_board}
+use Rattle.fibs_session.specs.History.Hearing.{Heard, nothing_heard, flags_of, shows_board}
 use Rattle.fibs_lines.specs.Lines.{ReadLine as Line}
 use Rattle.fibs_session.specs.History.Machine.{gained}
 use Rattle.fibs_model.proofs.log.Lists.{other_number, and_left, and_right, and_both, one_of_false, last_snoc}
 use Rattle.fibs_model.proofs.log.Lists.{map_no_more}
 use Rattle.fibs_model.proofs.log.Past.{open_append, shown_more, spent_first, spent_same, spent_other, moved_shown}
+use Rattle.fibs_model.proofs.log.Due.{due_rolls}
+use Rattle.fibs_model.proofs.joint.Asked.{joint_asked, no_entries}
 use Rattle.fibs_model.proofs.wires.Boards.{waiting, boards, board_of, boards_split, whole_split, gained_none}
 use Rattle.fibs_model.proofs.joint.Joint.{View, view, Calm, Free, Done, Live, Held, Current, Ahead, Joint}
 use Rattle.fibs_model.proofs.log.Lists.{to_list}
@@ -199,18 +205,51 @@ module _ (law : Lawful) where
       finish c more w nothing_heard some (joint_noted more w [] y.joint (λ d. refl) (λ d. refl) (λ d. refl) refl)
       (open_append 0 w.log [] ∙ y.here) y.mine tt
 
+  -- A good board is shown, and where a standing order is then due its roll is sent: the boards still to be noted are
+  -- that one, since the user decides on it.
+  shows : (c : ℕ) (more : List Board) (w : World) (b : Board) → 0 < c → Hearing c (b ∷ more) w → (rolls : Bool)
+      → is_due c (w.log ++ Shown c b ∷ []) b ≡ rolls → Hearing c more (does_heard c w (shows_board c w.log b rolls))
+  shows c more w b some y rolls due = go rolls due
+    where
+      have : 0 < w.logged_in
+      have = let mine = y.mine in omega (arith, some, mine)
+
+      w1 : World
+      w1 = noted w (Shown c b ∷ [])
+
+      noted_first : Joint more (noted w (Shown c b ∷ []))
+      noted_first =
+          subst (λ d. Joint more (noted w (Shown d b ∷ []))) y.mine
+          (note_shown w b more y.joint (y.here ∙ sym y.mine) have)
+
+      go : (rolls : Bool) → is_due c (w.log ++ Shown c b ∷ []) b ≡ rolls
+          → Hearing c more (does_heard c w (shows_board c w.log b rolls))
+      go false due =
+          finish c more w (shows_board c w.log b false) some noted_first
+          (open_append 0 w.log (Shown c b ∷ []) ∙ y.here) y.mine tt
+      go true due =
+          let r = due_rolls law c w.log b y.here due in
+          let asked =
+          joint_asked law more w1 [] roll b no_entries noted_first (r.still ∙ sym y.mine) have
+          (subst (λ e. is_spent same_game e (w.log ++ Shown c b ∷ []) ≡ false) (sym y.mine) r.fresh)
+          (subst (λ e. last (shown e (w.log ++ Shown c b ∷ [])) ≡ Some b) (sym y.mine) r.is_last) r.allowed in
+          record {
+            joint =
+                subst (λ l. Joint more (asks (record w { log = l }) c (command b roll ∷ [])))
+                (append_assoc w.log (Shown c b ∷ []) (Sent c b roll ∷ []))
+                (subst (λ e. Joint more (asks (noted w1 (Sent e b roll ∷ [])) e (command b roll ∷ []))) y.mine asked);
+            here = open_append 0 w.log (Shown c b ∷ Sent c b roll ∷ []) ∙ y.here;
+            mine = y.mine;
+          }
+
   -- a line is heard: its board is no longer among those delivered and not noted
   hears_one : (c : ℕ) (more : List Board) (w : World) (x : ReadingValue) → 0 < c → Hearing c (board_of x ++ more) w
       → Hearing c more (hears c w x)
   hears_one c more w (board_line b) some y = if_fact (λ h. Hearing c more (does_heard c w h)) (is_good b) _ _
       (λ z.
-      let j : Joint (b ∷ more) w = subst (λ t. Joint (one_if t b ++ more) w) z y.joint in
-      let here : open_now w.log ≡ w.logged_in = y.here ∙ sym y.mine in
-      let have : 0 < w.logged_in = rw y.mine some in
-      let n : Joint more (noted w (Shown c b ∷ [])) =
-      subst (λ d. Joint more (noted w (Shown d b ∷ []))) y.mine (note_shown w b more j here have) in
-      finish c more w (record { entries = Shown c b ∷ []; send = []; confirmed = confirmed_by_board c w.log b }) some n
-      (open_append 0 w.log (Shown c b ∷ []) ∙ y.here) y.mine tt)
+      shows c more w b some
+      (record { joint = subst (λ t. Joint (one_if t b ++ more) w) z y.joint; here = y.here; mine = y.mine })
+      (is_due c (w.log ++ Shown c b ∷ []) b) refl)
       (λ z. no_entry c more w some
       (record { joint = subst (λ t. Joint (one_if t b ++ more) w) z y.joint; here = y.here; mine = y.mine }))
   hears_one c more w (numbered_line m) some y = if_fact (λ h. Hearing c more (does_heard c w h)) (nat_eq m.number 1) _ _
@@ -219,6 +258,7 @@ module _ (law : Lawful) where
         entries = Welcomed c ∷ [];
         send = if is_empty (welcomed c w.log) then style_text ∷ [] else [];
         confirmed = None;
+        rolled = false;
       }) some
       (joint_noted more w (Welcomed c ∷ []) y.joint (λ d. refl) (λ d. refl) (λ d. refl) refl)
       (open_append 0 w.log (Welcomed c ∷ []) ∙ y.here) y.mine
@@ -229,6 +269,7 @@ module _ (law : Lawful) where
         entries = Informed c (flags_of m) ∷ [];
         send = if is_empty (informed c w.log) then initial_commands m else [];
         confirmed = None;
+        rolled = false;
       }) some
       (joint_noted more w (Informed c (flags_of m) ∷ []) y.joint (λ d. refl) (λ d. refl) (λ d. refl) refl)
       (open_append 0 w.log (Informed c (flags_of m) ∷ []) ∙ y.here) y.mine

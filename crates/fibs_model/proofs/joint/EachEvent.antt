@@ -11,11 +11,13 @@ use Rattle.fibs_commands.specs.declared.plain.PlainFault.{PlainFault}
 use Rattle.std.specs.Prelude.{option_map}
 use Rattle.fibs_session.specs.declared.refusal.PlainRefusal.{PlainRefusal}
 use Rattle.fibs_session.specs.declared.refusal.PlainRefusal.TheVariants as P
-use Rattle.fibs_session.specs.History.Machine.{plain_refusal, may_send}
+use Rattle.fibs_session.specs.declared.refusal.Refusal.{Refusal}
+use Rattle.fibs_session.specs.History.Log.{Entry, Ordered, Withdrawn}
+use Rattle.fibs_session.specs.History.Machine.{plain_refusal, may_send, order_refusal, withdraw_refusal}
 use Rattle.fibs_model.specs.Wires.{next_line}
 use Rattle.fibs_model.specs.Server.{is_die, user_decides}
-use Rattle.fibs_model.specs.Events.{Event, Open, Click, Plain, Deliver, Lose, Serve, Own, Repeat, Text}
-use Rattle.fibs_model.specs.World.{sends_plain, talk_of, World, after, serves, start}
+use Rattle.fibs_model.specs.Events.{Event, Open, Click, Plain, Deliver, Lose, Serve, Own, Repeat, Text, Order, Withdraw}
+use Rattle.fibs_model.specs.World.{sends_plain, notes_unless, talk_of, World, after, serves, start}
 use Rattle.fibs_model.specs.declared.refusal.WorldRefusal.{WorldRefusal}
 use Rattle.fibs_model.specs.declared.refusal.WorldRefusal.TheVariants.{AlreadyOpen, NotOpen}
 use Rattle.fibs_model.specs.Refusals.{refusal, is_board_text}
@@ -26,7 +28,8 @@ use Rattle.fibs_model.proofs.log.Lists.{and_left, and_right}
 use Rattle.fibs_model.proofs.wires.Ways.{way_none}
 use Rattle.fibs_model.proofs.wires.Boards.{whole_none, text_boards}
 use Rattle.fibs_model.proofs.joint.Joint.{Joint}
-use Rattle.fibs_model.proofs.joint.Sending.{joint_asks, joint_board, joint_text}
+use Rattle.fibs_model.proofs.joint.Sending.{joint_noted, joint_asks, joint_board, joint_text}
+use Rattle.fibs_model.proofs.joint.Asked.{ChangesNothing}
 use Rattle.fibs_model.proofs.joint.Deliver.{joint_deliver}
 use Rattle.fibs_model.proofs.joint.Click.{joint_click}
 use Rattle.fibs_model.proofs.joint.Turns.{joint_open, joint_lose, joint_serve}
@@ -112,6 +115,28 @@ said login w p h =
     let s = said_if (nat_eq (open_now w.log) 0) (may_send (talk_of login w) p) (plain_fault_of p) h in
     (number_of _ s.0, s.1)
 
+-- an order says nothing of the wires and the boards
+order_alone : (c : ℕ) → ChangesNothing (Ordered c ∷ [])
+order_alone c = record {
+  shows_none = λ d. refl;
+  sends_none = λ d. refl;
+  takes_none = λ d. refl;
+  stays_open =
+      λ o. refl;
+}
+
+-- nor does its end
+withdrawal_alone : (c : ℕ) → ChangesNothing (Withdrawn c ∷ [])
+withdrawal_alone c =
+    record { shows_none = λ d. refl; sends_none = λ d. refl; takes_none = λ d. refl; stays_open = λ o. refl }
+
+-- such an entry keeps the joint statement, noted or not
+joint_unless : (w : World) (e : Entry) (o : Option Refusal) → ChangesNothing (e ∷ []) → Joint [] w
+    → Joint [] (notes_unless w e o)
+joint_unless w e (Some why) idle j = j
+joint_unless w e None idle j =
+    joint_noted [] w (e ∷ []) j idle.shows_none idle.sends_none idle.takes_none (idle.stays_open (open_now w.log))
+
 module _ (law : Lawful) where
   -- a plain command keeps the joint statement
   joint_said : (w : World) (p : PlainValue) (o : Option PlainRefusal)
@@ -145,6 +170,10 @@ module _ (law : Lawful) where
   joint_after login quiet w (Text t) j h =
       joint_text law w t j
       (text_boards law (lines_of (on_wire t)) (not_refused (is_board_text (lines_of (on_wire t))) _ _ h).0)
+  joint_after login quiet w Order j h =
+      joint_unless w (Ordered (open_now w.log)) (order_refusal w.log) (order_alone (open_now w.log)) j
+  joint_after login quiet w Withdraw j h =
+      joint_unless w (Withdrawn (open_now w.log)) (withdraw_refusal w.log) (withdrawal_alone (open_now w.log)) j
 
   -- it holds of the world at first, which has a good board
   pub joint_start : (b : Board) → is_good b ≡ true → Joint [] (start b)

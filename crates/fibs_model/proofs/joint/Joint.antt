@@ -14,7 +14,7 @@ use Rattle.fibs_model.proofs.log.Lists.{to_list, same_number, other_number, map_
 use Rattle.fibs_model.proofs.log.Past.{spent_quiet, moved_quiet}
 use Rattle.fibs_model.proofs.wires.Ways.{OnWay}
 use Rattle.fibs_model.proofs.wires.Boards.{Whole, waiting}
-use Rattle.fibs_session.specs.History.Machine.{allows}
+use Rattle.fibs_session.specs.History.Allows.{allows}
 use Rattle.fibs_position.specs.GamePart.{same_game}
 use Rattle.fibs_position.specs.GoodBoard.{good as is_good}
 

@@ -11,7 +11,7 @@ use Rattle.fibs_session.specs.History.Log as L
 use Rattle.fibs_session.specs.History.Machine.{on_wire}
 use Rattle.fibs_session.specs.History.Words.{Ask, one_if, is_empty}
 use Rattle.fibs_model.specs.Acts.{Act, Shows, Says, Serves, sending, acts_of, acts_at_line, acts_on, acts_from}
-use Rattle.fibs_model.specs.Events.{Event, Open, Click, Plain, Deliver, Lose, Serve, Own, Repeat, Text}
+use Rattle.fibs_model.specs.Events.{Event, Open, Click, Plain, Deliver, Lose, Serve, Own, Repeat, Text, Order, Withdraw}
 use Rattle.fibs_model.specs.Joint.{served_by, served_at, decisions_of}
 use Rattle.fibs_model.specs.Joint as S
 use Rattle.fibs_model.specs.Runs.{after_all}
@@ -124,6 +124,8 @@ notes c login w (Own b) = (
 notes c login w Repeat =
     notes_none c w _ (sending w (Shows w.board)) (adds login w Repeat tt) (no_shows w w.board)
 notes c login w (Text t) = notes_none c w _ (sending w (Says t)) (adds login w (Text t) tt) (no_says w t)
+notes c login w Order = notes_none c w _ [] (adds login w Order tt) refl
+notes c login w Withdraw = notes_none c w _ [] (adds login w Withdraw tt) refl
 
 -- over a list of events
 pub serves_all : (c : ℕ) (login : List ℕ) (es : List Event) (w : World)

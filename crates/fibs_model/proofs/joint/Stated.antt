@@ -10,11 +10,12 @@ use Rattle.fibs_position.specs.GamePart.{same_game}
 use Rattle.fibs_position.specs.GoodBoard.{good as is_good}
 use Rattle.fibs_session.specs.History.Log.{Entry, Took, Undone, Lost}
 use Rattle.fibs_session.specs.History.Log as L
-use Rattle.fibs_session.specs.History.Machine.{allows, gained, on_wire, plain_refusal}
+use Rattle.fibs_session.specs.History.Allows.{allows}
+use Rattle.fibs_session.specs.History.Machine.{gained, on_wire, plain_refusal, order_refusal, withdraw_refusal}
 use Rattle.fibs_session.specs.History.Words.{Ask, is_empty, one_if, open_now, answer, sent, took}
 use Rattle.fibs_model.specs.Acts.{Act, Shows, Says, Serves, put_by, sending, acts_of, acts_at_line, acts_on, acts_from}
 use Rattle.fibs_model.specs.declared.refusal.WorldRefusal.TheVariants.{AlreadyOpen, NotOpen}
-use Rattle.fibs_model.specs.Events.{Event, Open, Click, Plain, Deliver, Lose, Serve, Own, Repeat, Text}
+use Rattle.fibs_model.specs.Events.{Event, Open, Click, Plain, Deliver, Lose, Serve, Own, Repeat, Text, Order, Withdraw}
 use Rattle.fibs_model.specs.Headline.{NoneUndone}
 use Rattle.fibs_model.specs.Joint.{Carried, Steady, served_by, served_at, decisions_of, at_most_one, Left, LastUnserved}
 use Rattle.fibs_model.specs.Joint as S
@@ -32,6 +33,7 @@ use Rattle.fibs_model.proofs.log.Past.{open_append}
 use Rattle.fibs_model.proofs.joint.Acting.{Kept, only, only_none, kept_is, kept_quiet, kept_alike, kept_sends}
 use Rattle.fibs_model.proofs.joint.Acting.{kept_serves, kept_login}
 use Rattle.fibs_model.proofs.joint.Carrying.{alike_linked, alike_asks, alike_hears_all, alike_clicks, alike_plain}
+use Rattle.fibs_model.proofs.joint.Carrying.{alike_unless}
 use Rattle.fibs_model.proofs.joint.Carrying.{carried_is, carried_delivered, carried_lost, carried_none}
 use Rattle.fibs_model.proofs.joint.EachEvent.{served, joint_after, joint_start, not_refused, is_open}
 use Rattle.fibs_model.proofs.joint.Joint.{Joint, linked_same, linked_other}
@@ -230,6 +232,12 @@ kept_after acts login w Repeat j h k =
     (steady_shows w.board (acts w.logged_in) k.now) k
 kept_after acts login w (Text t) j h k =
     kept_sends acts w w.board (Says t) t refl k.now (steady_says w.board t (acts w.logged_in) k.now) k
+kept_after acts login w Order j h k =
+    kept_no_acts acts w _
+    (kept_alike acts w _ (alike_unless w (L.Ordered (open_now w.log)) (order_refusal w.log) refl) k)
+kept_after acts login w Withdraw j h k =
+    kept_no_acts acts w _
+    (kept_alike acts w _ (alike_unless w (L.Withdrawn (open_now w.log)) (withdraw_refusal w.log) refl) k)
 
 -- at first nothing was done
 kept_start : (b : Board) → Kept (λ c. []) (start b)

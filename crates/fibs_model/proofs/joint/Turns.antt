@@ -1,6 +1,6 @@
 -- The joint statement is kept where a connection is opened, lost or logged in, and where the server serves.
 use Rattle.std.proofs.Common.{◌≡◌, ℕ, ◌+◌, ◌<◌, ◌≤◌, Bool, true, false, not, ◌&&◌, List, [], ◌∷◌, ◌++◌, Option, Some}
-use Rattle.std.proofs.Common.{None, nat_eq, flat_map, take, refl, sym, ◌∙◌, ap, subst, inl, inr, ◌⊎◌, append-nil}
+use Rattle.std.proofs.Common.{None, nat_eq, flat_map, refl, sym, ◌∙◌, ap, subst, inl, inr, ◌⊎◌, append-nil}
 use Rattle.std.proofs.Common.{true≢false, arith}
 use Rattle.std.proofs.lemmas.Bool.Decides.{eqb_tells, nat_tests}
 use Rattle.std.proofs.lemmas.Bool.{eqb-true}
@@ -11,7 +11,6 @@ use Rattle.fibs_session.specs.History.Words.{Ask, is_empty, last, each, open_now
 use Rattle.fibs_session.specs.History.Words.{is_spent}
 use Rattle.fibs_model.specs.Wires.{next_line, Link, more_asked, taken, cut_off}
 use Rattle.fibs_model.specs.Server.{is_die, Stale, LoggedIn as LoggedInNow, decision_in, command}
-use Rattle.fibs_position.specs.DecisionValue.{DecisionValue as Decision}
 use Rattle.fibs_model.specs.World.{World, noted, linked, asks, sends, is_talking, does_served}
 use Rattle.fibs_model.proofs.Answering.{takes_line, obeys, carries_out}
 use Rattle.fibs_model.proofs.Lawful.{Lawful, IsQuiet}
@@ -29,7 +28,7 @@ use Rattle.fibs_model.proofs.joint.Joint.{Joint, same_view, linked_same, linked_
 use Rattle.fibs_model.proofs.joint.Joint.{joint_current}
 use Rattle.fibs_model.proofs.joint.Sending.{joint_board, same_test, if_fact, relink, not_left, with_line}
 use Rattle.fibs_boards.specs.Board.{spelling}
-use Rattle.fibs_session.specs.History.Machine.{allows}
+use Rattle.fibs_session.specs.History.Allows.{allows}
 use Rattle.fibs_position.specs.GamePart.{same_game}
 use Rattle.fibs_position.specs.GoodBoard.{good as is_good}
 

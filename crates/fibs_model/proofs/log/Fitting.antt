@@ -1,16 +1,16 @@
 -- What holds of each entry of a log, behind the entries before it.
-use Rattle.std.proofs.Common.{◌≡◌, ℕ, List, [], ◌∷◌, ◌++◌, Some, sym, subst, append-nil, append_assoc}
-use Rattle.fibs_boards.specs.Board.{BoardFields as Board}
-use Rattle.fibs_position.specs.DecisionValue.{DecisionValue as Decision}
+use Rattle.std.proofs.Common.{◌≡◌, List, [], ◌∷◌, ◌++◌, Some, sym, subst, append-nil, append_assoc}
 use Rattle.fibs_position.specs.GamePart.{same_game}
-use Rattle.fibs_session.specs.declared.refusal.Refusal.{Refusal}
-use Rattle.fibs_session.specs.History.Log.{Entry, Clicked, Sent}
-use Rattle.fibs_session.specs.History.Machine.{allows}
+use Rattle.fibs_session.specs.History.Log.{Entry, Shown, Clicked, Sent}
+use Rattle.fibs_session.specs.History.Allows.{allows}
 use Rattle.fibs_session.specs.History.Words.{last, open_now, shown, answer}
 use Rattle.fibs_model.specs.Headline.{AllAnswered, AllOnShown}
+use Rattle.fibs_model.proofs.log.Called.{AllShownHere}
 
--- a click is of the open connection and carries the answer; a decision is sent on the board shown last
+-- a board is shown on the open connection; a click is of it and carries the answer; a decision is sent on the board
+-- shown last
 abbrev pub Fits : List Entry → Entry → Type 0
+Fits before (Shown c b) = c ≡ open_now before
 Fits before (Clicked c d a) = (c ≡ open_now before) × (a ≡ answer same_game allows before d)
 Fits before (Sent c b d) = last (shown c before) ≡ Some b
 Fits before e = Unit {0}
@@ -41,6 +41,10 @@ fit_at log before later e h is = go [] before (subst (AllFit []) is h)
 -- each click is answered
 pub answered : (log : List Entry) → AllFit [] log → AllAnswered log
 answered log h before later c d a is = fit_at log before later (Clicked c d a) h is
+
+-- each board is shown on the open connection
+pub shown_here : (log : List Entry) → AllFit [] log → AllShownHere log
+shown_here log h before later c b is = fit_at log before later (Shown c b) h is
 
 -- each decision is on the board shown last
 pub on_shown : (log : List Entry) → AllFit [] log → AllOnShown log

@@ -1,24 +1,26 @@
 -- What the log keeps as it grows.
 use Rattle.std.proofs.Common.{◌≡◌, ℕ, ◌+◌, ◌<◌, ◌≤◌, Bool, true, false, List, [], ◌∷◌, ◌++◌, Some, None, nat_eq, length}
-use Rattle.std.proofs.Common.{get_or, slice_index, refl, sym, ◌∙◌, zero, suc, ap, subst, inl, inr, append-nil}
-use Rattle.std.proofs.Common.{append_assoc, arith, if◌then◌else◌, length-append}
+use Rattle.std.proofs.Common.{get_or, slice_index, refl, sym, ◌∙◌, zero, suc, ap, subst, inl, inr}
+use Rattle.std.proofs.Common.{arith, if◌then◌else◌, length-append}
 use Rattle.std.proofs.Math.ListN.{get_or-append}
 use Rattle.std.proofs.Math.Seq.{get_or-append_seam}
 use Rattle.std.proofs.lemmas.Bool.Decides.{eqb_tells}
 use Rattle.std.proofs.lemmas.Bool.{cases_lt}
 use Rattle.fibs_boards.specs.Board.{BoardFields as Board}
-use Rattle.fibs_position.specs.DecisionValue.{DecisionValue as Decision}
+use Rattle.fibs_position.specs.DecisionValue.{DecisionValue as Decision, roll}
 use Rattle.fibs_session.specs.declared.refusal.Refusal.{Refusal}
 use Rattle.fibs_session.specs.History.Log.{Entry}
 use Rattle.fibs_session.specs.History.Log.{Opened, LoggedIn, Welcomed, Informed, Shown, Clicked, Sent, Took, Undone}
-use Rattle.fibs_session.specs.History.Log.{Lost}
+use Rattle.fibs_session.specs.History.Log.{Lost, Ordered, Withdrawn}
+use Rattle.fibs_session.specs.History.Orders.{is_due}
 use Rattle.fibs_session.specs.History.Words.{Ask, one_if, last, shown, shown_by, open_now, sent, took, sent_by, took_by}
 use Rattle.fibs_session.specs.History.Words.{answer}
 use Rattle.fibs_model.specs.Headline.{NoneUndone, InOrder, places, is_sent, is_took}
-use Rattle.fibs_model.proofs.log.Called.{Called, called_append}
+use Rattle.fibs_model.proofs.log.Called.{roll_if, Called, called_append}
 use Rattle.fibs_model.proofs.log.Fitting.{AllFit, fit_append}
-use Rattle.fibs_model.proofs.log.Lists.{same_number, other_number, map_no_more, map_more, one_of_true, one_of_false}
-use Rattle.fibs_session.specs.History.Machine.{allows}
+use Rattle.fibs_model.proofs.log.Lists.{last_snoc, same_number, other_number, map_no_more, map_more, one_of_true}
+use Rattle.fibs_model.proofs.log.Lists.{one_of_false}
+use Rattle.fibs_session.specs.History.Allows.{allows}
 use Rattle.fibs_position.specs.GamePart.{same_game}
 use Rattle.fibs_position.specs.GoodBoard.{good as is_good}
 
@@ -178,14 +180,20 @@ order_took c xs b d o lt i h =
         subst (λ k. get_or (places (is_took c) 0 (xs ++ Took c b d ∷ [])) k 0 ≡ 0 + length xs) ie at in
         (omega arith, omega arith)
 
--- entries that are neither a click, a Sent, a Took nor an Undone; a board shown is good
+-- entries that are neither a board, a click, a Sent, a Took nor an Undone
 abbrev pub IsPlain : Entry → Type 0
+IsPlain (Shown c b) = ⊥
 IsPlain (Clicked c d a) = ⊥
 IsPlain (Sent c b d) = ⊥
 IsPlain (Took c b d) = ⊥
 IsPlain (Undone c b d) = ⊥
-IsPlain (Shown c b) = is_good b ≡ true
 IsPlain e = Unit {0}
+
+-- one more board is shown
+shown_one : (log : List Entry) (c : ℕ) (b : Board) → shown c (log ++ Shown c b ∷ []) ≡ shown c log ++ b ∷ []
+shown_one log c b =
+    map_more (shown_by c) log (Shown c b ∷ []) (b ∷ [])
+    (ap (λ l. l ++ []) (one_of_true (nat_eq c c) b (same_number c)))
 
 -- a good board, or none
 one_good : (b : Board) (z : Bool) → is_good b ≡ true → AllGood (one_if z b ++ [])
@@ -200,8 +208,10 @@ plain_told log (Opened c) h = ((refl, refl), tt, (tt, tt), λ c. (refl, refl, tt
 plain_told log (LoggedIn c) h = ((refl, refl), tt, (tt, tt), λ c. (refl, refl, tt))
 plain_told log (Welcomed c) h = ((refl, refl), tt, (tt, tt), λ c. (refl, refl, tt))
 plain_told log (Informed c f) h = ((refl, refl), tt, (tt, tt), λ c. (refl, refl, tt))
-plain_told log (Shown d b) h = ((refl, refl), tt, (tt, tt), λ c. (refl, refl, one_good b (nat_eq d c) h))
 plain_told log (Lost c u) h = ((refl, refl), tt, (tt, tt), λ c. (refl, refl, tt))
+plain_told log (Ordered c) h = ((refl, refl), tt, (tt, tt), λ c. (refl, refl, tt))
+plain_told log (Withdrawn c) h = ((refl, refl), tt, (tt, tt), λ c. (refl, refl, tt))
+plain_told log (Shown c b) h = absurd h
 plain_told log (Clicked c d a) h = absurd h
 plain_told log (Sent c b d) h = absurd h
 plain_told log (Took c b d) h = absurd h
@@ -230,6 +240,26 @@ told_plain log e h t =
     let q = plain_told log e h in
     grown log (e ∷ []) t q.0 q.1 q.2 (λ c. (q.3 c).2) (λ c. subst (AllAllowed) (sym (q.3 c).0) tt)
     (λ c. order_more c log (e ∷ []) (t.order c) (q.3 c).1)
+
+-- a good board is shown at which no standing order is due
+pub told_shown : (log : List Entry) (c : ℕ) (b : Board) → is_good b ≡ true → c ≡ open_now log
+    → is_due c (log ++ Shown c b ∷ []) b ≡ false → Told log → Told (log ++ Shown c b ∷ [])
+told_shown log c b good here due t =
+    grown log _ t (refl, ap (roll_if c) due) tt (here, tt)
+    (λ e. one_good b (nat_eq c e) good) (λ e. tt) (λ e. order_more e log _ (t.order e) refl)
+
+-- a good board is shown at which one is due, with the roll that is sent
+pub told_rolled : (log : List Entry) (c : ℕ) (b : Board) → is_good b ≡ true → c ≡ open_now log
+    → is_due c (log ++ Shown c b ∷ []) b ≡ true → allows b roll ≡ None → Told log
+    → Told (log ++ Shown c b ∷ Sent c b roll ∷ [])
+told_rolled log c b good here due allowed t =
+    grown log _ t (refl, (ap (roll_if c) (sym due), refl)) tt
+    (here, (ap last (shown_one log c b) ∙ last_snoc (shown c log) b, tt))
+    (λ e. one_good b (nat_eq c e) good) (λ e. one (nat_eq c e)) (λ e. order_more e log _ (t.order e) refl)
+  where
+    one : (z : Bool) → AllAllowed (one_if z (b, roll) ++ [])
+    one true = (good, allowed, tt)
+    one false = tt
 
 -- a click is noted that is refused
 pub told_no : (log : List Entry) (d : Decision) (x : Refusal) → answer same_game allows log d ≡ Some x → Told log

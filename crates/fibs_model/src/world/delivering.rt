@@ -1,14 +1,12 @@
 //! Bytes go to the client.
 
-ghost use Rattle.std.specs.Prelude.{◌≡◌, ◌≤◌, ◌<◌, ◌+◌, ◌++◌, count_by, length, map, take, drop};
-ghost use Rattle.std.specs.Prelude.{vec_len, vec_capacity, OnOk, OnErr};
+ghost use Rattle.std.specs.Prelude.{◌≡◌, ◌≤◌, ◌<◌, ◌+◌, ◌*◌, ◌++◌, count_by, length, map, take, drop};
+ghost use Rattle.std.specs.Prelude.{vec_len, vec_capacity, if◌then◌else◌, IfSome, OnOk, OnErr};
 ghost use Rattle.fibs_lines.specs.Lines.{is_line_end};
-ghost use Rattle.fibs_session.specs.History.Machine.{Talk};
-ghost use Rattle.fibs_session.specs.History.Owing.{owed};
 ghost use Rattle.fibs_model.specs.EntryOf.{entry_of};
 ghost use Rattle.fibs_model.specs.Events as E;
-ghost use Rattle.fibs_model.specs.HearingOf.{HearsPiece, HearsNext, IsTalking};
-ghost use Rattle.fibs_model.specs.LinksOf.{seen, link_at, RoomToServer};
+ghost use Rattle.fibs_model.specs.HearingOf.{HearsPiece, HearsNext, RoomForPiece, RoomForNext};
+ghost use Rattle.fibs_model.specs.LinksOf.{seen, link_at};
 ghost use Rattle.fibs_model.specs.WorldOf.{May, Goes};
 
 use super::World;
@@ -20,8 +18,36 @@ use crate::wire::line_ends;
 use fibs_session::Client;
 use std::alloc::AllocError;
 
-/// The most bytes of commands that the lines of a connection make the client hand out.
+/// The most bytes of commands that the lines of a connection make the client hand out where no standing order is given.
 const OWED: usize = 62;
+
+/// The bytes of `roll` with its line end.
+const ROLL: usize = 6;
+
+/// What lines may add at the most: entries to the log, and bytes of commands to the wire.
+#[derive(Clone, Copy)]
+struct Growth {
+    entries: usize,
+    bytes: usize,
+}
+
+/// What so many lines may add; where a standing order is given it may roll at each of them. None where that is more
+/// than can be counted.
+fn most_added(lines: usize, ordered: bool) -> Option<Growth>
+    ensures entries { IfSome result (λ most. most.entries ≡ (if ordered then 2 * lines else lines)) }
+    ensures bytes { IfSome result (λ most. most.bytes ≡ 62 + (if ordered then 6 * lines else 0)) }
+{
+    if !ordered {
+        return Some(Growth {
+            entries: lines,
+            bytes: OWED,
+        });
+    }
+    Some(Growth {
+        entries: lines.checked_mul(2)?,
+        bytes: lines.checked_mul(ROLL)?.checked_add(OWED)?,
+    })
+}
 
 /// How many line ends there are among the next bytes to the client of a connection.
 fn ends_ahead(links: &[Link], conn: usize, n: usize) -> usize
@@ -35,8 +61,8 @@ fn ends_ahead(links: &[Link], conn: usize, n: usize) -> usize
 /// The next bytes go to the client, which has room for all that they add.
 fn hear_link(client: &mut Client, conn: usize, link: &mut Link, n: usize, log: &mut Vec<Entry>)
     requires some { 0 < conn }
-    requires entries { vec_len log.old + count_by is_line_end (take n link.old.to_client.items) ≤ vec_capacity log.old }
-    requires bytes { (t : Talk) × IsTalking client.old conn t × (owed t ≤ link.old.to_server.room) }
+    requires room { RoomForPiece client.old conn (take n link.old.to_client.items) (vec_len log.old)
+        (vec_capacity log.old) link.old.to_server.room }
     ensures hears { HearsPiece client.old client.new conn (take n link.old.to_client.items)
         (map entry_of log.old.items) (map entry_of log.new.items) link.old.to_server.items link.new.to_server.items }
     ensures left { link.new.to_client.items
@@ -59,10 +85,7 @@ fn hear_next(
 )
     requires some { 0 < conn }
     requires known { conn ≤ vec_len links.old }
-    requires entries { vec_len log.old
-        + count_by is_line_end (take n (link_at (seen links.old.items) conn).coming) ≤ vec_capacity log.old }
-    requires room { RoomToServer links.old.items conn 62 }
-    requires talks { (t : Talk) × IsTalking client.old conn t }
+    requires room { RoomForNext client.old conn n links.old.items (vec_len log.old) (vec_capacity log.old) }
     ensures hears { HearsNext client.old client.new conn n (seen links.old.items) (seen links.new.items)
         (map entry_of log.old.items) (map entry_of log.new.items) }
     ensures len { vec_len links.new ≡ vec_len links.old }
@@ -78,9 +101,10 @@ impl World {
         ensures err { OnErr result (self.new ≡ self.old) }
     {
         fibs_session::client::laws::servers_entries_are_silent();
-        make_room(&mut self.links, self.current, 0, OWED)?;
         let ends = ends_ahead(&self.links, self.current, n);
-        self.log.reserve(ends)?;
+        let most = most_added(ends, self.client.ordered()).ok_or(AllocError)?;
+        make_room(&mut self.links, self.current, 0, most.bytes)?;
+        self.log.reserve(most.entries)?;
         hear_next(
             &mut self.client,
             &mut self.links,

@@ -1,28 +1,45 @@
 //! The client hears bytes, with room for all that they add.
 
-ghost use Rattle.std.specs.Prelude.{◌≡◌, ◌≤◌, ◌<◌, ◌+◌, ◌++◌, length, count_by, map, take, drop, vec_len};
+ghost use Rattle.std.specs.Prelude.{◌≡◌, ◌≤◌, ◌<◌, ◌+◌, ◌++◌, List, length, map, take, drop, vec_len};
 ghost use Rattle.std.specs.Prelude.{vec_capacity};
-ghost use Rattle.fibs_lines.specs.Lines.{is_line_end};
+ghost use Rattle.fibs_messages.specs.Line.{reading_of};
 ghost use Rattle.fibs_session.specs.Calls.SessionOf.{texts_of};
-ghost use Rattle.fibs_session.specs.Calls.Standing.{StandsAfter};
-ghost use Rattle.fibs_session.specs.History.Machine.{Talk, Piece, step, wire_of};
-ghost use Rattle.fibs_session.specs.History.Owing.{owed};
+ghost use Rattle.fibs_session.specs.History.Hearing.{heard};
+ghost use Rattle.fibs_session.specs.History.Log as L;
+ghost use Rattle.fibs_session.specs.History.Machine.{wire_of};
 ghost use Rattle.fibs_model.specs.EntryOf.{entry_of, entries_of};
-ghost use Rattle.fibs_model.specs.HearingOf.{HearsPiece, IsTalking};
+ghost use Rattle.fibs_model.specs.HearingOf.{HearsPiece, RoomForLine, RoomForPiece};
 
 use crate::entry::Entry;
 use crate::wire::Wire;
+use fibs_messages::Reading;
 use fibs_session::{Client, CommandText};
 
 /// Notes an entry, if there is one.
 pub(super) fn note(log: &mut Vec<Entry>, entry: Option<Entry>)
-    requires room { vec_len log.old + 1 ≤ vec_capacity log.old }
+    requires room { vec_len log.old + length (entries_of entry) ≤ vec_capacity log.old }
     ensures items { map entry_of log.new.items ≡ map entry_of log.old.items ++ entries_of entry }
-    ensures len { vec_len log.new ≤ vec_len log.old + 1 }
+    ensures len { vec_len log.new ≡ vec_len log.old + length (entries_of entry) }
     ensures capacity { vec_capacity log.old ≤ vec_capacity log.new }
 {
     if let Some(entry) = entry {
         log.push_reserved(entry);
+    }
+}
+
+/// Notes what a line gives that the client heard: its entry, and the roll of a standing order that rolled at it.
+fn note_line(log: &mut Vec<Entry>, conn: usize, reading: &Reading<'_>, rolled: bool)
+    requires room { RoomForLine conn (reading_of reading.now) rolled (vec_len log.old) (vec_capacity log.old) }
+    ensures items { (before : List L.Entry) → (heard conn before (reading_of reading.now)).rolled ≡ rolled →
+        map entry_of log.new.items
+        ≡ map entry_of log.old.items ++ (heard conn before (reading_of reading.now)).entries }
+    ensures len { (before : List L.Entry) → (heard conn before (reading_of reading.now)).rolled ≡ rolled →
+        vec_len log.new ≡ vec_len log.old + length (heard conn before (reading_of reading.now)).entries }
+    ensures capacity { vec_capacity log.old ≤ vec_capacity log.new }
+{
+    note(log, Entry::of_reading(conn, reading));
+    if rolled {
+        note(log, Entry::of_roll(conn, reading));
     }
 }
 
@@ -46,22 +63,21 @@ fn hear_line(
     wire: &mut Wire,
 ) -> usize
     requires some { 0 < conn }
-    requires entries { vec_len log.old + count_by is_line_end piece.now ≤ vec_capacity log.old }
-    requires bytes { (t : Talk) × IsTalking client.old conn t × (owed t ≤ wire.old.room) }
+    requires room { RoomForPiece client.old conn piece.now (vec_len log.old) (vec_capacity log.old) wire.old.room }
     ensures in_range { result ≤ length piece.now }
     ensures progress { 0 < length piece.now → 0 < result }
     ensures hears { HearsPiece client.old client.new conn (take result piece.now)
         (map entry_of log.old.items) (map entry_of log.new.items) wire.old.items wire.new.items }
-    ensures entries { vec_len log.new + count_by is_line_end (drop result piece.now) ≤ vec_capacity log.new }
-    ensures bytes { (t : Talk) → IsTalking client.old conn t → owed t ≤ wire.old.room →
-        owed (step t (Piece (take result piece.now))).talk ≤ wire.new.room }
+    ensures room { RoomForPiece client.new conn (drop result piece.now) (vec_len log.new) (vec_capacity log.new)
+        wire.new.room }
 {
     fibs_lines::laws::lines_are_at_most_the_line_ends();
     fibs_session::client::laws::pieces_take_from_what_is_owed();
+    fibs_session::client::laws::pieces_take_from_the_entries_owed();
     let heard = client.read(piece);
     let got = client.got(heard);
     if let Some(taken) = &got.taken {
-        note(log, Entry::of_reading(conn, &taken.reading));
+        note_line(log, conn, &taken.reading, taken.rolled);
         put_all(wire, taken.send.as_slice());
     }
     got.used
@@ -76,8 +92,7 @@ pub(super) fn hear_all(
     wire: &mut Wire,
 )
     requires some { 0 < conn }
-    requires entries { vec_len log.old + count_by is_line_end piece.now ≤ vec_capacity log.old }
-    requires bytes { (t : Talk) × IsTalking client.old conn t × (owed t ≤ wire.old.room) }
+    requires room { RoomForPiece client.old conn piece.now (vec_len log.old) (vec_capacity log.old) wire.old.room }
     ensures hears { HearsPiece client.old client.new conn piece.now
         (map entry_of log.old.items) (map entry_of log.new.items) wire.old.items wire.new.items }
 {

@@ -70,7 +70,8 @@ impl World {
                     None
                 }
             }
-            Event::Click(_) | Event::Plain(_) | Event::Repeat => None,
+            Event::Click(_) | Event::Plain(_) | Event::Repeat | Event::Order | Event::Withdraw =>
+                None,
         }
     }
 }

@@ -25,6 +25,8 @@ impl World {
             Event::Own(board) => self.own(board),
             Event::Repeat => self.repeat(),
             Event::Text(line) => self.text(line),
+            Event::Order => self.order(),
+            Event::Withdraw => self.withdraw(),
         }
     }
 }

@@ -2,6 +2,7 @@
 //! which was asked for the events before it alone.
 
 use super::Act::{Click, Deliver, Lose, Open, Own, Repeat, Say, Serve, Text};
+use super::orders::ORDERED;
 use super::{Act, CLICKED_TWICE, INFO, LOST, WELCOME, event, play, world};
 use crate::boards::*;
 use fibs_model::{Event, RunEnd, World, WorldRefusal};
@@ -191,6 +192,16 @@ fn steps_of_cut_connections_under_refused_memory(rt: HostRuntime) -> Result<(), 
 #[test]
 fn steps_with_boards_of_the_server_under_refused_memory(rt: HostRuntime) -> Result<(), Fail> {
     assert_steps(&rt, rt.alloc(), STEPPED, &OWN_BOARDS, false)
+}
+
+#[test]
+fn steps_of_an_order_under_refused_memory(rt: HostRuntime) -> Result<(), Fail> {
+    assert_steps(&rt, rt.alloc(), MUST_ROLL, ORDERED, false)
+}
+
+#[test]
+fn runs_of_an_order_under_refused_memory(rt: HostRuntime) -> Result<(), Fail> {
+    assert_runs(&rt, rt.alloc(), MUST_ROLL, ORDERED, end(14, None), false)
 }
 
 #[test]

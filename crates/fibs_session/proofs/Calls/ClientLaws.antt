@@ -8,11 +8,12 @@ use Rattle.fibs_commands.specs.PlainCommands.{PlainValue}
 use Rattle.fibs_session.specs.declared.refusal.Refusal.{Refusal}
 use Rattle.fibs_session.specs.declared.refusal.Refusal.TheVariants.{AlreadyOpen}
 use Rattle.fibs_session.specs.declared.refusal.PlainRefusal.{PlainRefusal}
-use Rattle.fibs_session.specs.History.Log.{Lost}
+use Rattle.fibs_session.specs.History.Log.{Lost, Entry, Ordered, Withdrawn}
 use Rattle.fibs_session.specs.History.Words.{last, open_now, shown}
 use Rattle.fibs_session.specs.History.Machine.{Talk, InputValue, Open, Lose, Click, PlainInput, step, stays, does}
 use Rattle.fibs_session.specs.History.Machine.{is_online, opened, opens, open_refusal, unconfirmed_now, clicks_by}
-use Rattle.fibs_session.specs.History.Machine.{decides_on, answer_now, sends_plain, plain_refusal}
+use Rattle.fibs_session.specs.History.Machine.{decides_on, answer_now, sends_plain, plain_refusal, Order, Withdraw}
+use Rattle.fibs_session.specs.History.Machine.{order_refusal, withdraw_refusal, notes_if}
 use Rattle.fibs_session.specs.Calls.SessionValue.{SessionValue}
 use Rattle.fibs_session.specs.Calls.Standing.{SessionStandsAfter, ClientValue, StandsAfter}
 use Rattle.fibs_session.specs.Calls.Doing.{SessionDoes, Does}
@@ -69,6 +70,18 @@ plain_keeps p t = go (plain_refusal t p)
     go : (a : Option PlainRefusal) → (sends_plain t p a).talk.stream ≡ t.stream
     go (Some why) = refl
     go None = refl
+
+notes_keep : (t : Talk) (e : Entry) (a : Option Refusal) → (notes_if t e a).talk.stream ≡ t.stream
+notes_keep t e (Some why) = refl
+notes_keep t e None = refl
+
+pub order_keeps : KeepsBytes Order
+unfolding KeepsBytes
+order_keeps t = notes_keep t (Ordered (open_now t.log)) (order_refusal t.log)
+
+pub withdraw_keeps : KeepsBytes Withdraw
+unfolding KeepsBytes
+withdraw_keeps t = notes_keep t (Withdrawn (open_now t.log)) (withdraw_refusal t.log)
 
 pub client_does : (i : InputValue) (old new : ClientValue) (send : List (List ℕ))
     → KeepsBytes i → new.lines ≡ old.lines → SessionDoes old.session new.session i send → Does old new i send

@@ -15,7 +15,7 @@ use Rattle.fibs_session.specs.Calls.Standing.{SessionStandsAfter, ClientValue, S
 use Rattle.fibs_session.specs.Calls.Doing.{Does}
 use Rattle.fibs_session.specs.Calls.Feeding.{in_list, Gains, AnswersLine, ReadsPiece, line_confirms, KeepsLine, Keeps}
 use Rattle.fibs_session.specs.Calls.Feeding.{ShowsLine, Shows, commands_of, confirmed_of_taken, line_of_taken}
-use Rattle.fibs_session.specs.Calls.Feeding.{ReadsItself, FeedAnswers}
+use Rattle.fibs_session.specs.Calls.Feeding.{ReadsItself, FeedAnswers, line_rolls, rolled_of_taken}
 use Rattle.fibs_session.specs.declared.client.heard_line.Answer.{Answer}
 use Rattle.fibs_session.specs.declared.client.heard_line.HeardLine.{HeardLine}
 use Rattle.fibs_session.proofs.Calls.SessionLaws.{online_is}
@@ -25,6 +25,11 @@ use Rattle.fibs_session.proofs.Calls.ClientLaws.{session_at, lines_at, both_at}
 abbrev answer_confirmed : Option Answer → Option Ask
 answer_confirmed None = None
 answer_confirmed (Some a) = option_map ask_of a.confirmed
+
+-- whether a standing order rolled
+abbrev answer_rolled : Option Answer → Bool
+answer_rolled None = false
+answer_rolled (Some a) = a.rolled
 
 by_cases : {X : Type 0} (b : Bool) → (b ≡ true → X) → (b ≡ false → X) → X
 by_cases true f g = f refl
@@ -45,6 +50,7 @@ bytes_at v t p at = record {
   greedy_gone = at.greedy_gone;
   on_board = at.on_board;
   not_confirmed = at.not_confirmed;
+  has_order = at.has_order;
   numbered = at.numbered;
 }
 
@@ -52,13 +58,20 @@ record Hearing (v' : SessionValue) (t : Talk) (line : Option ReadLine) (a : Opti
   pub stands : SessionStandsAfter v' (hears_all t (in_list line)).talk
   pub hands : answer_commands a ≡ (hears_all t (in_list line)).send
   pub confirms : answer_confirmed a ≡ line_confirms t line
+  pub rolls : answer_rolled a ≡ line_rolls t line
   pub stream : (hears_all t (in_list line)).talk.stream ≡ t.stream
 
 hearing : (v v' : SessionValue) (t : Talk) (line : Option ReadLine) (a : Option Answer)
     → AnswersLine v line a v' → SessionStandsAfter v t → is_online t ≡ true → Hearing v' t line a
 unfolding hears_all
 hearing v v' t None None h at on =
-    record { stands = subst (λ x. SessionStandsAfter x t) (sym h) at; hands = refl; confirms = refl; stream = refl }
+    record {
+      stands = subst (λ x. SessionStandsAfter x t) (sym h) at;
+      hands = refl;
+      confirms = refl;
+      rolls = refl;
+      stream = refl;
+    }
 hearing v v' t None (Some a) h at on = absurd h
 hearing v v' t (Some l) None h at on = absurd h
 hearing v v' t (Some l) (Some a) h at on =
@@ -68,6 +81,7 @@ hearing v v' t (Some l) (Some a) h at on =
       stands = subst (λ x. SessionStandsAfter v' (hears t x).talk) k (h.0.stands t at);
       hands = h.0.hands t at ∙ ap (λ x. x.send) k ∙ sym (append-nil (heard_by t (line_reading l)).send);
       confirms = h.0.confirms t at;
+      rolls = h.0.rolls t at;
       stream = refl;
     }
 
@@ -81,6 +95,11 @@ offline_confirms : (t : Talk) (line : Option ReadLine) → is_online t ≡ false
 offline_confirms t None off = refl
 offline_confirms t (Some l) off =
     sym (ap (λ b. (if b then heard_by t (line_reading l) else nothing_heard).confirmed) off)
+
+offline_rolls : (t : Talk) (line : Option ReadLine) → is_online t ≡ false → false ≡ line_rolls t line
+offline_rolls t None off = refl
+offline_rolls t (Some l) off =
+    sym (ap (λ b. (if b then heard_by t (line_reading l) else nothing_heard).rolled) off)
 
 module _ (old new : ClientValue) (piece : List ℕ) (h : HeardLine) (r : ReadsPiece old new piece h) where
   abbrev p : List ℕ
@@ -138,6 +157,11 @@ module _ (old new : ClientValue) (piece : List ℕ) (h : HeardLine) (r : ReadsPi
       (λ on. (online_hearing t at on).confirms)
       (λ off. ap answer_confirmed (r.offline off).answer ∙ offline_confirms t line (sym (is_on t at) ∙ off))
 
+  rolls : (t : Talk) → StandsAfter old t → answer_rolled h.answer ≡ line_rolls t line
+  rolls t at = by_cases old.session.online
+      (λ on. (online_hearing t at on).rolls)
+      (λ off. ap answer_rolled (r.offline off).answer ∙ offline_rolls t line (sym (is_on t at) ∙ off))
+
   -- what was kept is of the line
   keeps : KeepsLine line h.answer
   keeps = by_cases old.session.online
@@ -157,13 +181,15 @@ module _ (old new : ClientValue) (piece : List ℕ) (h : HeardLine) (r : ReadsPi
 record Same (line : Option ReadLine) (a : Option Answer) (t : Option TakenValue) : Type 0 where
   pub commands : answer_commands a ≡ commands_of t
   pub confirmed : answer_confirmed a ≡ confirmed_of_taken t
+  pub rolled : answer_rolled a ≡ rolled_of_taken t
   pub reading : ReadsItself t
 
 same_shown : (line : Option ReadLine) (a : Option Answer) (t : Option TakenValue) → ShowsLine line a t → Same line a t
-same_shown line None t h = subst (Same line None) (sym h) (record { commands = refl; confirmed = refl; reading = tt })
+same_shown line None t h =
+    subst (Same line None) (sym h) (record { commands = refl; confirmed = refl; rolled = refl; reading = tt })
 same_shown None (Some a) t h = absurd h
 same_shown (Some l) (Some a) t h =
-    subst (Same (Some l) (Some a)) (sym h) (record { commands = refl; confirmed = refl; reading = refl })
+    subst (Same (Some l) (Some a)) (sym h) (record { commands = refl; confirmed = refl; rolled = refl; reading = refl })
 
 same_line : (v v' : SessionValue) (line : Option ReadLine) (a : Option Answer) (t : Option TakenValue)
     → AnswersLine v line a v' → ShowsLine line a t → line ≡ line_of_taken t
@@ -201,6 +227,8 @@ module _ (old new : ClientValue) (piece : List ℕ) (h : HeardLine) (r : ReadsPi
     reading = s.reading;
     confirms = λ x at on. sym s.confirmed
         ∙ confirms old new piece h r x at ∙ ap (line_confirms x) (online_line (is_on old new piece h r x at ∙ on));
+    rolls = λ x at on. sym s.rolled
+        ∙ rolls old new piece h r x at ∙ ap (line_rolls x) (online_line (is_on old new piece h r x at ∙ on));
   }
 
 -- what both halves say together

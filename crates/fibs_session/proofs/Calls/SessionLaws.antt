@@ -14,17 +14,20 @@ use Rattle.fibs_session.specs.History.Hearing.{nothing_heard, line_reading}
 use Rattle.fibs_session.specs.History.Machine.{Talk, Step, Open, Lose, Click, PlainInput, start, stays, does, is_online}
 use Rattle.fibs_session.specs.History.Machine.{opened, opens, open_refusal, loses, unconfirmed_now, clicks, plains}
 use Rattle.fibs_session.specs.History.Machine.{answer_now, plain_refusal, heard_by, line_heard, hears, shown_now}
+use Rattle.fibs_session.specs.History.Machine.{ordered_now, Order, Withdraw, order_refusal, withdraw_refusal, orders_on}
+use Rattle.fibs_session.specs.History.Machine.{withdraws}
 use Rattle.fibs_session.specs.Calls.SessionValue.{SessionValue, IsNoToggle, At}
 use Rattle.fibs_session.specs.Calls.FieldSteps.{fresh, lost, unheard, line_fields, heard_fields, answer_of, with_ask}
 use Rattle.fibs_session.specs.Calls.FieldSteps.{open_fields, open_send, open_refusal_of, lose_fields, decide_fields}
 use Rattle.fibs_session.specs.Calls.FieldSteps.{decide_send, command_for, plain_refusal_of, with_plain, plain_fields}
-use Rattle.fibs_session.specs.Calls.FieldSteps.{plain_send}
+use Rattle.fibs_session.specs.Calls.FieldSteps.{plain_send, order_refusal_of, withdraw_refusal_of, with_order}
 use Rattle.fibs_commands.specs.Logins.{login_text}
 use Rattle.fibs_session.specs.Calls.Standing.{SessionStandsAfter}
 use Rattle.fibs_session.specs.Calls.Doing.{SessionDoes, SessionHears}
-use Rattle.fibs_session.proofs.History.Fields.{at_start, online_law, at_opened, at_lost, heard_law, unheard_law}
-use Rattle.fibs_session.proofs.History.Fields.{HeardIs, answer_law, refused_law, sent_law, plain_law, plain_sent_law}
-use Rattle.fibs_session.proofs.History.Fields.{plain_refused_law}
+use Rattle.fibs_session.proofs.History.Fields.{at_start, online_law, at_opened, at_lost, unheard_law, answer_law}
+use Rattle.fibs_session.proofs.History.Steps.{HeardIs, heard_law, refused_law, sent_law, plain_law, plain_sent_law}
+use Rattle.fibs_session.proofs.History.Steps.{plain_refused_law, ordered_law, order_refusal_law, withdraw_refusal_law}
+use Rattle.fibs_session.proofs.History.Steps.{order_law, withdraw_law}
 
 both : (b : Bool) (v w : SessionValue) (s u : Step)
     → (b ≡ true → At v s.talk) → (b ≡ false → At w u.talk) → At (if b then v else w) (if b then s else u).talk
@@ -135,6 +138,37 @@ plain_does v v' p send e f = record {
     go t at (Some why) h = let r = plain_refused_law v t at p why h in (r.0, sym r.1)
     go t at None h = let r = plain_sent_law v t at p h in (r.0, sym r.1)
 
+-- a standing order
+
+pub order_refuses : (v : SessionValue) (a : Option Refusal)
+    → a ≡ order_refusal_of v → (t : Talk) → SessionStandsAfter v t → a ≡ order_refusal t.log
+unfolding SessionStandsAfter
+order_refuses v a e t at = e ∙ order_refusal_law v t at
+
+pub withdraw_refuses : (v : SessionValue) (a : Option Refusal)
+    → a ≡ withdraw_refusal_of v → (t : Talk) → SessionStandsAfter v t → a ≡ withdraw_refusal t.log
+unfolding SessionStandsAfter
+withdraw_refuses v a e t at = e ∙ withdraw_refusal_law v t at
+
+pub order_does : (v v' : SessionValue) → v' ≡ with_order v true (order_refusal_of v) → SessionDoes v v' Order []
+unfolding SessionStandsAfter
+order_does v v' e = record {
+  stands = λ t at. subst (λ x. At x (orders_on t).talk) (sym e) (order_law v t at).0;
+  hands = λ t at. sym (order_law v t at).1;
+}
+
+pub withdraw_does : (v v' : SessionValue)
+    → v' ≡ with_order v false (withdraw_refusal_of v) → SessionDoes v v' Withdraw []
+unfolding SessionStandsAfter
+withdraw_does v v' e = record {
+  stands = λ t at. subst (λ x. At x (withdraws t).talk) (sym e) (withdraw_law v t at).0;
+  hands = λ t at. sym (withdraw_law v t at).1;
+}
+
+pub ordered_is : (v : SessionValue) (t : Talk) → SessionStandsAfter v t → v.ordered ≡ ordered_now t
+unfolding SessionStandsAfter
+ordered_is v t at = ordered_law v t at
+
 module _ (likeness : IsLikeness same_game) (v : SessionValue) (l : ReadLine) where
   is : (t : Talk) → At v t → HeardIs t (line_fields v (line_reading l)) (line_heard t l)
   is t at =
@@ -145,14 +179,16 @@ module _ (likeness : IsLikeness same_game) (v : SessionValue) (l : ReadLine) whe
       go : (b : Bool) → v.online ≡ b → HeardIs t (if b then heard_fields v (line_reading l) else unheard v)
           (if b then heard_by t (line_reading l) else nothing_heard)
       go true on = heard_law v t at on likeness (line_reading l)
-      go false off = record { after = unheard_law v t at; send = refl; confirmed = refl }
+      go false off = record { after = unheard_law v t at; send = refl; confirmed = refl; rolled = refl }
 
-  pub line_hears : (v' : SessionValue) (send : List (List ℕ)) (confirmed : Option Ask)
+  pub line_hears : (v' : SessionValue) (send : List (List ℕ)) (confirmed : Option Ask) (rolled : Bool)
       → v' ≡ (line_fields v (line_reading l)).session → send ≡ (line_fields v (line_reading l)).send
-      → confirmed ≡ (line_fields v (line_reading l)).confirmed → SessionHears v v' l send confirmed
+      → confirmed ≡ (line_fields v (line_reading l)).confirmed → rolled ≡ (line_fields v (line_reading l)).rolled
+      → SessionHears v v' l send confirmed rolled
   unfolding SessionStandsAfter
-  line_hears v' send confirmed e f g = record {
+  line_hears v' send confirmed rolled e f g h = record {
     stands = λ t at. subst (λ x. At x (hears t (line_heard t l)).talk) (sym e) (is t at).after;
     hands = λ t at. f ∙ (is t at).send;
     confirms = λ t at. g ∙ (is t at).confirmed;
+    rolls = λ t at. h ∙ (is t at).rolled;
   }

@@ -1,40 +1,51 @@
 -- Bytes may come in any pieces.
 use Rattle.std.proofs.Common.{◌≡◌, ℕ, Bool, true, false, not, List, [], ◌∷◌, ◌++◌, length, drop, if◌then◌else◌, nat_eq}
-use Rattle.std.proofs.Common.{refl, sym, ◌∙◌, ap, subst, append_assoc, append-nil}
+use Rattle.std.proofs.Common.{flat_map, refl, sym, ◌∙◌, ap, subst, append_assoc, append-nil}
 use Rattle.std.proofs.Math.Seq.{drop-append_seam, drop-length}
 use Rattle.fibs_lines.specs.Lines.{ReadLine, lines_of}
 use Rattle.fibs_lines.specs.StreamLaws.{LinesOnlyGrow}
 use Rattle.fibs_messages.specs.Line.{ReadingValue, numbered_line, board_line, text_line, malformed_line}
+use Rattle.fibs_boards.specs.Board.{BoardFields}
 use Rattle.fibs_position.specs.GoodBoard.{good}
-use Rattle.fibs_session.specs.History.Log.{Entry}
-use Rattle.fibs_session.specs.History.Words.{open_from, open_now}
-use Rattle.fibs_session.specs.History.Hearing.{Heard, heard, line_reading}
+use Rattle.fibs_session.specs.History.Log.{Entry, Shown}
+use Rattle.fibs_session.specs.History.Words.{open_from, open_now, opened_by}
+use Rattle.fibs_session.specs.History.Orders.{is_due}
+use Rattle.fibs_session.specs.History.Hearing.{Heard, shows_board, line_reading}
 use Rattle.fibs_session.specs.History.Machine.{Talk, Step, InputValue, start, run, step, stays, noted, is_online, reads}
 use Rattle.fibs_session.specs.History.Machine.{hears, hears_all, heard_by, then_also, with_bytes, gained}
 use Rattle.fibs_session.specs.Calls.SessionValue.{At}
 use Rattle.fibs_session.specs.Calls.Standing.{StandsAfter}
 use Rattle.fibs_session.specs.History.MachineLaws.{PiecesJoin, EmptyPieceIsNothing, IsServers, logs_in, takes, undoes}
-use Rattle.fibs_session.specs.History.MachineLaws.{ServersEntriesAreSilent, InputsGoOn}
+use Rattle.fibs_session.specs.History.MachineLaws.{LinesOpenNoConnection, ServersEntriesAreSilent, InputsGoOn}
 use Rattle.fibs_session.proofs.History.Past.{open_append}
 use Rattle.fibs_session.proofs.History.Texts.{no_texts}
 use Rattle.fibs_session.proofs.History.Fields.{at_silent}
 
--- no line opens or loses a connection
+-- no line opens or ends a connection
 
-if_open : (b : Bool) (g h : Heard) (o : ℕ)
-    → open_from o g.entries ≡ o → open_from o h.entries ≡ o → open_from o (if b then g else h).entries ≡ o
-if_open true g h o e f = e
-if_open false g h o e f = f
+abbrev OpensNone : Heard → Type 0
+OpensNone h = (flat_map opened_by h.entries ≡ []) × ((o : ℕ) → open_from o h.entries ≡ o)
 
-heard_open : (c : ℕ) (log : List Entry) (r : ReadingValue) (o : ℕ) → open_from o (heard c log r).entries ≡ o
-heard_open c log (numbered_line m) o =
-    if_open (nat_eq m.number 1) _ _ o refl (if_open (nat_eq m.number 2) _ _ o refl refl)
-heard_open c log (board_line b) o = if_open (good b) _ _ o refl refl
-heard_open c log (text_line text) o = refl
-heard_open c log (malformed_line number k f) o = refl
+if_opens_none : (b : Bool) (g h : Heard) → OpensNone g → OpensNone h → OpensNone (if b then g else h)
+if_opens_none true g h p q = p
+if_opens_none false g h p q = q
+
+shows_opens_none : (c : ℕ) (log : List Entry) (b : BoardFields) (rolls : Bool) → OpensNone (shows_board c log b rolls)
+shows_opens_none c log b true = (refl, λ o. refl)
+shows_opens_none c log b false = (refl, λ o. refl)
+
+pub lines_open_none : LinesOpenNoConnection
+lines_open_none c log (numbered_line m) =
+    if_opens_none (nat_eq m.number 1)
+    _ _ (refl, λ o. refl) (if_opens_none (nat_eq m.number 2) _ _ (refl, λ o. refl) (refl, λ o. refl))
+lines_open_none c log (board_line b) = if_opens_none (good b)
+    _ _ (shows_opens_none c log b (is_due c (log ++ Shown c b ∷ []) b)) (refl, λ o. refl)
+lines_open_none c log (text_line text) = (refl, λ o. refl)
+lines_open_none c log (malformed_line number k f) = (refl, λ o. refl)
 
 pub hears_open : (t : Talk) (r : ReadingValue) → open_now (t.log ++ (heard_by t r).entries) ≡ open_now t.log
-hears_open t r = open_append 0 t.log (heard_by t r).entries ∙ heard_open (open_now t.log) t.log r (open_now t.log)
+hears_open t r =
+    open_append 0 t.log (heard_by t r).entries ∙ (lines_open_none (open_now t.log) t.log r).1 (open_now t.log)
 
 all_open : (t : Talk) (ls : List ReadLine) → open_now (hears_all t ls).talk.log ≡ open_now t.log
 unfolding hears_all
@@ -136,11 +147,11 @@ servers_silent c t e is at = (at.0, go e is)
   where
     go : (e : Entry) → IsServers e → At c.session (noted t (e ∷ []) [])
     go e (logs_in n) = at_silent c.session t at.1 (e ∷ []) [] no_texts refl (open_append 0 t.log (e ∷ []))
-        (λ d. record { no_welcome = refl; no_flags = refl; no_board = refl; no_sent = refl })
+        (λ d. record { no_welcome = refl; no_flags = refl; no_board = refl; no_sent = refl; no_order = refl })
     go e (takes n b d) = at_silent c.session t at.1 (e ∷ []) [] no_texts refl (open_append 0 t.log (e ∷ []))
-        (λ d. record { no_welcome = refl; no_flags = refl; no_board = refl; no_sent = refl })
+        (λ d. record { no_welcome = refl; no_flags = refl; no_board = refl; no_sent = refl; no_order = refl })
     go e (undoes n b d) = at_silent c.session t at.1 (e ∷ []) [] no_texts refl (open_append 0 t.log (e ∷ []))
-        (λ d. record { no_welcome = refl; no_flags = refl; no_board = refl; no_sent = refl })
+        (λ d. record { no_welcome = refl; no_flags = refl; no_board = refl; no_sent = refl; no_order = refl })
 
 -- lists of inputs
 

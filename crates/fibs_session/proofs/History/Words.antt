@@ -7,10 +7,10 @@ use Rattle.fibs_position.specs.DecisionValue.{DecisionValue as Decision}
 use Rattle.fibs_position.specs.GamePart.{same_game}
 use Rattle.fibs_session.specs.declared.refusal.Refusal.{Refusal}
 use Rattle.fibs_session.specs.declared.refusal.Refusal.TheVariants.{Offline, NotReady, ServerPlays}
-use Rattle.fibs_session.specs.History.Log.{Entry, Flags, Opened, Welcomed, Informed, Shown, Clicked, Sent}
+use Rattle.fibs_session.specs.History.Log.{Entry, Flags, Opened, Welcomed, Informed, Shown, Sent, Ordered, Withdrawn}
 use Rattle.fibs_session.specs.History.Words.{one_if, is_empty, last, open_now, opened_by, connections, shown, sent}
-use Rattle.fibs_session.specs.History.Words.{welcomed, informed, welcomed_by, informed_by, shown_by, sent_by, is_spent}
-use Rattle.fibs_session.specs.History.Words.{unconfirmed, answer, if_board, plays_itself}
+use Rattle.fibs_session.specs.History.Words.{welcomed, informed, welcomed_by, informed_by, shown_by, sent_by, orders_by}
+use Rattle.fibs_session.specs.History.Words.{is_spent, unconfirmed, answer, if_board, plays_itself}
 use Rattle.fibs_session.specs.Calls.SessionValue.{Quiet, Numbered}
 use Rattle.fibs_session.proofs.History.Lists.{other_number, one_of_true, one_of_false, same_number, map_more}
 use Rattle.fibs_session.proofs.History.Lists.{map_no_more}
@@ -25,16 +25,28 @@ own c x = ap (λ l. l ++ []) (one_of_true (nat_eq c c) x (same_number c))
 -- entries of a connection are quiet on all others
 
 pub quiet_welcomed : (c d : ℕ) → (c ≡ d → ⊥) → Quiet d (Welcomed c ∷ [])
-quiet_welcomed c d h = record { no_welcome = other c d c h; no_flags = refl; no_board = refl; no_sent = refl }
+quiet_welcomed c d h =
+    record { no_welcome = other c d c h; no_flags = refl; no_board = refl; no_sent = refl; no_order = refl }
 
 pub quiet_informed : (c d : ℕ) (f : Flags) → (c ≡ d → ⊥) → Quiet d (Informed c f ∷ [])
-quiet_informed c d f h = record { no_welcome = refl; no_flags = other c d f h; no_board = refl; no_sent = refl }
+quiet_informed c d f h =
+    record { no_welcome = refl; no_flags = other c d f h; no_board = refl; no_sent = refl; no_order = refl }
 
 pub quiet_shown : (c d : ℕ) (b : Board) → (c ≡ d → ⊥) → Quiet d (Shown c b ∷ [])
-quiet_shown c d b h = record { no_welcome = refl; no_flags = refl; no_board = other c d b h; no_sent = refl }
+quiet_shown c d b h =
+    record { no_welcome = refl; no_flags = refl; no_board = other c d b h; no_sent = refl; no_order = refl }
 
-pub quiet_sent : (c d : ℕ) (b : Board) (m : Decision) → (c ≡ d → ⊥) → Quiet d (Clicked c m None ∷ Sent c b m ∷ [])
-quiet_sent c d b m h = record { no_welcome = refl; no_flags = refl; no_board = refl; no_sent = other c d (b, m) h }
+pub quiet_sent : (c d : ℕ) (b : Board) (m : Decision) → (c ≡ d → ⊥) → Quiet d (Sent c b m ∷ [])
+quiet_sent c d b m h =
+    record { no_welcome = refl; no_flags = refl; no_board = refl; no_sent = other c d (b, m) h; no_order = refl }
+
+pub quiet_ordered : (c d : ℕ) → (c ≡ d → ⊥) → Quiet d (Ordered c ∷ [])
+quiet_ordered c d h =
+    record { no_welcome = refl; no_flags = refl; no_board = refl; no_sent = refl; no_order = other c d true h }
+
+pub quiet_withdrawn : (c d : ℕ) → (c ≡ d → ⊥) → Quiet d (Withdrawn c ∷ [])
+quiet_withdrawn c d h =
+    record { no_welcome = refl; no_flags = refl; no_board = refl; no_sent = refl; no_order = other c d false h }
 
 pub quiet_both : (c : ℕ) (xs ys : List Entry) → Quiet c xs → Quiet c ys → Quiet c (xs ++ ys)
 quiet_both c xs ys h k = record {
@@ -42,6 +54,7 @@ quiet_both c xs ys h k = record {
   no_flags = map_no_more (informed_by c) xs ys k.no_flags ∙ h.no_flags;
   no_board = map_no_more (shown_by c) xs ys k.no_board ∙ h.no_board;
   no_sent = map_no_more (sent_by c) xs ys k.no_sent ∙ h.no_sent;
+  no_order = map_no_more (orders_by c) xs ys k.no_order ∙ h.no_order;
 }
 
 -- the numbers stay in order
@@ -80,7 +93,7 @@ numbered_opened log n =
     let k = connections log in
     let es : List Entry = Opened (suc k) ∷ [] in
     let quiet : (d : ℕ) → Quiet d es =
-    λ d. record { no_welcome = refl; no_flags = refl; no_board = refl; no_sent = refl } in
+    λ d. record { no_welcome = refl; no_flags = refl; no_board = refl; no_sent = refl; no_order = refl } in
     let more : connections (log ++ es) ≡ suc k =
     ap length (map_more opened_by log es (suc k ∷ []) refl) ∙ snoc_length (flat_map opened_by log) (suc k) in
     let here : open_now (log ++ es) ≡ suc k = open_append 0 log es in

@@ -1,5 +1,5 @@
 -- What a call does: an input of the machine.
-use Rattle.std.specs.Prelude.{◌≡◌, ℕ, List, Option}
+use Rattle.std.specs.Prelude.{◌≡◌, ℕ, Bool, List, Option}
 use Rattle.fibs_lines.specs.Lines.{ReadLine}
 use Rattle.fibs_session.specs.History.Words.{Ask}
 use Rattle.fibs_session.specs.History.Machine.{Talk, InputValue, step, line_heard, hears}
@@ -14,10 +14,11 @@ pub record SessionDoes (old new : SessionValue) (i : InputValue) (send : List (L
 
 -- the same of a whole line
 pub record SessionHears (old new : SessionValue) (l : ReadLine) (send : List (List ℕ)) (confirmed : Option Ask)
-    : Type 0 where
+    (rolled : Bool) : Type 0 where
   pub stands : (t : Talk) → SessionStandsAfter old t → SessionStandsAfter new (hears t (line_heard t l)).talk
   pub hands : (t : Talk) → SessionStandsAfter old t → send ≡ (line_heard t l).send
   pub confirms : (t : Talk) → SessionStandsAfter old t → confirmed ≡ (line_heard t l).confirmed
+  pub rolls : (t : Talk) → SessionStandsAfter old t → rolled ≡ (line_heard t l).rolled
 
 -- the same of a client
 pub record Does (old new : ClientValue) (i : InputValue) (send : List (List ℕ)) : Type 0 where

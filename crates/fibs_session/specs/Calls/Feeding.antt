@@ -1,5 +1,5 @@
 -- What the two halves of `feed` do.
-use Rattle.std.specs.Prelude.{◌≡◌, ℕ, ◌<◌, true, false, List, [], ◌∷◌, ◌++◌, length, take, Option, None, Some}
+use Rattle.std.specs.Prelude.{◌≡◌, ℕ, ◌<◌, Bool, true, false, List, [], ◌∷◌, ◌++◌, length, take, Option, None, Some}
 use Rattle.std.specs.Prelude.{option_map, IsNone}
 use Rattle.fibs_lines.specs.Lines.{ReadLine, lines_of}
 use Rattle.fibs_lines.specs.LinesValue.{StandsAfter as LinesStandAfter}
@@ -31,7 +31,7 @@ AnswersLine v None None v' = v' ≡ v
 AnswersLine v None (Some a) v' = ⊥
 AnswersLine v (Some line) None v' = ⊥
 AnswersLine v (Some line) (Some a) v' =
-    SessionHears v v' line (texts_of a.send.items) (option_map ask_of a.confirmed)
+    SessionHears v v' line (texts_of a.send.items) (option_map ask_of a.confirmed) a.rolled
     × (lent_reading a.reading line ≡ line_reading line)
 
 -- by lines and session, while a connection is open
@@ -56,6 +56,11 @@ abbrev pub line_confirms : Talk → Option ReadLine → Option Ask
 line_confirms t None = None
 line_confirms t (Some l) = (line_heard t l).confirmed
 
+-- whether a standing order rolls at the line
+abbrev pub line_rolls : Talk → Option ReadLine → Bool
+line_rolls t None = false
+line_rolls t (Some l) = (line_heard t l).rolled
+
 -- the reading is of the line
 abbrev pub KeepsLine : Option ReadLine → Option Answer → Type 0
 KeepsLine line None = Unit {0}
@@ -76,6 +81,7 @@ ShowsLine (Some line) (Some a) t =
       reading = line_reading line;
       send = texts_of a.send.items;
       confirmed = option_map ask_of a.confirmed;
+      rolled = a.rolled;
     })
 
 -- what is taken is what was heard, with its line
@@ -92,6 +98,11 @@ abbrev pub confirmed_of_taken : Option TakenValue → Option Ask
 confirmed_of_taken None = None
 confirmed_of_taken (Some t) = t.confirmed
 
+-- whether a standing order rolled at a line
+abbrev pub rolled_of_taken : Option TakenValue → Bool
+rolled_of_taken None = false
+rolled_of_taken (Some t) = t.rolled
+
 -- the line
 abbrev pub line_of_taken : Option TakenValue → Option ReadLine
 line_of_taken None = None
@@ -103,8 +114,8 @@ ReadsItself None = Unit {0}
 ReadsItself (Some t) = t.reading ≡ line_reading t.line
 
 -- what `feed` answers after each history that the client stood after: the commands that the machine hands out; while a
--- connection is open, the shortest front with which the stream has one line more, and that line, its reading and what
--- it confirms; else the whole piece, and no line
+-- connection is open, the shortest front with which the stream has one line more, and that line, its reading, what it
+-- confirms and whether a standing order rolls at it; else the whole piece, and no line
 pub record FeedAnswers (old : ClientValue) (piece : List ℕ) (used : ℕ) (taken : Option TakenValue) : Type 0 where
   pub hands : (t : Talk) → StandsAfter old t → commands_of taken ≡ (step t (Piece (take used piece))).send
   pub uses : (t : Talk) → StandsAfter old t → is_online t ≡ true → Gains t.stream piece used (line_of_taken taken)
@@ -112,3 +123,5 @@ pub record FeedAnswers (old : ClientValue) (piece : List ℕ) (used : ℕ) (take
   pub reading : ReadsItself taken
   pub confirms : (t : Talk) → StandsAfter old t → is_online t ≡ true
       → confirmed_of_taken taken ≡ line_confirms t (line_of_taken taken)
+  pub rolls : (t : Talk) → StandsAfter old t → is_online t ≡ true
+      → rolled_of_taken taken ≡ line_rolls t (line_of_taken taken)

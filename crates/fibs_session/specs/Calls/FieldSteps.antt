@@ -1,23 +1,28 @@
 -- What each call does to the fields of a session. No public contract rests on it: those speak of the history.
 use Rattle.std.specs.Prelude.{ℕ, Bool, true, false, not, ◌&&◌, ◌||◌, List, [], ◌∷◌, Option, Some, None, option_map}
-use Rattle.std.specs.Prelude.{if◌then◌else◌, is_some, nat_eq}
-use Rattle.fibs_boards.specs.Board.{BoardFields}
+use Rattle.std.specs.Prelude.{if◌then◌else◌, is_some, is_none, nat_eq, pos}
+use Rattle.std.specs.Ordering.{int_eq}
+use Rattle.fibs_boards.specs.Board.{BoardFields, field_of}
 use Rattle.fibs_messages.specs.Message.{MessageValue}
 use Rattle.fibs_messages.specs.Line.{ReadingValue, numbered_line, board_line, text_line, malformed_line}
-use Rattle.fibs_position.specs.DecisionValue.{DecisionValue}
+use Rattle.fibs_position.specs.DecisionValue.{DecisionValue, roll}
 use Rattle.fibs_position.specs.DirectionOf.{direction_of}
 use Rattle.fibs_commands.specs.Commands.{command_of}
 use Rattle.fibs_position.specs.GoodBoard.{good}
 use Rattle.fibs_position.specs.GamePart.{same_game}
+use Rattle.fibs_position.specs.Phases.{phase_of}
 use Rattle.fibs_commands.specs.FirstCommands.{style_text}
 use Rattle.fibs_commands.specs.PlainCommands.{PlainValue, automove_off, greedy_off, plain_fault_of, plain_of}
 use Rattle.fibs_session.specs.declared.refusal.Refusal.{Refusal}
 use Rattle.fibs_session.specs.declared.refusal.Refusal.TheVariants.{AlreadyOpen, Offline, NotReady, ServerPlays}
+use Rattle.fibs_session.specs.declared.refusal.Refusal.TheVariants.{AlreadyOrdered, NotOrdered}
 use Rattle.fibs_session.specs.declared.refusal.PlainRefusal.{PlainRefusal}
 use Rattle.fibs_session.specs.declared.refusal.PlainRefusal.TheVariants as P
-use Rattle.fibs_session.specs.History.Words.{Ask, if_board, plays_itself}
+use Rattle.fibs_session.specs.History.Words.{Ask, one_if, if_board, plays_itself}
 use Rattle.fibs_session.specs.History.Hearing.{flags_of, initial_commands}
-use Rattle.fibs_session.specs.History.Machine.{allows, flag_is_on}
+use Rattle.fibs_session.specs.History.Allows.{allows}
+use Rattle.fibs_session.specs.History.Orders.{is_to_roll}
+use Rattle.fibs_session.specs.History.Machine.{flag_is_on}
 use Rattle.fibs_session.specs.Calls.SessionValue.{SessionValue}
 
 abbrev pub fresh : List ℕ → Bool → SessionValue
@@ -30,6 +35,7 @@ fresh login online = record {
   greedy_sent = false;
   shown = None;
   waiting = None;
+  ordered = false;
 }
 
 -- the flags of what was sent stay until the next connection
@@ -43,15 +49,17 @@ lost v = record {
   greedy_sent = v.greedy_sent;
   shown = None;
   waiting = None;
+  ordered = false;
 }
 
 pub record HeardFields : Type 0 where
   pub session : SessionValue
   pub send : List (List ℕ)
   pub confirmed : Option Ask
+  pub rolled : Bool
 
 abbrev pub unheard : SessionValue → HeardFields
-unheard v = record { session = v; send = []; confirmed = None }
+unheard v = record { session = v; send = []; confirmed = None; rolled = false }
 
 abbrev pub message_fields : SessionValue → MessageValue → HeardFields
 message_fields v m =
@@ -59,11 +67,13 @@ message_fields v m =
       session = record v { welcomed = true };
       send = if v.welcomed then [] else style_text ∷ [];
       confirmed = None;
+      rolled = false;
     }
     else (if nat_eq m.number 2 then record {
       session = record v { flags = Some (flags_of m) };
       send = if is_some v.flags then [] else initial_commands m;
       confirmed = None;
+      rolled = false;
     }
     else unheard v)
 
@@ -78,9 +88,35 @@ confirmed_of v b = if is_some (still_waiting v.shown b v.waiting) then None else
 abbrev pub with_board : SessionValue → BoardFields → SessionValue
 with_board v b = record v { shown = Some b; waiting = still_waiting v.shown b v.waiting }
 
+abbrev pub answer_of : SessionValue → DecisionValue → Option Refusal
+answer_of v d =
+    if not v.online then Some Offline
+    else (if not v.welcomed || not (is_some v.flags) then Some NotReady
+    else (if plays_itself v.flags then Some ServerPlays
+    else if_board allows (is_some v.waiting) d v.shown))
+
+-- of the session that shows the board
+unfoldable pub due_of : SessionValue → BoardFields → Bool
+due_of v b =
+    v.ordered && (int_eq (field_of b 39) (pos 0) && (is_to_roll (phase_of b) && is_none (answer_of v roll)))
+
+-- a roll is sent on the board that is shown
+abbrev pub with_roll : SessionValue → BoardFields → Bool → SessionValue
+with_roll v b rolls = if rolls then record v { waiting = Some (b, roll) } else v
+
+abbrev pub board_shown : SessionValue → BoardFields → Option Ask → Bool → HeardFields
+board_shown v b confirmed rolls = record {
+  session = with_roll v b rolls;
+  send = one_if rolls (command_of (direction_of b) roll);
+  confirmed = confirmed;
+  rolled = rolls;
+}
+
 abbrev pub board_fields : SessionValue → BoardFields → HeardFields
 board_fields v b =
-    if good b then record { session = with_board v b; send = []; confirmed = confirmed_of v b } else unheard v
+    if good b
+    then board_shown (with_board v b) b (confirmed_of v b) (due_of (with_board v b) b)
+    else unheard v
 
 abbrev pub heard_fields : SessionValue → ReadingValue → HeardFields
 heard_fields v (numbered_line m) = message_fields v m
@@ -90,13 +126,6 @@ heard_fields v (malformed_line number k f) = unheard v
 
 abbrev pub line_fields : SessionValue → ReadingValue → HeardFields
 line_fields v r = if v.online then heard_fields v r else unheard v
-
-abbrev pub answer_of : SessionValue → DecisionValue → Option Refusal
-answer_of v d =
-    if not v.online then Some Offline
-    else (if not v.welcomed || not (is_some v.flags) then Some NotReady
-    else (if plays_itself v.flags then Some ServerPlays
-    else if_board allows (is_some v.waiting) d v.shown))
 
 abbrev pub with_ask : SessionValue → DecisionValue → Option BoardFields → SessionValue
 with_ask v d None = v
@@ -145,3 +174,13 @@ plain_fields v p = if is_some (plain_refusal_of v p) then v else with_plain v p
 
 abbrev pub plain_send : SessionValue → PlainValue → List (List ℕ)
 plain_send v p = if is_some (plain_refusal_of v p) then [] else plain_of p ∷ []
+
+abbrev pub order_refusal_of : SessionValue → Option Refusal
+order_refusal_of v = if not v.online then Some Offline else (if v.ordered then Some AlreadyOrdered else None)
+
+abbrev pub withdraw_refusal_of : SessionValue → Option Refusal
+withdraw_refusal_of v = if not v.online then Some Offline else (if v.ordered then None else Some NotOrdered)
+
+-- a standing order is given, or withdrawn, where nothing refuses it
+abbrev pub with_order : SessionValue → Bool → Option Refusal → SessionValue
+with_order v given refusal = if is_some refusal then v else record v { ordered = given }

@@ -1,5 +1,5 @@
 -- Sessions and their answers as values.
-use Rattle.std.specs.Prelude.{ℕ, List, [], ◌∷◌, map, Option, None, Some, Result, Ok, Err, option_map}
+use Rattle.std.specs.Prelude.{ℕ, Bool, List, [], ◌∷◌, map, Option, None, Some, Result, Ok, Err, option_map}
 use Rattle.fibs_lines.specs.Lines.{ReadLine}
 use Rattle.fibs_lines.specs.Lines.{value_of}
 use Rattle.fibs_messages.specs.Line.{ReadingValue}
@@ -43,6 +43,7 @@ session_of s = record {
   greedy_sent = s.greedy_sent;
   shown = option_map shown_fields s.shown;
   waiting = option_map ask_of s.waiting;
+  ordered = s.ordered;
 }
 
 -- what a call hands out: a command, or nothing where it refuses
@@ -60,6 +61,7 @@ pub record TakenValue : Type 0 where
   pub reading : ReadingValue
   pub send : List (List ℕ)
   pub confirmed : Option Ask
+  pub rolled : Bool
 
 abbrev pub taken_of : Taken → TakenValue
 taken_of t = record {
@@ -67,4 +69,5 @@ taken_of t = record {
   reading = reading_of t.reading;
   send = texts_of t.send.items;
   confirmed = option_map ask_of t.confirmed;
+  rolled = t.rolled;
 }

@@ -6,7 +6,7 @@ use Rattle.fibs_position.specs.GamePart.{same_game}
 use Rattle.fibs_commands.specs.PlainCommands.{automove_off, greedy_off, plain_of}
 use Rattle.fibs_session.specs.History.Log.{Entry, Flags}
 use Rattle.fibs_session.specs.History.Words.{Ask, is_empty, last, open_now, connections, shown, sent, welcomed}
-use Rattle.fibs_session.specs.History.Words.{informed, unconfirmed}
+use Rattle.fibs_session.specs.History.Words.{informed, orders, is_ordered, unconfirmed}
 use Rattle.fibs_session.specs.History.Machine.{Talk, was_sent}
 
 -- what a session keeps
@@ -19,6 +19,7 @@ pub record SessionValue : Type 0 where
   pub greedy_sent : Bool
   pub shown : Option BoardFields
   pub waiting : Option Ask
+  pub ordered : Bool  -- a standing order stands
 
 -- a command that turns nothing off
 pub record IsNoToggle (text : List ℕ) : Type 0 where
@@ -31,6 +32,7 @@ pub record Quiet (c : ℕ) (log : List Entry) : Type 0 where
   pub no_flags : informed c log ≡ []
   pub no_board : shown c log ≡ []
   pub no_sent : sent c log ≡ []
+  pub no_order : orders c log ≡ []
 
 -- what is noted is of connections that were opened
 pub record Numbered (log : List Entry) : Type 0 where
@@ -51,4 +53,5 @@ pub record At (v : SessionValue) (t : Talk) : Type 0 where
   pub greedy_gone : v.greedy_sent ≡ was_sent (plain_of greedy_off) t.commands
   pub on_board : v.shown ≡ last (shown conn t.log)
   pub not_confirmed : v.waiting ≡ unconfirmed same_game conn t.log
+  pub has_order : v.ordered ≡ is_ordered conn t.log
   pub numbered : Numbered t.log

@@ -18,7 +18,11 @@ pub data Entry : Type 0 where
   Shown : ℕ → BoardFields → Entry  -- it read a board that has a position
   -- the user decided; no refusal is the yes. Offline the connection is 0
   Clicked : ℕ → DecisionValue → Option Refusal → Entry
-  Sent : ℕ → BoardFields → DecisionValue → Entry  -- directly after a click with a yes: the decision, on the board shown
+  -- the decision, on the board shown: directly after a click with a yes; or a roll, directly after a board at which a
+  -- standing order is due
+  Sent : ℕ → BoardFields → DecisionValue → Entry
   Took : ℕ → BoardFields → DecisionValue → Entry  -- the server carried a decision out, on its board
   Undone : ℕ → BoardFields → DecisionValue → Entry  -- it served a decision that changed nothing
   Lost : ℕ → Option (BoardFields × DecisionValue) → Entry  -- the connection ended, with what was unconfirmed
+  Ordered : ℕ → Entry  -- the user gave a standing order to roll
+  Withdrawn : ℕ → Entry  -- he withdrew it

@@ -7,10 +7,7 @@ use Rattle.fibs_lines.specs.Lines.{ReadLine, lines_of}
 use Rattle.fibs_boards.specs.Board.{BoardFields}
 use Rattle.fibs_messages.specs.Line.{ReadingValue}
 use Rattle.fibs_position.specs.DecisionValue.{DecisionValue}
-use Rattle.fibs_position.specs.Allowed.{allowed_of}
 use Rattle.fibs_position.specs.DirectionOf.{direction_of}
-use Rattle.fibs_position.specs.declared.disallowed.Disallowed.{Disallowed}
-use Rattle.fibs_position.specs.declared.disallowed.Disallowed.TheVariants as D
 use Rattle.fibs_commands.specs.Commands.{command_of}
 use Rattle.fibs_position.specs.GamePart.{same_game}
 use Rattle.fibs_commands.specs.PlainCommands.{PlainValue, automove_off, greedy_off, plain_of, plain_fault_of}
@@ -18,8 +15,10 @@ use Rattle.fibs_session.specs.declared.refusal.Refusal.{Refusal}
 use Rattle.fibs_session.specs.declared.refusal.Refusal.TheVariants as R
 use Rattle.fibs_session.specs.declared.refusal.PlainRefusal.{PlainRefusal}
 use Rattle.fibs_session.specs.declared.refusal.PlainRefusal.TheVariants as P
-use Rattle.fibs_session.specs.History.Log.{Entry, Flags, Opened, Clicked, Sent, Lost}
+use Rattle.fibs_session.specs.History.Log.{Entry, Flags, Opened, Clicked, Sent, Lost, Ordered, Withdrawn}
+use Rattle.fibs_session.specs.History.Allows.{allows}
 use Rattle.fibs_session.specs.History.Words.{Ask, last, open_now, connections, shown, informed, unconfirmed, answer}
+use Rattle.fibs_session.specs.History.Words.{is_ordered}
 use Rattle.fibs_session.specs.History.Hearing.{Heard, heard, nothing_heard, line_reading}
 
 pub record Talk : Type 0 where
@@ -33,13 +32,16 @@ pub record Step : Type 0 where
   pub talk : Talk
   pub send : List (List ℕ)
 
--- what comes to a client: bytes of the server, a decision of the user, another command of his
+-- what comes to a client: bytes of the server, a decision of the user, another command of his, a standing order to roll
+-- and its end
 pub data InputValue : Type 0 where
   Open : InputValue
   Lose : InputValue
   Piece : List ℕ → InputValue
   Click : DecisionValue → InputValue
   PlainInput : PlainValue → InputValue
+  Order : InputValue
+  Withdraw : InputValue
 
 -- before all
 abbrev pub start : List ℕ → Talk
@@ -131,15 +133,6 @@ shown_now t = last (shown (open_now t.log) t.log)
 
 -- Click
 
-abbrev pub refusal_of : Disallowed → Refusal
-refusal_of D.NotYours = R.NotYours
-refusal_of D.WrongKind = R.WrongKind
-refusal_of D.IllegalPlay = R.IllegalPlay
-
--- why a board does not allow a decision, if it does not
-abbrev pub allows : BoardFields → DecisionValue → Option Refusal
-allows b d = option_map refusal_of (allowed_of b d)
-
 -- the answer to a click
 abbrev pub answer_now : Talk → DecisionValue → Option Refusal
 answer_now t d = answer same_game allows t.log d
@@ -193,6 +186,35 @@ sends_plain t p None = does t [] (plain_of p ∷ [])
 abbrev pub plains : Talk → PlainValue → Step
 plains t p = sends_plain t p (plain_refusal t p)
 
+-- Order and Withdraw
+
+-- a standing order stands on the open connection
+abbrev pub ordered_now : Talk → Bool
+ordered_now t = is_ordered (open_now t.log) t.log
+
+-- refused offline, and where one stands already
+abbrev pub order_refusal : List Entry → Option Refusal
+order_refusal log =
+    if nat_eq (open_now log) 0 then Some R.Offline
+    else (if is_ordered (open_now log) log then Some R.AlreadyOrdered else None)
+
+-- refused offline, and where none stands
+abbrev pub withdraw_refusal : List Entry → Option Refusal
+withdraw_refusal log =
+    if nat_eq (open_now log) 0 then Some R.Offline
+    else (if is_ordered (open_now log) log then None else Some R.NotOrdered)
+
+-- an entry is noted where nothing refuses it
+abbrev pub notes_if : Talk → Entry → Option Refusal → Step
+notes_if t e (Some why) = stays t
+notes_if t e None = does t (e ∷ []) []
+
+abbrev pub orders_on : Talk → Step
+orders_on t = notes_if t (Ordered (open_now t.log)) (order_refusal t.log)
+
+abbrev pub withdraws : Talk → Step
+withdraws t = notes_if t (Withdrawn (open_now t.log)) (withdraw_refusal t.log)
+
 -- all inputs
 
 abbrev pub step : Talk → InputValue → Step
@@ -201,6 +223,8 @@ step t Lose = loses t
 step t (Piece bytes) = reads t bytes
 step t (Click d) = clicks t d
 step t (PlainInput p) = plains t p
+step t Order = orders_on t
+step t Withdraw = withdraws t
 
 unfoldable pub run : Talk → List InputValue → Step
 run t [] = stays t

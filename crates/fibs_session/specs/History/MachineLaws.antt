@@ -1,8 +1,11 @@
 -- Laws of the machine, for callers.
-use Rattle.std.specs.Prelude.{◌≡◌, ℕ, List, [], ◌∷◌, ◌++◌}
+use Rattle.std.specs.Prelude.{◌≡◌, ℕ, List, [], ◌∷◌, ◌++◌, flat_map}
 use Rattle.fibs_boards.specs.Board.{BoardFields}
+use Rattle.fibs_messages.specs.Line.{ReadingValue}
 use Rattle.fibs_position.specs.DecisionValue.{DecisionValue}
+use Rattle.fibs_session.specs.History.Hearing.{heard}
 use Rattle.fibs_session.specs.History.Log.{Entry, LoggedIn, Took, Undone}
+use Rattle.fibs_session.specs.History.Words.{open_from, opened_by}
 use Rattle.fibs_session.specs.History.Machine.{Talk, InputValue, Piece, step, stays, noted, then_also}
 use Rattle.fibs_session.specs.Calls.Standing.{ClientValue, StandsAfter, StandsAfterInputs}
 use Rattle.fibs_session.specs.Calls.Doing.{Does}
@@ -15,6 +18,12 @@ PiecesJoin =
 
 abbrev pub EmptyPieceIsNothing : Type 0
 EmptyPieceIsNothing = (t : Talk) → step t (Piece []) ≡ stays t
+
+-- no line opens or ends a connection
+abbrev pub LinesOpenNoConnection : Type 0
+LinesOpenNoConnection =
+    (c : ℕ) (log : List Entry) (r : ReadingValue)
+    → (flat_map opened_by (heard c log r).entries ≡ []) × ((o : ℕ) → open_from o (heard c log r).entries ≡ o)
 
 -- what a server notes
 pub data IsServers : Entry → Type 0 where

@@ -6,7 +6,7 @@ use Rattle.fibs_session.specs.declared.refusal.PlainRefusal.TheVariants as P
 use Rattle.fibs_session.specs.declared.refusal.Refusal.{Refusal}
 use Rattle.fibs_session.specs.declared.refusal.Refusal.TheVariants.{AlreadyOpen, Offline, NotReady, ServerPlays}
 use Rattle.fibs_session.specs.declared.refusal.Refusal.TheVariants.{NoBoard, Waiting, NotYours, WrongKind, IllegalPlay}
-use Rattle.fibs_session.specs.declared.refusal.Refusal.TheVariants.{NotOn}
+use Rattle.fibs_session.specs.declared.refusal.Refusal.TheVariants.{NotOn, AlreadyOrdered, NotOrdered}
 
 abbrev pub refusal_number : Refusal → ℕ
 refusal_number AlreadyOpen = 1
@@ -19,6 +19,8 @@ refusal_number NotYours = 7
 refusal_number WrongKind = 8
 refusal_number IllegalPlay = 9
 refusal_number NotOn = 10
+refusal_number AlreadyOrdered = 11
+refusal_number NotOrdered = 12
 
 abbrev pub refusal_name : Refusal → List ℕ
 refusal_name AlreadyOpen = codes "AlreadyOpen"
@@ -31,6 +33,8 @@ refusal_name NotYours = codes "NotYours"
 refusal_name WrongKind = codes "WrongKind"
 refusal_name IllegalPlay = codes "IllegalPlay"
 refusal_name NotOn = codes "NotOn"
+refusal_name AlreadyOrdered = codes "AlreadyOrdered"
+refusal_name NotOrdered = codes "NotOrdered"
 
 -- the number and the name of the same refusal of a decision, or of the fault
 

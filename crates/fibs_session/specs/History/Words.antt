@@ -7,7 +7,7 @@ use Rattle.fibs_position.specs.DecisionValue.{DecisionValue as Decision}
 use Rattle.fibs_session.specs.declared.refusal.Refusal.{Refusal}
 use Rattle.fibs_session.specs.declared.refusal.Refusal.TheVariants.{Offline, NotReady, ServerPlays, NoBoard, Waiting}
 use Rattle.fibs_session.specs.History.Log.{Entry, Flags}
-use Rattle.fibs_session.specs.History.Log.{Opened, Welcomed, Informed, Shown, Sent, Took, Lost}
+use Rattle.fibs_session.specs.History.Log.{Opened, Welcomed, Informed, Shown, Sent, Took, Lost, Ordered, Withdrawn}
 
 -- a decision with the board that it is about
 abbrev pub Ask : Type 0
@@ -74,6 +74,12 @@ abbrev pub informed_by : ℕ → Entry → List Flags
 informed_by c (Informed d f) = one_if (nat_eq d c) f
 informed_by c e = []
 
+-- whether a standing order was given or withdrawn
+abbrev pub orders_by : ℕ → Entry → List Bool
+orders_by c (Ordered d) = one_if (nat_eq d c) true
+orders_by c (Withdrawn d) = one_if (nat_eq d c) false
+orders_by c e = []
+
 -- how many connections were opened: they are numbered from 1
 abbrev pub connections : List Entry → ℕ
 connections log = length (flat_map opened_by log)
@@ -92,6 +98,18 @@ welcomed c log = flat_map (welcomed_by c) log
 
 abbrev pub informed : ℕ → List Entry → List Flags
 informed c log = flat_map (informed_by c) log
+
+abbrev pub orders : ℕ → List Entry → List Bool
+orders c log = flat_map (orders_by c) log
+
+-- the last of them is an order that was given
+abbrev pub is_given : Option Bool → Bool
+is_given None = false
+is_given (Some given) = given
+
+-- a standing order stands on the connection
+abbrev pub is_ordered : ℕ → List Entry → Bool
+is_ordered c log = is_given (last (orders c log))
 
 -- A connection's stretch is its last block of boards shown one after another that are alike. Its first Shown is
 -- the first after which only boards like it are shown. The stretch is spent where something was sent after that.

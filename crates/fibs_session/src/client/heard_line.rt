@@ -1,6 +1,6 @@
 //! What a client has heard, without the line itself.
 
-ghost use Rattle.std.specs.Prelude.{◌≡◌, [], None};
+ghost use Rattle.std.specs.Prelude.{◌≡◌, [], None, false};
 ghost use Rattle.fibs_session.specs.declared.client.owned_reading.OwnedReading.TheVariants.{Numbered};
 
 use super::owned_reading::OwnedReading;
@@ -14,6 +14,7 @@ pub(crate) struct Answer {
     pub(super) reading: OwnedReading,
     pub(super) send: ArrayVec<CommandText, 3>,
     pub(super) confirmed: Option<Outstanding>,
+    pub(super) rolled: bool,
 }
 
 impl Answer {
@@ -22,11 +23,13 @@ impl Answer {
         ensures reading { result.reading ≡ Numbered }
         ensures send { result.send.items ≡ [] }
         ensures confirmed { result.confirmed ≡ None }
+        ensures rolled { result.rolled ≡ false }
     {
         Answer {
             reading: OwnedReading::Numbered,
             send: ArrayVec::new(),
             confirmed: None,
+            rolled: false,
         }
     }
 }

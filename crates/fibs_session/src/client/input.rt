@@ -16,4 +16,8 @@ pub enum Input<'a> {
     Click(Decision),
     /// The user says something else.
     Plain(Plain<'a>),
+    /// The user gives a standing order to roll.
+    Order,
+    /// The user withdraws it.
+    Withdraw,
 }

@@ -115,6 +115,14 @@ fn take_input(client: &mut Client, input: &Input<'_>, out: &mut Vec<u8>) -> Resu
             let answer = client.plain(plain);
             append_plain(&answer, out)
         }
+        Input::Order => {
+            let _refused = client.order_roll();
+            Ok(())
+        }
+        Input::Withdraw => {
+            let _refused = client.withdraw_roll();
+            Ok(())
+        }
     }
 }
 

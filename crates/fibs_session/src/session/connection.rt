@@ -24,6 +24,7 @@ impl Session {
             greedy_sent: false,
             shown: None,
             waiting: None,
+            ordered: false,
         }
     }
 
@@ -53,6 +54,7 @@ impl Session {
             self.flags = None;
             self.shown = None;
             self.waiting = None;
+            self.ordered = false;
         }
         waiting
     }

@@ -6,7 +6,8 @@ ghost use Rattle.fibs_boards.specs.StoredBoard.{fields_of};
 ghost use Rattle.fibs_position.specs.DecisionValue.{decision_of};
 ghost use Rattle.fibs_session.specs.Calls.FieldSteps.{answer_of, decide_fields, decide_send, may_send_of};
 ghost use Rattle.fibs_session.specs.Calls.FieldSteps.{plain_refusal_of, plain_fields, plain_send, with_plain};
-ghost use Rattle.fibs_session.specs.History.Machine.{flag_is_on, refusal_of};
+ghost use Rattle.fibs_session.specs.History.Allows.{refusal_of};
+ghost use Rattle.fibs_session.specs.History.Machine.{flag_is_on};
 ghost use Rattle.fibs_commands.specs.PlainOf.{plain_value};
 
 use super::{Outstanding, Session};
@@ -30,7 +31,7 @@ impl Session {
     ghost use Rattle.fibs_session.specs.Calls.SessionOf.{session_of, handed, refusal_in};
 
     /// The board on which a decision is made, or why it is refused: the first of the reasons, in the order below.
-    fn board_for(&self, decision: &Decision) -> Result<&Board, Refusal>
+    pub(super) fn board_for(&self, decision: &Decision) -> Result<&Board, Refusal>
         ensures refusal { result_err result ≡ answer_of (session_of self.now) (decision_of decision.now) }
         ensures board { IfOk result (λ board. (session_of self.now).shown ≡ Some (fields_of board.now)) }
     {

@@ -1,13 +1,17 @@
 //! What a line says, by the session's fields.
 
-ghost use Rattle.std.specs.Prelude.{◌≡◌, true, map, option_map};
+ghost use Rattle.std.specs.Prelude.{◌≡◌, true, false, None, map, option_map};
 ghost use Rattle.fibs_lines.specs.Lines.{value_of};
 ghost use Rattle.fibs_messages.specs.Message.{message_of};
 ghost use Rattle.fibs_messages.specs.Line.{reading_of};
 ghost use Rattle.fibs_boards.specs.StoredBoard.{fields_of};
+ghost use Rattle.fibs_position.specs.DecisionValue.{roll};
+ghost use Rattle.fibs_position.specs.DirectionOf.{direction_of};
+ghost use Rattle.fibs_commands.specs.Commands.{command_of};
+ghost use Rattle.fibs_session.specs.History.Words.{one_if};
 ghost use Rattle.fibs_messages.specs.declared.messages.message.Message.TheVariants.{OwnInfo as TheOwnInfo};
 ghost use Rattle.fibs_session.specs.Calls.FieldSteps.{message_fields, heard_fields, with_board, confirmed_of};
-ghost use Rattle.fibs_session.specs.Calls.FieldSteps.{line_fields, unheard};
+ghost use Rattle.fibs_session.specs.Calls.FieldSteps.{line_fields, unheard, with_roll, due_of};
 ghost use Rattle.fibs_session.specs.Calls.SessionValue.{SessionValue};
 ghost use Rattle.fibs_session.specs.History.Hearing.{initial_commands, line_reading};
 ghost use Rattle.fibs_commands.specs.TextOf.{text_of};
@@ -16,8 +20,32 @@ use super::{Outstanding, ServerFlags, Session, ShownBoard};
 use arrayvec::ArrayVec;
 use fibs_commands::{CommandText, autoboard_text, board_text, moreboards_text, style_text};
 use fibs_lines::Line;
-use fibs_messages::{Message, OwnInfo, Reading, message_number, read};
-use fibs_position::differs;
+use fibs_messages::{Board, Message, OwnInfo, Reading, message_number, read};
+use fibs_position::{Decision, differs};
+
+/// What a session says to a line: the commands that are to be sent, the decision that is confirmed, and whether the
+/// standing order has rolled.
+#[derive(Drop)]
+pub(super) struct Reply {
+    pub(super) send: ArrayVec<CommandText, 3>,
+    pub(super) confirmed: Option<Outstanding>,
+    pub(super) rolled: bool,
+}
+
+impl Reply {
+    /// Commands alone.
+    fn of(send: ArrayVec<CommandText, 3>) -> Reply
+        ensures send { result.send ≡ send }
+        ensures confirmed { result.confirmed ≡ None }
+        ensures rolled { result.rolled ≡ false }
+    {
+        Reply {
+            send,
+            confirmed: None,
+            rolled: false,
+        }
+    }
+}
 
 /// The reading of a line. One that was cut is a text.
 pub(crate) fn read_line<'a>(line: &Line<'a>) -> Reading<'a>
@@ -104,40 +132,76 @@ impl Session {
         send
     }
 
+    /// The standing order rolls on the board that is shown: `roll` waits.
+    fn roll_on(&mut self, board: &Board) -> CommandText
+        ensures fields { session_of self.new ≡ with_roll (session_of self.old) (fields_of board.now) true }
+        ensures text { text_of result ≡ command_of (direction_of (fields_of board.now)) roll }
+    {
+        let asked = Outstanding {
+            board: *board,
+            decision: Decision::Roll,
+        };
+        self.waiting = Some(asked);
+        asked.command()
+    }
+
+    /// A board that has a position was heard. It is shown and confirms, and only then is the standing order asked: a
+    /// decision that it confirms waits no longer.
+    fn note_shown(&mut self, heard: ShownBoard) -> Reply
+        ensures fields { let v = with_board (session_of self.old) (fields_of heard.board) in
+            session_of self.new ≡ with_roll v (fields_of heard.board) (due_of v (fields_of heard.board)) }
+        ensures send { texts_of result.send.items ≡ one_if result.rolled
+            (command_of (direction_of (fields_of heard.board)) roll) }
+        ensures confirmed { option_map ask_of result.confirmed
+            ≡ confirmed_of (session_of self.old) (fields_of heard.board) }
+        ensures rolled { result.rolled
+            ≡ due_of (with_board (session_of self.old) (fields_of heard.board)) (fields_of heard.board) }
+    {
+        let confirmed = self.note_board(heard);
+        let rolled = self.is_due(&heard);
+        let mut send = ArrayVec::new();
+        if rolled {
+            send.push(self.roll_on(&heard.board));
+        }
+        Reply {
+            send,
+            confirmed,
+            rolled,
+        }
+    }
+
     /// What a reading says, online.
-    fn note(&mut self, reading: &Reading<'_>) -> (ArrayVec<CommandText, 3>, Option<Outstanding>)
+    fn note(&mut self, reading: &Reading<'_>) -> Reply
         ensures fields { session_of self.new ≡ (heard_fields (session_of self.old) (reading_of reading.now)).session }
-        ensures send { texts_of result.0.items ≡ (heard_fields (session_of self.old) (reading_of reading.now)).send }
-        ensures confirmed { option_map ask_of result.1 ≡
+        ensures send { texts_of result.send.items
+            ≡ (heard_fields (session_of self.old) (reading_of reading.now)).send }
+        ensures confirmed { option_map ask_of result.confirmed ≡
             (heard_fields (session_of self.old) (reading_of reading.now)).confirmed }
+        ensures rolled { result.rolled ≡ (heard_fields (session_of self.old) (reading_of reading.now)).rolled }
     {
         match reading {
-            Reading::Numbered(message) => {
-                let send = self.note_message(message);
-                (send, None)
-            }
+            Reading::Numbered(message) => Reply::of(self.note_message(message)),
             Reading::Board(board) => {
                 let Some(heard) = ShownBoard::of(board) else {
-                    return (ArrayVec::new(), None);
+                    return Reply::of(ArrayVec::new());
                 };
-                (ArrayVec::new(), self.note_board(heard))
+                self.note_shown(heard)
             }
-            Reading::Text(_) | Reading::Malformed { .. } => (ArrayVec::new(), None),
+            Reading::Text(_) | Reading::Malformed { .. } => Reply::of(ArrayVec::new()),
         }
     }
 
     /// What a reading says. Offline it says nothing.
-    pub(super) fn note_line(
-        &mut self,
-        reading: &Reading<'_>,
-    ) -> (ArrayVec<CommandText, 3>, Option<Outstanding>)
+    pub(super) fn note_line(&mut self, reading: &Reading<'_>) -> Reply
         ensures fields { session_of self.new ≡ (line_fields (session_of self.old) (reading_of reading.now)).session }
-        ensures send { texts_of result.0.items ≡ (line_fields (session_of self.old) (reading_of reading.now)).send }
-        ensures confirmed { option_map ask_of result.1 ≡
+        ensures send { texts_of result.send.items
+            ≡ (line_fields (session_of self.old) (reading_of reading.now)).send }
+        ensures confirmed { option_map ask_of result.confirmed ≡
             (line_fields (session_of self.old) (reading_of reading.now)).confirmed }
+        ensures rolled { result.rolled ≡ (line_fields (session_of self.old) (reading_of reading.now)).rolled }
     {
         if !self.online {
-            return (ArrayVec::new(), None);
+            return Reply::of(ArrayVec::new());
         }
         self.note(reading)
     }

@@ -41,4 +41,6 @@ pub struct Taken<'a> {
     pub send: ArrayVec<CommandText, 3>,
     /// The decision that waited, where the line is a board that confirms it.
     pub confirmed: Option<Outstanding>,
+    /// Whether the line is a board at which the standing order was due: `send` is then its `roll`, which waits.
+    pub rolled: bool,
 }

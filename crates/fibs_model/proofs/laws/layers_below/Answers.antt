@@ -24,4 +24,5 @@ returns c = record {
   style = c.style_is_other.ensures;
   plain = c.plain_is_other.ensures;
   initial = c.initial_are_other.ensures;
+  due = c.a_due_order_says.ensures;
 }

@@ -1,12 +1,12 @@
 use Rattle.std.proofs.Common.{arith}
-use Rattle.fibs_model.proofs.Likeness.Delivering.{heard_next, owed_at_most}
+use Rattle.fibs_model.proofs.Likeness.Delivering.{heard_next, room_next}
 use Rattle.fibs_model.proofs.world.delivering.hear_next.Goals as goal
 
-pub hear_link-requires-clause-bytes : goal.hear_link-requires-clause-bytes
-hear_link-requires-clause-bytes c =
-    let t = c.requires.talks.0 in
-    let room = c.requires.room c.index_mut.result.now c.index_mut.ensures.value in
-    (t, c.requires.talks.1, omega (arith, room, owed_at_most t))
+pub hear_link-requires-clause-room : goal.hear_link-requires-clause-room
+hear_link-requires-clause-room c =
+    let all = c.args.links.now.ok.0 in
+    room_next c.args.links.now.items c.args.conn c.index_mut.result.now c.requires.some
+    (omega (arith, all, c.requires.known)) c.index_mut.ensures.value c.args.client.now c.args.n _ _ c.requires.room
 
 pub returns-clause-hears : goal.returns-clause-hears
 returns-clause-hears c =

@@ -1,4 +1,4 @@
-use Rattle.std.proofs.Common.{◌≡◌, [], None, ap, sym}
+use Rattle.std.proofs.Common.{[], None, false, ap, sym}
 use Rattle.fibs_lines.specs.Lines.{value_of}
 use Rattle.fibs_position.specs.GamePart.{same_game}
 use Rattle.fibs_session.specs.History.Words.{IsLikeness}
@@ -13,4 +13,5 @@ returns c = λ unheard.
     let v = session_of c.args.self.now in
     let same = sym (c.is_unheard.ensures unheard v) in
     line_hears likeness v (value_of c.args.line.now)
-    v [] None (ap (λ h. h.session) same) (ap (λ h. h.send) same) (ap (λ h. h.confirmed) same)
+    v [] None false
+    (ap (λ h. h.session) same) (ap (λ h. h.send) same) (ap (λ h. h.confirmed) same) (ap (λ h. h.rolled) same)

@@ -13,7 +13,8 @@ returns-clause-hears c =
     let likeness : IsLikeness same_game = record { like_itself = s.itself; like_back = s.back; like_on = s.on } in
     let v = session_of c.args.self.now in
     let same = c.read_line-reading.ensures in
-    line_hears likeness v (value_of c.args.line.now) _ _ _
-    (c.note_line-heard.ensures.fields ∙ ap (λ r. (line_fields v r).session) same)
-    (c.note_line-heard.ensures.send ∙ ap (λ r. (line_fields v r).send) same)
-    (c.note_line-heard.ensures.confirmed ∙ ap (λ r. (line_fields v r).confirmed) same)
+    line_hears likeness v (value_of c.args.line.now) _ _ _ _
+    (c.note_line-reply.ensures.fields ∙ ap (λ r. (line_fields v r).session) same)
+    (c.note_line-reply.ensures.send ∙ ap (λ r. (line_fields v r).send) same)
+    (c.note_line-reply.ensures.confirmed ∙ ap (λ r. (line_fields v r).confirmed) same)
+    (c.note_line-reply.ensures.rolled ∙ ap (λ r. (line_fields v r).rolled) same)

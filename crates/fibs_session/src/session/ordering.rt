@@ -1,0 +1,68 @@
+//! A standing order to roll, by the session's fields.
+
+ghost use Rattle.std.specs.Prelude.{◌≡◌, IsErr, true, false};
+ghost use Rattle.std.specs.Result.{result_err};
+ghost use Rattle.fibs_boards.specs.StoredBoard.{fields_of};
+ghost use Rattle.fibs_session.specs.Calls.FieldSteps.{due_of, order_refusal_of, withdraw_refusal_of, with_order};
+
+use super::{Session, ShownBoard};
+use crate::refusal::Refusal;
+use fibs_position::{Decision, Phase};
+
+/// The field that says whether the player may double.
+const MAY_DOUBLE: usize = 39;
+
+impl Session {
+    ghost use Rattle.fibs_session.specs.Calls.SessionOf.{session_of};
+
+    /// An order is given.
+    pub(super) fn note_order(&mut self) -> Result<(), Refusal>
+        ensures fields { session_of self.new
+            ≡ with_order (session_of self.old) true (order_refusal_of (session_of self.old)) }
+        ensures refusal { result_err result ≡ order_refusal_of (session_of self.old) }
+        ensures kept { IsErr result → session_of self.new ≡ session_of self.old }
+    {
+        if !self.online {
+            return Err(Refusal::Offline);
+        }
+        if self.ordered {
+            return Err(Refusal::AlreadyOrdered);
+        }
+        self.ordered = true;
+        Ok(())
+    }
+
+    /// The order is withdrawn.
+    pub(super) fn note_withdrawal(&mut self) -> Result<(), Refusal>
+        ensures fields { session_of self.new
+            ≡ with_order (session_of self.old) false (withdraw_refusal_of (session_of self.old)) }
+        ensures refusal { result_err result ≡ withdraw_refusal_of (session_of self.old) }
+        ensures kept { IsErr result → session_of self.new ≡ session_of self.old }
+    {
+        if !self.online {
+            return Err(Refusal::Offline);
+        }
+        if !self.ordered {
+            return Err(Refusal::NotOrdered);
+        }
+        self.ordered = false;
+        Ok(())
+    }
+
+    /// Whether the board that is shown makes the order due. A click on `Roll` is asked about last: it costs most.
+    #[tactic(auto, unfolding(crate::specs::Calls::FieldSteps::due_of))]
+    pub(super) fn is_due(&self, shown: &ShownBoard) -> bool
+        ensures { result ≡ due_of (session_of self.now) (fields_of shown.now.board) }
+    {
+        if !self.ordered {
+            return false;
+        }
+        if shown.board.field(MAY_DOUBLE) != 0 {
+            return false;
+        }
+        match shown.position.phase() {
+            Phase::RollOrDouble => self.board_for(&Decision::Roll).is_ok(),
+            _ => false,
+        }
+    }
+}
