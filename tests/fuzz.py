@@ -123,7 +123,7 @@ def good_board(rng, phase=None, is_wide=False):
         turn = -colour
     other_dice = [rng.randint(0, 6), rng.randint(0, 6)] if rng.random() < 0.2 else [0, 0]
     cube = rng.choice((1, 1, 2, 4, 64, 1048576, 524288, 3, 524289, rng.randint(1, 1048576)))
-    flags = [rng.choice((0, 1, 1)), rng.randint(0, 1), 1 if phase == 'answer' or rng.random() < 0.02 else 0]
+    flags = [rng.randint(0, 1), rng.randint(0, 1), 1 if phase == 'answer' or rng.random() < 0.02 else 0]
     score = [rng.choice((0, 3, 99999999)), rng.choice((0, 1, 99999998))]
     length = rng.choice((0, 1, 3, 5, 9999))
     ends = [0, 25] if direction == -1 else [25, 0]
@@ -301,7 +301,9 @@ NOT_EVENTS = [b'', b' open', b'open ', b'Open', b'open 1', b'deliver', b'deliver
               b'click move 8-5 6-5 8-5 6-5 6-5', b'click move 0-1', b'click move 3-0', b'click move off-3',
               b'click move 3-bar', b'click move bar-off', b'click move 5-5', b'click move 5-08', b'click move 5',
               b'click move 5-', b'click board', b'plain', b'plain  who', b'click move 5-8', b'click resign',
-              b'serve 4294967296 1 1', b'text', b'text ', b'text  x', b'x', b'\r', b'#']
+              b'serve 4294967296 1 1', b'text', b'text ', b'text  x', b'x', b'\r', b'#', b'order', b'order ',
+              b'order  roll', b'order roll ', b'order Roll', b'order double', b'order roll 1', b'orders roll',
+              b'withdraw', b'withdraw ', b'withdraw  roll', b'withdraw roll ', b'withdraw order', b'roll']
 REFUSALS = [b'open', b'deliver 1', b'lose 1', b'serve 0 1 1', b'serve 1 0 1', b'serve 1 1 7', b'serve 9 1 1',
             b'serve 9 0 9', b'serve 1 1 1', b'serve 1 255 1', b'own BAD', b'own GOOD', b'text GOOD', b'serve 2 1 1',
             b'text > GOOD', b'text \xff\xfb\x01GOOD', b'serve 1 7 7', b'text GOOD\xff', b'text GOOD\xff\xfb',
@@ -413,6 +415,8 @@ def wishes(model):
         common.update({'settings': 10})
     if client.board and not client.waiting:
         common[click] = 40
+    # An order is given early and stands for long; now and then it is given twice, or withdrawn where none stands.
+    common.update({'order roll': 1 if client.ordered else 4, 'withdraw roll': 1 if client.ordered else 0.2})
     return common
 
 
@@ -425,7 +429,8 @@ def event(rng, model):
         return wish(rng) if wish is told else wish(rng, model)
     if wish == 'own' and model.board.phase() in reference.DECIDED and rng.random() < 0.9:
         return deliver(rng, model) if model.client.connection else b'open'
-    made = {'plain': b'plain ' + rng.choice(PLAIN), 'first': FIRST, 'own': b'own ' + good_board(rng)}
+    phase = 'roll' if model.client.connection and model.client.ordered and rng.random() < 0.3 else None
+    made = {'plain': b'plain ' + rng.choice(PLAIN), 'first': FIRST, 'own': b'own ' + good_board(rng, phase)}
     return settings(rng) if wish == 'settings' else made.get(wish, wish if isinstance(wish, bytes) else wish.encode())
 
 
@@ -580,6 +585,7 @@ def note(seen, kind, out):
     if kind == 'scripts':
         out = re.sub(rb'(?m)^(\w+) \d+', rb'\1', out)
         seen.update(re.findall(rb'^(?:clicked \w+|refused \d \w+|lost board|[a-z]+)', out, re.M))
+        seen[b'sent by an order'] += len(re.findall(rb'^shown .*\nsent ', out, re.M))
     elif kind == 'lines':
         seen.update(b'show ' + line.split(b':')[0].split(b' ')[0] for line in out.splitlines())
     else:

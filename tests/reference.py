@@ -380,6 +380,7 @@ class Client:
     def open(self, connection):
         self.connection, self.heard, self.handled = connection, b'', 0
         self.welcomed, self.settings, self.board, self.waiting, self.toggled = False, None, None, None, []
+        self.ordered = False
         connection.send(b'login fibs_client 1008 ann secret')
 
     def close(self):
@@ -413,6 +414,14 @@ class Client:
         if self.waiting and self.waiting[0].printed != board.printed:
             self.waiting = None
         self.board = board
+        if self.is_due():
+            self.decide(b'roll')
+
+    def is_due(self):
+        """Whether the standing order rolls on the board shown."""
+        if not self.ordered or self.board.fields[39] != 0 or self.board.phase() != 'RollOrDouble':
+            return False
+        return self.refusal(b'roll') is None
 
     def handle_welcome(self):
         self.note('welcomed', self.connection.number)
@@ -458,9 +467,18 @@ class Client:
         number_of = self.connection.number if self.connection else 0
         self.note('clicked', number_of, reason or 'ok')
         if not reason:
-            self.waiting = self.board, decision
-            self.note('sent', number_of, *self.told(*self.waiting))
-            self.connection.send(print_decision(decision, self.board))
+            self.decide(decision)
+
+    def decide(self, decision):
+        self.waiting = self.board, decision
+        self.note('sent', self.connection.number, *self.told(*self.waiting))
+        self.connection.send(print_decision(decision, self.board))
+
+    def order(self, ordered):
+        """A standing order to roll is given, or withdrawn; one that stands is not given again."""
+        if self.connection is not None and self.ordered != ordered:
+            self.ordered = ordered
+            self.note('ordered' if ordered else 'withdrawn', self.connection.number)
 
     def plain(self, line, command):
         if self.connection is None or not has_text(command):
@@ -545,6 +563,12 @@ class Replay:
 
     def do_plain(self, line, command):
         self.client.plain(line, command)
+
+    def do_order(self):
+        self.client.order(True)
+
+    def do_withdraw(self):
+        self.client.order(False)
 
     def do_deliver(self, count):
         if not self.client.connection:
@@ -638,6 +662,8 @@ def read_event(line):
         values = None if space else ()
     elif what == b'text':
         values = (rest,)
+    elif what in (b'order', b'withdraw'):
+        values = () if rest == b'roll' else None
     elif what == b'click':
         values = (read_decision(rest),)
     elif what == b'plain':

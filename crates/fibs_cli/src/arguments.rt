@@ -79,6 +79,8 @@ Each other line is one event:
   open                    the client connects; it logs in as ann, with the password secret
   click COMMAND           the player decides, as in `click roll` and `click move 24-18`
   plain COMMAND           the player sends another command, as in `plain say hello`
+  order roll              from now on the client rolls by itself where the player may not double,
+  withdraw roll           and no longer
   deliver N               the next N bytes reach the client, or all that are on their way
   lose K                  the connection breaks; of what is on its way to the server K bytes arrive
   serve C D1 D2           the server takes the next line of connection C, and rolls D1 and D2
@@ -103,9 +105,9 @@ For example, a player who clicks twice before the answer comes:
   end 12
 
 It prints what the client and the server noted, a line each: opened C, loggedin C, welcomed C,
-informed C AUTOMOVE GREEDY, shown C BOARD, clicked C ok or clicked C WHY, sent C BOARD COMMAND,
-took C BOARD COMMAND, undone C BOARD COMMAND, and lost C, or lost C BOARD COMMAND with what was not
-confirmed; C is the connection. The last line is one of
+informed C AUTOMOVE GREEDY, shown C BOARD, clicked C ok or clicked C WHY, ordered C, withdrawn C,
+sent C BOARD COMMAND, took C BOARD COMMAND, undone C BOARD COMMAND, and lost C, or
+lost C BOARD COMMAND with what was not confirmed; C is the connection. The last line is one of
 
   end DONE                each event was done, and DONE is how many
   refused DONE N WHY      the event after DONE ones may not be, with status 3

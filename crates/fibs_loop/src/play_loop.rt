@@ -4,6 +4,7 @@ ghost use Rattle.std.specs.Prelude.{◌≡◌, ◌≤◌, ◌<◌, ◌^◌, List
 ghost use Rattle.fibs_boards.specs.Board.{BoardFields};
 ghost use Rattle.fibs_model.specs.Events.{Event};
 ghost use Rattle.fibs_loop.specs.Looping.{EndsScript};
+ghost use Rattle.fibs_replay.specs.Replay.Limits.{write_len};
 ghost use Rattle.fibs_replay.specs.Replay.Scripts.{SayEvents, SayScript, script_lines};
 
 mod hearing;
@@ -17,6 +18,7 @@ use fibs_model::Entry;
 use fibs_replay::replay::events::read_event;
 use fibs_replay::replay::first_board;
 use fibs_replay::replay::input::read_script;
+use fibs_replay::replay::limits::READ_LEN;
 use fibs_replay::replay::output::{end_line, print_log, refused_line, unread_line};
 use fibs_replay::replay::run::script_login;
 use fibs_replay::replay::script::{first_unreadable, script_lines};
@@ -27,9 +29,6 @@ use std::io::{Read, Write};
 use std::net::{Net, TcpListener, TcpStream};
 use stop::Stop;
 use table::Table;
-
-/// How many bytes of a script are asked for at once.
-const PORTION: usize = 4096;
 
 /// Reads a script and plays it: a client at one end of a connection and a model server at the other, in turn, over a
 /// socket to the listener for each connection that is opened. It prints what `replay` prints, and has its status.
@@ -48,7 +47,7 @@ pub fn play_loop<N: Net<Stream = TcpStream>, R: Read, W: Write>(
 ) -> Result<u8, EngineFault>
     ensures { EndsScript result }
 {
-    match read_script(alloc, &mut [0; PORTION], reader)? {
+    match read_script(alloc, &mut [0; READ_LEN], reader)? {
         None => finish(&[], &unread_line(0), Status::Refused, writer),
         Some(script) => match first_unreadable(script.as_slice()) {
             Some(number) => finish(&[], &unread_line(number), Status::Refused, writer),
@@ -64,7 +63,7 @@ fn finish<W: Write>(
     status: Status,
     writer: &mut W,
 ) -> Result<u8, EngineFault>
-    requires { length last.now ≤ 8192 }
+    requires { length last.now ≤ write_len }
     ensures { IfOk result (λ s. s ≡ code_of status) }
 {
     print_log(log, last, writer)?;

@@ -19,6 +19,11 @@ const TO_ROLL: &[u8] =
 const ONE_PLAY: &[u8] = b"board:You:bob:5:0:0:0:0:0:0:0:0:0:0:0:0:0:0:0:-2:0:0:0:0:0:0:0:0:0:0:1:0:\
     1:6:5:0:0:1:1:1:0:1:-1:0:25:14:13:0:0:1:0:0:0\n";
 
+/// A board on which he may roll and not double.
+const NO_DOUBLE: &[u8] =
+    b"board:You:bob:3:0:1:0:-2:0:0:0:0:5:0:3:0:0:0:-5:5:0:0:0:-3:0:-5:0:0:0:0:2:0:\
+    1:0:0:0:0:1:0:1:0:1:-1:0:25:0:0:0:0:0:0:0:0\n";
+
 /// The events that log a client in and show it the board.
 const LOG_IN: &[u8] = b"open\nserve 1 1 1\ntext 1 ann 1041253132 localhost\n\
     text 2 ann 1 1 0 0 0 0 1 1 10 0 1 0 1 1500.00 0 0 0 0 0 UTC\n\
@@ -34,7 +39,7 @@ struct Case {
     end: &'static [u8],
 }
 
-static CASES: [Case; 13] = [
+static CASES: [Case; 16] = [
     Case {
         name: "a second click, and a line too few",
         board: TO_ROLL,
@@ -144,6 +149,32 @@ static CASES: [Case; 13] = [
         status: 0,
         end: b"end 9\n",
     },
+    Case {
+        name: "a standing order",
+        board: NO_DOUBLE,
+        log_in: b"open\norder roll\norder roll\nserve 1 1 1\ntext 1 ann 1041253132 localhost\n\
+            text 2 ann 1 1 0 0 0 0 1 1 10 0 1 0 1 1500.00 0 0 0 0 0 UTC\n\
+            deliver 10000\nserve 1 1 1\nserve 1 1 1\ndeliver 10000\n",
+        events: b"click roll\nserve 1 6 2\nwithdraw roll\ndeliver 10000\n",
+        status: 0,
+        end: b"0:0:0:0:0:0:0:0\nend 14\n",
+    },
+    Case {
+        name: "an order on a board that is shown",
+        board: NO_DOUBLE,
+        log_in: LOG_IN,
+        events: b"order roll\nrepeat\ndeliver 10000\n",
+        status: 0,
+        end: b" roll\nend 11\n",
+    },
+    Case {
+        name: "a roll of an order that a loss leaves on its way",
+        board: NO_DOUBLE,
+        log_in: LOG_IN,
+        events: b"order roll\nrepeat\ndeliver 10000\nlose 6\nwithdraw roll\nserve 1 6 2\nopen\nwithdraw roll\n",
+        status: 0,
+        end: b" roll\nopened 2\nend 16\n",
+    },
 ];
 
 fn script_of(case: &Case) -> Text {
@@ -236,6 +267,11 @@ fn a_second_click_is_played_under_refused_memory(rt: HostRuntime) -> Result<(), 
 #[test]
 fn a_lost_play_is_played_under_refused_memory(rt: HostRuntime) -> Result<(), Fail> {
     assert_played_again(&rt, &CASES[1])
+}
+
+#[test]
+fn a_standing_order_is_played_under_refused_memory(rt: HostRuntime) -> Result<(), Fail> {
+    assert_played_again(&rt, &CASES[13])
 }
 
 /// The log grows between the two entries of one event, of which then none is printed.

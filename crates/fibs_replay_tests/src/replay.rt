@@ -23,6 +23,13 @@ const LARGER: &[u8] =
 const MOVED: &[u8] =
     b"board:You:bob:5:0:0:0:0:0:0:0:0:0:0:0:0:0:0:0:-2:0:0:0:0:1:0:0:0:0:0:0:0:-1:0:0:0:0:1:1:1:0:1:-1:0:25:14:13:0:0:1:0:0:0";
 
+/// A board on which the player rolls and may not double, and the same with the dice 6 and 2.
+const NO_DOUBLE: &[u8] =
+    b"board:You:bob:3:0:1:0:-2:0:0:0:0:5:0:3:0:0:0:-5:5:0:0:0:-3:0:-5:0:0:0:0:2:0:1:0:0:0:0:1:0:1:0:1:-1:0:25:0:0:0:0:0:0:0:0";
+
+const NO_DOUBLE_DICE: &[u8] =
+    b"board:You:bob:3:0:1:0:-2:0:0:0:0:5:0:3:0:0:0:-5:5:0:0:0:-3:0:-5:0:0:0:0:2:0:1:6:2:0:0:1:0:1:0:1:-1:0:25:0:0:0:0:0:0:0:0";
+
 /// A board of which the player is not `You`.
 const OTHER: &[u8] =
     b"board:ann:bob:3:0:1:0:-2:0:0:0:0:5:0:3:0:0:0:-5:5:0:0:0:-3:0:-5:0:0:0:0:2:0:1:0:0:0:0:1:1:1:0:1:-1:0:25:0:0:0:0:0:0:0:0";
@@ -173,6 +180,111 @@ fn half_a_command_is_never_served(rt: HostRuntime) {
         b" move 24-18\nrefused 19 5 NothingToServe\n",
     ]);
     assert_replayed(&rt, &script, 3, &wanted);
+}
+
+/// Ten events behind the first board: a client that is to roll by itself, which it is told twice, logs in.
+const LOGS_IN_ORDERED: &[u8] = b"
+open
+order roll
+order roll
+serve 1 1 1
+text 1 ann 1041253132 localhost
+text 2 ann 1 1 0 0 0 0 1 1 10 0 1 0 1 1500.00 0 0 0 0 0 UTC
+deliver 10000
+serve 1 1 1
+serve 1 1 1
+deliver 10000
+";
+
+/// The client rolls by itself on the first of two boards that come together; then the order is withdrawn.
+fn standing_order() -> Text {
+    joined(&[
+        NO_DOUBLE,
+        LOGS_IN_ORDERED,
+        b"click roll\nserve 1 6 2\nwithdraw roll\ndeliver 10000\n",
+    ])
+}
+
+fn standing_order_printed() -> Text {
+    joined(&[
+        b"opened 1\nordered 1\nloggedin 1\nwelcomed 1\ninformed 1 0 0\nshown 1 ",
+        NO_DOUBLE,
+        b"\nsent 1 ",
+        NO_DOUBLE,
+        b" roll\nshown 1 ",
+        NO_DOUBLE,
+        b"\nclicked 1 Waiting\ntook 1 ",
+        NO_DOUBLE,
+        b" roll\nwithdrawn 1\nshown 1 ",
+        NO_DOUBLE_DICE,
+        b"\nend 14\n",
+    ])
+}
+
+#[test]
+fn a_standing_order_rolls_once(rt: HostRuntime) {
+    assert_replayed(&rt, &standing_order(), 0, &standing_order_printed());
+}
+
+#[test]
+fn an_order_on_a_board_that_is_shown_waits_for_the_next_board(rt: HostRuntime) {
+    let script = joined(&[
+        NO_DOUBLE,
+        LOGS_IN,
+        b"order roll\nrepeat\ndeliver 10000\n",
+    ]);
+    let wanted = joined(&[
+        b"opened 1\nloggedin 1\nwelcomed 1\ninformed 1 0 0\nshown 1 ",
+        NO_DOUBLE,
+        b"\nshown 1 ",
+        NO_DOUBLE,
+        b"\nordered 1\nshown 1 ",
+        NO_DOUBLE,
+        b"\nsent 1 ",
+        NO_DOUBLE,
+        b" roll\nend 11\n",
+    ]);
+    assert_replayed(&rt, &script, 0, &wanted);
+}
+
+#[test]
+fn an_order_does_not_roll_where_the_player_may_double(rt: HostRuntime) {
+    let script = joined(&[ROLL, LOGS_IN_ORDERED]);
+    let wanted = joined(&[
+        b"opened 1\nordered 1\nloggedin 1\nwelcomed 1\ninformed 1 0 0\nshown 1 ",
+        ROLL,
+        b"\nshown 1 ",
+        ROLL,
+        b"\nend 10\n",
+    ]);
+    assert_replayed(&rt, &script, 0, &wanted);
+}
+
+#[test]
+fn an_order_ends_with_its_connection(rt: HostRuntime) {
+    let script = joined(&[
+        NO_DOUBLE,
+        LOGS_IN_ORDERED,
+        b"lose 0\nwithdraw roll\norder roll\n",
+        LOGS_IN_AGAIN,
+        b"withdraw roll\n",
+    ]);
+    let wanted = joined(&[
+        b"opened 1\nordered 1\nloggedin 1\nwelcomed 1\ninformed 1 0 0\nshown 1 ",
+        NO_DOUBLE,
+        b"\nsent 1 ",
+        NO_DOUBLE,
+        b" roll\nshown 1 ",
+        NO_DOUBLE,
+        b"\nlost 1 ",
+        NO_DOUBLE,
+        b" roll\nopened 2\nloggedin 2\nwelcomed 2\ninformed 2 0 0\nshown 2 ",
+        NO_DOUBLE,
+        b"\nshown 2 ",
+        NO_DOUBLE,
+        b"\nend 22\n",
+    ]);
+    assert_replayed(&rt, &script, 0, &wanted);
 }
 
 /// The parts of a script, its status and what is printed.
@@ -377,6 +489,11 @@ fn assert_replayed_again(
 #[test]
 fn a_second_click_is_replayed_under_refused_memory(rt: HostRuntime) {
     assert_replayed_again(&rt, &double_click(), 3, &double_click_printed());
+}
+
+#[test]
+fn a_standing_order_is_replayed_under_refused_memory(rt: HostRuntime) {
+    assert_replayed_again(&rt, &standing_order(), 0, &standing_order_printed());
 }
 
 #[test]

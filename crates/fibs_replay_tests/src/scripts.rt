@@ -16,7 +16,7 @@ const ROLL: &[u8] =
     b"board:You:bob:3:0:1:0:-2:0:0:0:0:5:0:3:0:0:0:-5:5:0:0:0:-3:0:-5:0:0:0:0:2:0:1:0:0:0:0:1:1:1:0:1:-1:0:25:0:0:0:0:0:0:0:0";
 
 /// Lines that say no event.
-static UNREADABLE: [&[u8]; 52] = [
+static UNREADABLE: [&[u8]; 64] = [
     b"",
     b" ",
     b"dance",
@@ -44,6 +44,18 @@ static UNREADABLE: [&[u8]; 52] = [
     b"plain dance",
     b"plain who ",
     b"plain invite bob 65536",
+    b"order",
+    b"order ",
+    b"order  roll",
+    b"order roll ",
+    b"order Roll",
+    b"order double",
+    b"order roll\r",
+    b"orderroll",
+    b"withdraw",
+    b"withdraw ",
+    b"withdraw  roll",
+    b"withdraw roll ",
     b"deliver",
     b"deliver ",
     b"deliver -1",
@@ -80,7 +92,7 @@ fn lines_that_say_no_event(rt: HostRuntime) {
 
 #[test]
 fn lines_that_say_an_event(rt: HostRuntime) {
-    let rows: [(&[u8], Event<'_>); 15] = [
+    let rows: [(&[u8], Event<'_>); 17] = [
         (b"open", Event::Open),
         (b"repeat", Event::Repeat),
         (b"text", Event::Text(b"")),
@@ -92,6 +104,8 @@ fn lines_that_say_an_event(rt: HostRuntime) {
         (b"plain who", Event::Plain(Plain::Who)),
         (b"plain say a  b", Event::Plain(Plain::Say(b"a  b"))),
         (b"plain tell", Event::Plain(Plain::Tell(b"", b""))),
+        (b"order roll", Event::Order),
+        (b"withdraw roll", Event::Withdraw),
         (b"deliver 0", Event::Deliver(0)),
         (b"deliver 4294967295", Event::Deliver(4_294_967_295)),
         (b"lose 4294967295", Event::Lose(4_294_967_295)),
@@ -243,7 +257,7 @@ fn line_of(entry: &Entry) -> Portion {
 #[test]
 fn entries_without_a_board(rt: HostRuntime) {
     let decision = Decision::Roll;
-    let rows: [(Entry, &[u8]); 9] = [
+    let rows: [(Entry, &[u8]); 12] = [
         (Entry::Opened { conn: 1 }, b"opened 1\n"),
         (
             Entry::Opened {
@@ -285,6 +299,16 @@ fn entries_without_a_board(rt: HostRuntime) {
             },
             b"clicked 0 Offline\n",
         ),
+        (
+            Entry::Clicked {
+                conn: 18_446_744_073_709_551_615,
+                decision,
+                answer: Err(Refusal::AlreadyOrdered),
+            },
+            b"clicked 18446744073709551615 AlreadyOrdered\n",
+        ),
+        (Entry::Ordered { conn: 1 }, b"ordered 1\n"),
+        (Entry::Withdrawn { conn: 12 }, b"withdrawn 12\n"),
         (
             Entry::Lost {
                 conn: 1,

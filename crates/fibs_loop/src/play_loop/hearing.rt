@@ -1,43 +1,30 @@
 //! The client hears what arrives.
 
 use super::queue::Queue;
-use super::sockets::{Ends, PORTION};
-use fibs_messages::{Message, Reading};
+use super::sockets::{CROSSING_LEN, Ends};
 use fibs_model::Entry;
-use fibs_position::Position;
 use fibs_session::{Client, Taken};
 use fibs_show::fault::EngineFault;
 
-/// Notes what a line says, where the log has an entry for it.
-fn note_line(conn: usize, reading: &Reading<'_>, log: &mut Vec<Entry>) -> Result<(), EngineFault> {
-    match reading {
-        Reading::Numbered(Message::Welcome { .. }) => log.push(Entry::Welcomed { conn })?,
-        Reading::Numbered(Message::OwnInfo(info)) => log.push(Entry::Informed {
-            conn,
-            automove: info.automove,
-            greedy: info.greedy,
-        })?,
-        Reading::Board(board) => {
-            if Position::of(board).is_ok() {
-                log.push(Entry::Shown {
-                    conn,
-                    board: *board,
-                })?;
-            }
-        }
-        _ => {}
+/// Notes an entry, if there is one.
+fn note(log: &mut Vec<Entry>, entry: Option<Entry>) -> Result<(), EngineFault> {
+    if let Some(entry) = entry {
+        log.push(entry)?;
     }
     Ok(())
 }
 
-/// Notes what a line says; what the client sends on it waits.
+/// Notes what a line says, and the roll of a standing order that rolled at it; what the client sends waits.
 fn hear_line(
     conn: usize,
     taken: &Taken<'_>,
     log: &mut Vec<Entry>,
     to_server: &mut Queue,
 ) -> Result<(), EngineFault> {
-    note_line(conn, &taken.reading, log)?;
+    note(log, Entry::of_reading(conn, &taken.reading))?;
+    if taken.rolled {
+        note(log, Entry::of_roll(conn, &taken.reading))?;
+    }
     for command in taken.send.as_slice() {
         to_server.put_line(command.as_bytes())?;
     }
@@ -74,10 +61,10 @@ pub fn hear(
     log: &mut Vec<Entry>,
     to_server: &mut Queue,
 ) -> Result<(), EngineFault> {
-    let mut portion = [0; PORTION];
+    let mut portion = [0; CROSSING_LEN];
     let mut rest = bytes;
     while !rest.is_empty() {
-        let count = rest.len().min(PORTION);
+        let count = rest.len().min(CROSSING_LEN);
         ends.carry_to_client(&rest[..count], &mut portion[..count])?;
         hear_piece(client, conn, &portion[..count], log, to_server)?;
         rest = &rest[count..];

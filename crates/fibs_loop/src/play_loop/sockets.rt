@@ -9,7 +9,7 @@ use std::net::{Net, TcpListener, TcpStream};
 use std::time::Duration;
 
 /// How many bytes are written at one end before they are read at the other: no write of so few waits for a reader.
-pub const PORTION: usize = 1024;
+pub const CROSSING_LEN: usize = 1024;
 
 /// How many seconds an end waits for bytes that the other has written.
 const READ_SECONDS: u64 = 10;
@@ -71,10 +71,10 @@ impl Ends {
         bytes: &[u8],
         arrived: &mut Queue,
     ) -> Result<(), EngineFault> {
-        let mut portion = [0; PORTION];
+        let mut portion = [0; CROSSING_LEN];
         let mut rest = bytes;
         while !rest.is_empty() {
-            let count = rest.len().min(PORTION);
+            let count = rest.len().min(CROSSING_LEN);
             let part = &mut portion[..count];
             carry(&rest[..count], &mut self.client, &mut self.server, part)?;
             arrived.put(&portion[..count])?;

@@ -6,7 +6,7 @@ use super::queue::Queue;
 use super::sockets::Ends;
 use super::stop::Stop;
 use fibs_messages::Board;
-use fibs_model::{Entry, Event, Served, Server, WorldRefusal, is_board_text};
+use fibs_model::{Entry, Event, Served, Server, WorldRefusal, is_board_text, is_die};
 use fibs_position::Decision;
 use fibs_session::{Client, Login, Plain};
 use fibs_show::fault::EngineFault;
@@ -36,37 +36,6 @@ pub struct Table {
     /// For each connection what has arrived at the server.
     inboxes: Vec<Inbox>,
     log: Vec<Entry>,
-}
-
-/// It is a number of a die.
-fn is_die(number: u8) -> bool {
-    0 < number && number < 7
-}
-
-/// The entry of a line that the server took, on the board before it.
-fn entry_of(conn: usize, board: Board, served: Served) -> Option<Entry> {
-    match served {
-        Served::Stale | Served::Answered => None,
-        Served::LoggedIn => Some(Entry::LoggedIn { conn }),
-        Served::Took(decision) => Some(Entry::Took {
-            conn,
-            board,
-            decision,
-        }),
-        Served::Undone(decision) => Some(Entry::Undone {
-            conn,
-            board,
-            decision,
-        }),
-    }
-}
-
-/// The server answers the line by its board.
-fn is_answered(served: Served) -> bool {
-    match served {
-        Served::Stale | Served::LoggedIn => false,
-        Served::Took(_) | Served::Undone(_) | Served::Answered => true,
-    }
 }
 
 impl Table {
@@ -134,6 +103,8 @@ impl Table {
             }
             Event::Repeat => self.send_board(),
             Event::Text(line) => self.send_text(line),
+            Event::Order => self.order(),
+            Event::Withdraw => self.withdraw(),
         }
     }
 
@@ -204,6 +175,24 @@ impl Table {
     fn say(&mut self, plain: &Plain<'_>) -> Result<(), Stop> {
         if let Ok(command) = self.client.plain(plain) {
             self.to_server.put_line(command.as_bytes())?;
+        }
+        Ok(())
+    }
+
+    /// The user gives a standing order to roll; it is noted where the client takes it.
+    fn order(&mut self) -> Result<(), Stop> {
+        let conn = self.current();
+        if self.client.order_roll().is_ok() {
+            self.note(Entry::Ordered { conn })?;
+        }
+        Ok(())
+    }
+
+    /// The user withdraws it; that is noted where the client gives it up.
+    fn withdraw(&mut self) -> Result<(), Stop> {
+        let conn = self.current();
+        if self.client.withdraw_roll().is_ok() {
+            self.note(Entry::Withdrawn { conn })?;
         }
         Ok(())
     }
@@ -293,10 +282,10 @@ impl Table {
         match served {
             None => return Err(Stop::Refused(WorldRefusal::NothingToServe)),
             Some(served) => {
-                if let Some(entry) = entry_of(conn, board, served) {
+                if let Some(entry) = served.entry(conn, board) {
                     self.note(entry)?;
                 }
-                if is_answered(served) {
+                if served.is_answered() {
                     self.send_board()?;
                 }
             }

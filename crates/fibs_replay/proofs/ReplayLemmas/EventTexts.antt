@@ -22,12 +22,14 @@ use Rattle.fibs_replay.proofs.ReplayLemmas.Splits.{Without}
 -- a text is read as a number exactly where it is written so
 abbrev pub DecimalsAreExact : Type 0
 DecimalsAreExact =
-    (limit n : ℕ) (text : List ℕ) → limit < 2 ^ 64 → (decimal_up_to limit text ≡ Some n) ↔ ((text ≡ decimal n) × (n ≤ limit))
+    (limit n : ℕ) (text : List ℕ) → limit < 2 ^ 64 → (decimal_up_to limit text ≡ Some n) ↔
+    ((text ≡ decimal n) × (n ≤ limit))
 
 -- digits are no spaces
 digits_apart : (ds : List ℕ) → Without 32 (map (λ d. 48 + d) ds)
 digits_apart [] = All-nil (λ b. b ≢ 32)
-digits_apart (d ∷ ds) = All-cons (λ b. b ≢ 32) (48 + d) (map (λ d. 48 + d) ds) (λ e. absurd (omega arith)) (digits_apart ds)
+digits_apart (d ∷ ds) = All-cons (λ b. b ≢ 32) (48 + d) (map (λ d. 48 + d) ds) (λ e. absurd (omega arith))
+    (digits_apart ds)
 
 -- a number is written without a space
 pub number_apart : (n : ℕ) → n < 2 ^ 64 → Without 32 (decimal n)
@@ -35,7 +37,8 @@ number_apart zero h = subst (Without 32) (sym (decimal_digit 0 (omega arith))) (
 number_apart (suc n) h = subst (Without 32) (sym (decimal-digits_of (suc n) (omega arith) h)) (digits_apart _)
 
 -- the front of a text is that of a longer one
-front_stays : (needle xs ys : List ℕ) → starts_with (λ a b. a == b) xs needle ≡ true → starts_with (λ a b. a == b) (xs ++ ys) needle ≡ true
+front_stays : (needle xs ys : List ℕ) → starts_with (λ a b. a == b) xs needle ≡ true
+    → starts_with (λ a b. a == b) (xs ++ ys) needle ≡ true
 front_stays [] xs ys h = refl
 front_stays (n ∷ needle) [] ys h = absurd cc
 front_stays (n ∷ needle) (x ∷ xs) ys h =
@@ -55,7 +58,8 @@ board_begins begins b line h =
     subst IsBoardLine (sym h.1.1) (front_stays (codes "board:") (spelling b) (replicate h.1.0 32) (begins b h.0))
 
 -- a reading that says a board
-said : (line : List ℕ) (v : ReadingValue) (b : BoardFields) → IsReading line v → said_board v ≡ Some b → BoardText b line
+said : (line : List ℕ) (v : ReadingValue) (b : BoardFields) → IsReading line v → said_board v ≡ Some b
+    → BoardText b line
 said line (numbered_line m) b h e = absurd cc
 said line (board_line c) b h e = let same : c ≡ b = cc in subst (λ x. BoardText x line) same h.1
 said line (text_line t) b h e = absurd cc
@@ -73,7 +77,8 @@ boards_are_exact exact one begins line b = (
 )
 
 -- what is read of a line is its board
-pub board_is_read : BoardsAreExact → (line : List ℕ) (r : Result Board FieldFault) → IfOk (read_fields r) (λ b. BoardText b line)
+pub board_is_read : BoardsAreExact → (line : List ℕ) (r : Result Board FieldFault)
+    → IfOk (read_fields r) (λ b. BoardText b line)
     → ((b : BoardFields) → BoardText b line → read_fields r ≡ Ok b) → option_map fields_of (result_ok r) ≡ board_in line
 board_is_read exact line (Ok board) found only = sym ((exact line (fields_of board)).1 found)
 board_is_read exact line (Err e) found only = none (board_in line) refl
@@ -83,13 +88,16 @@ board_is_read exact line (Err e) found only = none (board_in line) refl
     none (Some b) h = let wrong = only b ((exact line b).0 h) in absurd cc
 
 -- it is said by the line
-pub board_is_said : (line : List ℕ) (r : Result Board FieldFault) (o : Option Board) → o ≡ result_ok r → IfOk (read_fields r) (λ b. BoardText b line)
+pub board_is_said : (line : List ℕ) (r : Result Board FieldFault) (o : Option Board) → o ≡ result_ok r
+    → IfOk (read_fields r) (λ b. BoardText b line)
     → IfSome o (λ board. BoardText (fields_of board) line)
-board_is_said line (Ok board) o e found = subst (λ o. IfSome o (λ board. BoardText (fields_of board) line)) (sym e) found
+board_is_said line (Ok board) o e found = subst (λ o. IfSome o (λ board. BoardText (fields_of board) line)) (sym e)
+    found
 board_is_said line (Err fault) o e found = subst (λ o. IfSome o (λ board. BoardText (fields_of board) line)) (sym e) tt
 
 -- and where there is none, the line says none
 pub board_is_none : (line : List ℕ) (r : Result Board FieldFault) (o : Option Board) → o ≡ result_ok r
     → ((b : BoardFields) → BoardText b line → read_fields r ≡ Ok b) → IfNone o (IsNoBoard line)
 board_is_none line (Ok board) o e only = subst (λ o. IfNone o (IsNoBoard line)) (sym e) tt
-board_is_none line (Err fault) o e only = subst (λ o. IfNone o (IsNoBoard line)) (sym e) (λ b h. let wrong = only b h in absurd cc)
+board_is_none line (Err fault) o e only = subst (λ o. IfNone o (IsNoBoard line)) (sym e)
+    (λ b h. let wrong = only b h in absurd cc)

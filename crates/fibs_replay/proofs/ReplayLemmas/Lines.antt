@@ -37,7 +37,8 @@ left None = []
 left (Some rest) = rest
 
 -- the first line with its end, and what follows it
-first_line : (s : List ℕ) → (take (line_len s) s ≡ before 10 s ++ line_end (after 10 s)) × (drop (line_len s) s ≡ left (after 10 s))
+first_line : (s : List ℕ) → (take (line_len s) s ≡ before 10 s ++ line_end (after 10 s))
+    × (drop (line_len s) s ≡ left (after 10 s))
 unfolding line_len
 first_line [] = (refl, refl)
 first_line (b ∷ s) = elim (cases_eq b 10) [
@@ -50,7 +51,8 @@ no_cr_is : (x : List ℕ) → no_cr x ≡ strip_carriage_return x
 no_cr_is [] = refl
 no_cr_is (b ∷ x) =
     let l : List ℕ = b ∷ x in
-    ap (λ t. cond (t && slice_index l (length l - 1) == 13) (take (length l - 1) l) l) (lt-ltb 0 (length l) (omega arith))
+    ap (λ t. cond (t && slice_index l (length l - 1) == 13) (take (length l - 1) l) l)
+    (lt-ltb 0 (length l) (omega arith))
 
 -- what stands behind the first line end is shorter
 left_shorter : (s : List ℕ) → length (left (after 10 s)) ≤ length s
@@ -62,22 +64,32 @@ left_shorter (b ∷ s) = elim (cases_eq b 10) [
 
 after_shorter : (b n : ℕ) (s r : List ℕ) → after 10 (b ∷ s) ≡ Some r → length (b ∷ s) ≤ suc n → length r ≤ n
 after_shorter b n s r e h = elim (cases_eq b 10) [
-  | inl is ↦ (let same : after 10 (b ∷ s) ≡ Some s = rw (eq-eqb b 10 is) refl in let equal : r ≡ s = cc in rw equal (omega arith))
-  | inr not ↦ (let same : after 10 (b ∷ s) ≡ after 10 s = rw (ne_eqb b 10 not) refl in let less = left_shorter s in
-      let equal : left (after 10 s) ≡ r = ap left (sym same ∙ e) in let long : length (left (after 10 s)) ≡ length r = ap length equal in omega arith)
+  | inl is ↦ (
+      let same : after 10 (b ∷ s) ≡ Some s = rw (eq-eqb b 10 is) refl in
+      let equal : r ≡ s = cc in
+      rw equal (omega arith))
+  | inr not ↦ (
+      let same : after 10 (b ∷ s) ≡ after 10 s = rw (ne_eqb b 10 not) refl in
+      let less = left_shorter s in
+      let equal : left (after 10 s) ≡ r = ap left (sym same ∙ e) in
+      let long : length (left (after 10 s)) ≡ length r = ap length equal in
+      omega arith)
 ]
 
 -- what ends with a line end loses it
-terminated : (l x : List ℕ) → 0 < length l → slice_index l (length l - 1) ≡ 10 → take (length l - 1) l ≡ x → without_terminator l ≡ no_cr x
+terminated : (l x : List ℕ) → 0 < length l → slice_index l (length l - 1) ≡ 10 → take (length l - 1) l ≡ x
+    → without_terminator l ≡ no_cr x
 terminated l x some last front =
-    ap (λ t. cond (t && slice_index l (length l - 1) == 10) (no_cr (take (length l - 1) l)) l) (lt-ltb 0 (length l) some)
+    ap (λ t. cond (t && slice_index l (length l - 1) == 10) (no_cr (take (length l - 1) l)) l)
+    (lt-ltb 0 (length l) some)
     ∙ ap (λ t. cond t (no_cr (take (length l - 1) l)) l) (eq-eqb (slice_index l (length l - 1)) 10 last)
     ∙ ap no_cr front
 
 -- what does not stays as it is
 unterminated : (l : List ℕ) → 0 < length l → slice_index l (length l - 1) ≢ 10 → without_terminator l ≡ l
 unterminated l some last =
-    ap (λ t. cond (t && slice_index l (length l - 1) == 10) (no_cr (take (length l - 1) l)) l) (lt-ltb 0 (length l) some)
+    ap (λ t. cond (t && slice_index l (length l - 1) == 10) (no_cr (take (length l - 1) l)) l)
+    (lt-ltb 0 (length l) some)
     ∙ ap (λ t. cond t (no_cr (take (length l - 1) l)) l) (ne_eqb (slice_index l (length l - 1)) 10 last)
 
 -- a line loses its end, and one carriage return before it
@@ -86,7 +98,8 @@ ended x =
     let l : List ℕ = x ++ 10 ∷ [] in
     let long : length l ≡ length x + 1 = length-append x (10 ∷ []) in
     let back : length l - 1 ≡ length x = omega arith in
-    terminated l x (omega arith) (ap (slice_index l) back ∙ get_or-append_seam x 10 [] 0) (ap (λ n. take n l) back ∙ take-append_seam x (10 ∷ []))
+    terminated l x (omega arith) (ap (slice_index l) back ∙ get_or-append_seam x 10 [] 0)
+    (ap (λ n. take n l) back ∙ take-append_seam x (10 ∷ []))
     ∙ no_cr_is x
 
 -- the last line, which has no end, stays as it is
@@ -109,27 +122,35 @@ lines_up_to (suc n) (b ∷ s) h = go (λ r few. lines_up_to n r few) (after 10 (
     l : List ℕ
     l = b ∷ s
 
-    step : map without_terminator (lines_of l) ≡ without_terminator (before 10 l ++ line_end (after 10 l)) ∷ map without_terminator (lines_of (left (after 10 l)))
+    step : map without_terminator (lines_of l)
+        ≡ without_terminator (before 10 l ++ line_end (after 10 l))
+        ∷ map without_terminator (lines_of (left (after 10 l)))
     step =
         ap (map without_terminator) (lines-step l (omega arith))
         ∙ ap (λ x. without_terminator x ∷ map without_terminator (lines_of (drop (line_len l) l))) (first_line l).0
-        ∙ ap (λ x. without_terminator (before 10 l ++ line_end (after 10 l)) ∷ map without_terminator (lines_of x)) (first_line l).1
+        ∙ ap (λ x. without_terminator (before 10 l ++ line_end (after 10 l)) ∷ map without_terminator (lines_of x))
+        (first_line l).1
 
-    go : ((r : List ℕ) → length r ≤ n → map without_terminator (lines_of r) ≡ lines r) → (o : Option (List ℕ)) → after 10 l ≡ o → map without_terminator (lines_of l) ≡ lines l
+    go : ((r : List ℕ) → length r ≤ n → map without_terminator (lines_of r) ≡ lines r) → (o : Option (List ℕ))
+        → after 10 l ≡ o → map without_terminator (lines_of l) ≡ lines l
     go more None e =
-        let whole : before 10 l ≡ l = sym (before_and_from 10 l ∙ ap (λ o. before 10 l ++ from 10 o) e ∙ append-nil (before 10 l)) in
+        let whole : before 10 l ≡ l = sym (before_and_from 10 l ∙ ap (λ o. before 10 l ++ from 10 o) e
+        ∙ append-nil (before 10 l)) in
         let same : without_terminator (before 10 l ++ []) ≡ l =
-        ap without_terminator (append-nil (before 10 l) ∙ whole) ∙ open_ended l (omega arith) (subst (Without 10) whole (before_without 10 l)) in
+        ap without_terminator (append-nil (before 10 l) ∙ whole)
+        ∙ open_ended l (omega arith) (subst (Without 10) whole (before_without 10 l)) in
         step ∙ ap (λ o. without_terminator (before 10 l ++ line_end o) ∷ map without_terminator (lines_of (left o))) e
         ∙ ap (λ x. x ∷ map without_terminator (lines_of [])) same
         ∙ ap (λ x. l ∷ map without_terminator x) lines-nil
-        ∙ sym (ap lines_of_parts (parts_of l) ∙ ap (λ o. lines_of_parts (before 10 l ∷ parts_after o)) e ∙ ap (λ x. lines_of_parts (x ∷ [])) whole ∙ last_part l (omega arith))
+        ∙ sym (ap lines_of_parts (parts_of l) ∙ ap (λ o. lines_of_parts (before 10 l ∷ parts_after o)) e
+        ∙ ap (λ x. lines_of_parts (x ∷ [])) whole ∙ last_part l (omega arith))
     go more (Some r) e =
         let shorter : length r ≤ n = after_shorter b n s r e h in
         step ∙ ap (λ o. without_terminator (before 10 l ++ line_end o) ∷ map without_terminator (lines_of (left o))) e
         ∙ ap (λ x. x ∷ map without_terminator (lines_of r)) (ended (before 10 l))
         ∙ ap (λ x. strip_carriage_return (before 10 l) ∷ x) (more r shorter)
-        ∙ sym (ap lines_of_parts (parts_of l) ∙ ap (λ o. lines_of_parts (before 10 l ∷ parts_after o)) e ∙ more_parts (before 10 l) r)
+        ∙ sym (ap lines_of_parts (parts_of l) ∙ ap (λ o. lines_of_parts (before 10 l ∷ parts_after o)) e
+        ∙ more_parts (before 10 l) r)
 
 -- the lines that are taken one after another are those of the definition
 pub lines_are : (s : List ℕ) → map without_terminator (lines_of s) ≡ script_lines s

@@ -21,5 +21,9 @@ pub few_more : (most size : ℕ) (a b c : Option (List ℕ)) (read : List ℕ) (
     → LostAtMost (most + size) a c
 few_more most size a b c read count portion took few whole more =
     let long = length-append read (take count portion) in
-    let part = length-take count portion in
-    (read ++ take count portion, omega (arith, few, whole, long, part), Consumes-trans a b c read (take count portion) took more)
+    let part = length-take count portion in (
+      read ++ take count portion,
+      omega (arith, few, whole, long, part),
+      Consumes-trans a b c read (take count portion)
+          took more,
+    )

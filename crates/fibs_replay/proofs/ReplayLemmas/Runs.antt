@@ -41,12 +41,14 @@ unfolding MayBe
 may_be_none login first = tt
 
 -- one more
-accepted_more : (login : List ℕ) (w : World) (events : List Event) (e : Event) → AllAccepted login w events → refusal (after_all login w events) e ≡ None
+accepted_more : (login : List ℕ) (w : World) (events : List Event) (e : Event) → AllAccepted login w events
+    → refusal (after_all login w events) e ≡ None
     → AllAccepted login w (events ++ e ∷ [])
 accepted_more login w [] e h r = (r, tt)
 accepted_more login w (f ∷ events) e h r = (h.0, accepted_more login (after login w f) events e h.1 r)
 
-pub may_be_more : (login : List ℕ) (first : BoardFields) (events : List Event) (e : Event) → MayBe login first events → refusal (world_after login first events) e ≡ None
+pub may_be_more : (login : List ℕ) (first : BoardFields) (events : List Event) (e : Event) → MayBe login first events
+    → refusal (world_after login first events) e ≡ None
     → MayBe login first (events ++ e ∷ [])
 unfolding MayBe world_after
 may_be_more login first events e h r = accepted_more login (start first) events e h r
@@ -54,7 +56,8 @@ may_be_more login first events e h r = accepted_more login (start first) events 
 -- the run
 
 -- some of the events were done, and the lines say the others
-pub record Running (first : BoardFields) (events : List Event) (world : WorldValue) (lines : List (List ℕ)) (done : ℕ) : Type 0 where
+pub record Running (first : BoardFields) (events : List Event) (world : WorldValue) (lines : List (List ℕ))
+    (done : ℕ) : Type 0 where
   pub before : List Event
   pub later : List Event
   pub cut : events ≡ before ++ later
@@ -63,9 +66,18 @@ pub record Running (first : BoardFields) (events : List Event) (world : WorldVal
   pub stands : StandsFrom world first before
   pub count : done ≡ length before
 
-pub run_begins : (first : BoardFields) (events : List Event) (world : WorldValue) (lines : List (List ℕ)) → StandsFrom world first [] → SayEvents lines events → Running first events world lines 0
+pub run_begins : (first : BoardFields) (events : List Event) (world : WorldValue) (lines : List (List ℕ))
+    → StandsFrom world first [] → SayEvents lines events → Running first events world lines 0
 run_begins first events world lines stands said =
-    record { before = []; later = events; cut = refl; said = said; may_be = may_be_none script_login first; stands = stands; count = refl }
+    record {
+      before = [];
+      later = events;
+      cut = refl;
+      said = said;
+      may_be = may_be_none script_login first;
+      stands = stands;
+      count = refl;
+    }
 
 -- the first of some lines says the event that was read of it
 pub record FirstSaid (lines rest : List (List ℕ)) (later : List Event) (e : Event) : Type 0 where
@@ -73,7 +85,8 @@ pub record FirstSaid (lines rest : List (List ℕ)) (later : List Event) (e : Ev
   pub is : later ≡ e ∷ others
   pub said : SayEvents rest others
 
-first_said : (line : List ℕ) (rest : List (List ℕ)) (later : List Event) (event : ProgramEvent) → SayEvents (line ∷ rest) later → ReadsLine (Some event) line
+first_said : (line : List ℕ) (rest : List (List ℕ)) (later : List Event) (event : ProgramEvent)
+    → SayEvents (line ∷ rest) later → ReadsLine (Some event) line
     → FirstSaid (line ∷ rest) rest later (event_of event)
 first_said line rest [] event said exact = absurd said
 first_said line rest (e ∷ others) event said exact =
@@ -81,15 +94,19 @@ first_said line rest (e ∷ others) event said exact =
     let same : e ≡ event_of event = cc in
     record { others = others; is = ap (λ x. x ∷ others) same; said = said.1 }
 
-pub said_first : (lines rest : List (List ℕ)) (line : List ℕ) (later : List Event) (event : ProgramEvent) → lines ≡ line ∷ rest → SayEvents lines later → ReadsLine (Some event) line
+pub said_first : (lines rest : List (List ℕ)) (line : List ℕ) (later : List Event) (event : ProgramEvent)
+    → lines ≡ line ∷ rest → SayEvents lines later → ReadsLine (Some event) line
     → FirstSaid lines rest later (event_of event)
 said_first lines rest line later event is said exact =
-    subst (λ l. FirstSaid l rest later (event_of event)) (sym is) (first_said line rest later event (subst (λ l. SayEvents l later) is said) exact)
+    subst (λ l. FirstSaid l rest later (event_of event)) (sym is)
+    (first_said line rest later event (subst (λ l. SayEvents l later) is said) exact)
 
 -- the next event is done
-pub run_more : (first : BoardFields) (events : List Event) (old new : WorldValue) (lines rest : List (List ℕ)) (line : List ℕ) (done : ℕ) (event : ProgramEvent)
+pub run_more : (first : BoardFields) (events : List Event) (old new : WorldValue) (lines rest : List (List ℕ))
+    (line : List ℕ) (done : ℕ) (event : ProgramEvent)
     → Running first events old lines done → lines ≡ line ∷ rest → ReadsLine (Some event) line
-    → ((es : List Event) → StandsFrom old first es → refusal (world_after script_login first es) (event_of event) ≡ None)
+    → ((es : List Event) → StandsFrom old first es
+    → refusal (world_after script_login first es) (event_of event) ≡ None)
     → ((es : List Event) → StandsFrom old first es → StandsFrom new first (es ++ event_of event ∷ []))
     → Running first events new rest (done + 1)
 run_more first events old new lines rest line done event run is exact accepts goes =
@@ -108,9 +125,12 @@ run_more first events old new lines rest line done event run is exact accepts go
     }
 
 -- it is refused
-pub run_stops : (first : BoardFields) (events : List Event) (old new : WorldValue) (lines rest : List (List ℕ)) (line : List ℕ) (done : ℕ) (event : ProgramEvent) (why : WorldRefusal)
+pub run_stops : (first : BoardFields) (events : List Event) (old new : WorldValue) (lines rest : List (List ℕ))
+    (line : List ℕ) (done : ℕ) (event : ProgramEvent) (why : WorldRefusal)
     → Running first events old lines done → lines ≡ line ∷ rest → ReadsLine (Some event) line
-    → ((es : List Event) → StandsFrom old first es → Tells why (refusal (world_after script_login first es) (event_of event))) → new ≡ old
+    → ((es : List Event) → StandsFrom old first es
+    → Tells why (refusal (world_after script_login first es) (event_of event)))
+    → new ≡ old
     → RanTo first events new done (Some why)
 run_stops first events old new lines rest line done event why run is exact tells kept =
     let next = said_first lines rest line run.later event is run.said exact in
@@ -121,7 +141,8 @@ run_stops first events old new lines rest line done event why run is exact tells
       may_be = run.may_be;
       stands = subst (λ w. StandsFrom w first run.before) (sym kept) run.stands;
       count = run.count;
-      stops = subst (Stops (Some why) (world_after script_login first run.before)) (sym next.is) (tells run.before run.stands);
+      stops = subst (Stops (Some why) (world_after script_login first run.before)) (sym next.is)
+          (tells run.before run.stands);
     }
 
 -- no line is left
@@ -129,7 +150,8 @@ no_event_left : (later : List Event) → SayEvents [] later → later ≡ []
 no_event_left [] said = refl
 no_event_left (e ∷ later) said = absurd said
 
-pub run_ends : (first : BoardFields) (events : List Event) (world : WorldValue) (lines : List (List ℕ)) (done : ℕ) → Running first events world lines done → lines ≡ []
+pub run_ends : (first : BoardFields) (events : List Event) (world : WorldValue) (lines : List (List ℕ)) (done : ℕ)
+    → Running first events world lines done → lines ≡ []
     → RanTo first events world done None
 run_ends first events world lines done run none = record {
   before = run.before;
@@ -156,7 +178,8 @@ rest_readable lines rest line is said = go (subst Readable is said)
     go : Readable (line ∷ rest) → Readable rest
     go h = cut h.0 h.1
 
-pub none_unread : (lines rest : List (List ℕ)) (line : List ℕ) → lines ≡ line ∷ rest → Readable lines → IsNoEvent line → ⊥
+pub none_unread : (lines rest : List (List ℕ)) (line : List ℕ) → lines ≡ line ∷ rest → Readable lines → IsNoEvent line
+    → ⊥
 none_unread lines rest line is said none = go (subst Readable is said)
   where
     cut : (events : List Event) → SayEvents (line ∷ rest) events → ⊥
@@ -169,15 +192,18 @@ none_unread lines rest line is said none = go (subst Readable is said)
 -- what is printed for the script
 
 -- a text that is for the script was printed
-pub printed_for : (r : Result ℕ EngineFault) (script text wanted : List ℕ) (status : ℕ) (held now : Option (List ℕ)) → ReplayText script wanted status → text ≡ wanted
+pub printed_for : (r : Result ℕ EngineFault) (script text wanted : List ℕ) (status : ℕ) (held now : Option (List ℕ))
+    → ReplayText script wanted status → text ≡ wanted
     → Printed status text r held now → PrintedFor script r held now
 printed_for (Ok answered) script text wanted status held now for same h =
     (text, subst (ReplayText script text) (sym h.0) (subst (λ t. ReplayText script t status) (sym same) for), h.1)
-printed_for (Err fault.Device) script text wanted status held now for same h = (text, inl (status, subst (λ t. ReplayText script t status) (sym same) for), h.1)
+printed_for (Err fault.Device) script text wanted status held now for same h =
+    (text, inl (status, subst (λ t. ReplayText script t status) (sym same) for), h.1)
 printed_for (Err fault.Memory) script text wanted status held now for same h = let wrong = h.0 in absurd cc
 
 -- the log so far
-log_for : (r : Result ℕ EngineFault) (script text : List ℕ) (held now : Option (List ℕ)) → LogOf script text → RunPrinted (Some W.Memory) 0 text r held now → PrintedFor script r held now
+log_for : (r : Result ℕ EngineFault) (script text : List ℕ) (held now : Option (List ℕ)) → LogOf script text
+    → RunPrinted (Some W.Memory) 0 text r held now → PrintedFor script r held now
 log_for (Ok answered) script text held now for h = absurd h
 log_for (Err fault.Device) script text held now for h = (text, inr for, h)
 log_for (Err fault.Memory) script text held now for h = (text, for, h)
@@ -188,35 +214,47 @@ pub record IsRun (script : List ℕ) (first : BoardFields) (events : List Event)
   pub says : SayScript (script_lines script) first events
   pub is_good : IsGood first
 
-module _ (script : List ℕ) (first : BoardFields) (events : List Event) (world : WorldValue) (noted : List Entry) (done : ℕ) (held now : Option (List ℕ)) (is : IsRun script first events) where
+module _ (script : List ℕ) (first : BoardFields) (events : List Event) (world : WorldValue) (noted : List Entry)
+    (done : ℕ) (held now : Option (List ℕ)) (is : IsRun script first events) where
   -- it was run to its end
-  ended : (r : Result ℕ EngineFault) (ran : RanTo first events world done None) → noted ≡ (world_after script_login first ran.before).log
+  ended : (r : Result ℕ EngineFault) (ran : RanTo first events world done None)
+      → noted ≡ (world_after script_login first ran.before).log
       → RunPrinted None done (log_text noted) r held now → PrintedFor script r held now
   ended r ran log h =
       let whole : events ≡ ran.before = ran.cut ∙ ap (λ l. ran.before ++ l) ran.stops ∙ append-nil ran.before in
-      printed_for r script (log_text noted ++ end_text done) (log_after first ran.before ++ end_text (length ran.before)) 0 held now
-      (to_the_end first ran.before is.short (subst (SayScript (script_lines script) first) whole is.says) is.is_good ran.may_be)
+      printed_for r script (log_text noted ++ end_text done)
+      (log_after first ran.before ++ end_text (length ran.before)) 0 held now
+      (to_the_end first ran.before is.short (subst (SayScript (script_lines script) first) whole is.says) is.is_good
+      ran.may_be)
       (ap (λ l. log_text l ++ end_text done) log ∙ ap (λ n. log_after first ran.before ++ end_text n) ran.count) h
 
   -- it stopped where memory ran out
-  gave_up : (r : Result ℕ EngineFault) (before later : List Event) → events ≡ before ++ later → MayBe script_login first before → noted ≡ (world_after script_login first before).log
+  gave_up : (r : Result ℕ EngineFault) (before later : List Event) → events ≡ before ++ later
+      → MayBe script_login first before → noted ≡ (world_after script_login first before).log
       → RunPrinted (Some W.Memory) done (log_text noted) r held now → PrintedFor script r held now
   gave_up r before later cut may_be log h =
       log_for r script (log_text noted) held now
       (first, before, later, subst (SayScript (script_lines script) first) cut is.says, may_be, ap log_text log) h
 
   -- it stopped at an event that is refused
-  stopped : (r : Result ℕ EngineFault) (why : WorldRefusal) (before : List Event) (e : Event) (later : List Event) → events ≡ before ++ e ∷ later → MayBe script_login first before
-      → done ≡ length before → refusal (world_after script_login first before) e ≡ Some why → noted ≡ (world_after script_login first before).log
+  stopped : (r : Result ℕ EngineFault) (why : WorldRefusal) (before : List Event) (e : Event) (later : List Event)
+      → events ≡ before ++ e ∷ later → MayBe script_login first before
+      → done ≡ length before → refusal (world_after script_login first before) e ≡ Some why
+      → noted ≡ (world_after script_login first before).log
       → Printed 3 (log_text noted ++ refused_text done why) r held now → PrintedFor script r held now
   stopped r why before e later cut may_be count told log h =
-      printed_for r script (log_text noted ++ refused_text done why) (log_after first before ++ refused_text (length before) why) 3 held now
-      (refused first before e later why is.short (subst (SayScript (script_lines script) first) cut is.says) is.is_good may_be told)
-      (ap (λ l. log_text l ++ refused_text done why) log ∙ ap (λ n. log_after first before ++ refused_text n why) count) h
+      printed_for r script (log_text noted ++ refused_text done why)
+      (log_after first before ++ refused_text (length before) why) 3 held now
+      (refused first before e later why is.short (subst (SayScript (script_lines script) first) cut is.says) is.is_good
+      may_be told)
+      (ap (λ l. log_text l ++ refused_text done why) log ∙ ap (λ n. log_after first before ++ refused_text n why) count)
+      h
 
 -- a refusal is want of memory, or the table's
-told_or_memory : (why : WorldRefusal) (answer : Option WorldRefusal) (done : ℕ) (log : List ℕ) (r : Result ℕ EngineFault) (held now : Option (List ℕ)) → Tells why answer
-    → RunPrinted (Some why) done log r held now → (why ≡ W.Memory) ⊎ ((answer ≡ Some why) × Printed 3 (log ++ refused_text done why) r held now)
+told_or_memory : (why : WorldRefusal) (answer : Option WorldRefusal) (done : ℕ) (log : List ℕ)
+    (r : Result ℕ EngineFault) (held now : Option (List ℕ)) → Tells why answer
+    → RunPrinted (Some why) done log r held now
+    → (why ≡ W.Memory) ⊎ ((answer ≡ Some why) × Printed 3 (log ++ refused_text done why) r held now)
 told_or_memory W.Memory answer done log r held now t h = inl refl
 told_or_memory W.AlreadyOpen answer done log r held now t h = inr (t, h)
 told_or_memory W.NotOpen answer done log r held now t h = inr (t, h)
@@ -228,8 +266,10 @@ told_or_memory W.BadBoard answer done log r held now t h = inr (t, h)
 told_or_memory W.BadDice answer done log r held now t h = inr (t, h)
 
 -- what is printed after a run is for the script
-pub printed_run : (script : List ℕ) (first : BoardFields) (events : List Event) (world : WorldValue) (noted : List Entry) (done : ℕ) (why : Option WorldRefusal) (held now : Option (List ℕ)) (r : Result ℕ EngineFault)
-    → IsRun script first events → RanTo first events world done why → ((es : List Event) → StandsFrom world first es → noted ≡ (world_after script_login first es).log)
+pub printed_run : (script : List ℕ) (first : BoardFields) (events : List Event) (world : WorldValue)
+    (noted : List Entry) (done : ℕ) (why : Option WorldRefusal) (held now : Option (List ℕ)) (r : Result ℕ EngineFault)
+    → IsRun script first events → RanTo first events world done why
+    → ((es : List Event) → StandsFrom world first es → noted ≡ (world_after script_login first es).log)
     → RunPrinted why done (log_text noted) r held now → PrintedFor script r held now
 printed_run script first events world noted done None held now r is ran log h =
     ended script first events world noted done held now is r ran (log ran.before ran.stands) h
@@ -243,15 +283,19 @@ printed_run script first events world noted done (Some why) held now r is ran lo
         gave_up script first events world noted done held now is r ran.before ran.later ran.cut ran.may_be same_log
         (subst (λ w. RunPrinted (Some w) done (log_text noted) r held now) e h)
 
-    go : (later : List Event) → ran.later ≡ later → Stops (Some why) (world_after script_login first ran.before) later → PrintedFor script r held now
+    go : (later : List Event) → ran.later ≡ later → Stops (Some why) (world_after script_login first ran.before) later
+        → PrintedFor script r held now
     go [] e stops = absurd stops
-    go (f ∷ later) e stops = elim (told_or_memory why (refusal (world_after script_login first ran.before) f) done (log_text noted) r held now stops h) [
-      | inl memory ↦ out_of_memory memory
-      | inr told ↦ stopped script first events world noted done held now is r why ran.before f later (ran.cut ∙ ap (λ l. ran.before ++ l) e) ran.may_be ran.count told.0 same_log told.1
-    ]
+    go (f ∷ later) e stops = elim (told_or_memory why (refusal (world_after script_login first ran.before) f) done
+        (log_text noted) r held now stops h) [
+          | inl memory ↦ out_of_memory memory
+          | inr told ↦ stopped script first events world noted done held now is r why ran.before f later
+              (ran.cut ∙ ap (λ l. ran.before ++ l) e) ran.may_be ran.count told.0 same_log told.1
+        ]
 
 -- another reason than want of memory is printed
-pub other_reason : (why : WorldRefusal) (done : ℕ) (log : List ℕ) (r : Result ℕ EngineFault) (held now : Option (List ℕ)) → (why ≡ W.Memory → ⊥)
+pub other_reason : (why : WorldRefusal) (done : ℕ) (log : List ℕ) (r : Result ℕ EngineFault)
+    (held now : Option (List ℕ)) → (why ≡ W.Memory → ⊥)
     → Printed 3 (log ++ refused_text done why) r held now → RunPrinted (Some why) done log r held now
 other_reason W.Memory done log r held now other h = absurd (other refl)
 other_reason W.AlreadyOpen done log r held now other h = h
@@ -270,18 +314,21 @@ pub record FirstRead (all rest : List (List ℕ)) (first : BoardFields) (events 
   pub says : SayScript all first events
   pub others : SayEvents rest events
 
-pub first_read : (all rest : List (List ℕ)) (line : List ℕ) (b first : BoardFields) (events : List Event) → all ≡ line ∷ rest → SayScript all b events → BoardText first line
+pub first_read : (all rest : List (List ℕ)) (line : List ℕ) (b first : BoardFields) (events : List Event)
+    → all ≡ line ∷ rest → SayScript all b events → BoardText first line
     → FirstRead all rest first events
 first_read all rest line b first events is says said =
     let split = subst (λ l. SayScript l b events) is says in
     record { says = subst (λ l. SayScript l first events) (sym is) (said, split.1); others = split.1 }
 
 -- a first board that is refused is not good
-refused_first : (t : Bool) (why : WorldRefusal) → Some why ≡ (if t then None else Some W.BadBoard) → (t ≡ false) × (why ≡ W.BadBoard)
+refused_first : (t : Bool) (why : WorldRefusal) → Some why ≡ (if t then None else Some W.BadBoard) → (t ≡ false)
+    × (why ≡ W.BadBoard)
 refused_first true why h = absurd cc
 refused_first false why h = (refl, cc)
 
-pub bad_first : GoodIsExact → (b : BoardFields) (why : WorldRefusal) → Some why ≡ (if good b then None else Some W.BadBoard) → (¬ IsGood b) × (why ≡ W.BadBoard)
+pub bad_first : GoodIsExact → (b : BoardFields) (why : WorldRefusal)
+    → Some why ≡ (if good b then None else Some W.BadBoard) → (¬ IsGood b) × (why ≡ W.BadBoard)
 bad_first exact b why h =
     let is = refused_first (good b) why h in
     (λ h. let yes = (exact b).1 h in let not = is.0 in absurd cc, is.1)

@@ -15,7 +15,8 @@ abbrev pub ReadsLine : Option ProgramEvent → List ℕ → Type 0
 ReadsLine read line = (e : Event) → (option_map event_of read ≡ Some e) ↔ SaysEvent line e
 
 -- lines that say events, and one more
-pub say_more : (lines : List (List ℕ)) (events : List Event) (line : List ℕ) (e : Event) → SayEvents lines events → SaysEvent line e
+pub say_more : (lines : List (List ℕ)) (events : List Event) (line : List ℕ) (e : Event) → SayEvents lines events
+    → SaysEvent line e
     → SayEvents (lines ++ line ∷ []) (events ++ e ∷ [])
 say_more [] [] line e h said = (said, tt)
 say_more [] (f ∷ events) line e h said = absurd h
@@ -23,16 +24,19 @@ say_more (l ∷ lines) [] line e h said = absurd h
 say_more (l ∷ lines) (f ∷ events) line e h said = (h.0, say_more lines events line e h.1 said)
 
 -- a line that was read says an event
-pub line_said : (read : Option ProgramEvent) (line : List ℕ) → is_some read ≡ true → ReadsLine read line → (e : Event) × SaysEvent line e
+pub line_said : (read : Option ProgramEvent) (line : List ℕ) → is_some read ≡ true → ReadsLine read line → (e : Event)
+    × SaysEvent line e
 line_said None line some exact = absurd cc
 line_said (Some event) line some exact = (event_of event, (exact (event_of event)).0 refl)
 
 -- what is known of the lines before the one in hand
 abbrev pub Read : (all rest : List (List ℕ)) → ℕ → Type 0
-Read all rest number = (before : List (List ℕ)) × (events : List Event) × (all ≡ before ++ rest) × SayEvents before events × (number ≡ length before + 2)
+Read all rest number = (before : List (List ℕ)) × (events : List Event) × (all ≡ before ++ rest)
+    × SayEvents before events × (number ≡ length before + 2)
 
 -- one line more is read
-pub read_more : (all lines rest : List (List ℕ)) (line : List ℕ) (number : ℕ) (read : Option ProgramEvent) → Read all lines number → lines ≡ line ∷ rest
+pub read_more : (all lines rest : List (List ℕ)) (line : List ℕ) (number : ℕ) (read : Option ProgramEvent)
+    → Read all lines number → lines ≡ line ∷ rest
     → is_some read ≡ true → ReadsLine read line → Read all rest (number + 1)
 read_more all lines rest line number read so_far is some exact =
     let said = line_said read line some exact in
@@ -51,11 +55,13 @@ pub none_there : (lines : List (List ℕ)) → lines ≡ [] → FirstUnreadable 
 none_there lines is = subst (λ l. FirstUnreadable l 1) (sym is) no_line
 
 -- of one whose first line says no board
-pub no_board_there : (lines rest : List (List ℕ)) (line : List ℕ) → lines ≡ line ∷ rest → IsNoBoard line → FirstUnreadable lines 1
+pub no_board_there : (lines rest : List (List ℕ)) (line : List ℕ) → lines ≡ line ∷ rest → IsNoBoard line
+    → FirstUnreadable lines 1
 no_board_there lines rest line is none = subst (λ l. FirstUnreadable l 1) (sym is) (no_board none)
 
 -- of one whose first line says one
-pub board_there : (found : Option ℕ) (lines rest : List (List ℕ)) (line : List ℕ) (b : BoardFields) → lines ≡ line ∷ rest → BoardText b line → ReadsEvents found rest → ReadsScript found lines
+pub board_there : (found : Option ℕ) (lines rest : List (List ℕ)) (line : List ℕ) (b : BoardFields)
+    → lines ≡ line ∷ rest → BoardText b line → ReadsEvents found rest → ReadsScript found lines
 board_there found lines rest line b is said others = subst (ReadsScript found) (sym is) (go found others)
   where
     go : (found : Option ℕ) → ReadsEvents found rest → ReadsScript found (line ∷ rest)

@@ -24,7 +24,8 @@ abbrev pub Without : ℕ → List ℕ → Type 0
 Without c s = All (λ b. b ≢ c) s
 
 -- a text that has no c up to a c, or to its end, is split there
-pub split_there : (c : ℕ) (w : List ℕ) (o : Option (List ℕ)) → Without c w → (before c (w ++ from c o) ≡ w) × (after c (w ++ from c o) ≡ o)
+pub split_there : (c : ℕ) (w : List ℕ) (o : Option (List ℕ)) → Without c w → (before c (w ++ from c o) ≡ w)
+    × (after c (w ++ from c o) ≡ o)
 split_there c [] None h = (refl, refl)
 split_there c [] (Some s) h = rw (eq-eqb c c refl) (refl, refl)
 split_there c (b ∷ w) o h =

@@ -7,7 +7,7 @@ use Rattle.fibs_position.specs.declared.direction.Direction.TheVariants.{Down}
 use Rattle.fibs_commands.specs.CommandReading.{ReadCommand}
 use Rattle.fibs_commands.specs.PlainCommands.{PlainValue}
 use Rattle.fibs_commands.specs.PlainReading.{ReadsAs, TextField}
-use Rattle.fibs_model.specs.Events.{Event, Open, Click, Plain, Deliver, Lose, Serve, Own, Repeat, Text}
+use Rattle.fibs_model.specs.Events.{Event, Open, Click, Plain, Deliver, Lose, Serve, Own, Repeat, Text, Order, Withdraw}
 
 -- the greatest number of a connection, and of bytes
 abbrev pub count_limit : ℕ
@@ -24,6 +24,9 @@ pub data SaysEvent : List ℕ → Event → Type 0 where
   says_click : {text : List ℕ} {d : DecisionValue} → ReadCommand text Down d
       → SaysEvent (codes "click " ++ text) (Click d)
   says_plain : {text : List ℕ} {p : PlainValue} → ReadsAs text p → SaysEvent (codes "plain " ++ text) (Plain p)
+  -- a standing order is one to roll
+  says_order : SaysEvent (codes "order roll") Order
+  says_withdraw : SaysEvent (codes "withdraw roll") Withdraw
   says_deliver : {n : ℕ} → n ≤ count_limit → SaysEvent (codes "deliver " ++ decimal n) (Deliver n)
   says_lose : {k : ℕ} → k ≤ count_limit → SaysEvent (codes "lose " ++ decimal k) (Lose k)
   says_serve : {c d1 d2 : ℕ} → c ≤ count_limit → d1 ≤ die_limit → d2 ≤ die_limit

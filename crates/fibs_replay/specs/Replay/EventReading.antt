@@ -8,7 +8,7 @@ use Rattle.fibs_fields.specs.Split.{before, after}
 use Rattle.fibs_position.specs.declared.direction.Direction.TheVariants.{Down}
 use Rattle.fibs_commands.specs.CommandReading.{read_command}
 use Rattle.fibs_commands.specs.PlainReading.{read_plain}
-use Rattle.fibs_model.specs.Events.{Event, Open, Click, Plain, Deliver, Lose, Serve, Own, Repeat, Text}
+use Rattle.fibs_model.specs.Events.{Event, Open, Click, Plain, Deliver, Lose, Serve, Own, Repeat, Text, Order, Withdraw}
 use Rattle.fibs_replay.specs.Replay.EventLines.{count_limit, die_limit, SaysEvent}
 
 -- a word that stands alone
@@ -29,36 +29,38 @@ said_board (malformed_line number k f) = None
 unfoldable pub board_in : List ℕ → Option BoardFields
 board_in line = said_board (reading_value line)
 
--- the second die, behind the first
-abbrev pub second_die : Option (List ℕ) → Option ℕ
-second_die None = None
-second_die (Some rest) = decimal_up_to die_limit rest
+-- one reading, and then another where the first gave something
+infixl 10 ◌>>=◌
+abbrev pub ◌>>=◌ : {A B : Type 0} → Option A → (A → Option B) → Option B
+None >>= f = None
+(Some x) >>= f = f x
 
-abbrev pub serve_of : Option ℕ → Option ℕ → Option ℕ → Option Event
-serve_of (Some conn) (Some one) (Some other) = Some (Serve conn one other)
-serve_of (Some conn) (Some one) None = None
-serve_of (Some conn) None other = None
-serve_of None one other = None
-
--- two dice, behind the connection's number
-abbrev pub served_with : Option ℕ → Option (List ℕ) → Option Event
-served_with conn None = None
-served_with conn (Some dice) = serve_of conn (decimal_up_to die_limit (before 32 dice)) (second_die (after 32 dice))
-
--- a connection and two dice
+-- a connection and two dice, each after one space
 unfoldable pub serving_in : List ℕ → Option Event
-serving_in rest = served_with (decimal_up_to count_limit (before 32 rest)) (after 32 rest)
+serving_in rest = do
+  conn ← decimal_up_to count_limit (before 32 rest)
+  dice ← after 32 rest
+  one ← decimal_up_to die_limit (before 32 dice)
+  last ← after 32 dice
+  other ← decimal_up_to die_limit last
+  Some (Serve conn one other)
+
+-- an event of the standing order, which is one to roll
+unfoldable pub of_roll : Event → List ℕ → Option Event
+of_roll e rest = cond (bytes_eq rest (codes "roll")) (Some e) None
 
 -- a word, and what follows the space behind it
 unfoldable pub joined_in : List ℕ → List ℕ → Option Event
 joined_in word rest =
     cond (bytes_eq word (codes "click")) (option_map (λ d. Click d) (read_command Down rest))
     (cond (bytes_eq word (codes "plain")) (option_map (λ p. Plain p) (read_plain rest))
+    (cond (bytes_eq word (codes "order")) (of_roll Order rest)
+    (cond (bytes_eq word (codes "withdraw")) (of_roll Withdraw rest)
     (cond (bytes_eq word (codes "deliver")) (option_map (λ n. Deliver n) (decimal_up_to count_limit rest))
     (cond (bytes_eq word (codes "lose")) (option_map (λ k. Lose k) (decimal_up_to count_limit rest))
     (cond (bytes_eq word (codes "serve")) (serving_in rest)
     (cond (bytes_eq word (codes "own")) (option_map (λ b. Own b) (board_in rest))
-    (cond (bytes_eq word (codes "text")) (Some (Text rest)) None))))))
+    (cond (bytes_eq word (codes "text")) (Some (Text rest)) None))))))))
 
 abbrev pub event_of_word : List ℕ → Option (List ℕ) → Option Event
 event_of_word word None = alone_in word

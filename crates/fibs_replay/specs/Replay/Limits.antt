@@ -6,8 +6,8 @@ abbrev pub read_len : ℕ
 read_len = 4096
 
 -- bytes of the log that are written at once
-abbrev pub portion_len : ℕ
-portion_len = 8192
+abbrev pub write_len : ℕ
+write_len = 8192
 
 -- a space and a number
 abbrev pub number_len : ℕ
@@ -27,7 +27,7 @@ ask_len = 367
 
 -- a space, and the answer to a click
 abbrev pub answer_len : ℕ
-answer_len = 12
+answer_len = 15
 
 -- what an entry says
 abbrev pub said_len : ℕ

@@ -5,10 +5,13 @@ use Rattle.fibs_boards.specs.Board.{spelling}
 use Rattle.fibs_session.specs.declared.refusal.Refusal.{Refusal}
 use Rattle.fibs_session.specs.History.Asked.{asked_text}
 use Rattle.fibs_session.specs.History.Log.{Entry, Opened, LoggedIn, Welcomed, Informed, Shown, Clicked, Sent, Took}
-use Rattle.fibs_session.specs.History.Log.{Undone, Lost}
+use Rattle.fibs_session.specs.History.Log.{Undone, Lost, Ordered, Withdrawn}
 use Rattle.fibs_session.specs.History.Refusals.{refusal_name}
 use Rattle.fibs_session.specs.History.Words.{Ask}
-use Rattle.fibs_exchange.specs.Turns.Acts.{line_bytes}
+
+-- a line as it is written: with a byte 10
+abbrev pub line_bytes : List ℕ → List ℕ
+line_bytes line = line ++ 10 ∷ []
 
 -- a word, and the number of a connection
 abbrev pub of_connection : List ℕ → ℕ → List ℕ
@@ -44,6 +47,8 @@ entry_line (Sent c b d) = of_connection (codes "sent") c ++ 32 ∷ ask_text (b, 
 entry_line (Took c b d) = of_connection (codes "took") c ++ 32 ∷ ask_text (b, d)
 entry_line (Undone c b d) = of_connection (codes "undone") c ++ 32 ∷ ask_text (b, d)
 entry_line (Lost c unconfirmed) = of_connection (codes "lost") c ++ unconfirmed_text unconfirmed
+entry_line (Ordered c) = of_connection (codes "ordered") c
+entry_line (Withdrawn c) = of_connection (codes "withdrawn") c
 
 -- the lines of a log, each ended by a byte 10
 abbrev pub log_text : List Entry → List ℕ

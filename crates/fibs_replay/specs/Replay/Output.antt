@@ -12,8 +12,7 @@ use Rattle.fibs_model.specs.Refusals.{refusal}
 use Rattle.fibs_model.specs.Runs.{MayBe, world_after}
 use Rattle.fibs_show.specs.Reads.{LostAtMost}
 use Rattle.fibs_show.specs.Writing.{GainedFront}
-use Rattle.fibs_exchange.specs.Turns.Acts.{line_bytes}
-use Rattle.fibs_replay.specs.Replay.LogLines.{log_text}
+use Rattle.fibs_replay.specs.Replay.LogLines.{line_bytes, log_text}
 use Rattle.fibs_replay.specs.Replay.Scripts.{script_limit, script_lines, SayScript, FirstUnreadable, ReadsScript}
 use Rattle.fibs_replay.specs.declared.replay.script.Script.{Script}
 use Rattle.fibs_replay.specs.declared.replay.script.Script.TheVariants.{Readable, Unreadable}

@@ -2,7 +2,7 @@
 use Rattle.std.specs.Prelude.{◌≡◌, ◌≤◌, ◌+◌, ℕ, List, ◌++◌, length, Option}
 use Rattle.std.specs.Io.KnownBytes.{Appends}
 use Rattle.fibs_show.specs.Writing.{GainedFront}
-use Rattle.fibs_replay.specs.Replay.Limits.{portion_len}
+use Rattle.fibs_replay.specs.Replay.Limits.{write_len}
 use Rattle.fibs_show.specs.Writing.{Progress, Whole, Broken}
 
 -- a writer gained a front of the text, and the rest of it is left
@@ -12,5 +12,5 @@ Passed held now text left = (front : List ℕ) × Appends held now front × (tex
 -- a portion with this text has become one with room for so many bytes more; or, where a write failed, the writer gained
 -- a front of the text, and at least one byte of it is missing
 abbrev pub MadeRoom : Progress → ℕ → Option (List ℕ) → Option (List ℕ) → List ℕ → List ℕ → Type 0
-MadeRoom Whole room held now text left = Passed held now text left × (length left + room ≤ portion_len)
+MadeRoom Whole room held now text left = Passed held now text left × (length left + room ≤ write_len)
 MadeRoom Broken room held now text left = GainedFront held now text

@@ -2,12 +2,11 @@
 ghost use Rattle.std.specs.Prelude.{◌≡◌, ◌↔◌, Some, IfSome, IfNone, option_map};
 ghost use Rattle.fibs_boards.specs.Board.{BoardText};
 ghost use Rattle.fibs_fields.specs.Decimal.{decimal_up_to};
-ghost use Rattle.fibs_fields.specs.Split.{seen};
 ghost use Rattle.fibs_boards.specs.StoredBoard.{fields_of};
 ghost use Rattle.fibs_model.specs.EventOf.{event_of};
 ghost use Rattle.fibs_model.specs.Events.{Event as EventValue};
 ghost use Rattle.fibs_replay.specs.Replay.EventLines.{SaysEvent};
-ghost use Rattle.fibs_replay.specs.Replay.EventReading.{alone_in, board_in, event_in, joined_in, second_die};
+ghost use Rattle.fibs_replay.specs.Replay.EventReading.{alone_in, board_in, event_in, joined_in, of_roll};
 ghost use Rattle.fibs_replay.specs.Replay.EventReading.{serving_in};
 ghost use Rattle.fibs_replay.specs.Replay.Scripts.{IsNoBoard, IsNoEvent};
 
@@ -45,23 +44,16 @@ pub fn read_board(line: &[u8]) -> Option<Board>
     Board::read(line).ok()
 }
 
-/// The number of the second die, behind the first.
-fn read_second_die(rest: Option<&[u8]>) -> Option<u8>
-    ensures { result ≡ second_die (seen rest.entry) }
-{
-    read_die(rest?)
-}
-
 /// A connection and two dice.
 #[tactic(auto, unfolding(crate::specs::Replay::EventReading::serving_in))]
 fn read_serving<'a>(rest: &[u8]) -> Option<Event<'a>>
     ensures { option_map event_of result ≡ serving_in rest.now }
 {
     let (conn, dice) = split(rest, b' ');
-    let (one, other) = split(dice?, b' ');
     let conn = read_count(conn)?;
+    let (one, other) = split(dice?, b' ');
     let one = read_die(one)?;
-    let other = read_second_die(other)?;
+    let other = read_die(other?)?;
     Some(Event::Serve {
         conn,
         dice: [one, other],
@@ -84,6 +76,18 @@ fn read_alone<'a>(word: &[u8]) -> Option<Event<'a>>
     }
 }
 
+/// An event of the standing order, which is one to roll.
+#[tactic(auto, unfolding(crate::specs::Replay::EventReading::of_roll))]
+fn read_roll<'a>(event: Event<'a>, rest: &[u8]) -> Option<Event<'a>>
+    ensures { option_map event_of result ≡ of_roll (event_of event.entry) rest.now }
+{
+    if rest == b"roll".as_slice() {
+        Some(event)
+    } else {
+        None
+    }
+}
+
 /// A word, and what follows the space behind it.
 #[tactic(auto, unfolding(crate::specs::Replay::EventReading::joined_in))]
 fn read_joined<'a>(word: &[u8], rest: &'a [u8]) -> Option<Event<'a>>
@@ -93,6 +97,10 @@ fn read_joined<'a>(word: &[u8], rest: &'a [u8]) -> Option<Event<'a>>
         Some(Event::Click(read_command(rest, Direction::Down)?))
     } else if word == b"plain".as_slice() {
         Some(Event::Plain(read_plain(rest)?))
+    } else if word == b"order".as_slice() {
+        read_roll(Event::Order, rest)
+    } else if word == b"withdraw".as_slice() {
+        read_roll(Event::Withdraw, rest)
     } else if word == b"deliver".as_slice() {
         Some(Event::Deliver(read_count(rest)?))
     } else if word == b"lose".as_slice() {
@@ -111,9 +119,10 @@ fn read_joined<'a>(word: &[u8], rest: &'a [u8]) -> Option<Event<'a>>
 /// The event that a line of a script says, without its line end; None where it says none.
 ///
 /// The first word tells the event, and its parts follow, each after one space: `open`, `click COMMAND` in the place
-/// numbers of a player who goes from 24 down to 1, `plain COMMAND`, `deliver N`, `lose K`, `serve C D1 D2`,
-/// `own BOARD`, `repeat`, `text BYTES`, where all that follows the space is the text, which is empty where there is no
-/// space. N, K and C are decimals without leading zero up to 4,294,967,295, D1 and D2 up to 255.
+/// numbers of a player who goes from 24 down to 1, `plain COMMAND`, `order roll`, `withdraw roll`, `deliver N`,
+/// `lose K`, `serve C D1 D2`, `own BOARD`, `repeat`, `text BYTES`, where all that follows the space is the text, which
+/// is empty where there is no space. N, K and C are decimals without leading zero up to 4,294,967,295, D1 and D2 up to
+/// 255.
 #[tactic(auto, unfolding(crate::specs::Replay::EventReading::event_in))]
 pub fn read_event(line: &[u8]) -> Option<Event<'_>>
     ensures none { IfNone result (IsNoEvent line.now) }

@@ -7,7 +7,7 @@ pub const READ_LEN: usize = 4096;
 pub const SCRIPT_LIMIT: usize = 1_048_576;
 
 /// How many bytes of the log are written at once.
-pub const PORTION_LEN: usize = 8192;
+pub const WRITE_LEN: usize = 8192;
 
 /// The most bytes of an entry's line, with its end.
 pub const ENTRY_LEN: usize = 417;

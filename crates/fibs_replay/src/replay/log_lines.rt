@@ -7,13 +7,12 @@ ghost use Rattle.fibs_boards.specs.Board.{spelling};
 ghost use Rattle.fibs_boards.specs.StoredBoard.{fields_of};
 ghost use Rattle.fibs_session.specs.Calls.SessionOf.{ask_of};
 ghost use Rattle.fibs_model.specs.EntryOf.{entry_of};
-ghost use Rattle.fibs_exchange.specs.Turns.Acts.{line_bytes};
 ghost use Rattle.fibs_replay.specs.Replay.LogLines.{answer_text, ask_text, entry_line, flag_text, of_connection};
-ghost use Rattle.fibs_replay.specs.Replay.LogLines.{unconfirmed_text};
-ghost use Rattle.fibs_replay.specs.Replay.Limits.{ask_len, board_len, entry_len, flag_len, number_len, portion_len};
+ghost use Rattle.fibs_replay.specs.Replay.LogLines.{line_bytes, unconfirmed_text};
+ghost use Rattle.fibs_replay.specs.Replay.Limits.{ask_len, board_len, entry_len, flag_len, number_len, write_len};
 ghost use Rattle.fibs_replay.specs.Replay.Limits.{answer_len, said_len};
 
-use super::limits::PORTION_LEN;
+use super::limits::WRITE_LEN;
 use arrayvec::ArrayVec;
 use fibs_messages::Board;
 use fibs_model::Entry;
@@ -22,11 +21,11 @@ use fibs_show::printing::fixed::append;
 use itoa::Buffer;
 
 /// Text on its way to a writer: as much as is written at once.
-pub type Portion = ArrayVec<u8, PORTION_LEN>;
+pub type Portion = ArrayVec<u8, WRITE_LEN>;
 
 /// Appends a word and the number of a connection.
 fn append_connection(text: &mut Portion, word: &[u8], conn: usize)
-    requires { array_vec_len text.old + length word.now + number_len ≤ portion_len }
+    requires { array_vec_len text.old + length word.now + number_len ≤ write_len }
     ensures text { text.new.items ≡ text.old.items ++ of_connection word.now conn }
     ensures short { array_vec_len text.new ≤ array_vec_len text.old + length word.now + number_len }
 {
@@ -37,7 +36,7 @@ fn append_connection(text: &mut Portion, word: &[u8], conn: usize)
 
 /// Appends whether the server does something by itself, behind a space.
 fn append_flag(text: &mut Portion, flag: bool)
-    requires { array_vec_len text.old + flag_len ≤ portion_len }
+    requires { array_vec_len text.old + flag_len ≤ write_len }
     ensures text { text.new.items ≡ text.old.items ++ (32 ∷ flag_text flag) }
     ensures short { array_vec_len text.new ≡ array_vec_len text.old + flag_len }
 {
@@ -47,7 +46,7 @@ fn append_flag(text: &mut Portion, flag: bool)
 
 /// Appends a board, behind a space.
 fn append_board(text: &mut Portion, board: &Board)
-    requires { array_vec_len text.old + board_len ≤ portion_len }
+    requires { array_vec_len text.old + board_len ≤ write_len }
     ensures text { text.new.items ≡ text.old.items ++ (32 ∷ spelling (fields_of board.now)) }
     ensures short { array_vec_len text.new ≤ array_vec_len text.old + board_len }
 {
@@ -57,7 +56,7 @@ fn append_board(text: &mut Portion, board: &Board)
 
 /// Appends a board, and the command of what was decided on it, in its numbers, behind a space.
 fn append_ask(text: &mut Portion, asked: &Outstanding)
-    requires { array_vec_len text.old + ask_len ≤ portion_len }
+    requires { array_vec_len text.old + ask_len ≤ write_len }
     ensures text { text.new.items ≡ text.old.items ++ (32 ∷ ask_text (ask_of asked.now)) }
     ensures short { array_vec_len text.new ≤ array_vec_len text.old + ask_len }
 {
@@ -70,7 +69,7 @@ fn append_ask(text: &mut Portion, asked: &Outstanding)
 
 /// Appends the answer to a click, behind a space.
 fn append_answer(text: &mut Portion, answer: Result<(), Refusal>)
-    requires { array_vec_len text.old + answer_len ≤ portion_len }
+    requires { array_vec_len text.old + answer_len ≤ write_len }
     ensures text { text.new.items ≡ text.old.items ++ (32 ∷ answer_text (result_err answer)) }
     ensures short { array_vec_len text.new ≤ array_vec_len text.old + answer_len }
 {
@@ -83,7 +82,7 @@ fn append_answer(text: &mut Portion, answer: Result<(), Refusal>)
 
 /// Appends what was unconfirmed, behind a space.
 fn append_unconfirmed(text: &mut Portion, unconfirmed: &Option<Outstanding>)
-    requires { array_vec_len text.old + ask_len ≤ portion_len }
+    requires { array_vec_len text.old + ask_len ≤ write_len }
     ensures text { text.new.items ≡ text.old.items ++ unconfirmed_text (option_map ask_of unconfirmed.now) }
     ensures short { array_vec_len text.new ≤ array_vec_len text.old + ask_len }
 {
@@ -96,7 +95,7 @@ fn append_unconfirmed(text: &mut Portion, unconfirmed: &Option<Outstanding>)
 /// Appends what an entry says, without a line end.
 #[tactic(auto, unfolding(crate::specs::Replay::LogLines::entry_line))]
 fn append_said(text: &mut Portion, entry: &Entry)
-    requires { array_vec_len text.old + said_len ≤ portion_len }
+    requires { array_vec_len text.old + said_len ≤ write_len }
     ensures text { text.new.items ≡ text.old.items ++ entry_line (entry_of entry.now) }
     ensures short { array_vec_len text.new ≤ array_vec_len text.old + said_len }
 {
@@ -167,12 +166,14 @@ fn append_said(text: &mut Portion, entry: &Entry)
             append_connection(text, b"lost", *conn);
             append_unconfirmed(text, unconfirmed);
         }
+        Entry::Ordered { conn } => append_connection(text, b"ordered", *conn),
+        Entry::Withdrawn { conn } => append_connection(text, b"withdrawn", *conn),
     }
 }
 
 /// Appends the line of an entry. It has at most 417 bytes.
 pub fn append_entry(text: &mut Portion, entry: &Entry)
-    requires { array_vec_len text.old + entry_len ≤ portion_len }
+    requires { array_vec_len text.old + entry_len ≤ write_len }
     ensures { text.new.items ≡ text.old.items ++ line_bytes (entry_line (entry_of entry.now)) }
 {
     append_said(text, entry);

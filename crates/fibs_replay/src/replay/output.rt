@@ -2,7 +2,7 @@
 ghost use Rattle.std.specs.Prelude.{◌≡◌, ◌≤◌, ◌++◌, length, map};
 ghost use Rattle.fibs_model.specs.EntryOf.{entry_of};
 ghost use Rattle.fibs_show.specs.Writing.{Wrote, progress_of};
-ghost use Rattle.fibs_replay.specs.Replay.Limits.{portion_len};
+ghost use Rattle.fibs_replay.specs.Replay.Limits.{write_len};
 ghost use Rattle.fibs_replay.specs.Replay.LogLines.{log_text};
 ghost use Rattle.fibs_replay.specs.Replay.Passing.{MadeRoom};
 ghost use Rattle.fibs_replay.specs.Replay.Output.{end_text, refused_text, unread_text};
@@ -58,7 +58,7 @@ pub fn refused_line(done: usize, why: WorldRefusal) -> LastLine
 
 /// Makes room for so many bytes more: where there is less, the text is written.
 fn make_room<W: Write>(text: &mut Portion, room: usize, writer: &mut W) -> Result<(), Broken>
-    requires { room ≤ portion_len }
+    requires { room ≤ write_len }
     ensures { MadeRoom (progress_of result) room (W.contents writer.old) (W.contents writer.new)
         text.old.items text.new.items }
 {
@@ -71,7 +71,7 @@ fn make_room<W: Write>(text: &mut Portion, room: usize, writer: &mut W) -> Resul
 
 /// Writes the line of each entry, in portions, and then a last line. After a failed write it makes no other.
 pub fn print_log<W: Write>(entries: &[Entry], last: &[u8], writer: &mut W) -> Result<(), Broken>
-    requires { length last.now ≤ portion_len }
+    requires { length last.now ≤ write_len }
     ensures { Wrote (progress_of result) (W.contents writer.old) (W.contents writer.new)
         (log_text (map entry_of entries.now) ++ last.now) }
 {

@@ -6,7 +6,7 @@ ghost use Rattle.fibs_model.specs.EntryOf.{entry_of};
 ghost use Rattle.fibs_model.specs.Events.{Event};
 ghost use Rattle.fibs_show.specs.Printing.{Printed};
 ghost use Rattle.fibs_show.specs.Status.{code_of};
-ghost use Rattle.fibs_replay.specs.Replay.Limits.{portion_len};
+ghost use Rattle.fibs_replay.specs.Replay.Limits.{write_len};
 ghost use Rattle.fibs_replay.specs.Replay.LogLines.{log_text};
 ghost use Rattle.fibs_replay.specs.Replay.Running.{RanTo, RunPrinted, StandsFrom};
 ghost use Rattle.fibs_replay.specs.Replay.Scripts.{SayEvents};
@@ -67,7 +67,7 @@ fn print_ending<W: Write>(
     status: Status,
     writer: &mut W,
 ) -> Result<u8, EngineFault>
-    requires { length last.now ≤ portion_len }
+    requires { length last.now ≤ write_len }
     ensures { Printed (code_of status) (log_text (map entry_of log.now) ++ last.now) result
         (W.contents writer.old) (W.contents writer.new) }
 {

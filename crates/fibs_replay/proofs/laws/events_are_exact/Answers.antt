@@ -7,5 +7,6 @@ returns c = events_are_exact (record {
   commands = c.read_command_is_exact.ensures;
   plain = c.read_plain_is_exact.ensures;
   decimals = c.decimals_are_exact.ensures;
-  boards = boards_are_exact c.reading_is_exact.ensures c.each_line_has_one_reading.ensures c.spellings_are_lines.ensures.begins;
+  boards = boards_are_exact c.reading_is_exact.ensures c.each_line_has_one_reading.ensures
+      c.spellings_are_lines.ensures.begins;
 })

@@ -13,11 +13,14 @@ returns-in-Err g c =
     let script = c.args.script.now in
     let first = fields_of c.in-Some.board in
     let taken = c.in-Some.ensures.some in
-    let read = first_read (script_lines script) c.first_board.new.lines taken.0 c.requires.readable.0 first c.requires.readable.1
+    let read = first_read (script_lines script) c.first_board.new.lines taken.0 c.requires.readable.0 first
+    c.requires.readable.1
     (sym c.script_lines-lines.ensures.value ∙ taken.1) c.requires.readable.2 taken.2 in
     let bad = bad_first c.good_is_exact.ensures first c.in-Err.why c.in-Err.ensures.refusal in
-    printed_for c.print_unrun.result script c.refused_line.result.items _ 3 (g.W.Write.contents c.args.writer.now) (g.W.Write.contents c.print_unrun.new.writer)
-    (bad_board first c.requires.readable.1 c.requires.short read.says bad.0) (c.refused_line.ensures ∙ ap (refused_text 0) bad.1) c.print_unrun.ensures
+    printed_for c.print_unrun.result script c.refused_line.result.items _ 3 (g.W.Write.contents c.args.writer.now)
+    (g.W.Write.contents c.print_unrun.new.writer)
+    (bad_board first c.requires.readable.1 c.requires.short read.says bad.0)
+    (c.refused_line.ensures ∙ ap (refused_text 0) bad.1) c.print_unrun.ensures
 
 pub returns-in-Ok : goal.returns-in-Ok
 returns-in-Ok g c =
@@ -30,8 +33,15 @@ returns-in-Ok g c =
     let login = c.script_login.result in
     let begins =
     subst (λ n. WorldStandsAfter c.in-Ok.world n (codes "secret") first []) c.script_login.ensures.name
-    (subst (λ p. WorldStandsAfter c.in-Ok.world (name_of login) p first []) c.script_login.ensures.password c.in-Ok.ensures.stands) in
-    printed_run script first events c.run_lines-end.new.world (map entry_of c.log.result.now) c.run_lines-end.result.done c.run_lines-end.result.refusal
+    (subst (λ p. WorldStandsAfter c.in-Ok.world (name_of login) p first []) c.script_login.ensures.password
+    c.in-Ok.ensures.stands) in
+    printed_run script first events c.run_lines-end.new.world (map entry_of c.log.result.now)
+    c.run_lines-end.result.done c.run_lines-end.result.refusal
     (g.W.Write.contents c.args.writer.now) (g.W.Write.contents c.print_run.new.writer) c.print_run.result
-    (record { short = c.requires.short; says = read.says; is_good = good_first c.good_is_exact.ensures first c.in-Ok.ensures.refusal })
-    (c.run_lines-end.ensures first events begins read.others) (λ es h. c.log.ensures.log (codes "ann") (codes "secret") first es h) c.print_run.ensures
+    (record {
+      short = c.requires.short;
+      says = read.says;
+      is_good = good_first c.good_is_exact.ensures first c.in-Ok.ensures.refusal;
+    })
+    (c.run_lines-end.ensures first events begins read.others)
+    (λ es h. c.log.ensures.log (codes "ann") (codes "secret") first es h) c.print_run.ensures

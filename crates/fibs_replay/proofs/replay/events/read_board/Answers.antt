@@ -6,7 +6,8 @@ use Rattle.fibs_replay.proofs.replay.events.read_board.Goals as goal
 pub returns-clause-value : goal.returns-clause-value
 returns-clause-value c =
     ap (option_map fields_of) c.ok.ensures.value
-    ∙ board_is_read (boards_are_exact c.reading_is_exact.ensures c.each_line_has_one_reading.ensures c.spellings_are_lines.ensures.begins)
+    ∙ board_is_read (boards_are_exact c.reading_is_exact.ensures c.each_line_has_one_reading.ensures
+    c.spellings_are_lines.ensures.begins)
     c.args.line.now c.read.result c.read.ensures.found c.read.ensures.only
 
 pub returns-clause-some : goal.returns-clause-some

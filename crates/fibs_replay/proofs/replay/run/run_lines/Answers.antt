@@ -19,7 +19,8 @@ loop-line-preserved c =
       count = omega arith;
       readable = rest_readable c.loop-line.lines c.next.new.self c.in-Some.line.now is before.readable;
       run = λ first events stands said.
-          run_more first events c.loop-line.world c.step.new.self c.loop-line.lines c.next.new.self c.in-Some.line.now c.loop-line.done c.in-Some-read_event.event
+          run_more first events c.loop-line.world c.step.new.self c.loop-line.lines c.next.new.self c.in-Some.line.now
+          c.loop-line.done c.in-Some-read_event.event
           (before.run first events stands said) is c.in-Some-read_event.ensures.exact
           (λ es h. c.in-Ok.ensures.refusal (codes "ann") (codes "secret") first es h)
           (λ es h. c.in-Ok.ensures.stands (codes "ann") (codes "secret") first es h);
@@ -27,10 +28,12 @@ loop-line-preserved c =
 
 pub returns-in-Err : goal.returns-in-Err
 returns-in-Err c = λ first events stands said.
-    run_stops first events c.loop-line.world c.step.new.self c.loop-line.lines c.next.new.self c.in-Some.line.now c.loop-line.done c.in-Some-read_event.event c.in-Err.why
+    run_stops first events c.loop-line.world c.step.new.self c.loop-line.lines c.next.new.self c.in-Some.line.now
+    c.loop-line.done c.in-Some-read_event.event c.in-Err.why
     (c.loop-line.invariant.run first events stands said) c.in-Some.ensures.steps c.in-Some-read_event.ensures.exact
     (λ es h. c.in-Err.ensures.refusal (codes "ann") (codes "secret") first es h) c.in-Err.ensures.refused
 
 pub returns : goal.returns
 returns c = λ first events stands said.
-    run_ends first events c.loop-line.world c.loop-line.lines c.loop-line.done (c.loop-line.invariant.run first events stands said) c.in_default.ensures.steps.0
+    run_ends first events c.loop-line.world c.loop-line.lines c.loop-line.done
+    (c.loop-line.invariant.run first events stands said) c.in_default.ensures.steps.0

@@ -11,7 +11,8 @@ abbrev pub invariant-loop-line : goal.invariant-loop-line
 invariant-loop-line l = record {
   count : l.done + length l.lines ≡ length l.initial.lines;
   readable : Readable l.lines;
-  run : (first : BoardFields) (events : List Event) → StandsFrom l.initial.world first [] → SayEvents l.initial.lines events
+  run : (first : BoardFields) (events : List Event) → StandsFrom l.initial.world first []
+      → SayEvents l.initial.lines events
       → Running first events l.world l.lines l.done;
 }
 
