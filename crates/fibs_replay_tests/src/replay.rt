@@ -228,11 +228,7 @@ fn a_standing_order_rolls_once(rt: HostRuntime) {
 
 #[test]
 fn an_order_on_a_board_that_is_shown_waits_for_the_next_board(rt: HostRuntime) {
-    let script = joined(&[
-        NO_DOUBLE,
-        LOGS_IN,
-        b"order roll\nrepeat\ndeliver 10000\n",
-    ]);
+    let script = joined(&[NO_DOUBLE, LOGS_IN, b"order roll\nrepeat\ndeliver 10000\n"]);
     let wanted = joined(&[
         b"opened 1\nloggedin 1\nwelcomed 1\ninformed 1 0 0\nshown 1 ",
         NO_DOUBLE,
