@@ -1,1 +1,3 @@
 pub mod Looping
+pub mod Tables
+pub mod Happening

@@ -1,11 +1,9 @@
 //! `fibs loop`: a script of events, played by a client and a model server over real sockets.
-ghost use Rattle.fibs_show.specs.Status.{code_of};
-ghost use Rattle.std.specs.Prelude.{◌≡◌, ◌≤◌, ◌<◌, ◌^◌, List, length, IfOk};
+ghost use Rattle.std.specs.Prelude.{◌≤◌, ◌<◌, ◌^◌, List, length};
 ghost use Rattle.fibs_boards.specs.Board.{BoardFields};
 ghost use Rattle.fibs_model.specs.Events.{Event};
 ghost use Rattle.fibs_loop.specs.Looping.{EndsScript};
-ghost use Rattle.fibs_replay.specs.Replay.Limits.{write_len};
-ghost use Rattle.fibs_replay.specs.Replay.Scripts.{SayEvents, SayScript, script_lines};
+ghost use Rattle.fibs_replay.specs.Replay.Scripts.{SayEvents, SayScript, script_limit, script_lines};
 
 mod hearing;
 mod queue;
@@ -14,16 +12,14 @@ mod stop;
 mod table;
 
 use bstr::Lines;
-use fibs_model::Entry;
+use fibs_model::{Entry, RunEnd};
 use fibs_replay::replay::events::read_event;
-use fibs_replay::replay::first_board;
-use fibs_replay::replay::input::read_script;
-use fibs_replay::replay::limits::READ_LEN;
-use fibs_replay::replay::output::{end_line, print_log, refused_line, unread_line};
-use fibs_replay::replay::run::script_login;
-use fibs_replay::replay::script::{first_unreadable, script_lines};
+use fibs_replay::replay::input::read_lines;
+use fibs_replay::replay::output::{print_log, refused_line, unread_line};
+use fibs_replay::replay::run::{print_run, script_login};
+use fibs_replay::replay::script::{Script, script_lines};
+use fibs_replay::replay::{first_board, print_unrun};
 use fibs_show::fault::EngineFault;
-use fibs_show::status::Status;
 use std::alloc::Global;
 use std::io::{Read, Write};
 use std::net::{Net, TcpListener, TcpStream};
@@ -47,27 +43,10 @@ pub fn play_loop<N: Net<Stream = TcpStream>, R: Read, W: Write>(
 ) -> Result<u8, EngineFault>
     ensures { EndsScript result }
 {
-    match read_script(alloc, &mut [0; READ_LEN], reader)? {
-        None => finish(&[], &unread_line(0), Status::Refused, writer),
-        Some(script) => match first_unreadable(script.as_slice()) {
-            Some(number) => finish(&[], &unread_line(number), Status::Refused, writer),
-            None => play_script(rt, alloc, listener, script.as_slice(), writer),
-        },
+    match read_lines(alloc, reader)? {
+        Script::Unreadable(number) => print_unrun(&unread_line(number), writer),
+        Script::Readable(script) => play_script(rt, alloc, listener, script.as_slice(), writer),
     }
-}
-
-/// Prints the log and a last line, and answers the status.
-fn finish<W: Write>(
-    log: &[Entry],
-    last: &[u8],
-    status: Status,
-    writer: &mut W,
-) -> Result<u8, EngineFault>
-    requires { length last.now ≤ write_len }
-    ensures { IfOk result (λ s. s ≡ code_of status) }
-{
-    print_log(log, last, writer)?;
-    Ok(status.code())
 }
 
 /// Plays a script whose lines are readable.
@@ -78,7 +57,7 @@ fn play_script<N: Net<Stream = TcpStream>, W: Write>(
     script: &[u8],
     writer: &mut W,
 ) -> Result<u8, EngineFault>
-    requires short { length script.now < 2 ^ 63 }
+    requires short { length script.now ≤ script_limit }
     requires readable { (b : BoardFields) × (events : List Event) × SayScript (script_lines script.now) b events }
     ensures { EndsScript result }
 {
@@ -88,7 +67,7 @@ fn play_script<N: Net<Stream = TcpStream>, W: Write>(
         None => unreachable!(),
     };
     match Table::new(alloc, board, script_login()) {
-        Err(why) => finish(&[], &refused_line(0, why), Status::Refused, writer),
+        Err(why) => print_unrun(&refused_line(0, why), writer),
         Ok(mut table) => {
             let (done, stop) = play_lines(&mut table, rt, listener, &mut lines);
             print_end(table.log(), done, stop, writer)
@@ -129,12 +108,13 @@ fn print_end<W: Write>(
 ) -> Result<u8, EngineFault>
     ensures { EndsScript result }
 {
-    match stop {
-        None => finish(log, &end_line(done), Status::Done, writer),
-        Some(Stop::Refused(why)) => finish(log, &refused_line(done, why), Status::Refused, writer),
+    let refusal = match stop {
+        None => None,
+        Some(Stop::Refused(why)) => Some(why),
         Some(Stop::Fault(fault)) => {
-            finish(log, b"", Status::Done, writer)?;
-            Err(fault)
+            print_log(log, b"", writer)?;
+            return Err(fault);
         }
-    }
+    };
+    print_run(log, RunEnd { done, refusal }, writer)
 }
