@@ -5,3 +5,4 @@ pub mod Parts
 pub mod Logins
 pub mod PlayerLines
 pub mod Seats
+pub mod Spent

@@ -1,8 +1,10 @@
 //! `fibs connect`: a player's conversation with the server.
-ghost use Rattle.std.specs.Prelude.{◌≡◌, IfOk, IfErr};
+ghost use Rattle.std.specs.Prelude.{◌≡◌, ◌*◌, IfOk, IfErr};
 ghost use Rattle.std.specs.Io.KnownBytes.{Appends, Keeps};
 ghost use Rattle.fibs_connect.specs.Converse.Ending.{Conversed, login_fault_line};
+ghost use Rattle.fibs_connect.specs.Converse.Reading.{SpendsReads};
 ghost use Rattle.fibs_exchange.specs.Turns.Acts.{line_bytes};
+ghost use Rattle.fibs_show.specs.Reads.{LostAtMost};
 
 pub mod dial;
 mod players;
@@ -14,7 +16,7 @@ use dial::{Dial, Server};
 use fibs_exchange::exchange::printing::print_reason;
 use fibs_session::{Login, PlainFault};
 use fibs_show::fault::EngineFault;
-use fibs_show::limits::MOST_INPUT_READS;
+use fibs_show::limits::{MOST_INPUT_READS, READ_PORTION};
 use fibs_show::status::Status;
 use seat::{Going, Seat};
 use std::alloc::Global;
@@ -45,8 +47,9 @@ pub fn converse<N: Net<Stream = TcpStream>, R: Read, W: Write, E: Write>(
     out: &mut W,
     err: &mut E,
 ) -> Result<u8, EngineFault>
-    ensures { Conversed name.now result (R.remaining typed.old)
+    ensures conversed { Conversed name.now result (R.remaining typed.old)
         (W.contents out.old) (W.contents out.new) (E.contents err.old) (E.contents err.new) }
+    ensures few { LostAtMost (MOST_INPUT_READS * READ_PORTION) (R.remaining typed.old) (R.remaining typed.new) }
 {
     let mut server = Server::new(rt, host, port);
     converse_with(&mut server, alloc, name, MOST_INPUT_READS, typed, out, err)
@@ -62,8 +65,9 @@ pub fn converse_with<D: Dial, R: Read, W: Write, E: Write>(
     out: &mut W,
     err: &mut E,
 ) -> Result<u8, EngineFault>
-    ensures { Conversed name.now result (R.remaining typed.old)
+    ensures conversed { Conversed name.now result (R.remaining typed.old)
         (W.contents out.old) (W.contents out.new) (E.contents err.old) (E.contents err.new) }
+    ensures few { LostAtMost (reads * READ_PORTION) (R.remaining typed.old) (R.remaining typed.new) }
 {
     let mut lines = TypedLines::new(reads);
     let mut line = TypedLine::new();
@@ -95,6 +99,7 @@ fn answer_lines<D: Dial, R: Read, W: Write>(
 ) -> Result<u8, EngineFault>
     ensures done { IfOk result (λ status. status ≡ 0) }
     ensures device { IfErr result (λ why. why ≡ EngineFault.Device) }
+    ensures spends { SpendsReads lines.old lines.new (R.remaining typed.old) (R.remaining typed.new) }
 {
     let mut seat = Seat::new(alloc, login);
     seat.open(server, out)?;

@@ -1,6 +1,6 @@
 -- How typed lines are read, portion by portion. No public contract of the program rests on it.
-use Rattle.std.specs.Prelude.{◌≡◌, ℕ, Bool, true, List, length, nat_lt, Option, Some, None, ⊤}
-use Rattle.std.specs.Io.KnownBytes.{prepend_known, IsAtEnd}
+use Rattle.std.specs.Prelude.{◌≡◌, ◌≤◌, ◌+◌, ◌*◌, ℕ, Bool, true, List, length, nat_lt, Option, Some, None, ⊤}
+use Rattle.std.specs.Io.KnownBytes.{prepend_known, Consumes, IsAtEnd}
 use Rattle.fibs_connect.specs.Converse.Typing.{typed_line, after_typed_line, kept_typed}
 
 -- what a reader of typed lines keeps: bytes that wait, how many reads it may still make, and whether nothing follows
@@ -16,6 +16,11 @@ ahead value left = prepend_known value.waiting left
 -- it holds that nothing follows only where that is so
 abbrev pub FitsDevice : TypedValue → Option (List ℕ) → Type 0
 FitsDevice value left = value.ended ≡ true → IsAtEnd left
+
+-- the device lost no more bytes than the reads may give that were made since: at most 1024 at each
+abbrev pub SpendsReads : TypedValue → TypedValue → Option (List ℕ) → Option (List ℕ) → Type 0
+SpendsReads old new left still =
+    (read : List ℕ) × (length read + new.reads * 1024 ≤ old.reads * 1024) × Consumes left still read
 
 -- the first line of what is still to come was taken: what is kept of it, what is then still to come, and whether there
 -- was one

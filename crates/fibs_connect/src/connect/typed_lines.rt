@@ -4,7 +4,7 @@ ghost use Rattle.std.specs.Io.KnownBytes.{Consumes, IsAtEnd};
 ghost use Rattle.std.specs.Str.Lines.{strip_carriage_return};
 ghost use Rattle.fibs_fields.specs.Split.{before, after};
 ghost use Rattle.fibs_connect.specs.Converse.Typing.{kept_typed, rest_or_nothing};
-ghost use Rattle.fibs_connect.specs.Converse.Reading.{ahead, FitsDevice, TakesLine};
+ghost use Rattle.fibs_connect.specs.Converse.Reading.{ahead, FitsDevice, TakesLine, SpendsReads};
 
 use super::wish::TYPED_LIMIT;
 use arrayvec::ArrayVec;
@@ -99,6 +99,7 @@ impl TypedLines {
     /// The lines of a reader of which nothing was read yet, and which is read at most so often.
     pub fn new(reads: u32) -> TypedLines
         ensures waiting { result.waiting ≡ [] }
+        ensures reads { result.reads ≡ reads }
         ensures ended { result.ended ≡ false }
     {
         TypedLines {
@@ -121,6 +122,7 @@ impl TypedLines {
             line.new.items found) }
         ensures fits { OnOk result (FitsDevice self.old (R.remaining reader.old) →
             FitsDevice self.new (R.remaining reader.new)) }
+        ensures spends { SpendsReads self.old self.new (R.remaining reader.old) (R.remaining reader.new) }
     {
         let found = self.read_to_end(reader, line)?;
         line.truncate(KEPT);
@@ -138,6 +140,7 @@ impl TypedLines {
             (kept_typed line.new.items) found) }
         ensures fits { OnOk result (FitsDevice self.old (R.remaining reader.old) →
             FitsDevice self.new (R.remaining reader.new)) }
+        ensures spends { SpendsReads self.old self.new (R.remaining reader.old) (R.remaining reader.new) }
     {
         line.clear();
         loop {
@@ -157,6 +160,7 @@ impl TypedLines {
         ensures fewer { OnOk result (self.new.reads < self.old.reads) }
         ensures bytes { OnOk result (Consumes (R.remaining reader.old) (R.remaining reader.new) self.new.waiting) }
         ensures end { OnOk result (self.new.ended ≡ true → (self.new.waiting ≡ []) × IsAtEnd (R.remaining reader.new)) }
+        ensures spends { SpendsReads self.old self.new (R.remaining reader.old) (R.remaining reader.new) }
     {
         if self.reads == 0 {
             return Err(TypedFault::Endless);
