@@ -1,4 +1,4 @@
--- Why a picture tells its board.
+-- Why a picture tells its board, and fits a terminal.
 pub mod Pips
 pub mod Parts
 pub mod Columns
@@ -7,3 +7,4 @@ pub mod Sides
 pub mod Notes
 pub mod Layers
 pub mod Told
+pub mod Fits

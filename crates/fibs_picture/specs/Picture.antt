@@ -16,7 +16,7 @@ use Rattle.fibs_position.specs.PositionValue.{PositionValue, position_of}
 use Rattle.fibs_position.specs.declared.direction.Direction.{Direction}
 use Rattle.fibs_position.specs.declared.phase.Phase.{Phase}
 use Rattle.fibs_position.specs.declared.phase.Phase.TheVariants as phase
-use Rattle.fibs_picture.specs.Cells.{stack, label}
+use Rattle.fibs_picture.specs.Cells.{stack, label, own_letter, other_letter}
 use Rattle.fibs_picture.specs.declared.half.Half.{Half}
 use Rattle.fibs_picture.specs.declared.half.Half.TheVariants as half
 
@@ -164,7 +164,7 @@ line sides = sides.0 ++ (sides.1 ++ 10 ∷ [])
 -- the lines of the opponent, from the upper edge down to the middle
 unfoldable pub upper_lines : BoardFields → PositionValue → List (List ℕ × List ℕ)
 upper_lines b p =
-    (edge p half.Upper, named 88 b.opponent)
+    (edge p half.Upper, named other_letter b.opponent)
     ∷ (layer p half.Upper 1, score (field_of b 6))
     ∷ (layer p half.Upper 2, off (field_of b 47))
     ∷ (layer p half.Upper 3, pips (other_pips p.standing.checkers))
@@ -180,7 +180,7 @@ lower_lines b p =
     ∷ (layer p half.Lower 3, pips (own_pips p.standing.checkers))
     ∷ (layer p half.Lower 2, off (field_of b 46))
     ∷ (layer p half.Lower 1, score (field_of b 5))
-    ∷ (edge p half.Lower, named 79 b.player)
+    ∷ (edge p half.Lower, named own_letter b.player)
     ∷ (codes " ", deed_in p) ∷ []
 
 -- what is drawn of a board whose position is this

@@ -10,9 +10,9 @@ use Rattle.fibs_messages.specs.Message.{number_word}
 use Rattle.fibs_words.specs.declared.sentences.Part.{Part}
 use Rattle.fibs_words.specs.declared.sentences.Part.TheVariants as part
 
--- a part of a sentence: a text; a field of the message's line; the line from a field on; a text and a field, where that
--- is not `-`; a text and the tail of the line from a field on, where that is not `-`; a text, where a field is 1. Fields
--- are counted from 1, after the number
+-- a part of a sentence: a text; a field of the message's line; the line from a field on; a text and a field, where it is
+-- not `-`; a text and the line from a field on, where that is not `-`; a text, where a field is 1. Fields are counted
+-- from 1, after the number
 pub data PartValue : Type 0 where
   said : List ℕ → PartValue
   field : ℕ → PartValue
@@ -61,8 +61,9 @@ unfoldable pub sentences : List (List PartValue)
 sentences =
     (said (codes "Welcome, ") ∷ field 1 ∷ said (codes ". Last login: ") ∷ field 2 ∷ said (codes " from ") ∷ field 3
     ∷ [])
-    ∷ (said (codes "Settings of ") ∷ field 1 ∷ said (codes ": rated ") ∷ field 15 ∷ said (codes ", experience ") ∷ field 10
-    ∷ said (codes ", redoubles ") ∷ field 18 ∷ said (codes ", time zone ") ∷ field 21 ∷ said (codes ". On:")
+    ∷ (said (codes "Settings of ") ∷ field 1 ∷ said (codes ": rated ") ∷ field 15
+    ∷ said (codes ", experience ") ∷ field 10 ∷ said (codes ", redoubles ") ∷ field 18
+    ∷ said (codes ", time zone ") ∷ field 21 ∷ said (codes ". On:")
     ∷ where_set (codes " allowpip") 2 ∷ where_set (codes " autoboard") 3 ∷ where_set (codes " autodouble") 4
     ∷ where_set (codes " automove") 5 ∷ where_set (codes " away") 6 ∷ where_set (codes " bell") 7
     ∷ where_set (codes " crawford") 8 ∷ where_set (codes " double") 9 ∷ where_set (codes " greedy") 11

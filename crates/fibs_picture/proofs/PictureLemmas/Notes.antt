@@ -70,7 +70,7 @@ number-lacks c m (negsuc n) low few h = absurd (omega (arith, ints, h.0))
 name-byte : (x : ℕ) → is_name_byte x ≡ true → not (x == 10) ≡ true
 name-byte x h = grind (arith, nat_tests)
 
-all-mono : (p q : ℕ → Bool) → ((x : ℕ) → p x ≡ true → q x ≡ true) → (xs : List ℕ) → list_all p xs ≡ true
+pub all-mono : (p q : ℕ → Bool) → ((x : ℕ) → p x ≡ true → q x ≡ true) → (xs : List ℕ) → list_all p xs ≡ true
     → list_all q xs ≡ true
 all-mono p q f [] h = refl
 all-mono p q f (x ∷ xs) h =

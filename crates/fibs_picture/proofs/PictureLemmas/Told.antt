@@ -41,24 +41,24 @@ use Rattle.fibs_picture.proofs.PictureLemmas.Layers.{own-bar-tells, other-bar-te
 
 -- ---- what a board's fields may be
 
-record Ranges (b : BoardFields) : Type 0 where
-  length_of : Within 9999 (field_of b 4)
-  own_score : Within 99999999 (field_of b 5)
-  other_score : Within 99999999 (field_of b 6)
-  die_1 : Within 6 (field_of b 34)
-  die_2 : Within 6 (field_of b 35)
-  die_3 : Within 6 (field_of b 36)
-  die_4 : Within 6 (field_of b 37)
-  cube_is : Within 1048576 (field_of b 38)
-  flag_1 : (field_of b 39 ≡ pos 0) ⊎ (field_of b 39 ≡ pos 1)
-  flag_2 : (field_of b 40 ≡ pos 0) ⊎ (field_of b 40 ≡ pos 1)
-  own_off_is : Within 15 (field_of b 46)
-  other_off_is : Within 15 (field_of b 47)
+pub record Ranges (b : BoardFields) : Type 0 where
+  pub length_of : Within 9999 (field_of b 4)
+  pub own_score : Within 99999999 (field_of b 5)
+  pub other_score : Within 99999999 (field_of b 6)
+  pub die_1 : Within 6 (field_of b 34)
+  pub die_2 : Within 6 (field_of b 35)
+  pub die_3 : Within 6 (field_of b 36)
+  pub die_4 : Within 6 (field_of b 37)
+  pub cube_is : Within 1048576 (field_of b 38)
+  pub flag_1 : (field_of b 39 ≡ pos 0) ⊎ (field_of b 39 ≡ pos 1)
+  pub flag_2 : (field_of b 40 ≡ pos 0) ⊎ (field_of b 40 ≡ pos 1)
+  pub own_off_is : Within 15 (field_of b 46)
+  pub other_off_is : Within 15 (field_of b 47)
 
 from-one : (z : ℤ) → pos 1 ≤ℤ z → pos 0 ≤ℤ z
 from-one z h = omega (arith, ints, h)
 
-ranges-of : FieldRanges → (b : BoardFields) → IsBoard b → Ranges b
+pub ranges-of : FieldRanges → (b : BoardFields) → IsBoard b → Ranges b
 ranges-of r b board =
     let may : (n : ℕ) → 4 ≤ n → n ≤ 53 → can_have n (field_of b n) ≡ true = λ n low high. r.held b n board low high in
     let cube_range = (r.cube 38 (field_of b 38) refl).0 (may 38 (lit≤ tt) (lit≤ tt)) in
@@ -217,11 +217,11 @@ fifteen-other off xs h =
     let rest = 15 - (sum xs + off) in
     omega (arith, sum_by-cons (λ n. n) rest (xs ++ off ∷ []), sum_by_push (λ n. n) xs off)
 
-own-few : (b : BoardFields) → own_placed b ≤ 15 → (k : ℕ) → slice_index (own_view b).own k ≤ 15
+pub own-few : (b : BoardFields) → own_placed b ≤ 15 → (k : ℕ) → slice_index (own_view b).own k ≤ 15
 unfolding own_view
 own-few b h k = omega (arith, at-most-sum (own_view b).own k, fifteen (own_off b) (own_on_places b) h)
 
-other-few : (b : BoardFields) → other_placed b ≤ 15 → (k : ℕ) → slice_index (own_view b).other k ≤ 15
+pub other-few : (b : BoardFields) → other_placed b ≤ 15 → (k : ℕ) → slice_index (own_view b).other k ≤ 15
 unfolding own_view
 other-few b h k = omega (arith, at-most-sum (own_view b).other k, fifteen-other (other_off b) (other_on_places b) h)
 
@@ -242,14 +242,14 @@ few-pips f (suc n) h =
 product-few : (m n : ℕ) → m ≤ 25 → n ≤ 15 → m * n ≤ 375
 product-few m n h k = let most : m * n ≤ m * 15 = mul-le-mul_left m k in omega (arith, most)
 
-own-pips-few : (b : BoardFields) → own_placed b ≤ 15 → own_pips (own_view b) < 2 ^ 64
+pub own-pips-few : (b : BoardFields) → own_placed b ≤ 15 → own_pips (own_view b) < 2 ^ 64
 unfolding own_pips
 own-pips-few b h =
     let few = few-pips (own_pips_on (own_view b)) 26
     (λ k less. product-few k (slice_index (own_view b).own k) (omega arith) (own-few b h k)) in
     omega (arith, few)
 
-other-pips-few : (b : BoardFields) → other_placed b ≤ 15 → other_pips (own_view b) < 2 ^ 64
+pub other-pips-few : (b : BoardFields) → other_placed b ≤ 15 → other_pips (own_view b) < 2 ^ 64
 unfolding other_pips
 other-pips-few b h =
     let few = few-pips (other_pips_on (own_view b)) 25
