@@ -10,9 +10,9 @@ use Rattle.fibs_messages.specs.Message.{number_word}
 use Rattle.fibs_words.specs.declared.sentences.Part.{Part}
 use Rattle.fibs_words.specs.declared.sentences.Part.TheVariants as part
 
--- a part of a sentence: a text; a field of the message's line; the line from a field on; a text and a field, where it is
--- not `-`; a text and the line from a field on, where that is not `-`; a text, where a field is 1. Fields are counted
--- from 1, after the number
+-- a part of a sentence: a text; a field of the message's line; the line from a field on; a text and a field, where that
+-- is not `-`; a text and the line from a field on, where that is not `-`; a text, where a field is 1. Fields are
+-- counted from 1, after the number
 pub data PartValue : Type 0 where
   said : List ℕ → PartValue
   field : ℕ → PartValue
