@@ -81,8 +81,8 @@ fn lines_are_put_into_words(rt: HostRuntime) -> Result<(), Fail> {
     for (line, words) in &LINES {
         let mut text = b"before ".to_vec(rt.alloc())?;
         append_in_words(line, &mut text)?;
-        assert_eq!(rt; &text[..7.min(text.len())], b"before ".as_slice());
-        assert_eq!(rt; &text[7.min(text.len())..], *words);
+        assert_eq!(rt; &text[..text.len().min(7)], b"before ".as_slice());
+        assert_eq!(rt; &text[text.len().min(7)..], *words);
     }
     Ok(())
 }
