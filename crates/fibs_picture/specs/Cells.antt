@@ -1,5 +1,5 @@
 -- The cells of a drawn board, of three bytes each (the project's own, after the boards that FIBS and gnubg draw).
-use Rattle.std.specs.Prelude.{◌+◌, ◌-◌, ◌/◌, ◌%◌, ◌==◌, ◌&&◌, ◌++◌, ℕ, nat_lt, List, [], ◌∷◌, codes, if◌then◌else◌}
+use Rattle.std.specs.Prelude.{◌+◌, ◌/◌, ◌%◌, ◌==◌, ◌&&◌, ◌++◌, ℕ, nat_lt, List, [], ◌∷◌, codes, if◌then◌else◌}
 use Rattle.fibs_position.specs.DirectionOf.{line_place}
 use Rattle.fibs_position.specs.declared.direction.Direction.{Direction}
 

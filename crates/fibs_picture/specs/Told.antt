@@ -1,5 +1,5 @@
 -- What a picture tells of a board.
-use Rattle.std.specs.Prelude.{◌≡◌, ℤ, pos, List, [], ◌∷◌, map, take, if◌then◌else◌}
+use Rattle.std.specs.Prelude.{◌≡◌, pos, [], ◌∷◌, map, take, if◌then◌else◌}
 use Rattle.std.specs.Ordering.{int_eq}
 use Rattle.fibs_boards.specs.Board.{BoardFields, field_of}
 use Rattle.fibs_position.specs.DirectionOf.{direction_of}

@@ -80,12 +80,7 @@ pub fn draw_layer<W: Write>(
 
 /// The numbers of six places.
 #[tactic(auto, unfolding(crate::specs::Picture::labels))]
-fn draw_labels<W: Write>(
-    direction: Direction,
-    half: Half,
-    first: u8,
-    out: &mut W,
-) -> io::Result<()>
+fn draw_labels<W: Write>(direction: Direction, half: Half, first: u8, out: &mut W) -> io::Result<()>
     requires low { 6 ≤ first }
     requires high { first ≤ 19 }
     ensures { OnOk result (Appends (W.contents out.old) (W.contents out.new) (labels direction (six half first))) }

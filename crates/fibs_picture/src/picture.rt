@@ -13,8 +13,10 @@ ghost use Rattle.fibs_picture.specs.Picture.{cube, turn_words};
 
 use crate::fields::{OTHER_DICE, OTHER_OFF, OTHER_SCORE, OWN_DICE, OWN_OFF, OWN_SCORE};
 use crate::half::Half;
-use crate::lines::{cube_line, deed_line, dice_line, edge_line, match_line};
-use crate::lines::{off_line, pips_line, score_line, turn_line};
+use crate::lines::{
+    cube_line, deed_line, dice_line, edge_line, match_line, off_line, pips_line, score_line,
+    turn_line,
+};
 use crate::pips::{other_pips, own_pips};
 use fibs_boards::board::Board;
 use fibs_position::Position;
@@ -30,11 +32,7 @@ fn draw_opponent<W: Write>(board: &Board, position: &Position, out: &mut W) -> i
 }
 
 /// The opponent's score, and how far he has come.
-fn draw_opponents_count<W: Write>(
-    board: &Board,
-    position: &Position,
-    out: &mut W,
-) -> io::Result<()>
+fn draw_opponents_count<W: Write>(board: &Board, position: &Position, out: &mut W) -> io::Result<()>
     ensures { let b = fields_of board.now in let p = position_value position.now in
         OnOk result (Appends (W.contents out.old) (W.contents out.new) (flat_map line
         ((layer p Half.Upper 1, score (field_of b 6))
@@ -85,11 +83,7 @@ fn draw_turn<W: Write>(board: &Board, position: &Position, out: &mut W) -> io::R
 }
 
 /// How far the player has come, and his score.
-fn draw_players_count<W: Write>(
-    board: &Board,
-    position: &Position,
-    out: &mut W,
-) -> io::Result<()>
+fn draw_players_count<W: Write>(board: &Board, position: &Position, out: &mut W) -> io::Result<()>
     ensures { let b = fields_of board.now in let p = position_value position.now in
         OnOk result (Appends (W.contents out.old) (W.contents out.new) (flat_map line
         ((layer p Half.Lower 2, off (field_of b 46))

@@ -1,13 +1,13 @@
 -- The cells of a half tell what stands in it.
-use Rattle.std.proofs.Common.{◌≡◌, ◌⊎◌, ◌<◌, ◌≤◌, ◌+◌, ◌-◌, ◌*◌, ◌==◌, ◌&&◌, ◌++◌, ℕ, zero, suc, Bool, true, false}
+use Rattle.std.proofs.Common.{◌≡◌, ◌*◌, ◌==◌, ◌&&◌, ◌++◌, ℕ, Bool, true, false}
 use Rattle.std.proofs.Common.{cond}
-use Rattle.std.proofs.Common.{List, [], ◌∷◌, length, refl, sym, ◌∙◌, ap, subst, arith, nat_lt, append-nil}
-use Rattle.std.proofs.Common.{append_assoc, codes}
+use Rattle.std.proofs.Common.{List, [], ◌∷◌, length, refl, sym, ◌∙◌, arith, nat_lt, append-nil}
+use Rattle.std.proofs.Common.{append_assoc}
 use Rattle.std.proofs.lemmas.List.{length-append}
 use Rattle.std.specs.List.{flat_map}
 use Rattle.fibs_picture.specs.Cells.{level, stack, own_letter, other_letter}
 use Rattle.fibs_picture.proofs.PictureLemmas.Parts.{parts-tell}
-use Rattle.fibs_picture.proofs.PictureLemmas.Columns.{OneSide, column, columns-tell}
+use Rattle.fibs_picture.proofs.PictureLemmas.Columns.{OneSide, columns-tell}
 
 -- what holds of each place of a list
 abbrev pub AllOf : (ℕ → Type 0) → List ℕ → Type 0
@@ -71,6 +71,6 @@ pub heights-tell : (own other own' other' : ℕ → ℕ) (ps : List ℕ)
 heights-tell own other own' other' [] h k a b c d e = tt
 heights-tell own other own' other' (p ∷ ps) h k a b c d e = (
   columns-tell (own p) (other p) (own' p) (other' p) h.0 k.0
-    (five-joined _ _ _ _ _ _ _ _ _ _ a.0 b.0 c.0 d.0 e.0),
+      (five-joined _ _ _ _ _ _ _ _ _ _ a.0 b.0 c.0 d.0 e.0),
   heights-tell own other own' other' ps h.1 k.1 a.1 b.1 c.1 d.1 e.1,
 )

@@ -1,10 +1,10 @@
 -- The five cells of a place tell its checkers: they can be read back.
 use Rattle.std.proofs.Common.{◌≡◌, ◌⊎◌, ◌<◌, ◌≤◌, ◌+◌, ◌-◌, ◌*◌, ◌==◌, ◌&&◌, ◌++◌, ℕ, zero, suc, Bool, true, false}
 use Rattle.std.proofs.Common.{cond}
-use Rattle.std.proofs.Common.{List, [], ◌∷◌, length, refl, sym, ◌∙◌, ap, subst, arith, inl, inr, nat_lt, nat_eq}
+use Rattle.std.proofs.Common.{List, refl, sym, ◌∙◌, ap, arith, inl, inr, nat_lt}
 use Rattle.std.proofs.Common.{slice_index_or}
 use Rattle.std.proofs.Math.Nat.{eq-or-lt_of_le}
-use Rattle.fibs_picture.specs.Cells.{level, stack, own_letter, other_letter}
+use Rattle.fibs_picture.specs.Cells.{stack, own_letter, other_letter}
 
 -- the cells of a place, from the edge
 abbrev pub column : ℕ → ℕ → List ℕ

@@ -1,7 +1,7 @@
 -- A picture is fourteen lines that fit a terminal.
-use Rattle.std.proofs.Common.{◌≡◌, ◌⊎◌, ◌<◌, ◌≤◌, ◌+◌, ◌-◌, ◌*◌, ◌/◌, ◌%◌, ◌^◌, ◌==◌, ◌&&◌, ◌++◌, ℕ, zero, suc, Bool}
-use Rattle.std.proofs.Common.{true, false, not, cond, List, [], ◌∷◌, length, take, codes, map, refl, sym, ◌∙◌, ap}
-use Rattle.std.proofs.Common.{arith, lit<, lit≤, nat_lt, append_assoc}
+use Rattle.std.proofs.Common.{◌≡◌, ◌<◌, ◌≤◌, ◌+◌, ◌/◌, ◌%◌, ◌^◌, ◌==◌, ◌&&◌, ◌++◌, ℕ, zero, suc, Bool}
+use Rattle.std.proofs.Common.{true, false, cond, List, [], ◌∷◌, length, take, codes, map, refl, sym}
+use Rattle.std.proofs.Common.{arith, lit<, lit≤, nat_lt, nat_le, append_assoc}
 use Rattle.std.specs.Prelude.{ℤ, pos, negsuc, decimal, slice_index}
 use Rattle.std.specs.Fmt.{signed_decimal}
 use Rattle.std.specs.Int.{is_in_range}
@@ -31,13 +31,13 @@ use Rattle.fibs_picture.specs.Cells.{two_digits, level, stack, label, own_letter
 use Rattle.fibs_picture.specs.Fits.{Fits, ended, PictureFits}
 use Rattle.fibs_picture.specs.Picture.{line, upper_lines, lower_lines, drawn, picture, edge, layer, middle, named, six}
 use Rattle.fibs_picture.specs.Picture.{left_first, right_first, labels, stands, stacks, bar, score, off, pips, own_pips}
-use Rattle.fibs_picture.specs.Picture.{other_pips, two_dice, dice, match_length, doublers, is_one, cube, turn_words}
+use Rattle.fibs_picture.specs.Picture.{other_pips, dice, match_length, doublers, is_one, cube, turn_words}
 use Rattle.fibs_picture.specs.Picture.{deed, deed_in, may}
 use Rattle.fibs_picture.specs.declared.half.Half.{Half}
 use Rattle.fibs_picture.specs.declared.half.Half.TheVariants as half
 use Rattle.fibs_picture.proofs.PictureLemmas.Layers.{length-edge, length-layer}
 use Rattle.fibs_picture.proofs.PictureLemmas.Notes.{Within, all-mono}
-use Rattle.fibs_picture.proofs.PictureLemmas.Told.{Ranges, ranges-of, own-few, other-few, own-pips-few, other-pips-few}
+use Rattle.fibs_picture.proofs.PictureLemmas.Told.{ranges-of, own-few, other-few, own-pips-few, other-pips-few}
 
 -- ---- printed text
 
@@ -104,8 +104,12 @@ bar-printed c half.Lower height few = stack-printed 0 (slice_index c.other 0) he
 walled-printed : (a b c : List ℕ) → printed a ≡ true → printed b ≡ true → printed c ≡ true
     → printed (codes " |" ++ (a ++ (codes "|" ++ (b ++ (codes "|" ++ (c ++ codes "|   ")))))) ≡ true
 walled-printed a b c h k m =
-    printed-append (codes " |") _ refl (printed-append a _ h (printed-append (codes "|") _ refl (printed-append b _ k
-    (printed-append (codes "|") _ refl (printed-append c (codes "|   ") m refl)))))
+    let third = printed-append c (codes "|   ") m refl in
+    let wall = printed-append (codes "|") (c ++ codes "|   ") refl third in
+    let second = printed-append b (codes "|" ++ (c ++ codes "|   ")) k wall in
+    let before = printed-append (codes "|") (b ++ (codes "|" ++ (c ++ codes "|   "))) refl second in
+    let first = printed-append a (codes "|" ++ (b ++ (codes "|" ++ (c ++ codes "|   ")))) h before in
+    printed-append (codes " |") (a ++ (codes "|" ++ (b ++ (codes "|" ++ (c ++ codes "|   "))))) refl first
 
 layer-printed : (p : PositionValue) (h : Half) (height : ℕ) → IsFew p.standing.checkers
     → printed (layer p h height) ≡ true
@@ -130,12 +134,18 @@ right-printed Down half.Lower = refl
 right-printed Up half.Upper = refl
 right-printed Up half.Lower = refl
 
+numbered-printed : (a b : List ℕ) → printed a ≡ true → printed b ≡ true
+    → printed (codes " +" ++ (a ++ (codes "+---+" ++ (b ++ codes "+   ")))) ≡ true
+numbered-printed a b h k =
+    let second = printed-append b (codes "+   ") k refl in
+    let corner = printed-append (codes "+---+") (b ++ codes "+   ") refl second in
+    let first = printed-append a (codes "+---+" ++ (b ++ codes "+   ")) h corner in
+    printed-append (codes " +") (a ++ (codes "+---+" ++ (b ++ codes "+   "))) refl first
+
 edge-printed : (p : PositionValue) (h : Half) → printed (edge p h) ≡ true
 unfolding edge
-edge-printed p h =
-    printed-append (codes " +") _ refl (printed-append (labels p.direction (six h (left_first h))) _
-    (left-printed p.direction h) (printed-append (codes "+---+") _ refl
-    (printed-append (labels p.direction (six h (right_first h))) (codes "+   ") (right-printed p.direction h) refl)))
+edge-printed p h = numbered-printed (labels p.direction (six h (left_first h)))
+    (labels p.direction (six h (right_first h))) (left-printed p.direction h) (right-printed p.direction h)
 
 -- ---- what is said
 
@@ -205,10 +215,11 @@ cube_text-brief : (z : ℤ) (a b : Bool) → Within 1048576 z
 cube_text-brief (pos n) a b h =
     let who = doublers-brief a b in
     let few : n < 2 ^ 64 = omega (arith, ints, h.1) in
-    let digits : length (decimal n) ≤ 7 = length-decimal-le 7 n (lit< tt) (omega (arith, ints, h.1)) few in
-    (omega (arith, length-append (decimal n) (doublers a b), who.0),
-    printed-append (codes "cube ") (decimal n ++ doublers a b) refl
-    (printed-append (decimal n) (doublers a b) (decimal-printed n few) who.1))
+    let digits : length (decimal n) ≤ 7 = length-decimal-le 7 n (lit< tt) (omega (arith, ints, h.1)) few in (
+      omega (arith, length-append (decimal n) (doublers a b), who.0),
+      printed-append (codes "cube ") (decimal n ++ doublers a b) refl
+          (printed-append (decimal n) (doublers a b) (decimal-printed n few) who.1),
+    )
 cube_text-brief (negsuc n) a b h = absurd (omega (arith, ints, h.0))
 
 cube-brief : (b : BoardFields) → Within 1048576 (field_of b 38) → IsBrief (cube b)
@@ -278,14 +289,25 @@ unfolding upper_lines
 upper-fit f b good =
     let r = ranges-of f b good.board in
     let p = position_of b in
-    let few = few-checkers b good in
-    (at-edge p half.Upper _ (named-brief 88 b.opponent refl good.board.1),
-    (at-layer p half.Upper 1 _ few (score-brief (field_of b 6) r.other_score),
-    (at-layer p half.Upper 2 _ few (off-brief (field_of b 47) r.other_off_is),
-    (at-layer p half.Upper 3 _ few (pips-brief (other_pips (own_view b)) (other-pips-few b good.other)),
-    (at-layer p half.Upper 4 _ few (dice-brief (field_of b 36) (field_of b 37) r.die_3 r.die_4),
-    (at-layer p half.Upper 5 _ few (match-brief (field_of b 4) r.length_of),
-    (beside middle (cube b) refl refl (cube-brief b r.cube_is), tt)))))))
+    let few = few-checkers b good in (
+      at-edge p half.Upper _ (named-brief 88 b.opponent refl good.board.1),
+      (
+        at-layer p half.Upper 1 _ few (score-brief (field_of b 6) r.other_score),
+        (
+          at-layer p half.Upper 2 _ few (off-brief (field_of b 47) r.other_off_is),
+          (
+            at-layer p half.Upper 3 _ few (pips-brief (other_pips (own_view b)) (other-pips-few b good.other)),
+            (
+              at-layer p half.Upper 4 _ few (dice-brief (field_of b 36) (field_of b 37) r.die_3 r.die_4),
+              (
+                at-layer p half.Upper 5 _ few (match-brief (field_of b 4) r.length_of),
+                (beside middle (cube b) refl refl (cube-brief b r.cube_is), tt),
+              ),
+            ),
+          ),
+        ),
+      ),
+    )
 
 lower-fit : FieldRanges → (b : BoardFields) → IsGood b
     → AllByRecursion Fits (joined (lower_lines b (position_of b)))
@@ -293,14 +315,25 @@ unfolding lower_lines
 lower-fit f b good =
     let r = ranges-of f b good.board in
     let p = position_of b in
-    let few = few-checkers b good in
-    (at-layer p half.Lower 5 _ few (turn_words-brief (turn b) (colour b)),
-    (at-layer p half.Lower 4 _ few (dice-brief (field_of b 34) (field_of b 35) r.die_1 r.die_2),
-    (at-layer p half.Lower 3 _ few (pips-brief (own_pips (own_view b)) (own-pips-few b good.own)),
-    (at-layer p half.Lower 2 _ few (off-brief (field_of b 46) r.own_off_is),
-    (at-layer p half.Lower 1 _ few (score-brief (field_of b 5) r.own_score),
-    (at-edge p half.Lower _ (named-brief 79 b.player refl good.board.0),
-    (deed_in-fits p, tt)))))))
+    let few = few-checkers b good in (
+      at-layer p half.Lower 5 _ few (turn_words-brief (turn b) (colour b)),
+      (
+        at-layer p half.Lower 4 _ few (dice-brief (field_of b 34) (field_of b 35) r.die_1 r.die_2),
+        (
+          at-layer p half.Lower 3 _ few (pips-brief (own_pips (own_view b)) (own-pips-few b good.own)),
+          (
+            at-layer p half.Lower 2 _ few (off-brief (field_of b 46) r.own_off_is),
+            (
+              at-layer p half.Lower 1 _ few (score-brief (field_of b 5) r.own_score),
+              (
+                at-edge p half.Lower _ (named-brief 79 b.player refl good.board.0),
+                (deed_in-fits p, tt),
+              ),
+            ),
+          ),
+        ),
+      ),
+    )
 
 all-append : (xs ys : List (List ℕ)) → AllByRecursion Fits xs → AllByRecursion Fits ys → AllByRecursion Fits (xs ++ ys)
 all-append [] ys h k = k
@@ -331,6 +364,6 @@ picture-fits f b good = (
   joined (upper_lines b (position_of b)) ++ joined (lower_lines b (position_of b)),
   count b,
   all-append (joined (upper_lines b (position_of b))) (joined (lower_lines b (position_of b))) (upper-fit f b good)
-    (lower-fit f b good),
+      (lower-fit f b good),
   picture-ended b,
 )

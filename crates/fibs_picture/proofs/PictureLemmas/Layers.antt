@@ -1,19 +1,18 @@
 -- The lines of a half tell what stands in it.
-use Rattle.std.proofs.Common.{◌≡◌, ◌<◌, ◌≤◌, ◌+◌, ◌-◌, ◌*◌, ◌++◌, ℕ, zero, suc, Bool, true, List, [], ◌∷◌, length}
-use Rattle.std.proofs.Common.{codes, refl, sym, ◌∙◌, ap, subst, arith}
+use Rattle.std.proofs.Common.{◌≡◌, ◌++◌, ℕ, List, length}
+use Rattle.std.proofs.Common.{codes, refl, sym, ◌∙◌, ap, arith}
 use Rattle.std.specs.Prelude.{slice_index}
-use Rattle.std.specs.List.{flat_map}
 use Rattle.std.proofs.lemmas.List.{length-append, append_cancel_left}
 use Rattle.fibs_rules.specs.Checkers.{Checkers}
 use Rattle.fibs_position.specs.PositionValue.{PositionValue}
 use Rattle.fibs_position.specs.declared.direction.Direction.{Direction}
 use Rattle.fibs_position.specs.declared.direction.Direction.TheVariants.{Down, Up}
-use Rattle.fibs_picture.specs.Cells.{stack, label, two_digits}
+use Rattle.fibs_picture.specs.Cells.{stack, label}
 use Rattle.fibs_picture.specs.Picture.{six, left_first, right_first, labels, stands, stacks, bar, edge, layer}
 use Rattle.fibs_picture.specs.declared.half.Half.{Half}
 use Rattle.fibs_picture.specs.declared.half.Half.TheVariants as half
 use Rattle.fibs_picture.proofs.PictureLemmas.Parts.{parts-tell}
-use Rattle.fibs_picture.proofs.PictureLemmas.Columns.{OneSide, columns-tell, column}
+use Rattle.fibs_picture.proofs.PictureLemmas.Columns.{OneSide, columns-tell}
 use Rattle.fibs_picture.proofs.PictureLemmas.Cells.{AllOf, length-stack, cells-alone-tell, length-cells, SameAt}
 use Rattle.fibs_picture.proofs.PictureLemmas.Cells.{heights-tell}
 

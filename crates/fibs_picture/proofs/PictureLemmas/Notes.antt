@@ -1,9 +1,9 @@
 -- What is said beside a board has no line end within it, and tells what it says.
-use Rattle.std.proofs.Common.{◌≡◌, ◌⊎◌, ◌<◌, ◌≤◌, ◌+◌, ◌-◌, ◌*◌, ◌^◌, ◌==◌, ◌&&◌, ◌++◌, ℕ, zero, suc, Bool, true}
+use Rattle.std.proofs.Common.{◌≡◌, ◌⊎◌, ◌<◌, ◌+◌, ◌^◌, ◌==◌, ◌&&◌, ◌++◌, ℕ, zero, suc, Bool, true}
 use Rattle.std.proofs.Common.{false, not, cond}
-use Rattle.std.proofs.Common.{List, [], ◌∷◌, length, take, codes, refl, sym, ◌∙◌, ap, subst, arith, lit<, lit≤}
+use Rattle.std.proofs.Common.{List, [], ◌∷◌, length, take, codes, refl, sym, ◌∙◌, ap, arith, lit<}
 use Rattle.std.proofs.Common.{nat_lt, nat_le, inl, inr}
-use Rattle.std.specs.Prelude.{ℤ, pos, negsuc, ◌≤ℤ◌, int_le, decimal, slice_index_or}
+use Rattle.std.specs.Prelude.{ℤ, pos, negsuc, ◌≤ℤ◌, int_le, slice_index_or}
 use Rattle.std.specs.Fmt.{signed_decimal}
 use Rattle.std.specs.List.{list_all}
 use Rattle.std.specs.Ordering.{int_eq}
@@ -13,8 +13,7 @@ use Rattle.std.proofs.lemmas.Bool.Decides.{nat_tests}
 use Rattle.std.proofs.lemmas.Fmt.{signed_decimal_injective}
 use Rattle.std.proofs.lemmas.Int.{ints}
 use lib.Signed.{mag}
-use Rattle.fibs_boards.specs.Board.{BoardFields, IsBoard, field_of, field_values, can_have}
-use Rattle.fibs_boards.specs.FieldRanges.{FieldRanges}
+use Rattle.fibs_boards.specs.Board.{BoardFields, field_of, field_values, can_have}
 use Rattle.fibs_fields.specs.Name.{is_name, is_name_byte}
 use Rattle.fibs_position.specs.DecisionValue.{accept, double}
 use Rattle.fibs_position.specs.OwnView.{natural}

@@ -1,11 +1,11 @@
 -- A picture tells its board: line by line, and in the lines place by place.
-use Rattle.std.proofs.Common.{◌≡◌, ◌⊎◌, ◌<◌, ◌≤◌, ◌+◌, ◌-◌, ◌*◌, ◌^◌, ◌++◌, ℕ, zero, suc, Bool, true, List, [], ◌∷◌}
+use Rattle.std.proofs.Common.{◌≡◌, ◌⊎◌, ◌<◌, ◌≤◌, ◌+◌, ◌-◌, ◌*◌, ◌^◌, ◌++◌, ℕ, zero, suc, true, List, [], ◌∷◌}
 use Rattle.std.proofs.Common.{length, codes}
-use Rattle.std.proofs.Common.{refl, sym, ◌∙◌, ap, subst, arith, append-nil, lit<, lit≤, map, sum, take}
+use Rattle.std.proofs.Common.{refl, sym, ◌∙◌, ap, subst, arith, append-nil, lit<, lit≤, map, sum}
 use Rattle.std.specs.Prelude.{ℤ, pos, neg_ℤ, ◌≤ℤ◌, slice_index, slice_index_or, decimal}
 use Rattle.std.proofs.lemmas.Int.{ints}
 use Rattle.std.specs.Fmt.{signed_decimal}
-use Rattle.std.specs.List.{flat_map, range_with_len, list_all}
+use Rattle.std.specs.List.{flat_map, range_with_len}
 use Rattle.std.proofs.lemmas.List.{append_cancel_left}
 use Rattle.std.proofs.lemmas.List.FromFn.{map-range_with_len_more}
 use Rattle.std.proofs.lemmas.List.Sums.{sum_by-cons, sum_by_push}
@@ -14,14 +14,13 @@ use Rattle.fibs_boards.specs.Board.{BoardFields, IsBoard, field_of, can_have}
 use Rattle.fibs_boards.specs.FieldRanges.{FieldRanges}
 use Rattle.fibs_rules.specs.Checkers.{Checkers}
 use Rattle.fibs_position.specs.GoodBoard.{IsGood}
-use Rattle.fibs_position.specs.OwnView.{own_view, places, stand_on, on_places, own_on_places, other_on_places}
+use Rattle.fibs_position.specs.OwnView.{own_view, places, stand_on, own_on_places, other_on_places}
 use Rattle.fibs_position.specs.OwnView.{own_off, other_off, own_placed, other_placed, colour, turn, natural}
-use Rattle.fibs_position.specs.Phases.{phase_in}
 use Rattle.fibs_position.specs.PositionValue.{PositionValue, position_of}
-use Rattle.fibs_picture.specs.Picture.{line, upper_lines, lower_lines, drawn, picture, edge, layer, middle, named}
+use Rattle.fibs_picture.specs.Picture.{line, upper_lines, lower_lines, drawn, picture, edge, layer, named}
 use Rattle.fibs_picture.specs.Picture.{score, off, pips, own_pips, other_pips, own_pips_on, other_pips_on, dice}
-use Rattle.fibs_picture.specs.Picture.{match_length, cube, turn_words, deed_in, is_one, left_first}
-use Rattle.fibs_picture.specs.Picture.{right_first, six}
+use Rattle.fibs_picture.specs.Picture.{match_length, cube, turn_words, deed_in}
+use Rattle.fibs_picture.specs.Picture.{six}
 use Rattle.fibs_picture.specs.Told.{PictureTells, SameToTheEye}
 use Rattle.fibs_picture.specs.declared.half.Half.{Half}
 use Rattle.fibs_picture.specs.declared.half.Half.TheVariants as half
@@ -37,7 +36,7 @@ use Rattle.fibs_picture.proofs.PictureLemmas.Notes.{dice-tell, match-lacks, matc
 use Rattle.fibs_picture.proofs.PictureLemmas.Notes.{flag-tells}
 use Rattle.fibs_picture.proofs.PictureLemmas.Layers.{length-edge, length-layer, layer-tells, SameHalf, Sided, Same}
 use Rattle.fibs_picture.proofs.PictureLemmas.Layers.{left-tells, right-tells}
-use Rattle.fibs_picture.proofs.PictureLemmas.Layers.{own-bar-tells, other-bar-tells, edge-tells}
+use Rattle.fibs_picture.proofs.PictureLemmas.Layers.{edge-tells}
 
 -- ---- what a board's fields may be
 
@@ -143,10 +142,32 @@ quarters : (f g : ℕ → ℕ) → AllOf (λ p. f p ≡ g p) (6 ∷ 5 ∷ 4 ∷ 
     → in-order f ≡ in-order g
 unfolding in-order
 quarters f g a b c d =
-    rw (a.1.1.1.1.1.0, a.1.1.1.1.0, a.1.1.1.0, a.1.1.0, a.1.0, a.0,
-    b.1.1.1.1.1.0, b.1.1.1.1.0, b.1.1.1.0, b.1.1.0, b.1.0, b.0,
-    c.0, c.1.0, c.1.1.0, c.1.1.1.0, c.1.1.1.1.0, c.1.1.1.1.1.0,
-    d.0, d.1.0, d.1.1.0, d.1.1.1.0, d.1.1.1.1.0, d.1.1.1.1.1.0) refl
+    rw (
+      a.1.1.1.1.1.0,
+      a.1.1.1.1.0,
+      a.1.1.1.0,
+      a.1.1.0,
+      a.1.0,
+      a.0,
+      b.1.1.1.1.1.0,
+      b.1.1.1.1.0,
+      b.1.1.1.0,
+      b.1.1.0,
+      b.1.0,
+      b.0,
+      c.0,
+      c.1.0,
+      c.1.1.0,
+      c.1.1.1.0,
+      c.1.1.1.1.0,
+      c.1.1.1.1.1.0,
+      d.0,
+      d.1.0,
+      d.1.1.0,
+      d.1.1.1.0,
+      d.1.1.1.1.0,
+      d.1.1.1.1.1.0,
+    ) refl
 
 -- one of the two facts of each place
 firsts : (P Q : ℕ → Type 0) (xs : List ℕ) → AllOf (λ p. P p × Q p) xs → AllOf P xs
@@ -316,30 +337,76 @@ upper-alike : (a b : BoardFields) → Ended a → Ended b
 unfolding upper_lines
 upper-alike a b s t =
     let p = position_of a in
-    let q = position_of b in
-    (edges-wide p q half.Upper, s.opponent, t.opponent,
-    (layers-wide p q half.Upper 1, s.other_score, t.other_score,
-    (layers-wide p q half.Upper 2, s.other_off_is, t.other_off_is,
-    (layers-wide p q half.Upper 3, s.other_pips_are, t.other_pips_are,
-    (layers-wide p q half.Upper 4, dice-lacks (field_of a 36) (field_of a 37), dice-lacks (field_of b 36)
-    (field_of b 37),
-    (layers-wide p q half.Upper 5, s.match_is, t.match_is,
-    (refl, s.cube_is, t.cube_is, tt)))))))
+    let q = position_of b in (
+      edges-wide p q half.Upper,
+      s.opponent,
+      t.opponent,
+      (
+        layers-wide p q half.Upper 1,
+        s.other_score,
+        t.other_score,
+        (
+          layers-wide p q half.Upper 2,
+          s.other_off_is,
+          t.other_off_is,
+          (
+            layers-wide p q half.Upper 3,
+            s.other_pips_are,
+            t.other_pips_are,
+            (
+              layers-wide p q half.Upper 4,
+              dice-lacks (field_of a 36) (field_of a 37),
+              dice-lacks (field_of b 36)
+                  (field_of b 37),
+              (
+                layers-wide p q half.Upper 5,
+                s.match_is,
+                t.match_is,
+                (refl, s.cube_is, t.cube_is, tt),
+              ),
+            ),
+          ),
+        ),
+      ),
+    )
 
 lower-alike : (a b : BoardFields) → Ended a → Ended b
     → Alike (lower_lines a (position_of a)) (lower_lines b (position_of b))
 unfolding lower_lines
 lower-alike a b s t =
     let p = position_of a in
-    let q = position_of b in
-    (layers-wide p q half.Lower 5, turn_words-lacks (turn a) (colour a), turn_words-lacks (turn b) (colour b),
-    (layers-wide p q half.Lower 4, dice-lacks (field_of a 34) (field_of a 35), dice-lacks (field_of b 34)
-    (field_of b 35),
-    (layers-wide p q half.Lower 3, s.own_pips_are, t.own_pips_are,
-    (layers-wide p q half.Lower 2, s.own_off_is, t.own_off_is,
-    (layers-wide p q half.Lower 1, s.own_score, t.own_score,
-    (edges-wide p q half.Lower, s.player, t.player,
-    (refl, deed_in-lacks p, deed_in-lacks q, tt)))))))
+    let q = position_of b in (
+      layers-wide p q half.Lower 5,
+      turn_words-lacks (turn a) (colour a),
+      turn_words-lacks (turn b) (colour b),
+      (
+        layers-wide p q half.Lower 4,
+        dice-lacks (field_of a 34) (field_of a 35),
+        dice-lacks (field_of b 34)
+            (field_of b 35),
+        (
+          layers-wide p q half.Lower 3,
+          s.own_pips_are,
+          t.own_pips_are,
+          (
+            layers-wide p q half.Lower 2,
+            s.own_off_is,
+            t.own_off_is,
+            (
+              layers-wide p q half.Lower 1,
+              s.own_score,
+              t.own_score,
+              (
+                edges-wide p q half.Lower,
+                s.player,
+                t.player,
+                (refl, deed_in-lacks p, deed_in-lacks q, tt),
+              ),
+            ),
+          ),
+        ),
+      ),
+    )
 
 record SameLines (a b : BoardFields) : Type 0 where
   upper : upper_lines a (position_of a) ≡ upper_lines b (position_of b)
