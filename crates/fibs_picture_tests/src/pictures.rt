@@ -122,7 +122,10 @@ fn a_write_that_fails_ends_the_drawing(rt: HostRuntime) -> Result<(), Fail> {
     for room in 0..wanted.len() {
         let mut held = [0; 1024];
         let mut out = &mut held[..room.min(1024)];
-        assert!(rt; draw_line(PICTURES[0].board, &mut out).is_err(), "room for {room}");
+        assert!(rt;
+            draw_line(PICTURES[0].board, &mut out).is_err(),
+            "room for {room}"
+        );
         assert_eq!(rt; &held[..room.min(1024)], &wanted[..room], "room for {room}");
     }
     Ok(())
