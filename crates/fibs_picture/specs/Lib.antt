@@ -1,0 +1,4 @@
+pub mod Cells
+pub mod Picture
+pub mod Told
+pub mod Fits

@@ -1,0 +1,19 @@
+//! Laws of pictures. Each is a promise; the functions do nothing else.
+ghost use Rattle.fibs_picture.specs.Fits.{PictureFits};
+ghost use Rattle.fibs_picture.specs.Told.{PictureTells};
+
+use fibs_boards::laws::fields_have_their_ranges;
+
+/// Boards of one picture, each of which has a position, are the same to the eye.
+pub fn picture_tells()
+    ensures { PictureTells }
+{
+    fields_have_their_ranges();
+}
+
+/// The picture of a board that has a position is fourteen lines of plain ASCII, of at most 79 columns.
+pub fn picture_fits()
+    ensures { PictureFits }
+{
+    fields_have_their_ranges();
+}

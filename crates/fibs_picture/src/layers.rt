@@ -1,0 +1,107 @@
+//! What is drawn at the left of a picture's lines.
+ghost use Rattle.std.specs.Prelude.{◌≤◌, OnOk};
+ghost use Rattle.std.specs.Io.KnownBytes.{Appends};
+ghost use Rattle.fibs_position.specs.PositionValue.{position_value};
+ghost use Rattle.fibs_picture.specs.Picture.{six, stands, labels, stacks, bar, edge, layer};
+
+use crate::cells::{label, stack};
+use crate::half::Half;
+use crate::writing::write_text;
+use fibs_position::{Direction, Position};
+use std::io;
+use std::io::Write;
+
+/// What is seen at a height of a place.
+#[tactic(auto, unfolding(crate::specs::Picture::stands))]
+fn draw_place<W: Write>(position: &Position, height: u8, place: u8, out: &mut W) -> io::Result<()>
+    requires low { 1 ≤ place }
+    requires high { place ≤ 24 }
+    ensures { OnOk result (Appends (W.contents out.old) (W.contents out.new)
+        (stands (position_value position.now).standing.checkers height place)) }
+{
+    write_text(
+        &stack(position.own(place), position.other(place), height),
+        out,
+    )
+}
+
+/// What is seen at a height of six places.
+#[tactic(auto, unfolding(crate::specs::Picture::stacks))]
+fn draw_places<W: Write>(
+    position: &Position,
+    half: Half,
+    first: u8,
+    height: u8,
+    out: &mut W,
+) -> io::Result<()>
+    requires low { 6 ≤ first }
+    requires high { first ≤ 19 }
+    ensures { OnOk result (Appends (W.contents out.old) (W.contents out.new)
+        (stacks (position_value position.now).standing.checkers height (six half first))) }
+{
+    draw_place(position, height, half.along(first, 0), out)?;
+    draw_place(position, height, half.along(first, 1), out)?;
+    draw_place(position, height, half.along(first, 2), out)?;
+    draw_place(position, height, half.along(first, 3), out)?;
+    draw_place(position, height, half.along(first, 4), out)?;
+    draw_place(position, height, half.along(first, 5), out)
+}
+
+/// What is seen at a height of a bar.
+fn draw_bar<W: Write>(position: &Position, half: Half, height: u8, out: &mut W) -> io::Result<()>
+    ensures { OnOk result (Appends (W.contents out.old) (W.contents out.new)
+        (bar (position_value position.now).standing.checkers half height)) }
+{
+    match half {
+        Half::Upper => write_text(&stack(position.own(25), 0, height), out),
+        Half::Lower => write_text(&stack(0, position.other_bar(), height), out),
+    }
+}
+
+/// What stands at a height in a half.
+#[tactic(auto, unfolding(crate::specs::Picture::layer))]
+pub fn draw_layer<W: Write>(
+    position: &Position,
+    half: Half,
+    height: u8,
+    out: &mut W,
+) -> io::Result<()>
+    ensures { OnOk result (Appends (W.contents out.old) (W.contents out.new)
+        (layer (position_value position.now) half height)) }
+{
+    write_text(b" |", out)?;
+    draw_places(position, half, half.left_first(), height, out)?;
+    write_text(b"|", out)?;
+    draw_bar(position, half, height, out)?;
+    write_text(b"|", out)?;
+    draw_places(position, half, half.right_first(), height, out)?;
+    write_text(b"|   ", out)
+}
+
+/// The numbers of six places.
+#[tactic(auto, unfolding(crate::specs::Picture::labels))]
+fn draw_labels<W: Write>(direction: Direction, half: Half, first: u8, out: &mut W) -> io::Result<()>
+    requires low { 6 ≤ first }
+    requires high { first ≤ 19 }
+    ensures { OnOk result (Appends (W.contents out.old) (W.contents out.new) (labels direction (six half first))) }
+{
+    write_text(&label(direction, half.along(first, 0)), out)?;
+    write_text(&label(direction, half.along(first, 1)), out)?;
+    write_text(&label(direction, half.along(first, 2)), out)?;
+    write_text(&label(direction, half.along(first, 3)), out)?;
+    write_text(&label(direction, half.along(first, 4)), out)?;
+    write_text(&label(direction, half.along(first, 5)), out)
+}
+
+/// The edge of a half.
+#[tactic(auto, unfolding(crate::specs::Picture::edge))]
+pub fn draw_edge<W: Write>(position: &Position, half: Half, out: &mut W) -> io::Result<()>
+    ensures { OnOk result (Appends (W.contents out.old) (W.contents out.new)
+        (edge (position_value position.now) half)) }
+{
+    write_text(b" +", out)?;
+    draw_labels(position.direction(), half, half.left_first(), out)?;
+    write_text(b"+---+", out)?;
+    draw_labels(position.direction(), half, half.right_first(), out)?;
+    write_text(b"+   ", out)
+}

@@ -1,0 +1,18 @@
+//! What is drawn of a board line.
+
+use fibs_messages::Board;
+use fibs_picture::draw;
+use fibs_position::Position;
+use std::io;
+use std::io::Write;
+
+/// Draws a board line; nothing of one that has no position.
+pub fn draw_line<W: Write>(line: &[u8], out: &mut W) -> io::Result<()> {
+    match Board::read(line) {
+        Ok(board) => match Position::of(&board) {
+            Ok(position) => draw(&board, &position, out),
+            Err(_) => Ok(()),
+        },
+        Err(_) => Ok(()),
+    }
+}
