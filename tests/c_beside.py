@@ -1,7 +1,7 @@
 """The library for C beside the reference: what it says of lines, and what a script makes a client hand out.
 
-`show` prints what the library says of lines as `fibs show` prints it. `Beside` is the reference's client, which also gives all that comes to it to a client of the library (examples/fibs.py),
-and holds what that answers to its own.
+`show` prints what the library says of lines as `fibs show` prints it. `Beside` is the reference's client, which also gives
+all that comes to it to a client of the library (examples/fibs.py), and holds what that answers to its own.
 """
 
 import pathlib
@@ -51,17 +51,19 @@ class Beside(reference.Client):
     def close(self):
         told = self.waiting and self.told(*self.waiting)
         super().close()
-        lost = self.other.lose()
-        found = lost and (board_line(lost.board), lost.decision.command(lost.board.field(43)).encode())
-        same('lose', told, found)
+        same('lose', told, told_of(self.other.lose()))
 
     def hear(self, data):
         waited = self.waiting
         wanted = self.sent(super().hear, data)
         heard = list(self.other.feed(data))
         same('feed', wanted, b''.join(told.send for told in heard))
-        confirmed = [told.confirmed for told in heard if told.confirmed]
-        same('confirmed', bool(waited and not self.waiting), bool(confirmed))
+        same('rolled', wanted.split(b'\r\n').count(b'roll'), sum(told.rolled for told in heard))
+        # Where an order rolls at the same line, what waits is not what waited.
+        if not self.ordered:
+            confirmed = [told.confirmed for told in heard if told.confirmed]
+            same('confirmed', bool(waited and not self.waiting), bool(confirmed))
+        same('waiting', self.waiting and self.told(*self.waiting), told_of(self.other.waiting))
         same('shown', self.board and self.board.printed, self.other.shown and board_line(self.other.shown))
 
     def click(self, decision):
@@ -70,10 +72,24 @@ class Beside(reference.Client):
         given = fibs.Decision(fibs.MOVE, decision) if isinstance(decision, tuple) else fibs.Decision(KINDS[decision])
         same('click', why or wanted, answer(self.other.decide, given))
 
+    def order(self, ordered):
+        stands = self.connection is not None and self.ordered
+        why = 'Offline' if self.connection is None else None
+        if self.connection is not None and stands == ordered:
+            why = 'AlreadyOrdered' if ordered else 'NotOrdered'
+        super().order(ordered)
+        same('order', why, answer(self.other.order_roll if ordered else self.other.withdraw_roll))
+
     def plain(self, line, command):
         wanted = self.sent(super().plain, line, command)
         found = answer(self.other.plain, line)
         same('plain', wanted, found if isinstance(found, bytes) else b'')
+
+
+def told_of(outstanding):
+    """A decision with its board, as the reference tells it."""
+    return outstanding and (board_line(outstanding.board),
+                            outstanding.decision.command(outstanding.board.field(43)).encode())
 
 
 def board_line(board):
