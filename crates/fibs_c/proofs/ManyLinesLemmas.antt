@@ -1,9 +1,14 @@
 -- Lines that were read one after another: their texts stand behind each other, and a later one leaves the earlier as they are.
-use Rattle.std.proofs.Common.{◌≡◌, ◌<◌, ◌≤◌, ◌+◌, ℕ, Bool, true, false, List, [], ◌∷◌, ◌++◌, length, take, drop, map, refl, sym, ap, subst, ◌∙◌, arith, append_assoc, slice_set, length-set, if◌then◌else◌}
-use Rattle.std.proofs.lemmas.List.{take-take, drop-take, take_more_set, map-append, append-nil}
-use Rattle.std.proofs.Math.Seq.{take-add}
-use Rattle.std.specs.List.{AllByRecursion}
-use Rattle.fibs_lines.specs.Lines.{ReadLine, lines_of}
+use Rattle.std.proofs.Common.{◌≡◌, ◌≢◌, ◌<◌, ◌≤◌, ◌+◌, ◌-◌, ℕ, Bool, not, true, false, List, [], ◌∷◌, ◌++◌, length, take, drop, map, refl, sym, ap, subst, ◌∙◌, arith, append_assoc, slice_set, length-set, length-drop, if◌then◌else◌}
+use borrow.Rule.Slice.PartMut.{mid_of, post_of, put_mid, same_len_mid}
+use Rattle.std.proofs.lemmas.Bool.{ne_eqb}
+use Rattle.std.proofs.lemmas.List.{take-take, drop-take, take_more_set, map-append, append-nil, drop_all, drop_at}
+use Rattle.std.proofs.lemmas.Slice.{between_to_end, take-put_mid_below}
+use Rattle.std.proofs.Math.Seq.{take-add, length-take-le}
+use Rattle.std.specs.List.{AllByRecursion, between}
+use Rattle.fibs_lines.specs.Lines.{ReadLine, lines_of, kept_limit}
+use Rattle.fibs_session.specs.History.Hearing.{line_reading}
+use Rattle.fibs_records.specs.Kinds.{told_kind}
 use Rattle.fibs_lines.specs.LinesValue.{LinesValue, StandsAfter}
 use Rattle.fibs_c.specs.LinesDoor.{FeedsLine, copied}
 use Rattle.fibs_c.specs.ManyLines.{line_in, kind_in, kind_of_line}
@@ -119,3 +124,64 @@ one_line old now new piece used count bytes rows text text' suffix fed row so f 
           (and_last (bytes + fed.len) (take count rows) row (further bytes (bytes + fed.len) (take count rows) (omega arith) so.within)
           (subst (λ (n : ℕ). n + row.len ≤ bytes + fed.len) (sym starts) (subst (λ (n : ℕ). bytes + n ≤ bytes + fed.len) (sym lens) (omega arith))));
     }
+
+-- what is written from b on stands behind b
+behind : (text suffix : List ℕ) (b : ℕ) → b ≤ length text → drop b (put_mid b (length text - b) text suffix) ≡ suffix
+behind text suffix b h =
+    drop_at (take b text) (suffix ++ post_of b (length text - b) text) b (length-take-le b text h)
+    ∙ ap (λ (l : List ℕ). suffix ++ l) (drop_all (length text - b) (drop b text) (omega (arith, length-drop b text))) ∙ append-nil suffix
+
+-- a flag that is not 0 is set
+set_of : (n : ℕ) → n ≢ 0 → is_set n ≡ true
+set_of n h = ap not (ne_eqb n 0 h)
+
+-- what was fed is what follows the bytes that were read
+fed_rest : (now new : LinesValue) (piece suffix : List ℕ) (used : ℕ) (fed : FedLine)
+    → FeedsLine now new (between used (length piece) piece) fed suffix → FeedsLine now new (drop used piece) fed suffix
+fed_rest now new piece suffix used fed f =
+    subst (λ (rest : List ℕ). FeedsLine now new rest fed suffix) (between_to_end piece used (length piece) (omega arith)) f
+
+-- the same as `no_line`, of a text that was written from `bytes` on
+pub no_line_next : (old now new : LinesValue) (piece : List ℕ) (used count bytes : ℕ) (rows : List ToldLine) (text suffix : List ℕ) (fed : FedLine)
+    → FeedsLine now new (between used (length piece) piece) fed suffix
+    → used < length piece
+    → length suffix ≡ length (mid_of bytes (length text - bytes) text)
+    → fed.ended ≡ 0
+    → ReadSoFar old now piece used count bytes rows text
+    → ReadSoFar old new piece (used + fed.used) count bytes rows (put_mid bytes (length text - bytes) text suffix)
+no_line_next old now new piece used count bytes rows text suffix fed f more same none so =
+    let rest : FeedsLine now new (drop used piece) fed suffix = fed_rest now new piece suffix used fed f in
+    let low : fed.used ≤ length (drop used piece) = rest.in_range in
+    no_line old now new piece used count bytes rows text (put_mid bytes (length text - bytes) text suffix) suffix fed so rest
+    (take-put_mid_below bytes (length text - bytes) text suffix bytes (omega arith) so.room)
+    (same_len_mid bytes (length text - bytes) text suffix same)
+    (omega (arith, low, length-drop used piece))
+    (ap is_set none)
+
+-- the same as `one_line`
+pub one_line_next : (old now new : LinesValue) (piece : List ℕ) (used count bytes : ℕ) (rows : List ToldLine) (text suffix : List ℕ) (fed : FedLine) (row : ToldLine)
+    → FeedsLine now new (between used (length piece) piece) fed suffix
+    → used < length piece → count < length rows → bytes + kept_limit ≤ length text
+    → length suffix ≡ length (mid_of bytes (length text - bytes) text)
+    → fed.len ≤ kept_limit
+    → fed.ended ≢ 0
+    → row.start ≡ bytes → row.len ≡ fed.len → row.cut ≡ fed.cut
+    → row.kind ≡ told_kind (line_reading (record { bytes = between bytes (bytes + fed.len) (put_mid bytes (length text - bytes) text suffix); cut = is_set fed.cut }))
+    → ReadSoFar old now piece used count bytes rows text
+    → ReadSoFar old new piece (used + fed.used) (count + 1) (bytes + fed.len) (slice_set rows count row) (put_mid bytes (length text - bytes) text suffix)
+one_line_next old now new piece used count bytes rows text suffix fed row f more few room same short one starts lens cuts kind so =
+    let text' : List ℕ = put_mid bytes (length text - bytes) text suffix in
+    let rest : FeedsLine now new (drop used piece) fed suffix = fed_rest now new piece suffix used fed f in
+    let low : fed.used ≤ length (drop used piece) = rest.in_range in
+    let at : drop bytes text' ≡ suffix = behind text suffix bytes so.room in
+    let size : bytes + fed.len - bytes ≡ fed.len = omega arith in
+    let is : between bytes (bytes + fed.len) text' ≡ take fed.len suffix = λ i. take (size i) (at i) in
+    let line : List ℕ → ReadLine = λ bytes. record { bytes = bytes; cut = is_set fed.cut } in
+    one_line old now new piece used count bytes rows text text' suffix fed row so rest few
+    (take-put_mid_below bytes (length text - bytes) text suffix bytes (omega arith) so.room)
+    at
+    (same_len_mid bytes (length text - bytes) text suffix same)
+    (omega (arith, low, length-drop used piece))
+    (omega (arith, short, room))
+    (set_of fed.ended one) starts lens cuts
+    (kind ∙ ap (λ (b : List ℕ). told_kind (line_reading (line b))) is)

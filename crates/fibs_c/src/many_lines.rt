@@ -113,6 +113,7 @@ fn read_next(
 }
 
 /// Reads lines until the piece ends, the rows are full, or the room is too short for another one.
+#[tactic(auto, using(crate::proofs::ManyLinesLemmas::none_read))]
 fn read_all(lines: &mut Lines, piece: &[u8], text: &mut [u8], rows: &mut [ToldLine]) -> Told
     ensures { ReadsLines lines.old lines.new piece.now result rows.new text.new }
 {

@@ -27,5 +27,5 @@ returns-in-Some c =
       cut = c.flag.ensures;
       kind = c.of.ensures;
       confirmed = c.confirmed_record.ensures;
-      rolled = c.flag-2.ensures;
+      rolled = c.flag-in-Some.ensures;
     })

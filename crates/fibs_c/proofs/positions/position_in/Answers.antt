@@ -2,6 +2,14 @@ use Rattle.std.proofs.Common.{ℕ, ◌+◌, refl, ap, inl, inr}
 use Rattle.fibs_boards.specs.StoredBoard.{fields_of}
 use Rattle.fibs_c.proofs.positions.position_in.Goals as goal
 
+pub returns-in-Err-clause-fault : goal.returns-in-Err-clause-fault
+returns-in-Err-clause-fault c = inl (record {
+  field = c.in-Err.wrong.field;
+  fault = c.in-Err.wrong.fault;
+  wrong = c.in-Err.ensures.wrong;
+  status_is = c.field_fault_status.ensures;
+})
+
 pub returns-in-Err-of-clause-fault : goal.returns-in-Err-of-clause-fault
 returns-in-Err-of-clause-fault c = inr (record {
   board = fields_of c.in-Ok.board;
