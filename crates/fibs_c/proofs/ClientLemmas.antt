@@ -1,5 +1,5 @@
 -- What is to be sent, and what a client does for it.
-use Rattle.std.proofs.Common.{◌≡◌, ◌≢◌, ◌≤◌, ◌<◌, ◌+◌, ℕ, List, [], ◌∷◌, ◌++◌, length, map, take, refl, sym, subst, ap, ◌∙◌, arith, Option, Some, None, option_map, Result, Ok, Err, IsErr}
+use Rattle.std.proofs.Common.{◌≡◌, ◌≤◌, ◌<◌, ℕ, List, [], length, take, sym, subst, ap, ◌∙◌, Option, Some, None, option_map}
 use Rattle.fibs_session.specs.Calls.Standing.{ClientValue}
 use Rattle.fibs_session.specs.Calls.Doing.{Does}
 use Rattle.fibs_session.specs.Calls.Feeding.{FeedAnswers, Shows, commands_of}
@@ -8,7 +8,7 @@ use Rattle.fibs_session.specs.History.Machine.{InputValue, Piece, wire_of}
 use Rattle.fibs_session.specs.declared.client.heard_line.HeardLine.{HeardLine}
 use Rattle.fibs_session.specs.declared.session.taken.Taken.{Taken}
 use Rattle.fibs_c.specs.ClientDoor.{DoesOnWire}
-use Rattle.fibs_c.specs.FeedDoor.{Feeds, IsTold, TellsLine}
+use Rattle.fibs_c.specs.FeedDoor.{Feeds, TellsLine}
 use Rattle.fibs_records.specs.Wires.{wire_in}
 use Rattle.fibs_c.specs.declared.feeding.Heard.{Heard}
 use Rattle.fibs_records.specs.declared.wire.Wire.{Wire}

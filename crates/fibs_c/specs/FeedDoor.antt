@@ -5,7 +5,7 @@ use Rattle.fibs_position.specs.DecisionValue.{DecisionValue}
 use Rattle.fibs_session.specs.Calls.Feeding.{FeedAnswers}
 use Rattle.fibs_session.specs.Calls.SessionOf.{TakenValue}
 use Rattle.fibs_session.specs.Calls.Standing.{ClientValue}
-use Rattle.fibs_session.specs.History.Machine.{Piece, wire_of}
+use Rattle.fibs_session.specs.History.Machine.{Piece}
 use Rattle.fibs_session.specs.History.Words.{Ask}
 use Rattle.fibs_c.specs.ClientDoor.{DoesOnWire}
 use Rattle.fibs_records.specs.Decisions.{IsMaybeDecision}

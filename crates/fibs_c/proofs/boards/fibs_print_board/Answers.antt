@@ -4,12 +4,15 @@ use Rattle.fibs_records.specs.Texts.{HandsOut}
 use Rattle.fibs_c.proofs.boards.fibs_print_board.Goals as goal
 
 pub returns-in-Err : goal.returns-in-Err
-returns-in-Err c = inl (record {
-  field = c.in-Err.wrong.field;
-  fault = c.in-Err.wrong.fault;
-  wrong = c.in-Err.ensures.wrong;
-  status_is = c.field_fault_status.ensures;
-}, refl)
+returns-in-Err c = inl (
+  record {
+    field = c.in-Err.wrong.field;
+    fault = c.in-Err.wrong.fault;
+    wrong = c.in-Err.ensures.wrong;
+    status_is = c.field_fault_status.ensures;
+  },
+  refl,
+)
 
 pub returns-in-Ok : goal.returns-in-Ok
 returns-in-Ok c = inr (record {

@@ -1,4 +1,4 @@
-use Rattle.std.proofs.Common.{ℕ, ◌+◌, refl, ap, inl, inr}
+use Rattle.std.proofs.Common.{refl, inl, inr}
 use Rattle.fibs_boards.specs.StoredBoard.{fields_of}
 use Rattle.fibs_c.proofs.positions.position_in.Goals as goal
 
