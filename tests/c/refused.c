@@ -99,8 +99,9 @@ static bool run(long number) {
     }
     before = refused;
     made = fibs_plays(bytes(board), strlen(board), plays, 3060, &count);
-    check(made == (refused > before ? FIBS_MEMORY : FIBS_DONE), "fibs_plays", number);
-    check(made == FIBS_DONE ? count > 0 : count == 77 && plays[0].kind == 0, "fibs_plays writes", number);
+    /* where room for all plays at once is refused, it may do with less */
+    check(made == FIBS_DONE || (made == FIBS_MEMORY && refused > before), "fibs_plays", number);
+    check(made == FIBS_DONE ? count == 14 : count == 77 && plays[0].kind == 0, "fibs_plays writes", number);
 
     fibs_lines_free(&lines);
     fibs_client_free(&client);
