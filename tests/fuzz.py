@@ -1,5 +1,7 @@
 """A differential fuzz: `fuzz.py PROGRAM SECONDS [SEED]` compares PROGRAM with reference.py, byte by byte.
 
+Where lib/libfibs.so is there, each batch of lines and each script also goes through the library for C (c_beside.py).
+
 A third of the time goes to batches of lines for `PROGRAM show`, a third to scripts, each for `PROGRAM replay` and for
 `PROGRAM loop`, a third to board lines for `PROGRAM plays`, in turn. It ends with status 1 at the first difference, which
 it makes small, and with status 0 where there was none in SECONDS of wall clock. It prints its seed, what the inputs had
@@ -14,6 +16,11 @@ import sys
 import time
 
 import reference
+
+try:
+    import c_beside
+except OSError:
+    c_beside = None
 
 # ---- Values at and beside the limits of the document -----------------------------------------------------------------
 
@@ -591,7 +598,8 @@ def smaller(program, mode, data, best):
 def report(program, mode, best):
     """Nothing is run after the time is over: the smallest difference so far is printed."""
     try:
-        smaller(program, mode, best[0], best)
+        if mode != 'library':
+            smaller(program, mode, best[0], best)
     except OutOfTime:
         print('(not made smaller any more: out of time)')
     data, expected, answer = best
@@ -623,6 +631,10 @@ def compare(program, rng, seen):
             outcome = program.beside(mode, data, expected)
             if outcome[1] != outcome[2]:
                 return mode, outcome
+        if c_beside:
+            outcome = c_beside.outcome(kind, data, expected)
+            if outcome:
+                return 'library', outcome
         seen[kind] += data.count(b'\n') if kind == 'lines' else 1
         note(seen, kind, expected[0])
         spent[kind] += time.monotonic() - start

@@ -1,0 +1,3 @@
+-- Why the functions do what those that they call do.
+pub mod ManyLinesLemmas
+pub mod ClientLemmas

@@ -1,0 +1,5 @@
+-- One more reading keeps what was read so far.
+use Rattle.fibs_c.proofs.many_lines.read_all.Goals as goal
+
+pub loop-lines-preserved : goal.loop-lines-preserved
+loop-lines-preserved c = c.read_next-told.ensures.reads c.args.lines.now c.loop-lines.invariant

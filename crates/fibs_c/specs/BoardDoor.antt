@@ -1,0 +1,34 @@
+-- What is told of a board.
+use Rattle.std.specs.Prelude.{◌≡◌, ℕ, ◌+◌, ◌⊎◌, List}
+use Rattle.fibs_boards.specs.Board.{BoardFields, BoardText, Wrong, spelling}
+use Rattle.fibs_fields.specs.Faults.{fault_number}
+use Rattle.fibs_fields.specs.declared.fault.Fault.{Fault}
+use Rattle.fibs_messages.specs.Line.{ReadingValue, numbered_line, board_line, text_line, malformed_line}
+use Rattle.fibs_records.specs.BoardOf.{IsBoardAs}
+use Rattle.fibs_records.specs.Texts.{HandsOut}
+use Rattle.fibs_records.specs.declared.boards.BoardRecord.{BoardRecord}
+
+-- where the line is a board, its fields
+abbrev pub IsToldBoard : ReadingValue → BoardRecord → Type 0
+IsToldBoard (board_line b) r = IsBoardAs r b
+IsToldBoard (numbered_line m) r = Unit {0}
+IsToldBoard (text_line text) r = Unit {0}
+IsToldBoard (malformed_line n k f) r = Unit {0}
+
+-- the line says no board: it has a first wrong field, of which this is the fault
+pub record IsWrongBoard (line : List ℕ) (status : ℕ) : Type 0 where
+  pub field : ℕ
+  pub fault : Fault
+  pub wrong : Wrong line field fault
+  pub status_is : status ≡ 300 + fault_number fault
+
+-- the board of the line is printed
+pub record PrintsBoard (line old new : List ℕ) (len status : ℕ) : Type 0 where
+  pub board : BoardFields
+  pub says : BoardText board line
+  pub prints : HandsOut (spelling board) old new len status
+
+-- or the line says no board, and nothing is written
+abbrev pub IsPrintedBoard : List ℕ → List ℕ → List ℕ → ℕ → ℕ → Type 0
+IsPrintedBoard line old new len status =
+    (IsWrongBoard line status × (new ≡ old)) ⊎ PrintsBoard line old new len status

@@ -1,0 +1,101 @@
+-- What the functions for C do with a client.
+use Rattle.std.specs.Prelude.{◌≡◌, ◌≢◌, ℕ, ◌+◌, List, [], Option, None, Some}
+use Rattle.fibs_commands.specs.Logins.{login_fault, login_text}
+use Rattle.fibs_commands.specs.PlainCommands.{PlainValue}
+use Rattle.fibs_commands.specs.PlainFaults.{plain_fault_number}
+use Rattle.fibs_commands.specs.declared.plain.PlainFault.{PlainFault}
+use Rattle.fibs_boards.specs.Board.{BoardFields}
+use Rattle.fibs_position.specs.DecisionValue.{DecisionValue}
+use Rattle.fibs_session.specs.Calls.Standing.{ClientValue, StandsAfter}
+use Rattle.fibs_session.specs.History.Words.{Ask}
+use Rattle.fibs_session.specs.History.Machine.{Talk, InputValue, start, step, Open, Lose, Click, PlainInput, wire_of}
+use Rattle.fibs_session.specs.History.Machine.{open_refusal, unconfirmed_now, answer_now, plain_refusal, shown_now}
+use Rattle.fibs_records.specs.Asks.{IsAskAs, IsMaybeAsk}
+use Rattle.fibs_records.specs.BoardOf.{IsBoardAs}
+use Rattle.fibs_records.specs.Statuses.{refusal_status, plain_status}
+use Rattle.fibs_records.specs.declared.boards.BoardRecord.{BoardRecord}
+use Rattle.fibs_records.specs.declared.outstanding.OutstandingRecord.{OutstandingRecord}
+
+-- a client of that login was made; or the first of these reasons against it: one is held, the name or the password is
+-- wrong, memory ran out
+abbrev pub IsNewFor : Option PlainFault → Option ClientValue → List ℕ → List ℕ → ℕ → Type 0
+IsNewFor (Some fault) new name password status = (status ≡ 100 + plain_fault_number fault) × (new ≡ None)
+IsNewFor None None name password status = status ≡ 401
+IsNewFor None (Some c) name password status = (status ≡ 0) × StandsAfter c (start (login_text name password))
+
+abbrev pub IsNewClient : Option ClientValue → Option ClientValue → List ℕ → List ℕ → ℕ → Type 0
+IsNewClient (Some c) new name password status = (status ≡ 502) × (new ≡ Some c)
+IsNewClient None new name password status = IsNewFor (login_fault name password) new name password status
+
+-- after each history that it stood after, the client stands after that history with the input, and these are the bytes
+-- that are to be sent: those of the commands that the machine hands out
+pub record DoesOnWire (old new : ClientValue) (i : InputValue) (wire : List ℕ) : Type 0 where
+  pub stands : (t : Talk) → StandsAfter old t → StandsAfter new (step t i).talk
+  pub hands : (t : Talk) → StandsAfter old t → wire ≡ wire_of (step t i).send
+
+-- what `Client::open` does, and its refusal
+pub record Opens (old new : ClientValue) (wire : List ℕ) (status : ℕ) : Type 0 where
+  pub does : DoesOnWire old new Open wire
+  pub refusal : (t : Talk) → StandsAfter old t → status ≡ refusal_status (open_refusal t)
+  pub kept : status ≢ 0 → new ≡ old
+
+abbrev pub IsOpened : Option ClientValue → Option ClientValue → List ℕ → ℕ → Type 0
+IsOpened None new wire status = (status ≡ 501) × (new ≡ None) × (wire ≡ [])
+IsOpened (Some c) None wire status = ⊥
+IsOpened (Some c) (Some d) wire status = Opens c d wire status
+
+-- what `Client::decide` does, and its refusal
+pub record Decides (old new : ClientValue) (d : DecisionValue) (wire : List ℕ) (status : ℕ) : Type 0 where
+  pub does : DoesOnWire old new (Click d) wire
+  pub refusal : (t : Talk) → StandsAfter old t → status ≡ refusal_status (answer_now t d)
+  pub kept : status ≢ 0 → new ≡ old
+
+abbrev pub IsDecided : Option DecisionValue → Option ClientValue → Option ClientValue → List ℕ → ℕ → Type 0
+IsDecided None old new wire status = (status ≡ 504) × (new ≡ old) × (wire ≡ [])
+IsDecided (Some d) None new wire status = (status ≡ 501) × (new ≡ None) × (wire ≡ [])
+IsDecided (Some d) (Some c) None wire status = ⊥
+IsDecided (Some d) (Some c) (Some c') wire status = Decides c c' d wire status
+
+-- what `Client::plain` does, and its refusal
+pub record SendsPlain (old new : ClientValue) (p : PlainValue) (wire : List ℕ) (status : ℕ) : Type 0 where
+  pub does : DoesOnWire old new (PlainInput p) wire
+  pub refusal : (t : Talk) → StandsAfter old t → status ≡ plain_status (plain_refusal t p)
+  pub kept : status ≢ 0 → new ≡ old
+
+abbrev pub IsPlainSent : Option PlainValue → Option ClientValue → Option ClientValue → List ℕ → ℕ → Type 0
+IsPlainSent None old new wire status = (status ≡ 505) × (new ≡ old) × (wire ≡ [])
+IsPlainSent (Some p) None new wire status = (status ≡ 501) × (new ≡ None) × (wire ≡ [])
+IsPlainSent (Some p) (Some c) None wire status = ⊥
+IsPlainSent (Some p) (Some c) (Some d) wire status = SendsPlain c d p wire status
+
+-- what `Client::lose` does, and which decision waited
+pub record Loses (old new : ClientValue) (waited : OutstandingRecord) (status : ℕ) : Type 0 where
+  pub done : status ≡ 0
+  pub does : DoesOnWire old new Lose []
+  pub waited_is : (t : Talk) → StandsAfter old t → IsMaybeAsk waited (unconfirmed_now t)
+
+abbrev pub IsLost : Option ClientValue → Option ClientValue → OutstandingRecord → ℕ → Type 0
+IsLost None new waited status = (status ≡ 501) × (new ≡ None)
+IsLost (Some c) None waited status = ⊥
+IsLost (Some c) (Some d) waited status = Loses c d waited status
+
+-- the board that is shown, or that none is
+abbrev pub IsShownBoard : Option BoardFields → BoardRecord → ℕ → Type 0
+IsShownBoard None r status = status ≡ 5
+IsShownBoard (Some b) r status = (status ≡ 0) × IsBoardAs r b
+
+-- and the client is as it was
+abbrev pub IsShown : Option ClientValue → Option ClientValue → BoardRecord → ℕ → Type 0
+IsShown None new r status = (status ≡ 501) × (new ≡ None)
+IsShown (Some c) new r status = (new ≡ Some c) × ((t : Talk) → StandsAfter c t → IsShownBoard (shown_now t) r status)
+
+-- the decision that waits, or that none does
+abbrev pub IsWaitingAsk : Option Ask → OutstandingRecord → ℕ → Type 0
+IsWaitingAsk None out status = status ≡ 507
+IsWaitingAsk (Some a) out status = (status ≡ 0) × IsAskAs out a
+
+-- and the client is as it was
+abbrev pub IsWaiting : Option ClientValue → Option ClientValue → OutstandingRecord → ℕ → Type 0
+IsWaiting None new out status = (status ≡ 501) × (new ≡ None)
+IsWaiting (Some c) new out status =
+    (new ≡ Some c) × ((t : Talk) → StandsAfter c t → IsWaitingAsk (unconfirmed_now t) out status)

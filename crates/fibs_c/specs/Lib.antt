@@ -1,0 +1,12 @@
+-- What a function for C does, told by what C sees.
+pub mod LinesDoor
+pub mod ManyLines
+pub mod ReadingsDoor
+pub mod BoardDoor
+pub mod PositionDoor
+pub mod ClientDoor
+pub mod OrderDoor
+pub mod FeedDoor
+pub mod DirectoryDoor
+-- What only private functions and proofs say.
+pub mod ReadingOn

@@ -1,0 +1,50 @@
+-- What the functions for C do with a reader of lines.
+use Rattle.std.specs.Prelude.{◌≡◌, ℕ, ◌<◌, ◌≤◌, ◌++◌, ◌⊎◌, List, [], ◌∷◌, length, take, min, Option, None, Some}
+use Rattle.std.specs.Prelude.{if◌then◌else◌}
+use Rattle.fibs_lines.specs.Lines.{ReadLine, lines_of, rest_of, kept_limit}
+use Rattle.fibs_lines.specs.LinesValue.{LinesValue, StandsAfter}
+use Rattle.fibs_records.specs.Texts.{is_set}
+use Rattle.fibs_c.specs.declared.lines.FedLine.{FedLine}
+
+-- the line that was copied, if one ended
+abbrev pub copied : FedLine → List ℕ → List ReadLine
+copied fed text = if is_set fed.ended then record { bytes = take fed.len text; cut = is_set fed.cut } ∷ [] else []
+
+-- wherever the reader stood, it now stands after the bytes read too: the shortest front of the piece with which the
+-- stream has one line more, and that line was copied; or the whole piece
+pub record FeedsLine (old new : LinesValue) (piece : List ℕ) (fed : FedLine) (text : List ℕ) : Type 0 where
+  pub in_range : fed.used ≤ length piece
+  pub progress : 0 < length piece → 0 < fed.used
+  pub stands : (s : List ℕ) → StandsAfter old s → StandsAfter new (s ++ take fed.used piece)
+  pub gains : (s : List ℕ) → StandsAfter old s → lines_of (s ++ take fed.used piece) ≡ lines_of s ++ copied fed text
+  pub shortest : (s : List ℕ) → StandsAfter old s → (n : ℕ) → n < fed.used → lines_of (s ++ take n piece) ≡ lines_of s
+
+-- a reader was made, or it was refused: one is held already, or memory ran out
+abbrev pub IsNewLines : Option LinesValue → Option LinesValue → ℕ → Type 0
+IsNewLines (Some v) new status = (status ≡ 502) × (new ≡ Some v)
+IsNewLines None None status = status ≡ 401
+IsNewLines None (Some w) status = (status ≡ 0) × StandsAfter w []
+
+-- the reader was fed, or none is held
+abbrev pub IsFedWhere : Option LinesValue → Option LinesValue → List ℕ → FedLine → List ℕ → ℕ → Type 0
+IsFedWhere None new piece fed text status = (status ≡ 501) × (new ≡ None)
+IsFedWhere (Some v) None piece fed text status = ⊥
+IsFedWhere (Some v) (Some w) piece fed text status = (status ≡ 0) × FeedsLine v w piece fed text
+
+-- the same where there is room for a line, and else nothing was done
+abbrev pub IsFed : Option LinesValue → Option LinesValue → List ℕ → ℕ → FedLine → List ℕ → ℕ → Type 0
+IsFed old new piece room fed text status =
+    ((room < kept_limit) × (status ≡ 503) × (new ≡ old))
+    ⊎ ((kept_limit ≤ room) × IsFedWhere old new piece fed text status)
+
+-- nothing has come, or none is held
+abbrev pub IsReset : Option LinesValue → Option LinesValue → ℕ → Type 0
+IsReset None new status = (status ≡ 501) × (new ≡ None)
+IsReset (Some v) None status = ⊥
+IsReset (Some v) (Some w) status = (status ≡ 0) × StandsAfter w []
+
+-- how many bytes stand after the last line end, and the reader is as it was
+abbrev pub IsHeld : Option LinesValue → Option LinesValue → ℕ → ℕ → Type 0
+IsHeld None new len status = (status ≡ 501) × (new ≡ None)
+IsHeld (Some v) new len status =
+    (status ≡ 0) × (new ≡ Some v) × ((s : List ℕ) → StandsAfter v s → len ≡ min kept_limit (length (rest_of s)))

@@ -1,0 +1,40 @@
+-- What is told of many lines in one call.
+use Rattle.std.specs.Prelude.{◌≡◌, ℕ, ◌+◌, ◌<◌, ◌≤◌, ◌++◌, ◌⊎◌, List, length, map, take, drop, Option, None, Some}
+use Rattle.fibs_lines.specs.Lines.{ReadLine, lines_of, kept_limit}
+use Rattle.fibs_lines.specs.LinesValue.{LinesValue, StandsAfter}
+use Rattle.fibs_session.specs.History.Hearing.{line_reading}
+use Rattle.fibs_records.specs.Kinds.{told_kind}
+use Rattle.fibs_records.specs.Texts.{is_set}
+use Rattle.fibs_c.specs.declared.many_lines.Told.{Told}
+use Rattle.fibs_c.specs.declared.many_lines.ToldLine.{ToldLine}
+use Rattle.fibs_records.specs.declared.kinds.LineKind.{LineKind}
+
+-- the line of a row, whose bytes stand in the text
+abbrev pub line_in : List ℕ → ToldLine → ReadLine
+line_in text row = record { bytes = take row.len (drop row.start text); cut = is_set row.cut }
+
+-- what the row says that it is
+abbrev pub kind_in : ToldLine → LineKind
+kind_in row = row.kind
+
+-- what a line is
+abbrev pub kind_of_line : ReadLine → LineKind
+kind_of_line line = told_kind (line_reading line)
+
+-- wherever the reader stood, it now stands after the bytes read too, and the rows have the lines that these ended, with
+-- what each is. It went on until the piece ended, the rows were full, or the room was too short for another line
+pub record ReadsLines (old new : LinesValue) (piece : List ℕ) (told : Told) (rows : List ToldLine) (text : List ℕ)
+    : Type 0 where
+  pub in_range : told.used ≤ length piece
+  pub few : told.lines ≤ length rows
+  pub stands : (s : List ℕ) → StandsAfter old s → StandsAfter new (s ++ take told.used piece)
+  pub gains : (s : List ℕ) → StandsAfter old s
+      → lines_of (s ++ take told.used piece) ≡ lines_of s ++ map (line_in text) (take told.lines rows)
+  pub kinds : map kind_in (take told.lines rows) ≡ map kind_of_line (map (line_in text) (take told.lines rows))
+  pub ends : (length piece ≤ told.used) ⊎ ((length rows ≤ told.lines) ⊎ (length text < told.bytes + kept_limit))
+
+-- or no reader is held
+abbrev pub AreLinesRead : Option LinesValue → Option LinesValue → List ℕ → Told → List ToldLine → List ℕ → ℕ → Type 0
+AreLinesRead None new piece told rows text status = (status ≡ 501) × (new ≡ None)
+AreLinesRead (Some v) None piece told rows text status = ⊥
+AreLinesRead (Some v) (Some w) piece told rows text status = (status ≡ 0) × ReadsLines v w piece told rows text

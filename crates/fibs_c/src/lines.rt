@@ -1,0 +1,139 @@
+//! Lines of a stream.
+
+ghost use Rattle.std.specs.Prelude.{◌≡◌, ◌≤◌, None, length};
+ghost use Rattle.fibs_lines.specs.Lines.{kept_limit};
+ghost use Rattle.fibs_c.specs.LinesDoor.{FeedsLine, IsFed, IsNewLines, IsReset, IsHeld};
+
+use fibs_lines::{LIMIT, Lines, laws};
+use fibs_records::LinesHandle;
+use fibs_records::status::{DONE, HELD, MEMORY, NO_HANDLE, SHORT};
+use fibs_records::text::{flag, put};
+use std::alloc::Global;
+
+/// What was read of a piece.
+#[repr(C)]
+#[derive(Clone, Copy)]
+pub struct FedLine {
+    /// How many bytes of the piece were read: those up to and with a line end, or all.
+    pub used: usize,
+    /// How many bytes the line has.
+    pub len: usize,
+    /// Whether a line ended.
+    pub ended: u8,
+    /// Whether the line had more bytes than are kept.
+    pub cut: u8,
+}
+
+/// How many bytes of a line are kept.
+#[unsafe(no_mangle)]
+pub extern "C" fn fibs_line_limit() -> usize
+    ensures { result ≡ kept_limit }
+{
+    LIMIT
+}
+
+/// Makes a reader of a stream of which nothing has come. A handle that holds one stays as it is.
+#[unsafe(no_mangle)]
+pub extern "C" fn fibs_lines_new(alloc: Global, lines: &mut LinesHandle) -> u32
+    ensures { IsNewLines lines.old.value lines.new.value result }
+{
+    if let Some(held) = lines.take(alloc) {
+        *lines = LinesHandle::of(held);
+        return HELD;
+    }
+    match Box::new(alloc, Lines::new()) {
+        Ok(made) => {
+            *lines = LinesHandle::of(made);
+            DONE
+        }
+        Err(_) => MEMORY,
+    }
+}
+
+/// Gives the reader's memory back. The handle then holds none; one that held none stays as it is.
+#[unsafe(no_mangle)]
+pub extern "C" fn fibs_lines_free(alloc: Global, lines: &mut LinesHandle)
+    ensures { lines.new.value ≡ None }
+{
+    drop(lines.take(alloc));
+}
+
+/// Reads a piece up to and with the next line end, and copies the line.
+pub(crate) fn feed(lines: &mut Lines, piece: &[u8], text: &mut [u8]) -> FedLine
+    requires { kept_limit ≤ length text.old }
+    ensures told { FeedsLine lines.old lines.new piece.now result text.new }
+    ensures within { result.len ≤ kept_limit }
+{
+    laws::lines_fit();
+    laws::limit_is_that_of_the_definitions();
+    let used = lines.feed(piece).used;
+    match lines.line() {
+        None => FedLine {
+            used,
+            len: 0,
+            ended: 0,
+            cut: 0,
+        },
+        Some(line) => FedLine {
+            used,
+            len: put(text, &line.bytes[..line.bytes.len().min(LIMIT)]),
+            ended: 1,
+            cut: flag(line.cut),
+        },
+    }
+}
+
+/// Reads a piece up to and with the next line end, and copies the line that ends there, if one does, into `text`, which
+/// has room for `fibs_line_limit()` bytes. To be called again with what is left, until nothing is.
+#[unsafe(no_mangle)]
+pub extern "C" fn fibs_lines_feed(
+    alloc: Global,
+    lines: &mut LinesHandle,
+    piece: &[u8],
+    text: &mut [u8],
+    fed: &mut FedLine,
+) -> u32
+    ensures { IsFed lines.old.value lines.new.value piece.now (length text.old) fed.new text.new result }
+{
+    if text.len() < LIMIT {
+        return SHORT;
+    }
+    match lines.take(alloc) {
+        None => NO_HANDLE,
+        Some(mut held) => {
+            *fed = feed(&mut held, piece, text);
+            *lines = LinesHandle::of(held);
+            DONE
+        }
+    }
+}
+
+/// Forgets what has come: the next byte is the first of a new stream.
+#[unsafe(no_mangle)]
+pub extern "C" fn fibs_lines_reset(alloc: Global, lines: &mut LinesHandle) -> u32
+    ensures { IsReset lines.old.value lines.new.value result }
+{
+    match lines.take(alloc) {
+        None => NO_HANDLE,
+        Some(mut held) => {
+            held.reset();
+            *lines = LinesHandle::of(held);
+            DONE
+        }
+    }
+}
+
+/// How many bytes stand after the last line end, at most as many as are kept of a line.
+#[unsafe(no_mangle)]
+pub extern "C" fn fibs_lines_held(alloc: Global, lines: &mut LinesHandle, len: &mut usize) -> u32
+    ensures { IsHeld lines.old.value lines.new.value len.new result }
+{
+    match lines.take(alloc) {
+        None => NO_HANDLE,
+        Some(held) => {
+            *len = held.held();
+            *lines = LinesHandle::of(held);
+            DONE
+        }
+    }
+}

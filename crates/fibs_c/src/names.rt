@@ -1,0 +1,20 @@
+//! The names of statuses.
+
+ghost use Rattle.std.specs.Prelude.{◌≡◌};
+ghost use Rattle.fibs_records.specs.Statuses.{status_name};
+ghost use Rattle.fibs_records.specs.Texts.{IsNamed};
+
+use fibs_records::status::{NO_STATUS, status_name};
+use fibs_records::text::hand_out;
+
+/// The name of a status, as the program prints it.
+#[unsafe(no_mangle)]
+pub extern "C" fn fibs_status_name(status: u32, text: &mut [u8], len: &mut usize) -> u32
+    ensures { IsNamed (status_name status) text.old text.new len.new result }
+{
+    let name = status_name(status);
+    if name.is_empty() {
+        return NO_STATUS;
+    }
+    hand_out(name.as_bytes(), text, len)
+}

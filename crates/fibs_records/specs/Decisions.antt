@@ -1,0 +1,56 @@
+-- Decisions as C has them.
+use Rattle.std.specs.Prelude.{◌≡◌, ℕ, Bool, ◌&&◌, List, take, map, cond, Option, None, Some, option_map, nat_eq, nat_le}
+use Rattle.std.specs.Prelude.{if◌then◌else◌}
+use Rattle.std.specs.List.{list_all}
+use Rattle.fibs_position.specs.DecisionValue.{DecisionValue, roll, double, accept, reject, move, resign}
+use Rattle.fibs_position.specs.declared.stake.Stake.{Stake}
+use Rattle.fibs_position.specs.declared.stake.Stake.TheVariants.{Normal, Gammon, Backgammon}
+use Rattle.fibs_rules.specs.Hop.{Hop}
+use Rattle.fibs_records.specs.declared.decisions.DecisionRecord.{DecisionRecord}
+use Rattle.fibs_records.specs.declared.decisions.PlayStep.{PlayStep}
+
+-- a step
+abbrev pub hop_in : PlayStep → Hop
+hop_in s = record { source = s.source; target = s.target }
+
+-- whether it goes from a place 1 to 25 to a place 0 to 24
+abbrev pub is_step : PlayStep → Bool
+is_step s = nat_le 1 s.source && (nat_le s.source 25 && nat_le s.target 24)
+
+-- at most four such steps, as a play
+abbrev pub play_in : ℕ → List PlayStep → Option (List Hop)
+play_in count steps =
+    cond (nat_le count 4 && list_all is_step (take count steps)) (Some (map hop_in (take count steps))) None
+
+-- the decision of a record: 1 roll, 2 double, 3 accept, 4 reject, 5 move, which takes steps, 6 to 8 resign
+abbrev pub decision_in : DecisionRecord → Option DecisionValue
+decision_in r =
+    if nat_eq r.kind 1 then Some roll else if nat_eq r.kind 2 then Some double else if nat_eq r.kind 3 then Some accept
+    else if nat_eq r.kind 4 then Some reject
+    else if nat_eq r.kind 5 then option_map move (play_in r.count r.steps)
+    else if nat_eq r.kind 6 then Some (resign Normal) else if nat_eq r.kind 7 then Some (resign Gammon)
+    else if nat_eq r.kind 8 then Some (resign Backgammon) else None
+
+-- the steps that are told
+abbrev pub hops_in : DecisionRecord → List Hop
+hops_in r = map hop_in (take r.count r.steps)
+
+-- the number of a resignation
+abbrev pub resigning : Stake → ℕ
+resigning Normal = 6
+resigning Gammon = 7
+resigning Backgammon = 8
+
+-- this decision is told
+abbrev pub IsDecisionAs : DecisionRecord → DecisionValue → Type 0
+IsDecisionAs r roll = r.kind ≡ 1
+IsDecisionAs r double = r.kind ≡ 2
+IsDecisionAs r accept = r.kind ≡ 3
+IsDecisionAs r reject = r.kind ≡ 4
+IsDecisionAs r (move steps) = (r.kind ≡ 5) × (hops_in r ≡ steps)
+IsDecisionAs r (resign stake) = r.kind ≡ resigning stake
+
+-- this one, or none
+abbrev pub IsMaybeDecision : DecisionRecord → Option DecisionValue → Type 0
+IsMaybeDecision r None = r.kind ≡ 0
+IsMaybeDecision r (Some d) = IsDecisionAs r d

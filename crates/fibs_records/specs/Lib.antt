@@ -1,0 +1,11 @@
+-- What C sees.
+pub mod Statuses
+pub mod Texts
+pub mod Fields
+pub mod Kinds
+pub mod Decisions
+pub mod BoardOf
+pub mod Asks
+pub mod Wires
+-- What a handle owns. Only its own functions cite it.
+pub mod Handles

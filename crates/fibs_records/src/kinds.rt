@@ -1,0 +1,94 @@
+//! What a line is, as C has it.
+
+ghost use Rattle.std.specs.Prelude.{◌≡◌};
+ghost use Rattle.fibs_messages.specs.Line.{reading_of};
+ghost use Rattle.fibs_messages.specs.Message.{message_of};
+ghost use Rattle.fibs_records.specs.Kinds.{told_kind};
+
+use fibs_messages::{Message, Reading};
+
+/// What a line is.
+#[repr(C)]
+#[derive(Clone, Copy)]
+pub struct LineKind {
+    /// The first wrong field; 0 where none is.
+    pub field: usize,
+    /// 0 a text, 1 a message, 2 a board, 3 a message or a board with a wrong field.
+    pub kind: u8,
+    /// The number of a message, also of a malformed one; else 0.
+    pub number: u8,
+    /// What is wrong with the first wrong field; 0 where nothing is.
+    pub fault: u8,
+}
+
+/// The message's number.
+fn number_of(message: &Message<'_>) -> u8
+    ensures { result ≡ (message_of message.now).number }
+{
+    match message {
+        Message::Welcome { .. } => 1,
+        Message::OwnInfo(_) => 2,
+        Message::MotdBegin => 3,
+        Message::MotdEnd => 4,
+        Message::WhoInfo(_) => 5,
+        Message::WhoInfoEnd => 6,
+        Message::Login { .. } => 7,
+        Message::Logout { .. } => 8,
+        Message::MessageReceived { .. } => 9,
+        Message::MessageDelivered { .. } => 10,
+        Message::MessageSaved { .. } => 11,
+        Message::Says { .. } => 12,
+        Message::Shouts { .. } => 13,
+        Message::Whispers { .. } => 14,
+        Message::Kibitzes { .. } => 15,
+        Message::YouSay { .. } => 16,
+        Message::YouShout { .. } => 17,
+        Message::YouWhisper { .. } => 18,
+        Message::YouKibitz { .. } => 19,
+    }
+}
+
+impl LineKind {
+    /// A text, and what is told where there is no line.
+    pub fn text() -> LineKind
+        ensures { result ≡ record { field = 0; kind = 0; number = 0; fault = 0 } }
+    {
+        LineKind {
+            field: 0,
+            kind: 0,
+            number: 0,
+            fault: 0,
+        }
+    }
+
+    /// What the reading says.
+    pub fn of(reading: &Reading<'_>) -> LineKind
+        ensures { result ≡ told_kind (reading_of reading.now) }
+    {
+        match reading {
+            Reading::Text(_) => LineKind::text(),
+            Reading::Numbered(message) => LineKind {
+                field: 0,
+                kind: 1,
+                number: number_of(message),
+                fault: 0,
+            },
+            Reading::Board(_) => LineKind {
+                field: 0,
+                kind: 2,
+                number: 0,
+                fault: 0,
+            },
+            Reading::Malformed {
+                number,
+                field,
+                fault,
+            } => LineKind {
+                field: *field,
+                kind: 3,
+                number: *number,
+                fault: fault.number(),
+            },
+        }
+    }
+}

@@ -1,0 +1,68 @@
+//! Commands as they go to the server.
+
+ghost use Rattle.std.specs.Prelude.{◌≡◌, ◌+◌, ◌≤◌, ◌++◌, [], ◌∷◌, length};
+ghost use Rattle.fibs_commands.specs.TextOf.{text_of};
+ghost use Rattle.fibs_session.specs.Calls.SessionOf.{texts_of};
+ghost use Rattle.fibs_session.specs.History.Machine.{on_wire, wire_of};
+ghost use Rattle.fibs_records.specs.Wires.{wire_in};
+
+use crate::text::put;
+use fibs_session::CommandText;
+
+/// What is to be sent, at once: some commands, each with CR LF.
+#[repr(C)]
+#[derive(Clone, Copy)]
+pub struct Wire {
+    /// How many bytes it has.
+    pub len: usize,
+    /// At most three commands.
+    pub bytes: [u8; 1542],
+}
+
+/// Makes it hold nothing.
+pub fn clear(wire: &mut Wire)
+    ensures nothing { wire_in wire.new ≡ [] }
+    ensures len { wire.new.len ≡ 0 }
+{
+    wire.len = 0;
+}
+
+/// Appends bytes for which there is room.
+fn append(wire: &mut Wire, bytes: &[u8])
+    requires { wire.old.len + length bytes.now ≤ 1542 }
+    ensures appended { wire_in wire.new ≡ wire_in wire.old ++ bytes.now }
+    ensures len { wire.new.len ≡ wire.old.len + length bytes.now }
+{
+    let len = wire.len;
+    let written = put(&mut wire.bytes[len..], bytes);
+    wire.len = len + written;
+}
+
+/// Appends a command with its line end.
+fn append_command(wire: &mut Wire, command: &CommandText)
+    requires { wire.old.len + 514 ≤ 1542 }
+    ensures appended { wire_in wire.new ≡ wire_in wire.old ++ on_wire (text_of command.now) }
+    ensures short { wire.new.len ≤ wire.old.len + 514 }
+{
+    append(wire, command.as_bytes());
+    append(wire, b"\r\n");
+}
+
+/// Makes it hold these commands.
+pub fn put_commands(wire: &mut Wire, commands: &[CommandText])
+    requires { length commands.now ≤ 3 }
+    ensures { wire_in wire.new ≡ wire_of (texts_of commands.now) }
+{
+    clear(wire);
+    for command in commands {
+        append_command(wire, command);
+    }
+}
+
+/// Makes it hold this command.
+pub fn put_command(wire: &mut Wire, command: &CommandText)
+    ensures { wire_in wire.new ≡ wire_of (text_of command.now ∷ []) }
+{
+    clear(wire);
+    append_command(wire, command);
+}
