@@ -1,4 +1,6 @@
-/* Counts over the lines of standard input, read in portions of 64 KB, as fibs_bench does: c_calls lines|readings|client|many */
+/* Counts over the lines of standard input, read in portions of 64 KB, as fibs_bench does:
+ * c_calls lines|readings|client|many
+ */
 #include "fibs.h"
 
 #include <stdio.h>

@@ -105,7 +105,9 @@ static bool finish(struct bot *bot, const uint8_t *line, size_t len) {
 
 /* Answers a board. */
 static bool play(struct bot *bot, const uint8_t *line, size_t len) {
-    static const char *const names[] = { "", "Over", "AnswerDouble", "OpponentActs", "RollOrDouble", "Move", "Passing" };
+    static const char *const names[] = {
+        "", "Over", "AnswerDouble", "OpponentActs", "RollOrDouble", "Move", "Passing"
+    };
     static fibs_decision plays[MOST_PLAYS];
     fibs_decision decision;
     size_t count = 0;

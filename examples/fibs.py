@@ -6,8 +6,8 @@
             print(fibs.phase(line.text), [str(play) for play in fibs.plays(line.text)])
 
 The library is sought in $FIBS_LIBRARY, in ../lib beside this file, and where the system keeps its libraries. Bytes are
-bytes throughout. A call that the library refuses raises Refused, which has the status and its name; want of memory raises
-MemoryError. include/fibs.h says what each call does.
+bytes throughout. A call that the library refuses raises Refused, which has the status and its name; want of memory
+raises MemoryError. include/fibs.h says what each call does.
 """
 
 import ctypes
@@ -35,8 +35,8 @@ Step = namedtuple('Step', 'source target')
 Step.__doc__ = "A step in the player's own numbering, in which he goes down: 25 is the bar, 0 is off."
 
 Heard = namedtuple('Heard', 'line confirmed send rolled')
-Heard.__doc__ = ('What the client heard: a line; the decision that it confirms, or None; the bytes that are to be sent; whether a '
-                 'standing order rolls.')
+Heard.__doc__ = ('What the client heard: a line; the decision that it confirms, or None; the bytes that are to be sent; '
+                 'whether a standing order rolls.')
 
 Outstanding = namedtuple('Outstanding', 'decision board')
 Outstanding.__doc__ = 'A decision that waits or waited, and the board on which it was made.'
@@ -222,7 +222,8 @@ def _decision_of(record):
 
 
 def _board_of(board):
-    return Board(bytes(board.player[:board.player_len]), bytes(board.opponent[:board.opponent_len]), tuple(board.number))
+    return Board(bytes(board.player[:board.player_len]), bytes(board.opponent[:board.opponent_len]),
+                 tuple(board.number))
 
 
 def status_name(status):

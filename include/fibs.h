@@ -35,12 +35,12 @@
  *
  * What holds of each function:
  * - It returns, and reads and writes nothing but what it was given. No bytes, of a server or of a caller, change that.
- * - It answers a status, FIBS_DONE or the first reason why not. After any other status nothing was changed and nothing was
- *   written but what its comment says.
+ * - It answers a status, FIBS_DONE or the first reason why not. After any other status nothing was changed and nothing
+ *   was written but what its comment says.
  * - A handle that holds nothing, since it was not made or was freed, is answered by FIBS_NO_HANDLE. Only the functions
  *   named `new`, fibs_plays and fibs_directory_note take memory; where there is none, they answer FIBS_MEMORY.
- * - Where a caller's room is too short for bytes, the status is FIBS_SHORT, the length that is wanted is told, and no byte
- *   is written.
+ * - Where a caller's room is too short for bytes, the status is FIBS_SHORT, the length that is wanted is told, and no
+ *   byte is written.
  * - Flags are 0 or 1.
  */
 #ifndef FIBS_H
@@ -85,7 +85,7 @@ enum {
 
     /* 100 and: what is wrong with a login or a plain command */
     FIBS_BAD_NAME = 101,       /* the name is none: it has 1 to 64 bytes from 33 to 126, none a colon */
-    FIBS_BAD_TEXT = 102,       /* the text is empty, or has a byte outside 32 to 126 (in a password, outside 33 to 126) */
+    FIBS_BAD_TEXT = 102,       /* the text is empty, or has a byte outside 32 to 126 (a password: 33 to 126) */
     FIBS_TOO_LONG = 103,       /* the text has more than 400 bytes, the password more than 64 */
 
     /* 200 and: why a board has no position */
@@ -98,7 +98,7 @@ enum {
     FIBS_FIELD_EXTRA = 302,
     FIBS_FIELD_NOT_A_NUMBER = 303,
     FIBS_FIELD_OUT_OF_RANGE = 304,
-    FIBS_FIELD_BAD_NAME = 305, /* a name, a word or a tail that is none; of a board also a first field that is not `board` */
+    FIBS_FIELD_BAD_NAME = 305, /* a name, a word or a tail that is none; a first field that is not `board` */
 
     /* 400 and: why a directory took no note; want of memory in any other call too */
     FIBS_MEMORY = 401,
@@ -108,7 +108,7 @@ enum {
     FIBS_NO_HANDLE = 501,      /* the handle holds nothing */
     FIBS_HELD = 502,           /* the handle holds something already, which stays */
     FIBS_SHORT = 503,          /* the room is too short */
-    FIBS_NO_DECISION = 504,    /* the record is no decision: an unknown kind, more than 4 steps, or a step that is none */
+    FIBS_NO_DECISION = 504,    /* the record is none: an unknown kind, more than 4 steps, or a step that is none */
     FIBS_NO_COMMAND = 505,     /* the text is no command */
     FIBS_NO_FIELD = 506,       /* there is no field of this number */
     FIBS_NOTHING_WAITS = 507,  /* no decision waits */
@@ -223,8 +223,8 @@ fibs_status fibs_read_field(const uint8_t *line, size_t len, size_t number, fibs
 
 /* ---- The rules ---- */
 
-/* A step of one checker, in the player's own numbering, in which he goes down: from a place 1 to 24 or the bar, 25, to a
- * place 1 to 24 or off, 0. */
+/* A step of one checker, in the player's own numbering, in which he goes down: from a place 1 to 24 or the bar, 25, to
+ * a place 1 to 24 or off, 0. */
 typedef struct fibs_step { uint8_t source, target; } fibs_step;
 
 enum {
@@ -248,9 +248,9 @@ fibs_status fibs_phase(const uint8_t *line, size_t len, uint8_t *phase);
  * FIBS_WRONG_KIND or FIBS_ILLEGAL_PLAY. */
 fibs_status fibs_allows(const uint8_t *line, size_t len, const fibs_decision *decision);
 
-/* The plays of a board line, each as a decision: for each arrangement of checkers that a legal play reaches the greatest
- * such play, the greatest first; none where the player does not move. *count is how many there are, at most 3060, also
- * where the room is too short. As of fibs_phase; FIBS_MEMORY. */
+/* The plays of a board line, each as a decision: for each arrangement of checkers that a legal play reaches the
+ * greatest such play, the greatest first; none where the player does not move. *count is how many there are, at most
+ * 3060, also where the room is too short. As of fibs_phase; FIBS_MEMORY. */
 fibs_status fibs_plays(const uint8_t *line, size_t len, fibs_decision *plays, size_t room, size_t *count);
 
 /* The command of a decision, such as `move 24-18`, without its line end. direction is field 43 of the board on which it
@@ -285,7 +285,7 @@ typedef struct fibs_heard {
     fibs_kind kind;            /* what the line is */
     uint8_t ended;             /* whether a line ended */
     uint8_t cut;               /* whether the line had more than FIBS_LINE_LIMIT bytes */
-    fibs_decision confirmed;   /* the decision that waited, where the line is a board that confirms it; else of kind 0 */
+    fibs_decision confirmed;   /* the decision that waited, where the line confirms it; else of kind 0 */
     uint8_t rolled;            /* whether a standing order rolls at the line: the roll is in the wire, and waits */
 } fibs_heard;
 
@@ -299,9 +299,9 @@ void fibs_client_free(fibs_client *client);
 /* A connection stands: hands out the login. FIBS_ALREADY_OPEN. */
 fibs_status fibs_client_open(fibs_client *client, fibs_wire *wire);
 
-/* Hears a piece up to and with the next line end; copies the line that ends there, if one does, into text, and hands out
- * the commands that answer it. To be called again with what is left of the piece, until nothing is. Without a connection
- * all bytes are dropped. FIBS_SHORT where room is below FIBS_LINE_LIMIT, and then nothing is heard. */
+/* Hears a piece up to and with the next line end; copies the line that ends there, if one does, into text, and hands
+ * out the commands that answer it. To be called again with what is left of the piece, until nothing is. Without a
+ * connection all bytes are dropped. FIBS_SHORT where room is below FIBS_LINE_LIMIT, and then nothing is heard. */
 fibs_status fibs_client_feed(fibs_client *client, const uint8_t *piece, size_t len, uint8_t *text, size_t room,
                              fibs_heard *heard, fibs_wire *wire);
 
@@ -344,8 +344,8 @@ fibs_status fibs_directory_new(fibs_directory *directory);
 /* Gives the directory's memory back. A handle that holds none stays as it is. */
 void fibs_directory_free(fibs_directory *directory);
 
-/* Takes note of a line that was not cut: message 5 sets the player of its name, message 8 takes him out, and every other
- * line changes nothing. FIBS_FULL, FIBS_MEMORY. */
+/* Takes note of a line that was not cut: message 5 sets the player of its name, message 8 takes him out, and every
+ * other line changes nothing. FIBS_FULL, FIBS_MEMORY. */
 fibs_status fibs_directory_note(fibs_directory *directory, const uint8_t *line, size_t len);
 
 /* How many players there are. */

@@ -12,7 +12,8 @@ import subprocess
 import sys
 
 ROOT = pathlib.Path(__file__).resolve().parent.parent
-SOURCES = sorted(path for crate in ('fibs_c', 'fibs_records') for path in (ROOT / 'crates' / crate / 'src').glob('*.rt'))
+SOURCES = sorted(path for crate in ('fibs_c', 'fibs_records')
+                 for path in (ROOT / 'crates' / crate / 'src').glob('*.rt'))
 
 # What the header calls the records.
 RECORDS = {'LinesHandle': 'fibs_lines', 'ClientHandle': 'fibs_client', 'DirectoryHandle': 'fibs_directory',
@@ -21,8 +22,8 @@ RECORDS = {'LinesHandle': 'fibs_lines', 'ClientHandle': 'fibs_client', 'Director
            'DecisionRecord': 'fibs_decision', 'Wire': 'fibs_wire', 'OutstandingRecord': 'fibs_outstanding',
            'Heard': 'fibs_heard'}
 
-NUMBERS = {'u8': 'uint8_t', 'u16': 'uint16_t', 'u32': 'uint32_t', 'u64': 'uint64_t', 'i32': 'int32_t', 'usize': 'size_t',
-           'bool': 'bool', '*mut u8': 'void *'}
+NUMBERS = {'u8': 'uint8_t', 'u16': 'uint16_t', 'u32': 'uint32_t', 'u64': 'uint64_t', 'i32': 'int32_t',
+           'usize': 'size_t', 'bool': 'bool', '*mut u8': 'void *'}
 
 # The header's names of fields that are called otherwise there.
 FIELDS = {'numbers': 'number'}

@@ -46,7 +46,8 @@ def test_lines(counts):
         counts.check(list(reader.feed(b'\xff\xfb\x01f\r\n')) == [fibs.read(b'ef')], 'the rest of a line')
         counts.check(reader.count(b'x' * (fibs.LIMIT + 1) + b'\n3\n') == [1, 1, 0, 0, 1], 'counts')
     counts.check(fibs.fields(b'5 bob - ann 1 0 1500.5 3 2 1 host pro a b') ==
-                 [b'bob', b'-', b'ann', True, False, 150050, 3, 2, 1, b'host', b'pro', b'a b'], 'the fields of a player')
+                 [b'bob', b'-', b'ann', True, False, 150050, 3, 2, 1, b'host', b'pro', b'a b'],
+                 'the fields of a player')
 
 
 def test_rules(counts):

@@ -1,5 +1,5 @@
-/* Each allocation refused in turn: a call then answers FIBS_MEMORY, and what it was given is as before. This program is the
- * library's heap itself, so it is linked with the archive without one.
+/* Each allocation refused in turn: a call then answers FIBS_MEMORY, and what it was given is as before. This program is
+ * the library's heap itself, so it is linked with the archive without one.
  */
 #include "fibs.h"
 

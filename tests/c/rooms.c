@@ -1,5 +1,5 @@
-/* Bad input of a caller: handles that hold nothing, two in one, lengths of 0, rooms that are too short, records that are
- * none. Each is answered by a status, and what must stay stays.
+/* Bad input of a caller: handles that hold nothing, two in one, lengths of 0, rooms that are too short, records that
+ * are none. Each is answered by a status, and what must stay stays.
  */
 #include "fibs.h"
 
@@ -47,11 +47,14 @@ static void check_handles(void) {
         /* zeros first, then what was freed */
         wire.len = 7;
         check(fibs_lines_feed(&lines, TEXT("a\n"), text, sizeof text, &fed) == FIBS_NO_HANDLE, "feed of none");
-        check(fibs_read_lines(&lines, TEXT("a\n"), text, sizeof text, rows, 1, &told) == FIBS_NO_HANDLE, "lines of none");
-        check(fibs_lines_reset(&lines) == FIBS_NO_HANDLE && fibs_lines_held(&lines, &len) == FIBS_NO_HANDLE, "reset, held");
+        check(fibs_read_lines(&lines, TEXT("a\n"), text, sizeof text, rows, 1, &told) == FIBS_NO_HANDLE,
+              "lines of none");
+        check(fibs_lines_reset(&lines) == FIBS_NO_HANDLE && fibs_lines_held(&lines, &len) == FIBS_NO_HANDLE,
+              "reset, held");
         check(fibs_client_open(&client, &wire) == FIBS_NO_HANDLE && wire.len == 0, "open of none");
         wire.len = 7;
-        check(fibs_client_feed(&client, TEXT("a\n"), text, sizeof text, &heard, &wire) == FIBS_NO_HANDLE && wire.len == 0,
+        check(fibs_client_feed(&client, TEXT("a\n"), text, sizeof text, &heard, &wire) == FIBS_NO_HANDLE
+              && wire.len == 0,
               "feed of no client");
         check(fibs_client_decide(&client, &roll, &wire) == FIBS_NO_HANDLE, "decide of none");
         check(fibs_client_plain(&client, TEXT("who"), &wire) == FIBS_NO_HANDLE, "plain of none");
@@ -61,10 +64,12 @@ static void check_handles(void) {
         check(fibs_client_shown(&client, &shown) == FIBS_NO_HANDLE, "shown of none");
         check(fibs_client_waiting(&client, &waited) == FIBS_NO_HANDLE, "waiting of none");
         check(fibs_directory_note(&directory, TEXT("6")) == FIBS_NO_HANDLE, "note of none");
-        check(fibs_directory_len(&directory, &len) == FIBS_NO_HANDLE && fibs_directory_clear(&directory) == FIBS_NO_HANDLE,
+        check(fibs_directory_len(&directory, &len) == FIBS_NO_HANDLE
+              && fibs_directory_clear(&directory) == FIBS_NO_HANDLE,
               "len, clear of none");
         check(fibs_directory_field(&directory, 0, 1, &field, text, sizeof text) == FIBS_NO_HANDLE, "field of none");
-        check(fibs_directory_field_of(&directory, TEXT("a"), 1, &field, text, sizeof text) == FIBS_NO_HANDLE, "field of none");
+        check(fibs_directory_field_of(&directory, TEXT("a"), 1, &field, text, sizeof text) == FIBS_NO_HANDLE,
+              "field of none");
         fibs_lines_free(&lines);
         fibs_client_free(&client);
         fibs_directory_free(&directory);
@@ -80,7 +85,8 @@ static void check_handles(void) {
         check(fibs_client_ordered(&client, &ordered) == FIBS_DONE && ordered == 1
               && fibs_client_withdraw_roll(&client) == FIBS_DONE, "it stands until it is withdrawn");
         check(fibs_client_ordered(&client, &ordered) == FIBS_DONE && ordered == 0, "and no longer");
-        check(fibs_lines_new(&lines) == FIBS_HELD && fibs_directory_new(&directory) == FIBS_HELD, "the others are held");
+        check(fibs_lines_new(&lines) == FIBS_HELD && fibs_directory_new(&directory) == FIBS_HELD,
+              "the others are held");
         fibs_lines_free(&lines);
         fibs_lines_free(&lines);
         fibs_client_free(&client);
@@ -113,13 +119,17 @@ static void check_rooms(void) {
     size_t len = 0;
     check(fibs_lines_new(&lines) == FIBS_DONE && fibs_client_new(&client, TEXT("ann"), TEXT("x")) == FIBS_DONE, "made");
     check(fibs_line_limit() == FIBS_LINE_LIMIT, "the limit");
-    check(fibs_lines_feed(&lines, TEXT("ab\n"), text, FIBS_LINE_LIMIT - 1, &fed) == FIBS_SHORT && fed.used == 0, "too short");
-    check(fibs_lines_feed(&lines, bytes(""), 0, text, sizeof text, &fed) == FIBS_DONE && fed.used == 0 && !fed.ended, "nothing");
-    check(fibs_lines_feed(&lines, TEXT("ab\nc"), text, FIBS_LINE_LIMIT, &fed) == FIBS_DONE && fed.used == 3 && fed.len == 2
-          && fed.ended && !fed.cut && memcmp(text, "ab", 2) == 0, "nothing was lost");
-    check(fibs_lines_feed(&lines, TEXT("c"), text, FIBS_LINE_LIMIT, &fed) == FIBS_DONE && fed.used == 1 && !fed.ended, "half");
+    check(fibs_lines_feed(&lines, TEXT("ab\n"), text, FIBS_LINE_LIMIT - 1, &fed) == FIBS_SHORT && fed.used == 0,
+          "too short");
+    check(fibs_lines_feed(&lines, bytes(""), 0, text, sizeof text, &fed) == FIBS_DONE && fed.used == 0 && !fed.ended,
+          "nothing");
+    check(fibs_lines_feed(&lines, TEXT("ab\nc"), text, FIBS_LINE_LIMIT, &fed) == FIBS_DONE && fed.used == 3
+          && fed.len == 2 && fed.ended && !fed.cut && memcmp(text, "ab", 2) == 0, "nothing was lost");
+    check(fibs_lines_feed(&lines, TEXT("c"), text, FIBS_LINE_LIMIT, &fed) == FIBS_DONE && fed.used == 1 && !fed.ended,
+          "half");
     check(fibs_lines_held(&lines, &len) == FIBS_DONE && len == 1, "one byte is held");
-    check(fibs_lines_reset(&lines) == FIBS_DONE && fibs_lines_held(&lines, &len) == FIBS_DONE && len == 0, "and forgotten");
+    check(fibs_lines_reset(&lines) == FIBS_DONE && fibs_lines_held(&lines, &len) == FIBS_DONE && len == 0,
+          "and forgotten");
     check(fibs_read_lines(&lines, TEXT("a\n3\nb\n"), text, FIBS_LINE_LIMIT - 1, rows, 2, &told) == FIBS_DONE
           && told.used == 0 && told.lines == 0, "no room for a line");
     check(fibs_read_lines(&lines, TEXT("a\n3\nb\n"), text, FIBS_LINE_LIMIT + 1, rows, 0, &told) == FIBS_DONE
@@ -128,7 +138,8 @@ static void check_rooms(void) {
           && told.used == 4 && told.lines == 2 && told.bytes == 2 && text[0] == 'a' && text[1] == '3'
           && rows[1].start == 1 && rows[1].len == 1 && rows[1].kind.kind == FIBS_MESSAGE && rows[1].kind.number == 3,
           "two rows");
-    check(fibs_client_feed(&client, TEXT("ab\n"), text, FIBS_LINE_LIMIT - 1, &heard, &wire) == FIBS_SHORT && wire.len == 0,
+    check(fibs_client_feed(&client, TEXT("ab\n"), text, FIBS_LINE_LIMIT - 1, &heard, &wire) == FIBS_SHORT
+          && wire.len == 0,
           "too short for a client");
     check(fibs_client_feed(&client, TEXT("ab\n"), text, FIBS_LINE_LIMIT, &heard, &wire) == FIBS_DONE && heard.used == 3
           && !heard.ended, "offline all is dropped");
@@ -141,7 +152,8 @@ static void check_texts(void) {
     fibs_decision decision = { FIBS_MOVE, 2, { { 24, 18 }, { 18, 16 } } };
     size_t len = 0;
     text[0] = 'x';
-    check(fibs_read_field(TEXT("12 bob hi"), 1, &field, text, 2) == FIBS_SHORT && field.len == 3 && text[0] == 'x', "short");
+    check(fibs_read_field(TEXT("12 bob hi"), 1, &field, text, 2) == FIBS_SHORT && field.len == 3 && text[0] == 'x',
+          "short");
     check(fibs_read_field(TEXT("12 bob hi"), 1, &field, text, 3) == FIBS_DONE && memcmp(text, "bob", 3) == 0, "a name");
     check(fibs_read_field(TEXT("12 bob hi"), 0, &field, text, 9) == FIBS_NO_FIELD, "field 0");
     check(fibs_read_field(TEXT("12 bob hi"), 3, &field, text, 9) == FIBS_NO_FIELD, "field 3");
@@ -151,13 +163,15 @@ static void check_texts(void) {
     check(fibs_print_board(TEXT("hello"), text, sizeof text, &len) == FIBS_FIELD_BAD_NAME, "no board");
     check(fibs_print_board(TEXT(board), text, 5, &len) == FIBS_SHORT && len == strlen(board), "room for a board");
     check(fibs_decision_text(&decision, -1, text, 3, &len) == FIBS_SHORT && len == 16, "room for a command");
-    check(fibs_decision_text(&decision, -1, text, 16, &len) == FIBS_DONE && memcmp(text, "move 24-18 18-16", 16) == 0, "down");
+    check(fibs_decision_text(&decision, -1, text, 16, &len) == FIBS_DONE && memcmp(text, "move 24-18 18-16", 16) == 0,
+          "down");
     check(fibs_decision_text(&decision, 1, text, sizeof text, &len) == FIBS_DONE && len == 12
           && memcmp(text, "move 1-7 7-9", 12) == 0, "up");
     check(fibs_read_decision(TEXT("move 1-7 7-9"), 1, &decision) == FIBS_DONE && decision.kind == FIBS_MOVE
           && decision.count == 2 && decision.steps[0].source == 24 && decision.steps[1].target == 16, "and back");
     check(fibs_read_decision(TEXT("move 1-7  7-9"), 1, &decision) == FIBS_NO_COMMAND, "no command");
-    check(fibs_read_decision(TEXT("resign g"), 1, &decision) == FIBS_DONE && decision.kind == FIBS_RESIGN_GAMMON, "resign");
+    check(fibs_read_decision(TEXT("resign g"), 1, &decision) == FIBS_DONE && decision.kind == FIBS_RESIGN_GAMMON,
+          "resign");
     check(fibs_decision_text(&decision, 1, text, sizeof text, &len) == FIBS_DONE && len == 8
           && memcmp(text, "resign g", 8) == 0, "and its command");
 }
@@ -169,14 +183,17 @@ static void check_rules(void) {
     size_t count = 0;
     check(fibs_phase(TEXT(board), &phase) == FIBS_DONE && phase == FIBS_MOVES, "the phase");
     check(fibs_phase(TEXT("board:ann"), &phase) == FIBS_FIELD_MISSING, "no board has no phase");
-    check(fibs_plays(TEXT(board), plays, 1, &count) == FIBS_SHORT && count > 1 && count <= 64 && plays[0].kind == 0, "plays");
-    check(fibs_plays(TEXT(board), plays, count, &count) == FIBS_DONE && plays[count - 1].kind == FIBS_MOVE, "all plays");
+    check(fibs_plays(TEXT(board), plays, 1, &count) == FIBS_SHORT && count > 1 && count <= 64 && plays[0].kind == 0,
+          "plays");
+    check(fibs_plays(TEXT(board), plays, count, &count) == FIBS_DONE && plays[count - 1].kind == FIBS_MOVE,
+          "all plays");
     check(fibs_allows(TEXT(board), &plays[0]) == FIBS_DONE, "the first play");
     for (unsigned kind = 0; kind < 256; kind++) {
         decision.kind = (uint8_t)kind;
         fibs_status status = fibs_allows(TEXT(board), &decision);
         check(status == (kind == 0 || kind > FIBS_RESIGN_BACKGAMMON ? FIBS_NO_DECISION
-                         : kind == FIBS_MOVE ? FIBS_ILLEGAL_PLAY : kind > FIBS_MOVE ? FIBS_DONE : FIBS_WRONG_KIND), "each kind");
+                         : kind == FIBS_MOVE ? FIBS_ILLEGAL_PLAY : kind > FIBS_MOVE ? FIBS_DONE : FIBS_WRONG_KIND),
+                         "each kind");
     }
     decision = plays[0];
     decision.count = 5;
@@ -190,8 +207,10 @@ static void check_rules(void) {
 
 static void check_names(void) {
     static const struct { fibs_status status; const char *name; } names[] = {
-        { 0, "Done" }, { 1, "AlreadyOpen" }, { 2, "Offline" }, { 3, "NotReady" }, { 4, "ServerPlays" }, { 5, "NoBoard" },
-        { 6, "Waiting" }, { 7, "NotYours" }, { 8, "WrongKind" }, { 9, "IllegalPlay" }, { 10, "NotOn" }, { 11, "AlreadyOrdered" },
+        { 0, "Done" }, { 1, "AlreadyOpen" }, { 2, "Offline" }, { 3, "NotReady" }, { 4, "ServerPlays" },
+        { 5, "NoBoard" },
+        { 6, "Waiting" }, { 7, "NotYours" }, { 8, "WrongKind" }, { 9, "IllegalPlay" }, { 10, "NotOn" },
+        { 11, "AlreadyOrdered" },
         { 12, "NotOrdered" }, { 101, "BadName" },
         { 102, "BadText" }, { 103, "TooLong" }, { 201, "NotYou" }, { 202, "TooManyOwn" }, { 203, "TooManyOther" },
         { 301, "Missing" }, { 302, "Extra" }, { 303, "NotANumber" }, { 304, "OutOfRange" }, { 305, "BadName" },
@@ -231,7 +250,8 @@ static void check_players(void) {
     check(fibs_directory_field(&directory, 0, 13, &field, text, 9) == FIBS_NO_FIELD, "no field");
     check(fibs_directory_note(&directory, TEXT("8 p7 p7 logs out.")) == FIBS_DONE, "a logout");
     check(fibs_directory_field_of(&directory, TEXT("p7"), 1, &field, text, 9) == FIBS_NO_PLAYER, "who logged out");
-    check(fibs_directory_clear(&directory) == FIBS_DONE && fibs_directory_len(&directory, &len) == FIBS_DONE && len == 0,
+    check(fibs_directory_clear(&directory) == FIBS_DONE && fibs_directory_len(&directory, &len) == FIBS_DONE
+          && len == 0,
           "cleared");
     fibs_directory_free(&directory);
 }

@@ -1,7 +1,9 @@
-/* Prints what each line of standard input is, as `fibs show` does, by the library for C alone: show -1, or show -n [MORE]
+/* Prints what each line of standard input is, as `fibs show` does, by the library for C alone: show -1, or
+ * show -n [MORE].
  *
- * Lines come by fibs_lines_feed with -1, else by fibs_read_lines, with so much more room than one line wants and few rows,
- * so that a piece takes several calls. Messages are printed from their fields, boards by fibs_print_board and, to be the same, from the record.
+ * Lines come by fibs_lines_feed with -1, else by fibs_read_lines, with so much more room than one line wants and few
+ * rows, so that a piece takes several calls. Messages are printed from their fields, boards by fibs_print_board, and its
+ * text has to be that of the record.
  */
 #include "fibs.h"
 
@@ -66,7 +68,8 @@ static void print_board(const uint8_t *line, size_t len) {
     fibs_board board;
     must(fibs_read_board(line, len, &board).kind == FIBS_BOARD, "a board is none");
     must(fibs_print_board(line, len, text, 4, &wanted) == FIBS_SHORT, "four bytes are room for a board");
-    must(fibs_print_board(line, len, text, wanted, &printed) == FIBS_DONE && printed == wanted, "a board was not printed");
+    must(fibs_print_board(line, len, text, wanted, &printed) == FIBS_DONE && printed == wanted,
+         "a board was not printed");
     int at = sprintf(again, "board:%.*s:%.*s", (int)board.player_len, (const char *)board.player,
                      (int)board.opponent_len, (const char *)board.opponent);
     for (int i = 0; i < 50; i++) {
