@@ -8,17 +8,17 @@ use Rattle.fibs_words.specs.Sentences.{message_words}
 abbrev pub phase_words : List ℕ → List ℕ → List ℕ
 phase_words other name =
     if bytes_eq name (codes "Move")
-        then codes "Type your move, as in: move 8-5 6-5; or resign n, resign g, resign b."
+    then codes "Type your move, as in: move 8-5 6-5; or resign n, resign g, resign b."
     else (if bytes_eq name (codes "RollOrDouble")
-        then codes "Type roll, or double where you may; order roll, for later boards; or resign n, resign g, resign b."
+    then codes "Type roll, or double where you may; order roll, for later boards; or resign n, resign g, resign b."
     else (if bytes_eq name (codes "AnswerDouble")
-        then codes "Type accept, or reject."
+    then codes "Type accept, or reject."
     else (if bytes_eq name (codes "OpponentActs")
-        then codes "Nothing to decide: the opponent plays. After order roll the client rolls where you may not double."
+    then codes "Nothing to decide: the opponent plays. After order roll the client rolls where you may not double."
     else (if bytes_eq name (codes "Passing")
-        then codes "Nothing to decide: the server passes for you."
+    then codes "Nothing to decide: the server passes for you."
     else (if bytes_eq name (codes "Over")
-        then codes "Nothing to decide: the game is over."
+    then codes "Nothing to decide: the game is over."
     else other)))))
 
 -- that a new board was shown, after a decision of this text

@@ -1,6 +1,6 @@
 -- The words of the numbered messages (FIBS CLIP specification 1008 has the messages and their fields; the words are the
 -- project's own).
-use Rattle.std.specs.Prelude.{◌++◌, ◌-◌, ℕ, zero, suc, List, [], ◌∷◌, Option, Some, None, codes, slice_index_or}
+use Rattle.std.specs.Prelude.{◌++◌, ◌==◌, ℕ, zero, suc, List, [], ◌∷◌, Option, Some, None, codes}
 use Rattle.std.specs.Prelude.{if◌then◌else◌}
 use Rattle.std.specs.List.{flat_map}
 use Rattle.std.specs.Str.{bytes_eq}
@@ -56,12 +56,16 @@ part_text line (where_set text k) = if bytes_eq (field_at k line) (codes "1") th
 abbrev pub sentence : List PartValue → List ℕ → List ℕ
 sentence parts line = flat_map (part_text line) parts
 
--- the parts of each message, from number 1 on
-unfoldable pub sentences : List (List PartValue)
+-- a row of the table: a message's number, and the parts of its sentence
+abbrev pub row : ℕ → List PartValue → ℕ × List PartValue
+row number parts = (number, parts)
+
+-- the sentences of the messages
+unfoldable pub sentences : List (ℕ × List PartValue)
 sentences =
-    (said (codes "Welcome, ") ∷ field 1 ∷ said (codes ". Last login: ") ∷ field 2 ∷ said (codes " from ") ∷ field 3
+    row 1 (said (codes "Welcome, ") ∷ field 1 ∷ said (codes ". Last login: ") ∷ field 2 ∷ said (codes " from ") ∷ field 3
     ∷ [])
-    ∷ (said (codes "Settings of ") ∷ field 1 ∷ said (codes ": rated ") ∷ field 15
+    ∷ row 2 (said (codes "Settings of ") ∷ field 1 ∷ said (codes ": rated ") ∷ field 15
     ∷ said (codes ", experience ") ∷ field 10 ∷ said (codes ", redoubles ") ∷ field 18
     ∷ said (codes ", time zone ") ∷ field 21 ∷ said (codes ". On:")
     ∷ where_set (codes " allowpip") 2 ∷ where_set (codes " autoboard") 3 ∷ where_set (codes " autodouble") 4
@@ -70,33 +74,42 @@ sentences =
     ∷ where_set (codes " moreboards") 12 ∷ where_set (codes " moves") 13 ∷ where_set (codes " notify") 14
     ∷ where_set (codes " ratings") 16 ∷ where_set (codes " ready") 17 ∷ where_set (codes " report") 19
     ∷ where_set (codes " silent") 20 ∷ [])
-    ∷ (said (codes "Message of the day:") ∷ [])
-    ∷ (said (codes "End of the message of the day.") ∷ [])
-    ∷ (field 1 ∷ said (codes ": rated ") ∷ field 6 ∷ said (codes ", experience ") ∷ field 7
+    ∷ row 3 (said (codes "Message of the day:") ∷ [])
+    ∷ row 4 (said (codes "End of the message of the day.") ∷ [])
+    ∷ row 5 (field 1 ∷ said (codes ": rated ") ∷ field 6 ∷ said (codes ", experience ") ∷ field 7
     ∷ unless_none (codes ", plays ") 2 ∷ unless_none (codes ", watches ") 3
     ∷ where_set (codes ", ready") 4 ∷ where_set (codes ", away") 5
     ∷ said (codes ", idle ") ∷ field 8 ∷ said (codes " s, here since ") ∷ field 9 ∷ said (codes " from ") ∷ field 10
     ∷ unless_none (codes ", with ") 11 ∷ tail_unless_none (codes ", mail ") 12 ∷ [])
-    ∷ (said (codes "End of the list of players.") ∷ [])
-    ∷ (field 1 ∷ said (codes " arrives: ") ∷ rest 2 ∷ [])
-    ∷ (field 1 ∷ said (codes " leaves: ") ∷ rest 2 ∷ [])
-    ∷ (field 1 ∷ said (codes " left a message at ") ∷ field 2 ∷ said (codes ": ") ∷ rest 3 ∷ [])
-    ∷ (said (codes "Your message reached ") ∷ field 1 ∷ said (codes ".") ∷ [])
-    ∷ (said (codes "Your message is kept for ") ∷ field 1 ∷ said (codes ".") ∷ [])
-    ∷ (field 1 ∷ said (codes " says: ") ∷ rest 2 ∷ [])
-    ∷ (field 1 ∷ said (codes " shouts: ") ∷ rest 2 ∷ [])
-    ∷ (field 1 ∷ said (codes " whispers: ") ∷ rest 2 ∷ [])
-    ∷ (field 1 ∷ said (codes " kibitzes: ") ∷ rest 2 ∷ [])
-    ∷ (said (codes "You say to ") ∷ field 1 ∷ said (codes ": ") ∷ rest 2 ∷ [])
-    ∷ (said (codes "You shout: ") ∷ rest 1 ∷ [])
-    ∷ (said (codes "You whisper: ") ∷ rest 1 ∷ [])
-    ∷ (said (codes "You kibitz: ") ∷ rest 1 ∷ [])
+    ∷ row 6 (said (codes "End of the list of players.") ∷ [])
+    ∷ row 7 (field 1 ∷ said (codes " arrives: ") ∷ rest 2 ∷ [])
+    ∷ row 8 (field 1 ∷ said (codes " leaves: ") ∷ rest 2 ∷ [])
+    ∷ row 9 (field 1 ∷ said (codes " left a message at ") ∷ field 2 ∷ said (codes ": ") ∷ rest 3 ∷ [])
+    ∷ row 10 (said (codes "Your message reached ") ∷ field 1 ∷ said (codes ".") ∷ [])
+    ∷ row 11 (said (codes "Your message is kept for ") ∷ field 1 ∷ said (codes ".") ∷ [])
+    ∷ row 12 (field 1 ∷ said (codes " says: ") ∷ rest 2 ∷ [])
+    ∷ row 13 (field 1 ∷ said (codes " shouts: ") ∷ rest 2 ∷ [])
+    ∷ row 14 (field 1 ∷ said (codes " whispers: ") ∷ rest 2 ∷ [])
+    ∷ row 15 (field 1 ∷ said (codes " kibitzes: ") ∷ rest 2 ∷ [])
+    ∷ row 16 (said (codes "You say to ") ∷ field 1 ∷ said (codes ": ") ∷ rest 2 ∷ [])
+    ∷ row 17 (said (codes "You shout: ") ∷ rest 1 ∷ [])
+    ∷ row 18 (said (codes "You whisper: ") ∷ rest 1 ∷ [])
+    ∷ row 19 (said (codes "You kibitz: ") ∷ rest 1 ∷ [])
     ∷ []
+
+-- the parts of a number in some rows
+abbrev pub parts_in : List (ℕ × List PartValue) → ℕ → List PartValue
+parts_in [] n = []
+parts_in (r ∷ rows) n = if r.0 == n then r.1 else parts_in rows n
+
+-- the parts of the sentence of the message with a number
+abbrev pub parts_of : ℕ → List PartValue
+parts_of n = parts_in sentences n
 
 -- the sentence of a message's line, by the number with which it begins; another text where it begins with none
 abbrev pub numbered_words : List ℕ → List ℕ → Option ℕ → List ℕ
 numbered_words other line None = other
-numbered_words other line (Some n) = sentence (slice_index_or sentences (n - 1) []) line
+numbered_words other line (Some n) = sentence (parts_of n) line
 
 abbrev pub message_words : List ℕ → List ℕ → List ℕ
 message_words other line = numbered_words other line (number_word (before 32 line))

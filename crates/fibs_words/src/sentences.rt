@@ -5,7 +5,7 @@ ghost use Rattle.std.specs.Str.{bytes_eq};
 ghost use Rattle.fibs_messages.specs.Message.{IsNumber, number_word};
 ghost use Rattle.fibs_fields.specs.Split.{before, after};
 ghost use Rattle.fibs_words.specs.Sentences.{text_or_nothing, rest_from, field_at, tail_at, unless_dash};
-ghost use Rattle.fibs_words.specs.Sentences.{part_text, part_value, sentence, sentences, message_words};
+ghost use Rattle.fibs_words.specs.Sentences.{part_text, part_value, parts_of, sentence, message_words};
 
 use fibs_fields::split::split;
 use fibs_fields::trailing_spaces::without_spaces;
@@ -28,86 +28,56 @@ pub enum Part {
     WhereSet(&'static [u8], usize),
 }
 
-/// The parts of each message, from number 1 on.
-static SENTENCES: [&[Part]; 19] = [
-    &[
-        Part::Said(b"Welcome, "),
-        Part::Field(1),
-        Part::Said(b". Last login: "),
-        Part::Field(2),
-        Part::Said(b" from "),
-        Part::Field(3),
-    ],
-    &[
-        Part::Said(b"Settings of "),
-        Part::Field(1),
-        Part::Said(b": rated "),
-        Part::Field(15),
-        Part::Said(b", experience "),
-        Part::Field(10),
-        Part::Said(b", redoubles "),
-        Part::Field(18),
-        Part::Said(b", time zone "),
-        Part::Field(21),
-        Part::Said(b". On:"),
-        Part::WhereSet(b" allowpip", 2),
-        Part::WhereSet(b" autoboard", 3),
-        Part::WhereSet(b" autodouble", 4),
-        Part::WhereSet(b" automove", 5),
-        Part::WhereSet(b" away", 6),
-        Part::WhereSet(b" bell", 7),
-        Part::WhereSet(b" crawford", 8),
-        Part::WhereSet(b" double", 9),
-        Part::WhereSet(b" greedy", 11),
-        Part::WhereSet(b" moreboards", 12),
-        Part::WhereSet(b" moves", 13),
-        Part::WhereSet(b" notify", 14),
-        Part::WhereSet(b" ratings", 16),
-        Part::WhereSet(b" ready", 17),
-        Part::WhereSet(b" report", 19),
-        Part::WhereSet(b" silent", 20),
-    ],
-    &[Part::Said(b"Message of the day:")],
-    &[Part::Said(b"End of the message of the day.")],
-    &[
-        Part::Field(1),
-        Part::Said(b": rated "),
-        Part::Field(6),
-        Part::Said(b", experience "),
-        Part::Field(7),
-        Part::UnlessNone(b", plays ", 2),
-        Part::UnlessNone(b", watches ", 3),
-        Part::WhereSet(b", ready", 4),
-        Part::WhereSet(b", away", 5),
-        Part::Said(b", idle "),
-        Part::Field(8),
-        Part::Said(b" s, here since "),
-        Part::Field(9),
-        Part::Said(b" from "),
-        Part::Field(10),
-        Part::UnlessNone(b", with ", 11),
-        Part::TailUnlessNone(b", mail ", 12),
-    ],
-    &[Part::Said(b"End of the list of players.")],
-    &[Part::Field(1), Part::Said(b" arrives: "), Part::Rest(2)],
-    &[Part::Field(1), Part::Said(b" leaves: "), Part::Rest(2)],
-    &[
-        Part::Field(1),
-        Part::Said(b" left a message at "),
-        Part::Field(2),
-        Part::Said(b": "),
-        Part::Rest(3),
-    ],
-    &[Part::Said(b"Your message reached "), Part::Field(1), Part::Said(b".")],
-    &[Part::Said(b"Your message is kept for "), Part::Field(1), Part::Said(b".")],
-    &[Part::Field(1), Part::Said(b" says: "), Part::Rest(2)],
-    &[Part::Field(1), Part::Said(b" shouts: "), Part::Rest(2)],
-    &[Part::Field(1), Part::Said(b" whispers: "), Part::Rest(2)],
-    &[Part::Field(1), Part::Said(b" kibitzes: "), Part::Rest(2)],
-    &[Part::Said(b"You say to "), Part::Field(1), Part::Said(b": "), Part::Rest(2)],
-    &[Part::Said(b"You shout: "), Part::Rest(1)],
-    &[Part::Said(b"You whisper: "), Part::Rest(1)],
-    &[Part::Said(b"You kibitz: "), Part::Rest(1)],
+/// The sentence of message 2.
+const SETTINGS: &[Part] = &[
+    Part::Said(b"Settings of "),
+    Part::Field(1),
+    Part::Said(b": rated "),
+    Part::Field(15),
+    Part::Said(b", experience "),
+    Part::Field(10),
+    Part::Said(b", redoubles "),
+    Part::Field(18),
+    Part::Said(b", time zone "),
+    Part::Field(21),
+    Part::Said(b". On:"),
+    Part::WhereSet(b" allowpip", 2),
+    Part::WhereSet(b" autoboard", 3),
+    Part::WhereSet(b" autodouble", 4),
+    Part::WhereSet(b" automove", 5),
+    Part::WhereSet(b" away", 6),
+    Part::WhereSet(b" bell", 7),
+    Part::WhereSet(b" crawford", 8),
+    Part::WhereSet(b" double", 9),
+    Part::WhereSet(b" greedy", 11),
+    Part::WhereSet(b" moreboards", 12),
+    Part::WhereSet(b" moves", 13),
+    Part::WhereSet(b" notify", 14),
+    Part::WhereSet(b" ratings", 16),
+    Part::WhereSet(b" ready", 17),
+    Part::WhereSet(b" report", 19),
+    Part::WhereSet(b" silent", 20),
+];
+
+/// The sentence of message 5.
+const PLAYER: &[Part] = &[
+    Part::Field(1),
+    Part::Said(b": rated "),
+    Part::Field(6),
+    Part::Said(b", experience "),
+    Part::Field(7),
+    Part::UnlessNone(b", plays ", 2),
+    Part::UnlessNone(b", watches ", 3),
+    Part::WhereSet(b", ready", 4),
+    Part::WhereSet(b", away", 5),
+    Part::Said(b", idle "),
+    Part::Field(8),
+    Part::Said(b" s, here since "),
+    Part::Field(9),
+    Part::Said(b" from "),
+    Part::Field(10),
+    Part::UnlessNone(b", with ", 11),
+    Part::TailUnlessNone(b", mail ", 12),
 ];
 
 /// The number from 1 to 19 that a word is, if it is one.
@@ -124,12 +94,59 @@ fn number_of(word: &[u8]) -> Option<u8>
     }
 }
 
-/// The parts of the message of this number.
+/// The parts of the sentence of the message with a number.
+#[tactic(auto, unfolding(crate::specs::Sentences::sentences))]
 fn parts_of(number: u8) -> &'static [Part]
-    requires { IsNumber number }
-    ensures { map part_value result.now ≡ slice_index_or sentences (number - 1) [] }
+    ensures { map part_value result.now ≡ parts_of number }
 {
-    SENTENCES[usize::from(number) - 1]
+    match number {
+        1 => &[
+            Part::Said(b"Welcome, "),
+            Part::Field(1),
+            Part::Said(b". Last login: "),
+            Part::Field(2),
+            Part::Said(b" from "),
+            Part::Field(3),
+        ],
+        2 => SETTINGS,
+        3 => &[Part::Said(b"Message of the day:")],
+        4 => &[Part::Said(b"End of the message of the day.")],
+        5 => PLAYER,
+        6 => &[Part::Said(b"End of the list of players.")],
+        7 => &[Part::Field(1), Part::Said(b" arrives: "), Part::Rest(2)],
+        8 => &[Part::Field(1), Part::Said(b" leaves: "), Part::Rest(2)],
+        9 => &[
+            Part::Field(1),
+            Part::Said(b" left a message at "),
+            Part::Field(2),
+            Part::Said(b": "),
+            Part::Rest(3),
+        ],
+        10 => &[
+            Part::Said(b"Your message reached "),
+            Part::Field(1),
+            Part::Said(b"."),
+        ],
+        11 => &[
+            Part::Said(b"Your message is kept for "),
+            Part::Field(1),
+            Part::Said(b"."),
+        ],
+        12 => &[Part::Field(1), Part::Said(b" says: "), Part::Rest(2)],
+        13 => &[Part::Field(1), Part::Said(b" shouts: "), Part::Rest(2)],
+        14 => &[Part::Field(1), Part::Said(b" whispers: "), Part::Rest(2)],
+        15 => &[Part::Field(1), Part::Said(b" kibitzes: "), Part::Rest(2)],
+        16 => &[
+            Part::Said(b"You say to "),
+            Part::Field(1),
+            Part::Said(b": "),
+            Part::Rest(2),
+        ],
+        17 => &[Part::Said(b"You shout: "), Part::Rest(1)],
+        18 => &[Part::Said(b"You whisper: "), Part::Rest(1)],
+        19 => &[Part::Said(b"You kibitz: "), Part::Rest(1)],
+        _ => &[],
+    }
 }
 
 /// What follows the first space, where there is one.
