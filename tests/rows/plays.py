@@ -5,7 +5,7 @@ from collections import namedtuple
 from checks import answer, fibs, test
 from positions import DONE, ILLEGAL_PLAY, NOT_YOURS, WRONG_KIND, listed, move_of, reference, steps_of
 
-# A turn: the player's checkers by place and count, and those of the other side, the rest of both being off; the two dice
+# A turn: the player's checkers by place and count, and those of the other side, the rest of both being off; the dice
 # shown, 0 for none; its plays, in descending order; plays that are no legal ones.
 Turn = namedtuple('Turn', 'name own other dice plays refused')
 
