@@ -1,8 +1,7 @@
 //! A few boards that are known whole: what each position is, and what becomes of it.
 
 use crate::cases::{Case, check};
-use crate::choices::{Choice, play};
-use crate::slow::slowly_listed;
+use crate::choices::Choice;
 use fibs_messages::Board;
 use fibs_position::{Decision, Direction, Phase, Position, effect};
 use std::test::Fail;
@@ -129,32 +128,5 @@ fn a_hit_checker_goes_to_the_bar(rt: HostRuntime) -> Result<(), Fail> {
     assert_eq!(rt; position.other_bar(), 1);
     assert_eq!(rt; position.own(18), 1);
     assert_eq!(rt; position.other(18), 0);
-    Ok(())
-}
-
-const TWO_CHECKERS_BY_FOUR_ONES: &[u8] =
-    b"board:You:bob:5:0:0:0:0:0:0:1:0:0:0:1:0:0:0:0:0:0:0:0:0:0:0:0:0:0:0:-2:0:1:1:1:0:0:1:1:1:0:1:-1:0:25:13:13:0:0:2:0:0:0";
-
-static PLAYS_BY_FOUR_ONES: [&[(u8, u8)]; 4] = [
-    &[(8, 7), (7, 6), (6, 5), (5, 4)],
-    &[(8, 7), (7, 6), (6, 5), (4, 3)],
-    &[(8, 7), (7, 6), (4, 3), (3, 2)],
-    &[(8, 7), (4, 3), (3, 2), (2, 1)],
-];
-
-/// Two checkers by four ones: just these plays, of a position and by a slow program.
-#[test]
-fn four_ones_give_four_plays(rt: HostRuntime) -> Result<(), Fail> {
-    let board = Board::read(TWO_CHECKERS_BY_FOUR_ONES).ok().ok_or("board")?;
-    let position = Position::of(&board).ok().ok_or("position")?;
-    let plays = position.plays(rt.alloc())?;
-    let slow = slowly_listed(rt.alloc(), &position, [1, 1])?;
-    assert_eq!(rt; plays.len(), 4);
-    assert_eq!(rt; slow.len(), 4);
-    for (found, steps) in plays.iter().zip(&PLAYS_BY_FOUR_ONES) {
-        let wanted = play(steps)?;
-        assert!(rt; *found == wanted);
-        assert!(rt; slow.contains(&wanted));
-    }
     Ok(())
 }

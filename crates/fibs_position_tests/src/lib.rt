@@ -1,4 +1,5 @@
-//! Tests of positions: what no clause says of boards, decisions and plays.
+//! Tests of positions: what a board is for its player, and what becomes of it. What a player may decide, his plays, and when
+//! the game has gone on stand in `tests/rows/positions.py` and `plays.py`.
 #![tactic(auto)]
 
 #[cfg(test)]
@@ -12,6 +13,4 @@ mod choices;
 #[cfg(test)]
 mod known_boards;
 #[cfg(test)]
-mod rows;
-#[cfg(test)]
-mod slow;
+mod refusals;

@@ -1,4 +1,4 @@
-//! Tests of the rules: what no clause says of turns and plays.
+//! Tests of the rules: values that no board line shows. The turns stand in `tests/rows/plays.py`.
 #![tactic(auto)]
 
 #[cfg(test)]

@@ -1,0 +1,159 @@
+//! What stays where memory is refused, and what becomes of boards that have no position or another player.
+
+use fibs_messages::Board;
+use fibs_position::{Decision, Position, Stake, differs, effect};
+use std::alloc::Global;
+use std::test::Fail;
+
+/// Boards, and how many plays each has.
+static ASKED: [(&[u8], usize); 9] = [
+    (
+        b"board:You:bob:5:0:0:0:0:0:0:0:0:0:0:0:0:0:0:0:-2:0:0:0:0:0:0:0:0:0:0:1:0:1:6:5:0:0:1:1:1:0:1:-1:0:25:14:13:0:0:1:0:0:0",
+        1,
+    ),
+    (
+        b"board:You:bob:5:0:0:0:0:0:0:0:0:0:0:0:0:0:0:0:-2:0:0:0:0:0:0:0:0:0:0:1:0:1:6:0:0:0:1:1:1:0:1:-1:0:25:14:13:0:0:1:0:0:0",
+        1,
+    ),
+    (
+        b"board:You:bob:5:0:0:0:0:1:1:0:0:0:0:0:0:0:0:0:-2:0:0:0:0:0:0:0:0:0:0:0:0:1:6:5:0:0:1:1:1:0:1:-1:0:25:13:13:0:0:2:0:0:0",
+        1,
+    ),
+    (
+        b"board:You:bob:5:0:0:0:0:0:0:0:0:14:0:0:0:0:0:0:0:0:0:0:0:0:-2:-2:-2:-2:-2:-2:1:1:3:1:0:0:1:1:1:0:1:-1:0:25:0:3:1:0:0:0:0:0",
+        0,
+    ),
+    (
+        b"board:You:bob:5:0:0:0:0:0:0:0:-1:0:0:0:0:0:0:0:0:0:0:0:2:0:0:0:0:0:0:0:0:-1:3:3:0:0:1:1:1:0:-1:1:25:0:14:13:0:0:3:0:0:0",
+        1,
+    ),
+    (
+        b"board:You:bob:5:0:0:0:0:-2:0:0:0:0:0:0:0:0:0:0:0:0:0:0:0:0:0:0:0:0:0:1:0:1:6:5:0:0:1:1:1:0:1:-1:0:25:14:13:0:0:2:0:0:0",
+        1,
+    ),
+    (
+        b"board:You:bob:5:0:0:0:0:0:0:1:0:0:0:1:0:0:0:0:0:0:0:0:0:0:0:0:0:0:0:-2:0:1:2:1:0:0:1:1:1:0:1:-1:0:25:13:13:0:0:2:0:0:0",
+        4,
+    ),
+    (
+        b"board:You:bob:5:0:0:0:0:0:0:1:0:0:0:1:0:0:0:0:0:0:0:0:0:0:0:0:0:0:0:-2:0:1:1:1:0:0:1:1:1:0:1:-1:0:25:13:13:0:0:2:0:0:0",
+        4,
+    ),
+    (
+        b"board:You:bob:5:0:0:0:0:0:0:0:0:0:0:0:0:0:0:-2:0:0:0:0:0:-1:0:0:0:0:0:1:0:1:6:6:0:0:1:1:1:0:1:-1:0:25:14:12:0:0:1:0:0:0",
+        1,
+    ),
+];
+
+fn board(line: &[u8]) -> Result<Board, Fail> {
+    Ok(Board::read(line).ok().ok_or("board")?)
+}
+
+fn position(line: &[u8]) -> Result<Position, Fail> {
+    Ok(Position::of(&board(line)?).ok().ok_or("position")?)
+}
+
+/// Each reader answers the same of both.
+fn are_alike(a: &Position, b: &Position) -> bool {
+    for place in 0..26 {
+        if a.own(place) != b.own(place) {
+            return false;
+        }
+    }
+    for place in 1..25 {
+        if a.other(place) != b.other(place) {
+            return false;
+        }
+    }
+    a.other_bar() == b.other_bar()
+        && a.other_off() == b.other_off()
+        && a.direction() == b.direction()
+        && a.phase() == b.phase()
+        && a.most_dice() == b.most_dice()
+}
+
+/// Each decision of no step is answered alike.
+fn answer_alike(a: &Position, b: &Position) -> bool {
+    for decision in [
+        Decision::Roll,
+        Decision::Double,
+        Decision::Accept,
+        Decision::Reject,
+        Decision::Resign(Stake::Gammon),
+    ] {
+        if a.allows(&decision) != b.allows(&decision) {
+            return false;
+        }
+    }
+    true
+}
+
+/// The position has so many plays, and each is legal.
+fn lists(alloc: Global, position: &Position, count: usize) -> Result<bool, Fail> {
+    let plays = position.plays(alloc)?;
+    Ok(plays.len() == count && plays.iter().all(|found| position.is_legal(found)))
+}
+
+/// Where a growth is refused, the position answers as one that was not asked, and the next call gives the list.
+#[test]
+fn plays_are_listed_under_refused_memory(rt: HostRuntime) -> Result<(), Fail> {
+    for (line, count) in &ASKED {
+        let asked = position(line)?;
+        match asked.plays(rt.alloc()) {
+            Ok(plays) => assert_eq!(rt; plays.len(), *count),
+            Err(_refused) => {
+                let twin = position(line)?;
+                assert!(rt; are_alike(&asked, &twin));
+                assert!(rt; answer_alike(&asked, &twin));
+                assert!(rt; lists(rt.alloc(), &asked, *count)?);
+                assert!(rt; lists(rt.alloc(), &twin, *count)?);
+            }
+        }
+    }
+    Ok(())
+}
+
+/// Boards without a position.
+static BAD: [(&str, &[u8]); 4] = [
+    (
+        "watched, and too many",
+        b"board:ann:bob:3:0:1:0:-2:0:0:0:0:5:0:3:0:0:0:-5:5:0:0:0:-3:0:-5:0:0:0:0:2:0:1:0:0:0:0:1:1:1:0:1:-1:0:25:1:1:0:0:0:0:0:0",
+    ),
+    (
+        "too many of both",
+        b"board:You:bob:3:0:1:0:-2:0:0:0:0:5:0:3:0:0:0:-5:5:0:0:0:-3:0:-5:0:0:0:0:2:0:1:0:0:0:0:1:1:1:0:1:-1:0:25:1:1:0:0:0:0:0:0",
+    ),
+    (
+        "too many of the player",
+        b"board:You:bob:3:0:1:0:-2:0:0:0:0:5:0:3:0:0:0:-5:5:0:0:0:-3:0:-5:0:0:0:0:3:0:1:0:0:0:0:1:1:1:0:1:-1:0:25:0:0:0:0:0:0:0:0",
+    ),
+    (
+        "too many of the opponent",
+        b"board:You:bob:3:0:1:0:-2:0:0:0:0:5:0:3:0:0:0:-5:5:0:0:0:-3:0:-5:0:0:0:0:2:0:1:0:0:0:0:1:1:1:0:1:-1:0:25:0:1:0:0:0:0:0:0",
+    ),
+];
+
+#[test]
+fn nothing_is_carried_out_without_a_position(rt: HostRuntime) -> Result<(), Fail> {
+    for (name, line) in &BAD {
+        assert!(rt;
+            effect(&board(line)?, &Decision::Roll, [1, 1]).is_none(),
+            "{}",
+            name
+        );
+    }
+    Ok(())
+}
+
+/// A client sees no board of another player, so no caller in C does.
+#[test]
+fn boards_do_not_differ_in_the_player(rt: HostRuntime) -> Result<(), Fail> {
+    let first = board(
+        b"board:You:bob:3:0:1:0:-2:0:0:0:0:5:0:3:0:0:0:-5:5:0:0:0:-3:0:-5:0:0:0:0:2:0:1:0:0:0:0:1:1:1:0:1:-1:0:25:0:0:0:0:0:0:0:0",
+    )?;
+    let player = board(
+        b"board:Yet:bob:3:0:1:0:-2:0:0:0:0:5:0:3:0:0:0:-5:5:0:0:0:-3:0:-5:0:0:0:0:2:0:1:0:0:0:0:1:1:1:0:1:-1:0:25:0:0:0:0:0:0:0:0",
+    )?;
+    assert!(rt; !differs(&first, &player));
+    Ok(())
+}
