@@ -1,5 +1,11 @@
-//! Tests of the command line.
+//! Tests of conversations with a server, and of the command line.
 #![tactic(auto)]
 
 #[cfg(test)]
+mod connect;
+#[cfg(test)]
+mod flushing;
+#[cfg(test)]
 mod program;
+#[cfg(test)]
+mod refused_notes;

@@ -1,4 +1,4 @@
-//! Tests of pictures: that what the definition draws is what a player is to see.
+//! Tests of what a person sees: that what the definition draws is what a player is to see, and that words read well.
 #![tactic(auto)]
 
 #[cfg(test)]
@@ -7,3 +7,5 @@ mod deeds;
 mod drawing;
 #[cfg(test)]
 mod pictures;
+#[cfg(test)]
+mod words;

@@ -1,5 +1,6 @@
-//! Tests of positions: what a board is for its player, and what becomes of it. What a player may decide, his plays, and when
-//! the game has gone on stand in `tests/rows/positions.py` and `plays.py`.
+//! Tests of the rules and of positions: values that no board line shows, what a board is for its player, and what becomes of
+//! it. Turns, what a player may decide, his plays, and when the game has gone on stand in `tests/rows/positions.py` and
+//! `plays.py`.
 #![tactic(auto)]
 
 #[cfg(test)]
@@ -14,3 +15,5 @@ mod choices;
 mod known_boards;
 #[cfg(test)]
 mod refusals;
+#[cfg(test)]
+mod turns;

@@ -1,5 +1,0 @@
-//! Tests of words: that lines read well.
-#![tactic(auto)]
-
-#[cfg(test)]
-mod lines;
