@@ -1,5 +1,9 @@
 //! A player's seat: the client, the players that it knows, and the connection, if there is one.
-ghost use Rattle.std.specs.Prelude.{false, OnOk};
+ghost use Rattle.std.specs.Prelude.{◌⊎◌, [], false, codes, OnOk, IsNone, IsSome};
+ghost use Rattle.std.specs.Io.KnownBytes.{Appends, Keeps};
+ghost use Rattle.fibs_directory.specs.Directory.{IsDirectory};
+ghost use Rattle.fibs_exchange.specs.Turns.Acts.{line_bytes};
+ghost use Rattle.fibs_exchange.specs.Turns.Typing.{reason_line};
 ghost use Rattle.fibs_exchange.specs.Turns.Turn.{FitsStream, is_there};
 
 use super::dial::Dial;
@@ -71,7 +75,13 @@ impl<S: Link + Drop> Seat<S> {
         out: &mut W,
     ) -> Result<(), ExchangeFault>
         requires { FitsStream self.old.client (is_there self.old.stream) }
-        ensures { OnOk result (FitsStream self.new.client (is_there self.new.stream)) }
+        ensures fits { OnOk result (FitsStream self.new.client (is_there self.new.stream)) }
+        ensures refused { IsSome self.old.stream → OnOk result (Appends (W.contents out.old) (W.contents out.new)
+            (line_bytes (reason_line (codes "refused ") 1 (codes "AlreadyOpen")))) }
+        ensures connected { IsNone self.old.stream → OnOk result (IsSome self.new.stream →
+            Keeps (W.contents out.old) (W.contents out.new) × IsDirectory [] self.new.directory) }
+        ensures alone { IsNone self.old.stream → OnOk result (IsNone self.new.stream → IsDirectory [] self.new.directory
+            ⊎ Appends (W.contents out.old) (W.contents out.new) (line_bytes (codes "no connection"))) }
     {
         match &self.stream {
             Some(_) => {
@@ -91,7 +101,9 @@ impl<S: Link + Drop> Seat<S> {
     /// Writes the login on a new connection, of whose players nothing is known yet.
     fn log_in<W: Write>(&mut self, mut stream: S, out: &mut W) -> Result<(), ExchangeFault>
         requires { FitsStream self.old.client false }
-        ensures { OnOk result (FitsStream self.new.client (is_there self.new.stream)) }
+        ensures fits { OnOk result (FitsStream self.new.client (is_there self.new.stream)) }
+        ensures players { OnOk result (IsDirectory [] self.new.directory) }
+        ensures silent { OnOk result (IsSome self.new.stream → Keeps (W.contents out.old) (W.contents out.new)) }
     {
         self.directory.clear();
         match self.client.open() {

@@ -5,11 +5,11 @@ use Rattle.fibs_show.specs.Writing.{Broken}
 use Rattle.fibs_connect.proofs.ConverseLemmas.Seats.{seat_opens, seat_lost}
 use Rattle.fibs_connect.proofs.connect.seat.Seat.log_in.Goals as goal
 
-pub returns-in-Ok-send_command : goal.returns-in-Ok-send_command
-returns-in-Ok-send_command g c = seat_opens _ _ (handed c.open.result) c.requires c.open.ensures.does
+pub returns-in-Ok-send_command-clause-fits : goal.returns-in-Ok-send_command-clause-fits
+returns-in-Ok-send_command-clause-fits g c = seat_opens _ _ (handed c.open.result) c.requires c.open.ensures.does
 
-pub returns-in_ok-_lost-in-Err-send_command : goal.returns-in_ok-_lost-in-Err-send_command
-returns-in_ok-_lost-in-Err-send_command g c =
+pub returns-in_ok-_lost-in-Err-send_command-clause-fits : goal.returns-in_ok-_lost-in-Err-send_command-clause-fits
+returns-in_ok-_lost-in-Err-send_command-clause-fits g c =
     let t = (step c.requires.0 Open).talk in
     let ended = c.in_ok-_lost-in-Err-send_command.ensures.ended Broken t
     (c.open.ensures.does.stands c.requires.0 c.requires.1) None [] in
