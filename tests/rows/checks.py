@@ -1,0 +1,49 @@
+"""What the tables share: the library, the tests, and how many rows hold."""
+
+import pathlib
+import sys
+
+ROOT = pathlib.Path(__file__).resolve().parent.parent.parent
+sys.path.insert(0, str(ROOT / 'examples'))
+
+import fibs  # noqa: E402
+
+# Each test, in the order in which it stands.
+TESTS = []
+
+
+def test(function):
+    """Marks a test: a function of a Checks."""
+    TESTS.append(function)
+    return function
+
+
+class Checks:
+    """Counts what holds; called with what was found, what is wanted, and the case that a failure names."""
+
+    def __init__(self):
+        self.passed = self.failed = 0
+        self.name = ''
+
+    def __call__(self, found, wanted, case=''):
+        holds = found == wanted
+        self.passed += holds
+        self.failed += not holds
+        if not holds:
+            print('FAILED %s: %s: found %r, wanted %r' % (self.name, case, found, wanted))
+
+    def run(self, function):
+        """Runs a test. One that checks nothing fails."""
+        self.name = function.__name__
+        before = self.passed + self.failed
+        function(self)
+        if self.passed + self.failed == before:
+            self(0, 'some rows')
+
+
+def answer(call, *words):
+    """What a call answers, or the name of the status by which it is refused."""
+    try:
+        return call(*words)
+    except fibs.Refused as why:
+        return why.name
