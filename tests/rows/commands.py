@@ -131,6 +131,24 @@ def lines_are_read_as_plain_commands_by_their_fields(check):
         check(sent(line), fault or line + b'\r\n', line)
 
 
+@test
+def a_decimal_up_to_a_limit_is_read(check):
+    """The points of an invitation, up to 65535."""
+    for points, told in [
+        (b'5', b'invite bob 5\r\n'),
+        (b'65535', b'invite bob 65535\r\n'),
+        (b'65536', 'NoCommand'),
+        (b'007', 'NoCommand'),
+        (b'00', 'NoCommand'),
+        (b'', 'NoCommand'),
+        (b'-0', 'NoCommand'),
+        (b'-5', 'NoCommand'),
+        (b'+5', 'NoCommand'),
+        (b'5 ', 'NoCommand'),
+    ]:
+        check(sent(b'invite bob ' + points), told, points)
+
+
 def play(*steps):
     return fibs.Decision(fibs.MOVE, steps)
 
