@@ -115,7 +115,8 @@ static void check_twin(fibs_directory *directory, const struct story *story, siz
     check_alike(directory, &twin, story->lines + later, story->count - later);
     if (story->is_filled) {
         check_filled_alike(directory, &twin);
-        check(fibs_directory_clear(directory) == FIBS_DONE && fibs_directory_clear(&twin) == FIBS_DONE, "clear", number);
+        check(fibs_directory_clear(directory) == FIBS_DONE && fibs_directory_clear(&twin) == FIBS_DONE, "clear",
+              number);
         check(players_in(directory) == 0, "cleared", number);
         check_alike(directory, &twin, story->lines, story->count);
     }

@@ -1,5 +1,5 @@
-/* A heap that refuses one allocation. A caller which includes this is the library's heap itself, so it is linked with the
- * archive that has none, crates/fibs_c/out/libfibs_c.a.
+/* A heap that refuses one allocation. A caller which includes this is the library's heap itself, so it is linked with
+ * the archive that has none, crates/fibs_c/out/libfibs_c.a.
  */
 #include <stdbool.h>
 #include <stddef.h>

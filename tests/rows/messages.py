@@ -121,7 +121,8 @@ WRONG = [
 def names_the_leftmost_wrong_field(check):
     for line, number, field, fault in WRONG:
         told = fibs.read(line)
-        check((told.kind, told.number, told.field, fibs.FAULTS[told.fault]), (fibs.MALFORMED, number, field, fault), line)
+        found = (told.kind, told.number, told.field, fibs.FAULTS[told.fault])
+        check(found, (fibs.MALFORMED, number, field, fault), line)
 
 
 # Lines that are neither a board nor a message.
