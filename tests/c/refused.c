@@ -1,63 +1,9 @@
-/* Each allocation refused in turn: a call then answers FIBS_MEMORY, and what it was given is as before. This program is
- * the library's heap itself, so it is linked with the archive without one.
- */
+/* Each allocation refused in turn: a call then answers FIBS_MEMORY, and what it was given is as before. */
 #include "fibs.h"
 
-#include <stdio.h>
-#include <stdlib.h>
+#include "refusing.h"
+
 #include <string.h>
-
-struct tried { bool ok; void *at; };
-
-struct tried rattle_alloc(size_t size, size_t align);
-struct tried rattle_realloc(void *at, size_t kept, size_t size, size_t align);
-void rattle_dealloc(void *at);
-
-static long left, live, refused;
-static char nothing;
-
-static struct tried found(void *at) {
-    struct tried tried = { at != NULL, at != NULL ? at : &nothing };
-    return tried;
-}
-
-/* Whether this allocation is the one that is refused. */
-static bool is_refused(void) {
-    if (left-- != 0) {
-        return false;
-    }
-    refused++;
-    return true;
-}
-
-struct tried rattle_alloc(size_t size, size_t align) {
-    if (is_refused()) {
-        return found(NULL);
-    }
-    live++;
-    return found(malloc(size > 0 ? size : align));
-}
-
-struct tried rattle_realloc(void *at, size_t kept, size_t size, size_t align) {
-    (void)kept;
-    return is_refused() ? found(NULL) : found(realloc(at, size > 0 ? size : align));
-}
-
-void rattle_dealloc(void *at) {
-    live--;
-    free(at);
-}
-
-static const uint8_t *bytes(const char *text) { return (const uint8_t *)text; }
-
-static int failed;
-
-static void check(bool holds, const char *what, long number) {
-    if (!holds) {
-        printf("FAILED %s, allocation %ld refused\n", what, number);
-        failed++;
-    }
-}
 
 static const char board[] =
     "board:You:someplayer:3:0:1:0:-2:0:0:0:0:5:0:3:0:0:0:-5:5:0:0:0:-3:0:-5:0:0:0:0:2:0:1:6:2:0:0:1:1:1:0:1:-1:0:25:0:0:0:"
@@ -73,9 +19,7 @@ static bool run(long number) {
     fibs_wire wire = { 0 };
     fibs_decision none = { 0, 0, { { 0, 0 } } };
     size_t count = 77, len = 77;
-    left = number;
-    refused = 0;
-    live = 0;
+    refuse(number);
     plays[0] = none;
 
     fibs_status made = fibs_lines_new(&lines);

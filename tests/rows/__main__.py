@@ -8,7 +8,11 @@ line is 'N passed, M failed', N being the rows that hold.
 import sys
 
 import checks
+import boards  # noqa: F401
+import commands  # noqa: F401
+import directory  # noqa: F401
 import lines  # noqa: F401
+import messages  # noqa: F401
 import plays  # noqa: F401
 import positions  # noqa: F401
 

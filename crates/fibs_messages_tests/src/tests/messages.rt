@@ -1,31 +1,10 @@
-//! Tests of messages by worked lines.
+//! Messages as they are printed, and words and tails by themselves. Worked lines are read in tests/rows.
 
 use fibs_messages::laws::{canonical_lines_read_back, messages_are_well_formed};
-use fibs_messages::{Fault, Message, Reading, Tail, Word, canonical_line, print_message, read};
+use fibs_messages::{Reading, Tail, Word, canonical_line, print_message, read};
 use std::alloc::{AllocError, Global};
 use std::process::Abort;
 use std::test::Fail;
-
-/// What a line prints again, where it is a message.
-fn printed(alloc: Global, line: &[u8]) -> Result<Option<Vec<u8>>, AllocError> {
-    let mut out = Vec::new(alloc);
-    match read(line) {
-        Reading::Numbered(message) => print_message(alloc, &message, &mut out)?,
-        _ => return Ok(None),
-    }
-    Ok(Some(out))
-}
-
-fn fault_of(line: &[u8]) -> Option<(u8, usize, Fault)> {
-    match read(line) {
-        Reading::Malformed {
-            number,
-            field,
-            fault,
-        } => Some((number, field, fault)),
-        _ => None,
-    }
-}
 
 /// Lines of messages, and what is printed for them where that is another line.
 static PRINTED: [(&[u8], &[u8]); 30] = [
@@ -87,28 +66,6 @@ static PRINTED: [(&[u8], &[u8]); 30] = [
     (b"17 ", b"17"),
 ];
 
-/// Whether the line is a message that is printed so.
-fn is_printed_as(alloc: Global, line: &[u8], canonical: &[u8]) -> Result<bool, AllocError> {
-    let wanted = if canonical.is_empty() {
-        line
-    } else {
-        canonical
-    };
-    match printed(alloc, line)? {
-        Some(out) => Ok(out.as_slice() == wanted),
-        None => Ok(false),
-    }
-}
-
-#[test]
-fn reads_messages_and_prints_them(rt: HostRuntime) -> Result<(), Fail> {
-    for (line, canonical) in &PRINTED {
-        let is_right = is_printed_as(rt.alloc(), line, canonical)?;
-        assert!(rt; is_right, "{line:?}");
-    }
-    Ok(())
-}
-
 /// What is said at once to be printed for a line.
 fn is_copied_as(line: &[u8], canonical: Option<&[u8]>) -> bool {
     match (canonical_line(line), canonical) {
@@ -150,137 +107,6 @@ static COPIED: [(&[u8], Option<&[u8]>); 14] = [
 fn other_spellings_are_not_copied(rt: HostRuntime) {
     for (line, canonical) in &COPIED {
         assert!(rt; is_copied_as(line, *canonical), "{line:?}");
-    }
-}
-
-#[test]
-fn ratings_are_hundredths(rt: HostRuntime) {
-    match read(b"2 ann 1 1 0 1 0 0 1 1 10 0 1 0 1 3457.85 0 0 0 0 0 UTC") {
-        Reading::Numbered(Message::OwnInfo(info)) => {
-            assert_eq!(rt; info.rating, 345_785);
-            assert_eq!(rt; info.experience, 10);
-            assert!(rt; info.automove && !info.greedy);
-            assert_eq!(rt; info.timezone.bytes(), b"UTC".as_slice());
-        }
-        _ => assert!(rt; false, "own info"),
-    }
-    match read(
-        b"5 someplayer mgnu_advanced - 0 0 1912.15 827 8 1040515752 192.168.143.5 3DFiBs -",
-    ) {
-        Reading::Numbered(Message::WhoInfo(info)) => assert_eq!(rt; info.rating, 191_215),
-        _ => assert!(rt; false, "who info"),
-    }
-}
-
-/// Lines with a wrong field: the number, the field and what is wrong with it.
-static WRONG: [(&[u8], u8, usize, Fault); 26] = [
-    (b"5 bob", 5, 2, Fault::Missing),
-    (b"1 bob 5 ", 1, 3, Fault::Missing),
-    (
-        b"5 bob - - 1 0 1500 0 3 1040515752 host - ",
-        5,
-        12,
-        Fault::Missing,
-    ),
-    (b"9 bob", 9, 2, Fault::Missing),
-    (b"9 bob ", 9, 2, Fault::NotANumber),
-    (b"12", 12, 1, Fault::Missing),
-    (b"12 ", 12, 1, Fault::BadName),
-    (b"3 x", 3, 1, Fault::Extra),
-    (b"10 bob x y", 10, 2, Fault::Extra),
-    (b"1 bob 5 host x", 1, 4, Fault::Extra),
-    (b"1 bob  host", 1, 2, Fault::NotANumber),
-    (b"1 b:b x host", 1, 1, Fault::BadName),
-    (b"1 bob -5 host", 1, 2, Fault::OutOfRange),
-    (b"1 bob -0 host", 1, 2, Fault::NotANumber),
-    (b"1 bob 05 host", 1, 2, Fault::NotANumber),
-    (b"1 bob 18446744073709551616 host", 1, 2, Fault::OutOfRange),
-    (
-        b"1 bob 123456789012345678901234567890 x",
-        1,
-        2,
-        Fault::OutOfRange,
-    ),
-    (
-        b"5 bob - - 2 0 1500 0 3 0 host - -",
-        5,
-        4,
-        Fault::OutOfRange,
-    ),
-    (
-        b"5 bob - - -5 0 1500 0 3 0 host - -",
-        5,
-        4,
-        Fault::OutOfRange,
-    ),
-    (
-        b"5 bob - - x 0 1500 0 3 0 host - -",
-        5,
-        4,
-        Fault::NotANumber,
-    ),
-    (b"5 bob - - 1 0 -5 0 3 0 host - -", 5, 6, Fault::NotANumber),
-    (
-        b"5 bob - - 1 0 1500. 0 3 0 host - -",
-        5,
-        6,
-        Fault::NotANumber,
-    ),
-    (
-        b"5 bob - - 1 0 1500.123 0 3 0 host - -",
-        5,
-        6,
-        Fault::NotANumber,
-    ),
-    (
-        b"5 bob - - 1 0 42949672.96 0 3 0 host - -",
-        5,
-        6,
-        Fault::OutOfRange,
-    ),
-    (
-        b"5 bob - - 1 0 99999999999999999999.5 0 3 0 host - -",
-        5,
-        6,
-        Fault::OutOfRange,
-    ),
-    (b"5 bob - - 1 0 1500 0 3 0  - -", 5, 10, Fault::BadName),
-];
-
-#[test]
-fn names_the_leftmost_wrong_field(rt: HostRuntime) {
-    for (line, number, field, fault) in &WRONG {
-        let is_named = fault_of(line) == Some((*number, *field, *fault));
-        assert!(rt; is_named, "{line:?}");
-    }
-}
-
-/// Lines that are neither a board nor a message.
-static TEXTS: [&[u8]; 10] = [
-    b"",
-    b"05 x",
-    b"20 x",
-    b"0 x",
-    b"-1 x",
-    b"1x",
-    b" 1 x",
-    b"100",
-    b"board",
-    b"** Player 'zed' isn't logged in.",
-];
-
-/// Whether the line is text, all of it.
-fn is_text(line: &[u8]) -> bool {
-    match read(line) {
-        Reading::Text(text) => text == line,
-        _ => false,
-    }
-}
-
-#[test]
-fn other_lines_are_text(rt: HostRuntime) {
-    for line in &TEXTS {
-        assert!(rt; is_text(line), "{line:?}");
     }
 }
 
