@@ -12,14 +12,6 @@ pub(crate) const MUST_ROLL: &[u8] =
 pub(crate) const ROLLED: &[u8] =
     b"board:You:bob:3:0:1:0:-2:0:0:0:0:5:0:3:0:0:0:-5:5:0:0:0:-3:0:-5:0:0:0:0:2:0:1:6:2:0:0:1:0:1:0:1:-1:0:25:0:0:0:0:0:0:0:0";
 
-/// He may not double, with the cube at its limit.
-pub(crate) const CUBE_AT_LIMIT: &[u8] =
-    b"board:You:bob:3:0:1:0:-2:0:0:0:0:5:0:3:0:0:0:-5:5:0:0:0:-3:0:-5:0:0:0:0:2:0:1:0:0:0:0:1048576:0:1:0:1:-1:0:25:0:0:0:0:0:0:0:0";
-
-/// He may double by the board, with the cube at its limit.
-pub(crate) const MAY_DOUBLE_AT_LIMIT: &[u8] =
-    b"board:You:bob:3:0:1:0:-2:0:0:0:0:5:0:3:0:0:0:-5:5:0:0:0:-3:0:-5:0:0:0:0:2:0:1:0:0:0:0:1048576:1:1:0:1:-1:0:25:0:0:0:0:0:0:0:0";
-
 /// He has rolled 6 and 2.
 pub(crate) const TO_MOVE: &[u8] =
     b"board:You:bob:3:0:1:0:-2:0:0:0:0:5:0:3:0:0:0:-5:5:0:0:0:-3:0:-5:0:0:0:0:2:0:1:6:2:0:0:1:1:1:0:1:-1:0:25:0:0:0:0:0:0:0:0";

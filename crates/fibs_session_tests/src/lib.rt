@@ -6,8 +6,4 @@ mod client;
 #[cfg(test)]
 mod example;
 #[cfg(test)]
-mod histories;
-#[cfg(test)]
 mod lines;
-#[cfg(test)]
-mod steps;

@@ -1,0 +1,228 @@
+"""Histories of the world, worked out by hand: each event of a script of `fibs replay` beside what it adds to the log.
+
+A word in braces is a board or a message of boards.py. An event that may not be adds nothing, and stands beside its
+refusal: the events after it go on without it.
+"""
+
+import subprocess
+
+from boards import NAMED
+
+# A second click before the answer, and a line that is not there.
+CLICKED_TWICE = [
+    ('open', 'opened 1'),
+    ('serve 1 1 1', 'loggedin 1'),
+    ('text {WELCOME}',),
+    ('text {INFO}',),
+    ('deliver 10000', 'welcomed 1', 'informed 1 0 0'),
+    ('serve 1 1 1',),
+    ('serve 1 1 1',),
+    ('deliver 10000', 'shown 1 {TO_ROLL}', 'shown 1 {TO_ROLL}'),
+    ('click roll', 'clicked 1 ok', 'sent 1 {TO_ROLL} roll'),
+    ('click roll', 'clicked 1 Waiting'),
+    ('serve 1 6 2', 'took 1 {TO_ROLL} roll'),
+    ('deliver 10000', 'shown 1 {TO_MOVE}'),
+    ('click roll', 'clicked 1 WrongKind'),
+    ('serve 1 1 1', 'refused 5 NothingToServe'),
+]
+
+# A loss that keeps all bytes: the play is served after it, and the new connection sends none by itself.
+LOST = [
+    ('open', 'opened 1'),
+    ('serve 1 1 1', 'loggedin 1'),
+    ('text {WELCOME}',),
+    ('text {INFO}',),
+    ('deliver 10000', 'welcomed 1', 'informed 1 0 0'),
+    ('serve 1 1 1',),
+    ('serve 1 1 1',),
+    ('deliver 10000', 'shown 1 {ONE_STEP}', 'shown 1 {ONE_STEP}'),
+    ('click move 24-18', 'clicked 1 ok', 'sent 1 {ONE_STEP} move 24-18'),
+    ('lose 10000', 'lost 1 {ONE_STEP} move 24-18'),
+    ('serve 1 1 1', 'took 1 {ONE_STEP} move 24-18'),
+    ('open', 'opened 2'),
+    ('serve 2 1 1', 'loggedin 2'),
+    ('text {WELCOME}',),
+    ('text {INFO}',),
+    ('deliver 10000', 'welcomed 2', 'informed 2 0 0'),
+    ('serve 2 1 1',),
+    ('serve 2 1 1',),
+    ('deliver 10000', 'shown 2 {STEPPED}', 'shown 2 {STEPPED}'),
+    ('click roll', 'clicked 2 NotYours'),
+]
+
+# A loss that keeps three bytes of the play: it is not served, and the user may send it again.
+CUT = [
+    ('open', 'opened 1'),
+    ('serve 1 1 1', 'loggedin 1'),
+    ('text {WELCOME}',),
+    ('text {INFO}',),
+    ('deliver 10000', 'welcomed 1', 'informed 1 0 0'),
+    ('serve 1 1 1',),
+    ('serve 1 1 1',),
+    ('deliver 10000', 'shown 1 {ONE_STEP}', 'shown 1 {ONE_STEP}'),
+    ('click move 24-18', 'clicked 1 ok', 'sent 1 {ONE_STEP} move 24-18'),
+    ('lose 3', 'lost 1 {ONE_STEP} move 24-18'),
+    ('open', 'opened 2'),
+    ('serve 2 1 1', 'loggedin 2'),
+    ('text {WELCOME}',),
+    ('text {INFO}',),
+    ('deliver 10000', 'welcomed 2', 'informed 2 0 0'),
+    ('serve 2 1 1',),
+    ('serve 2 1 1',),
+    ('deliver 10000', 'shown 2 {ONE_STEP}', 'shown 2 {ONE_STEP}'),
+    ('click move 24-18', 'clicked 2 ok', 'sent 2 {ONE_STEP} move 24-18'),
+    ('serve 1 1 1', 'refused 5 NothingToServe'),
+]
+
+# What may not be, in the order in which it is told.
+REFUSED = [
+    ('own {ONE_STEP}', 'refused 6 UserDecides'),
+    ('own {OF_OTHERS}', 'refused 8 BadBoard'),
+    ('text {TO_ROLL}', 'refused 7 BoardAsText'),
+    ('deliver 1', 'refused 3 NotOpen'),
+    ('lose 0', 'refused 3 NotOpen'),
+    ('serve 1 0 1', 'refused 4 NoSuchConnection'),
+    ('open', 'opened 1'),
+    ('open', 'refused 2 AlreadyOpen'),
+    ('serve 1 0 1', 'refused 9 BadDice'),
+    ('serve 0 1 1', 'refused 4 NoSuchConnection'),
+]
+
+# Bytes are delivered in pieces, other commands are given, boards are repeated, and connections are lost.
+CUT_UP = [
+    ('open', 'opened 1'),
+    ('serve 1 1 1', 'loggedin 1'),
+    ('text {WELCOME}',),
+    ('text {INFO}',),
+    ('deliver 20',),
+    ('deliver 10000', 'welcomed 1', 'informed 1 0 0'),
+    ('serve 1 1 1',),
+    ('serve 1 1 1',),
+    ('deliver 150', 'shown 1 {TO_ROLL}'),
+    ('deliver 10000', 'shown 1 {TO_ROLL}'),
+    ('click roll', 'clicked 1 ok', 'sent 1 {TO_ROLL} roll'),
+    ('plain who',),
+    ('serve 1 6 2', 'took 1 {TO_ROLL} roll'),
+    ('repeat',),
+    ('deliver 10000', 'shown 1 {TO_MOVE}', 'shown 1 {TO_MOVE}'),
+    ('lose 2', 'lost 1'),
+    ('open', 'opened 2'),
+    ('serve 2 1 1', 'loggedin 2'),
+    ('text {WELCOME}',),
+    ('text {INFO}',),
+    ('repeat',),
+    ('deliver 10000', 'welcomed 2', 'informed 2 0 0', 'shown 2 {TO_MOVE}'),
+    ('click roll', 'clicked 2 WrongKind'),
+    ('lose 10000', 'lost 2'),
+]
+
+# The server's board becomes another one where the user does not decide.
+OWN_BOARDS = [
+    ('open', 'opened 1'),
+    ('serve 1 1 1', 'loggedin 1'),
+    ('text {WELCOME}',),
+    ('text {INFO}',),
+    ('deliver 10000', 'welcomed 1', 'informed 1 0 0'),
+    ('own {TO_ROLL}',),
+    ('deliver 10000', 'shown 1 {TO_ROLL}'),
+    ('click double', 'clicked 1 ok', 'sent 1 {TO_ROLL} double'),
+    ('serve 1 1 1',),
+    ('serve 1 1 1',),
+    ('serve 1 1 1', 'took 1 {TO_ROLL} double'),
+    ('deliver 10000', 'shown 1 {TO_ROLL}', 'shown 1 {TO_ROLL}', 'shown 1 {DOUBLED}'),
+    ('own {TO_MOVE}',),
+    ('deliver 10000', 'shown 1 {TO_MOVE}'),
+    ('own {ONE_STEP}', 'refused 6 UserDecides'),
+]
+
+def script(begins, events):
+    """The script of these events, from this first board on."""
+    return ''.join('%s\n' % line.format(**NAMED) for line in (begins, *events)).encode()
+
+
+def events_of(story):
+    return [event for event, *_ in story]
+
+
+def replay(program, begins, events):
+    """The lines that the program prints of a script, its status, and what it says beside them."""
+    done = subprocess.run([program, 'replay'], input=script(begins, events), capture_output=True)
+    return done.stdout.decode().split('\n'), done.returncode, done.stderr
+
+
+def check_log(counts, what, begins, events, log):
+    """The script has just this log, whose last line says how it ends."""
+    wanted = [line.format(**NAMED) for line in log] + ['']
+    status = 0 if log[-1].startswith('end ') else 3
+    counts.same(replay(counts.program, begins, events), (wanted, status, b''), what)
+
+
+def play(counts, name, begins, *parts):
+    """Does the events of a story one by one: each adds its lines to the log, or is refused and adds none."""
+    done, log = [], []
+    for number, (event, *told) in enumerate((row for part in parts for row in part), 1):
+        what = '%s: event %d' % (name, number)
+        if told and told[0].startswith('refused'):
+            why = told[0].split(' ', 1)[1]
+            check_log(counts, what, begins, done + [event], log + ['refused %d %s' % (len(done), why)])
+        else:
+            done.append(event)
+            log += told
+            check_log(counts, what, begins, done, log + ['end %d' % len(done)])
+
+
+def run_all(counts, name, begins, story, end):
+    """Does the events of a story in a row, which end so."""
+    lines, _, _ = replay(counts.program, begins, events_of(story))
+    counts.same(lines[-2:], [end, ''], name)
+
+
+def a_second_click_waits(counts):
+    play(counts, 'the story', '{TO_ROLL}', CLICKED_TWICE)
+    run_all(counts, 'the run stops at the last', '{TO_ROLL}', CLICKED_TWICE, 'refused 13 5 NothingToServe')
+
+
+def a_play_may_be_served_after_a_loss(counts):
+    play(counts, 'the story', '{ONE_STEP}', LOST)
+    run_all(counts, 'all are done', '{ONE_STEP}', LOST, 'end 20')
+
+
+def a_play_of_which_three_bytes_are_kept_is_sent_again(counts):
+    play(counts, 'the story', '{ONE_STEP}', CUT)
+    run_all(counts, 'the cut play is no line', '{ONE_STEP}', CUT, 'refused 19 5 NothingToServe')
+
+
+def what_may_not_be_is_refused(counts):
+    play(counts, 'the story', '{TO_ROLL}', REFUSED)
+    run_all(counts, 'no world begins with a board of another', '{OF_OTHERS}', [], 'refused 0 8 BadBoard')
+
+
+def a_board_beyond_the_limit_is_a_text(counts):
+    """The server sends no board as a text; with so many spaces behind it that the line is cut it is a text, and no
+    board is shown."""
+    play(counts, 'the story', '{TO_ROLL}', [
+        ('open', 'opened 1'),
+        ('serve 1 1 1', 'loggedin 1'),
+        ('text {TO_ROLL}' + ' ' * 4096, 'refused 7 BoardAsText'),
+        ('text {TO_ROLL}' + ' ' * 16384,),
+        ('deliver 20000',),
+        ('text {WELCOME}',),
+        ('text {INFO}',),
+        ('deliver 20000', 'welcomed 1', 'informed 1 0 0'),
+        ('click roll', 'clicked 1 NoBoard'),
+    ])
+
+
+def connections_are_cut_up(counts):
+    play(counts, 'the story', '{TO_ROLL}', CUT_UP)
+    run_all(counts, 'all are done', '{TO_ROLL}', CUT_UP, 'end 24')
+
+
+def the_server_has_boards_of_its_own(counts):
+    play(counts, 'the story', '{STEPPED}', OWN_BOARDS)
+    run_all(counts, 'the run stops at the last', '{STEPPED}', OWN_BOARDS, 'refused 14 6 UserDecides')
+
+
+TESTS = [a_second_click_waits, a_play_may_be_served_after_a_loss, a_play_of_which_three_bytes_are_kept_is_sent_again,
+         what_may_not_be_is_refused, a_board_beyond_the_limit_is_a_text, connections_are_cut_up,
+         the_server_has_boards_of_its_own]
