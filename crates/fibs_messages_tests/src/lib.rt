@@ -1,5 +1,11 @@
-//! Tests of boards, messages and their lines.
+//! Tests of lines, boards, messages and directories: what no caller in C sees. Worked rows stand in `tests/rows`.
 #![tactic(auto)]
 
 #[cfg(test)]
-mod tests;
+mod boards;
+#[cfg(test)]
+mod directory;
+#[cfg(test)]
+mod messages;
+#[cfg(test)]
+mod texts;

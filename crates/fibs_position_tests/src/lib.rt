@@ -1,6 +1,6 @@
-//! Tests of the rules and of positions: values that no board line shows, what a board is for its player, and what becomes of
-//! it. Turns, what a player may decide, his plays, and when the game has gone on stand in `tests/rows/positions.py` and
-//! `plays.py`.
+//! Tests of the rules, of positions and of commands: values that no board line shows, what a board is for its player, what
+//! becomes of it, and what is said to the server. Turns, what a player may decide, his plays, and when the game has gone on
+//! stand in `tests/rows/positions.py` and `plays.py`.
 #![tactic(auto)]
 
 #[cfg(test)]
@@ -11,6 +11,8 @@ mod boards;
 mod cases;
 #[cfg(test)]
 mod choices;
+#[cfg(test)]
+mod commands;
 #[cfg(test)]
 mod known_boards;
 #[cfg(test)]

@@ -1,5 +1,0 @@
-//! Tests of the directory.
-#![tactic(auto)]
-
-#[cfg(test)]
-mod directory;
