@@ -91,6 +91,7 @@ bench: all lib $(PEER)
 	bench/replay bin/fibs $(ROUNDS)
 	bench/loop bin/fibs $(ROUNDS)
 	bench/latency bin/fibs
+	bench/seat bin/fibs
 
 clean:
 	rm -rf bin lib/*.a lib/*.so* lib/fibs.pc crates/*/out
