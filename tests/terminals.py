@@ -20,6 +20,9 @@ PATIENCE = 60
 # What the processor's time is counted in.
 TICKS = os.sysconf('SC_CLK_TCK')
 
+# What the shell shows behind its job, and no job shows.
+END = b'\0'
+
 # What a shell ignores, and its job does not.
 OF_THE_JOB = [signal.SIGINT, signal.SIGQUIT, signal.SIGTSTP, signal.SIGTTIN, signal.SIGTTOU]
 
@@ -122,11 +125,12 @@ class Terminal:
         return words
 
     def catches_up(self):
-        """Reads what was shown up to now: a terminal hands on what was written a moment later."""
-        length = -1
-        while length != len(self.seen):
-            length = len(self.seen)
-            time.sleep(0.05)
+        """Reads up to the mark that the shell sets behind all that its job has shown."""
+        if self.reader.is_alive():
+            self.sees(END.decode())
+            with self.news:
+                self.seen = self.seen.replace(END, b'')
+                self.at = len(self.seen)
 
     def is_stopped(self):
         """It stops within a while, and the shell has the terminal again."""
@@ -221,6 +225,11 @@ def shell(orders, reports, words):
         os.tcsetpgrp(0, job)
         os.killpg(job, signal.SIGCONT)
     code = os.waitstatus_to_exitcode(status)
+    try:
+        os.write(1, END)
+    except OSError:
+        # the terminal is closed
+        pass
     os.write(reports, b'ended %d\n' % (code if code >= 0 else 128 - code))
     # The terminal stays as the job left it.
     os.read(orders, 1)
