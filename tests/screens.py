@@ -301,6 +301,7 @@ def the_question_ends(server):
         for given, status, wanted in rows:
             player = Person(server, shell)
             player.sees('password: ')
+            player.is_waiting()
             if isinstance(given, bytes):
                 player.type_bytes(given)
             else:

@@ -166,9 +166,20 @@ class Terminal:
         return (self.ticks() - before) / TICKS
 
     def ticks(self):
+        return sum(map(int, self.told()[11:13]))
+
+    def told(self):
+        """What the system tells of the job's process, from its state on."""
         with open('/proc/%d/stat' % self.job) as stat:
-            words = stat.read().rsplit(')', 1)[1].split()
-        return int(words[11]) + int(words[12])
+            return stat.read().rsplit(')', 1)[1].split()
+
+    def is_waiting(self):
+        """Waits until the job waits: a shell that has not begun to read yet may let a signal wait for the next key."""
+        end = time.monotonic() + PATIENCE
+        while self.told()[0] != 'S':
+            if time.monotonic() > end:
+                raise Failed('the job never waits')
+            time.sleep(0.001)
 
     def close(self):
         """Whatever it does, it is over."""
