@@ -3,8 +3,8 @@
 
 The man page, the help (the texts of tests/help, to which tests/program holds the program), the completions and
 docs/PLAYING.md have the same subcommands, options, typed lines, refusals and statuses. With a PROGRAM it is asked too
-whether it takes each typed line. A shell, or a reader of man pages, that is not installed is left out. Prints a line for
-each case, and then `N passed, M failed`.
+whether it takes each typed line. A shell, or a reader of man pages, that is not installed is left out. Prints a line
+for each case, and then `N passed, M failed`.
 """
 
 import pathlib
@@ -81,7 +81,7 @@ def run(words, **more):
     return subprocess.run(words, capture_output=True, text=True, timeout=60, check=False, **more)
 
 
-# -- subcommands and options --------------------------------------------------------------------------------------------
+# -- subcommands and options -----------------------------------------------------------------------------------------
 
 def help_has_the_subcommands(_program):
     listed = part(text_of('tests/help/fibs.txt'), 'Commands:\n', '\n\n')
@@ -113,15 +113,18 @@ def the_page_has_the_options(_program):
 def bash_completes(_program):
     """What bash completes after some words."""
     asked = {
-        ('fibs', ''): SUBCOMMANDS, ('fibs', 're'): ['replay'], ('fibs', '-'): OPTIONS, ('fibs', 'help', ''): SUBCOMMANDS,
+        ('fibs', ''): SUBCOMMANDS, ('fibs', 're'): ['replay'], ('fibs', '-'): OPTIONS,
+        ('fibs', 'help', ''): SUBCOMMANDS,
         ('fibs', 'connect', '-'): CONNECT_OPTIONS, ('fibs', 'connect', 'fibs'): ['fibs.com'],
         ('fibs', 'connect', 'localhost', ''): ['4321'],
         ('fibs', 'connect', '--password-file', 'secret', 'localhost', ''): ['4321'],
         ('fibs', 'connect', '--password-file', 'typ'): ['typed'], ('fibs', 'connect', 'localhost', '4321', ''): [],
-        ('fibs-play', 'fibs'): ['fibs.com'], ('fibs-play', 'localhost', ''): ['4321'], ('fibs-play', '-'): ['--help', '-h'],
+        ('fibs-play', 'fibs'): ['fibs.com'], ('fibs-play', 'localhost', ''): ['4321'],
+        ('fibs-play', '-'): ['--help', '-h'],
         **{('fibs', name, '-'): ['--help', '-h'] for name in SUBCOMMANDS if name not in ('connect', 'help')},
     }
-    script = 'source ./fibs.bash; COMP_WORDS=("$@"); COMP_CWORD=$(($# - 1)); "_${1/-/_}"; printf "%s\\n" "${COMPREPLY[@]}"'
+    script = ('source ./fibs.bash; COMP_WORDS=("$@"); COMP_CWORD=$(($# - 1)); "_${1/-/_}"; '
+              'printf "%s\\n" "${COMPREPLY[@]}"')
     for words, wanted in asked.items():
         done = run(['bash', '-c', script, 'bash', *words], cwd=ROOT / 'completions')
         same(' '.join(words), (sorted(done.stdout.split()), done.stderr), (wanted, ''))
@@ -150,7 +153,7 @@ def fish_completes(_program):
         same('fish', (sorted(line.split('\t')[0] for line in done.stdout.splitlines()), done.stderr), (SUBCOMMANDS, ''))
 
 
-# -- lines --------------------------------------------------------------------------------------------------------------
+# -- lines -----------------------------------------------------------------------------------------------------------
 
 def help_has_the_typed_lines(_program):
     listed = part(text_of('tests/help/connect.txt'), 'each line that is typed is one of\n', '\nand is answered by')
@@ -187,7 +190,8 @@ def the_page_has_the_printed_lines(_program):
     same('their first words', sorted(set(re.sub(r':.*', ':', word) for word in found)), sorted(PRINTED))
     same('the phases', [name for name in PHASES if '.Li ' + name not in page('PRINTED LINES')], [])
     formats = text_of('docs/FORMATS.md')
-    for kind, row in ('the faults', r'`fault NUMBER NAME` \|.*?: (.*?) \|'), ('the directory', r'NAME` \| the directory.*: (.*?) \|'):
+    rows = {'the faults': r'`fault NUMBER NAME` \|.*?: (.*?) \|', 'the directory': r'NAME` \| the directory.*: (.*?) \|'}
+    for kind, row in rows.items():
         for one in re.search(row, formats)[1].split(', '):
             same('%s of docs/FORMATS.md' % kind, '.Li %s' % one in page('PRINTED LINES'), True)
 
@@ -212,7 +216,15 @@ def the_picture_of_the_page_is_the_players(_program):
     same('in docs/PLAYING.md', drawn in text_of('docs/PLAYING.md'), True)
 
 
-# -- files --------------------------------------------------------------------------------------------------------------
+def the_game_of_the_readme_is_played(_program):
+    """Each of its lines stands on the screen of the game that tests/screens.py plays, in its order."""
+    shown = iter(text_of('tests/screens/game.txt').splitlines())
+    told = part(text_of('README.md'), '\n## A game', '\n## ').split('```')[1].splitlines()
+    same('its begin', told[1:3], ['$ bin/fibs-play localhost 4321 ann', 'password:'])
+    same('lines that are not shown', [line for line in told[3:] if line != '..' and line not in shown], [])
+
+
+# -- files -----------------------------------------------------------------------------------------------------------
 
 def the_page_is_clean(_program):
     checks = [['mandoc', '-T', 'lint'], ['groff', '-ww', '-mandoc', '-z']]
@@ -233,7 +245,8 @@ def fibs_play_tells_its_use(_program):
     for words, status in ([], 2), (['localhost', '4321'], 2), (['a', 'b', 'c', 'd'], 2), (['-h'], 0), (['--help'], 0):
         done = run([ROOT / 'scripts' / 'fibs-play', *words], stdin=subprocess.DEVNULL)
         said, other = (done.stderr, done.stdout) if status else (done.stdout, done.stderr)
-        same(repr(words), (done.returncode, said.splitlines()[:1], other), (status, ['usage: fibs-play HOST PORT NAME'], ''))
+        same(repr(words), (done.returncode, said.splitlines()[:1], other),
+             (status, ['usage: fibs-play HOST PORT NAME'], ''))
 
 
 def make_installs_them(_program):
@@ -259,8 +272,8 @@ CASES = [
     help_has_the_subcommands, the_page_has_the_subcommands, help_has_the_options, the_page_has_the_options,
     bash_completes, zsh_completes, fish_completes, help_has_the_typed_lines, the_page_has_the_typed_lines,
     the_players_page_has_the_typed_lines, the_page_has_the_printed_lines, the_refusals_are_the_same,
-    the_statuses_are_the_same, the_picture_of_the_page_is_the_players, the_page_is_clean, fibs_play_is_plain_shell,
-    fibs_play_tells_its_use, make_installs_them,
+    the_statuses_are_the_same, the_picture_of_the_page_is_the_players, the_game_of_the_readme_is_played,
+    the_page_is_clean, fibs_play_is_plain_shell, fibs_play_tells_its_use, make_installs_them,
 ]
 
 
