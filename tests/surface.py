@@ -190,7 +190,8 @@ def the_page_has_the_printed_lines(_program):
     same('their first words', sorted(set(re.sub(r':.*', ':', word) for word in found)), sorted(PRINTED))
     same('the phases', [name for name in PHASES if '.Li ' + name not in page('PRINTED LINES')], [])
     formats = text_of('docs/FORMATS.md')
-    rows = {'the faults': r'`fault NUMBER NAME` \|.*?: (.*?) \|', 'the directory': r'NAME` \| the directory.*: (.*?) \|'}
+    rows = {'the faults': r'`fault NUMBER NAME` \|.*?: (.*?) \|',
+            'the directory': r'NAME` \| the directory.*: (.*?) \|'}
     for kind, row in rows.items():
         for one in re.search(row, formats)[1].split(', '):
             same('%s of docs/FORMATS.md' % kind, '.Li %s' % one in page('PRINTED LINES'), True)
