@@ -112,8 +112,8 @@ class Pipe:
 class Person(Terminal):
     """One who plays with fibs-play."""
 
-    def __init__(self, server, shell=(), kind='dumb', **more):
-        words = [*shell, PLAY, '127.0.0.1', str(server.port), 'ann']
+    def __init__(self, server, shell=(), kind='dumb', play=PLAY, **more):
+        words = [*shell, play, '127.0.0.1', str(server.port), 'ann']
         super().__init__(words, **{'TERM': kind, **more})
 
     def listens(self):
@@ -275,6 +275,26 @@ def the_same_game_where_lines_are_edited(server):
         at = found + len(line)
     same('what is kept', [line for line in ('players', 'move 5-3 3-2', 'say good luck') if line not in kept], [])
     same('echo', player.echoes(), True)
+
+
+def words_are_completed(server):
+    """As it is installed, with the words of typed lines beside it: Tab puts no space at a line's end."""
+    if not RLWRAP:
+        return
+    with tempfile.TemporaryDirectory() as room:
+        subprocess.run(['make', '-s', 'install-surface', 'PREFIX=' + room], cwd=ROOT, check=True, capture_output=True)
+        player = Person(server, kind='xterm', play=os.path.join(room, 'bin', 'fibs-play'))
+        player.tells_the_password()
+        server.accept()
+        same('received', server.line(), LOGIN)
+        greeted(server, player)
+        player.type_bytes(b'withd\t')
+        player.sees('withdraw')
+        player.type_bytes(b' ro\t')
+        player.sees(' roll')
+        player.type('')
+        player.sees('refused 12 NotOrdered')
+        leaves(player, server)
 
 
 # -- how fibs-play ends ----------------------------------------------------------------------------------------------
@@ -726,7 +746,7 @@ def a_terminal_on_one_side_alone(server):
 
 CASES = [
     a_game_from_login_to_its_end_with_fibs_play, the_same_game_through_a_pipe, the_same_game_where_lines_are_edited,
-    the_question_ends, a_stop_does_not_show_the_password, a_game_ends, the_password_is_in_no_list_of_processes,
+    words_are_completed, the_question_ends, a_stop_does_not_show_the_password, a_game_ends, the_password_is_in_no_list_of_processes,
     fibs_play_without_a_terminal, a_password_from_a_file, password_files_that_are_none,
     the_program_itself_asks_for_the_password, a_wrong_password, the_picture_of_the_pages, a_capture_is_drawn,
     plays_below_their_board, forty_columns, boards_of_every_malformed_kind, odd_boards, twenty_boards_in_a_second,
