@@ -415,7 +415,8 @@ def a_password_from_a_file(server):
         leaves(greeted(server, at_a_terminal(server, '--password-file', pipe)), server)
         done = subprocess.run([PROGRAM, 'connect', '127.0.0.1', '1', 'ann', '--password-file', path], input='dance\n',
                               capture_output=True, timeout=PATIENCE, check=False, text=True)
-        same('typed lines from a pipe', (done.returncode, done.stdout, done.stderr), (0, 'no connection\nunknown\n', ''))
+        same('typed lines from a pipe', (done.returncode, done.stdout, done.stderr),
+             (0, 'no connection\nunknown\n', ''))
 
 
 def password_files_that_are_none(server):
@@ -746,13 +747,14 @@ def a_terminal_on_one_side_alone(server):
 
 CASES = [
     a_game_from_login_to_its_end_with_fibs_play, the_same_game_through_a_pipe, the_same_game_where_lines_are_edited,
-    words_are_completed, the_question_ends, a_stop_does_not_show_the_password, a_game_ends, the_password_is_in_no_list_of_processes,
-    fibs_play_without_a_terminal, a_password_from_a_file, password_files_that_are_none,
-    the_program_itself_asks_for_the_password, a_wrong_password, the_picture_of_the_pages, a_capture_is_drawn,
-    plays_below_their_board, forty_columns, boards_of_every_malformed_kind, odd_boards, twenty_boards_in_a_second,
-    heard_while_nothing_is_typed, heard_while_a_line_is_half_typed, a_server_that_never_stops_talking,
-    eight_megabytes_at_once, a_server_that_closes, nothing_is_done_while_nothing_happens, escape_sequences,
-    stopped_and_continued, stopped_under_fibs_play, closed_in_mid_picture, a_terminal_on_one_side_alone,
+    words_are_completed, the_question_ends, a_stop_does_not_show_the_password, a_game_ends,
+    the_password_is_in_no_list_of_processes, fibs_play_without_a_terminal, a_password_from_a_file,
+    password_files_that_are_none, the_program_itself_asks_for_the_password, a_wrong_password,
+    the_picture_of_the_pages, a_capture_is_drawn, plays_below_their_board, forty_columns,
+    boards_of_every_malformed_kind, odd_boards, twenty_boards_in_a_second, heard_while_nothing_is_typed,
+    heard_while_a_line_is_half_typed, a_server_that_never_stops_talking, eight_megabytes_at_once,
+    a_server_that_closes, nothing_is_done_while_nothing_happens, escape_sequences, stopped_and_continued,
+    stopped_under_fibs_play, closed_in_mid_picture, a_terminal_on_one_side_alone,
 ]
 
 
