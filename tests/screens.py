@@ -420,18 +420,16 @@ def a_password_from_a_file(server):
 
 
 def password_files_that_are_none(server):
-    """One line on standard error says which file; nothing is sent, and nothing printed."""
+    """One line on standard error says so; nothing is sent, and nothing printed."""
     with tempfile.TemporaryDirectory() as room:
-        empty, locked = os.path.join(room, 'empty'), os.path.join(room, 'gone')
+        empty, gone = os.path.join(room, 'empty'), os.path.join(room, 'gone')
         pathlib.Path(empty).write_text('\n' + PASSWORD)
-        for path, wanted in (empty, 'fault 2 BadText\n'), (locked, None), (room, None), ('/dev/fd/77', None):
+        unreadable = "fibs: the password file can't be read\n", 4
+        for path, wanted in ((empty, ('fault 2 BadText\n', 3)), (gone, unreadable), (room, unreadable),
+                             ('/dev/fd/77', unreadable)):
             done = subprocess.run([PROGRAM, 'connect', '--password-file', path, '127.0.0.1', str(server.port), 'ann'],
                                   input='roll\n', capture_output=True, timeout=PATIENCE, check=False, text=True)
-            same('output with %s' % path, done.stdout, '')
-            same('lines on standard error with %s' % path, done.stderr.count('\n'), 1)
-            same('a status of refused input, or of a device', done.returncode in (3, 4), True)
-            if wanted:
-                same('what is said', (done.stderr, done.returncode), (wanted, 3))
+            same('the run with %s' % path, (done.stdout, done.stderr, done.returncode), ('', *wanted))
     no_login(server)
 
 
@@ -491,11 +489,8 @@ def a_capture_is_drawn(_server):
 
 
 def plays_below_their_board(_server):
-    drawn = shown_by('show', held=SHOWN + '\n')
-    found = shown_by('plays', SHOWN)
-    same('its begin', found.startswith(drawn + TO_MOVE), True)
     listed = subprocess.run([PROGRAM, 'plays', SHOWN], capture_output=True, text=True, check=True).stdout
-    same('the list', found[len(drawn):].splitlines()[1:], listed.splitlines()[1:])
+    same('the screen', shown_by('plays', SHOWN), shown_by('show', held=SHOWN + '\n') + listed)
 
 
 def forty_columns(_server):
