@@ -135,6 +135,7 @@ def at_a_terminal(server, *words, columns=80, **more):
     if not words:
         terminal.sees('password: ')
         terminal.type(PASSWORD)
+        terminal.sees(PASSWORD, '\n')
     server.accept()
     same('received', server.line(), LOGIN)
     return terminal
