@@ -1,0 +1,12 @@
+//! The seat of a person at a terminal: the server is heard while nothing is typed, by an empty line that is put in where
+//! it speaks while no line is begun.
+#![tactic(auto)]
+
+mod dialling;
+pub mod laws;
+mod reader;
+mod watch;
+
+pub use dialling::Dialling;
+pub use reader::TypedOrHeard;
+pub use watch::{First, PollWatch, Watch};
