@@ -4,9 +4,11 @@
 
 mod dialling;
 pub mod laws;
+mod password;
 mod reader;
 mod watch;
 
 pub use dialling::Dialling;
+pub use password::first_line;
 pub use reader::TypedOrHeard;
 pub use watch::{First, PollWatch, Watch};
