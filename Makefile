@@ -1,12 +1,13 @@
-# make            proves and builds the program, and leaves it as bin/fibs
+# make            proves and builds the program, and leaves it as bin/fibs, with bin/fibs-play beside it
 # make lib        proves and builds the library for C: lib/libfibs.a, lib/libfibs.so and lib/fibs.pc. It takes a C compiler
 # make test       passes all tests: the gate, then the tests of the built program
-# make install    copies the program and the library for C, with its header, to $(PREFIX); make install-program, make install-lib
-#                 one of them alone
+# make install    copies the program, with fibs-play, its page and the completions for shells, and the library for C, with its
+#                 header, to $(PREFIX); make install-program, make install-lib one of them alone
 # make bench      measures the program beside others, in ratios
 # make clean      removes what the other targets made
 
 PREFIX ?= /usr/local
+SHARE = $(PREFIX)/share
 MEGABYTES ?= 50
 ROUNDS ?= 5
 PEER ?= $(if $(shell command -v rustc),bin/plain_show)
@@ -19,12 +20,13 @@ C_ARCHIVE := crates/fibs_c/out/libfibs_c.a
 # the heap of the toolchain's library, over malloc, realloc and free
 KIT_ARCHIVE = $(dir $(shell rt doc))c/liblibc_c.a
 
-.PHONY: all lib test install install-program install-lib bench clean
+.PHONY: all lib test install install-program install-surface install-lib bench clean
 
 all:
 	cd crates/fibs && rt run -- --help > /dev/null
 	mkdir -p bin
 	install -m 755 $(BUILT) bin/fibs
+	install -m 755 scripts/fibs-play bin/fibs-play
 
 test:
 	tests/run
@@ -50,9 +52,24 @@ lib/fibs.pc: lib/fibs.pc.in Makefile
 
 install: install-program install-lib
 
-install-program: all
+install-program: all install-surface
 	install -d $(DESTDIR)$(PREFIX)/bin
 	install -m 755 bin/fibs $(DESTDIR)$(PREFIX)/bin/fibs
+
+# what is built of nothing
+install-surface:
+	install -d $(DESTDIR)$(PREFIX)/bin $(DESTDIR)$(SHARE)/man/man1 $(DESTDIR)$(SHARE)/fibs \
+		$(DESTDIR)$(SHARE)/bash-completion/completions $(DESTDIR)$(SHARE)/zsh/site-functions \
+		$(DESTDIR)$(SHARE)/fish/vendor_completions.d
+	install -m 755 scripts/fibs-play $(DESTDIR)$(PREFIX)/bin/fibs-play
+	install -m 644 docs/fibs.1 $(DESTDIR)$(SHARE)/man/man1/fibs.1
+	ln -sf fibs.1 $(DESTDIR)$(SHARE)/man/man1/fibs-play.1
+	install -m 644 completions/typed $(DESTDIR)$(SHARE)/fibs/typed
+	install -m 644 completions/fibs.bash $(DESTDIR)$(SHARE)/bash-completion/completions/fibs
+	ln -sf fibs $(DESTDIR)$(SHARE)/bash-completion/completions/fibs-play
+	install -m 644 completions/_fibs $(DESTDIR)$(SHARE)/zsh/site-functions/_fibs
+	install -m 644 completions/fibs.fish $(DESTDIR)$(SHARE)/fish/vendor_completions.d/fibs.fish
+	ln -sf fibs.fish $(DESTDIR)$(SHARE)/fish/vendor_completions.d/fibs-play.fish
 
 install-lib: lib
 	install -d $(DESTDIR)$(PREFIX)/include $(DESTDIR)$(PREFIX)/lib/pkgconfig
@@ -74,6 +91,7 @@ bench: all lib $(PEER)
 	bench/replay bin/fibs $(ROUNDS)
 	bench/loop bin/fibs $(ROUNDS)
 	bench/latency bin/fibs
+	bench/seat bin/fibs
 
 clean:
 	rm -rf bin lib/*.a lib/*.so* lib/fibs.pc crates/*/out

@@ -12,7 +12,7 @@ mod seat;
 mod typed_lines;
 mod wish;
 
-use dial::{Dial, Server};
+use dial::{Dial, Place, Server};
 use fibs_exchange::exchange::printing::print_reason;
 use fibs_session::{Login, PlainFault};
 use fibs_show::fault::EngineFault;
@@ -28,7 +28,7 @@ use typed_lines::{TypedLine, TypedLines};
 /// Talks with a server for a player.
 ///
 /// The first line of `typed` is the password. Where it or the name has a fault, `err` is given `fault NUMBER NAME`, and
-/// the status is 3. Else it connects to the host, a name or an address, logs in, and answers each line that is typed:
+/// the status is 3. Else it connects to the server at its place, logs in, and answers each line that is typed:
 /// `open` connects again, `players` lists the players that are known, `quit` ends, and all others are turns of the
 /// client (`exchange`), which an empty line takes without a word. Where no connection can be made it says so, and goes
 /// on. At the end of the lines, and after `quit`, the status is 0.
@@ -40,8 +40,7 @@ use typed_lines::{TypedLine, TypedLines};
 pub fn converse<N: Net<Stream = TcpStream>, R: Read, W: Write, E: Write>(
     rt: &N,
     alloc: Global,
-    host: &str,
-    port: u16,
+    place: Place<'_>,
     name: &[u8],
     typed: &mut R,
     out: &mut W,
@@ -51,7 +50,7 @@ pub fn converse<N: Net<Stream = TcpStream>, R: Read, W: Write, E: Write>(
         (W.contents out.old) (W.contents out.new) (E.contents err.old) (E.contents err.new) }
     ensures few { LostAtMost (MOST_INPUT_READS * READ_PORTION) (R.remaining typed.old) (R.remaining typed.new) }
 {
-    let mut server = Server::new(rt, host, port);
+    let mut server = Server::new(rt, place);
     converse_with(&mut server, alloc, name, MOST_INPUT_READS, typed, out, err)
 }
 

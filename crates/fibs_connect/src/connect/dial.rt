@@ -5,9 +5,6 @@ use std::io;
 use std::net::{Net, SocketAddr, TcpStream, ToSocketAddrs};
 use std::time::Duration;
 
-/// How many milliseconds a read waits for the server.
-const READ_MILLIS: u64 = 500;
-
 /// How many seconds each address of a server may take to answer.
 const CONNECT_SECONDS: u64 = 10;
 
@@ -20,18 +17,28 @@ pub trait Dial {
     fn dial(&mut self) -> Option<Self::Stream>;
 }
 
-/// A server by its host, a name or an address, and its port.
+/// Where a server is, and how long it is listened to.
+#[derive(Clone, Copy)]
+pub struct Place<'a> {
+    /// Its name or address.
+    pub host: &'a str,
+    /// Its port.
+    pub port: u16,
+    /// How long a read waits for it.
+    pub quiet: Duration,
+}
+
+/// A server at a place.
 #[derive(Drop)]
 pub struct Server<'a, N: Net<Stream = TcpStream>> {
     net: &'a N,
-    host: &'a str,
-    port: u16,
+    place: Place<'a>,
 }
 
 impl<'a, N: Net<Stream = TcpStream>> Server<'a, N> {
-    /// The server of this host and port.
-    pub fn new(net: &'a N, host: &'a str, port: u16) -> Server<'a, N> {
-        Server { net, host, port }
+    /// The server at this place.
+    pub fn new(net: &'a N, place: Place<'a>) -> Server<'a, N> {
+        Server { net, place }
     }
 }
 
@@ -40,11 +47,12 @@ impl<N: Net<Stream = TcpStream>> Dial for Server<'_, N> {
 
     /// A socket to the first of the host's addresses that answers.
     fn dial(&mut self) -> Option<TcpStream> {
-        let Ok(addresses) = (self.host, self.port).to_socket_addrs(self.net) else {
+        let Place { host, port, quiet } = self.place;
+        let Ok(addresses) = (host, port).to_socket_addrs(self.net) else {
             return None;
         };
         for address in addresses {
-            if let Ok(stream) = connected(self.net, address) {
+            if let Ok(stream) = connected(self.net, address, quiet) {
                 return Some(stream);
             }
         }
@@ -52,11 +60,15 @@ impl<N: Net<Stream = TcpStream>> Dial for Server<'_, N> {
     }
 }
 
-/// A socket of which each read waits a short while alone, and each command leaves at once.
-fn connected<N: Net<Stream = TcpStream>>(net: &N, address: SocketAddr) -> io::Result<TcpStream> {
+/// A socket of which each read waits this long alone, and each command leaves at once.
+fn connected<N: Net<Stream = TcpStream>>(
+    net: &N,
+    address: SocketAddr,
+    quiet: Duration,
+) -> io::Result<TcpStream> {
     let wait = Duration::from_secs(CONNECT_SECONDS);
     let stream = TcpStream::connect_timeout(net, &address, wait)?;
-    stream.set_read_timeout(Some(Duration::from_millis(READ_MILLIS)))?;
+    stream.set_read_timeout(Some(quiet))?;
     stream.set_nodelay(true)?;
     Ok(stream)
 }

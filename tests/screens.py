@@ -1,0 +1,783 @@
+#!/usr/bin/env python3
+"""Tests the built program and fibs-play on pseudo-terminals: tests/screens.py PROGRAM
+
+It types what a player types, looks at what a terminal shows, and is the server. It goes on where something was shown,
+and not by the clock; where nothing may happen it looks for a while. Prints a line for each case, and then `N passed, M
+failed`.
+"""
+
+import concurrent.futures
+import os
+import pathlib
+import re
+import select
+import shutil
+import signal
+import subprocess
+import sys
+import tempfile
+import threading
+import time
+
+from prop_server import OWN_INFO, WHO_INFO, Game, Server
+from terminals import PATIENCE, Failed, Terminal, same
+
+PROGRAM = os.path.realpath(sys.argv[1])
+
+ROOT = pathlib.Path(__file__).resolve().parent.parent
+
+PLAY = str(ROOT / 'scripts' / 'fibs-play')
+
+SCREENS = ROOT / 'tests' / 'screens'
+
+# How many cases are played at the same time: they wait most of the time.
+BESIDE = 4
+
+# No other process knows it.
+PASSWORD = 'hunter' + os.urandom(4).hex()
+
+LOGIN = 'login fibs_client 1008 ann ' + PASSWORD
+
+STYLE = 'set boardstyle 3'
+
+WELCOME = '1 ann 1041253132 localhost'
+
+# What a terminal shows of phases, and of a decision that waits no more.
+TO_ROLL, TO_MOVE, CONFIRMED = 'Type roll, or double where you may', 'Type your move', 'since %s was sent.'
+
+RLWRAP = shutil.which('rlwrap')
+
+# Terminals on which fibs-play edits no lines, and, where rlwrap is installed, one on which it does.
+KINDS = ['dumb'] + (['xterm'] if RLWRAP else [])
+
+SHELLS = [words for words in ([], ['dash'], ['bash', '--posix'], ['bash']) if not words or shutil.which(words[0])]
+
+HOME = tempfile.TemporaryDirectory()
+
+# fibs-play calls this program, and rlwrap keeps its lines where nobody else reads them.
+os.environ.update(FIBS=PROGRAM, HOME=HOME.name, RLWRAP_HOME=HOME.name, LC_ALL='C')
+
+
+def board_of(opponent='bob', length=1, places=None, dice=(0, 0), cube=1, doublers=(0, 0)):
+    """A board line of one who plays O, from 24 down to 1."""
+    places = places or [0, -2, 0, 0, 0, 0, 5, 0, 3, 0, 0, 0, -5, 5, 0, 0, 0, -3, 0, -5, 0, 0, 0, 0, 2, 0]
+    fields = ['board', 'You', opponent, length, 0, 0, *places, 1, *dice, 0, 0, cube, *doublers, 0, 1, -1, 0, 25]
+    return ':'.join(str(field) for field in [*fields, 0, 0, 0, 0, 0, 0, 0, 0])
+
+
+BOARD = board_of()
+
+
+# -- players ---------------------------------------------------------------------------------------------------------
+
+class Pipe:
+    """The program with pipes in place of a terminal: the same steps, and what is printed."""
+
+    def __init__(self, server):
+        self.program = subprocess.Popen(
+            [PROGRAM, 'connect', '127.0.0.1', str(server.port), 'ann'],
+            stdin=subprocess.PIPE, stdout=subprocess.PIPE, stderr=subprocess.DEVNULL)
+        self.seen, self.at = b'', 0
+        self.type(PASSWORD)
+
+    def type(self, line):
+        self.program.stdin.write(line.encode() + b'\n')
+        self.program.stdin.flush()
+
+    def sees(self, text):
+        """Reads up to this text. Where it is slow to come, an empty line hears the server once more."""
+        end = time.monotonic() + PATIENCE
+        while (found := self.seen.find(text.encode(), self.at)) < 0:
+            if not select.select([self.program.stdout], [], [], 2)[0]:
+                self.type('')
+                continue
+            piece = os.read(self.program.stdout.fileno(), 65536)
+            if not piece or time.monotonic() > end:
+                raise Failed('%r was not printed' % text)
+            self.seen += piece
+        self.at = found + len(text)
+
+    def listens(self):
+        """The server is heard after a typed line alone."""
+        self.type('')
+
+    def quits(self):
+        self.type('quit')
+        self.seen += self.program.stdout.read()
+        same('the status', self.program.wait(PATIENCE), 0)
+        self.program.stdin.close()
+        self.program.stdout.close()
+
+
+class Person(Terminal):
+    """One who plays with fibs-play."""
+
+    def __init__(self, server, shell=(), kind='dumb', play=PLAY, **more):
+        words = [*shell, play, '127.0.0.1', str(server.port), 'ann']
+        super().__init__(words, **{'TERM': kind, **more})
+
+    def listens(self):
+        """Nothing needs to be typed."""
+
+    def tells_the_password(self):
+        self.sees('password: ')
+        same('the terminal shows what is typed', self.echoes(), False)
+        self.type(PASSWORD)
+
+    def quits(self):
+        self.type('quit')
+        self.ends(0)
+
+
+def at_a_terminal(server, *words, columns=80, **more):
+    """The program itself, at a terminal that shows the password."""
+    terminal = Terminal([PROGRAM, 'connect', *words, '127.0.0.1', str(server.port), 'ann'], columns, **more)
+    if not words:
+        terminal.sees('password: ')
+        terminal.type(PASSWORD)
+        terminal.sees(PASSWORD, '\n')
+    server.accept()
+    same('received', server.line(), LOGIN)
+    return terminal
+
+
+def greeted(server, player=None):
+    """A player who is greeted; nothing waits to be shown."""
+    player = player or at_a_terminal(server)
+    server.send(WELCOME, OWN_INFO % 'ann')
+    player.sees('Settings of ann', '\n')
+    same('received', [server.line(), server.line()], [STYLE, 'board'])
+    player.shown(0.2)
+    return player
+
+
+def played_at(server, kind='dumb', **more):
+    """The same with fibs-play."""
+    player = Person(server, kind=kind, **more)
+    player.tells_the_password()
+    server.accept()
+    same('received', server.line(), LOGIN)
+    return greeted(server, player)
+
+
+def leaves(player, server, *received):
+    """The player quits, and the server has received these lines and not a byte more."""
+    player.type('quit')
+    player.ends(0)
+    server_has(server, *received)
+
+
+def server_has(server, *received):
+    """At the end of the connection the server has received these lines behind the login."""
+    while server.line() is not None:
+        pass
+    same('all that was received', (server.received, server.unread), ([LOGIN, STYLE, 'board', *received], b''))
+
+
+# -- a game ----------------------------------------------------------------------------------------------------------
+
+def plays_the_game(server, player, to_roll, to_move, confirmed):
+    """A game from login to its end, with a line that comes while nothing is typed, and a lost connection."""
+    game = Game([5, 3], [22, 23], [[2, 1], [1, 1], [6, 5]])
+    server.accept()
+    same('the player', server.log_in(), 'ann')
+    player.listens()
+    server.serve(game, 2)
+    player.sees(to_roll)
+    server.send('12 bob Good evening.')
+    player.listens()
+    player.sees('Good evening.')
+    for typed, answer in ('players', 'bob 1623.50'), ('dance', 'unknown'), ('double', 'refused 8 WrongKind'):
+        player.type(typed)
+        player.sees(answer)
+    player.type('roll')
+    server.serve(game, 1)
+    player.sees(confirmed % 'roll')
+    player.type('move 5-1 3-2')
+    player.sees('refused 9 IllegalPlay')
+    player.type('move 5-3 3-2')
+    server.serve(game, 1)
+    player.sees(to_roll)
+    player.type('say good luck')
+    server.serve(game, 1)
+    player.sees('And to you.')
+    player.type('roll')
+    same('received', server.line(), 'roll')
+    text, board = game.answer(['roll'])
+    server.send(text)
+    server.send_bytes(board.encode()[:40])
+    player.sees('You roll 6 and 5.')
+    server.drop()
+    player.listens()
+    player.sees('lost roll')
+    player.type('roll')
+    player.sees('refused 2 Offline')
+    player.type('open')
+    server.accept()
+    same('the player', server.log_in(), 'ann')
+    player.listens()
+    server.serve(game, 2)
+    player.sees(to_move)
+    player.type('move 3-off 2-off')
+    server.serve(game, 1)
+    player.sees(confirmed % 'move 3-off 2-off')
+    player.type('bye')
+    server.serve(game)
+    player.sees('lost')
+    player.quits()
+    same('all that was received', server.received, [
+        LOGIN, STYLE, 'board', 'roll', 'move 5-3 3-2', 'say good luck', 'roll',
+        LOGIN, STYLE, 'board', 'move 3-off 2-off', 'bye'])
+
+
+def same_text(what, found, name):
+    """It is the text of a file; the first line that differs is told first."""
+    wanted = (SCREENS / (name + '.txt')).read_text()
+    for number, pair in enumerate(zip(found.splitlines(), wanted.splitlines()), 1):
+        same('line %d of %s' % (number, what), *pair)
+    same(what, found, wanted)
+
+
+def without_the_password(text):
+    same('the password is shown', PASSWORD in text, False)
+
+
+def a_game_from_login_to_its_end_with_fibs_play(server):
+    player = Person(server)
+    player.tells_the_password()
+    plays_the_game(server, player, TO_ROLL, TO_MOVE, CONFIRMED)
+    without_the_password(player.screen())
+    same('echo', player.echoes(), True)
+    same_text('the whole screen', player.screen(), 'game')
+
+
+def the_same_game_through_a_pipe(server):
+    player = Pipe(server)
+    plays_the_game(server, player, 'phase RollOrDouble\n', 'phase Move\n', 'confirmed %s\n')
+    same_text('the whole account', player.seen.decode(), 'account')
+
+
+def the_same_game_where_lines_are_edited(server):
+    """What rlwrap draws is its own; the lines of the screen come in their order, and each typed line is kept."""
+    if not RLWRAP:
+        return
+    with tempfile.TemporaryDirectory() as home:
+        player = Person(server, kind='xterm', RLWRAP_HOME=home, HOME=home)
+        player.tells_the_password()
+        plays_the_game(server, player, TO_ROLL, TO_MOVE, CONFIRMED)
+        kept = ''.join(path.read_text() for path in pathlib.Path(home).iterdir() if path.is_file())
+    plain = re.sub(r'\x1b\[[0-9;?]*[a-zA-Z]|\r', '', player.screen())
+    without_the_password(plain + kept)
+    at = 0
+    for line in (SCREENS / 'game.txt').read_text().splitlines():
+        found = plain.find(line, at)
+        if found < 0:
+            raise Failed('%r is not shown after %r' % (line, plain[:at][-200:]))
+        at = found + len(line)
+    same('what is kept', [line for line in ('players', 'move 5-3 3-2', 'say good luck') if line not in kept], [])
+    same('echo', player.echoes(), True)
+
+
+def words_are_completed(server):
+    """As it is installed, with the words of typed lines beside it: Tab puts no space at a line's end."""
+    if not RLWRAP:
+        return
+    with tempfile.TemporaryDirectory() as room:
+        subprocess.run(['make', '-s', 'install-surface', 'PREFIX=' + room], cwd=ROOT, check=True, capture_output=True)
+        player = Person(server, kind='xterm', play=os.path.join(room, 'bin', 'fibs-play'))
+        player.tells_the_password()
+        server.accept()
+        same('received', server.line(), LOGIN)
+        greeted(server, player)
+        player.type_bytes(b'withd\t')
+        player.sees('withdraw')
+        player.type_bytes(b' ro\t')
+        player.sees(' roll')
+        player.type('')
+        player.sees('refused 12 NotOrdered')
+        leaves(player, server)
+
+
+# -- how fibs-play ends ----------------------------------------------------------------------------------------------
+
+def no_login(server):
+    """Nobody has connected."""
+    server.listener.setblocking(False)
+    try:
+        server.listener.accept()
+    except BlockingIOError:
+        return
+    raise Failed('a connection was made')
+
+
+def the_question_ends(server):
+    """At the question for the password: what is typed or sent, the status, and what stands on the screen."""
+    rows = [
+        (b'\x03', 130, 'password: \n'), (b'\x1c', 131, 'password: \n'), (b'\x04', 0, 'password: \n'),
+        (signal.SIGTERM, 143, 'password: \n'), (signal.SIGHUP, 129, 'password: \n'),
+        (b'hun\x03', 130, 'password: \n'), (b'\n', 3, 'password: \nfault 2 BadText\n'),
+        (b'a b\n', 3, 'password: \nfault 2 BadText\n'), (b'a' * 65 + b'\n', 3, 'password: \nfault 3 TooLong\n'),
+    ]
+    for shell in SHELLS:
+        for given, status, wanted in rows:
+            player = Person(server, shell)
+            player.sees('password: ')
+            player.is_waiting()
+            if isinstance(given, bytes):
+                player.type_bytes(given)
+            else:
+                os.kill(player.job, given)
+            player.ends(status)
+            same('the screen after %r, by %r' % (given, shell), (player.screen(), player.echoes()), (wanted, True))
+            player.close()
+    no_login(server)
+
+
+def a_stop_does_not_show_the_password(server):
+    """Ctrl-Z at the question does nothing: a shell would turn the echo on."""
+    for shell in SHELLS:
+        player = Person(server, shell)
+        player.sees('password: ')
+        player.type_bytes(PASSWORD[:3].encode() + b'\x1a')
+        player.shown()
+        same('echo', player.echoes(), False)
+        player.type(PASSWORD)
+        server.accept()
+        same('received', server.line().endswith(PASSWORD), True)
+        player.quits()
+        without_the_password(player.screen())
+        player.close()
+
+
+def a_game_ends(server):
+    """In play: what is typed or sent, and the status. Nothing of it reaches the server."""
+    rows = [(b'\x03', 130), (b'\x1c', 131), (b'\x04', 0), (b'quit\n', 0), (signal.SIGTERM, 143), (signal.SIGHUP, 129)]
+    for kind in KINDS:
+        for given, status in rows:
+            if kind != 'dumb' and given == signal.SIGHUP:
+                continue  # which tells rlwrap that the terminal is gone
+            player = played_at(server, kind)
+            if isinstance(given, bytes):
+                player.type_bytes(given)
+            else:
+                os.kill(player.job, given)
+            if kind == 'dumb':
+                player.ends(status)
+            elif player.report()[0] != 'ended':
+                raise Failed('it goes on after %r' % given)
+            same('echo after %r' % given, player.echoes(), True)
+            without_the_password(player.screen())
+            server_has(server)
+            server.received.clear()
+            player.close()
+
+
+def the_password_is_in_no_list_of_processes(server):
+    for kind in KINDS:
+        player = played_at(server, kind)
+        for name in 'cmdline', 'environ':
+            for process in pathlib.Path('/proc').glob('[0-9]*'):
+                try:
+                    found = (process / name).read_bytes()
+                except OSError:
+                    continue
+                if PASSWORD.encode() in found and int(process.name) != os.getpid():
+                    raise Failed('%s of %s' % (name, process))
+        leaves(player, server)
+        server.received.clear()
+        player.close()
+
+
+def fibs_play_without_a_terminal(server):
+    """The first line is the password, then."""
+    done = subprocess.run([PLAY, '127.0.0.1', str(server.port), 'ann'], input=PASSWORD.encode() + b'\n',
+                          capture_output=True, timeout=PATIENCE, check=False)
+    same('the run', (done.returncode, done.stdout, done.stderr), (0, b'', b''))
+    server.accept()
+    same('received', server.line(), LOGIN)
+
+
+# -- the password ----------------------------------------------------------------------------------------------------
+
+def a_password_from_a_file(server):
+    """A file, a pipe with a name, a descriptor: its first line, with whatever line end."""
+    with tempfile.TemporaryDirectory() as room:
+        path, pipe = os.path.join(room, 'password'), os.path.join(room, 'pipe')
+        os.mkfifo(pipe)
+        for held in (PASSWORD, PASSWORD + '\n', PASSWORD + '\r\n', PASSWORD + '\nroll\nsay hi\n'):
+            pathlib.Path(path).write_text(held)
+            terminal = at_a_terminal(server, '--password-file', path)
+            same('the screen', terminal.shown(), '')
+            leaves(greeted(server, terminal), server)
+            server.received.clear()
+            terminal.close()
+        writer = threading.Thread(target=pathlib.Path(pipe).write_text, args=(PASSWORD + '\n',), daemon=True)
+        writer.start()
+        leaves(greeted(server, at_a_terminal(server, '--password-file', pipe)), server)
+        done = subprocess.run([PROGRAM, 'connect', '127.0.0.1', '1', 'ann', '--password-file', path], input='dance\n',
+                              capture_output=True, timeout=PATIENCE, check=False, text=True)
+        same('typed lines from a pipe', (done.returncode, done.stdout, done.stderr),
+             (0, 'no connection\nunknown\n', ''))
+
+
+def password_files_that_are_none(server):
+    """One line on standard error says so; nothing is sent, and nothing printed."""
+    with tempfile.TemporaryDirectory() as room:
+        empty, gone = os.path.join(room, 'empty'), os.path.join(room, 'gone')
+        pathlib.Path(empty).write_text('\n' + PASSWORD)
+        unreadable = "fibs: the password file can't be read\n", 4
+        for path, wanted in ((empty, ('fault 2 BadText\n', 3)), (gone, unreadable), (room, unreadable),
+                             ('/dev/fd/77', unreadable)):
+            done = subprocess.run([PROGRAM, 'connect', '--password-file', path, '127.0.0.1', str(server.port), 'ann'],
+                                  input='roll\n', capture_output=True, timeout=PATIENCE, check=False, text=True)
+            same('the run with %s' % path, (done.stdout, done.stderr, done.returncode), ('', *wanted))
+    no_login(server)
+
+
+def the_program_itself_asks_for_the_password(server):
+    player = at_a_terminal(server)
+    same('the screen', player.screen(), 'password: %s\n' % PASSWORD)
+    leaves(greeted(server, player), server)
+
+
+def a_wrong_password(server):
+    """What the server says is shown, also without a line being typed, and no decision goes out."""
+    player = at_a_terminal(server)
+    server.send('login: ', '** User not known or wrong password.')
+    player.sees('** User not known or wrong password.')
+    player.type('roll')
+    player.sees('refused 3 NotReady')
+    server.drop()
+    player.sees('lost')
+    player.type('quit')
+    player.ends(0)
+
+
+# -- pictures --------------------------------------------------------------------------------------------------------
+
+# A board, and what a terminal shows of it, in docs/PLAYING.md and in the man page.
+SHOWN = ('board:You:eve:5:2:1:0:-2:0:0:3:0:6:0:3:0:0:0:-4:2:0:0:0:-3:0:-5:0:0:0:0:0:1:'
+         '1:5:3:0:0:2:1:0:0:1:-1:0:25:0:0:1:1:2:0:0:0')
+
+
+# A command with its input from a file, or its output to one.
+FROM_FILE = ['sh', '-c', 'file=$1; shift; exec "$@" < "$file"', 'sh']
+
+TO_FILE = ['sh', '-c', 'file=$1; shift; exec "$@" > "$file"', 'sh']
+
+
+def shown_by(*words, columns=80, held=''):
+    """What a terminal shows of a subcommand that reads these bytes, up to its end."""
+    with tempfile.NamedTemporaryFile('w') as file:
+        file.write(held)
+        file.flush()
+        terminal = Terminal([*FROM_FILE, file.name, PROGRAM, *words], columns)
+        terminal.ends(0)
+        found = terminal.screen()
+        terminal.close()
+        return found
+
+
+def the_picture_of_the_pages(_server):
+    drawn = shown_by('show', held=SHOWN + '\n')
+    same('its lines', len(drawn.splitlines()), 14)
+    for page in 'docs/PLAYING.md', 'docs/fibs.1':
+        same('it stands in ' + page, drawn in (ROOT / page).read_text(), True)
+
+
+def a_capture_is_drawn(_server):
+    same_text('the screen', shown_by('show', held=(ROOT / 'examples' / 'capture.txt').read_text()), 'capture')
+
+
+def plays_below_their_board(_server):
+    listed = subprocess.run([PROGRAM, 'plays', SHOWN], capture_output=True, text=True, check=True).stdout
+    same('the screen', shown_by('plays', SHOWN), shown_by('show', held=SHOWN + '\n') + listed)
+
+
+def forty_columns(_server):
+    """The same bytes as on a wide terminal: it wraps them itself."""
+    held = (ROOT / 'examples' / 'capture.txt').read_text()
+    same('the screen', shown_by('show', columns=40, held=held), shown_by('show', held=held))
+
+
+def boards_of_every_malformed_kind(server):
+    """A board that has no position stays the line that it is."""
+    player = greeted(server)
+    wrong = BOARD.split(':')
+    rows = []
+    for field in range(2, 54):
+        other = list(wrong)
+        other[field - 1] = 'x y' if field < 4 else 'x'
+        if field > 2:
+            rows.append((':'.join(wrong[:field - 1]), 'malformed 0 %d Missing' % field))
+        rows.append((':'.join(other), 'malformed 0 %d %s' % (field, 'BadName' if field < 4 else 'NotANumber')))
+    rows.append((BOARD + ':0', 'malformed 0 54 Extra'))
+    for field, name in (2, 'bob'), (46, '15'), (47, '15'):
+        other = list(wrong)
+        other[field - 1] = name
+        rows.append((':'.join(other), ':'.join(other)))
+    server.send(*(line for line, _ in rows), '12 bob done')
+    player.sees('bob says: done')
+    same('the screen', player.screen().split('\n')[-len(rows) - 2:-2], [shown for _, shown in rows])
+    leaves(player, server)
+
+
+def odd_boards(server):
+    """All checkers on one place, the longest names and numbers: each is 14 lines of at most 79 columns."""
+    player = greeted(server)
+    one = [0] * 26
+    one[24], one[1] = 15, -15
+    for board, texts in (
+            (board_of(places=one), [' |                  |   |               15 |   match to 1\n',
+                                    ' |                  |   |               15 |   your turn\n']),
+            (board_of(opponent='n' * 60, length=9998, cube=1048576, doublers=(1, 1)),
+             ['X ' + 'n' * 30 + '\n', 'match to 9998\n', 'cube 1048576, in the middle\n'])):
+        at = len(player.screen())
+        server.send(board)
+        player.sees(TO_ROLL, '\r\n')
+        drawn = player.screen()[at:].splitlines()
+        same('its lines', (len(drawn), [line for line in drawn[:14] if len(line) > 79]), (15, []))
+        same('shown', [text for text in texts if text not in player.screen()[at:]], [])
+    leaves(player, server)
+
+
+def twenty_boards_in_a_second(server):
+    player = greeted(server)
+    at = len(player.screen())
+    for number in range(20):
+        server.send(board_of(opponent='bob%d' % number, dice=(6, 1 + number % 5)))
+        time.sleep(0.05)
+    player.sees(*('X bob%d\r\n' % number for number in range(20)), TO_MOVE, '\r\n')
+    same('the lines', len(player.screen()[at:].splitlines()), 20 * 15)
+    leaves(player, server)
+
+
+# -- what a server does while nothing is typed -----------------------------------------------------------------------
+
+def heard_while_nothing_is_typed(server):
+    player = greeted(server)
+    for number in range(10):
+        server.send('12 bob hi %d' % number)
+        player.sees('bob says: hi %d\r\n' % number)
+        time.sleep(0.05 * (number % 3))
+    leaves(player, server)
+
+
+def heard_while_a_line_is_half_typed(server):
+    player = greeted(server)
+    player.type_bytes(b'say h')
+    player.sees('say h')
+    server.send('12 bob amid')
+    player.sees('bob says: amid')
+    player.type_bytes(b'ello\n')
+    same('received', server.line(), 'say hello')
+    player.sees('sent say hello')
+    leaves(player, server, 'say hello')
+
+
+def a_server_that_never_stops_talking(server):
+    """A typed line goes out meanwhile, and everything is shown."""
+    player = greeted(server)
+    over = threading.Event()
+
+    def chats():
+        number = 0
+        while not over.is_set():
+            server.send('13 eve line %d' % number)
+            number += 1
+            time.sleep(0.1)
+        server.send('13 eve no more')
+
+    chatter = threading.Thread(target=chats, daemon=True)
+    chatter.start()
+    player.sees('line 3')
+    player.type('say hi')
+    same('received', server.line(), 'say hi')
+    over.set()
+    chatter.join()
+    player.sees('eve shouts: no more')
+    leaves(player, server, 'say hi')
+
+
+def eight_megabytes_at_once(server):
+    player = greeted(server)
+    at = len(player.screen())
+    lines = ['line %d %s' % (number, 'x' * 900) for number in range(9000)]
+    sender = threading.Thread(target=server.send, args=lines, daemon=True)
+    sender.start()
+    player.sees('line 8999 ', 'x\r\n')
+    sender.join()
+    same('all is shown', player.screen()[at:].splitlines() == lines, True)
+    leaves(player, server)
+
+
+def a_server_that_closes(server):
+    """The loss is said at once; then nothing spins, and the next connection is heard."""
+    for end in server.drop, server.reset, server.end_sending:
+        player = greeted(server)
+        end()
+        player.sees('lost\r\n')
+        same('no processor time after %s' % end.__name__, player.busy(2) < 0.05, True)
+        player.type('open')
+        server.accept()
+        same('received', server.line(), LOGIN)
+        server.send('12 bob hi again')
+        player.sees('bob says: hi again')
+        player.type('quit')
+        player.ends(0)
+        server.received.clear()
+        player.close()
+
+
+def nothing_is_done_while_nothing_happens(server):
+    for player in greeted(server), None:
+        player = player or played_at(server)
+        same('no processor time', player.busy(3) < 0.05, True)
+        leaves(player, server)
+        server.received.clear()
+        player.close()
+
+
+def escape_sequences(server):
+    """What a terminal would obey never reaches it raw, whatever line it stands in."""
+    player = greeted(server)
+    ill = '\x1b[2J\x1b]0;title\x07\x9b31m\x08\x0c\x7f\x80\xfe'
+    server.send(ill, '12 bob ' + ill, '7 bob ' + ill, '5 bob%s - - 0 0 1 1 1 1 h - -' % ill,
+                '5 bob - - 0 0 1 1 1 1 h - ' + ill, '1 bob 1 ' + ill, 'board:' + ill,
+                BOARD.replace('bob', 'b' + ill), ill * 4000, '12 bob done')
+    player.sees('bob says: done')
+    same('raw bytes', sorted(set(player.screen()) - {chr(code) for code in [10, *range(32, 127)]}), [])
+    same('they are told', player.screen().count('\\x1b[2J') >= 8, True)
+    leaves(player, server)
+
+
+# -- what a terminal does --------------------------------------------------------------------------------------------
+
+def stopped_and_continued(server):
+    """Ctrl-Z and fg, at rest and within a typed line; what the server says meanwhile is shown afterwards."""
+    player = greeted(server)
+    for number in range(3):
+        player.type_bytes(b'say never' if number == 1 else b'')
+        player.type_bytes(b'\x1a')
+        player.is_stopped()
+        server.send('12 bob while you were away %d' % number)
+        player.to_the_foreground()
+        player.sees('while you were away %d' % number)
+    player.type('say back')
+    same('received', server.line(), 'say back')
+    player.sees('sent say back')
+    leaves(player, server, 'say back')
+
+
+def stopped_under_fibs_play(server):
+    for kind in KINDS:
+        player = played_at(server, kind)
+        player.type_bytes(b'\x1a')
+        player.is_stopped()
+        same('echo of the shell', player.echoes(), True)
+        player.to_the_foreground()
+        server.send('12 bob welcome back')
+        player.sees('welcome back')
+        leaves(player, server)
+        same('echo', player.echoes(), True)
+        server.received.clear()
+        player.close()
+
+
+def closed_in_mid_picture(server):
+    """The terminal goes while boards are drawn: by a hangup the shell ends it, else the program ends itself."""
+    for more, wanted in ({}, [129]), ({'NOHUP': '1'}, [0, 4]):
+        player = greeted(server, at_a_terminal(server, **more))
+        boards = threading.Thread(target=sends_until_it_is_over, args=(server,), daemon=True)
+        boards.start()
+        player.sees(TO_ROLL)
+        player.hangs_up()
+        kind, status = player.report()
+        same('the ending', (kind, int(status) in wanted or status), ('ended', True))
+        boards.join(PATIENCE)
+        server.received.clear()
+        player.close()
+
+
+def sends_until_it_is_over(server):
+    """Board after board."""
+    try:
+        while True:
+            server.send(*[BOARD] * 100)
+    except OSError:
+        pass
+
+
+def a_terminal_on_one_side_alone(server):
+    """A typed line of a terminal with the account in a file; typed lines of a file with the account on a terminal."""
+    with tempfile.TemporaryDirectory() as room:
+        path = os.path.join(room, 'account')
+        words = [PROGRAM, 'connect', '127.0.0.1', str(server.port), 'ann']
+        player = Terminal([*TO_FILE, path, *words])
+        player.sees('password: ')
+        player.type(PASSWORD)
+        server.accept()
+        server.send(WELCOME, '12 bob hi', BOARD)
+        wanted = 'message %s\nmessage 12 bob hi\n%s\nphase RollOrDouble\n' % (WELCOME, BOARD)
+        end = time.monotonic() + PATIENCE
+        while pathlib.Path(path).read_text() != wanted and time.monotonic() < end:
+            time.sleep(0.05)
+        same('the account', pathlib.Path(path).read_text(), wanted)
+        player.type('quit')
+        player.ends(0)
+        player.close()
+        os.mkfifo(os.path.join(room, 'typed'))
+        player = Terminal([*FROM_FILE, os.path.join(room, 'typed'), *words])
+        with open(os.path.join(room, 'typed'), 'w', buffering=1) as typed:
+            typed.write(PASSWORD + '\n')
+            server.accept()
+            server.send(WELCOME, '12 bob hi')
+            typed.write('\n')
+            player.sees('bob says: hi')
+            typed.write('dance\n')
+            player.sees('unknown')
+        player.ends(0)
+        same('the screen', player.screen(),
+             'Welcome, ann. Last login: 1041253132 from localhost\nbob says: hi\nunknown\n')
+
+
+CASES = [
+    a_game_from_login_to_its_end_with_fibs_play, the_same_game_through_a_pipe, the_same_game_where_lines_are_edited,
+    words_are_completed, the_question_ends, a_stop_does_not_show_the_password, a_game_ends,
+    the_password_is_in_no_list_of_processes, fibs_play_without_a_terminal, a_password_from_a_file,
+    password_files_that_are_none, the_program_itself_asks_for_the_password, a_wrong_password,
+    the_picture_of_the_pages, a_capture_is_drawn, plays_below_their_board, forty_columns,
+    boards_of_every_malformed_kind, odd_boards, twenty_boards_in_a_second, heard_while_nothing_is_typed,
+    heard_while_a_line_is_half_typed, a_server_that_never_stops_talking, eight_megabytes_at_once,
+    a_server_that_closes, nothing_is_done_while_nothing_happens, escape_sequences, stopped_and_continued,
+    stopped_under_fibs_play, closed_in_mid_picture, a_terminal_on_one_side_alone,
+]
+
+
+def tried(case):
+    """Plays a case against a server of its own, and says why it failed."""
+    server = Server()
+    try:
+        case(server)
+        return ''
+    except (Failed, OSError, subprocess.SubprocessError) as error:
+        return str(error)[:500] or repr(error)
+    finally:
+        server.close()
+
+
+def main():
+    failed = 0
+    with concurrent.futures.ThreadPoolExecutor(BESIDE) as pool:
+        for case, why in zip(CASES, pool.map(tried, CASES)):
+            name = 'screen: ' + case.__name__.replace('_', ' ')
+            print('FAILED  %s: %s' % (name, why) if why else 'ok      ' + name, flush=True)
+            failed += bool(why)
+    for terminal in list(Terminal.running):
+        terminal.close()
+    print('%d passed, %d failed' % (len(CASES) - failed, failed))
+    return 1 if failed else 0
+
+
+if __name__ == '__main__':
+    sys.exit(main())

@@ -1,0 +1,297 @@
+#!/usr/bin/env python3
+"""Holds what a player sees of the program to one list: tests/surface.py [PROGRAM]
+
+The man page, the help (the texts of tests/help, to which tests/program holds the program), the completions and
+docs/PLAYING.md have the same subcommands, options, typed lines, refusals and statuses. With a PROGRAM it is asked too
+whether it takes each typed line. A shell, or a reader of man pages, that is not installed is left out. Prints a line
+for each case, and then `N passed, M failed`.
+"""
+
+import pathlib
+import re
+import shutil
+import subprocess
+import sys
+import tempfile
+
+ROOT = pathlib.Path(__file__).resolve().parent.parent
+
+SUBCOMMANDS = ['connect', 'help', 'loop', 'plays', 'replay', 'show']
+
+# The options of the program, and those of connect; each other subcommand has the help alone.
+OPTIONS = ['--help', '--version', '-V', '-h']
+
+CONNECT_OPTIONS = ['--help', '--password-file', '-h']
+
+# The typed lines, without their names and texts; rlwrap completes their words from this file.
+TYPED = (ROOT / 'completions' / 'typed').read_text().splitlines()
+
+# The first words of the lines that `connect` and `show` print.
+PRINTED = """board: message text cut malformed unfinished phase confirmed directory lost sent refused ordered withdrawn
+    fault unknown player no""".split()
+
+PHASES = ['Over', 'AnswerDouble', 'OpponentActs', 'RollOrDouble', 'Move', 'Passing']
+
+# The endings of which the page says more than of the others: those of fibs-play.
+SIGNALS = ['129', '130', '131', '143']
+
+
+class Failed(Exception):
+    """What is said in one place is not what is said in another."""
+
+
+def same(what, found, wanted):
+    """They have to be the same."""
+    if found != wanted:
+        raise Failed('%s: %r, and not %r' % (what, found, wanted))
+
+
+def text_of(path):
+    return (ROOT / path).read_text()
+
+
+def part(text, begin, end):
+    """What stands between two texts."""
+    return text.split(begin, 1)[1].split(end, 1)[0]
+
+
+def page(section):
+    """A section of the man page."""
+    return part(text_of('docs/fibs.1') + '\n.Sh ', '.Sh %s\n' % section, '\n.Sh ')
+
+
+def heads(text):
+    """What the lists of a part of the man page tell of, without arguments."""
+    found = re.findall(r'^\.It (?:Li|Cm) (.*)$', text, re.M)
+    return [re.sub(r'^Li | Ar .*', '', one) for line in found for one in line.split(' , ')]
+
+
+def typed_in(spans):
+    """The typed lines that these are, in the order of the list. Each has to be one, with or without what follows it."""
+    found = set()
+    for span in spans:
+        known = [line for line in TYPED if span == line or span.startswith(line + ' ')]
+        if not known:
+            raise Failed('%r is no typed line' % span)
+        found.update(known)
+    return [line for line in TYPED if line in found]
+
+
+def run(words, **more):
+    return subprocess.run(words, capture_output=True, text=True, timeout=60, check=False, **more)
+
+
+# -- subcommands and options -----------------------------------------------------------------------------------------
+
+def help_has_the_subcommands(_program):
+    listed = part(text_of('tests/help/fibs.txt'), 'Commands:\n', '\n\n')
+    same('help', sorted(line.split()[0] for line in listed.splitlines()), SUBCOMMANDS)
+    same('the files of the help', sorted(path.stem for path in (ROOT / 'tests' / 'help').iterdir()),
+         sorted(set(SUBCOMMANDS) - {'help'} | {'fibs'}))
+
+
+def the_page_has_the_subcommands(_program):
+    begun = re.findall(r'^\.Nm fibs\n\.Cm (\w+)', page('SYNOPSIS'), re.M)
+    same('its synopsis', sorted(begun), SUBCOMMANDS)
+    same('its list', sorted(heads(page('DESCRIPTION'))), SUBCOMMANDS)
+
+
+def help_has_the_options(_program):
+    for name, wanted in ('fibs', OPTIONS), ('connect', CONNECT_OPTIONS), ('show', ['--help', '-h']):
+        listed = part(text_of('tests/help/%s.txt' % name) + '\n\n\n', '\nOptions:\n', '\n\n\n')
+        found = [word for line in listed.splitlines() if re.match(r' {2,6}-', line)
+                 for word in re.findall(r'(?<!\S)--?[a-zA-Z-]+', line)]
+        same('help of %s' % name, sorted(found), wanted)
+
+
+def the_page_has_the_options(_program):
+    listed = re.findall(r'^\.It Fl (.*)$', page('DESCRIPTION'), re.M)
+    found = [word.replace('Fl ', '-') for line in listed for word in re.sub(r' Ar .*', '', line).split(' , Fl ')]
+    same('its options', sorted('-' + word for word in found), sorted(set(OPTIONS + CONNECT_OPTIONS)))
+
+
+def bash_completes(_program):
+    """What bash completes after some words."""
+    asked = {
+        ('fibs', ''): SUBCOMMANDS, ('fibs', 're'): ['replay'], ('fibs', '-'): OPTIONS,
+        ('fibs', 'help', ''): SUBCOMMANDS,
+        ('fibs', 'connect', '-'): CONNECT_OPTIONS, ('fibs', 'connect', 'fibs'): ['fibs.com'],
+        ('fibs', 'connect', 'localhost', ''): ['4321'],
+        ('fibs', 'connect', '--password-file', 'secret', 'localhost', ''): ['4321'],
+        ('fibs', 'connect', '--password-file', 'typ'): ['typed'], ('fibs', 'connect', 'localhost', '4321', ''): [],
+        ('fibs-play', 'fibs'): ['fibs.com'], ('fibs-play', 'localhost', ''): ['4321'],
+        ('fibs-play', '-'): ['--help', '-h'],
+        **{('fibs', name, '-'): ['--help', '-h'] for name in SUBCOMMANDS if name not in ('connect', 'help')},
+    }
+    script = ('source ./fibs.bash; COMP_WORDS=("$@"); COMP_CWORD=$(($# - 1)); "_${1/-/_}"; '
+              'printf "%s\\n" "${COMPREPLY[@]}"')
+    for words, wanted in asked.items():
+        done = run(['bash', '-c', script, 'bash', *words], cwd=ROOT / 'completions')
+        same(' '.join(words), (sorted(done.stdout.split()), done.stderr), (wanted, ''))
+
+
+def zsh_completes(_program):
+    text = text_of('completions/_fibs')
+    listed = part(text, 'subcommands=(\n', '\n    )')
+    same('its subcommands', sorted(re.findall(r"^ *'(\w+):", listed, re.M)), SUBCOMMANDS)
+    same('its options', [option for option in set(OPTIONS + CONNECT_OPTIONS) if option not in text], [])
+    if shutil.which('zsh'):
+        done = run(['zsh', '-n', 'completions/_fibs'], cwd=ROOT)
+        same('zsh -n', (done.returncode, done.stderr), (0, ''))
+
+
+def fish_completes(_program):
+    text = text_of('completions/fibs.fish')
+    same('its subcommands', sorted(re.findall(r'__fish_use_subcommand -a (\w+)', text)), SUBCOMMANDS)
+    same('those of help', sorted(re.search(r"from help' -a '([^']*)'", text)[1].split()), SUBCOMMANDS)
+    same('its options', sorted(re.findall(r'^complete -c fibs .*-l ([a-z-]+)', text, re.M)),
+         sorted(option[2:] for option in set(OPTIONS + CONNECT_OPTIONS) if option.startswith('--')))
+    if shutil.which('fish'):
+        with tempfile.TemporaryDirectory() as home:
+            done = run(['fish', '--no-config', '-c', 'source completions/fibs.fish; complete -C "fibs "'], cwd=ROOT,
+                       env={'HOME': home, 'PATH': '/usr/bin:/bin'})
+        same('fish', (sorted(line.split('\t')[0] for line in done.stdout.splitlines()), done.stderr), (SUBCOMMANDS, ''))
+
+
+# -- lines -----------------------------------------------------------------------------------------------------------
+
+def help_has_the_typed_lines(_program):
+    listed = part(text_of('tests/help/connect.txt'), 'each line that is typed is one of\n', '\nand is answered by')
+    firsts = [line[2:26].strip() for line in listed.splitlines() if re.match(r'  \S', line)]
+    spans = [one for first in firsts if first != 'an empty line' for one in first.split(', ')]
+    same('help', typed_in(spans + re.findall(r'`([^`]*)`', listed)), TYPED)
+
+
+def the_page_has_the_typed_lines(_program):
+    spans = [head for head in heads(page('TYPED LINES')) if head]
+    same('the page', typed_in(spans), TYPED)
+    same('an empty line', re.findall(r'^\.It an empty line$', page('TYPED LINES'), re.M), ['.It an empty line'])
+
+
+def the_players_page_has_the_typed_lines(_program):
+    rows = re.findall(r'^\| (`.*?) \|', part(text_of('docs/PLAYING.md'), '## What you can type', '\n## '), re.M)
+    same('docs/PLAYING.md', typed_in(re.findall(r'`([^`]*)`', ' '.join(rows))), TYPED)
+
+
+def the_program_takes_the_typed_lines(program):
+    """Offline each of them is answered, and not by `unknown`; so it is with a name and a text."""
+    more = {'move': ['move 8-5 6-5'], 'say': ['say hi'], 'kibitz': ['kibitz hi'], 'whisper': ['whisper hi'],
+            'shout': ['shout hi'], 'tell': ['tell bob hi'], 'message': ['message bob hi'],
+            'invite': ['invite bob', 'invite bob 5'], 'join': ['join', 'join bob']}
+    lines = [line for known in TYPED for line in more.get(known, [known]) if known not in ('quit', 'open', 'players')]
+    typed = ''.join(line + '\n' for line in ['secret', *lines, 'dance', 'players', 'open', 'quit', 'roll'])
+    done = run([program, 'connect', '127.0.0.1', '1', 'ann'], input=typed)
+    wanted = ['no connection'] + ['refused 2 Offline'] * len(lines) + ['unknown', 'no connection']
+    same('the answers', (done.stdout.splitlines(), done.stderr), (wanted, ''))
+
+
+def the_page_has_the_printed_lines(_program):
+    found = [head.split()[0] for head in heads(page('PRINTED LINES'))]
+    same('their first words', sorted(set(re.sub(r':.*', ':', word) for word in found)), sorted(PRINTED))
+    same('the phases', [name for name in PHASES if '.Li ' + name not in page('PRINTED LINES')], [])
+    formats = text_of('docs/FORMATS.md')
+    rows = {'the faults': r'`fault NUMBER NAME` \|.*?: (.*?) \|',
+            'the directory': r'NAME` \| the directory.*: (.*?) \|'}
+    for kind, row in rows.items():
+        for one in re.search(row, formats)[1].split(', '):
+            same('%s of docs/FORMATS.md' % kind, '.Li %s' % one in page('PRINTED LINES'), True)
+
+
+def the_refusals_are_the_same(_program):
+    formats = re.search(r'`refused NUMBER NAME` \| the client refuses: (.*?) \|', text_of('docs/FORMATS.md'))[1]
+    wanted = formats.split(', ')
+    same('the page', re.findall(r'^\.It Li (\d+ \w+)$', page('REFUSALS'), re.M), wanted)
+    same('docs/PLAYING.md', re.findall(r'^\| `refused (\d+ \w+)` \|', text_of('docs/PLAYING.md'), re.M), wanted)
+
+
+def the_statuses_are_the_same(_program):
+    formats = re.findall(r'^\| (\d+) \|', part(text_of('docs/FORMATS.md'), '## Statuses of `fibs`', '\n## '), re.M)
+    same('the page', re.findall(r'^\.It (\d+)$', page('EXIT STATUS'), re.M), formats)
+    same('help', re.findall(r'\d+', text_of('tests/help/fibs.txt').split('Exit status:')[1]), formats)
+    same('signals', [one for one in SIGNALS if not re.search(r'\b%s\b' % one, page('EXIT STATUS'))], [])
+
+
+def the_picture_of_the_page_is_the_players(_program):
+    drawn = part(page('THE PICTURE'), '.Bd -literal\n', '.Ed')
+    same('its lines', len(drawn.splitlines()), 14)
+    same('in docs/PLAYING.md', drawn in text_of('docs/PLAYING.md'), True)
+
+
+def the_game_of_the_readme_is_played(_program):
+    """Each of its lines stands on the screen of the game that tests/screens.py plays, in its order."""
+    shown = iter(text_of('tests/screens/game.txt').splitlines())
+    told = part(text_of('README.md'), '\n## A game', '\n## ').split('```')[1].splitlines()
+    same('its begin', told[1:3], ['$ bin/fibs-play localhost 4321 ann', 'password:'])
+    same('lines that are not shown', [line for line in told[3:] if line != '..' and line not in shown], [])
+
+
+# -- files -----------------------------------------------------------------------------------------------------------
+
+def the_page_is_clean(_program):
+    checks = [['mandoc', '-T', 'lint'], ['groff', '-ww', '-mandoc', '-z']]
+    for words in checks:
+        if shutil.which(words[0]):
+            done = run([*words, 'docs/fibs.1'], cwd=ROOT)
+            same(words[0], (done.returncode, done.stdout + done.stderr), (0, ''))
+
+
+def fibs_play_is_plain_shell(_program):
+    for words in ['dash', '-n'], ['bash', '--posix', '-n'], ['shellcheck']:
+        if shutil.which(words[0]):
+            done = run([*words, 'scripts/fibs-play'], cwd=ROOT)
+            same(words[0], (done.returncode, done.stdout + done.stderr), (0, ''))
+
+
+def fibs_play_tells_its_use(_program):
+    for words, status in ([], 2), (['localhost', '4321'], 2), (['a', 'b', 'c', 'd'], 2), (['-h'], 0), (['--help'], 0):
+        done = run([ROOT / 'scripts' / 'fibs-play', *words], stdin=subprocess.DEVNULL)
+        said, other = (done.stderr, done.stdout) if status else (done.stdout, done.stderr)
+        same(repr(words), (done.returncode, said.splitlines()[:1], other),
+             (status, ['usage: fibs-play HOST PORT NAME'], ''))
+
+
+def make_installs_them(_program):
+    wanted = {
+        'bin/fibs-play': 'scripts/fibs-play', 'share/man/man1/fibs.1': 'docs/fibs.1',
+        'share/man/man1/fibs-play.1': 'docs/fibs.1', 'share/fibs/typed': 'completions/typed',
+        'share/bash-completion/completions/fibs': 'completions/fibs.bash',
+        'share/bash-completion/completions/fibs-play': 'completions/fibs.bash',
+        'share/zsh/site-functions/_fibs': 'completions/_fibs',
+        'share/fish/vendor_completions.d/fibs.fish': 'completions/fibs.fish',
+        'share/fish/vendor_completions.d/fibs-play.fish': 'completions/fibs.fish',
+    }
+    with tempfile.TemporaryDirectory() as room:
+        done = run(['make', '-s', 'install-surface', 'PREFIX=' + room], cwd=ROOT)
+        same('make', (done.returncode, done.stderr), (0, ''))
+        top = pathlib.Path(room)
+        found = {str(path.relative_to(top)): path.read_text() for path in top.rglob('*') if path.is_file()}
+        same('what is installed', found, {path: text_of(source) for path, source in wanted.items()})
+        same('fibs-play runs', bool((top / 'bin' / 'fibs-play').stat().st_mode & 0o111), True)
+
+
+CASES = [
+    help_has_the_subcommands, the_page_has_the_subcommands, help_has_the_options, the_page_has_the_options,
+    bash_completes, zsh_completes, fish_completes, help_has_the_typed_lines, the_page_has_the_typed_lines,
+    the_players_page_has_the_typed_lines, the_page_has_the_printed_lines, the_refusals_are_the_same,
+    the_statuses_are_the_same, the_picture_of_the_page_is_the_players, the_game_of_the_readme_is_played,
+    the_page_is_clean, fibs_play_is_plain_shell, fibs_play_tells_its_use, make_installs_them,
+]
+
+
+def main():
+    program = pathlib.Path(sys.argv[1]).resolve() if len(sys.argv) > 1 else None
+    failed, cases = 0, CASES + ([the_program_takes_the_typed_lines] if program else [])
+    for case in cases:
+        name = case.__name__.replace('_', ' ')
+        try:
+            case(program)
+            print('ok      %s' % name)
+        except Exception as error:
+            failed += 1
+            print('FAILED  %s: %s' % (name, error))
+    print('%d passed, %d failed' % (len(cases) - failed, failed))
+    return 1 if failed else 0
+
+
+if __name__ == '__main__':
+    sys.exit(main())
