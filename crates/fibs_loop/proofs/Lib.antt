@@ -1,0 +1,4 @@
+pub mod Talks
+pub mod Pieces
+pub mod Inboxes
+pub mod Takings
