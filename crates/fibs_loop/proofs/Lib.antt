@@ -2,3 +2,4 @@ pub mod Talks
 pub mod Pieces
 pub mod Inboxes
 pub mod Takings
+pub mod Playing

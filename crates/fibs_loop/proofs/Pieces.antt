@@ -31,7 +31,7 @@ online t conn some h = elim (eqb_tells (open_now t.log) 0) [
 ]
 
 -- what reading gives online
-abbrev step_of : Talk → List ℕ → Bool → Step
+abbrev pub step_of : Talk → List ℕ → Bool → Step
 step_of t p b = if b then hears_all (with_bytes t p) (gained t.stream p) else stays t
 
 reads_lines : (t : Talk) (p : List ℕ) (ls : List ReadLine) → is_online t ≡ true → gained t.stream p ≡ ls
@@ -58,7 +58,7 @@ one_line t conn p l some h e =
     ∙ ap (λ n. t.log ++ (heard n t.log (line_reading l)).entries) h
 
 -- which connection is open after more entries
-open_append : (o : ℕ) (xs ys : List Entry) → open_from o (xs ++ ys) ≡ open_from (open_from o xs) ys
+pub open_append : (o : ℕ) (xs ys : List Entry) → open_from o (xs ++ ys) ≡ open_from (open_from o xs) ys
 open_append o [] ys = refl
 open_append o (Opened c ∷ xs) ys = open_append c xs ys
 open_append o (Lost c u ∷ xs) ys = open_append 0 xs ys

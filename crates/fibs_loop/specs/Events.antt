@@ -46,6 +46,12 @@ pub record Follows (t : TableValue) (talk : Talk) : Type 0 where
   pub now_open : open_now talk.log ≡ current t
   pub counted : connections talk.log ≡ length t.inboxes
 
+-- and it stands after such a one that is the table's log
+pub record Plays (t : TableValue) : Type 0 where
+  pub talk : Talk
+  pub follows : Follows t talk
+  pub log : t.log ≡ talk.log
+
 -- The client of t takes the input, and what it hands out is put behind what waits for the server. Noted is what the
 -- client's own machine notes. But for that the table becomes u.
 pub record Takes (t u v : TableValue) (input : InputValue) : Type 0 where
@@ -108,11 +114,11 @@ pub record Serves (t u : TableValue) (c d1 d2 : ℕ) : Type 0 where
 
 -- what an event does
 abbrev pub Goes : TableValue → TableValue → Event → Type 0
-Goes t u Open = Takes t (opened t) u M.Open
+Goes t u Open = (current t ≡ 0) × Takes t (opened t) u M.Open
 Goes t u (Click d) = Takes t t u (M.Click d)
 Goes t u (Plain p) = Takes t t u (M.PlainInput p)
-Goes t u (Deliver n) = Takes t (delivered t n) u (M.Piece (take n t.to_client))
-Goes t u (Lose k) = Takes t (lost t k) u M.Lose
+Goes t u (Deliver n) = (current t ≢ 0) × Takes t (delivered t n) u (M.Piece (take n t.to_client))
+Goes t u (Lose k) = (current t ≢ 0) × Takes t (lost t k) u M.Lose
 Goes t u (Serve c d1 d2) = Serves t u c d1 d2
 Goes t u (Own b) = Sends t u (with_board t.server b) (spelling b)
 Goes t u Repeat = Sends t u t.server (spelling t.server.board)

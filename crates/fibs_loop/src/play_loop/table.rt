@@ -1,11 +1,15 @@
 //! A client and a model server at the two ends of a connection.
-ghost use Rattle.std.specs.Prelude.{◌≡◌, OnOk, map};
+ghost use Rattle.std.specs.Prelude.{◌≡◌, [], None, Some, IfOk, OnOk, map, if◌then◌else◌};
+ghost use Rattle.std.specs.Result.{result_err};
+ghost use Rattle.fibs_boards.specs.StoredBoard.{fields_of};
+ghost use Rattle.fibs_position.specs.GoodBoard.{good};
 ghost use Rattle.fibs_model.specs.EntryOf.{entry_of};
 ghost use Rattle.fibs_model.specs.EventOf.{event_of};
 ghost use Rattle.fibs_model.specs.Refusals.{refusal};
 ghost use Rattle.fibs_model.specs.World as W;
 ghost use Rattle.fibs_loop.specs.Answers.{Answers, OnRefused};
-ghost use Rattle.fibs_loop.specs.Events.{Goes};
+ghost use Rattle.fibs_model.specs.declared.refusal.WorldRefusal.TheVariants.{BadBoard};
+ghost use Rattle.fibs_loop.specs.Events.{Goes, Plays};
 ghost use Rattle.fibs_loop.specs.TableOf.{current, Shows};
 
 mod asking;
@@ -59,8 +63,14 @@ impl Model for Table {
 }
 
 impl Table {
-    /// A table at which nothing has happened. `BadBoard` where the server's board is not good.
-    pub fn new(alloc: Global, board: Board, login: Login) -> Result<Table, WorldRefusal> {
+    /// A table at which nothing has happened. `BadBoard` where the server's board is not good, and no other refusal.
+    pub fn new(alloc: Global, board: Board, login: Login) -> Result<Table, WorldRefusal>
+        ensures refusal { result_err result ≡ (if good (fields_of board) then None else Some BadBoard) }
+        ensures board { IfOk result (λ table. table.server ≡ record { board = fields_of board; logged_in = 0 }) }
+        ensures log { IfOk result (λ table. table.log ≡ []) }
+        ensures plays { IfOk result Plays }
+    {
+        fibs_position::laws::good_is_exact();
         match Server::new(board) {
             Err(_) => Err(WorldRefusal::BadBoard),
             Ok(server) => Ok(Table {
@@ -105,7 +115,10 @@ impl Table {
         ensures refusal { (w : W.World) → Shows self.old w → Answers result (refusal w (event_of event.now)) }
         ensures refused { OnRefused result (self.new ≡ self.old) }
         ensures goes { OnOk result (Goes self.old self.new (event_of event.now)) }
+        ensures plays { OnOk result (Plays self.old → Plays self.new) }
     {
+        fibs_session::client::laws::lines_open_no_connection();
+        fibs_session::client::laws::servers_entries_are_silent();
         let noted = self.log.len();
         match self.take(net, listener, event) {
             Ok(()) => Ok(()),
