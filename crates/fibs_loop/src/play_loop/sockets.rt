@@ -1,5 +1,5 @@
 //! Both ends of a connection in one process.
-ghost use Rattle.std.specs.Prelude.{◌≡◌, length};
+ghost use Rattle.std.specs.Prelude.{◌≡◌, ◌++◌, length, OnOk};
 
 use super::queue::Queue;
 use fibs_show::fault::EngineFault;
@@ -36,17 +36,24 @@ fn connected<N: Net<Stream = TcpStream>>(net: &N, listener: &TcpListener) -> io:
     Ok(Ends { client, server })
 }
 
-/// Moves a portion: it is written at one end, and as many bytes are read at the other.
+/// Moves a portion: it is written at one end, and as many bytes are read at the other. `Device` where they are others:
+/// then the other end is a stranger's.
 fn carry<F: Write, T: Read>(
     bytes: &[u8],
     from: &mut F,
     to: &mut T,
     arrived: &mut [u8],
 ) -> Result<(), EngineFault>
-    ensures { length arrived.new ≡ length arrived.old }
+    ensures len { length arrived.new ≡ length arrived.old }
+    ensures same { OnOk result (arrived.new ≡ bytes.now) }
 {
     from.write_all(bytes).map_err(|_| EngineFault::Device)?;
-    to.read_exact(arrived).map_err(|_| EngineFault::Device)
+    to.read_exact(arrived).map_err(|_| EngineFault::Device)?;
+    if &*arrived == bytes {
+        Ok(())
+    } else {
+        Err(EngineFault::Device)
+    }
 }
 
 impl Ends {
@@ -60,17 +67,16 @@ impl Ends {
 
     /// Moves a portion from the server to the client.
     pub fn carry_to_client(&mut self, bytes: &[u8], arrived: &mut [u8]) -> Result<(), EngineFault>
-        ensures { length arrived.new ≡ length arrived.old }
+        ensures len { length arrived.new ≡ length arrived.old }
+        ensures same { OnOk result (arrived.new ≡ bytes.now) }
     {
         carry(bytes, &mut self.server, &mut self.client, arrived)
     }
 
     /// Moves bytes from the client to the server, where they wait in a queue.
-    pub fn cross_to_server(
-        &mut self,
-        bytes: &[u8],
-        arrived: &mut Queue,
-    ) -> Result<(), EngineFault> {
+    pub fn cross_to_server(&mut self, bytes: &[u8], arrived: &mut Queue) -> Result<(), EngineFault>
+        ensures { OnOk result (arrived.new ≡ arrived.old ++ bytes.now) }
+    {
         let mut portion = [0; CROSSING_LEN];
         let mut rest = bytes;
         while !rest.is_empty() {

@@ -1,0 +1,5 @@
+pub mod Talks
+pub mod Pieces
+pub mod Inboxes
+pub mod Takings
+pub mod Playing
