@@ -8,6 +8,7 @@ use fibs_test_tools::text::text_of;
 use std::alloc::{AllocError, Global};
 use std::net::{Net, TcpListener, TcpStream};
 use std::test::Fail;
+use std::time::Duration;
 
 /// The words after the program's name, what is on standard input, and what comes of them.
 struct Case {
@@ -88,7 +89,15 @@ fn answered<N: Net<Listener = TcpListener, Stream = TcpStream> + AllocGlobal>(
     let mut out = Pipe::new(b"", 1, After::End, 4096);
     let mut err = Pipe::new(b"", 1, After::End, 4096);
     let called = arguments::read(rt.alloc(), line.as_slice());
-    let ending = answer(rt, rt.alloc(), &called, &mut input, &mut out, &mut err);
+    let ending = answer(
+        rt,
+        rt.alloc(),
+        &called,
+        Duration::from_millis(500),
+        &mut input,
+        &mut out,
+        &mut err,
+    );
     Ok(Outcome {
         ending,
         out: text_of(out.output()),

@@ -12,7 +12,7 @@ mod seat;
 mod typed_lines;
 mod wish;
 
-use dial::{Dial, Place, Server};
+use dial::{Dial, HALF_A_SECOND, Place, Server};
 use fibs_exchange::exchange::printing::print_reason;
 use fibs_session::{Login, PlainFault};
 use fibs_show::fault::EngineFault;
@@ -28,16 +28,39 @@ use typed_lines::{TypedLine, TypedLines};
 /// Talks with a server for a player.
 ///
 /// The first line of `typed` is the password. Where it or the name has a fault, `err` is given `fault NUMBER NAME`, and
-/// the status is 3. Else it connects to the server at its place, logs in, and answers each line that is typed:
+/// the status is 3. Else it connects to the host, a name or an address, logs in, and answers each line that is typed:
 /// `open` connects again, `players` lists the players that are known, `quit` ends, and all others are turns of the
 /// client (`exchange`), which an empty line takes without a word. Where no connection can be made it says so, and goes
-/// on. At the end of the lines, and after `quit`, the status is 0.
+/// on. At the end of the lines, and after `quit`, the status is 0. A read of the server waits for half a second.
 ///
 /// It reads at most 1,000,000,000 times, and at most 1024 bytes at once.
 ///
 /// Errors: `Device` where a line can't be read, or what is printed can't be written. Never `Memory`: what the directory
 /// refuses is printed.
 pub fn converse<N: Net<Stream = TcpStream>, R: Read, W: Write, E: Write>(
+    rt: &N,
+    alloc: Global,
+    host: &str,
+    port: u16,
+    name: &[u8],
+    typed: &mut R,
+    out: &mut W,
+    err: &mut E,
+) -> Result<u8, EngineFault>
+    ensures conversed { Conversed name.now result (R.remaining typed.old)
+        (W.contents out.old) (W.contents out.new) (E.contents err.old) (E.contents err.new) }
+    ensures few { LostAtMost (MOST_INPUT_READS * READ_PORTION) (R.remaining typed.old) (R.remaining typed.new) }
+{
+    let place = Place {
+        host,
+        port,
+        quiet: HALF_A_SECOND,
+    };
+    converse_at(rt, alloc, place, name, typed, out, err)
+}
+
+/// The same with a server at a place, which says how long a read waits.
+pub fn converse_at<N: Net<Stream = TcpStream>, R: Read, W: Write, E: Write>(
     rt: &N,
     alloc: Global,
     place: Place<'_>,
