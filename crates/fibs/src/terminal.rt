@@ -2,7 +2,7 @@
 //! of this is between them and the engines.
 
 use fibs_cli::arguments::{Answer, Request};
-use fibs_cli::{HALF_A_SECOND, program};
+use fibs_cli::{READ_MILLIS, program};
 use fibs_screen::{Screen, draw_line};
 use fibs_seat::{Dialling, PollWatch, TypedOrHeard, first_line};
 use fibs_show::fault::EngineFault;
@@ -16,8 +16,9 @@ use std::net::{Net, TcpListener, TcpStream};
 use std::os::fd::AsRawFd;
 use std::time::Duration;
 
-/// How long a server is to be quiet before the next line is read at a terminal, where the wait for what comes next hears the server too.
-const TERMINAL_QUIET: Duration = Duration::from_millis(20);
+/// For how many milliseconds a server is to be quiet before the next line is read at a terminal, where the wait for what
+/// comes next hears the server too.
+const TERMINAL_MILLIS: u64 = 20;
 
 /// How many bytes of a password's line are read: more than any has that is taken.
 const MOST_PASSWORD: u64 = 4098;
@@ -28,12 +29,12 @@ const UNREADABLE: &[u8] = b"fibs: the password file can't be read\n";
 /// Does what a command line calls for on the standard streams.
 pub fn answer(rt: &HostRuntime, answer: &Answer<'_>) -> Result<u8, EngineFault> {
     match answer {
-        Answer::Engine(Request::Show) => shown(rt, rt, answer, HALF_A_SECOND, &mut rt.stdin()),
+        Answer::Engine(Request::Show) => shown(rt, rt, answer, READ_MILLIS, &mut rt.stdin()),
         Answer::Engine(Request::Plays(line)) => plays(rt, line, answer),
         Answer::Engine(Request::Connect { password_file, .. }) => {
             connect(rt, *password_file, answer)
         }
-        _ => plainly(rt, rt, answer, HALF_A_SECOND, &mut rt.stdin()),
+        _ => plainly(rt, rt, answer, READ_MILLIS, &mut rt.stdin()),
     }
 }
 
@@ -42,14 +43,14 @@ fn plainly<N: Net<Listener = TcpListener, Stream = TcpStream>, R: Read>(
     rt: &HostRuntime,
     net: &N,
     answer: &Answer<'_>,
-    quiet: Duration,
+    millis: u64,
     input: &mut R,
 ) -> Result<u8, EngineFault> {
     program::answer(
         net,
         rt.alloc(),
         answer,
-        quiet,
+        Duration::from_millis(millis),
         input,
         &mut rt.stdout(),
         &mut rt.stderr(),
@@ -61,11 +62,11 @@ fn shown<N: Net<Listener = TcpListener, Stream = TcpStream>, R: Read>(
     rt: &HostRuntime,
     net: &N,
     answer: &Answer<'_>,
-    quiet: Duration,
+    millis: u64,
     input: &mut R,
 ) -> Result<u8, EngineFault> {
     if !rt.stdout().is_terminal() {
-        return plainly(rt, net, answer, quiet, input);
+        return plainly(rt, net, answer, millis, input);
     }
     let alloc = rt.alloc();
     let mut screen = Screen::new(alloc, rt.stdout())?;
@@ -73,7 +74,7 @@ fn shown<N: Net<Listener = TcpListener, Stream = TcpStream>, R: Read>(
         net,
         alloc,
         answer,
-        quiet,
+        Duration::from_millis(millis),
         input,
         &mut screen,
         &mut rt.stderr(),
@@ -85,7 +86,7 @@ fn plays(rt: &HostRuntime, line: &str, answer: &Answer<'_>) -> Result<u8, Engine
     if rt.stdout().is_terminal() {
         draw_line(rt.alloc(), line.as_bytes(), &mut rt.stdout())?;
     }
-    plainly(rt, rt, answer, HALF_A_SECOND, &mut rt.stdin())
+    plainly(rt, rt, answer, READ_MILLIS, &mut rt.stdin())
 }
 
 /// Talks with a server. The password is the first line of a file, or typed.
@@ -125,8 +126,8 @@ fn converse(rt: &HostRuntime, first: &[u8], answer: &Answer<'_>) -> Result<u8, E
             let watch = PollWatch::new(rt, rt.alloc(), rt.stdin().as_raw_fd(), &heard).ok();
             let typed = TypedOrHeard::new(rt.stdin(), watch);
             let net = Dialling::new(rt, heard.registry());
-            return shown(rt, &net, answer, TERMINAL_QUIET, &mut first.chain(typed));
+            return shown(rt, &net, answer, TERMINAL_MILLIS, &mut first.chain(typed));
         }
     }
-    shown(rt, rt, answer, HALF_A_SECOND, &mut first.chain(rt.stdin()))
+    shown(rt, rt, answer, READ_MILLIS, &mut first.chain(rt.stdin()))
 }

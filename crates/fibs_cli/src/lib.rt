@@ -5,7 +5,7 @@
 pub mod arguments;
 pub mod program;
 
-pub use fibs_connect::connect::dial::{HALF_A_SECOND, Place};
+pub use fibs_connect::connect::dial::{Place, READ_MILLIS};
 pub use fibs_connect::connect::{converse, converse_at};
 pub use fibs_exchange::exchange::link::Link;
 pub use fibs_exchange::exchange::{Ending, ExchangeFault, exchange};

@@ -12,7 +12,7 @@ mod seat;
 mod typed_lines;
 mod wish;
 
-use dial::{Dial, HALF_A_SECOND, Place, Server};
+use dial::{Dial, Place, READ_MILLIS, Server};
 use fibs_exchange::exchange::printing::print_reason;
 use fibs_session::{Login, PlainFault};
 use fibs_show::fault::EngineFault;
@@ -22,6 +22,7 @@ use seat::{Going, Seat};
 use std::alloc::Global;
 use std::io::{Read, Write};
 use std::net::{Net, TcpStream};
+use std::time::Duration;
 pub use typed_lines::TypedFault;
 use typed_lines::{TypedLine, TypedLines};
 
@@ -54,7 +55,7 @@ pub fn converse<N: Net<Stream = TcpStream>, R: Read, W: Write, E: Write>(
     let place = Place {
         host,
         port,
-        quiet: HALF_A_SECOND,
+        quiet: Duration::from_millis(READ_MILLIS),
     };
     converse_at(rt, alloc, place, name, typed, out, err)
 }

@@ -40,12 +40,9 @@ static WATCHED: &[u8] =
 
 /// Writes a text in pieces of so many bytes, with a flush behind each.
 fn write_in_pieces<W: Write>(text: &[u8], most: usize, screen: &mut W) -> io::Result<()> {
-    let mut rest = text;
-    while !rest.is_empty() {
-        let count = most.max(1).min(rest.len());
-        screen.write_all(&rest[..count])?;
+    for piece in text.chunks(most.max(1)) {
+        screen.write_all(piece)?;
         screen.flush()?;
-        rest = &rest[count..];
     }
     Ok(())
 }

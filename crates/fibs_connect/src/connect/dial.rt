@@ -8,8 +8,8 @@ use std::time::Duration;
 /// How many seconds each address of a server may take to answer.
 const CONNECT_SECONDS: u64 = 10;
 
-/// How long a read waits where nothing else is said: a pipe or a file has no other pace.
-pub const HALF_A_SECOND: Duration = Duration::from_millis(500);
+/// How many milliseconds a read waits where nothing else is said: a pipe or a file has no other pace.
+pub const READ_MILLIS: u64 = 500;
 
 /// What makes connections to one server.
 pub trait Dial {
