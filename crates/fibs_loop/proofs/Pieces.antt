@@ -81,8 +81,8 @@ reads_open law t p = go (is_online t)
     go true = lines_open law (with_bytes t p) (gained t.stream p)
     go false = refl
 
-still_talking : LinesOpenNoConnection → (old new : ClientValue) (conn : ℕ) (p : List ℕ) (send : List (List ℕ)) (t : Talk)
-    → Does old new (Piece p) send → IsTalking old conn t
+still_talking : LinesOpenNoConnection → (old new : ClientValue) (conn : ℕ) (p : List ℕ) (send : List (List ℕ))
+    (t : Talk) → Does old new (Piece p) send → IsTalking old conn t
     → IsTalking new conn (step t (Piece p)).talk
 still_talking law old new conn p send t d h = record {
   stands = d.stands t h.stands;

@@ -14,8 +14,10 @@ use Rattle.fibs_session.specs.declared.refusal.Refusal.{Refusal}
 use Rattle.fibs_session.specs.declared.refusal.PlainRefusal.{PlainRefusal}
 use Rattle.fibs_session.specs.Calls.Standing.{StandsAfter}
 use Rattle.fibs_session.specs.History.Hearing.{heard, line_reading}
-use Rattle.fibs_session.specs.History.Log.{Entry, Opened, LoggedIn, Clicked, Sent, Took, Undone, Lost, Ordered, Withdrawn}
-use Rattle.fibs_session.specs.History.Machine.{Talk, Step, InputValue, step, noted, stays, hears_all, with_bytes, gained}
+use Rattle.fibs_session.specs.History.Log.{Entry, Opened, LoggedIn, Clicked, Sent, Took, Undone, Lost, Ordered}
+use Rattle.fibs_session.specs.History.Log.{Withdrawn}
+use Rattle.fibs_session.specs.History.Machine.{Talk, Step, InputValue, step, noted, stays, hears_all, with_bytes}
+use Rattle.fibs_session.specs.History.Machine.{gained}
 use Rattle.fibs_session.specs.History.Machine.{is_online, clicks_by, decides_on, answer_now, shown_now, plain_refusal}
 use Rattle.fibs_session.specs.History.Machine.{sends_plain, notes_if, order_refusal, withdraw_refusal, unconfirmed_now}
 use Rattle.fibs_session.specs.History.Machine as M

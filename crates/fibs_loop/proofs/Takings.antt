@@ -1,5 +1,6 @@
 -- The server takes a line, at the table.
-use Rattle.std.proofs.Common.{◌≡◌, ◌≢◌, ℕ, ◌+◌, ◌-◌, ◌<◌, ◌≤◌, true, not, List, length, take, drop, get_or, refl, sym, ap, subst}
+use Rattle.std.proofs.Common.{◌≡◌, ◌≢◌, ℕ, ◌+◌, ◌-◌, ◌<◌, ◌≤◌, true, not, List, length, take, drop, get_or}
+use Rattle.std.proofs.Common.{refl, sym, ap, subst}
 use Rattle.std.proofs.Common.{◌∙◌, ◌++◌, [], Bool, Some, nat_eq, if◌then◌else◌, arith}
 use Rattle.std.specs.Prelude.{◌&&◌, slice_set, slice_index}
 use Rattle.std.proofs.lemmas.List.{length-map, length-set}

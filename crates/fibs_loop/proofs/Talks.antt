@@ -10,7 +10,8 @@ use Rattle.fibs_session.specs.declared.refusal.PlainRefusal.{PlainRefusal}
 use Rattle.fibs_session.specs.History.Log.{Entry, Opened, Lost, Ordered, Withdrawn}
 use Rattle.fibs_session.specs.History.Words.{Ask, open_now, connections}
 use Rattle.fibs_session.specs.History.Machine.{Talk, step, Open, Lose, Click, PlainInput, Order, Withdraw, stays, does}
-use Rattle.fibs_session.specs.History.Machine.{opened, decides_on, clicks_by, answer_now, shown_now, plain_refusal, notes_if}
+use Rattle.fibs_session.specs.History.Machine.{opened, decides_on, clicks_by, answer_now, shown_now, plain_refusal}
+use Rattle.fibs_session.specs.History.Machine.{notes_if}
 use Rattle.fibs_session.specs.History.Machine.{sends_plain, order_refusal, withdraw_refusal, unconfirmed_now}
 use Rattle.fibs_model.specs.Calls.{unless_refused}
 use Rattle.fibs_model.specs.Events.{Event}

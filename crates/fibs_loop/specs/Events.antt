@@ -109,8 +109,8 @@ pub record Serves (t u : TableValue) (c d1 d2 : ℕ) : Type 0 where
   pub left : waiting u c ≡ line.1
   pub others : (d : ℕ) → 0 < d → d ≢ c → waiting u d ≡ waiting t d
   pub begun : (inbox_at u.inboxes c).is_served ≡ true
-  pub to_client : u.to_client
-      ≡ t.to_client ++ (if is_answered served then sent (record t { server = u.server }) (spelling u.server.board) else [])
+  pub to_client : u.to_client ≡ t.to_client
+      ++ (if is_answered served then sent (record t { server = u.server }) (spelling u.server.board) else [])
 
 -- what an event does
 abbrev pub Goes : TableValue → TableValue → Event → Type 0

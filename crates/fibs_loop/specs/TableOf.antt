@@ -1,5 +1,6 @@
 -- What stands at a table as a value, and the world of the machine that it shows.
-use Rattle.std.specs.Prelude.{◌≡◌, ◌<◌, ◌-◌, ℕ, Bool, false, List, [], length, map, get_or, is_some, if◌then◌else◌, nat_eq}
+use Rattle.std.specs.Prelude.{◌≡◌, ◌<◌, ◌-◌, ℕ, Bool, false, List, [], length, map, get_or, is_some, nat_eq}
+use Rattle.std.specs.Prelude.{if◌then◌else◌}
 use Rattle.fibs_session.specs.Calls.Standing.{ClientValue}
 use Rattle.fibs_session.specs.History.Log.{Entry}
 use Rattle.fibs_session.specs.History.Words.{open_now}
@@ -59,8 +60,8 @@ inbox_at inboxes c = get_or inboxes (c - 1) new_inbox
 abbrev pub waiting : TableValue → ℕ → List ℕ
 waiting t c = if nat_eq c (current t) then t.to_server else (inbox_at t.inboxes c).bytes
 
--- The table shows a world of the machine, as far as is asked whether an event may be: its server, its connections, which
--- of them is open, and what of each the server has not taken.
+-- The table shows a world of the machine, as far as is asked whether an event may be: its server, its connections,
+-- which of them is open, and what of each the server has not taken.
 pub record Shows (t : TableValue) (w : World) : Type 0 where
   pub board : t.server.board ≡ w.board
   pub logged_in : t.server.logged_in ≡ w.logged_in

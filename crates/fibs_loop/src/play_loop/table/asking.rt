@@ -112,7 +112,8 @@ impl Table {
 
     /// The user says something; a command that the client sends waits.
     pub(super) fn say(&mut self, plain: &Plain<'_>) -> Result<(), Stop>
-        ensures refusal { (w : W.World) → Shows self.old w → Answers result (refusal w (E.Plain (plain_value plain.now))) }
+        ensures refusal { (w : W.World) → Shows self.old w →
+            Answers result (refusal w (E.Plain (plain_value plain.now))) }
         ensures refused { OnRefused result (self.new ≡ self.old) }
         ensures goes { OnOk result (Goes self.old self.new (E.Plain (plain_value plain.now))) }
     {

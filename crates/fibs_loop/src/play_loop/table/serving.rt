@@ -1,6 +1,6 @@
 //! The server takes a line.
-ghost use Rattle.std.specs.Prelude.{◌≡◌, ◌≢◌, ◌<◌, ◌≤◌, ◌+◌, ◌^◌, OnOk, IfOk, IfSome, IfNone, IsSome, length, take, drop};
-ghost use Rattle.std.specs.Prelude.{option_map, slice_index};
+ghost use Rattle.std.specs.Prelude.{◌≡◌, ◌≢◌, ◌<◌, ◌≤◌, ◌+◌, ◌^◌, OnOk, IfOk, IfSome, IfNone, IsSome, length, take};
+ghost use Rattle.std.specs.Prelude.{drop, option_map, slice_index};
 ghost use Rattle.fibs_model.specs.Events as E;
 ghost use Rattle.fibs_model.specs.Refusals.{refusal};
 ghost use Rattle.fibs_model.specs.ServerOf.{served_of};

@@ -18,6 +18,6 @@ loop-rest-preserved c =
       done = i.done ++ take used rest;
       whole = done_more c.args.piece.now i.done rest used i.whole;
       heard =
-          hears_joined c.pieces_join.ensures c.lines_open_no_connection.ensures _ _ _ c.args.conn i.done (take used rest)
-          _ _ _ _ _ _ i.heard c.in_ok-used.ensures.hears;
+          hears_joined c.pieces_join.ensures c.lines_open_no_connection.ensures _ _ _ c.args.conn i.done
+          (take used rest) _ _ _ _ _ _ i.heard c.in_ok-used.ensures.hears;
     }
