@@ -166,9 +166,9 @@ and is answered by one of
 
 After each line, but not after `open`, `players` and a line that is too long, the server is heard until it
 is quiet for half a second. Where standard input is a terminal that is a fiftieth of a second, and the
-server is heard while nothing is typed, too. What it sends is printed as by `fibs show`, after a board that has a position
-`phase PHASE`, and `confirmed COMMAND` where the board that is shown is of another game than the one that
-was played on.
+server is heard while nothing is typed, too. What it sends is printed as by `fibs show`, after a board that
+has a position `phase PHASE`, and `confirmed COMMAND` where the board that is shown is of another game than
+the one that was played on.
 `lost`, or `lost COMMAND` with what was not confirmed, says that the connection is over: nothing is
 sent again by itself, and `open` shows where the game stands.
 
