@@ -685,8 +685,8 @@ def stopped_under_fibs_play(server):
 
 
 def closed_in_mid_picture(server):
-    """The terminal goes while boards are drawn: by a hangup the shell ends it, else the program ends itself."""
-    for more, wanted in ({}, [129]), ({'NOHUP': '1'}, [0, 4]):
+    """The terminal goes while boards are drawn: the shell ends it by a hangup, or the program ends itself first."""
+    for more, wanted in ({}, [0, 4, 129]), ({'NOHUP': '1'}, [0, 4]):
         player = greeted(server, at_a_terminal(server, **more))
         boards = threading.Thread(target=sends_until_it_is_over, args=(server,), daemon=True)
         boards.start()
