@@ -21,7 +21,7 @@ Exit status: 0 done, 2 wrong arguments, 3 refused input, 4 input, output or a so
 5 out of memory";
 
 /// What `--version` says behind the program's name. CHANGELOG.md has the same number.
-const VERSION: &str = "0.1.0 (proved with rattle-kit-13b)";
+const VERSION: &str = "0.1.0 (proved with rattle-kit-13f)";
 
 const SHOW: &str = "Print what each line of the server says";
 
@@ -43,7 +43,9 @@ and at the end, where bytes stand after the last line end,
 
 Telnet commands, and the prompts `login: ` and `> ` at a line's start, are left out. In TEXT and
 in a message each backslash and each byte that is not printable ASCII is `\\x` and two hexadecimal
-digits.";
+digits.
+
+Where standard output is a terminal a board is drawn, and the other lines are put in words.";
 
 const PLAYS: &str = "List the plays of a board";
 
@@ -60,6 +62,8 @@ reached,
 
   move FROM-TO ..         the command that leads there, in the place numbers of LINE;
                           of several the greatest
+
+Where standard output is a terminal the board is drawn above them.
 
 For any other LINE it prints nothing, says why on standard error, and ends with status 3:
 
@@ -124,6 +128,9 @@ never printed, but a terminal shows what is typed. This hides it, and shows what
 
   stty -echo; { head -n 1; stty echo; cat; } | fibs connect fibs.com 4321 ann
 
+With `--password-file FILE` the password is the first line of a file, as of /dev/fd/3 or a pipe with a
+name, and each line of standard input is typed. Where FILE can't be read the status is 4.
+
 Then each line that is typed is one of
 
   roll                    roll the dice
@@ -158,13 +165,19 @@ and is answered by one of
   no connection           the server can't be reached
 
 After each line, but not after `open`, `players` and a line that is too long, the server is heard until it
-is quiet for half a second. What it sends is printed as by `fibs show`, after a board that has a position
+is quiet for half a second. Where standard input is a terminal that is a fiftieth of a second, and the
+server is heard while nothing is typed, too. What it sends is printed as by `fibs show`, after a board that has a position
 `phase PHASE`, and `confirmed COMMAND` where the board that is shown is of another game than the one that
 was played on.
 `lost`, or `lost COMMAND` with what was not confirmed, says that the connection is over: nothing is
 sent again by itself, and `open` shows where the game stands.
 
+Where standard output is a terminal a board is drawn, and the other lines are put in words.
+
 A password or NAME that is none ends it with status 3, and `fault NUMBER WHY` on standard error.";
+
+/// What `--password-file` says.
+const PASSWORD_FILE: &str = "A file whose first line is the password";
 
 const LOOP: &str = "Play a script over sockets of this machine";
 
@@ -195,6 +208,8 @@ pub enum Request<'a> {
         port: u16,
         /// The player's name.
         name: &'a str,
+        /// The file whose first line is the password, if it is not typed.
+        password_file: Option<&'a str>,
     },
     /// To play a script over sockets of this machine.
     Loop,
@@ -289,12 +304,17 @@ fn replay<'a>(alloc: Global) -> Command<'a> {
 
 fn connect<'a>(alloc: Global) -> Result<Command<'a>, AllocError> {
     let port = Arg::new(alloc, "PORT").value_parser(ValueParser::unsigned(1, 65535));
+    let password = Arg::new(alloc, "password-file")
+        .long("password-file")
+        .value_name("FILE")
+        .help(PASSWORD_FILE);
     Command::new(alloc, "connect")
         .about(CONNECT)
         .long_about(CONNECT_LONG)
         .arg(Arg::new(alloc, "HOST").required(true))?
         .arg(port.required(true))?
-        .arg(Arg::new(alloc, "NAME").required(true))
+        .arg(Arg::new(alloc, "NAME").required(true))?
+        .arg(password)
 }
 
 fn play_loop<'a>(alloc: Global) -> Command<'a> {
@@ -313,6 +333,7 @@ fn request_of<'a>(matches: &ArgMatches<'a>) -> Option<Request<'a>> {
             host: matches.get_str("HOST")?,
             port: matches.get_one("PORT")?,
             name: matches.get_str("NAME")?,
+            password_file: matches.get_str("password-file"),
         }),
         "loop" => Some(Request::Loop),
         _ => None,

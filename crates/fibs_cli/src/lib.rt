@@ -6,6 +6,7 @@ pub mod arguments;
 pub mod program;
 
 pub use fibs_connect::connect::converse;
+pub use fibs_connect::connect::dial::Place;
 pub use fibs_exchange::exchange::link::Link;
 pub use fibs_exchange::exchange::{Ending, ExchangeFault, exchange};
 pub use fibs_loop::play_loop::play_loop;

@@ -7,6 +7,7 @@ ghost use Rattle.fibs_loop.specs.Looping.{EndsScript};
 
 use crate::arguments::{Answer, Request};
 use fibs_connect::connect::converse;
+use fibs_connect::connect::dial::Place;
 use fibs_loop::play_loop::play_loop;
 use fibs_replay::replay::replay;
 use fibs_show::fault::EngineFault;
@@ -17,12 +18,15 @@ use fibs_show::writing::write_bytes;
 use std::alloc::Global;
 use std::io::{Read, Write};
 use std::net::{Net, TcpListener, TcpStream};
+use std::time::Duration;
 
-/// Does what a command line calls for: it runs an engine, prints help on `out`, or says on `err` what is wrong.
+/// Does what a command line calls for: it runs an engine, prints help on `out`, or says on `err` what is wrong. A server
+/// is listened to until it was quiet for so long.
 pub fn answer<N: Net<Listener = TcpListener, Stream = TcpStream>, R: Read, W: Write, E: Write>(
     rt: &N,
     alloc: Global,
     answer: &Answer<'_>,
+    quiet: Duration,
     input: &mut R,
     out: &mut W,
     err: &mut E,
@@ -32,7 +36,7 @@ pub fn answer<N: Net<Listener = TcpListener, Stream = TcpStream>, R: Read, W: Wr
         (streams (R.remaining input.new) (W.contents out.new) (E.contents err.new)) }
 {
     match answer {
-        Answer::Engine(request) => serve(rt, alloc, *request, input, out, err),
+        Answer::Engine(request) => serve(rt, alloc, *request, quiet, input, out, err),
         Answer::Help(text) => print_text(text.as_bytes(), Status::Done, out),
         Answer::Refused(text) => print_text(text.as_bytes(), Status::WrongLine, err),
         Answer::Memory => Err(EngineFault::Memory),
@@ -44,6 +48,7 @@ fn serve<N: Net<Listener = TcpListener, Stream = TcpStream>, R: Read, W: Write, 
     rt: &N,
     alloc: Global,
     request: Request<'_>,
+    quiet: Duration,
     input: &mut R,
     out: &mut W,
     err: &mut E,
@@ -56,8 +61,14 @@ fn serve<N: Net<Listener = TcpListener, Stream = TcpStream>, R: Read, W: Write, 
         Request::Show => show(alloc, input, out),
         Request::Plays(line) => plays(alloc, line.as_bytes(), out, err),
         Request::Replay => replay(alloc, input, out),
-        Request::Connect { host, port, name } => {
-            converse(rt, alloc, host, port, name.as_bytes(), input, out, err)
+        Request::Connect {
+            host,
+            port,
+            name,
+            ..
+        } => {
+            let place = Place { host, port, quiet };
+            converse(rt, alloc, place, name.as_bytes(), input, out, err)
         }
         Request::Loop => play_here(rt, alloc, input, out),
     }

@@ -1,0 +1,136 @@
+//! The program at a terminal: what a person types and sees. Where standard input or output is a pipe or a file, nothing
+//! of this is between them and the engines.
+
+use fibs_cli::arguments::{Answer, Request};
+use fibs_cli::program;
+use fibs_screen::{Screen, draw_line};
+use fibs_seat::{Dialling, PollWatch, TypedOrHeard, first_line};
+use fibs_show::fault::EngineFault;
+use fibs_show::status::Status;
+use fibs_show::writing::write_bytes;
+use mio::Poll;
+use std::fs::File;
+use std::io;
+use std::io::{BufRead, BufReader, ErrorKind, IsTerminal, Read};
+use std::net::{Net, TcpListener, TcpStream};
+use std::os::fd::AsRawFd;
+use std::time::Duration;
+
+/// How many milliseconds a server is to be quiet before the next line of a pipe or a file is read, which has no other
+/// pace.
+const PIPE_QUIET: u64 = 500;
+
+/// The same at a terminal, where the wait for what comes next hears the server too.
+const TERMINAL_QUIET: u64 = 20;
+
+/// How many bytes of a password's line are read: more than any has that is taken.
+const MOST_PASSWORD: u64 = 4098;
+
+/// What is said of a password file that can't be read.
+const UNREADABLE: &[u8] = b"fibs: the password file can't be read\n";
+
+/// Does what a command line calls for on the standard streams.
+pub fn answer(rt: &HostRuntime, answer: &Answer<'_>) -> Result<u8, EngineFault> {
+    match answer {
+        Answer::Engine(Request::Show) => shown(rt, rt, answer, PIPE_QUIET, &mut rt.stdin()),
+        Answer::Engine(Request::Plays(line)) => plays(rt, line, answer),
+        Answer::Engine(Request::Connect { password_file, .. }) => {
+            connect(rt, *password_file, answer)
+        }
+        _ => plainly(rt, rt, answer, PIPE_QUIET, &mut rt.stdin()),
+    }
+}
+
+/// Answers on the standard output as it is.
+fn plainly<N: Net<Listener = TcpListener, Stream = TcpStream>, R: Read>(
+    rt: &HostRuntime,
+    net: &N,
+    answer: &Answer<'_>,
+    quiet: u64,
+    input: &mut R,
+) -> Result<u8, EngineFault> {
+    program::answer(
+        net,
+        rt.alloc(),
+        answer,
+        Duration::from_millis(quiet),
+        input,
+        &mut rt.stdout(),
+        &mut rt.stderr(),
+    )
+}
+
+/// Answers on a screen, where the standard output is a terminal.
+fn shown<N: Net<Listener = TcpListener, Stream = TcpStream>, R: Read>(
+    rt: &HostRuntime,
+    net: &N,
+    answer: &Answer<'_>,
+    quiet: u64,
+    input: &mut R,
+) -> Result<u8, EngineFault> {
+    if !rt.stdout().is_terminal() {
+        return plainly(rt, net, answer, quiet, input);
+    }
+    let alloc = rt.alloc();
+    let mut screen = Screen::new(alloc, rt.stdout())?;
+    program::answer(
+        net,
+        alloc,
+        answer,
+        Duration::from_millis(quiet),
+        input,
+        &mut screen,
+        &mut rt.stderr(),
+    )
+}
+
+/// Draws the board above its plays, where the standard output is a terminal.
+fn plays(rt: &HostRuntime, line: &str, answer: &Answer<'_>) -> Result<u8, EngineFault> {
+    if rt.stdout().is_terminal() {
+        draw_line(rt.alloc(), line.as_bytes(), &mut rt.stdout())?;
+    }
+    plainly(rt, rt, answer, PIPE_QUIET, &mut rt.stdin())
+}
+
+/// Talks with a server. The password is the first line of a file, or typed.
+fn connect(rt: &HostRuntime, file: Option<&str>, answer: &Answer<'_>) -> Result<u8, EngineFault> {
+    match file {
+        None => {
+            if rt.stdin().is_terminal() {
+                // where it can't be asked for, it is read all the same
+                let _asked = write_bytes(b"password: ", &mut rt.stderr());
+            }
+            converse(rt, b"", answer)
+        }
+        Some(file) => match password_line(rt, file) {
+            Ok(line) => converse(rt, line.as_slice(), answer),
+            Err(error) if error.kind() == ErrorKind::OutOfMemory => Err(EngineFault::Memory),
+            Err(_) => {
+                // where it can't be said, the status says it alone
+                let _said = write_bytes(UNREADABLE, &mut rt.stderr());
+                Ok(Status::Device.code())
+            }
+        },
+    }
+}
+
+/// The first line of a file, of which no byte behind it is read: it may be a pipe that others read on.
+fn password_line(rt: &HostRuntime, file: &str) -> io::Result<Vec<u8>> {
+    let alloc = rt.alloc();
+    let file = BufReader::with_capacity(alloc, 1, File::open(rt, file)?)?;
+    first_line(alloc, &mut file.take(MOST_PASSWORD))
+}
+
+/// Talks with a server, of which the first line to be read may be known.
+fn converse(rt: &HostRuntime, first: &[u8], answer: &Answer<'_>) -> Result<u8, EngineFault> {
+    if rt.stdin().is_terminal() {
+        // without a `Poll` the standard input is read as if it were no terminal
+        if let Ok(heard) = Poll::new(rt) {
+            let watch = PollWatch::new(rt, rt.alloc(), rt.stdin().as_raw_fd(), &heard).ok();
+            let typed = TypedOrHeard::new(rt.stdin(), watch);
+            let net = Dialling::new(rt, heard.registry());
+            return shown(rt, &net, answer, TERMINAL_QUIET, &mut first.chain(typed));
+        }
+    }
+    shown(rt, rt, answer, PIPE_QUIET, &mut first.chain(rt.stdin()))
+}
