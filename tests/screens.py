@@ -685,7 +685,7 @@ def stopped_under_fibs_play(server):
 
 
 def closed_in_mid_picture(server):
-    """The terminal goes while boards are drawn: the shell ends it by a hangup, or the program ends itself first."""
+    """The terminal goes while boards are drawn: the program ends by the shell's hangup, or sooner by itself."""
     for more, wanted in ({}, [0, 4, 129]), ({'NOHUP': '1'}, [0, 4]):
         player = greeted(server, at_a_terminal(server, **more))
         boards = threading.Thread(target=sends_until_it_is_over, args=(server,), daemon=True)
@@ -693,7 +693,7 @@ def closed_in_mid_picture(server):
         player.sees(TO_ROLL)
         player.hangs_up()
         kind, status = player.report()
-        same('the ending', (kind, int(status) in wanted or status), ('ended', True))
+        same('the ending by %s' % status, (kind, int(status) in wanted), ('ended', True))
         boards.join(PATIENCE)
         server.received.clear()
         player.close()

@@ -187,7 +187,7 @@ class Terminal:
             return
         self.running.remove(self)
         if not self.is_over:
-            os.killpg(self.job, signal.SIGKILL)
+            signal_job(self.job, signal.SIGKILL)
         self.shell.kill()
         self.shell.wait()
         if self.reader.is_alive():
@@ -195,6 +195,14 @@ class Terminal:
         for fd in (self.fd, self.orders, self.reports, self.stopped, self.stop):
             if fd is not None:
                 os.close(fd)
+
+
+def signal_job(job, number):
+    """Sends a signal to a job, which may have ended meanwhile."""
+    try:
+        os.killpg(job, number)
+    except ProcessLookupError:
+        pass
 
 
 def begin(words):
@@ -223,7 +231,7 @@ def shell(orders, reports, words):
     fcntl.ioctl(0, termios.TIOCSCTTY, 0)
     modes = termios.tcgetattr(0)
     job = begin(words)
-    signal.signal(signal.SIGHUP, lambda *_: 'NOHUP' in os.environ or os.killpg(job, signal.SIGHUP))
+    signal.signal(signal.SIGHUP, lambda *_: 'NOHUP' in os.environ or signal_job(job, signal.SIGHUP))
     os.write(reports, b'%d\n' % job)
     while True:
         _, status = os.waitpid(job, os.WUNTRACED)
