@@ -212,7 +212,7 @@ def begin(words):
         try:
             os.setpgid(0, 0)
             os.tcsetpgrp(0, os.getpid())
-            for number in [*OF_THE_JOB, signal.SIGPIPE]:
+            for number in [*OF_THE_JOB, signal.SIGPIPE, signal.SIGHUP, signal.SIGTERM]:
                 signal.signal(number, signal.SIG_DFL)
             os.execvp(words[0], words)
         finally:
