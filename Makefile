@@ -45,7 +45,7 @@ lib/libfibs.a: $(C_ARCHIVE)
 lib/libfibs.so: lib/libfibs.a lib/fibs.map
 	$(CC) -shared -o lib/$(SONAME) -Wl,-soname,$(SONAME) -Wl,--version-script=lib/fibs.map -Wl,--gc-sections -Wl,-z,defs \
 		-Wl,--whole-archive lib/libfibs.a -Wl,--no-whole-archive
-	ln -sf $(SONAME) $@
+	install -m 755 lib/$(SONAME) $@
 
 lib/fibs.pc: lib/fibs.pc.in Makefile
 	sed -e 's|@PREFIX@|$(PREFIX)|; s|@VERSION@|$(VERSION)|' $< > $@

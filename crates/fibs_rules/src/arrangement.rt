@@ -1,6 +1,6 @@
 //! The checkers of both sides.
 
-ghost use Rattle.std.specs.Prelude.{◌≡◌, ◌+◌, ◌-◌, ◌*◌, ◌<◌, ◌≤◌, ◌==◌, sum, map, length, slice_index, ◌↔◌, IsSome};
+ghost use Rattle.std.specs.Prelude.{◌≡◌, ◌+◌, ◌-◌, ◌*◌, ◌<◌, ◌≤◌, ◌==◌, sum, map, length, slice_index, ◌↔◌, IsSome, IfSome};
 ghost use Rattle.std.specs.List.{list_all};
 ghost use Rattle.fibs_rules.specs.Hop.{hop_of};
 ghost use Rattle.fibs_rules.specs.Checkers.{Checkers, moved, is_empty_from, is_open};
@@ -49,6 +49,7 @@ impl Arrangement {
     /// The arrangement of these counts, where each side has fifteen.
     pub fn new(own: [u8; 26], other: [u8; 26]) -> Option<Self>
         ensures test { IsSome result ↔ ((sum own ≡ 15) × (sum other ≡ 15)) }
+        ensures value { IfSome result (λ a. a ≡ record { own = own; other = other }) }
     {
         if total(&own) == 15 && total(&other) == 15 {
             Some(Arrangement { own, other })
