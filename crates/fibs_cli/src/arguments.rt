@@ -124,9 +124,10 @@ const CONNECT_LONG: &str = "\
 Log in at a server, and play.
 
 HOST is a name or an address, PORT 1 to 65535. The first line of standard input is the password: it is
-never printed, but a terminal shows what is typed. This hides it, and shows what is typed after it:
+never printed, but a terminal shows what is typed. This asks for it without showing it, and becomes
+this command:
 
-  stty -echo; { head -n 1; stty echo; cat; } | fibs connect fibs.com 4321 ann
+  fibs-play fibs.com 4321 ann
 
 With `--password-file FILE` the password is the first line of a file, as of /dev/fd/3 or a pipe with a
 name, and each line of standard input is typed. Where FILE can't be read the status is 4.
