@@ -203,6 +203,14 @@ fn in_range(values: Values, number: Option<i64>) -> Result<i32, Fault>
     }
 }
 
+/// The number of one digit that a field may have.
+#[inline(always)]
+pub fn digit_in(values: Values, digit: u8) -> Result<i32, Fault>
+    ensures { result ≡ number_in values (digit ∷ []) }
+{
+    in_range(values, one_byte(digit))
+}
+
 /// The number of a canonical decimal that a field may have.
 #[inline(always)]
 pub fn number_in(values: Values, text: &[u8]) -> Result<i32, Fault>
@@ -210,7 +218,7 @@ pub fn number_in(values: Values, text: &[u8]) -> Result<i32, Fault>
 {
     // Nearly all numbers of a board are one byte or two.
     match text {
-        [digit] => in_range(values, one_byte(*digit)),
+        [digit] => digit_in(values, *digit),
         [first, last] => in_range(values, two_bytes(*first, *last)),
         _ => in_range(values, long_decimal(text)),
     }

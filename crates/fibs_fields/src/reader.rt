@@ -8,11 +8,11 @@ ghost use Rattle.fibs_fields.specs.Split.{seen};
 ghost use Rattle.fibs_fields.specs.Decimal.{number_in};
 ghost use Rattle.fibs_fields.specs.Bytes.{name_bytes, word_bytes, tail_bytes};
 
-use crate::decimal::{flag_in, number_in, unsigned_in};
+use crate::decimal::{digit_in, flag_in, number_in, unsigned_in};
 use crate::fault::{Fault, FieldFault};
 use crate::name::Name;
 use crate::rating::rating_in;
-use crate::split::split;
+use crate::split::{one_before, split};
 use crate::values::Values;
 use crate::word::{Tail, Word};
 
@@ -65,10 +65,10 @@ impl<'a> Fields<'a> {
         }
     }
 
-    /// The next field as one of these numbers.
+    /// The next field as one of these numbers, however many digits it has.
     #[inline(always)]
     #[tactic(auto, unfolding(crate::specs::FieldReading::next_at, crate::specs::FieldReading::text_at))]
-    pub fn number_of(&mut self, values: Values, field: usize) -> Result<i32, FieldFault>
+    fn any_number_of(&mut self, values: Values, field: usize) -> Result<i32, FieldFault>
         ensures { Gives (λ number. (number, left_of self.new)) result
             (next_at (number_in values) field (left_of self.old)) }
     {
@@ -77,6 +77,25 @@ impl<'a> Fields<'a> {
             Ok(number) => Ok(number),
             Err(fault) => Err(FieldFault { field, fault }),
         }
+    }
+
+    /// The next field as one of these numbers. One digit, as most numbers of a board are, is read without a search.
+    #[inline(always)]
+    #[tactic(auto, unfolding(crate::specs::FieldReading::next_at, crate::specs::FieldReading::text_at))]
+    pub fn number_of(&mut self, values: Values, field: usize) -> Result<i32, FieldFault>
+        ensures { Gives (λ number. (number, left_of self.new)) result
+            (next_at (number_in values) field (left_of self.old)) }
+    {
+        if let Some(rest) = self.rest {
+            if let Some((digit, after)) = one_before(rest, self.separator) {
+                self.rest = Some(after);
+                return match digit_in(values, digit) {
+                    Ok(number) => Ok(number),
+                    Err(fault) => Err(FieldFault { field, fault }),
+                };
+            }
+        }
+        self.any_number_of(values, field)
     }
 
     /// The next field as a name, where it ends the line or is none.

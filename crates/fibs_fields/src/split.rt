@@ -1,9 +1,22 @@
 //! A text is split at a byte.
 
-ghost use Rattle.std.specs.Prelude.{◌≡◌};
+ghost use Rattle.std.specs.Prelude.{◌≡◌, ◌∷◌, [], IfSome, Some};
 ghost use Rattle.fibs_fields.specs.Split.{seen, before, after};
 
 use bstr::ByteSlice;
+
+/// The first byte of a text and what stands after the second, where that is `byte` and the first is not.
+#[inline(always)]
+pub fn one_before(text: &[u8], byte: u8) -> Option<(u8, &[u8])>
+    ensures before { IfSome result (λ x. before byte text.now ≡ x.0 ∷ []) }
+    ensures after { IfSome result (λ x. after byte text.now ≡ Some x.1.now) }
+{
+    if text.len() > 1 && text[0] != byte && text[1] == byte {
+        Some((text[0], &text[2..]))
+    } else {
+        None
+    }
+}
 
 /// What stands before the first `byte`, and what stands after it, where there is one.
 #[inline(always)]
