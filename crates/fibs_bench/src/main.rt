@@ -3,10 +3,12 @@
 //! a million typed texts are commands. Nothing stands on them.
 #![tactic(auto)]
 
+ghost use Rattle.std.specs.Prelude.{◌≤◌, ◌<◌, length};
+
 use fibs_lines::{Line, Lines};
 use fibs_messages::{Reading, read};
 use fibs_position::{Decision, Direction, Play, Position};
-use fibs_session::{Client, Directory, Login, read_command, read_plain};
+use fibs_session::{Client, Directory, Login, Taken, read_command, read_plain};
 use std::alloc::{AllocError, Global};
 use std::io::Read;
 use std::{env, io};
@@ -92,17 +94,58 @@ fn count_piece(
     Ok(count)
 }
 
+/// What a client's answer counts for: each part of it is looked at.
+fn weight_of(taken: &Taken<'_>) -> u64 {
+    let said = matches!(taken.reading, Reading::Board(_) | Reading::Numbered(_));
+    let answered = !taken.send.is_empty() || taken.confirmed.is_some() || taken.rolled;
+    1 + u64::from(said && answered && taken.line.cut)
+}
+
+/// How long the front of a piece is that a client reads, and what its answer counts for.
+#[inline(always)]
+fn take_front(client: &mut Client, piece: &[u8]) -> (usize, u64)
+    ensures in_range { result.0 ≤ length piece.now }
+    ensures progress { 0 < length piece.now → 0 < result.0 }
+{
+    let got = client.feed(piece);
+    match &got.taken {
+        None => (got.used, 0),
+        Some(taken) => (got.used, weight_of(taken)),
+    }
+}
+
+/// The same, by one of three calls.
+fn take_by_turn(client: &mut Client, piece: &[u8], turn: u64) -> (usize, u64)
+    ensures in_range { result.0 ≤ length piece.now }
+    ensures progress { 0 < length piece.now → 0 < result.0 }
+{
+    match turn % 3 {
+        0 => take_front(client, piece),
+        1 => take_front(client, piece),
+        _ => take_front(client, piece),
+    }
+}
+
 /// Counts the lines that a client takes of `piece`.
 fn take_piece(client: &mut Client, piece: &[u8]) -> u64 {
     let mut at = 0;
     let mut count = 0u64;
     while at < piece.len() {
-        let heard = client.read(&piece[at..]);
-        let got = client.got(heard);
-        at += got.used;
-        if got.taken.is_some() {
-            count = count.wrapping_add(1);
-        }
+        let taken = take_front(client, &piece[at..]);
+        at += taken.0;
+        count = count.wrapping_add(taken.1);
+    }
+    count
+}
+
+/// The same, called from three places in turn.
+fn take_by_turns(client: &mut Client, piece: &[u8]) -> u64 {
+    let mut at = 0;
+    let mut count = 0u64;
+    while at < piece.len() {
+        let taken = take_by_turn(client, &piece[at..], count);
+        at += taken.0;
+        count = count.wrapping_add(taken.1);
     }
     count
 }
@@ -127,7 +170,7 @@ fn count_lines(rt: &HostRuntime, what: Count) -> io::Result<u64> {
 }
 
 /// Counts the lines of the standard input that the client takes.
-fn hear_input(rt: &HostRuntime, client: &mut Client) -> io::Result<u64> {
+fn hear_input(rt: &HostRuntime, client: &mut Client, by_turns: bool) -> io::Result<u64> {
     let mut portion = vec![in rt.alloc(); 0u8; PORTION]?;
     let mut input = rt.stdin();
     let mut count = 0u64;
@@ -136,7 +179,13 @@ fn hear_input(rt: &HostRuntime, client: &mut Client) -> io::Result<u64> {
         if used == 0 {
             break;
         }
-        count = count.wrapping_add(take_piece(client, &portion[..used]));
+        let piece = &portion[..used];
+        let taken = if by_turns {
+            take_by_turns(client, piece)
+        } else {
+            take_piece(client, piece)
+        };
+        count = count.wrapping_add(taken);
     }
     Ok(count)
 }
@@ -150,10 +199,10 @@ fn online() -> Option<Client> {
 }
 
 /// Counts the lines of the standard input that a client takes which has a connection.
-fn take_lines(rt: &HostRuntime) -> io::Result<u64> {
+fn take_lines(rt: &HostRuntime, by_turns: bool) -> io::Result<u64> {
     match online() {
         None => Ok(0),
-        Some(mut client) => hear_input(rt, &mut client),
+        Some(mut client) => hear_input(rt, &mut client, by_turns),
     }
 }
 
@@ -161,7 +210,7 @@ fn take_lines(rt: &HostRuntime) -> io::Result<u64> {
 fn count_clicks(rt: &HostRuntime) -> io::Result<u64> {
     let mut count = 0u64;
     if let Some(mut client) = online() {
-        let _lines = hear_input(rt, &mut client)?;
+        let _lines = hear_input(rt, &mut client, false)?;
         let decision = Decision::Move(Play::new());
         for _ in 0..CLICKS {
             if client.decide(&decision).is_err() {
@@ -206,7 +255,8 @@ fn main(rt: HostRuntime) -> io::Result<()> {
         "readings" => count_lines(&rt, Count::Readings)?,
         "notes" => count_lines(&rt, Count::Notes)?,
         "plays" => count_lines(&rt, Count::Plays)?,
-        "client" => take_lines(&rt)?,
+        "client" => take_lines(&rt, false)?,
+        "clients" => take_lines(&rt, true)?,
         "clicks" => count_clicks(&rt)?,
         "commands" => count_commands(),
         _ => count_lines(&rt, Count::Lines)?,
