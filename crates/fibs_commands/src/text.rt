@@ -13,6 +13,19 @@ use std::str;
 /// Texts are equal where their bytes are.
 pub type CommandText = ArrayString<512>;
 
+/// A command by which a client answers a line of the server: a text of at most 24 bytes, without its line end.
+pub type AnswerText = ArrayString<24>;
+
+/// The text of no more than this.
+pub fn answer(text: &str) -> AnswerText
+    requires { length text.now ≤ 24 }
+    ensures { text_of result ≡ text.now }
+{
+    let mut answer = AnswerText::new();
+    answer.push_str(text);
+    answer
+}
+
 /// The text of no more than this.
 pub fn command(text: &str) -> CommandText
     requires { length text.now ≤ 512 }

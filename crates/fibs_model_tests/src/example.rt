@@ -4,18 +4,17 @@ ghost use Rattle.std.specs.Prelude.{◌≡◌, ◌≤◌, ◌<◌, ◌++◌, len
 ghost use Rattle.fibs_session.specs.Calls.SessionOf.{texts_of, taken_of};
 ghost use Rattle.fibs_session.specs.Calls.Writing.{Writes};
 ghost use Rattle.fibs_session.specs.History.Machine.{Piece, on_wire, wire_of};
-ghost use Rattle.fibs_commands.specs.TextOf.{text_of};
 
 use fibs_messages::Reading;
 use fibs_position::Decision;
 use fibs_session::client::laws;
-use fibs_session::{Client, CommandText, Login, Taken};
+use fibs_session::{AnswerText, Client, Login, Taken};
 use std::alloc::AllocError;
 use std::test::Fail;
 
 /// Sends a command: its text, and CR LF.
-fn send(command: &CommandText, wire: &mut Vec<u8>) -> Result<(), AllocError>
-    ensures { OnOk result (wire.new.items ≡ wire.old.items ++ on_wire (text_of command.now)) }
+fn send(command: &str, wire: &mut Vec<u8>) -> Result<(), AllocError>
+    ensures { OnOk result (wire.new.items ≡ wire.old.items ++ on_wire command.now) }
 {
     wire.extend_from_slice(command.as_bytes())?;
     wire.extend_from_slice(b"\r\n")?;
@@ -23,11 +22,11 @@ fn send(command: &CommandText, wire: &mut Vec<u8>) -> Result<(), AllocError>
 }
 
 /// Sends commands.
-fn send_all(commands: &[CommandText], wire: &mut Vec<u8>) -> Result<(), AllocError>
+fn send_all(commands: &[AnswerText], wire: &mut Vec<u8>) -> Result<(), AllocError>
     ensures { OnOk result (wire.new.items ≡ wire.old.items ++ wire_of (texts_of commands.now)) }
 {
     for command in commands {
-        send(command, wire)?;
+        send(command.as_str(), wire)?;
     }
     Ok(())
 }

@@ -7,7 +7,8 @@ ghost use Rattle.fibs_session.specs.History.Machine.{on_wire, wire_of};
 ghost use Rattle.fibs_records.specs.Wires.{wire_in};
 
 use crate::text::put;
-use fibs_session::CommandText;
+use arrayvec::ArrayString;
+use fibs_session::{AnswerText, CommandText};
 
 /// What is to be sent, at once: some commands, each with CR LF.
 #[repr(C)]
@@ -39,8 +40,9 @@ fn append(wire: &mut Wire, bytes: &[u8])
 }
 
 /// Appends a command with its line end.
-fn append_command(wire: &mut Wire, command: &CommandText)
-    requires { wire.old.len + 514 ≤ 1542 }
+fn append_command<const N: usize>(wire: &mut Wire, command: &ArrayString<N>)
+    requires room { wire.old.len + 514 ≤ 1542 }
+    requires short { N ≤ 512 }
     ensures appended { wire_in wire.new ≡ wire_in wire.old ++ on_wire (text_of command.now) }
     ensures short { wire.new.len ≤ wire.old.len + 514 }
 {
@@ -49,7 +51,7 @@ fn append_command(wire: &mut Wire, command: &CommandText)
 }
 
 /// Makes it hold these commands.
-pub fn put_commands(wire: &mut Wire, commands: &[CommandText])
+pub fn put_commands(wire: &mut Wire, commands: &[AnswerText])
     requires { length commands.now ≤ 3 }
     ensures { wire_in wire.new ≡ wire_of (texts_of commands.now) }
 {

@@ -164,6 +164,7 @@ impl Client {
     }
 
     /// Reads `piece` up to and with the next line end, and hears the line, by lines and session.
+    #[inline(always)]
     fn take_piece(&mut self, piece: &[u8]) -> HeardLine
         ensures in_range { result.used ≤ length piece.now }
         ensures progress { 0 < length piece.now → 0 < result.used }
@@ -208,6 +209,7 @@ impl Client {
 
     /// The first half of `feed`: reads `piece` up to and with the next line end, and hears the line that ends there.
     /// `got` lends it.
+    #[inline(always)]
     pub fn read(&mut self, piece: &[u8]) -> HeardLine
         ensures in_range { result.used ≤ length piece.now }
         ensures progress { 0 < length piece.now → 0 < result.used }
@@ -225,6 +227,7 @@ impl Client {
     /// The second half of `feed`: what `read` has heard, with its line. To be called before anything else is done with
     /// the client.
     #[tactic(auto, unfolding(crate::specs::Calls::Feeding::Keeps, crate::specs::Calls::Feeding::Shows))]
+    #[inline(always)]
     pub fn got(&self, heard: HeardLine) -> Got<'_>
         ensures used { result.used ≡ heard.used }
         ensures shows { Keeps self.now heard → Shows self.now heard (option_map taken_of result.taken) }
@@ -258,6 +261,7 @@ impl Client {
     /// Reads `piece` up to and with the next line end, and lends the line that ends there, with the answer to it.
     /// Without a line end it reads all of it, and lends none. Call it again with what is left of the piece, until
     /// nothing is. Offline all bytes are dropped.
+    #[inline(always)]
     pub fn feed(&mut self, piece: &[u8]) -> Got<'_>
         ensures in_range { result.used ≤ length piece.now }
         ensures progress { 0 < length piece.now → 0 < result.used }

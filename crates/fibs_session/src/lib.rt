@@ -8,8 +8,8 @@ mod session;
 
 pub use client::{Client, Got, HeardLine, Input, run_client};
 pub use fibs_commands::{
-    CommandText, Login, Plain, PlainFault, autoboard_text, board_text, decision_text,
-    moreboards_text, plain_text, read_command, read_plain, style_text,
+    AnswerText, CommandText, Login, Plain, PlainFault, autoboard_text, board_text, decision_text,
+    moreboards_text, plain_text, read_command, read_plain, roll_text, style_text,
 };
 pub use fibs_directory::{Directory, DirectoryFault, Player};
 pub use refusal::{PlainRefusal, Refusal};

@@ -97,6 +97,7 @@ impl Session {
     /// and `toggle moreboards`, each where that setting is 0, and then by `board`. A board that has a position is shown
     /// from now on; where its game part differs from that of the board shown before, a decision that waits is
     /// confirmed. Where a standing order is then due, it is answered by `roll`, which waits (`rolled`).
+    #[inline(always)]
     pub fn line<'a>(&mut self, line: &Line<'a>) -> Taken<'a>
         ensures line { value_of result.line ≡ value_of line.now }
         ensures reading { reading_of result.reading ≡ line_reading (value_of line.now) }
@@ -121,6 +122,7 @@ impl Session {
     }
 
     /// Whether a line is a message that changes nothing and is answered by nothing. Its fields are not read.
+    #[inline(always)]
     pub(crate) fn leaves(&self, line: &Line<'_>) -> bool
         ensures { result ≡ true →
             SessionHears (session_of self.now) (session_of self.now) (value_of line.now) [] None false }

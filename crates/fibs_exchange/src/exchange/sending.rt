@@ -7,8 +7,8 @@ ghost use Rattle.fibs_session.specs.Calls.SessionOf.{texts_of};
 ghost use Rattle.fibs_show.specs.Writing.{Wrote, progress_of};
 
 use super::link::Link;
-use arrayvec::ArrayVec;
-use fibs_session::CommandText;
+use arrayvec::{ArrayString, ArrayVec};
+use fibs_session::AnswerText;
 use fibs_show::printing::fixed::append;
 use fibs_show::writing::Broken;
 
@@ -32,7 +32,8 @@ fn send_bytes<S: Link>(bytes: &[u8], stream: &mut S) -> Result<(), Broken>
 }
 
 /// The bytes of a command.
-pub(super) fn text_bytes(command: &CommandText) -> &[u8]
+pub(super) fn text_bytes<const N: usize>(command: &ArrayString<N>) -> &[u8]
+    requires { N ≤ 512 }
     ensures value { result.now ≡ text_of command.now }
     ensures fits { length result.now ≤ 512 }
 {
@@ -40,7 +41,8 @@ pub(super) fn text_bytes(command: &CommandText) -> &[u8]
 }
 
 /// A command and its line end, in one piece.
-fn wire_line(command: &CommandText) -> WireLine
+fn wire_line<const N: usize>(command: &ArrayString<N>) -> WireLine
+    requires { N ≤ 512 }
     ensures { result.items ≡ on_wire (text_of command.now) }
 {
     let mut line = ArrayVec::new();
@@ -50,7 +52,11 @@ fn wire_line(command: &CommandText) -> WireLine
 }
 
 /// Writes a command and its line end, by one write where the stream takes all of it.
-pub fn send_command<S: Link>(command: &CommandText, stream: &mut S) -> Result<(), Broken>
+pub fn send_command<S: Link, const N: usize>(
+    command: &ArrayString<N>,
+    stream: &mut S,
+) -> Result<(), Broken>
+    requires { N ≤ 512 }
     ensures wrote { Wrote (progress_of result) (S.contents stream.old) (S.contents stream.new)
         (on_wire (text_of command.now)) }
     ensures apart { Keeps (S.remaining stream.old) (S.remaining stream.new) }
@@ -59,7 +65,7 @@ pub fn send_command<S: Link>(command: &CommandText, stream: &mut S) -> Result<()
 }
 
 /// Writes the commands in order.
-pub(super) fn send_commands<S: Link>(commands: &[CommandText], stream: &mut S) -> Result<(), Broken>
+pub(super) fn send_commands<S: Link>(commands: &[AnswerText], stream: &mut S) -> Result<(), Broken>
     ensures wrote { Wrote (progress_of result) (S.contents stream.old) (S.contents stream.new)
         (wire_of (texts_of commands.now)) }
     ensures apart { Keeps (S.remaining stream.old) (S.remaining stream.new) }

@@ -10,7 +10,7 @@ use super::queue::Queue;
 use super::sockets::{CROSSING_LEN, Ends};
 use fibs_messages::Reading;
 use fibs_model::Entry;
-use fibs_session::{Client, CommandText};
+use fibs_session::{AnswerText, Client};
 use fibs_show::fault::EngineFault;
 
 /// Notes an entry, if there is one.
@@ -42,7 +42,7 @@ fn note_line(
 }
 
 /// What the client sends waits.
-fn put_all(to_server: &mut Queue, commands: &[CommandText]) -> Result<(), EngineFault>
+fn put_all(to_server: &mut Queue, commands: &[AnswerText]) -> Result<(), EngineFault>
     ensures { OnOk result (to_server.new ≡ to_server.old ++ wire_of (texts_of commands.now)) }
 {
     for command in commands {

@@ -13,7 +13,7 @@ ghost use Rattle.fibs_model.specs.HearingOf.{HearsPiece, RoomForLine, RoomForPie
 use crate::entry::Entry;
 use crate::wire::Wire;
 use fibs_messages::Reading;
-use fibs_session::{Client, CommandText};
+use fibs_session::{AnswerText, Client};
 
 /// Notes an entry, if there is one.
 pub(super) fn note(log: &mut Vec<Entry>, entry: Option<Entry>)
@@ -44,7 +44,7 @@ fn note_line(log: &mut Vec<Entry>, conn: usize, reading: &Reading<'_>, rolled: b
 }
 
 /// Puts commands on a wire that has room for them.
-fn put_all(wire: &mut Wire, commands: &[CommandText])
+fn put_all(wire: &mut Wire, commands: &[AnswerText])
     requires room { length (wire_of (texts_of commands.now)) ≤ wire.old.room }
     ensures items { wire.new.items ≡ wire.old.items ++ wire_of (texts_of commands.now) }
     ensures room { wire.old.room ≤ wire.new.room + length (wire_of (texts_of commands.now)) }

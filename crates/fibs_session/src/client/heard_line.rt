@@ -6,13 +6,13 @@ ghost use Rattle.fibs_session.specs.declared.client.owned_reading.OwnedReading.T
 use super::owned_reading::OwnedReading;
 use crate::session::Outstanding;
 use arrayvec::ArrayVec;
-use fibs_commands::CommandText;
+use fibs_commands::AnswerText;
 
 /// The answer to a line, without the line.
 #[derive(Drop)]
 pub(crate) struct Answer {
     pub(super) reading: OwnedReading,
-    pub(super) send: ArrayVec<CommandText, 3>,
+    pub(super) send: ArrayVec<AnswerText, 3>,
     pub(super) confirmed: Option<Outstanding>,
     pub(super) rolled: bool,
 }

@@ -28,6 +28,7 @@ impl OwnedReading {
     ghost use Rattle.fibs_session.specs.Calls.ClientOf.{lent_reading};
 
     /// A reading without what it borrows.
+    #[inline(always)]
     pub(super) fn of(reading: &Reading<'_>) -> OwnedReading
         ensures { (l : ReadLine) → line_reading l ≡ reading_of reading.now → lent_reading result l ≡ line_reading l }
     {
@@ -49,6 +50,7 @@ impl OwnedReading {
     }
 
     /// The reading again, with its line.
+    #[inline(always)]
     pub(super) fn with_line<'a>(&self, line: &Line<'a>) -> Reading<'a>
         ensures { reading_of result ≡ lent_reading self.now (value_of line.now) }
     {

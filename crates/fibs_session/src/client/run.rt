@@ -12,11 +12,12 @@ use super::input::Input;
 use super::{Client, laws};
 use crate::refusal::{PlainRefusal, Refusal};
 use crate::session::Taken;
-use fibs_commands::{CommandText, Login};
+use arrayvec::ArrayString;
+use fibs_commands::{AnswerText, CommandText, Login};
 use std::alloc::{AllocError, Global};
 
 /// Appends a command with its line end.
-fn append(command: &CommandText, out: &mut Vec<u8>) -> Result<(), AllocError>
+fn append<const N: usize>(command: &ArrayString<N>, out: &mut Vec<u8>) -> Result<(), AllocError>
     ensures { OnOk result (out.new.items ≡ out.old.items ++ on_wire (text_of command.now)) }
 {
     out.extend_from_slice(command.as_bytes())?;
@@ -25,7 +26,7 @@ fn append(command: &CommandText, out: &mut Vec<u8>) -> Result<(), AllocError>
 }
 
 /// Appends commands.
-fn append_all(commands: &[CommandText], out: &mut Vec<u8>) -> Result<(), AllocError>
+fn append_all(commands: &[AnswerText], out: &mut Vec<u8>) -> Result<(), AllocError>
     ensures { OnOk result (out.new.items ≡ out.old.items ++ wire_of (texts_of commands.now)) }
 {
     for command in commands {

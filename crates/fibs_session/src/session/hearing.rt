@@ -18,7 +18,9 @@ ghost use Rattle.fibs_commands.specs.TextOf.{text_of};
 
 use super::{Outstanding, ServerFlags, Session, ShownBoard};
 use arrayvec::ArrayVec;
-use fibs_commands::{CommandText, autoboard_text, board_text, moreboards_text, style_text};
+use fibs_commands::{
+    AnswerText, autoboard_text, board_text, moreboards_text, roll_text, style_text,
+};
 use fibs_lines::Line;
 use fibs_messages::{Board, Message, OwnInfo, Reading, message_number, read};
 use fibs_position::{Decision, differs};
@@ -27,14 +29,14 @@ use fibs_position::{Decision, differs};
 /// standing order has rolled.
 #[derive(Drop)]
 pub(super) struct Reply {
-    pub(super) send: ArrayVec<CommandText, 3>,
+    pub(super) send: ArrayVec<AnswerText, 3>,
     pub(super) confirmed: Option<Outstanding>,
     pub(super) rolled: bool,
 }
 
 impl Reply {
     /// Commands alone.
-    fn of(send: ArrayVec<CommandText, 3>) -> Reply
+    fn of(send: ArrayVec<AnswerText, 3>) -> Reply
         ensures send { result.send ≡ send }
         ensures confirmed { result.confirmed ≡ None }
         ensures rolled { result.rolled ≡ false }
@@ -59,10 +61,12 @@ pub(crate) fn read_line<'a>(line: &Line<'a>) -> Reading<'a>
 
 /// Whether a line is a message that says nothing to a session: each but message 1 and message 2. Its fields are not
 /// read.
+#[inline(always)]
 pub(super) fn is_unheard(line: &Line<'_>) -> bool
     ensures { result ≡ true → (v : SessionValue) → line_fields v (line_reading (value_of line.now)) ≡ unheard v }
 {
-    if line.cut {
+    // A board line is the longest, and has no number to be looked for.
+    if line.cut || line.bytes.starts_with(b"board:") {
         return false;
     }
     match message_number(line.bytes) {
@@ -72,7 +76,7 @@ pub(super) fn is_unheard(line: &Line<'_>) -> bool
 }
 
 /// The commands that answer the first message 2.
-fn first_commands(info: &OwnInfo<'_>) -> ArrayVec<CommandText, 3>
+fn first_commands(info: &OwnInfo<'_>) -> ArrayVec<AnswerText, 3>
     ensures { map text_of result.items ≡ initial_commands (message_of (TheOwnInfo info.now)) }
 {
     let mut send = ArrayVec::new();
@@ -90,9 +94,10 @@ impl Session {
     ghost use Rattle.fibs_session.specs.Calls.SessionOf.{session_of, ask_of, texts_of};
 
     /// A board that has a position was heard.
-    fn note_board(&mut self, heard: ShownBoard) -> Option<Outstanding>
-        ensures fields { session_of self.new ≡ with_board (session_of self.old) (fields_of heard.board) }
-        ensures result { option_map ask_of result ≡ confirmed_of (session_of self.old) (fields_of heard.board) }
+    #[inline(always)]
+    fn note_board(&mut self, heard: &ShownBoard) -> Option<Outstanding>
+        ensures fields { session_of self.new ≡ with_board (session_of self.old) (fields_of heard.now.board) }
+        ensures result { option_map ask_of result ≡ confirmed_of (session_of self.old) (fields_of heard.now.board) }
     {
         let mut confirmed = None;
         if let Some(shown) = &self.shown {
@@ -101,12 +106,12 @@ impl Session {
                 self.waiting = None;
             }
         }
-        self.shown = Some(heard);
+        self.shown = Some(*heard);
         confirmed
     }
 
     /// A message was heard.
-    fn note_message(&mut self, message: &Message<'_>) -> ArrayVec<CommandText, 3>
+    fn note_message(&mut self, message: &Message<'_>) -> ArrayVec<AnswerText, 3>
         ensures fields { session_of self.new ≡ (message_fields (session_of self.old) (message_of message.now)).session }
         ensures send { texts_of result.items ≡ (message_fields (session_of self.old) (message_of message.now)).send }
     {
@@ -133,32 +138,32 @@ impl Session {
     }
 
     /// The standing order rolls on the board that is shown: `roll` waits.
-    fn roll_on(&mut self, board: &Board) -> CommandText
+    fn roll_on(&mut self, board: &Board) -> AnswerText
         ensures fields { session_of self.new ≡ with_roll (session_of self.old) (fields_of board.now) true }
         ensures text { text_of result ≡ command_of (direction_of (fields_of board.now)) roll }
     {
-        let asked = Outstanding {
+        self.waiting = Some(Outstanding {
             board: *board,
             decision: Decision::Roll,
-        };
-        self.waiting = Some(asked);
-        asked.command()
+        });
+        roll_text()
     }
 
     /// A board that has a position was heard. It is shown and confirms, and only then is the standing order asked: a
     /// decision that it confirms waits no longer.
-    fn note_shown(&mut self, heard: ShownBoard) -> Reply
-        ensures fields { let v = with_board (session_of self.old) (fields_of heard.board) in
-            session_of self.new ≡ with_roll v (fields_of heard.board) (due_of v (fields_of heard.board)) }
+    #[inline(always)]
+    fn note_shown(&mut self, heard: &ShownBoard) -> Reply
+        ensures fields { let v = with_board (session_of self.old) (fields_of heard.now.board) in
+            session_of self.new ≡ with_roll v (fields_of heard.now.board) (due_of v (fields_of heard.now.board)) }
         ensures send { texts_of result.send.items ≡ one_if result.rolled
-            (command_of (direction_of (fields_of heard.board)) roll) }
+            (command_of (direction_of (fields_of heard.now.board)) roll) }
         ensures confirmed { option_map ask_of result.confirmed
-            ≡ confirmed_of (session_of self.old) (fields_of heard.board) }
+            ≡ confirmed_of (session_of self.old) (fields_of heard.now.board) }
         ensures rolled { result.rolled
-            ≡ due_of (with_board (session_of self.old) (fields_of heard.board)) (fields_of heard.board) }
+            ≡ due_of (with_board (session_of self.old) (fields_of heard.now.board)) (fields_of heard.now.board) }
     {
         let confirmed = self.note_board(heard);
-        let rolled = self.is_due(&heard);
+        let rolled = self.is_due(heard);
         let mut send = ArrayVec::new();
         if rolled {
             send.push(self.roll_on(&heard.board));
@@ -171,6 +176,7 @@ impl Session {
     }
 
     /// What a reading says, online.
+    #[inline(always)]
     fn note(&mut self, reading: &Reading<'_>) -> Reply
         ensures fields { session_of self.new ≡ (heard_fields (session_of self.old) (reading_of reading.now)).session }
         ensures send { texts_of result.send.items
@@ -185,13 +191,14 @@ impl Session {
                 let Some(heard) = ShownBoard::of(board) else {
                     return Reply::of(ArrayVec::new());
                 };
-                self.note_shown(heard)
+                self.note_shown(&heard)
             }
             Reading::Text(_) | Reading::Malformed { .. } => Reply::of(ArrayVec::new()),
         }
     }
 
     /// What a reading says. Offline it says nothing.
+    #[inline(always)]
     pub(super) fn note_line(&mut self, reading: &Reading<'_>) -> Reply
         ensures fields { session_of self.new ≡ (line_fields (session_of self.old) (reading_of reading.now)).session }
         ensures send { texts_of result.send.items

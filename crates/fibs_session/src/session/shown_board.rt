@@ -19,6 +19,7 @@ pub(crate) struct ShownBoard {
 
 impl ShownBoard {
     /// A board with its position. None where it has none.
+    #[inline(always)]
     pub(super) fn of(board: &Board) -> Option<ShownBoard>
         ensures good { is_some result ≡ good (fields_of board.now) }
         ensures board { IfSome result (λ shown. shown.board ≡ board.now) }

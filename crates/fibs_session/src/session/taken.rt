@@ -4,7 +4,7 @@ ghost use Rattle.std.specs.Prelude.{◌≡◌};
 ghost use Rattle.fibs_commands.specs.TextOf.{text_of};
 
 use arrayvec::ArrayVec;
-use fibs_commands::{CommandText, decision_text};
+use fibs_commands::{AnswerText, CommandText, decision_text};
 use fibs_lines::Line;
 use fibs_messages::{Board, Reading};
 use fibs_position::{Decision, Direction};
@@ -38,7 +38,7 @@ pub struct Taken<'a> {
     /// What it is. A line that was cut is a text.
     pub reading: Reading<'a>,
     /// The commands that are to be sent, each followed by CR LF.
-    pub send: ArrayVec<CommandText, 3>,
+    pub send: ArrayVec<AnswerText, 3>,
     /// The decision that waited, where the line is a board that confirms it.
     pub confirmed: Option<Outstanding>,
     /// Whether the line is a board at which the standing order was due: `send` is then its `roll`, which waits.
