@@ -94,11 +94,14 @@ fn count_piece(
     Ok(count)
 }
 
-/// What a client's answer counts for: each part of it is looked at.
+/// What a client's answer counts for: one for the line, and one for each thing that there is to say of it.
 fn weight_of(taken: &Taken<'_>) -> u64 {
     let said = matches!(taken.reading, Reading::Board(_) | Reading::Numbered(_));
-    let answered = !taken.send.is_empty() || taken.confirmed.is_some() || taken.rolled;
-    1 + u64::from(said && answered && taken.line.cut)
+    1 + taken.send.len() as u64
+        + u64::from(said)
+        + u64::from(taken.line.cut)
+        + u64::from(taken.confirmed.is_some())
+        + u64::from(taken.rolled)
 }
 
 /// How long the front of a piece is that a client reads, and what its answer counts for.
@@ -126,7 +129,7 @@ fn take_by_turn(client: &mut Client, piece: &[u8], turn: u64) -> (usize, u64)
     }
 }
 
-/// Counts the lines that a client takes of `piece`.
+/// Counts what a client's answers to `piece` count for.
 fn take_piece(client: &mut Client, piece: &[u8]) -> u64 {
     let mut at = 0;
     let mut count = 0u64;
@@ -169,7 +172,7 @@ fn count_lines(rt: &HostRuntime, what: Count) -> io::Result<u64> {
     Ok(count)
 }
 
-/// Counts the lines of the standard input that the client takes.
+/// Counts what the client's answers to the standard input count for.
 fn hear_input(rt: &HostRuntime, client: &mut Client, by_turns: bool) -> io::Result<u64> {
     let mut portion = vec![in rt.alloc(); 0u8; PORTION]?;
     let mut input = rt.stdin();
@@ -198,7 +201,7 @@ fn online() -> Option<Client> {
     Some(client)
 }
 
-/// Counts the lines of the standard input that a client takes which has a connection.
+/// The same, of a client that has a connection.
 fn take_lines(rt: &HostRuntime, by_turns: bool) -> io::Result<u64> {
     match online() {
         None => Ok(0),
@@ -243,7 +246,8 @@ fn count_commands() -> u64 {
     count
 }
 
-/// Counts what the first argument names: `lines`, `readings`, `notes`, `plays`, `client`, `clicks` or `commands`;
+/// Counts what the first argument names: `lines`, `readings`, `notes`, `plays`, `client`, `clients` (one that is called
+/// from three places), `clicks` or `commands`;
 /// without one, lines.
 fn main(rt: HostRuntime) -> io::Result<()> {
     let words: Vec<String> = env::args(&rt)?.collect(rt.alloc())?;
