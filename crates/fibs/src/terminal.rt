@@ -16,8 +16,8 @@ use std::net::{Net, TcpListener, TcpStream};
 use std::os::fd::AsRawFd;
 use std::time::Duration;
 
-/// For how many milliseconds a server is to be quiet before the next line is read at a terminal, where the wait for what
-/// comes next hears the server too.
+/// For how many milliseconds a server is to be quiet before the next line is read at a terminal, where the wait for
+/// what comes next hears the server too.
 const TERMINAL_MILLIS: u64 = 20;
 
 /// How many bytes of a password's line are read: more than any has that is taken.

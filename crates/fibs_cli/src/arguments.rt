@@ -249,8 +249,8 @@ fn answer_to<'a>(alloc: Global, error: &Error) -> Answer<'a> {
     }
 }
 
-/// The answer of this kind and text. Help, and the version, come where they were asked for alone, and a refusal at every
-/// other mistake.
+/// The answer of this kind and text. Help, and the version, come where they were asked for alone, and a refusal at
+/// every other mistake.
 fn answer_of<'a>(kind: ErrorKind, text: String) -> Answer<'a>
     ensures memory { kind ≡ ErrorKind.OutOfMemory → result ≡ Answer.Memory }
     ensures help { kind ≡ ErrorKind.DisplayHelp → result ≡ Answer.Help text }

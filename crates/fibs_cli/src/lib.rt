@@ -1,5 +1,5 @@
-//! `fibs`: a client for the First Internet Backgammon Server. The engines under one roof, and what the program does with
-//! a command line.
+//! `fibs`: a client for the First Internet Backgammon Server. The engines under one roof, and what the program does
+//! with a command line.
 #![tactic(auto)]
 
 pub mod arguments;

@@ -20,8 +20,8 @@ use std::io::{Read, Write};
 use std::net::{Net, TcpListener, TcpStream};
 use std::time::Duration;
 
-/// Does what a command line calls for: it runs an engine, prints help on `out`, or says on `err` what is wrong. A server
-/// is listened to until it was quiet for so long.
+/// Does what a command line calls for: it runs an engine, prints help on `out`, or says on `err` what is wrong. A
+/// server is listened to until it was quiet for so long.
 pub fn answer<N: Net<Listener = TcpListener, Stream = TcpStream>, R: Read, W: Write, E: Write>(
     rt: &N,
     alloc: Global,

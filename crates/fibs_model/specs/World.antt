@@ -18,7 +18,8 @@ use Rattle.fibs_session.specs.History.Allows.{allows}
 use Rattle.fibs_session.specs.History.Machine.{Talk, gained, on_wire, wire_of, plain_refusal}
 use Rattle.fibs_session.specs.History.Machine.{order_refusal, withdraw_refusal}
 use Rattle.fibs_model.specs.Wires.{Link, empty_link, more_coming, delivered, more_asked, taken, cut_off, next_line}
-use Rattle.fibs_model.specs.Server.{ServerValue, TakenLine, Served, Stale, LoggedIn, Took, Undone, Answered, answered, command}
+use Rattle.fibs_model.specs.Server.{ServerValue, TakenLine, Served, Stale, LoggedIn, Took, Undone, Answered}
+use Rattle.fibs_model.specs.Server.{answered, command}
 use Rattle.fibs_model.specs.Events.{Event, Open, Click, Plain, Deliver, Lose, Serve, Own, Repeat, Text, Order, Withdraw}
 
 pub record World : Type 0 where

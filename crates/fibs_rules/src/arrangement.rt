@@ -1,6 +1,7 @@
 //! The checkers of both sides.
 
-ghost use Rattle.std.specs.Prelude.{◌≡◌, ◌+◌, ◌-◌, ◌*◌, ◌<◌, ◌≤◌, ◌==◌, sum, map, length, slice_index, ◌↔◌, IsSome, IfSome};
+ghost use Rattle.std.specs.Prelude.{◌≡◌, ◌+◌, ◌-◌, ◌*◌, ◌<◌, ◌≤◌, ◌==◌, ◌↔◌, sum, map, length, slice_index};
+ghost use Rattle.std.specs.Prelude.{IsSome, IfSome};
 ghost use Rattle.std.specs.List.{list_all};
 ghost use Rattle.fibs_rules.specs.Hop.{hop_of};
 ghost use Rattle.fibs_rules.specs.Checkers.{Checkers, moved, is_empty_from, is_open};

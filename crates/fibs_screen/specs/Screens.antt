@@ -33,8 +33,8 @@ Ended (kept line) bytes text =
 Ended passed bytes text = text ≡ bytes ++ (10 ∷ [])
 Ended broken bytes text = ⊥
 
--- how many bytes are taken, what there is then of a line, and what is written, where so many bytes stand after the first
--- line end: all, where none of them is a line end; else those up to it
+-- how many bytes are taken, what there is then of a line, and what is written, where so many bytes stand after the
+-- first line end: all, where none of them is a line end; else those up to it
 abbrev pub TakesTo : Option (List ℕ) → Begun → List ℕ → ℕ → Begun → List ℕ → Type 0
 TakesTo None begun bytes n next text = (n ≡ length bytes) × More begun bytes next text
 TakesTo (Some rest) begun bytes n next text =

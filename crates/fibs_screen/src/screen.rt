@@ -9,8 +9,8 @@ use std::alloc::{AllocError, Global};
 use std::io;
 use std::io::Write;
 
-/// A writer that stands round another one, and shows it each line that is written once it has ended: the board of one who
-/// plays as its picture, any other line in words. A line of more than 65,600 bytes goes on as it comes.
+/// A writer that stands round another one, and shows it each line that is written once it has ended: the board of one
+/// who plays as its picture, any other line in words. A line of more than 65,600 bytes goes on as it comes.
 ///
 /// A flush ends no line.
 #[derive(Drop)]

@@ -39,8 +39,8 @@ fn append_picture(line: &[u8], text: &mut Vec<u8>) -> io::Result<bool>
     }
 }
 
-/// Appends what a line shows as, which is given without its end: its picture where it is the board of one who plays, else
-/// its words.
+/// Appends what a line shows as, which is given without its end: its picture where it is the board of one who plays,
+/// else its words.
 ///
 /// Errors: where memory runs out, and then a part may have been appended.
 pub fn append_shown(line: &[u8], text: &mut Vec<u8>) -> io::Result<()>

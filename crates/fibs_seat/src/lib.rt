@@ -1,5 +1,5 @@
-//! The seat of a person at a terminal: the server is heard while nothing is typed, by an empty line that is put in where
-//! it speaks while no line is begun.
+//! The seat of a person at a terminal: the server is heard while nothing is typed, by an empty line that is put in
+//! where it speaks while no line is begun.
 #![tactic(auto)]
 
 mod dialling;

@@ -11,16 +11,19 @@ use Rattle.std.proofs.lemmas.Bool.Decides.{nat_tests}
 use Rattle.std.proofs.lemmas.List.{take_all, take_rest}
 use Rattle.fibs_show.specs.Escape.{is_escaped, hex_escape, escaped}
 
-pub flat_map-append : {X A : Type 0} (f : X → List A) (xs ys : List X) → flat_map f (xs ++ ys) ≡ flat_map f xs ++ flat_map f ys
+pub flat_map-append : {X A : Type 0} (f : X → List A) (xs ys : List X)
+    → flat_map f (xs ++ ys) ≡ flat_map f xs ++ flat_map f ys
 flat_map-append f [] ys = refl
-flat_map-append f (x ∷ xs) ys = ap (λ l. f x ++ l) (flat_map-append f xs ys) ∙ sym (append_assoc (f x) (flat_map f xs) (flat_map f ys))
+flat_map-append f (x ∷ xs) ys =
+    ap (λ l. f x ++ l) (flat_map-append f xs ys) ∙ sym (append_assoc (f x) (flat_map f xs) (flat_map f ys))
 
 -- what is shown for one byte
 abbrev one : ℕ → List ℕ
 one b = cond (is_escaped b) (hex_escape b) (b ∷ [])
 
 -- a run that needs no escape is its own text
-shown_run : (n : ℕ) (xs : List ℕ) → n ≤ length xs → ((k : ℕ) → k < n → is_escaped (get_or xs k 0) ≡ false) → escaped (take n xs) ≡ take n xs
+shown_run : (n : ℕ) (xs : List ℕ) → n ≤ length xs → ((k : ℕ) → k < n → is_escaped (get_or xs k 0) ≡ false)
+    → escaped (take n xs) ≡ take n xs
 shown_run zero xs h p = refl
 shown_run (suc n) [] h p = refl
 shown_run (suc n) (x ∷ xs) h p =
@@ -28,14 +31,16 @@ shown_run (suc n) (x ∷ xs) h p =
     ∙ ap (λ l. x ∷ l) (shown_run n xs (omega arith) (λ k l. p (suc k) (omega arith)))
 
 -- the bytes up to the first that is escaped, its escape, and the rest
-pub escaped_some : (xs : List ℕ) (at : ℕ) → position is_escaped xs ≡ Some at → escaped xs ≡ take at xs ++ hex_escape (get_or xs at 0) ++ escaped (drop (at + 1) xs)
+pub escaped_some : (xs : List ℕ) (at : ℕ) → position is_escaped xs ≡ Some at
+    → escaped xs ≡ take at xs ++ hex_escape (get_or xs at 0) ++ escaped (drop (at + 1) xs)
 escaped_some xs at e =
     let found = position-Some is_escaped xs at 0 e in
     ap escaped (sym (take-append-drop at xs))
     ∙ flat_map-append one (take at xs) (drop at xs)
     ∙ ap (λ l. l ++ escaped (drop at xs)) (shown_run at xs (omega (arith, found.0)) found.2)
     ∙ ap (λ l. take at xs ++ escaped l) (drop-cons xs at 0 found.0)
-    ∙ ap (λ b. take at xs ++ (cond b (hex_escape (get_or xs at 0)) (get_or xs at 0 ∷ []) ++ escaped (drop (suc at) xs))) found.1
+    ∙ ap (λ b. take at xs ++ (cond b (hex_escape (get_or xs at 0)) (get_or xs at 0 ∷ []) ++ escaped (drop (suc at) xs)))
+    found.1
     ∙ sym (append_assoc (take at xs) (hex_escape (get_or xs at 0)) (escaped (drop (suc at) xs)))
     ∙ ap (λ n. take at xs ++ hex_escape (get_or xs at 0) ++ escaped (drop n xs)) (sym (add-one at))
 
@@ -50,7 +55,8 @@ escaped_none xs e =
     let plain : take (length xs) xs ≡ xs = take_all (length xs) xs (omega arith) in
     ap escaped (sym plain)
     ∙ shown_run (length xs) xs (omega arith)
-    (λ k l. not-true (is_escaped (get_or xs k 0)) (prefix_len_passes (λ b. not (is_escaped b)) xs k 0 (omega (arith, all))))
+    (λ k l. not-true (is_escaped (get_or xs k 0))
+    (prefix_len_passes (λ b. not (is_escaped b)) xs k 0 (omega (arith, all))))
     ∙ plain
 
 -- what is left after a front: a run, the escape after it, and the text of the rest
@@ -86,8 +92,11 @@ escaped_plain (x ∷ xs) e =
 
 -- a text that has none from a place on is its own front and the escapes of the rest
 pub escaped_unchanged : (text seen : List ℕ) (start : ℕ) (found : Bool) → seen ≡ text
-    → found ≡ list_any is_escaped (take (length seen - start) (drop start seen)) → found ≡ false → text ≡ take start text ++ escaped (drop start text)
+    → found ≡ list_any is_escaped (take (length seen - start) (drop start seen)) → found ≡ false
+    → text ≡ take start text ++ escaped (drop start text)
 escaped_unchanged text seen start found same whole absent =
-    let rest : take (length seen - start) (drop start seen) ≡ drop start text = take_rest seen start ∙ ap (drop start) same in
-    let none : list_any is_escaped (drop start text) ≡ false = ap (list_any is_escaped) (sym rest) ∙ sym whole ∙ absent in
+    let rest : take (length seen - start) (drop start seen) ≡ drop start text =
+    take_rest seen start ∙ ap (drop start) same in
+    let none : list_any is_escaped (drop start text) ≡ false =
+    ap (list_any is_escaped) (sym rest) ∙ sym whole ∙ absent in
     sym (take-append-drop start text) ∙ ap (λ l. take start text ++ l) (sym (escaped_plain (drop start text) none))

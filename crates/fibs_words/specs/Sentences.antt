@@ -63,8 +63,8 @@ row number parts = (number, parts)
 -- the sentences of the messages
 unfoldable pub sentences : List (ℕ × List PartValue)
 sentences =
-    row 1 (said (codes "Welcome, ") ∷ field 1 ∷ said (codes ". Last login: ") ∷ field 2 ∷ said (codes " from ") ∷ field 3
-    ∷ [])
+    row 1 (said (codes "Welcome, ") ∷ field 1 ∷ said (codes ". Last login: ") ∷ field 2 ∷ said (codes " from ")
+    ∷ field 3 ∷ [])
     ∷ row 2 (said (codes "Settings of ") ∷ field 1 ∷ said (codes ": rated ") ∷ field 15
     ∷ said (codes ", experience ") ∷ field 10 ∷ said (codes ", redoubles ") ∷ field 18
     ∷ said (codes ", time zone ") ∷ field 21 ∷ said (codes ". On:")

@@ -13,7 +13,8 @@ spends_nothing a b left same = ([], omega (arith, same), Consumes-nil left)
 -- a read gave nothing
 pub spends_one : (a b : TypedValue) (left still : Option (List ℕ)) → b.reads ≤ a.reads → Keeps left still
     → SpendsReads a b left still
-spends_one a b left still less kept = ([], omega (arith, less), Consumes-kept left left still [] (Consumes-nil left) kept)
+spends_one a b left still less kept =
+    ([], omega (arith, less), Consumes-kept left left still [] (Consumes-nil left) kept)
 
 -- a read gave a portion
 pub spends_portion : (a b : TypedValue) (left still : Option (List ℕ)) (count : ℕ) (portion : List ℕ)

@@ -1,5 +1,6 @@
 -- A front of a text that has the form of a field is what is printed of its value.
-use Rattle.std.proofs.Common.{◌≡◌, ◌≢◌, ◌∙◌, ℕ, suc, ◌+◌, ◌-◌, ◌*◌, ◌/◌, ◌%◌, ◌^◌, ◌<◌, ◌≤◌, ◌==◌, Bool, true, false, not}
+use Rattle.std.proofs.Common.{◌≡◌, ◌≢◌, ◌∙◌, ℕ, suc, ◌+◌, ◌-◌, ◌*◌, ◌/◌, ◌%◌, ◌^◌, ◌<◌, ◌≤◌, ◌==◌, Bool, true, false}
+use Rattle.std.proofs.Common.{not}
 use Rattle.std.proofs.Common.{List, [], ◌∷◌, ◌++◌, decimal, length, get_or, take, drop, refl, sym, ap, subst, arith}
 use Rattle.std.proofs.Common.{add-one, inl, inr, nat_le, nat_lt, length-append, rules}
 use Rattle.std.specs.Prelude.{◌&&◌, ◌||◌}

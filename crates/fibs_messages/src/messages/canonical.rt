@@ -4,7 +4,8 @@ ghost use Rattle.std.specs.Prelude.{◌≡◌, ◌≤◌, ◌++◌, length, take
 ghost use Rattle.fibs_fields.specs.Field.{a_flag, a_name, a_number, a_rating, a_tail, a_text, a_word};
 ghost use Rattle.fibs_fields.specs.Split.{seen};
 ghost use Rattle.fibs_messages.specs.Message.{IsNumber, MessageText, MessageValue, canonical, kinds_of};
-ghost use Rattle.fibs_messages.specs.Standing.{AllStand, Begins, BeginsDecimal, Stands, after_space, kind_seen, kinds_seen};
+ghost use Rattle.fibs_messages.specs.Standing.{AllStand, Begins, BeginsDecimal, Stands};
+ghost use Rattle.fibs_messages.specs.Standing.{after_space, kind_seen, kinds_seen};
 
 use crate::messages::number::{kept, number_of};
 use fibs_fields::decimal::digit_run;

@@ -1,6 +1,7 @@
 -- A text is written in portions.
 use Rattle.std.proofs.Common.{◌≡◌, ℕ, ◌+◌, ◌<◌, ◌≤◌, List, [], ◌∷◌, ◌++◌, length, map, take, drop, get_or, Option, refl}
-use Rattle.std.proofs.Common.{sym, ap, ◌∙◌, subst, append_assoc, append-nil, take_all, take-append-drop, Result, Ok, Err}
+use Rattle.std.proofs.Common.{sym, ap, ◌∙◌, subst, append_assoc, append-nil, take_all, take-append-drop, Result, Ok}
+use Rattle.std.proofs.Common.{Err}
 use Rattle.std.specs.Prelude.{⊤, IsErrAnd}
 use Rattle.std.proofs.lemmas.Grind.{flat_map-append}
 use Rattle.std.proofs.lemmas.List.{map-append, take_more}

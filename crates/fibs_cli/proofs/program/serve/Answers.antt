@@ -38,7 +38,8 @@ returns-in-Plays g c =
     let b : Streams = streams input (out c.plays.new.out) (err c.plays.new.err) in
     let played : Played c.as_bytes.result.now r a b = (
       λ board is good. (
-        listed r board a b (told.good board is good) (told.good_device board is good) (λ failed. (told.memory failed).0),
+        listed r board a b (told.good board is good) (told.good_device board is good)
+            (λ failed. (told.memory failed).0),
         told.good_silent board is good,
       ),
       λ reading why is refusal. (

@@ -3,7 +3,11 @@ use Rattle.fibs_connect.proofs.ConverseLemmas.Spent.{spends_nothing, spends_more
 use Rattle.fibs_connect.proofs.connect.answer_lines.Goals as goal
 
 pub loop-init : goal.loop-init
-loop-init g c = (search rules, spends_nothing c.args.lines.now c.args.lines.now (g.R.Read.remaining c.args.typed.now) refl)
+loop-init g c = (
+  search rules,
+  spends_nothing c.args.lines.now c.args.lines.now
+      (g.R.Read.remaining c.args.typed.now) refl,
+)
 
 pub returns-in_err-flush-clause-spends : goal.returns-in_err-flush-clause-spends
 returns-in_err-flush-clause-spends g c = c.loop.invariant.1

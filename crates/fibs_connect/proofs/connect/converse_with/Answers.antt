@@ -30,11 +30,13 @@ returns-in-Ok-clause-conversed g c = (
 
 pub returns-in_err-read_line-clause-few : goal.returns-in_err-read_line-clause-few
 returns-in_err-read_line-clause-few g c =
-    spends_few c.new-lines.result c.read_line.new.self _ _ c.args.reads c.new-lines.ensures.reads c.read_line.ensures.spends
+    spends_few c.new-lines.result c.read_line.new.self _ _ c.args.reads c.new-lines.ensures.reads
+    c.read_line.ensures.spends
 
 pub returns-in-Err-clause-few : goal.returns-in-Err-clause-few
 returns-in-Err-clause-few g c =
-    spends_few c.new-lines.result c.read_line.new.self _ _ c.args.reads c.new-lines.ensures.reads c.read_line.ensures.spends
+    spends_few c.new-lines.result c.read_line.new.self _ _ c.args.reads c.new-lines.ensures.reads
+    c.read_line.ensures.spends
 
 pub returns-in-Ok-clause-few : goal.returns-in-Ok-clause-few
 returns-in-Ok-clause-few g c =

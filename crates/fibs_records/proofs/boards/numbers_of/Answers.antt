@@ -7,5 +7,10 @@ use Rattle.fibs_records.proofs.boards.numbers_of.Goals as goal
 
 pub loop-i-preserved : goal.loop-i-preserved
 loop-i-preserved c =
-    let within : c.loop-i.i < length c.loop-i.numbers = subst (λ (n : ℕ). c.loop-i.i < n) (sym c.loop-i.invariant.0) c.loop-i-test.true in
-    (length-set c.loop-i.numbers c.loop-i.i _ ∙ c.loop-i.invariant.0, written _ _ _ c.field.result (λ j. field_of (fields_of c.args.board.now) (j + 4)) (to_z-of_z w32 c.field.result (record { sfits = c.field.type_inv })) c.field.ensures.value within c.loop-i.invariant.1)
+    let within : c.loop-i.i < length c.loop-i.numbers =
+    subst (λ (n : ℕ). c.loop-i.i < n) (sym c.loop-i.invariant.0) c.loop-i-test.true in (
+      length-set c.loop-i.numbers c.loop-i.i _ ∙ c.loop-i.invariant.0,
+      written _ _ _ c.field.result (λ j. field_of (fields_of c.args.board.now) (j + 4))
+          (to_z-of_z w32 c.field.result (record { sfits = c.field.type_inv })) c.field.ensures.value within
+          c.loop-i.invariant.1,
+    )

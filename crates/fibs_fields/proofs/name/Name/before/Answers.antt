@@ -1,4 +1,5 @@
-use Rattle.std.proofs.Common.{◌≡◌, ◌+◌, ◌-◌, arith, suc, add-one, length, length-drop, drop, Some, sym, ap, ◌∙◌, take_all}
+use Rattle.std.proofs.Common.{◌≡◌, ◌+◌, ◌-◌, arith, suc, add-one, length, length-drop, drop, Some, sym, ap, ◌∙◌}
+use Rattle.std.proofs.Common.{take_all}
 use Rattle.fibs_fields.specs.Name.{is_name}
 use Rattle.fibs_fields.proofs.FieldLemmas.NameFronts.{front_is_name, front_is_split}
 use Rattle.fibs_fields.proofs.name.Name.before.Goals as goal

@@ -13,7 +13,8 @@ loop-kind-preserved c =
     let i = c.loop-kind.kind-index in
     let kind = get_or kinds i Name in
     let more : kinds_seen (take i kinds) ++ kind_seen kind ∷ [] ≡ kinds_seen (take (i + 1) kinds) =
-    sym (ap kinds_seen (take_more kinds i Name c.loop-kind-test.true) ∙ map-append kind_seen (take i kinds) (kind ∷ [])) in
+    sym (ap kinds_seen (take_more kinds i Name c.loop-kind-test.true)
+    ∙ map-append kind_seen (take i kinds) (kind ∷ [])) in
     subst (λ (ks : List Kind). AllStand ks (seen c.args.fields) (seen c.in-Some-next_field.after)) more
     (one_more_stands (kinds_seen (take i kinds)) (kind_seen kind) (seen c.args.fields) (Some c.in-Some.text.now)
     (seen c.in-Some-next_field.after)

@@ -9,5 +9,6 @@ returns-then-len-eq1 c =
 
 pub returns : goal.returns
 returns c =
-    decimal_begins c.args.text.now c.digit_run-len.result c.args.most c.digit_run-len.ensures (omega arith) (omega arith)
+    decimal_begins c.args.text.now c.digit_run-len.result c.args.most c.digit_run-len.ensures
+    (omega arith) (omega arith)
     c.requires.few (λ more. c.if-text-eq48.false)

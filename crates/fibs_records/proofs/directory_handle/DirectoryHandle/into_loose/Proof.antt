@@ -45,25 +45,34 @@ into_loose_spec 𝓤 𝓛 𝓜 𝓡 wired =
     let En = ended in
     let c = clauses 𝓛 𝓜.mem 𝓡.returns in
     let fn : Fn = code.function in
-    let R : RattleType = inner.the_row in let Z : RattleType = heap.the_row in let LZ = heap_laws.the_row_laws in let g = ghosts in
+    let R : RattleType = inner.the_row in let Z : RattleType = heap.the_row in
+    let LZ = heap_laws.the_row_laws in let g = ghosts in
     let Lr : RattleType = Loose R Z LZ g in
-    let stays : Stays En.signature.params En.kept = (stay_dropped (plain (λ _. held.the_row)) yes, (stay_dropped (plain (λ _. Z)) yes, tt)) in
+    let stays : Stays En.signature.params En.kept =
+    (stay_dropped (plain (λ _. held.the_row)) yes, (stay_dropped (plain (λ _. Z)) yes, tt)) in
     let 𝓣 = tables 𝓤 H 𝓜 𝓡 𝓡.env in
-    proved_at 𝓛 En stays c 𝓜 𝓡 (Goes-blank 𝓛 0 (plain (λ _. held.the_row)) yes (λ κs x f. tt), (Goes-blank 𝓛 0 (plain (λ _. Z)) yes (λ κs x f. tt), tt)) #self fn (code.unfolded 𝓤 H 𝓜 𝓡 wired) (λ z are.
+    proved_at 𝓛 En stays c 𝓜 𝓡 (
+      Goes-blank 𝓛 0 (plain (λ _. held.the_row)) yes (λ κs x f. tt),
+      (Goes-blank 𝓛 0 (plain (λ _. Z)) yes (λ κs x f. tt), tt),
+    ) #self fn (code.unfolded 𝓤 H 𝓜 𝓡 wired) (λ z are.
     let Post : Val → SProp 𝓤 = (walk_of 𝓛 En stays c).post z in
     let Out : RattleType = type_at En.signature.result z.0.0 in
     let d = z.0.3.0 in let a = z.0.3.1.0 in
     let told = held_told d.at d.held z.0.4.0 are.0.0 in
-    qed 𝓛 ((raw (alive 𝓛 En.signature z.0.0 z.0.1) ⊛ ‵ (owns (types_at En.signature.params z.0.0) z.0.3 z.0.4)) ∷ ‵ ftrue ∷ []) ∵ move ! (1 ∷ []) $ drop ! $ split ! $ move ! (1 ∷ []) $ fsplit ! $
+    qed 𝓛 ((raw (alive 𝓛 En.signature z.0.0 z.0.1) ⊛ ‵ (owns (types_at En.signature.params z.0.0) z.0.3 z.0.4)) ∷ ‵
+    ftrue ∷ []) ∵ move ! (1 ∷ []) $ drop ! $ split ! $ move ! (1 ∷ []) $ fsplit ! $
     -- [the handle; the allocator and no more; the tokens]
     fsplit ! $ drop ! $ move ! (1 ∷ []) $ fsplit ! $ move ! (1 ∷ []) $ drop ! $
     heap_tells ! a z.0.4.1.0 (λ h ea gh. move ! (1 ∷ []) $
     held_split R ! d.at d.held d.value
     (λ b o x ep et ev.
-    let made : Val = both (vptr b o) h in let typed = loose_good R Z LZ g b o h gh in let v₁ : Val = live 1 (vcons made vnil) in let l : Lr.Denot = record { at = block_ptr b o; alloc = a; value = x } in
+    let made : Val = both (vptr b o) h in let typed = loose_good R Z LZ g b o h gh in
+    let v₁ : Val = live 1 (vcons made vnil) in
+    let l : Lr.Denot = record { at = block_ptr b o; alloc = a; value = x } in
     let good : Good (layout Out) v₁ = (and_tt _ typed.0, (record { fits = lit< tt }, (typed.1, tt))) in
     let Said : Type 0 = option_map (λ (k : Lr.Denot). k.value) (Some l) ≡ d.value in
-    regoal ! (λ (us : List Val). prop (WpFn 𝓤 H 𝓣.C 𝓣.Λ fn us Post)) (λ i. (told ∙ (λ j. held_val (ep j) (et j) ∷ [])) i ++ (ea i ++ [])) refl $
+    regoal ! (λ (us : List Val). prop (WpFn 𝓤 H 𝓣.C 𝓣.Λ fn us Post))
+    (λ i. (told ∙ (λ j. held_val (ep j) (et j) ∷ [])) i ++ (ea i ++ [])) refl $
     enter ! 𝓣.C 𝓣.Λ fn (held_val (block_ptr b o) true ∷ h ∷ []) Post $
     alloc_all ! (λ n. pass_all ! refl (held_typed (block_ptr b o) true, (gh, tt)) $
     sets ! (of_opd ! (get_in ! (fld ! refl (stop !)) (sub ! 0 refl (whole !)))) refl (tt, tt) $
@@ -76,12 +85,14 @@ into_loose_spec 𝓤 𝓛 𝓜 𝓡 wired =
     returns_within ! Post refl (look_at ! 0 refl) $ free_all ! refl $
     -- [the box; the allocator; the tokens]
     loose_in R Z LZ g ! b o h a x $ use1 𝓛 (‵ (Out.own_val (Some l) (v₁ ∷ []))) (Some-of 𝓛 Lr l made) $
-    use0 𝓛 (raw (fact 𝓤 Said)) (fact_i 𝓤 Said (emp 𝓤) (sym ev)) $ nothing ! $ nothing ! $ fjoin ! $ nothing ! $ fjoin ! $ move ! (3 ∷ 0 ∷ 2 ∷ 1 ∷ []) $
+    use0 𝓛 (raw (fact 𝓤 Said)) (fact_i 𝓤 Said (emp 𝓤) (sym ev)) $ nothing ! $ nothing ! $ fjoin ! $ nothing ! $
+    fjoin ! $ move ! (3 ∷ 0 ∷ 2 ∷ 1 ∷ []) $
     by ! (leaves 𝓛 En stays c z v₁ (Some l) (tt, (tt, tt)) (tt, (tt, tt))))
     (λ wrong. absurd wrong)))
     (λ et ev.
     let Said : Type 0 = option_map (λ (k : Lr.Denot). k.value) None ≡ d.value in
-    regoal ! (λ (us : List Val). prop (WpFn 𝓤 H 𝓣.C 𝓣.Λ fn us Post)) (λ i. (told ∙ (λ j. held_val d.at (et j) ∷ [])) i ++ (ea i ++ [])) refl $
+    regoal ! (λ (us : List Val). prop (WpFn 𝓤 H 𝓣.C 𝓣.Λ fn us Post))
+    (λ i. (told ∙ (λ j. held_val d.at (et j) ∷ [])) i ++ (ea i ++ [])) refl $
     enter ! 𝓣.C 𝓣.Λ fn (held_val d.at false ∷ h ∷ []) Post $
     alloc_all ! (λ n. pass_all ! refl ((and_tt _ (ptr_typed d.at).0, ((ptr_typed d.at).1, (tt, tt))), (gh, tt)) $
     sets ! (of_opd ! (get_in ! (fld ! refl (stop !)) (sub ! 0 refl (whole !)))) refl (ptr_typed d.at) $
@@ -93,5 +104,6 @@ into_loose_spec 𝓤 𝓛 𝓜 𝓡 wired =
     returns ! (look_at ! 0 refl) $ free_all ! refl $
     -- [the allocator; the tokens]
     drop ! $ use0 𝓛 (‵ (Out.own_val None (live 0 vnil ∷ []))) (none_of 𝓛 Lr) $
-    use0 𝓛 (raw (fact 𝓤 Said)) (fact_i 𝓤 Said (emp 𝓤) (sym ev)) $ nothing ! $ nothing ! $ fjoin ! $ nothing ! $ fjoin ! $ move ! (3 ∷ 0 ∷ 2 ∷ 1 ∷ []) $
+    use0 𝓛 (raw (fact 𝓤 Said)) (fact_i 𝓤 Said (emp 𝓤) (sym ev)) $ nothing ! $ nothing ! $ fjoin ! $ nothing ! $
+    fjoin ! $ move ! (3 ∷ 0 ∷ 2 ∷ 1 ∷ []) $
     by ! (leaves 𝓛 En stays c z (live 0 vnil) None (tt, (tt, tt)) (tt, (tt, tt))))))))

@@ -38,11 +38,13 @@ none_spec 𝓤 𝓛 𝓜 𝓡 wired =
     let Post : Val → SProp 𝓤 = (walk_of 𝓛 En stays c).post z in
     let x : (held.the_row).Denot = record { at = null_ptr; held = false; value = None } in
     let Said : Type 0 = x.value ≡ None in
-    qed 𝓛 ((raw (alive 𝓛 En.signature z.0.0 z.0.1) ⊛ ‵ (owns (types_at En.signature.params z.0.0) z.0.3 z.0.4)) ∷ ‵ ftrue ∷ []) ∵ move ! (1 ∷ []) $ drop ! $ split ! $ move ! (1 ∷ []) $ drop ! $
+    qed 𝓛 ((raw (alive 𝓛 En.signature z.0.0 z.0.1) ⊛ ‵ (owns (types_at En.signature.params z.0.0) z.0.3 z.0.4)) ∷ ‵
+    ftrue ∷ []) ∵ move ! (1 ∷ []) $ drop ! $ split ! $ move ! (1 ∷ []) $ drop ! $
     enter ! 𝓣.C 𝓣.Λ fn [] Post $
     alloc_all ! (λ l. pass_all ! refl tt $
     sets ! (agg ! (and_then ! (lit ! tt) (and_then ! (false_lit !) (no_more !)))) refl (held_typed null_ptr false) $
     returns ! (look_at ! 0 refl) $ free_all ! refl $
-    nothing ! $ use0 𝓛 (‵ (held_own null_ptr false (held_val null_ptr false ∷ []))) (held_made 𝓛 null_ptr false) $ fjoin ! $
+    nothing ! $ use0 𝓛 (‵ (held_own null_ptr false (held_val null_ptr false ∷ []))) (held_made 𝓛 null_ptr false) $
+    fjoin ! $
     use0 𝓛 (raw (fact 𝓤 Said)) (fact_i 𝓤 Said (emp 𝓤) refl) $ nothing ! $ move ! (3 ∷ 0 ∷ 2 ∷ 1 ∷ []) $
     by ! (leaves 𝓛 En stays c z (held_val null_ptr false) x tt tt)))

@@ -6,4 +6,5 @@ use Rattle.fibs_show.proofs.printing.escape.append_escaped.Goals as goal
 pub returns-else-has_escaped : goal.returns-else-has_escaped
 returns-else-has_escaped c =
     let plain = escaped_plain c.args.bytes.now (sym c.has_escaped.ensures ∙ c.if-has_escaped.false) in
-    on_ok_grown c.extend_from_slice.result _ _ _ _ c.extend_from_slice.ensures.items (ap (λ l. c.args.text.now.items ++ l) (sym plain))
+    on_ok_grown c.extend_from_slice.result _ _ _ _ c.extend_from_slice.ensures.items
+    (ap (λ l. c.args.text.now.items ++ l) (sym plain))

@@ -16,13 +16,15 @@ returns c =
         codes "cut " ++ escaped line.bytes,
         cut_line line w.if-line.true,
         line_more before c.if-line.text.items _ (codes "cut " ++ escaped line.bytes)
-            (rw w.text-is (w.in_ok-append_escaped.ensures ∙ ap (λ l. l ++ escaped line.bytes) w.in_ok-extend_from_slice.ensures.items
+            (rw w.text-is (w.in_ok-append_escaped.ensures
+            ∙ ap (λ l. l ++ escaped line.bytes) w.in_ok-extend_from_slice.ensures.items
             ∙ append_assoc before (codes "cut ") (escaped line.bytes)))
             c.in_ok-push.ensures.items,
       )
       | else-line+in_ok-append_reading w ↦ (
         reading_text w.in_ok-append_reading.ensures.0,
         read_line line w.in_ok-append_reading.ensures.0 w.if-line.false w.in_ok-append_reading.ensures.1,
-        line_more before c.if-line.text.items _ (reading_text w.in_ok-append_reading.ensures.0) (rw w.text-is w.in_ok-append_reading.ensures.2) c.in_ok-push.ensures.items,
+        line_more before c.if-line.text.items _ (reading_text w.in_ok-append_reading.ensures.0)
+            (rw w.text-is w.in_ok-append_reading.ensures.2) c.in_ok-push.ensures.items,
       )
     ]
