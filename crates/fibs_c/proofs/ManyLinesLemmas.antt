@@ -1,8 +1,5 @@
--- Lines that were read one after another: their texts stand behind each other, and a later one leaves the earlier
--- as they are.
-use Rattle.std.proofs.Common.{◌≡◌, ◌≢◌, ◌<◌, ◌≤◌, ◌+◌, ◌-◌, ℕ, Bool, not, true, false, List, [], ◌∷◌, ◌++◌, length}
-use Rattle.std.proofs.Common.{take, drop, map, refl, sym, ap, subst, ◌∙◌, arith, append_assoc, slice_set, length-set}
-use Rattle.std.proofs.Common.{length-drop, if◌then◌else◌}
+-- Lines that were read one after another: their texts stand behind each other, and a later one leaves the earlier as they are.
+use Rattle.std.proofs.Common.{◌≡◌, ◌≢◌, ◌<◌, ◌≤◌, ◌+◌, ◌-◌, ℕ, Bool, not, true, false, List, [], ◌∷◌, ◌++◌, length, take, drop, map, refl, sym, ap, subst, ◌∙◌, arith, append_assoc, slice_set, length-set, length-drop, if◌then◌else◌}
 use borrow.Rule.Slice.PartMut.{mid_of, post_of, put_mid, same_len_mid}
 use Rattle.std.proofs.lemmas.Bool.{ne_eqb}
 use Rattle.std.proofs.lemmas.List.{take-take, drop-take, take_more_set, map-append, append-nil, drop_all, drop_at}
@@ -21,8 +18,7 @@ use Rattle.fibs_c.specs.declared.lines.FedLine.{FedLine}
 use Rattle.fibs_c.specs.declared.many_lines.ToldLine.{ToldLine}
 
 -- nothing is read yet
-pub none_read : (v : LinesValue) (piece : List ℕ) (rows : List ToldLine) (text : List ℕ)
-    → ReadSoFar v v piece 0 0 0 rows text
+pub none_read : (v : LinesValue) (piece : List ℕ) (rows : List ToldLine) (text : List ℕ) → ReadSoFar v v piece 0 0 0 rows text
 none_read v piece rows text = record {
   in_range = omega arith;
   few = omega arith;
@@ -36,11 +32,9 @@ none_read v piece rows text = record {
 -- two texts with the same front have the same bytes there
 same_bytes : (t u : List ℕ) (b i n : ℕ) → take b t ≡ take b u → i + n ≤ b → take n (drop i t) ≡ take n (drop i u)
 same_bytes t u b i n e h =
-    sym (drop-take i n t) ∙ ap (drop i) (sym (take-take (i + n) b t h) ∙ ap (take (i + n)) e ∙ take-take (i + n) b u h)
-    ∙ drop-take i n u
+    sym (drop-take i n t) ∙ ap (drop i) (sym (take-take (i + n) b t h) ∙ ap (take (i + n)) e ∙ take-take (i + n) b u h) ∙ drop-take i n u
 
-same_line : (t u : List ℕ) (b : ℕ) (row : ToldLine) → take b t ≡ take b u → lies_within b row
-    → line_in t row ≡ line_in u row
+same_line : (t u : List ℕ) (b : ℕ) (row : ToldLine) → take b t ≡ take b u → lies_within b row → line_in t row ≡ line_in u row
 same_line t u b row e h =
     let f : List ℕ → ReadLine = λ bytes. record { bytes = bytes; cut = is_set row.cut } in
     ap f (same_bytes t u b row.start row.len e h)
@@ -51,8 +45,7 @@ same_lines t u b [] e h = refl
 same_lines t u b (row ∷ rows) e h = λ i. same_line t u b row e h.0 i ∷ same_lines t u b rows e h.1 i
 
 -- what lies within a front lies within a longer one
-further : (b c : ℕ) (rows : List ToldLine) → b ≤ c → AllByRecursion (lies_within b) rows
-    → AllByRecursion (lies_within c) rows
+further : (b c : ℕ) (rows : List ToldLine) → b ≤ c → AllByRecursion (lies_within b) rows → AllByRecursion (lies_within c) rows
 further b c [] le h = tt
 further b c (row ∷ rows) le h = (omega (arith, le, h.0), further b c rows le h.1)
 
@@ -62,10 +55,8 @@ and_last b [] row h last = (last, tt)
 and_last b (r ∷ rows) row h last = (h.0, and_last b rows row h.1 last)
 
 -- the bytes read before and now are one front of the piece
-front : (s piece : List ℕ) (used more : ℕ)
-    → (s ++ take used piece) ++ take more (drop used piece) ≡ s ++ take (used + more) piece
-front s piece used more = append_assoc s (take used piece) (take more (drop used piece))
-    ∙ ap (λ t. s ++ t) (sym (take-add used more piece))
+front : (s piece : List ℕ) (used more : ℕ) → (s ++ take used piece) ++ take more (drop used piece) ≡ s ++ take (used + more) piece
+front s piece used more = append_assoc s (take used piece) (take more (drop used piece)) ∙ ap (λ t. s ++ t) (sym (take-add used more piece))
 
 abbrev line_fed : FedLine → List ℕ → ReadLine
 line_fed fed text = record { bytes = take fed.len text; cut = is_set fed.cut }
@@ -77,8 +68,7 @@ copied_none : (fed : FedLine) (text : List ℕ) → is_set fed.ended ≡ false �
 copied_none fed text e = ap (λ (b : Bool). let ls : List ReadLine = (if b then line_fed fed text ∷ [] else []) in ls) e
 
 -- a piece without a line end was read
-pub no_line : (old now new : LinesValue) (piece : List ℕ) (used count bytes : ℕ) (rows : List ToldLine)
-    (text text' suffix : List ℕ) (fed : FedLine)
+pub no_line : (old now new : LinesValue) (piece : List ℕ) (used count bytes : ℕ) (rows : List ToldLine) (text text' suffix : List ℕ) (fed : FedLine)
     → ReadSoFar old now piece used count bytes rows text
     → FeedsLine now new (drop used piece) fed suffix
     → take bytes text' ≡ take bytes text → length text' ≡ length text
@@ -86,25 +76,21 @@ pub no_line : (old now new : LinesValue) (piece : List ℕ) (used count bytes : 
     → is_set fed.ended ≡ false
     → ReadSoFar old new piece (used + fed.used) count bytes rows text'
 no_line old now new piece used count bytes rows text text' suffix fed so f e el low none =
-    let same : map (line_in text') (take count rows) ≡ map (line_in text) (take count rows) =
-    same_lines text' text bytes (take count rows) e so.within in
+    let same : map (line_in text') (take count rows) ≡ map (line_in text) (take count rows) = same_lines text' text bytes (take count rows) e so.within in
     record {
       in_range = low;
       few = so.few;
       room = subst (λ (n : ℕ). bytes ≤ n) (sym el) so.room;
-      stands = λ s h. subst (λ (t : List ℕ). StandsAfter new t) (front s piece used fed.used)
-          (f.stands (s ++ take used piece) (so.stands s h));
+      stands = λ s h. subst (λ (t : List ℕ). StandsAfter new t) (front s piece used fed.used) (f.stands (s ++ take used piece) (so.stands s h));
       gains = λ s h. ap lines_of (sym (front s piece used fed.used)) ∙ f.gains (s ++ take used piece) (so.stands s h)
-          ∙ ap (λ ls. lines_of (s ++ take used piece) ++ ls) (copied_none fed suffix none)
-          ∙ append-nil (lines_of (s ++ take used piece))
+          ∙ ap (λ ls. lines_of (s ++ take used piece) ++ ls) (copied_none fed suffix none) ∙ append-nil (lines_of (s ++ take used piece))
           ∙ so.gains s h ∙ ap (λ ls. lines_of s ++ ls) (sym same);
       kinds = so.kinds ∙ ap (map kind_of_line) (sym same);
       within = so.within;
     }
 
 -- and with one
-pub one_line : (old now new : LinesValue) (piece : List ℕ) (used count bytes : ℕ) (rows : List ToldLine)
-    (text text' suffix : List ℕ) (fed : FedLine) (row : ToldLine)
+pub one_line : (old now new : LinesValue) (piece : List ℕ) (used count bytes : ℕ) (rows : List ToldLine) (text text' suffix : List ℕ) (fed : FedLine) (row : ToldLine)
     → ReadSoFar old now piece used count bytes rows text
     → FeedsLine now new (drop used piece) fed suffix
     → count < length rows
@@ -113,25 +99,19 @@ pub one_line : (old now new : LinesValue) (piece : List ℕ) (used count bytes :
     → is_set fed.ended ≡ true
     → row.start ≡ bytes → row.len ≡ fed.len → row.cut ≡ fed.cut → row.kind ≡ kind_of_line (line_fed fed suffix)
     → ReadSoFar old new piece (used + fed.used) (count + 1) (bytes + fed.len) (slice_set rows count row) text'
-one_line old now new piece used count bytes rows text text' suffix fed row so f few e ed el low fits one
-    starts lens cuts kind =
-    let same : map (line_in text') (take count rows) ≡ map (line_in text) (take count rows) =
-    same_lines text' text bytes (take count rows) e so.within in
+one_line old now new piece used count bytes rows text text' suffix fed row so f few e ed el low fits one starts lens cuts kind =
+    let same : map (line_in text') (take count rows) ≡ map (line_in text) (take count rows) = same_lines text' text bytes (take count rows) e so.within in
     let is : line_in text' row ≡ line_fed fed (drop bytes text') =
     λ i. record { bytes = take (lens i) (drop (starts i) text'); cut = is_set (cuts i) } in
     let is' : line_in text' row ≡ line_fed fed suffix = is ∙ ap (line_fed fed) ed in
-    let rows' : take (count + 1) (slice_set rows count row) ≡ take count rows ++ row ∷ [] =
-    take_more_set rows count row few in
-    let lines' : map (line_in text') (take (count + 1) (slice_set rows count row)) ≡ map (line_in text)
-    (take count rows) ++ line_fed fed suffix ∷ [] =
-    ap (map (line_in text')) rows' ∙ map-append (line_in text') (take count rows) (row ∷ [])
-    ∙ (λ i. same i ++ is' i ∷ []) in
+    let rows' : take (count + 1) (slice_set rows count row) ≡ take count rows ++ row ∷ [] = take_more_set rows count row few in
+    let lines' : map (line_in text') (take (count + 1) (slice_set rows count row)) ≡ map (line_in text) (take count rows) ++ line_fed fed suffix ∷ [] =
+    ap (map (line_in text')) rows' ∙ map-append (line_in text') (take count rows) (row ∷ []) ∙ (λ i. same i ++ is' i ∷ []) in
     record {
       in_range = low;
       few = subst (λ (n : ℕ). count + 1 ≤ n) (sym (length-set rows count row)) (omega (arith, few));
       room = subst (λ (n : ℕ). bytes + fed.len ≤ n) (sym el) fits;
-      stands = λ s h. subst (λ (t : List ℕ). StandsAfter new t) (front s piece used fed.used)
-          (f.stands (s ++ take used piece) (so.stands s h));
+      stands = λ s h. subst (λ (t : List ℕ). StandsAfter new t) (front s piece used fed.used) (f.stands (s ++ take used piece) (so.stands s h));
       gains = λ s h. ap lines_of (sym (front s piece used fed.used)) ∙ f.gains (s ++ take used piece) (so.stands s h)
           ∙ (λ i. so.gains s h i ++ copied_one fed suffix one i)
           ∙ append_assoc (lines_of s) (map (line_in text) (take count rows)) (line_fed fed suffix ∷ [])
@@ -141,18 +121,15 @@ one_line old now new piece used count bytes rows text text' suffix fed row so f 
           ∙ sym (map-append kind_of_line (map (line_in text) (take count rows)) (line_fed fed suffix ∷ []))
           ∙ ap (map kind_of_line) (sym lines');
       within = subst (AllByRecursion (lies_within (bytes + fed.len))) (sym rows')
-          (and_last (bytes + fed.len) (take count rows) row
-          (further bytes (bytes + fed.len) (take count rows) (omega arith) so.within)
-          (subst (λ (n : ℕ). n + row.len ≤ bytes + fed.len) (sym starts)
-          (subst (λ (n : ℕ). bytes + n ≤ bytes + fed.len) (sym lens) (omega arith))));
+          (and_last (bytes + fed.len) (take count rows) row (further bytes (bytes + fed.len) (take count rows) (omega arith) so.within)
+          (subst (λ (n : ℕ). n + row.len ≤ bytes + fed.len) (sym starts) (subst (λ (n : ℕ). bytes + n ≤ bytes + fed.len) (sym lens) (omega arith))));
     }
 
 -- what is written from b on stands behind b
 behind : (text suffix : List ℕ) (b : ℕ) → b ≤ length text → drop b (put_mid b (length text - b) text suffix) ≡ suffix
 behind text suffix b h =
     drop_at (take b text) (suffix ++ post_of b (length text - b) text) b (length-take-le b text h)
-    ∙ ap (λ (l : List ℕ). suffix ++ l) (drop_all (length text - b) (drop b text) (omega (arith, length-drop b text)))
-    ∙ append-nil suffix
+    ∙ ap (λ (l : List ℕ). suffix ++ l) (drop_all (length text - b) (drop b text) (omega (arith, length-drop b text))) ∙ append-nil suffix
 
 -- a flag that is not 0 is set
 set_of : (n : ℕ) → n ≢ 0 → is_set n ≡ true
@@ -162,12 +139,10 @@ set_of n h = ap not (ne_eqb n 0 h)
 fed_rest : (now new : LinesValue) (piece suffix : List ℕ) (used : ℕ) (fed : FedLine)
     → FeedsLine now new (between used (length piece) piece) fed suffix → FeedsLine now new (drop used piece) fed suffix
 fed_rest now new piece suffix used fed f =
-    subst (λ (rest : List ℕ). FeedsLine now new rest fed suffix)
-    (between_to_end piece used (length piece) (omega arith)) f
+    subst (λ (rest : List ℕ). FeedsLine now new rest fed suffix) (between_to_end piece used (length piece) (omega arith)) f
 
 -- the same as `no_line`, of a text that was written from `bytes` on
-pub no_line_next : (old now new : LinesValue) (piece : List ℕ) (used count bytes : ℕ) (rows : List ToldLine)
-    (text suffix : List ℕ) (fed : FedLine)
+pub no_line_next : (old now new : LinesValue) (piece : List ℕ) (used count bytes : ℕ) (rows : List ToldLine) (text suffix : List ℕ) (fed : FedLine)
     → FeedsLine now new (between used (length piece) piece) fed suffix
     → used < length piece
     → length suffix ≡ length (mid_of bytes (length text - bytes) text)
@@ -177,32 +152,24 @@ pub no_line_next : (old now new : LinesValue) (piece : List ℕ) (used count byt
 no_line_next old now new piece used count bytes rows text suffix fed f more same none so =
     let rest : FeedsLine now new (drop used piece) fed suffix = fed_rest now new piece suffix used fed f in
     let low : fed.used ≤ length (drop used piece) = rest.in_range in
-    no_line old now new piece used count bytes rows text
-    (put_mid bytes (length text - bytes) text suffix) suffix fed so rest
+    no_line old now new piece used count bytes rows text (put_mid bytes (length text - bytes) text suffix) suffix fed so rest
     (take-put_mid_below bytes (length text - bytes) text suffix bytes (omega arith) so.room)
     (same_len_mid bytes (length text - bytes) text suffix same)
     (omega (arith, low, length-drop used piece))
     (ap is_set none)
 
 -- the same as `one_line`
-pub one_line_next : (old now new : LinesValue) (piece : List ℕ) (used count bytes : ℕ) (rows : List ToldLine)
-    (text suffix : List ℕ) (fed : FedLine) (row : ToldLine)
+pub one_line_next : (old now new : LinesValue) (piece : List ℕ) (used count bytes : ℕ) (rows : List ToldLine) (text suffix : List ℕ) (fed : FedLine) (row : ToldLine)
     → FeedsLine now new (between used (length piece) piece) fed suffix
     → used < length piece → count < length rows → bytes + kept_limit ≤ length text
     → length suffix ≡ length (mid_of bytes (length text - bytes) text)
     → fed.len ≤ kept_limit
     → fed.ended ≢ 0
     → row.start ≡ bytes → row.len ≡ fed.len → row.cut ≡ fed.cut
-    → row.kind ≡ told_kind (line_reading
-    (record {
-      bytes = between bytes (bytes + fed.len) (put_mid bytes (length text - bytes) text suffix);
-      cut = is_set fed.cut;
-    }))
+    → row.kind ≡ told_kind (line_reading (record { bytes = between bytes (bytes + fed.len) (put_mid bytes (length text - bytes) text suffix); cut = is_set fed.cut }))
     → ReadSoFar old now piece used count bytes rows text
-    → ReadSoFar old new piece (used + fed.used) (count + 1) (bytes + fed.len) (slice_set rows count row)
-    (put_mid bytes (length text - bytes) text suffix)
-one_line_next old now new piece used count bytes rows text suffix fed row f more few room same short one
-    starts lens cuts kind so =
+    → ReadSoFar old new piece (used + fed.used) (count + 1) (bytes + fed.len) (slice_set rows count row) (put_mid bytes (length text - bytes) text suffix)
+one_line_next old now new piece used count bytes rows text suffix fed row f more few room same short one starts lens cuts kind so =
     let text' : List ℕ = put_mid bytes (length text - bytes) text suffix in
     let rest : FeedsLine now new (drop used piece) fed suffix = fed_rest now new piece suffix used fed f in
     let low : fed.used ≤ length (drop used piece) = rest.in_range in

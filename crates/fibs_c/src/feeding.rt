@@ -53,12 +53,11 @@ fn hear(client: &mut Client, piece: &[u8], text: &mut [u8], wire: &mut Wire) -> 
 {
     let heard = client.read(piece);
     let got = client.got(heard);
-    let used = got.used;
-    match got.taken {
+    match &got.taken {
         None => {
             clear(wire);
             Heard {
-                used,
+                used: got.used,
                 len: 0,
                 kind: LineKind::text(),
                 ended: 0,
@@ -68,20 +67,15 @@ fn hear(client: &mut Client, piece: &[u8], text: &mut [u8], wire: &mut Wire) -> 
             }
         }
         Some(taken) => {
-            // Each part is moved into a place of its own: while it is lent from the answer, all of the answer stands in
-            // memory, which costs more than reading the line.
-            let line = taken.line;
-            let reading = taken.reading;
-            let send = taken.send;
-            let confirmed = taken.confirmed;
-            put_commands(wire, send.as_slice());
+            put_commands(wire, taken.send.as_slice());
+            let line = taken.line.bytes;
             Heard {
-                used,
-                len: put(text, &line.bytes[..LIMIT.min(line.bytes.len())]),
-                kind: LineKind::of(&reading),
+                used: got.used,
+                len: put(text, &line[..LIMIT.min(line.len())]),
+                kind: LineKind::of(&taken.reading),
                 ended: 1,
-                cut: flag(line.cut),
-                confirmed: confirmed_record(&confirmed),
+                cut: flag(taken.line.cut),
+                confirmed: confirmed_record(&taken.confirmed),
                 rolled: flag(taken.rolled),
             }
         }

@@ -17,8 +17,7 @@ returns-in-None c =
 pub returns-in-Some : goal.returns-in-Some
 returns-in-Some c =
     let line = c.in-Some.taken.line.bytes.now in
-    feeds_line _ _ _ c.read-heard.result _ _ c.in-Some.taken _ c.put.new.room c.put_commands.new.wire c.in-Some.is
-    c.got-got.ensures.used refl
+    feeds_line _ _ _ c.read-heard.result _ _ c.in-Some.taken _ c.put.new.room c.put_commands.new.wire c.in-Some.is c.got-got.ensures.used refl
     c.read-heard.ensures.in_range c.read-heard.ensures.progress c.read-heard.ensures.answers c.read-heard.ensures.hands
     (c.got-got.ensures.shows c.read-heard.ensures.keeps)
     (c.put_commands.ensures ∙ ap (λ (ts : List ArrayString). wire_of (texts_of ts)) c.as_slice.ensures.value)
