@@ -6,5 +6,4 @@ use Rattle.fibs_model_tests.proofs.example.send_all.Given as goal
 -- what is still to be written stands behind what was written
 abbrev pub invariant-loop-command : goal.invariant-loop-command
 invariant-loop-command l =
-    l.wire.items ++ wire_of (texts_of (drop l.command-index l.commands)) ≡ l.fn.wire.items ++ wire_of
-    (texts_of l.commands)
+    l.wire.items ++ wire_of (texts_of (drop l.command-index l.commands)) ≡ l.fn.wire.items ++ wire_of (texts_of l.commands)
