@@ -1,3 +1,2 @@
 -- Why the functions do what those that they call do.
 pub mod ManyLinesLemmas
-pub mod ClientLemmas

@@ -2,9 +2,11 @@
 
 ghost use Rattle.std.specs.Prelude.{◌≡◌, ◌≤◌, length, option_map};
 ghost use Rattle.fibs_lines.specs.Lines.{kept_limit};
-ghost use Rattle.fibs_session.specs.Calls.SessionOf.{ask_of};
+ghost use Rattle.fibs_session.specs.Calls.SessionOf.{ask_of, taken_of};
+ghost use Rattle.fibs_session.specs.History.Machine.{wire_of};
+ghost use Rattle.fibs_records.specs.Wires.{wire_in};
 ghost use Rattle.fibs_records.specs.Decisions.{IsMaybeDecision};
-ghost use Rattle.fibs_c.specs.FeedDoor.{IsFed, Feeds, decision_of_ask};
+ghost use Rattle.fibs_c.specs.FeedDoor.{IsFed, Feeds, TellsLine, decision_of_ask};
 
 use fibs_lines::LIMIT;
 use fibs_records::ClientHandle;
@@ -13,7 +15,7 @@ use fibs_records::kinds::LineKind;
 use fibs_records::status::{DONE, NO_HANDLE, SHORT};
 use fibs_records::text::{flag, put};
 use fibs_records::wire::{Wire, clear, put_commands};
-use fibs_session::{Client, Outstanding};
+use fibs_session::{Client, Got, Outstanding, Taken};
 use std::alloc::Global;
 
 /// What was heard of a piece.
@@ -46,18 +48,48 @@ fn confirmed_record(confirmed: &Option<Outstanding>) -> DecisionRecord
     }
 }
 
+/// Tells what was heard where a line ended: copies the line, and hands out the commands that answer it.
+///
+/// Each part is moved into a place of its own: while one is lent from the answer, all of the answer stands in memory,
+/// which costs more than reading the line.
+#[inline(always)]
+fn tell(used: usize, taken: Taken<'_>, text: &mut [u8], wire: &mut Wire) -> Heard
+    requires { kept_limit ≤ length text.old }
+    ensures used { result.used ≡ used }
+    ensures sends { wire_in wire.new ≡ wire_of (taken_of taken.entry).send }
+    ensures tells { TellsLine (taken_of taken.entry) result text.new }
+{
+    let Taken {
+        line,
+        reading,
+        send,
+        confirmed,
+        rolled,
+    } = taken;
+    put_commands(wire, send.as_slice());
+    Heard {
+        used,
+        len: put(text, &line.bytes[..LIMIT.min(line.bytes.len())]),
+        kind: LineKind::of(&reading),
+        ended: 1,
+        cut: flag(line.cut),
+        confirmed: confirmed_record(&confirmed),
+        rolled: flag(rolled),
+    }
+}
+
 /// Hears a piece up to and with the next line end, and copies the line.
 fn hear(client: &mut Client, piece: &[u8], text: &mut [u8], wire: &mut Wire) -> Heard
     requires { kept_limit ≤ length text.old }
     ensures { Feeds client.old client.new piece.now result text.new wire.new }
 {
     let heard = client.read(piece);
-    let got = client.got(heard);
-    match &got.taken {
+    let Got { used, taken } = client.got(heard);
+    match taken {
         None => {
             clear(wire);
             Heard {
-                used: got.used,
+                used,
                 len: 0,
                 kind: LineKind::text(),
                 ended: 0,
@@ -66,19 +98,7 @@ fn hear(client: &mut Client, piece: &[u8], text: &mut [u8], wire: &mut Wire) -> 
                 rolled: 0,
             }
         }
-        Some(taken) => {
-            put_commands(wire, taken.send.as_slice());
-            let line = taken.line.bytes;
-            Heard {
-                used: got.used,
-                len: put(text, &line[..LIMIT.min(line.len())]),
-                kind: LineKind::of(&taken.reading),
-                ended: 1,
-                cut: flag(taken.line.cut),
-                confirmed: confirmed_record(&taken.confirmed),
-                rolled: flag(taken.rolled),
-            }
-        }
+        Some(taken) => tell(used, taken, text, wire),
     }
 }
 

@@ -1,7 +1,7 @@
 -- Data that nothing interrupts.
 use Rattle.std.proofs.Common.{◌≡◌, ℕ, zero, suc, ◌<◌, Bool, true, false, ◌+◌, List, [], ◌∷◌, ◌++◌, ◌-◌, ◌≤◌, length}
 use Rattle.std.proofs.Common.{take, drop, get_or, refl, sym, ap, ◌∙◌, subst, arith}
-use Rattle.std.proofs.lemmas.List.{length-take, take-take, take_rest}
+use Rattle.std.proofs.lemmas.List.{length-take, take-take, take_rest, get_or-take, get_or-drop}
 use Rattle.std.proofs.Math.Seq.{take-add}
 use Rattle.fibs_lines.specs.Progress.{IsRun, ends_run}
 use Rattle.fibs_lines.proofs.Parts.{has_end}
@@ -48,14 +48,36 @@ pub IsRun-further : (bytes : List ℕ) (at more : ℕ) → IsRun (take at bytes)
 IsRun-further bytes at more h i =
     subst IsRun (sym (take-add at more bytes)) (IsRun-append (take at bytes) (take more (drop at bytes)) h i)
 
+-- what stands in a window
+pub in-window : (bytes window : List ℕ) (at wide j : ℕ) → window ≡ take wide (take (length bytes - at) (drop at bytes))
+    → j < length window → get_or window j 0 ≡ get_or bytes (at + j) 0
+in-window bytes window at wide j same l =
+    let rest = take (length bytes - at) (drop at bytes) in
+    let narrow : j < wide = omega (arith, l, ap length same, length-take wide rest) in
+    ap (λ w. get_or w j 0) same ∙ get_or-take wide rest j 0 narrow ∙ ap (λ r. get_or r j 0) (take_rest bytes at)
+    ∙ get_or-drop at bytes j 0
+
 -- a run at a front, and more of it in the window that was searched after it
-pub IsRun-window : (bytes : List ℕ) (at wide more : ℕ) → IsRun (take at bytes)
-    → more ≤ length (take wide (take (length bytes - at) (drop at bytes)))
-    → ((j : ℕ) → j < more → ends_run (get_or (take wide (take (length bytes - at) (drop at bytes))) j 0) ≡ true → ⊥)
-    → IsRun (take (at + more) bytes)
-IsRun-window bytes at wide more h within none =
-    let window = take wide (take (length bytes - at) (drop at bytes)) in
-    let narrow : more ≤ wide = omega (arith, within, length-take wide (take (length bytes - at) (drop at bytes))) in
-    let same : take more window ≡ take more (drop at bytes) =
-    take-take more wide (take (length bytes - at) (drop at bytes)) narrow ∙ ap (take more) (take_rest bytes at) in
-    IsRun-further bytes at more h (subst IsRun same (IsRun_take more window none))
+pub IsRun-window : (bytes window : List ℕ) (at wide more : ℕ) → IsRun (take at bytes)
+    → window ≡ take wide (take (length bytes - at) (drop at bytes)) → more ≤ length window
+    → ((j : ℕ) → j < more → ends_run (get_or window j 0) ≡ true → ⊥) → IsRun (take (at + more) bytes)
+IsRun-window bytes window at wide more h same within none =
+    let rest = take (length bytes - at) (drop at bytes) in
+    let narrow : more ≤ wide = omega (arith, within, ap length same, length-take wide rest) in
+    let front : take more window ≡ take more (drop at bytes) =
+    ap (take more) same ∙ take-take more wide rest narrow ∙ ap (take more) (take_rest bytes at) in
+    IsRun-further bytes at more h (subst IsRun front (IsRun_take more window none))
+
+-- a run at a front, and one byte more that ends none
+IsRun_suc : (at : ℕ) (bytes : List ℕ) → at < length bytes → IsRun (take at bytes)
+    → ends_run (get_or bytes at 0) ≡ false → IsRun (take (suc at) bytes)
+IsRun_suc at [] l h e = absurd (omega (arith, l))
+IsRun_suc zero (x ∷ bytes) l h e = (e, tt)
+IsRun_suc (suc at) (x ∷ bytes) l h e = (h.0, IsRun_suc at bytes (omega (arith, l)) h.1 e)
+
+-- the same, by the sum
+pub IsRun-next : (at : ℕ) (bytes : List ℕ) → at < length bytes → IsRun (take at bytes)
+    → ends_run (get_or bytes at 0) ≡ false → IsRun (take (at + 1) bytes)
+IsRun-next at bytes l h e =
+    let same : suc at ≡ at + 1 = omega arith in
+    subst (λ n. IsRun (take n bytes)) same (IsRun_suc at bytes l h e)

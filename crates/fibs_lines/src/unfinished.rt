@@ -25,8 +25,31 @@ pub(crate) struct Unfinished {
     pub(crate) over: bool,
 }
 
-/// How many bytes are searched at once. Most lines are shorter, and the search is quickest in short slices.
-const WINDOW: usize = 128;
+/// How many bytes are searched at once: as few as a search takes in one step, since most lines are short.
+const WINDOW: usize = 32;
+
+/// Whether a byte is a line end, or the first of a telnet command.
+fn ends_run(byte: u8) -> bool
+    ensures { result ≡ ends_run byte }
+{
+    byte == b'\n' || byte == 255
+}
+
+/// How many bytes of `bytes` stand before the first line end or telnet command, where the first `start` have none.
+fn run_from(bytes: &[u8], start: usize) -> usize
+    requires in_range { start ≤ length bytes.now }
+    requires run { IsRun (take start bytes.now) }
+    ensures in_range { result ≤ length bytes.now }
+    ensures run { IsRun (take result bytes.now) }
+    ensures stops { result < length bytes.now → ends_run (slice_index bytes.now result) ≡ true }
+{
+    for at in start..bytes.len() {
+        if ends_run(bytes[at]) {
+            return at;
+        }
+    }
+    bytes.len()
+}
 
 /// How many bytes of `bytes` stand before the first line end or telnet command.
 pub(crate) fn run_len(bytes: &[u8]) -> usize
@@ -35,15 +58,15 @@ pub(crate) fn run_len(bytes: &[u8]) -> usize
     ensures stops { result < length bytes.now → ends_run (slice_index bytes.now result) ≡ true }
 {
     let mut at = 0;
-    while at < bytes.len() {
-        let rest = &bytes[at..];
-        let window = &rest[..rest.len().min(WINDOW)];
+    loop {
+        let Some(window) = bytes[at..].first_chunk::<WINDOW>() else {
+            return run_from(bytes, at);
+        };
         match memchr2(b'\n', 255, window) {
             Some(found) => return at + found,
-            None => at += window.len(),
+            None => at += WINDOW,
         }
     }
-    at
 }
 
 impl Unfinished {

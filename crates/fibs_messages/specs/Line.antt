@@ -1,6 +1,6 @@
 -- What a line of the server is, and what a reading says of it (FIBS CLIP specification 1008; FIBS board style 3).
 use Rattle.std.specs.Prelude.{◌≡◌, ◌==◌, ◌⊎◌, List, [], ◌∷◌, ℕ, ℤ, pos, Option, Some, None, Result, Ok, Err, codes}
-use Rattle.std.specs.Prelude.{true, if◌then◌else◌}
+use Rattle.std.specs.Prelude.{Bool, true, if◌then◌else◌}
 use Rattle.std.specs.List.{starts_with}
 use Rattle.fibs_boards.specs.Board.{BoardFields, BoardText, Wrong, field_values, kinds, pieces}
 use Rattle.fibs_fields.specs.Spaces.{without_spaces}
@@ -18,9 +18,13 @@ use Rattle.fibs_boards.specs.StoredBoard.{fields_of}
 use Rattle.fibs_messages.specs.declared.line.Reading.{Reading}
 use Rattle.fibs_messages.specs.declared.line.Reading.TheVariants.{Numbered, Board, Text, Malformed}
 
+-- whether the line begins with `board:`
+abbrev pub begins_a_board : List ℕ → Bool
+begins_a_board line = starts_with (λ a b. a == b) line (codes "board:")
+
 -- a board line begins with `board:`
 abbrev pub IsBoardLine : List ℕ → Type 0
-IsBoardLine line = starts_with (λ a b. a == b) line (codes "board:") ≡ true
+IsBoardLine line = begins_a_board line ≡ true
 
 -- what a reading says: a message; a board; a text; or the line's number (0 for a board line), its first wrong field and
 -- what is wrong there

@@ -13,7 +13,7 @@ pub use fibs_fields::fault::{Fault, FieldFault};
 pub use fibs_fields::name::Name;
 pub use fibs_fields::split::split;
 pub use fibs_fields::word::{Tail, Word};
-pub use line::{Reading, message_number, read};
+pub use line::{Reading, is_board_line, message_number, read};
 pub use messages::canonical::canonical_line;
 pub use messages::field::Field;
 pub use messages::message::{Message, OwnInfo, WhoInfo};

@@ -3,7 +3,7 @@
 ghost use Rattle.std.specs.Prelude.{◌≡◌, ◌↔◌, ℕ, List, Some, IfSome};
 ghost use Rattle.fibs_boards.specs.Board.{BoardFields, BoardText};
 ghost use Rattle.fibs_messages.specs.Line.{IsBoardLine, IsMalformed, IsText, ReadingValue, numbered_line, board_line};
-ghost use Rattle.fibs_messages.specs.Line.{text_line, malformed_line, IsOfNumber, IsReading, reading_value, reading_of};
+ghost use Rattle.fibs_messages.specs.Line.{text_line, malformed_line, IsOfNumber, IsReading, reading_value, reading_of, begins_a_board};
 ghost use Rattle.fibs_messages.specs.LineReading.{BeginsAs, IsAsRead};
 ghost use Rattle.fibs_messages.specs.Message.{number_word, HasNumber, IsNumber, MessageValue, MessageText};
 ghost use Rattle.fibs_fields.specs.Split.{before};
@@ -68,6 +68,15 @@ fn read_numbered_line(number: u8, line: &[u8]) -> Reading<'_>
     }
 }
 
+/// Whether a line is a board line: one that begins with `board:`.
+#[inline(always)]
+pub fn is_board_line(line: &[u8]) -> bool
+    ensures { result ≡ begins_a_board line.now }
+{
+    // So few bytes are compared faster one by one than by a call.
+    matches!(line, [b'b', b'o', b'a', b'r', b'd', b':', ..])
+}
+
 /// How a line begins.
 enum Beginning {
     /// With `board:`.
@@ -82,7 +91,7 @@ enum Beginning {
 fn beginning_of(line: &[u8]) -> Beginning
     ensures { BeginsAs line.now result }
 {
-    if line.starts_with(b"board:") {
+    if is_board_line(line) {
         return Beginning::Board;
     }
     match number_of(split(line, b' ').0) {

@@ -1,30 +1,28 @@
 -- A front of a text that has the form of a field is what is printed of its value.
-use Rattle.std.proofs.Common.{◌≡◌, ◌≢◌, ◌∙◌, ℕ, suc, ◌+◌, ◌-◌, ◌*◌, ◌/◌, ◌%◌, ◌^◌, ◌<◌, ◌≤◌, ◌==◌, Bool, true, false}
+use Rattle.std.proofs.Common.{◌≡◌, ◌≢◌, ◌∙◌, ℕ, suc, ◌+◌, ◌-◌, ◌*◌, ◌/◌, ◌%◌, ◌^◌, ◌<◌, ◌≤◌, ◌==◌, true, false}
 use Rattle.std.proofs.Common.{not}
-use Rattle.std.proofs.Common.{List, [], ◌∷◌, ◌++◌, decimal, length, get_or, take, drop, refl, sym, ap, subst, arith}
-use Rattle.std.proofs.Common.{add-one, inl, inr, nat_le, nat_lt, length-append, rules}
-use Rattle.std.specs.Prelude.{◌&&◌, ◌||◌}
+use Rattle.std.proofs.Common.{List, [], ◌∷◌, ◌++◌, decimal, length, get_or, take, drop, refl, sym, ap, arith}
+use Rattle.std.proofs.Common.{add-one, inl, inr, nat_lt, length-append, rules}
+use Rattle.std.specs.Prelude.{◌||◌}
 use Rattle.std.specs.Char.{is_ascii_digit}
 use Rattle.std.specs.List.{list_all, prefix_len}
 use Rattle.std.specs.Str.Parse.{digits_value}
 use Rattle.std.proofs.Math.Seq.{drop-cons, take-add, take-append_seam}
-use Rattle.std.proofs.lemmas.Bool.{and_from, cases_eq, eq-eqb, ne_eqb, lt-ltb, le-leb, or_left, or_right}
-use Rattle.std.proofs.lemmas.Bool.Decides.{nat_tests}
+use Rattle.std.proofs.lemmas.Bool.{and_from, cases_eq, eq-eqb, ne_eqb, lt-ltb, or_right}
 use Rattle.std.proofs.lemmas.List.{take_all, get_or-take, length-take-le}
 use Rattle.std.proofs.lemmas.List.Sums.{prefix_len-le-length}
 use Rattle.std.proofs.lemmas.Str.Parse.{numerals_by_value, digits_value_short}
 use Rattle.fibs_fields.specs.Decimal.{is_positive, is_zero}
-use Rattle.fibs_fields.specs.Field.{Kind, a_name, a_word, a_tail, a_flag, a_number, a_rating, a_text, FieldValue}
+use Rattle.fibs_fields.specs.Field.{a_name, a_word, a_tail, a_flag, a_number, a_rating, a_text}
 use Rattle.fibs_fields.specs.Field.{NameField, WordField, TailField, FlagField, NumberField, RatingField, TextField}
 use Rattle.fibs_fields.specs.Name.{is_name_byte}
 use Rattle.fibs_fields.specs.Rating.{printed_rating}
 use Rattle.fibs_fields.specs.Split.{before, after}
-use Rattle.fibs_fields.specs.Word.{is_word, is_tail}
 use Rattle.fibs_fields.proofs.FieldLemmas.NameFronts.{front_passes, front_is_name}
 use Rattle.fibs_fields.proofs.FieldLemmas.Splits.{behind, before-behind, has_no}
 use Rattle.fibs_fields.proofs.NumberLemmas.Digits.{is_digit_range}
 use Rattle.fibs_fields.proofs.NumberLemmas.Naturals.{plain_spelled}
-use Rattle.fibs_fields.proofs.NumberLemmas.Spelled.{Positive, positive_from}
+use Rattle.fibs_fields.proofs.NumberLemmas.Spelled.{positive_from}
 use Rattle.fibs_messages.specs.Message.{canonical_field}
 use Rattle.fibs_messages.specs.Standing.{Begins, BeginsDecimal}
 

@@ -1,6 +1,6 @@
 -- A line of which each field stands as it is printed is the canonical line of its message.
-use Rattle.std.proofs.Common.{◌≡◌, ◌∙◌, ℕ, suc, ◌+◌, ◌<◌, List, [], ◌∷◌, ◌++◌, map, decimal, length, get_or, take, drop}
-use Rattle.std.proofs.Common.{replicate, Option, Some, None, refl, sym, ap, subst, arith, append_assoc}
+use Rattle.std.proofs.Common.{◌≡◌, ◌∙◌, ℕ, suc, ◌+◌, ◌<◌, List, [], ◌∷◌, ◌++◌, decimal, length, get_or, take, drop}
+use Rattle.std.proofs.Common.{replicate, Option, Some, None, refl, sym, ap, arith, append_assoc}
 use Rattle.std.proofs.Common.{take-append-drop}
 use Rattle.std.proofs.Common.{add-one}
 use Rattle.std.specs.List.{flat_map, AllByRecursion}

@@ -22,7 +22,7 @@ use fibs_commands::{
     AnswerText, autoboard_text, board_text, moreboards_text, roll_text, style_text,
 };
 use fibs_lines::Line;
-use fibs_messages::{Board, Message, OwnInfo, Reading, message_number, read};
+use fibs_messages::{Board, Message, OwnInfo, Reading, is_board_line, message_number, read};
 use fibs_position::{Decision, differs};
 
 /// What a session says to a line: the commands that are to be sent, the decision that is confirmed, and whether the
@@ -66,7 +66,7 @@ pub(super) fn is_unheard(line: &Line<'_>) -> bool
     ensures { result ≡ true → (v : SessionValue) → line_fields v (line_reading (value_of line.now)) ≡ unheard v }
 {
     // A board line is the longest, and has no number to be looked for.
-    if line.cut || line.bytes.starts_with(b"board:") {
+    if line.cut || is_board_line(line.bytes) {
         return false;
     }
     match message_number(line.bytes) {

@@ -13,8 +13,8 @@ use super::escape::{append_escaped, escape_from};
 use super::malformed::malformed_text;
 use fibs_lines::Line;
 use fibs_messages::{
-    Board, Fault, Message, Reading, canonical_line, check_board, message_number, print_message,
-    read,
+    Board, Fault, Message, Reading, canonical_line, check_board, is_board_line, message_number,
+    print_message, read,
 };
 use itoa::{Buffer, Integer};
 use std::alloc::{AllocError, Global};
@@ -116,7 +116,7 @@ fn append_reading(alloc: Global, line: &[u8], text: &mut Vec<u8>) -> Result<(), 
     ensures { OnOk result ((reading : ReadingValue) × IsReading line.now reading
         × (text.new.items ≡ text.old.items ++ reading_text reading)) }
 {
-    if line.starts_with(b"board:") {
+    if is_board_line(line) {
         return append_board_line(line, text);
     }
     if message_number(line).is_none() {

@@ -10,7 +10,7 @@ returns-then-is_none c =
     reading_shown c.append_text.result line c.args.text.now.items c.append_text.new.text.items
     (codes "text " ++ escaped line) (text_line line) (
       (
-        no_board line _ c.starts_with.result c.starts_with.ensures.value c.if-starts_with.false,
+        no_board line _ c.is_board_line.result c.is_board_line.ensures c.if-is_board_line.false,
         no_number line c.message_number.result c.is_none.result c.is_none.ensures c.if-is_none.true
             c.message_number.ensures.number,
       ),

@@ -1,0 +1,17 @@
+-- What was heard is told.
+use Rattle.std.proofs.Common.{ℕ, take, refl, ap, ◌∙◌}
+use Rattle.std.proofs.lemmas.List.{take_min}
+use Rattle.fibs_lines.specs.Lines.{kept_limit}
+use Rattle.fibs_c.proofs.feeding.tell.Goals as goal
+
+pub returns-clause-tells : goal.returns-clause-tells
+returns-clause-tells c =
+    let line = c.args.taken.line.bytes.now in
+    record {
+      ended = refl;
+      bytes = c.put.ensures.bytes ∙ ap (λ (n : ℕ). take n line) c.min.ensures ∙ take_min kept_limit line;
+      cut = c.flag.ensures;
+      kind = c.of.ensures;
+      confirmed = c.confirmed_record.ensures;
+      rolled = c.flag-2.ensures;
+    }
