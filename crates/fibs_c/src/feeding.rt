@@ -5,10 +5,12 @@ ghost use Rattle.fibs_lines.specs.Lines.{kept_limit};
 ghost use Rattle.fibs_session.specs.Calls.SessionOf.{ask_of, taken_of};
 ghost use Rattle.fibs_session.specs.History.Machine.{wire_of};
 ghost use Rattle.fibs_records.specs.Wires.{wire_in};
+ghost use Rattle.fibs_position.specs.DecisionValue.{decision_of as value_of};
 ghost use Rattle.fibs_records.specs.Decisions.{IsMaybeDecision};
 ghost use Rattle.fibs_c.specs.FeedDoor.{IsFed, Feeds, TellsLine, decision_of_ask};
 
 use fibs_lines::LIMIT;
+use fibs_position::Decision;
 use fibs_records::ClientHandle;
 use fibs_records::decisions::{DecisionRecord, decision_record, of_kind};
 use fibs_records::kinds::LineKind;
@@ -38,20 +40,31 @@ pub struct Heard {
     pub rolled: u8,
 }
 
-/// The decision that was confirmed, or none.
-fn confirmed_record(confirmed: &Option<Outstanding>) -> DecisionRecord
-    ensures { IsMaybeDecision result (decision_of_ask (option_map ask_of confirmed.now)) }
+/// The decision that was confirmed, without its board.
+#[inline(always)]
+fn decision_of(confirmed: Option<Outstanding>) -> Option<Decision>
+    ensures { option_map value_of result ≡ decision_of_ask (option_map ask_of confirmed) }
 {
     match confirmed {
+        None => None,
+        Some(outstanding) => Some(outstanding.decision),
+    }
+}
+
+/// A decision, or none, as C has it.
+fn maybe_record(decision: &Option<Decision>) -> DecisionRecord
+    ensures { IsMaybeDecision result (option_map value_of decision.now) }
+{
+    match decision {
         None => of_kind(0),
-        Some(outstanding) => decision_record(&outstanding.decision),
+        Some(decision) => decision_record(decision),
     }
 }
 
 /// Tells what was heard where a line ended: copies the line, and hands out the commands that answer it.
 ///
-/// Each part is moved into a place of its own: while one is lent from the answer, all of the answer stands in memory,
-/// which costs more than reading the line.
+/// Each part is moved into a place of its own, and of a confirmed decision no board: while a part is lent from the answer,
+/// all of the answer stands in memory, which costs more than reading the line.
 #[inline(always)]
 fn tell(used: usize, taken: Taken<'_>, text: &mut [u8], wire: &mut Wire) -> Heard
     requires { kept_limit ≤ length text.old }
@@ -66,6 +79,7 @@ fn tell(used: usize, taken: Taken<'_>, text: &mut [u8], wire: &mut Wire) -> Hear
         confirmed,
         rolled,
     } = taken;
+    let decision = decision_of(confirmed);
     put_commands(wire, send.as_slice());
     Heard {
         used,
@@ -73,7 +87,7 @@ fn tell(used: usize, taken: Taken<'_>, text: &mut [u8], wire: &mut Wire) -> Hear
         kind: LineKind::of(&reading),
         ended: 1,
         cut: flag(line.cut),
-        confirmed: confirmed_record(&confirmed),
+        confirmed: maybe_record(&decision),
         rolled: flag(rolled),
     }
 }

@@ -59,6 +59,7 @@ pub extern "C" fn fibs_lines_free(alloc: Global, lines: &mut LinesHandle)
 }
 
 /// Reads a piece up to and with the next line end, and copies the line.
+#[inline(always)]
 pub(crate) fn feed(lines: &mut Lines, piece: &[u8], text: &mut [u8]) -> FedLine
     requires { kept_limit ≤ length text.old }
     ensures told { FeedsLine lines.old lines.new piece.now result text.new }

@@ -22,6 +22,7 @@ pub struct LineKind {
 }
 
 /// The message's number.
+#[inline(always)]
 fn number_of(message: &Message<'_>) -> u8
     ensures { result ≡ (message_of message.now).number }
 {
@@ -50,6 +51,7 @@ fn number_of(message: &Message<'_>) -> u8
 
 impl LineKind {
     /// A text, and what is told where there is no line.
+    #[inline(always)]
     pub fn text() -> LineKind
         ensures { result ≡ record { field = 0; kind = 0; number = 0; fault = 0 } }
     {
@@ -62,6 +64,7 @@ impl LineKind {
     }
 
     /// What the reading says.
+    #[inline(always)]
     pub fn of(reading: &Reading<'_>) -> LineKind
         ensures { result ≡ told_kind (reading_of reading.now) }
     {

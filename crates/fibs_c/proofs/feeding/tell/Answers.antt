@@ -1,7 +1,8 @@
 -- What was heard is told.
-use Rattle.std.proofs.Common.{ℕ, take, refl, ap, ◌∙◌}
+use Rattle.std.proofs.Common.{ℕ, take, refl, ap, subst, ◌∙◌}
 use Rattle.std.proofs.lemmas.List.{take_min}
 use Rattle.fibs_lines.specs.Lines.{kept_limit}
+use Rattle.fibs_records.specs.Decisions.{IsMaybeDecision}
 use Rattle.fibs_c.proofs.feeding.tell.Goals as goal
 
 pub returns-clause-tells : goal.returns-clause-tells
@@ -12,6 +13,7 @@ returns-clause-tells c =
       bytes = c.put.ensures.bytes ∙ ap (λ (n : ℕ). take n line) c.min.ensures ∙ take_min kept_limit line;
       cut = c.flag.ensures;
       kind = c.of.ensures;
-      confirmed = c.confirmed_record.ensures;
+      confirmed = subst (IsMaybeDecision c.maybe_record.result) c.decision_of-decision.ensures
+          c.maybe_record.ensures;
       rolled = c.flag-2.ensures;
     }

@@ -1,4 +1,4 @@
-use Rattle.std.proofs.Common.{◌≡◌, ◌+◌, ◌<◌, ℕ, pos, length, length-set, slice_index_or, w32, ◌∙◌, sym, subst}
+use Rattle.std.proofs.Common.{◌+◌, ◌<◌, ℕ, length, length-set, w32, ◌∙◌, sym, subst}
 use Rattle.std.proofs.lemmas.Int.{to_z-of_z}
 use Rattle.fibs_boards.specs.Board.{field_of}
 use Rattle.fibs_boards.specs.StoredBoard.{fields_of}

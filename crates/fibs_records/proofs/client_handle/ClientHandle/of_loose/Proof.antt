@@ -1,6 +1,6 @@
 -- `of_loose` takes over what the pointer owns.
 use Rattle.std.proofs.Common.{◌≡◌, List, [], ◌∷◌, ◌++◌, refl, sym, subst}
-use Rattle.std.specs.Prelude.{Option, None, Some, true, false}
+use Rattle.std.specs.Prelude.{Some, true}
 use mir.Syntax.{Fn}
 use mir.Val.{Val, vptr}
 use base.Logic.{SProp, emp, ent, id⊢}
@@ -25,7 +25,7 @@ use Rattle.std.proofs.alloc.Global.TheLaws as heap_laws
 use Rattle.std.specs.contracts.impls.GlobalAllocator.TheImpl.{ghosts}
 use Rattle.std.proofs.raw_atomic.Walks.{proved_at, leaves}
 use Rattle.fibs_records.proofs.LooseValues.{both, Loose, loose_good, loose_out}
-use Rattle.fibs_records.proofs.HandleValues.{held_val, held_own, held_made, held_typed, ptr_typed}
+use Rattle.fibs_records.proofs.HandleValues.{held_val, held_own, held_made, held_typed}
 use Rattle.fibs_records.specs.contracts.client_handle.ClientHandle as held
 use Rattle.fibs_session.specs.contracts.client.Client as inner
 use Rattle.fibs_records.specs.contracts.client_handle.ClientHandle.of_loose.{ended, clauses}

@@ -1,6 +1,6 @@
 -- `into_loose` hands over the box where there is one.
-use Rattle.std.proofs.Common.{◌≡◌, ℕ, List, [], ◌∷◌, ◌++◌, refl, sym, ap, ◌∙◌, lit<}
-use Rattle.std.specs.Prelude.{Option, None, Some, Bool, true, false, option_map}
+use Rattle.std.proofs.Common.{◌≡◌, List, [], ◌∷◌, ◌++◌, refl, sym, ◌∙◌, lit<}
+use Rattle.std.specs.Prelude.{None, Some, true, false, option_map}
 use mir.Syntax.{Fn}
 use mir.Val.{Val, vptr, vcons, vnil}
 use base.Logic.{SProp, emp}

@@ -1,6 +1,6 @@
 -- `none` owns nothing.
-use Rattle.std.proofs.Common.{◌≡◌, List, [], ◌∷◌, refl, lit<}
-use Rattle.std.specs.Prelude.{Option, None, Some, true, false}
+use Rattle.std.proofs.Common.{◌≡◌, [], ◌∷◌, refl}
+use Rattle.std.specs.Prelude.{None, false}
 use mir.Syntax.{Fn}
 use mir.Val.{Val}
 use base.Logic.{SProp, emp}
@@ -20,7 +20,6 @@ use denote.Triple.Walked.{Stays, walk_of}
 use Rattle.std.proofs.raw_atomic.Walks.{proved_at, leaves}
 use Rattle.fibs_records.proofs.HandleValues.{held_val, held_own, held_made, held_typed}
 use Rattle.fibs_records.specs.contracts.lines_handle.LinesHandle as held
-use Rattle.fibs_lines.specs.contracts.lines.Lines as inner
 use Rattle.fibs_records.specs.contracts.lines_handle.LinesHandle.none.{ended, clauses}
 use Rattle.fibs_records.specs.contracts.lines_handle.LinesHandle.none.Key.{name as #self}
 use Rattle.fibs_records.proofs.lines_handle.LinesHandle.none.Statement.{statement}
