@@ -2,5 +2,6 @@
 pub mod Typing
 pub mod Wishes
 pub mod Players
+pub mod Seats
 pub mod Reading
 pub mod Ending

@@ -1,6 +1,6 @@
 -- A typed line is read part by part.
-use Rattle.std.proofs.Common.{◌≡◌, ℕ, suc, ◌<◌, ◌-◌, Bool, true, false, not, nat_lt, List, [], ◌∷◌, ◌++◌, length}
-use Rattle.std.proofs.Common.{length-take, take, Option, Some, None, refl, ap, sym, subst, ◌∙◌, arith, append_assoc}
+use Rattle.std.proofs.Common.{◌≡◌, ℕ, ◌<◌, ◌-◌, Bool, true, false, not, nat_lt, List, [], ◌++◌, length}
+use Rattle.std.proofs.Common.{length-take, take, Option, Some, None, refl, ap, sym, ◌∙◌, arith, append_assoc}
 use Rattle.std.proofs.Common.{append-nil, length-append}
 use Rattle.std.proofs.lemmas.Bool.Decides.{nat_tests}
 use Rattle.std.proofs.lemmas.List.{take-take}
@@ -8,7 +8,7 @@ use Rattle.std.specs.Prelude.{◌==◌, is_some}
 use Rattle.std.specs.Io.KnownBytes.{Consumes, IsAtEnd, prepend_known}
 use Rattle.std.specs.Str.Lines.{strip_carriage_return}
 use Rattle.fibs_fields.specs.Split.{before, after}
-use Rattle.fibs_connect.specs.Converse.Typing.{kept_typed, without_end, typed_line, after_typed_line, rest_or_nothing}
+use Rattle.fibs_connect.specs.Converse.Typing.{kept_typed, without_end, rest_or_nothing}
 use Rattle.fibs_connect.specs.Converse.Reading.{TakesLine}
 use Rattle.fibs_connect.proofs.ConverseLemmas.Cuts.{before-all, before-more, after-more, after-front, before-front}
 use Rattle.fibs_connect.proofs.ConverseLemmas.Cuts.{cut-length}

@@ -1,6 +1,6 @@
 -- The lines of players, one more at each step.
-use Rattle.std.proofs.Common.{◌≡◌, ℕ, zero, suc, ◌+◌, ◌<◌, List, [], ◌∷◌, ◌++◌, length, take, slice_get, Option, Some}
-use Rattle.std.proofs.Common.{None, refl, ap, sym, ◌∙◌, arith, append_assoc, append-nil, add-one}
+use Rattle.std.proofs.Common.{◌≡◌, ℕ, zero, suc, ◌+◌, List, [], ◌∷◌, ◌++◌, take, slice_get, Some}
+use Rattle.std.proofs.Common.{ap, sym, ◌∙◌, append_assoc, append-nil, add-one}
 use Rattle.fibs_messages.specs.Message.{MessageValue}
 use Rattle.fibs_exchange.specs.Turns.Acts.{line_bytes, text_of_lines}
 use Rattle.fibs_connect.specs.Converse.Players.{player_line, player_lines}

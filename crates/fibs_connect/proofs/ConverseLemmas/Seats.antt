@@ -1,17 +1,22 @@
 -- A seat at the server: the client is online exactly where there is a connection.
-use Rattle.std.proofs.Common.{◌≡◌, ℕ, suc, Bool, true, false, not, cond, nat_eq, List, [], ◌∷◌, Option, None, Some}
-use Rattle.std.proofs.Common.{refl, sym, ap, ◌∙◌, arith}
+use Rattle.std.proofs.Common.{◌≡◌, ℕ, suc, true, false, not, cond, nat_eq, List, [], ◌∷◌, Option, None, Some}
+use Rattle.std.proofs.Common.{◌⊎◌, refl, sym, ap, subst, ◌∙◌, arith}
+use Rattle.std.specs.Borrow.{MutBor}
+use Rattle.fibs_messages.specs.Message.{MessageValue}
+use Rattle.fibs_session.specs.declared.session.taken.Outstanding.{Outstanding}
+use Rattle.fibs_exchange.specs.Turns.Script.{known_before, known_after, outside}
+use Rattle.fibs_connect.specs.Converse.Seats.{TakesTurn, seat_of}
 use Rattle.std.specs.Prelude.{is_some}
 use Rattle.std.proofs.lemmas.Bool.{ne_eqb}
 use Rattle.fibs_session.specs.History.Log.{Opened}
 use Rattle.fibs_session.specs.History.Words.{connections}
-use Rattle.fibs_session.specs.History.Machine.{Talk, Step, Open, Lose, step, stays, opened, is_online}
+use Rattle.fibs_session.specs.History.Machine.{Talk, Open, Lose, step, stays, opened, is_online}
 use Rattle.fibs_session.specs.Calls.Standing.{ClientValue, StandsAfter}
 use Rattle.fibs_session.specs.Calls.Doing.{Does}
 use Rattle.fibs_exchange.specs.declared.exchange.Ending.{Ending}
 use Rattle.fibs_exchange.specs.declared.exchange.Ending.TheVariants.{Quiet, Lost}
-use Rattle.fibs_show.specs.Writing.{Whole, Broken}
-use Rattle.fibs_exchange.specs.Turns.Turn.{FitsStream, LeavesAs, is_there, still_given}
+use Rattle.fibs_show.specs.Writing.{Broken}
+use Rattle.fibs_exchange.specs.Turns.Turn.{FitsStream, LeavesAs, Turned, is_there, still_given}
 use Rattle.fibs_exchange.proofs.TurnLemmas.Turns.{loses_offline}
 use Rattle.fibs_exchange.proofs.TurnLemmas.Hearing.{open_append}
 
@@ -37,3 +42,77 @@ pub seat_away : {S : Type 0} (stream : Option S) (e : Ending) (new : ClientValue
 seat_away (Some s) e new none fits = absurd (cc)
 seat_away None Quiet new none fits = fits
 seat_away None (Lost waited) new none fits = fits
+
+-- ---- turns
+
+-- where none was given none is given on
+not_given : (e : Ending) → false ≡ still_given e false
+not_given Quiet = refl
+not_given (Lost waited) = refl
+
+-- a turn after which the connection stays
+pub turn_kept : {S : Type 0} (remaining contents : S → Option (List ℕ)) (old new : ClientValue)
+    (players told : List MessageValue) (s t : S) (stream : Option S) (e : Ending) (said held now : Option (List ℕ))
+    → stream ≡ Some s → e ≡ Quiet
+    → ((h : Talk) → StandsAfter old h → is_online h ≡ true → Turned h new said (remaining s) (remaining t)
+    (outside (contents s) held players) (outside (contents t) now told) e)
+    → TakesTurn said (seat_of remaining contents old players stream) (seat_of remaining contents new told (Some t)) held
+    now
+turn_kept remaining contents old new players told s t stream e said held now is quiet turned =
+    subst (λ o. TakesTurn said (seat_of remaining contents old players o)
+    (seat_of remaining contents new told (Some t)) held now) (sym is) (record {
+      ending = e;
+      left = remaining t;
+      wrote = contents t;
+      turned = turned;
+      connected = sym (ap (λ x. still_given x true) quiet);
+      left_as = λ _. refl;
+      wrote_as = λ _. refl;
+    })
+
+-- a turn after which it is given up
+pub turn_given_up : {S : Type 0} (remaining contents : S → Option (List ℕ)) (old new : ClientValue)
+    (players told : List MessageValue) (s t : S) (stream stays : Option S) (waited : Option Outstanding) (e : Ending)
+    (said held now : Option (List ℕ))
+    → stream ≡ Some s → stays ≡ None → e ≡ Lost waited
+    → ((h : Talk) → StandsAfter old h → is_online h ≡ true → Turned h new said (remaining s) (remaining t)
+    (outside (contents s) held players) (outside (contents t) now told) e)
+    → TakesTurn said (seat_of remaining contents old players stream) (seat_of remaining contents new told stays) held now
+turn_given_up remaining contents old new players told s t stream stays waited e said held now is none lost turned =
+    subst (λ o. TakesTurn said (seat_of remaining contents old players o) (seat_of remaining contents new told stays)
+    held now) (sym is)
+    (subst (λ o. TakesTurn said (seat_of remaining contents old players (Some s))
+    (seat_of remaining contents new told o) held now) (sym none) (record {
+      ending = e;
+      left = remaining t;
+      wrote = contents t;
+      turned = turned;
+      connected = sym (ap (λ x. still_given x true) lost);
+      left_as = λ there. absurd (cc);
+      wrote_as = λ there. absurd (cc);
+    }))
+
+-- a turn without a connection
+pub turn_away : {S : Type 0} (remaining contents : S → Option (List ℕ)) (old new : ClientValue)
+    (players told : List MessageValue) (stream stays : Option S) (given : Option (MutBor S))
+    (back : Unit {0} ⊎ ((MutBor S × Unit {0}) ⊎ ⊥)) (e : Ending) (said held now : Option (List ℕ))
+    → stream ≡ None → stays ≡ None → is_some given ≡ false
+    → ((h : Talk) → StandsAfter old h → is_online h ≡ is_there given → Turned h new said
+    (known_before remaining given) (known_after remaining back) (outside (known_before contents given) held players)
+    (outside (known_after contents back) now told) e)
+    → TakesTurn said (seat_of remaining contents old players stream) (seat_of remaining contents new told stays) held now
+turn_away remaining contents old new players told stream stays (Some s) back e said held now is none away turned =
+    absurd (cc)
+turn_away remaining contents old new players told stream stays None back e said held now is none away turned =
+    subst (λ o. TakesTurn said (seat_of remaining contents old players o) (seat_of remaining contents new told stays)
+    held now) (sym is)
+    (subst (λ o. TakesTurn said (seat_of remaining contents old players None)
+    (seat_of remaining contents new told o) held now) (sym none) (record {
+      ending = e;
+      left = known_after remaining back;
+      wrote = known_after contents back;
+      turned = turned;
+      connected = not_given e;
+      left_as = λ there. absurd (cc);
+      wrote_as = λ there. absurd (cc);
+    }))

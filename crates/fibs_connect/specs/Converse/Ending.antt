@@ -1,5 +1,5 @@
 -- How a conversation with the server ends.
-use Rattle.std.specs.Prelude.{◌≡◌, ◌⊎◌, ◌++◌, ℕ, List, Option, Some, None, Result, codes, IfOk, IfErr, OnOk}
+use Rattle.std.specs.Prelude.{◌≡◌, ◌⊎◌, ℕ, List, Option, Some, None, Result, codes, IfOk, IfErr}
 use Rattle.std.specs.Io.KnownBytes.{Appends, Keeps}
 use Rattle.fibs_commands.specs.Logins.{login_fault}
 use Rattle.fibs_commands.specs.PlainFaults.{plain_fault_number, plain_fault_name}

@@ -1,5 +1,5 @@
 -- The lines that a user types (the project's own). Each definition cuts a whole list.
-use Rattle.std.specs.Prelude.{ℕ, suc, List, [], Option, Some, None, take}
+use Rattle.std.specs.Prelude.{ℕ, List, [], Option, Some, None, take}
 use Rattle.std.specs.Str.Lines.{strip_carriage_return}
 use Rattle.fibs_fields.specs.Split.{before, after}
 

@@ -1,5 +1,5 @@
 -- What a typed line asks for (the project's own): three words are the conversation's, all others go to the client.
-use Rattle.std.specs.Prelude.{ℕ, List, [], ◌∷◌, Option, Some, None, Bool, cond, codes, length, nat_lt}
+use Rattle.std.specs.Prelude.{ℕ, List, [], ◌∷◌, Option, Some, None, cond, codes, length, nat_lt}
 use Rattle.std.specs.Str.{bytes_eq}
 use Rattle.fibs_connect.specs.declared.connect.wish.Wish.{Wish}
 use Rattle.fibs_connect.specs.declared.connect.wish.Wish.TheVariants as W

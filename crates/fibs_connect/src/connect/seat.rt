@@ -1,10 +1,10 @@
 //! A player's seat: the client, the players that it knows, and the connection, if there is one.
-ghost use Rattle.std.specs.Prelude.{◌⊎◌, [], false, codes, OnOk, IsNone, IsSome};
-ghost use Rattle.std.specs.Io.KnownBytes.{Appends, Keeps};
+ghost use Rattle.std.specs.Prelude.{◌≡◌, [], true, false, IfOk, OnOk, IsSome};
+ghost use Rattle.std.specs.Io.KnownBytes.{Keeps};
 ghost use Rattle.fibs_directory.specs.Directory.{IsDirectory};
-ghost use Rattle.fibs_exchange.specs.Turns.Acts.{line_bytes};
-ghost use Rattle.fibs_exchange.specs.Turns.Typing.{reason_line};
-ghost use Rattle.fibs_exchange.specs.Turns.Turn.{FitsStream, is_there};
+ghost use Rattle.fibs_exchange.specs.Turns.Turn.{FitsStream, bytes_of, is_there};
+ghost use Rattle.fibs_connect.specs.Converse.Seats.{Answered, Connects, Refuses, TakesTurn, seat_of};
+ghost use Rattle.fibs_connect.specs.Converse.Wishes.{wish_of};
 
 use super::dial::Dial;
 use super::players::print_players;
@@ -55,7 +55,11 @@ impl<S: Link + Drop> Seat<S> {
         out: &mut W,
     ) -> Result<Going, ExchangeFault>
         requires { FitsStream self.old.client (is_there self.old.stream) }
-        ensures { OnOk result (FitsStream self.new.client (is_there self.new.stream)) }
+        ensures fits { OnOk result (FitsStream self.new.client (is_there self.new.stream)) }
+        ensures answered { IfOk result (λ going. Answered (wish_of line.now)
+            (seat_of S.remaining S.contents self.old.client self.old.directory self.old.stream)
+            (seat_of S.remaining S.contents self.new.client self.new.directory self.new.stream)
+            (W.contents out.old) (W.contents out.new) going) }
     {
         match wish_of(line) {
             Wish::Quit => return Ok(Going::Away),
@@ -76,12 +80,13 @@ impl<S: Link + Drop> Seat<S> {
     ) -> Result<(), ExchangeFault>
         requires { FitsStream self.old.client (is_there self.old.stream) }
         ensures fits { OnOk result (FitsStream self.new.client (is_there self.new.stream)) }
-        ensures refused { IsSome self.old.stream → OnOk result (Appends (W.contents out.old) (W.contents out.new)
-            (line_bytes (reason_line (codes "refused ") 1 (codes "AlreadyOpen")))) }
-        ensures connected { IsNone self.old.stream → OnOk result (IsSome self.new.stream →
-            Keeps (W.contents out.old) (W.contents out.new) × IsDirectory [] self.new.directory) }
-        ensures alone { IsNone self.old.stream → OnOk result (IsNone self.new.stream → IsDirectory [] self.new.directory
-            ⊎ Appends (W.contents out.old) (W.contents out.new) (line_bytes (codes "no connection"))) }
+        ensures refused { is_there self.old.stream ≡ true → OnOk result (Refuses
+            (seat_of S.remaining S.contents self.old.client self.old.directory self.old.stream)
+            (seat_of S.remaining S.contents self.new.client self.new.directory self.new.stream)
+            (W.contents out.old) (W.contents out.new)) }
+        ensures connects { is_there self.old.stream ≡ false → OnOk result (Connects
+            (seat_of S.remaining S.contents self.new.client self.new.directory self.new.stream)
+            (W.contents out.old) (W.contents out.new)) }
     {
         match &self.stream {
             Some(_) => {
@@ -129,7 +134,11 @@ impl<S: Link + Drop> Seat<S> {
         out: &mut W,
     ) -> Result<(), ExchangeFault>
         requires { FitsStream self.old.client (is_there self.old.stream) }
-        ensures { OnOk result (FitsStream self.new.client (is_there self.new.stream)) }
+        ensures fits { OnOk result (FitsStream self.new.client (is_there self.new.stream)) }
+        ensures turned { OnOk result (TakesTurn (bytes_of typed.entry)
+            (seat_of S.remaining S.contents self.old.client self.old.directory self.old.stream)
+            (seat_of S.remaining S.contents self.new.client self.new.directory self.new.stream)
+            (W.contents out.old) (W.contents out.new)) }
     {
         match self.stream.take() {
             None => {

@@ -1,4 +1,4 @@
-use Rattle.std.proofs.Common.{rules, ◌≡◌, refl}
+use Rattle.std.proofs.Common.{rules, refl}
 use Rattle.fibs_connect.proofs.ConverseLemmas.Spent.{spends_nothing, spends_more}
 use Rattle.fibs_connect.proofs.connect.answer_lines.Goals as goal
 

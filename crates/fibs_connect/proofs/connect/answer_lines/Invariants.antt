@@ -1,4 +1,3 @@
-use Rattle.std.proofs.Common.{ℕ}
 use Rattle.fibs_exchange.specs.Turns.Turn.{FitsStream, is_there}
 use Rattle.fibs_connect.specs.Converse.Reading.{SpendsReads}
 use Rattle.fibs_connect.proofs.connect.answer_lines.Given as goal

@@ -1,4 +1,4 @@
-use Rattle.std.proofs.Common.{◌≡◌, true, false, None, Some, inl, inr, ap, sym, ◌∙◌}
+use Rattle.std.proofs.Common.{None, Some, inl, inr, ap, sym, ◌∙◌}
 use Rattle.std.specs.Result.{result_err}
 use Rattle.std.proofs.KnownBytes.{Keeps-refl}
 use Rattle.fibs_commands.specs.Logins.{login_fault}

@@ -1,4 +1,4 @@
-use Rattle.std.proofs.Common.{◌≡◌, Option, Some, option_map, ap, sym, subst, ◌∙◌}
+use Rattle.std.proofs.Common.{option_map, ap, sym, subst, ◌∙◌}
 use Rattle.std.specs.Io.KnownBytes.{Appends}
 use Rattle.std.proofs.KnownBytes.{Appends-trans}
 use Rattle.fibs_directory.specs.Directory.View.{player_value}

@@ -1,4 +1,3 @@
-use Rattle.std.proofs.Common.{ℕ}
 use Rattle.std.specs.Io.KnownBytes.{Appends}
 use Rattle.fibs_connect.proofs.ConverseLemmas.PlayerLines.{listed}
 use Rattle.fibs_connect.proofs.connect.players.print_players.Given as goal

@@ -1,4 +1,4 @@
-use Rattle.std.proofs.Common.{◌≡◌, ℕ, List, Option, true, sym, ap, ◌∙◌}
+use Rattle.std.proofs.Common.{◌≡◌, ℕ, List, Option, sym, ap, ◌∙◌}
 use Rattle.fibs_connect.specs.Converse.Reading.{ahead, TypedValue, SpendsReads}
 use Rattle.fibs_connect.proofs.ConverseLemmas.Parts.{line_ended, line_last, line_goes_on}
 use Rattle.fibs_connect.proofs.ConverseLemmas.Spent.{spends_kept, spends_more}

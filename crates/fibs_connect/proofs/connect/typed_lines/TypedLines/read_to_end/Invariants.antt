@@ -1,4 +1,3 @@
-use Rattle.std.proofs.Common.{ℕ}
 use Rattle.fibs_connect.specs.Converse.Reading.{ahead, FitsDevice, SpendsReads}
 use Rattle.fibs_connect.proofs.ConverseLemmas.Parts.{Parts}
 use Rattle.fibs_connect.proofs.connect.typed_lines.TypedLines.read_to_end.Given as goal

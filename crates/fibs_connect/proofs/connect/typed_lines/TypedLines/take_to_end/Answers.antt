@@ -1,5 +1,5 @@
-use Rattle.std.proofs.Common.{rules, ◌≡◌, ◌-◌, ◌++◌, ℕ, List, length, take, drop, Option, None, Some, is_some, ap, sym}
-use Rattle.std.proofs.Common.{◌∙◌, arith}
+use Rattle.std.proofs.Common.{◌-◌, ◌++◌, ℕ, List, length, take, drop, is_some, ap, sym}
+use Rattle.std.proofs.Common.{◌∙◌}
 use Rattle.fibs_fields.specs.Split.{before, after, seen}
 use Rattle.fibs_connect.specs.Converse.Typing.{rest_or_nothing}
 use Rattle.fibs_connect.proofs.ConverseLemmas.Cuts.{window-rest, window-fits, take-none}
