@@ -22,11 +22,9 @@ const TEXTS: u32 = 1_000_000;
 /// How often a decision is clicked on.
 const CLICKS: u32 = 1_000_000;
 
-/// What is counted of the lines of a stream.
+/// What is counted of the lines of a stream that are read.
 #[derive(Clone, Copy, PartialEq, Eq)]
 enum Count {
-    /// Lines.
-    Lines,
     /// Lines that are read, and are a board or a message.
     Readings,
     /// Messages that a directory takes note of.
@@ -67,7 +65,6 @@ fn count_line(
     line: &Line<'_>,
 ) -> Result<usize, AllocError> {
     match what {
-        Count::Lines => Ok(1),
         Count::Readings => Ok(usize::from(is_read(line.bytes))),
         Count::Notes => Ok(usize::from(is_noted(directory, line.bytes))),
         Count::Plays => plays_of(alloc, line.bytes),
@@ -92,6 +89,18 @@ fn count_piece(
         }
     }
     Ok(count)
+}
+
+/// Counts the lines that end in `piece`, and does no more.
+fn cut_piece(lines: &mut Lines, piece: &[u8]) -> u64 {
+    let mut at = 0;
+    let mut count = 0u64;
+    while at < piece.len() {
+        let fed = lines.feed(&piece[at..]);
+        at += fed.used;
+        count = count.wrapping_add(u64::from(fed.line.is_some()));
+    }
+    count
 }
 
 /// What a client's answer counts for: one for the line, and one for each thing that there is to say of it.
@@ -153,7 +162,7 @@ fn take_by_turns(client: &mut Client, piece: &[u8]) -> u64 {
     count
 }
 
-/// Counts over the lines of the standard input.
+/// Counts over what is read of the lines of the standard input.
 fn count_lines(rt: &HostRuntime, what: Count) -> io::Result<u64> {
     let alloc = rt.alloc();
     let mut portion = vec![in alloc; 0u8; PORTION]?;
@@ -168,6 +177,22 @@ fn count_lines(rt: &HostRuntime, what: Count) -> io::Result<u64> {
         }
         let piece = &portion[..used];
         count = count.wrapping_add(count_piece(alloc, what, &mut lines, &mut directory, piece)?);
+    }
+    Ok(count)
+}
+
+/// Counts the lines of the standard input.
+fn cut_lines(rt: &HostRuntime) -> io::Result<u64> {
+    let mut portion = vec![in rt.alloc(); 0u8; PORTION]?;
+    let mut lines = Lines::new();
+    let mut input = rt.stdin();
+    let mut count = 0u64;
+    for _ in 0..u64::MAX {
+        let used = input.read(&mut portion)?;
+        if used == 0 {
+            break;
+        }
+        count = count.wrapping_add(cut_piece(&mut lines, &portion[..used]));
     }
     Ok(count)
 }
@@ -263,7 +288,7 @@ fn main(rt: HostRuntime) -> io::Result<()> {
         "clients" => take_lines(&rt, true)?,
         "clicks" => count_clicks(&rt)?,
         "commands" => count_commands(),
-        _ => count_lines(&rt, Count::Lines)?,
+        _ => cut_lines(&rt)?,
     };
     println!(rt; "{count}")?;
     Ok(())

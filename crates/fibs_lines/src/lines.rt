@@ -71,6 +71,7 @@ impl Lines {
     /// all of it, and lends none.
     ///
     /// Call it again with what is left of the piece, until nothing is.
+    #[inline(always)]
     pub fn feed(&mut self, piece: &[u8]) -> Fed<'_>
         ensures in_range { result.used ≤ length piece.now }
         ensures progress { 0 < length piece.now → 0 < result.used }
