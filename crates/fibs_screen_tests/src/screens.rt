@@ -120,3 +120,32 @@ fn nothing_follows_a_write_that_failed(rt: HostRuntime) -> Result<(), Fail> {
     }
     Ok(())
 }
+
+/// A writer that takes all, and counts how often it is flushed.
+#[derive(Drop)]
+struct Flushes {
+    count: usize,
+}
+
+impl Write for Flushes {
+    fn write(&mut self, buf: &[u8]) -> io::Result<usize> {
+        Ok(buf.len())
+    }
+
+    fn flush(&mut self) -> io::Result<()> {
+        self.count = self.count.saturating_add(1);
+        Ok(())
+    }
+}
+
+#[test]
+fn what_is_shown_is_flushed_where_that_is_asked_for(rt: HostRuntime) -> Result<(), Fail> {
+    let mut flushes = Flushes { count: 0 };
+    {
+        let mut screen = Screen::new(rt.alloc(), &mut flushes)?;
+        write_in_pieces(SAID, SAID.len(), &mut screen)?;
+        screen.flush()?;
+    }
+    assert_eq!(rt; flushes.count, 2);
+    Ok(())
+}
