@@ -63,8 +63,8 @@ fn maybe_record(decision: &Option<Decision>) -> DecisionRecord
 
 /// Tells what was heard where a line ended: copies the line, and hands out the commands that answer it.
 ///
-/// Each part is moved into a place of its own, and of a confirmed decision no board: while a part is lent from the answer,
-/// all of the answer stands in memory, which costs more than reading the line.
+/// Each part is moved into a place of its own, and of a confirmed decision no board: while a part is lent from the
+/// answer, all of the answer stands in memory, which costs more than reading the line.
 #[inline(always)]
 fn tell(used: usize, taken: Taken<'_>, text: &mut [u8], wire: &mut Wire) -> Heard
     requires { kept_limit ≤ length text.old }

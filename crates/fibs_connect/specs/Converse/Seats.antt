@@ -53,17 +53,18 @@ abbrev pub Refuses : SeatValue → SeatValue → Option (List ℕ) → Option (L
 Refuses a b held now =
     (b ≡ a) × Appends held now (line_bytes (reason_line (codes "refused ") 1 (codes "AlreadyOpen")))
 
--- a new connection begins in silence and knows no player; where none can be made that is said, and where its login was
--- not written whole it is over
-abbrev pub Connects : SeatValue → Option (List ℕ) → Option (List ℕ) → Type 0
-Connects b held now =
+-- a new connection begins in silence and knows no player; where none can be made that is said, and nothing else comes
+-- of it; where its login was not written whole it is over
+abbrev pub Connects : SeatValue → SeatValue → Option (List ℕ) → Option (List ℕ) → Type 0
+Connects a b held now =
     (b.connected ≡ true → Keeps held now × IsDirectory [] b.players)
-    × (b.connected ≡ false → IsDirectory [] b.players ⊎ Appends held now (line_bytes (codes "no connection")))
+    × (b.connected ≡ false →
+    IsDirectory [] b.players ⊎ ((b ≡ a) × Appends held now (line_bytes (codes "no connection"))))
 
 -- a wish was answered: what the seat was and is, what was printed before and after, and whether more is answered
 abbrev pub Answered : WishValue → SeatValue → SeatValue → Option (List ℕ) → Option (List ℕ) → Going → Type 0
 Answered connects a b held now going =
-    (a.connected ≡ true → Refuses a b held now) × (a.connected ≡ false → Connects b held now) × (going ≡ On)
+    (a.connected ≡ true → Refuses a b held now) × (a.connected ≡ false → Connects a b held now) × (going ≡ On)
 Answered lists_players a b held now going =
     (b ≡ a) × Appends held now (text_of_lines (player_lines a.players)) × (going ≡ On)
 Answered ends a b held now going = (b ≡ a) × (now ≡ held) × (going ≡ Away)

@@ -85,6 +85,7 @@ impl<S: Link + Drop> Seat<S> {
             (seat_of S.remaining S.contents self.new.client self.new.directory self.new.stream)
             (W.contents out.old) (W.contents out.new)) }
         ensures connects { is_there self.old.stream ≡ false → OnOk result (Connects
+            (seat_of S.remaining S.contents self.old.client self.old.directory self.old.stream)
             (seat_of S.remaining S.contents self.new.client self.new.directory self.new.stream)
             (W.contents out.old) (W.contents out.new)) }
     {
