@@ -11,8 +11,10 @@ mod players;
 mod seat;
 mod typed_lines;
 mod wish;
+pub mod words;
 
 use dial::{Dial, Place, READ_MILLIS, Server};
+use fibs_exchange::exchange::plain::Plain;
 use fibs_exchange::exchange::printing::print_reason;
 use fibs_session::{Login, PlainFault};
 use fibs_show::fault::EngineFault;
@@ -25,6 +27,7 @@ use std::net::{Net, TcpStream};
 use std::time::Duration;
 pub use typed_lines::TypedFault;
 use typed_lines::{TypedLine, TypedLines};
+use words::Words;
 
 /// Talks with a server for a player.
 ///
@@ -97,7 +100,7 @@ pub fn converse_with<D: Dial, R: Read, W: Write, E: Write>(
     lines.read_line(typed, &mut line)?;
     match Login::new(name, line.as_slice()) {
         Err(fault) => print_fault(fault, err),
-        Ok(login) => answer_lines(server, alloc, login, &mut lines, typed, out),
+        Ok(login) => answer_lines(server, alloc, login, &mut lines, typed, &mut Plain { out }),
     }
 }
 
@@ -111,41 +114,35 @@ fn print_fault<E: Write>(fault: PlainFault, err: &mut E) -> Result<u8, EngineFau
     Ok(Status::Refused.code())
 }
 
-/// Connects, and answers each line, to the end of the lines or up to `quit`.
-fn answer_lines<D: Dial, R: Read, W: Write>(
+/// Connects, and does what each line asks for, to the end of the lines or until one asks to end.
+pub fn answer_lines<D: Dial, R: Read, F: Words>(
     server: &mut D,
     alloc: Global,
     login: Login,
     lines: &mut TypedLines,
     typed: &mut R,
-    out: &mut W,
+    front: &mut F,
 ) -> Result<u8, EngineFault>
     ensures done { IfOk result (λ status. status ≡ 0) }
     ensures device { IfErr result (λ why. why ≡ EngineFault.Device) }
     ensures spends { SpendsReads lines.old lines.new (R.remaining typed.old) (R.remaining typed.new) }
 {
     let mut seat = Seat::new(alloc, login);
-    seat.open(server, out)?;
+    seat.open(server, front)?;
     let mut line = TypedLine::new();
     for _ in 0..u64::MAX {
-        flush(out)?;
+        front.rest(&seat.client)?;
         if !lines.read_line(typed, &mut line)? {
             return Ok(Status::Done.code());
         }
-        match seat.answer(line.as_slice(), server, out)? {
+        let wish = front.wish(&seat.client, &mut line)?;
+        match seat.answer(wish, line.as_slice(), server, front)? {
             Going::On => {}
             Going::Away => {
-                flush(out)?;
+                front.rest(&seat.client)?;
                 return Ok(Status::Done.code());
             }
         }
     }
     Err(EngineFault::Device)
-}
-
-/// Hands on what was printed, before the program waits or ends.
-fn flush<W: Write>(out: &mut W) -> Result<(), EngineFault>
-    ensures { IfErr result (λ why. why ≡ EngineFault.Device) }
-{
-    out.flush().map_err(|_| EngineFault::Device)
 }

@@ -8,4 +8,5 @@ pub mod Stops
 pub mod Printed
 pub mod Noted
 pub mod Reads
+pub mod Seen
 pub mod Faults

@@ -6,24 +6,29 @@ ghost use Rattle.fibs_session.specs.History.Machine.{Talk, is_online};
 ghost use Rattle.fibs_session.specs.Calls.Standing.{StandsAfter};
 ghost use Rattle.fibs_messages.specs.Message.{MessageValue};
 ghost use Rattle.fibs_exchange.specs.Turns.Script.{outside, known_before, known_after};
-ghost use Rattle.fibs_exchange.specs.Turns.Turn.{Turned, Stopped, FitsStream, bytes_of, is_there, still_given};
+ghost use Rattle.fibs_exchange.specs.Turns.Turn.{Turned, TurnedBy, Stopped, FitsStream, bytes_of, is_there, still_given};
 ghost use Rattle.fibs_show.specs.Reads.{LostAtMost, turn_limit};
 
+pub mod front;
 mod hearing;
 pub mod link;
 pub mod loss;
+pub mod plain;
 pub mod printing;
+pub mod said;
 pub mod sending;
 mod turn_fault;
-mod typing;
+pub mod typing;
 
 use fibs_session::{Client, Directory, Outstanding};
 use fibs_show::fault::EngineFault;
 use fibs_show::limits::READ_PORTION;
 use fibs_show::writing::Broken;
+use front::Front;
 use hearing::hear_portion;
 use link::Link;
 use loss::end_connection;
+use plain::Plain;
 use std::io;
 use std::io::{ErrorKind, Write};
 use thiserror::Error;
@@ -79,16 +84,16 @@ fn is_quiet(error: &io::Error) -> bool
 }
 
 /// Hears what the stream gives, until it is quiet.
-fn listen<S: Link, W: Write>(
+fn listen<S: Link, F: Front>(
     client: &mut Client,
     directory: &mut Directory,
     stream: &mut S,
-    out: &mut W,
+    front: &mut F,
 ) -> Result<Ending, ExchangeFault>
     ensures turned { IfOk result (λ e. (t : Talk) → StandsAfter client.old t → is_online t ≡ true →
-        Turned t client.new None (S.remaining stream.old) (S.remaining stream.new)
-        (outside (S.contents stream.old) (W.contents out.old) directory.old)
-        (outside (S.contents stream.new) (W.contents out.new) directory.new) e) }
+        TurnedBy F.tells t client.new None (S.remaining stream.old) (S.remaining stream.new)
+        (outside (S.contents stream.old) front.old directory.old)
+        (outside (S.contents stream.new) front.new directory.new) e) }
     ensures stopped { OnErr result ((t : Talk) → StandsAfter client.old t → is_online t ≡ true →
         Stopped t client.new None (S.remaining stream.old) (S.remaining stream.new)
         (S.contents stream.old) (S.contents stream.new)) }
@@ -99,16 +104,16 @@ fn listen<S: Link, W: Write>(
     fibs_lines::laws::lines_only_grow();
     let mut portion = [0; READ_PORTION];
     for made in 0..MOST_TURN_READS {
-        out.flush().map_err(|_| ExchangeFault::Output)?;
+        front.flush()?;
         let count = match stream.receive(&mut portion) {
-            Ok(0) => return end_connection(client, out),
+            Ok(0) => return end_connection(client, front),
             Ok(count) => count,
             Err(error) if is_quiet(&error) => return Ok(Ending::Quiet),
-            Err(_) => return end_connection(client, out),
+            Err(_) => return end_connection(client, front),
         };
-        match hear_portion(client, directory, &portion[..count], stream, out) {
+        match hear_portion(client, directory, &portion[..count], stream, front) {
             Ok(()) => {}
-            Err(TurnFault::Stream) => return end_connection(client, out),
+            Err(TurnFault::Stream) => return end_connection(client, front),
             Err(TurnFault::Output) => return Err(ExchangeFault::Output),
         }
     }
@@ -116,17 +121,17 @@ fn listen<S: Link, W: Write>(
 }
 
 /// Does what was typed, and hears the stream.
-fn talk<S: Link, W: Write>(
+fn talk<S: Link, F: Front>(
     client: &mut Client,
     directory: &mut Directory,
     stream: &mut S,
     typed: Option<&[u8]>,
-    out: &mut W,
+    front: &mut F,
 ) -> Result<Ending, ExchangeFault>
     ensures turned { IfOk result (λ e. (t : Talk) → StandsAfter client.old t → is_online t ≡ true →
-        Turned t client.new (bytes_of typed.entry) (S.remaining stream.old) (S.remaining stream.new)
-        (outside (S.contents stream.old) (W.contents out.old) directory.old)
-        (outside (S.contents stream.new) (W.contents out.new) directory.new) e) }
+        TurnedBy F.tells t client.new (bytes_of typed.entry) (S.remaining stream.old) (S.remaining stream.new)
+        (outside (S.contents stream.old) front.old directory.old)
+        (outside (S.contents stream.new) front.new directory.new) e) }
     ensures stopped { OnErr result ((t : Talk) → StandsAfter client.old t → is_online t ≡ true →
         Stopped t client.new (bytes_of typed.entry) (S.remaining stream.old) (S.remaining stream.new)
         (S.contents stream.old) (S.contents stream.new)) }
@@ -134,26 +139,26 @@ fn talk<S: Link, W: Write>(
 {
     fibs_session::client::laws::empty_piece_is_nothing();
     match typed {
-        None => listen(client, directory, stream, out),
-        Some(text) => match type_line(client, text, stream, out) {
-            Ok(()) => listen(client, directory, stream, out),
-            Err(TurnFault::Stream) => end_connection(client, out),
+        None => listen(client, directory, stream, front),
+        Some(text) => match type_line(client, text, stream, front) {
+            Ok(()) => listen(client, directory, stream, front),
+            Err(TurnFault::Stream) => end_connection(client, front),
             Err(TurnFault::Output) => Err(ExchangeFault::Output),
         },
     }
 }
 
 /// Answers what was typed offline.
-fn talk_offline<W: Write>(
+fn talk_offline<F: Front>(
     client: &mut Client,
     typed: Option<&[u8]>,
-    out: &mut W,
+    front: &mut F,
 ) -> Result<Ending, ExchangeFault>
     requires { FitsStream client.old false }
     ensures turned { IfOk result (λ e. (t : Talk) → StandsAfter client.old t → is_online t ≡ false →
         (players : List MessageValue) →
-        Turned t client.new (bytes_of typed.entry) None None
-        (outside None (W.contents out.old) players) (outside None (W.contents out.new) players) e) }
+        TurnedBy F.tells t client.new (bytes_of typed.entry) None None
+        (outside None front.old players) (outside None front.new players) e) }
     ensures stopped { OnErr result ((t : Talk) → StandsAfter client.old t → is_online t ≡ false →
         Stopped t client.new (bytes_of typed.entry) None None None None) }
 {
@@ -161,13 +166,51 @@ fn talk_offline<W: Write>(
     match typed {
         None => Ok(Ending::Quiet),
         Some(text) => {
-            type_offline(client, text, out)?;
+            type_offline(client, text, front)?;
             Ok(Ending::Quiet)
         }
     }
 }
 
 /// One turn of a client with its stream: the typed line is answered, and then what the server sends is heard, until a
+/// read would wait or timed out (`Quiet`), or the connection is over (`Lost`). It reads at most 4096 times, at most
+/// 1024 bytes at once.
+///
+/// A stream is given exactly where the client is online; without one nothing is read. A typed line is a decision in the
+/// place numbers of the board shown, else a plain command, else a standing order to roll or its withdrawal. For each
+/// line the commands that it calls for are written first, the `roll` of a standing order that it makes due among them;
+/// then the front end is told it, then the directory. Only the directory takes memory: what it refuses is told.
+///
+/// Errors: `Output` where the front end can't take what it is told. The client is then as after its last finished call:
+/// it made the typed call, then it was fed what was read, all of it or up to the end of the line that is not taken, and
+/// then it lost its connection, where that is what is not taken. The commands of these calls are written.
+pub fn exchange_with<S: Link, F: Front>(
+    client: &mut Client,
+    directory: &mut Directory,
+    stream: Option<&mut S>,
+    typed: Option<&[u8]>,
+    front: &mut F,
+) -> Result<Ending, ExchangeFault>
+    requires { FitsStream client.old (is_there stream) }
+    ensures next { IfOk result (λ e. FitsStream client.new (still_given e (is_there stream.entry))) }
+    ensures turned { IfOk result (λ e. (t : Talk) → StandsAfter client.old t → is_online t ≡ is_there stream.entry →
+        TurnedBy F.tells t client.new (bytes_of typed.entry)
+        (known_before S.remaining stream.entry) (known_after S.remaining stream.exit)
+        (outside (known_before S.contents stream.entry) front.old directory.old)
+        (outside (known_after S.contents stream.exit) front.new directory.new) e) }
+    ensures stopped { OnErr result ((t : Talk) → StandsAfter client.old t → is_online t ≡ is_there stream.entry →
+        Stopped t client.new (bytes_of typed.entry)
+        (known_before S.remaining stream.entry) (known_after S.remaining stream.exit)
+        (known_before S.contents stream.entry) (known_after S.contents stream.exit)) }
+    ensures few { LostAtMost turn_limit (known_before S.remaining stream.entry) (known_after S.remaining stream.exit) }
+{
+    match stream {
+        None => talk_offline(client, typed, front),
+        Some(stream) => talk(client, directory, stream, typed, front),
+    }
+}
+
+/// A turn with the plain account: the typed line is answered, and then what the server sends is heard, until a
 /// read would wait or timed out (`Quiet`), or the connection is over (`Lost`). It reads at most 4096 times, at most
 /// 1024 bytes at once.
 ///
@@ -199,8 +242,9 @@ pub fn exchange<S: Link, W: Write>(
         (known_before S.contents stream.entry) (known_after S.contents stream.exit)) }
     ensures few { LostAtMost turn_limit (known_before S.remaining stream.entry) (known_after S.remaining stream.exit) }
 {
+    let mut plain = Plain { out };
     match stream {
-        None => talk_offline(client, typed, out),
-        Some(stream) => talk(client, directory, stream, typed, out),
+        None => talk_offline(client, typed, &mut plain),
+        Some(stream) => exchange_with(client, directory, Some(stream), typed, &mut plain),
     }
 }

@@ -1,12 +1,14 @@
 -- A seat at the server: the client is online exactly where there is a connection.
 use Rattle.std.proofs.Common.{◌≡◌, ℕ, suc, true, false, not, cond, nat_eq, List, [], ◌∷◌, Option, None, Some}
-use Rattle.std.proofs.Common.{◌⊎◌, refl, sym, ap, subst, ◌∙◌, arith}
+use Rattle.std.proofs.Common.{◌⊎◌, inl, refl, sym, ap, subst, ◌∙◌, arith}
 use Rattle.std.specs.Borrow.{MutBor}
 use Rattle.fibs_messages.specs.Message.{MessageValue}
+use Rattle.fibs_exchange.specs.Turns.Told.{SaidValue}
 use Rattle.fibs_session.specs.declared.session.taken.Outstanding.{Outstanding}
 use Rattle.fibs_exchange.specs.Turns.Script.{known_before, known_after, outside}
-use Rattle.fibs_connect.specs.Converse.Seats.{TakesTurn, seat_of}
-use Rattle.std.specs.Prelude.{is_some}
+use Rattle.fibs_connect.specs.Converse.Seats.{SeatValue, TakesTurn, Connects, seat_of}
+use Rattle.fibs_directory.specs.Directory.{IsDirectory}
+use Rattle.std.specs.Prelude.{is_some, IsSome, OnOk, Result, Ok, Err}
 use Rattle.std.proofs.lemmas.Bool.{ne_eqb}
 use Rattle.fibs_session.specs.History.Log.{Opened}
 use Rattle.fibs_session.specs.History.Words.{connections}
@@ -16,7 +18,7 @@ use Rattle.fibs_session.specs.Calls.Doing.{Does}
 use Rattle.fibs_exchange.specs.declared.exchange.Ending.{Ending}
 use Rattle.fibs_exchange.specs.declared.exchange.Ending.TheVariants.{Quiet, Lost}
 use Rattle.fibs_show.specs.Writing.{Broken}
-use Rattle.fibs_exchange.specs.Turns.Turn.{FitsStream, LeavesAs, Turned, is_there, still_given}
+use Rattle.fibs_exchange.specs.Turns.Turn.{FitsStream, LeavesAs, TurnedBy, is_there, still_given}
 use Rattle.fibs_exchange.proofs.TurnLemmas.Turns.{loses_offline}
 use Rattle.fibs_exchange.proofs.TurnLemmas.Hearing.{open_append}
 
@@ -43,6 +45,20 @@ seat_away (Some s) e new none fits = absurd (cc)
 seat_away None Quiet new none fits = fits
 seat_away None (Lost waited) new none fits = fits
 
+-- what two clauses say of an answer
+pub on_ok_both : {T E P Q R : Type 0} (r : Result T E) → (P → Q → R) → OnOk r P → OnOk r Q → OnOk r R
+on_ok_both (Ok x) f p q = f p q
+on_ok_both (Err e) f p q = tt
+
+-- a new connection was made, or its login was not written whole
+pub seat_connects : {S F : Type 0} (Tells : F → List SaidValue → F → Type 0) (remaining contents : S → Option (List ℕ))
+    (a : SeatValue) (client : ClientValue) (players : List MessageValue) (stream : Option S) (held now : F)
+    → IsDirectory [] players → (IsSome stream → Tells held [] now)
+    → Connects Tells a (seat_of remaining contents client players stream) held now
+seat_connects Tells remaining contents a client players None held now none silent = (λ e. absurd cc, λ e. inl none)
+seat_connects Tells remaining contents a client players (Some s) held now none silent =
+    (λ e. (silent refl, none), λ e. absurd cc)
+
 -- ---- turns
 
 -- where none was given none is given on
@@ -51,15 +67,15 @@ not_given Quiet = refl
 not_given (Lost waited) = refl
 
 -- a turn after which the connection stays
-pub turn_kept : {S : Type 0} (remaining contents : S → Option (List ℕ)) (old new : ClientValue)
-    (players told : List MessageValue) (s t : S) (stream : Option S) (e : Ending) (said held now : Option (List ℕ))
+pub turn_kept : {S F : Type 0} {Tells : F → List SaidValue → F → Type 0} (remaining contents : S → Option (List ℕ)) (old new : ClientValue)
+    (players told : List MessageValue) (s t : S) (stream : Option S) (e : Ending) (said : Option (List ℕ)) (held now : F)
     → stream ≡ Some s → e ≡ Quiet
-    → ((h : Talk) → StandsAfter old h → is_online h ≡ true → Turned h new said (remaining s) (remaining t)
+    → ((h : Talk) → StandsAfter old h → is_online h ≡ true → TurnedBy Tells h new said (remaining s) (remaining t)
     (outside (contents s) held players) (outside (contents t) now told) e)
-    → TakesTurn said (seat_of remaining contents old players stream) (seat_of remaining contents new told (Some t)) held
+    → TakesTurn Tells said (seat_of remaining contents old players stream) (seat_of remaining contents new told (Some t)) held
     now
-turn_kept remaining contents old new players told s t stream e said held now is quiet turned =
-    subst (λ o. TakesTurn said (seat_of remaining contents old players o)
+turn_kept {S} {F} {Tells} remaining contents old new players told s t stream e said held now is quiet turned =
+    subst (λ o. TakesTurn Tells said (seat_of remaining contents old players o)
     (seat_of remaining contents new told (Some t)) held now) (sym is) (record {
       ending = e;
       left = remaining t;
@@ -71,17 +87,17 @@ turn_kept remaining contents old new players told s t stream e said held now is 
     })
 
 -- a turn after which it is given up
-pub turn_given_up : {S : Type 0} (remaining contents : S → Option (List ℕ)) (old new : ClientValue)
+pub turn_given_up : {S F : Type 0} {Tells : F → List SaidValue → F → Type 0} (remaining contents : S → Option (List ℕ)) (old new : ClientValue)
     (players told : List MessageValue) (s t : S) (stream stays : Option S) (waited : Option Outstanding) (e : Ending)
-    (said held now : Option (List ℕ))
+    (said : Option (List ℕ)) (held now : F)
     → stream ≡ Some s → stays ≡ None → e ≡ Lost waited
-    → ((h : Talk) → StandsAfter old h → is_online h ≡ true → Turned h new said (remaining s) (remaining t)
+    → ((h : Talk) → StandsAfter old h → is_online h ≡ true → TurnedBy Tells h new said (remaining s) (remaining t)
     (outside (contents s) held players) (outside (contents t) now told) e)
-    → TakesTurn said (seat_of remaining contents old players stream) (seat_of remaining contents new told stays) held now
-turn_given_up remaining contents old new players told s t stream stays waited e said held now is none lost turned =
-    subst (λ o. TakesTurn said (seat_of remaining contents old players o) (seat_of remaining contents new told stays)
+    → TakesTurn Tells said (seat_of remaining contents old players stream) (seat_of remaining contents new told stays) held now
+turn_given_up {S} {F} {Tells} remaining contents old new players told s t stream stays waited e said held now is none lost turned =
+    subst (λ o. TakesTurn Tells said (seat_of remaining contents old players o) (seat_of remaining contents new told stays)
     held now) (sym is)
-    (subst (λ o. TakesTurn said (seat_of remaining contents old players (Some s))
+    (subst (λ o. TakesTurn Tells said (seat_of remaining contents old players (Some s))
     (seat_of remaining contents new told o) held now) (sym none) (record {
       ending = e;
       left = remaining t;
@@ -93,20 +109,20 @@ turn_given_up remaining contents old new players told s t stream stays waited e 
     }))
 
 -- a turn without a connection
-pub turn_away : {S : Type 0} (remaining contents : S → Option (List ℕ)) (old new : ClientValue)
+pub turn_away : {S F : Type 0} {Tells : F → List SaidValue → F → Type 0} (remaining contents : S → Option (List ℕ)) (old new : ClientValue)
     (players told : List MessageValue) (stream stays : Option S) (given : Option (MutBor S))
-    (back : Unit {0} ⊎ ((MutBor S × Unit {0}) ⊎ ⊥)) (e : Ending) (said held now : Option (List ℕ))
+    (back : Unit {0} ⊎ ((MutBor S × Unit {0}) ⊎ ⊥)) (e : Ending) (said : Option (List ℕ)) (held now : F)
     → stream ≡ None → stays ≡ None → is_some given ≡ false
-    → ((h : Talk) → StandsAfter old h → is_online h ≡ is_there given → Turned h new said
+    → ((h : Talk) → StandsAfter old h → is_online h ≡ is_there given → TurnedBy Tells h new said
     (known_before remaining given) (known_after remaining back) (outside (known_before contents given) held players)
     (outside (known_after contents back) now told) e)
-    → TakesTurn said (seat_of remaining contents old players stream) (seat_of remaining contents new told stays) held now
+    → TakesTurn Tells said (seat_of remaining contents old players stream) (seat_of remaining contents new told stays) held now
 turn_away remaining contents old new players told stream stays (Some s) back e said held now is none away turned =
     absurd (cc)
-turn_away remaining contents old new players told stream stays None back e said held now is none away turned =
-    subst (λ o. TakesTurn said (seat_of remaining contents old players o) (seat_of remaining contents new told stays)
+turn_away {S} {F} {Tells} remaining contents old new players told stream stays None back e said held now is none away turned =
+    subst (λ o. TakesTurn Tells said (seat_of remaining contents old players o) (seat_of remaining contents new told stays)
     held now) (sym is)
-    (subst (λ o. TakesTurn said (seat_of remaining contents old players None)
+    (subst (λ o. TakesTurn Tells said (seat_of remaining contents old players None)
     (seat_of remaining contents new told o) held now) (sym none) (record {
       ending = e;
       left = known_after remaining back;

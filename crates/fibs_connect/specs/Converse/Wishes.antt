@@ -6,13 +6,14 @@ use Rattle.fibs_connect.specs.declared.connect.wish.Wish.TheVariants as W
 use Rattle.fibs_connect.specs.Converse.Typing.{typed_limit}
 
 -- the conversation connects again, lists the players or ends; the line is too long; or the client takes a turn, with
--- this line or without one
+-- this line or without one; or the front end has answered by itself
 pub data WishValue : Type 0 where
   connects : WishValue
   lists_players : WishValue
   ends : WishValue
   is_too_long : WishValue
   takes_turn : Option (List ℕ) → WishValue
+  is_answered : WishValue
 
 -- an empty line only hears the server
 abbrev pub said_line : List ℕ → Option (List ℕ)
@@ -27,11 +28,12 @@ wish_of line =
     (cond (nat_lt typed_limit (length line)) is_too_long
     (takes_turn (said_line line)))))
 
--- the program's wishes as these
-abbrev pub wish_value : Wish → WishValue
-wish_value W.Open = connects
-wish_value W.Players = lists_players
-wish_value W.Quit = ends
-wish_value W.TooLong = is_too_long
-wish_value W.Listen = takes_turn None
-wish_value (W.Say line) = takes_turn (Some line.now)
+-- a wish of the program as one of these, with the line
+abbrev pub wish_value : Wish → List ℕ → WishValue
+wish_value W.Open line = connects
+wish_value W.Players line = lists_players
+wish_value W.Quit line = ends
+wish_value W.TooLong line = is_too_long
+wish_value W.Listen line = takes_turn None
+wish_value W.Say line = takes_turn (Some line)
+wish_value W.Answered line = is_answered

@@ -1,22 +1,21 @@
 //! A player's seat: the client, the players that it knows, and the connection, if there is one.
 ghost use Rattle.std.specs.Prelude.{◌≡◌, [], true, false, IfOk, OnOk, IsSome};
-ghost use Rattle.std.specs.Io.KnownBytes.{Keeps};
 ghost use Rattle.fibs_directory.specs.Directory.{IsDirectory};
 ghost use Rattle.fibs_exchange.specs.Turns.Turn.{FitsStream, bytes_of, is_there};
 ghost use Rattle.fibs_connect.specs.Converse.Seats.{Answered, Connects, Refuses, TakesTurn, seat_of};
-ghost use Rattle.fibs_connect.specs.Converse.Wishes.{wish_of};
+ghost use Rattle.fibs_connect.specs.Converse.Wishes.{wish_value};
 
 use super::dial::Dial;
-use super::players::print_players;
-use super::wish::{Wish, wish_of};
+use super::players::tell_players;
+use super::wish::Wish;
+use fibs_exchange::exchange::front::Front;
 use fibs_exchange::exchange::link::Link;
 use fibs_exchange::exchange::loss::end_connection;
-use fibs_exchange::exchange::printing::{print_line, print_reason};
+use fibs_exchange::exchange::said::Said;
 use fibs_exchange::exchange::sending::send_command;
-use fibs_exchange::exchange::{Ending, ExchangeFault, exchange};
+use fibs_exchange::exchange::{Ending, ExchangeFault, exchange_with};
 use fibs_session::{Client, Directory, Login, Refusal};
 use std::alloc::Global;
-use std::io::Write;
 
 /// Whether more lines are answered.
 #[derive(Clone, Copy)]
@@ -30,7 +29,7 @@ pub enum Going {
 /// The client, the players that it knows, and the connection, if there is one.
 #[derive(Drop)]
 pub struct Seat<S: Link + Drop> {
-    client: Client,
+    pub(super) client: Client,
     directory: Directory,
     stream: Option<S>,
 }
@@ -47,69 +46,68 @@ impl<S: Link + Drop> Seat<S> {
         }
     }
 
-    /// Answers a typed line.
-    pub fn answer<D: Dial<Stream = S>, W: Write>(
+    /// Does what a typed line asks for.
+    pub fn answer<D: Dial<Stream = S>, F: Front>(
         &mut self,
+        wish: Wish,
         line: &[u8],
         server: &mut D,
-        out: &mut W,
+        front: &mut F,
     ) -> Result<Going, ExchangeFault>
         requires { FitsStream self.old.client (is_there self.old.stream) }
         ensures fits { OnOk result (FitsStream self.new.client (is_there self.new.stream)) }
-        ensures answered { IfOk result (λ going. Answered (wish_of line.now)
+        ensures answered { IfOk result (λ going. Answered F.tells (wish_value wish line.now)
             (seat_of S.remaining S.contents self.old.client self.old.directory self.old.stream)
             (seat_of S.remaining S.contents self.new.client self.new.directory self.new.stream)
-            (W.contents out.old) (W.contents out.new) going) }
+            front.old front.new going) }
     {
-        match wish_of(line) {
+        match wish {
             Wish::Quit => return Ok(Going::Away),
-            Wish::Open => self.open(server, out)?,
-            Wish::Players => print_players(&self.directory, out)?,
-            Wish::TooLong => print_line(b"unknown", b"", out)?,
-            Wish::Listen => self.take_turn(None, out)?,
-            Wish::Say(line) => self.take_turn(Some(line), out)?,
+            Wish::Open => self.open(server, front)?,
+            Wish::Players => tell_players(&self.directory, front)?,
+            Wish::TooLong => front.tell(&Said::Unknown)?,
+            Wish::Listen => self.take_turn(None, front)?,
+            Wish::Say => self.take_turn(Some(line), front)?,
+            Wish::Answered => {}
         }
         Ok(Going::On)
     }
 
     /// Connects, where there is no connection.
-    pub fn open<D: Dial<Stream = S>, W: Write>(
+    pub fn open<D: Dial<Stream = S>, F: Front>(
         &mut self,
         server: &mut D,
-        out: &mut W,
+        front: &mut F,
     ) -> Result<(), ExchangeFault>
         requires { FitsStream self.old.client (is_there self.old.stream) }
         ensures fits { OnOk result (FitsStream self.new.client (is_there self.new.stream)) }
-        ensures refused { is_there self.old.stream ≡ true → OnOk result (Refuses
+        ensures refused { is_there self.old.stream ≡ true → OnOk result (Refuses F.tells
             (seat_of S.remaining S.contents self.old.client self.old.directory self.old.stream)
             (seat_of S.remaining S.contents self.new.client self.new.directory self.new.stream)
-            (W.contents out.old) (W.contents out.new)) }
-        ensures connects { is_there self.old.stream ≡ false → OnOk result (Connects
+            front.old front.new) }
+        ensures connects { is_there self.old.stream ≡ false → OnOk result (Connects F.tells
             (seat_of S.remaining S.contents self.old.client self.old.directory self.old.stream)
             (seat_of S.remaining S.contents self.new.client self.new.directory self.new.stream)
-            (W.contents out.old) (W.contents out.new)) }
+            front.old front.new) }
     {
         match &self.stream {
-            Some(_) => {
-                let why = Refusal::AlreadyOpen;
-                print_reason(b"refused ", why.number(), why, out)
-            }
+            Some(_) => front.tell(&Said::Refused(Refusal::AlreadyOpen)),
             None => {
-                out.flush().map_err(|_| ExchangeFault::Output)?;
+                front.flush()?;
                 match server.dial() {
-                    None => print_line(b"no connection", b"", out),
-                    Some(stream) => self.log_in(stream, out),
+                    None => front.tell(&Said::NoConnection),
+                    Some(stream) => self.log_in(stream, front),
                 }
             }
         }
     }
 
     /// Writes the login on a new connection, of whose players nothing is known yet.
-    fn log_in<W: Write>(&mut self, mut stream: S, out: &mut W) -> Result<(), ExchangeFault>
+    fn log_in<F: Front>(&mut self, mut stream: S, front: &mut F) -> Result<(), ExchangeFault>
         requires { FitsStream self.old.client false }
         ensures fits { OnOk result (FitsStream self.new.client (is_there self.new.stream)) }
         ensures players { OnOk result (IsDirectory [] self.new.directory) }
-        ensures silent { OnOk result (IsSome self.new.stream → Keeps (W.contents out.old) (W.contents out.new)) }
+        ensures silent { OnOk result (IsSome self.new.stream → F.tells front.old [] front.new) }
     {
         self.directory.clear();
         match self.client.open() {
@@ -121,7 +119,7 @@ impl<S: Link + Drop> Seat<S> {
                 }
                 Err(_) => {
                     self.stream = None;
-                    let _lost = end_connection(&mut self.client, out)?;
+                    let _lost = end_connection(&mut self.client, front)?;
                     Ok(())
                 }
             },
@@ -129,36 +127,36 @@ impl<S: Link + Drop> Seat<S> {
     }
 
     /// One turn of the client. A connection that is lost is given up.
-    fn take_turn<W: Write>(
+    fn take_turn<F: Front>(
         &mut self,
         typed: Option<&[u8]>,
-        out: &mut W,
+        front: &mut F,
     ) -> Result<(), ExchangeFault>
         requires { FitsStream self.old.client (is_there self.old.stream) }
         ensures fits { OnOk result (FitsStream self.new.client (is_there self.new.stream)) }
-        ensures turned { OnOk result (TakesTurn (bytes_of typed.entry)
+        ensures turned { OnOk result (TakesTurn F.tells (bytes_of typed.entry)
             (seat_of S.remaining S.contents self.old.client self.old.directory self.old.stream)
             (seat_of S.remaining S.contents self.new.client self.new.directory self.new.stream)
-            (W.contents out.old) (W.contents out.new)) }
+            front.old front.new) }
     {
         match self.stream.take() {
             None => {
                 let mut nowhere: Option<S> = None;
-                let _quiet = exchange(
+                let _quiet = exchange_with(
                     &mut self.client,
                     &mut self.directory,
                     nowhere.as_mut(),
                     typed,
-                    out,
+                    front,
                 )?;
             }
             Some(mut stream) => {
-                let ending = exchange(
+                let ending = exchange_with(
                     &mut self.client,
                     &mut self.directory,
                     Some(&mut stream),
                     typed,
-                    out,
+                    front,
                 )?;
                 if let Ending::Quiet = ending {
                     self.stream = Some(stream);

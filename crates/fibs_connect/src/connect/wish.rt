@@ -7,7 +7,7 @@ pub const TYPED_LIMIT: usize = 4096;
 
 /// What a typed line asks for.
 #[derive(Clone, Copy)]
-pub enum Wish<'a> {
+pub enum Wish {
     /// To connect again.
     Open,
     /// To list the players that are known.
@@ -19,12 +19,14 @@ pub enum Wish<'a> {
     /// To hear the server.
     Listen,
     /// That the client answers the line, and then to hear the server.
-    Say(&'a [u8]),
+    Say,
+    /// Nothing more: the front end has answered by itself.
+    Answered,
 }
 
-/// What a typed line asks for.
-pub fn wish_of(line: &[u8]) -> Wish<'_>
-    ensures { wish_value result ≡ wish_of line.now }
+/// What a line of the plain account asks for.
+pub fn wish_of(line: &[u8]) -> Wish
+    ensures { wish_value result line.now ≡ wish_of line.now }
 {
     if line == b"open".as_slice() {
         Wish::Open
@@ -37,6 +39,6 @@ pub fn wish_of(line: &[u8]) -> Wish<'_>
     } else if line.is_empty() {
         Wish::Listen
     } else {
-        Wish::Say(line)
+        Wish::Say
     }
 }

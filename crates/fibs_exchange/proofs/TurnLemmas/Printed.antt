@@ -17,72 +17,54 @@ use Rattle.fibs_session.specs.declared.refusal.PlainRefusal.TheVariants as P
 use Rattle.fibs_session.specs.History.Log.{Entry}
 use Rattle.fibs_session.specs.History.Words.{Ask, open_now}
 use Rattle.fibs_session.specs.History.Hearing.{Heard, heard, line_reading}
-use Rattle.fibs_session.specs.History.Machine.{Talk, Step, Click, PlainInput, step, answer_now, plain_refusal}
+use Rattle.fibs_session.specs.History.Machine.{Talk, Click, PlainInput, step, answer_now, plain_refusal}
 use Rattle.fibs_session.specs.History.Machine.{is_online, gained, order_refusal, withdraw_refusal}
-use Rattle.fibs_session.specs.Calls.SessionOf.{ask_of}
-use Rattle.fibs_session.specs.Calls.Standing.{ClientValue}
 use Rattle.fibs_directory.specs.declared.fault.DirectoryFault.{DirectoryFault}
 use Rattle.fibs_exchange.specs.declared.exchange.Ending.{Ending}
 use Rattle.fibs_exchange.specs.declared.exchange.Ending.TheVariants.{Quiet, Lost}
-use Rattle.fibs_show.specs.Writing.{Whole}
-use Rattle.fibs_position.specs.Names.{phase_name}
 use Rattle.fibs_show.specs.Escape.{escaped}
 use Rattle.fibs_position.specs.Phases.{phase_of}
+use Rattle.fibs_exchange.specs.Turns.Told.{SaidValue, heard_said, phase_said, confirmed_said, sent_said, ordered_said}
+use Rattle.fibs_exchange.specs.Turns.Told.{withdrawn_said, refused_said, not_sent_said, unknown_said, lost_said}
+use Rattle.fibs_exchange.specs.Turns.Told.{unnoted_said, rolled_said, no_connection_said, player_said}
+use Rattle.fibs_exchange.specs.Turns.Account.{line_of, account_of}
 use Rattle.fibs_exchange.specs.Turns.Acts.{Act, text_of_lines, line_bytes, answer_act, lost_line}
-use Rattle.fibs_exchange.specs.Turns.Lines.{heard_text, said_text, phase_lines, confirmed_lines, line_act, line_acts}
-use Rattle.fibs_exchange.specs.Turns.Lines.{rolled_lines, piece_acts}
+use Rattle.fibs_exchange.specs.Turns.Lines.{said_text, phase_told, confirmed_told, rolled_told, line_act, line_acts}
+use Rattle.fibs_exchange.specs.Turns.Lines.{piece_acts}
 use Rattle.fibs_exchange.specs.Turns.Typing.{TypedValue, typed_decision, typed_plain, typed_order, typed_withdrawal}
-use Rattle.fibs_exchange.specs.Turns.Typing.{typed_none, refused_line, plain_line, order_line, typed_act, typed_acts}
+use Rattle.fibs_exchange.specs.Turns.Typing.{typed_none, plain_line, order_told, typed_act, typed_acts}
 use Rattle.fibs_exchange.specs.Turns.Typing.{typed_now, talk_after}
-use Rattle.fibs_exchange.specs.Turns.Script.{Outside, Done, directory_lines, done_lines, acts_of, prints_of, Did}
-use Rattle.fibs_exchange.specs.Turns.Turn.{Turned, end_acts}
+use Rattle.fibs_exchange.specs.Turns.Script.{Done, directory_told, done_told, acts_of, tells_of}
+use Rattle.fibs_exchange.specs.Turns.Turn.{end_acts}
 use Rattle.fibs_exchange.specs.Turns.PrintLaw.{is_directory_line, without_directory, lines_of_acts, TurnsPrintTheirActs}
 
--- no line of these is one of the directory
-abbrev PlainLines : List (List ℕ) → Type 0
-PlainLines [] = Unit {0}
-PlainLines (l ∷ ls) = (is_directory_line l ≡ false) × PlainLines ls
+-- whether it tells that the directory took no note
+abbrev is_unnoted : SaidValue → Bool
+is_unnoted (heard_said line r) = false
+is_unnoted (phase_said phase) = false
+is_unnoted (confirmed_said ask) = false
+is_unnoted (sent_said text) = false
+is_unnoted rolled_said = false
+is_unnoted ordered_said = false
+is_unnoted withdrawn_said = false
+is_unnoted (refused_said why) = false
+is_unnoted (not_sent_said why) = false
+is_unnoted unknown_said = false
+is_unnoted (lost_said waited) = false
+is_unnoted (unnoted_said why) = true
+is_unnoted no_connection_said = false
+is_unnoted (player_said told) = false
+
+-- none of these does
+abbrev Plain : List SaidValue → Type 0
+Plain [] = Unit {0}
+Plain (s ∷ ss) = (is_unnoted s ≡ false) × Plain ss
 
 abbrev PlainActs : List Act → Type 0
 PlainActs [] = Unit {0}
-PlainActs (a ∷ acts) = PlainLines a.prints × PlainActs acts
+PlainActs (a ∷ acts) = Plain a.tells × PlainActs acts
 
-without_plain : (ls ms : List (List ℕ)) → PlainLines ls → without_directory (ls ++ ms) ≡ ls ++ without_directory ms
-without_plain [] ms h = refl
-without_plain (l ∷ ls) ms h = ap (λ b. cond b (without_directory (ls ++ ms)) (l ∷ without_directory (ls ++ ms))) h.0
-    ∙ ap (λ k. l ∷ k) (without_plain ls ms h.1)
-
-directory_gone : (r : Option DirectoryFault) (ms : List (List ℕ))
-    → without_directory (directory_lines r ++ ms) ≡ without_directory ms
-directory_gone None ms = refl
-directory_gone (Some why) ms = refl
-
-done_without : (ds : List Done) → PlainActs (acts_of ds)
-    → without_directory (flat_map done_lines ds) ≡ lines_of_acts (acts_of ds)
-done_without [] h = refl
-done_without (d ∷ ds) h =
-    ap without_directory (append_assoc d.act.prints (directory_lines d.refused) (flat_map done_lines ds))
-    ∙ without_plain d.act.prints (directory_lines d.refused ++ flat_map done_lines ds) h.0
-    ∙ ap (λ l. d.act.prints ++ l) (directory_gone d.refused (flat_map done_lines ds) ∙ done_without ds h.1)
-
-prints_are_lines : (ds : List Done) → prints_of ds ≡ text_of_lines (flat_map done_lines ds)
-prints_are_lines [] = refl
-prints_are_lines (d ∷ ds) = ap (λ l. text_of_lines (done_lines d) ++ l) (prints_are_lines ds)
-    ∙ sym (flat_map-append line_bytes (done_lines d) (flat_map done_lines ds))
-
-plain_front : (ss ts : List Act) → PlainActs (ss ++ ts) → PlainActs ss
-plain_front [] ts h = tt
-plain_front (s ∷ ss) ts h = (h.0, plain_front ss ts h.1)
-
-plain_joined : (ss ts : List Act) → PlainActs ss → PlainActs ts → PlainActs (ss ++ ts)
-plain_joined [] ts h k = k
-plain_joined (s ∷ ss) ts h k = (h.0, plain_joined ss ts h.1 k)
-
-lines_joined : (ls ms : List (List ℕ)) → PlainLines ls → PlainLines ms → PlainLines (ls ++ ms)
-lines_joined [] ms h k = k
-lines_joined (l ∷ ls) ms h k = (h.0, lines_joined ls ms h.1 k)
-
--- ---- lines that are heard
+-- ---- the lines of all else
 
 said_is_plain : (bytes : List ℕ) (r : ReadingValue) → is_directory_line (said_text bytes r) ≡ false
 said_is_plain bytes (numbered_line m) = refl
@@ -95,40 +77,116 @@ kept_is_plain : (cut : Bool) (bytes : List ℕ) (r : ReadingValue)
 kept_is_plain true bytes r = refl
 kept_is_plain false bytes r = said_is_plain bytes r
 
-good_is_plain : (g : Bool) (b : BoardFields)
-    → PlainLines (if g then (codes "phase " ++ phase_name (phase_of b)) ∷ [] else [])
+not_sent_is_plain : (why : PlainRefusal) → is_directory_line (plain_line why) ≡ false
+not_sent_is_plain P.Offline = refl
+not_sent_is_plain P.NotOn = refl
+not_sent_is_plain (P.Fault fault) = refl
+
+lost_is_plain : (o : Option Ask) → is_directory_line (lost_line o) ≡ false
+lost_is_plain None = refl
+lost_is_plain (Some ask) = refl
+
+never_unnoted : {P : Type 0} → true ≡ false → P
+never_unnoted {P} e = absurd cc
+
+line_is_plain : (s : SaidValue) → is_unnoted s ≡ false → is_directory_line (line_of s) ≡ false
+line_is_plain (heard_said line r) h = kept_is_plain line.cut line.bytes r
+line_is_plain (phase_said phase) h = refl
+line_is_plain (confirmed_said ask) h = refl
+line_is_plain (sent_said text) h = refl
+line_is_plain rolled_said h = refl
+line_is_plain ordered_said h = refl
+line_is_plain withdrawn_said h = refl
+line_is_plain (refused_said why) h = refl
+line_is_plain (not_sent_said why) h = not_sent_is_plain why
+line_is_plain unknown_said h = refl
+line_is_plain (lost_said waited) h = lost_is_plain waited
+line_is_plain (unnoted_said why) h = never_unnoted h
+line_is_plain no_connection_said h = refl
+line_is_plain (player_said told) h = refl
+
+without_plain : (ss : List SaidValue) (ms : List (List ℕ)) → Plain ss
+    → without_directory (map line_of ss ++ ms) ≡ map line_of ss ++ without_directory ms
+without_plain [] ms h = refl
+without_plain (s ∷ ss) ms h =
+    ap (λ b. cond b (without_directory (map line_of ss ++ ms)) (line_of s ∷ without_directory (map line_of ss ++ ms)))
+    (line_is_plain s h.0) ∙ ap (λ k. line_of s ∷ k) (without_plain ss ms h.1)
+
+directory_gone : (r : Option DirectoryFault) (ms : List (List ℕ))
+    → without_directory (map line_of (directory_told r) ++ ms) ≡ without_directory ms
+directory_gone None ms = refl
+directory_gone (Some why) ms = refl
+
+abbrev lines_of_done : Done → List (List ℕ)
+lines_of_done d = map line_of (done_told d)
+
+done_without : (ds : List Done) → PlainActs (acts_of ds)
+    → without_directory (flat_map lines_of_done ds) ≡ lines_of_acts (acts_of ds)
+done_without [] h = refl
+done_without (d ∷ ds) h =
+    let more = flat_map lines_of_done ds in
+    ap (λ l. without_directory (l ++ more)) (map-append line_of d.act.tells (directory_told d.refused))
+    ∙ ap without_directory (append_assoc (map line_of d.act.tells) (map line_of (directory_told d.refused)) more)
+    ∙ without_plain d.act.tells (map line_of (directory_told d.refused) ++ more) h.0
+    ∙ ap (λ l. map line_of d.act.tells ++ l) (directory_gone d.refused more ∙ done_without ds h.1)
+
+account_is_lines : (ss : List SaidValue) → account_of ss ≡ text_of_lines (map line_of ss)
+account_is_lines [] = refl
+account_is_lines (s ∷ ss) = ap (λ l. line_bytes (line_of s) ++ l) (account_is_lines ss)
+
+tells_are_lines : (ds : List Done) → account_of (tells_of ds) ≡ text_of_lines (flat_map lines_of_done ds)
+tells_are_lines [] = refl
+tells_are_lines (d ∷ ds) =
+    flat_map-append (λ said. line_bytes (line_of said)) (done_told d) (tells_of ds)
+    ∙ ap (λ l. l ++ account_of (tells_of ds)) (account_is_lines (done_told d))
+    ∙ ap (λ l. text_of_lines (lines_of_done d) ++ l) (tells_are_lines ds)
+    ∙ sym (flat_map-append line_bytes (lines_of_done d) (flat_map lines_of_done ds))
+
+plain_front : (ss ts : List Act) → PlainActs (ss ++ ts) → PlainActs ss
+plain_front [] ts h = tt
+plain_front (s ∷ ss) ts h = (h.0, plain_front ss ts h.1)
+
+plain_joined : (ss ts : List Act) → PlainActs ss → PlainActs ts → PlainActs (ss ++ ts)
+plain_joined [] ts h k = k
+plain_joined (s ∷ ss) ts h k = (h.0, plain_joined ss ts h.1 k)
+
+told_joined : (ss ts : List SaidValue) → Plain ss → Plain ts → Plain (ss ++ ts)
+told_joined [] ts h k = k
+told_joined (s ∷ ss) ts h k = (h.0, told_joined ss ts h.1 k)
+
+-- ---- lines that are heard
+
+good_is_plain : (g : Bool) (b : BoardFields) → Plain (if g then phase_said (phase_of b) ∷ [] else [])
 good_is_plain true b = (refl, tt)
 good_is_plain false b = tt
 
-phase_is_plain : (r : ReadingValue) → PlainLines (phase_lines r)
+phase_is_plain : (r : ReadingValue) → Plain (phase_told r)
 phase_is_plain (numbered_line m) = tt
 phase_is_plain (board_line b) = good_is_plain (good b) b
 phase_is_plain (text_line text) = tt
 phase_is_plain (malformed_line number k f) = tt
 
-confirmed_is_plain : (o : Option Ask) → PlainLines (confirmed_lines o)
+confirmed_is_plain : (o : Option Ask) → Plain (confirmed_told o)
 confirmed_is_plain None = tt
 confirmed_is_plain (Some ask) = (refl, tt)
 
-rolled_is_plain : (rolled : Bool) → PlainLines (rolled_lines rolled)
+rolled_is_plain : (rolled : Bool) → Plain (rolled_told rolled)
 rolled_is_plain true = (refl, tt)
 rolled_is_plain false = tt
 
-line_is_plain : (log : List Entry) (l : ReadLine) → PlainLines (line_act log l).prints
-line_is_plain log l =
+heard_is_plain : (log : List Entry) (l : ReadLine) → Plain (line_act log l).tells
+heard_is_plain log l =
     let r = line_reading l in
     let h : Heard = heard (open_now log) log r in
-    let decided : PlainLines (confirmed_lines h.confirmed ++ rolled_lines h.rolled) =
-    lines_joined (confirmed_lines h.confirmed) (rolled_lines h.rolled) (confirmed_is_plain h.confirmed)
-    (rolled_is_plain h.rolled) in (
-      kept_is_plain l.cut l.bytes r,
-      lines_joined (phase_lines r) (confirmed_lines h.confirmed ++ rolled_lines h.rolled) (phase_is_plain r) decided,
-    )
+    let decided : Plain (confirmed_told h.confirmed ++ rolled_told h.rolled) =
+    told_joined (confirmed_told h.confirmed) (rolled_told h.rolled) (confirmed_is_plain h.confirmed)
+    (rolled_is_plain h.rolled) in
+    (refl, told_joined (phase_told r) (confirmed_told h.confirmed ++ rolled_told h.rolled) (phase_is_plain r) decided)
 
 lines_are_plain : (log : List Entry) (ls : List ReadLine) → PlainActs (line_acts log ls)
 lines_are_plain log [] = tt
 lines_are_plain log (l ∷ ls) = (
-  line_is_plain log l,
+  heard_is_plain log l,
   lines_are_plain
       (log ++ (heard (open_now log) log (line_reading l)).entries) ls,
 )
@@ -142,33 +200,31 @@ piece_is_plain t bytes = go (is_online t)
 
 -- ---- the typed line
 
-sent_is_plain : (send : List (List ℕ)) → PlainLines (map (λ text. codes "sent " ++ text) send)
+sent_is_plain : (send : List (List ℕ)) → Plain (map sent_said send)
 sent_is_plain [] = tt
 sent_is_plain (text ∷ send) = (refl, sent_is_plain send)
 
 decided_is_plain : (why : Option Refusal) (send : List (List ℕ))
-    → PlainLines (answer_act (option_map refused_line why) send).prints
+    → Plain (answer_act (option_map refused_said why) send).tells
 decided_is_plain None send = sent_is_plain send
 decided_is_plain (Some why) send = (refl, tt)
 
-told_is_plain : (why : Option PlainRefusal) (send : List (List ℕ))
-    → PlainLines (answer_act (option_map plain_line why) send).prints
-told_is_plain None send = sent_is_plain send
-told_is_plain (Some P.Offline) send = (refl, tt)
-told_is_plain (Some P.NotOn) send = (refl, tt)
-told_is_plain (Some (P.Fault fault)) send = (refl, tt)
+plain_is_plain : (why : Option PlainRefusal) (send : List (List ℕ))
+    → Plain (answer_act (option_map not_sent_said why) send).tells
+plain_is_plain None send = sent_is_plain send
+plain_is_plain (Some why) send = (refl, tt)
 
-ordered_is_plain : (why : Option Refusal) → PlainLines (order_line (codes "ordered") why ∷ [])
+ordered_is_plain : (why : Option Refusal) → Plain (order_told ordered_said why ∷ [])
 ordered_is_plain None = (refl, tt)
 ordered_is_plain (Some why) = (refl, tt)
 
-withdrawn_is_plain : (why : Option Refusal) → PlainLines (order_line (codes "withdrawn") why ∷ [])
+withdrawn_is_plain : (why : Option Refusal) → Plain (order_told withdrawn_said why ∷ [])
 withdrawn_is_plain None = (refl, tt)
 withdrawn_is_plain (Some why) = (refl, tt)
 
-typed_is_plain : (t : Talk) (v : TypedValue) → PlainLines (typed_act t v).prints
+typed_is_plain : (t : Talk) (v : TypedValue) → Plain (typed_act t v).tells
 typed_is_plain t (typed_decision d) = decided_is_plain (answer_now t d) (step t (Click d)).send
-typed_is_plain t (typed_plain p) = told_is_plain (plain_refusal t p) (step t (PlainInput p)).send
+typed_is_plain t (typed_plain p) = plain_is_plain (plain_refusal t p) (step t (PlainInput p)).send
 typed_is_plain t typed_order = ordered_is_plain (order_refusal t.log)
 typed_is_plain t typed_withdrawal = withdrawn_is_plain (withdraw_refusal t.log)
 typed_is_plain t typed_none = (refl, tt)
@@ -179,13 +235,9 @@ typed_are_plain t (Some text) = (typed_is_plain t (typed_now t text), tt)
 
 -- ---- the end
 
-lost_is_plain : (o : Option Ask) → PlainLines (lost_line o ∷ [])
-lost_is_plain None = (refl, tt)
-lost_is_plain (Some ask) = (refl, tt)
-
 end_is_plain : (e : Ending) → PlainActs (end_acts e)
 end_is_plain Quiet = tt
-end_is_plain (Lost waited) = (lost_is_plain (option_map ask_of waited), tt)
+end_is_plain (Lost waited) = ((refl, tt), tt)
 
 -- all lines of a turn but the directory's are those of its acts
 pub turns_print_their_acts : TurnsPrintTheirActs
@@ -201,10 +253,11 @@ turns_print_their_acts t new typed left still a b e turned =
     (typed_are_plain t typed) (piece_is_plain (talk_after t typed) turned.intake.fed) in
     let front = plain_front (acts_of d.done) d.hand (subst PlainActs d.acts script) in
     let plain = subst PlainActs (sym split) (plain_joined (acts_of d.done) (end_acts e) front (end_is_plain e)) in (
-      flat_map done_lines both,
-      subst (Appends a.printed b.printed) (sym
-          (flat_map-append (λ (x : Done). text_of_lines (done_lines x)) d.done k.done) ∙ prints_are_lines both)
-          (Appends-trans a.printed turned.mid.printed b.printed (prints_of d.done)
-          (prints_of k.done) d.printed k.printed),
+      flat_map lines_of_done both,
+      subst (Appends a.front b.front) (sym
+          (flat_map-append (λ said. line_bytes (line_of said)) (tells_of d.done) (tells_of k.done))
+          ∙ ap account_of (sym (flat_map-append done_told d.done k.done)) ∙ tells_are_lines both)
+          (Appends-trans a.front turned.mid.front b.front (account_of (tells_of d.done))
+          (account_of (tells_of k.done)) d.told k.told),
       done_without both plain ∙ ap lines_of_acts split,
     )

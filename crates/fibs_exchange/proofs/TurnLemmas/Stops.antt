@@ -1,7 +1,7 @@
 -- Where a print fails, the client is as after its last finished call.
 use Rattle.std.proofs.Common.{◌≡◌, ◌<◌, ℕ, true, List, [], ◌∷◌, ◌++◌, length, Option, None, Some, Result, Ok, Err}
 use Rattle.std.proofs.Common.{OnErr}
-use Rattle.std.proofs.Common.{inl, inr, refl, sym, ap, subst, ◌∙◌, append_assoc, append-nil, arith, length-append}
+use Rattle.std.proofs.Common.{refl, sym, ap, subst, ◌∙◌, append_assoc, append-nil, arith, length-append}
 use Rattle.std.specs.Io.KnownBytes.{Appends, Consumes, Keeps}
 use Rattle.std.proofs.KnownBytes.{Appends-trans, Consumes-nil, Consumes-trans, Consumes-kept}
 use Rattle.std.proofs.lemmas.List.Concat.{flat_map-append}
@@ -10,6 +10,7 @@ use Rattle.fibs_session.specs.History.Machine.{Talk, Piece, Lose, step, is_onlin
 use Rattle.fibs_session.specs.History.MachineLaws.{PiecesJoin, EmptyPieceIsNothing}
 use Rattle.fibs_session.specs.Calls.Standing.{ClientValue, StandsAfter}
 use Rattle.fibs_show.specs.Writing.{Progress, Whole, Broken}
+use Rattle.fibs_exchange.specs.Turns.Told.{SaidValue}
 use Rattle.fibs_exchange.specs.Turns.Acts.{Act}
 use Rattle.fibs_exchange.specs.Turns.Lines.{piece_acts}
 use Rattle.fibs_exchange.specs.Turns.Script.{Outside, Did, Called, calls_of}
@@ -26,8 +27,8 @@ on_any_err (Ok x) p = tt
 on_any_err (Err e) p = p
 
 -- all that was read is heard
-pub stopped_whole : (t : Talk) (y z : ClientValue) (left still : Option (List ℕ)) (read : List ℕ) (a b : Outside)
-    → is_online t ≡ true → Consumes left still read → Gone t y read a b
+pub stopped_whole : {F : Type 0} {Tells : F → List SaidValue → F → Type 0} (t : Talk) (y z : ClientValue) (left still : Option (List ℕ)) (read : List ℕ) (a b : Outside F)
+    → is_online t ≡ true → Consumes left still read → Gone Tells t y read a b
     → StopsAt Whole t.stream read [] (step t (Piece read)).talk z → Stopped t z None left still a.wrote b.wrote
 stopped_whole t y z left still read a b on took g at = record {
   intake = record {
@@ -44,8 +45,8 @@ stopped_whole t y z left still read a b on took g at = record {
 }
 
 -- a write failed at the end of a line
-pub stopped_broken : (t : Talk) (y z : ClientValue) (left still : Option (List ℕ)) (read : List ℕ) (a b : Outside)
-    → is_online t ≡ true → Consumes left still read → (k : Talked t y read a b Broken)
+pub stopped_broken : {F : Type 0} {Tells : F → List SaidValue → F → Type 0} (t : Talk) (y z : ClientValue) (left still : Option (List ℕ)) (read : List ℕ) (a b : Outside F)
+    → is_online t ≡ true → Consumes left still read → (k : Talked Tells t y read a b Broken)
     → StandsAfter z (step (step t (Piece k.fed)).talk Lose).talk → Stopped t z None left still a.wrote b.wrote
 stopped_broken t y z left still read a b on took k at = record {
   intake = record {
@@ -63,9 +64,9 @@ stopped_broken t y z left still read a b on took k at = record {
 
 module _ (join : PiecesJoin) (grow : LinesOnlyGrow) where
   -- what was fed behind a front ends a line
-  pub line_behind : (t : Talk) (z : ClientValue) (front piece back bytes : List ℕ) (a b : Outside)
+  pub line_behind : {F : Type 0} {Tells : F → List SaidValue → F → Type 0} (t : Talk) (z : ClientValue) (front piece back bytes : List ℕ) (a b : Outside F)
       (now : Option (List ℕ)) → bytes ≡ (front ++ piece) ++ back → is_online t ≡ true
-      → Did a b (piece_acts t front) Whole → StandsAfter z (step (step t (Piece front)).talk (Piece piece)).talk
+      → Did Tells a b (piece_acts t front) Whole → StandsAfter z (step (step t (Piece front)).talk (Piece piece)).talk
       → EndsALine (step t (Piece front)).talk.stream piece → 0 < length piece
       → Appends b.wrote now (calls_of (piece_acts (step t (Piece front)).talk piece)) → FedToALine t z bytes a.wrote now
   line_behind t z front piece back bytes a b now cut on did at ends long calls =
@@ -87,9 +88,9 @@ module _ (join : PiecesJoin) (grow : LinesOnlyGrow) where
       }
 
   -- a line of a portion was not printed
-  pub stopped_portion : (t : Talk) (y z : ClientValue) (left still : Option (List ℕ)) (read portion : List ℕ)
-      (a b : Outside) (now : Option (List ℕ)) → is_online t ≡ true → Consumes left still (read ++ portion)
-      → Gone t y read a b → FedToALine (step t (Piece read)).talk z portion b.wrote now
+  pub stopped_portion : {F : Type 0} {Tells : F → List SaidValue → F → Type 0} (t : Talk) (y z : ClientValue) (left still : Option (List ℕ)) (read portion : List ℕ)
+      (a b : Outside F) (now : Option (List ℕ)) → is_online t ≡ true → Consumes left still (read ++ portion)
+      → Gone Tells t y read a b → FedToALine (step t (Piece read)).talk z portion b.wrote now
       → Stopped t z None left still a.wrote now
   stopped_portion t y z left still read portion a b now on took g k =
       let cut : read ++ portion ≡ (read ++ k.fed) ++ k.rest =
@@ -111,8 +112,8 @@ module _ (join : PiecesJoin) (grow : LinesOnlyGrow) where
       }
 
 -- the typed call was made before
-pub stopped_typed : (t : Talk) (z : ClientValue) (text : List ℕ) (left mid still now : Option (List ℕ)) (a b : Outside)
-    → is_online t ≡ true → Keeps left mid → Did a b (typed_act t (typed_now t text) ∷ []) Whole
+pub stopped_typed : {F : Type 0} {Tells : F → List SaidValue → F → Type 0} (t : Talk) (z : ClientValue) (text : List ℕ) (left mid still now : Option (List ℕ)) (a b : Outside F)
+    → is_online t ≡ true → Keeps left mid → Did Tells a b (typed_act t (typed_now t text) ∷ []) Whole
     → Stopped (typed_step t (typed_now t text)).talk z None mid still b.wrote now
     → Stopped t z (Some text) left still a.wrote now
 stopped_typed t z text left mid still now a b on k did u =
@@ -168,8 +169,8 @@ stopped_unprinted t z text left still wrote now empty k w at =
     (all_fed refl refl at)
 
 -- its command was not written whole
-pub stopped_unsent : (t : Talk) (z : ClientValue) (text : List ℕ) (left still : Option (List ℕ)) (a b : Outside)
-    → EmptyPieceIsNothing → Keeps left still → Did a b (typed_act t (typed_now t text) ∷ []) Broken
+pub stopped_unsent : {F : Type 0} {Tells : F → List SaidValue → F → Type 0} (t : Talk) (z : ClientValue) (text : List ℕ) (left still : Option (List ℕ)) (a b : Outside F)
+    → EmptyPieceIsNothing → Keeps left still → Did Tells a b (typed_act t (typed_now t text) ∷ []) Broken
     → StandsAfter z (step (typed_step t (typed_now t text)).talk Lose).talk
     → Stopped t z (Some text) left still a.wrote b.wrote
 stopped_unsent t z text left still a b empty k did at =

@@ -1,7 +1,7 @@
 -- What a typed line leaves as it is.
-use Rattle.std.proofs.Common.{◌≡◌, ℕ, Bool, true, false, not, if◌then◌else◌, nat_eq, List, [], ◌∷◌, ◌++◌, map, Option}
-use Rattle.std.proofs.Common.{None, Some, Result, Ok, Err, refl, sym, ap, subst, ◌∙◌, append-nil}
-use Rattle.std.specs.Prelude.{option_map, codes}
+use Rattle.std.proofs.Common.{◌≡◌, ℕ, not, nat_eq, List, [], ◌∷◌, Option}
+use Rattle.std.proofs.Common.{None, Some, refl, sym, ap, subst, ◌∙◌, append-nil}
+use Rattle.std.specs.Prelude.{option_map}
 use Rattle.std.specs.Io.KnownBytes.{Appends}
 use Rattle.fibs_boards.specs.Board.{BoardFields}
 use Rattle.fibs_position.specs.DecisionValue.{DecisionValue}
@@ -12,14 +12,14 @@ use Rattle.fibs_session.specs.declared.refusal.Refusal.{Refusal}
 use Rattle.fibs_session.specs.declared.refusal.PlainRefusal.{PlainRefusal}
 use Rattle.fibs_session.specs.History.Log.{Entry, Clicked, Sent, Ordered, Withdrawn}
 use Rattle.fibs_session.specs.History.Words.{last, open_from, open_now, shown}
-use Rattle.fibs_session.specs.History.Machine.{Talk, Step, Click, PlainInput, step, stays, is_online, answer_now}
+use Rattle.fibs_session.specs.History.Machine.{Talk, is_online, answer_now}
 use Rattle.fibs_session.specs.History.Machine.{plain_refusal, on_wire, clicks_by, decides_on, sends_plain, notes_if}
 use Rattle.fibs_session.specs.History.Machine.{order_refusal, withdraw_refusal}
-use Rattle.fibs_session.specs.Calls.SessionOf.{handed, refusal_in}
 use Rattle.fibs_messages.specs.Message.{MessageValue}
 use Rattle.fibs_show.specs.Writing.{Wrote}
 use Rattle.fibs_show.specs.Writing.{Whole, Broken}
-use Rattle.fibs_exchange.specs.Turns.Acts.{Act, answer_act, line_bytes, text_of_lines}
+use Rattle.fibs_exchange.specs.Turns.Told.{SaidValue, Joins, sent_said}
+use Rattle.fibs_exchange.specs.Turns.Acts.{Act, answer_act}
 use Rattle.fibs_exchange.specs.Turns.Script.{Did, Notes, outside}
 use Rattle.fibs_exchange.specs.Turns.Typing.{TypedValue, typed_decision, typed_plain, typed_order, typed_withdrawal}
 use Rattle.fibs_exchange.specs.Turns.Typing.{typed_none, typed_step, typed_act}
@@ -70,9 +70,9 @@ typed_stays t typed_none = stays_itself t
 
 -- it tells the directory nothing
 
-answer_notes : (why : Option (List ℕ)) (send : List (List ℕ)) → (answer_act why send).notes ≡ []
+answer_notes : (why : Option SaidValue) (send : List (List ℕ)) → (answer_act why send).notes ≡ []
 answer_notes None send = refl
-answer_notes (Some line) send = refl
+answer_notes (Some said) send = refl
 
 pub typed_notes : (t : Talk) (v : TypedValue) → (typed_act t v).notes ≡ []
 typed_notes t (typed_decision d) = answer_notes _ _
@@ -84,16 +84,16 @@ typed_notes t typed_none = refl
 -- ---- the answer of a call
 
 -- a command that is handed out
-pub sent_act : {E : Type 0} (line : E → List ℕ) (why : Option E) (command : CommandText) (send : List (List ℕ))
+pub sent_act : {E : Type 0} (say : E → SaidValue) (why : Option E) (command : CommandText) (send : List (List ℕ))
     → None ≡ why → text_of command ∷ [] ≡ send
-    → answer_act None (text_of command ∷ []) ≡ answer_act (option_map line why) send
-sent_act line why command send e f = ap (answer_act None) f ∙ ap (λ w. answer_act (option_map line w) send) e
+    → answer_act None (text_of command ∷ []) ≡ answer_act (option_map say why) send
+sent_act say why command send e f = ap (answer_act None) f ∙ ap (λ w. answer_act (option_map say w) send) e
 
 -- a refusal
-pub refused_act : {E : Type 0} (line : E → List ℕ) (why : Option E) (reason : E) (send : List (List ℕ))
+pub refused_act : {E : Type 0} (say : E → SaidValue) (why : Option E) (reason : E) (send : List (List ℕ))
     → Some reason ≡ why
-    → answer_act (Some (line reason)) [] ≡ answer_act (option_map line why) send
-refused_act line why reason send e = ap (λ w. answer_act (option_map line w) send) e
+    → answer_act (Some (say reason)) [] ≡ answer_act (option_map say why) send
+refused_act say why reason send e = ap (λ w. answer_act (option_map say w) send) e
 
 -- offline no command is handed out
 pub no_command : {E : Type 0} (why : E) (command : CommandText) → None ≡ Some why → ⊥
@@ -101,40 +101,37 @@ no_command why command e = absurd cc
 
 -- ---- what was done for it
 
-module _ (t : Talk) (v : TypedValue) where
+module _ {F : Type 0} {Tells : F → List SaidValue → F → Type 0} (joins : Joins Tells) (t : Talk) (v : TypedValue) where
   quiet : (players : List MessageValue) → Notes players players (typed_act t v).notes
   quiet players = subst (Notes players players) (sym (typed_notes t v)) (notes_nothing players)
 
-  -- it is answered by a line
-  pub did_reply : (line : List ℕ) (wrote before after : Option (List ℕ)) (players : List MessageValue)
-      → answer_act (Some line) [] ≡ typed_act t v
-      → Appends wrote wrote [] → Appends before after (line_bytes line)
-      → Did (outside wrote before players) (outside wrote after players) (typed_act t v ∷ []) Whole
-  did_reply line wrote before after players is nothing printed =
-      did_alone (outside wrote before players) (outside wrote after players) (typed_act t v)
+  -- it is answered by what is told
+  pub did_reply : (said : SaidValue) (wrote : Option (List ℕ)) (before after : F) (players : List MessageValue)
+      → answer_act (Some said) [] ≡ typed_act t v
+      → Appends wrote wrote [] → Tells before (said ∷ []) after
+      → Did Tells (outside wrote before players) (outside wrote after players) (typed_act t v ∷ []) Whole
+  did_reply said wrote before after players is nothing told =
+      did_alone joins (outside wrote before players) (outside wrote after players) (typed_act t v)
       (subst (λ (a : Act). Appends wrote wrote a.writes) is nothing)
-      (subst (λ (a : Act). Appends before after (text_of_lines a.prints)) is
-      (subst (Appends before after) (sym (append-nil (line_bytes line))) printed)) (quiet players)
+      (subst (λ (a : Act). Tells before a.tells after) is told) (quiet players)
 
-  -- the command was written and printed
-  pub did_sent : (text : List ℕ) (wrote now before after : Option (List ℕ)) (players : List MessageValue)
+  -- the command was written, and told as sent
+  pub did_sent : (text : List ℕ) (wrote now : Option (List ℕ)) (before after : F) (players : List MessageValue)
       → answer_act None (text ∷ []) ≡ typed_act t v
-      → Appends wrote now (on_wire text) → Appends before after (line_bytes (codes "sent " ++ text))
-      → Did (outside wrote before players) (outside now after players) (typed_act t v ∷ []) Whole
-  did_sent text wrote now before after players is written printed =
-      did_alone (outside wrote before players) (outside now after players) (typed_act t v)
+      → Appends wrote now (on_wire text) → Tells before (sent_said text ∷ []) after
+      → Did Tells (outside wrote before players) (outside now after players) (typed_act t v ∷ []) Whole
+  did_sent text wrote now before after players is written told =
+      did_alone joins (outside wrote before players) (outside now after players) (typed_act t v)
       (subst (λ (a : Act). Appends wrote now a.writes) is
       (subst (Appends wrote now) (sym (append-nil (on_wire text))) written))
-      (subst (λ (a : Act). Appends before after (text_of_lines a.prints)) is
-      (subst (Appends before after) (sym (append-nil
-      (line_bytes (codes "sent " ++ text)))) printed)) (quiet players)
+      (subst (λ (a : Act). Tells before a.tells after) is told) (quiet players)
 
   -- a write failed
-  pub did_unsent : (text : List ℕ) (wrote now printed : Option (List ℕ)) (players : List MessageValue)
+  pub did_unsent : (text : List ℕ) (wrote now : Option (List ℕ)) (front : F) (players : List MessageValue)
       → answer_act None (text ∷ []) ≡ typed_act t v
-      → Wrote Broken wrote now (on_wire text) → Did (outside wrote printed players) (outside now printed players)
+      → Wrote Broken wrote now (on_wire text) → Did Tells (outside wrote front players) (outside now front players)
       (typed_act t v ∷ []) Broken
-  did_unsent text wrote now printed players is written =
-      did_part (outside wrote printed players) (outside now printed players) (typed_act t v)
+  did_unsent text wrote now front players is written =
+      did_part joins (outside wrote front players) (outside now front players) (typed_act t v)
       (subst (λ (a : Act). Wrote Broken wrote now a.writes) is
       (subst (Wrote Broken wrote now) (sym (append-nil (on_wire text))) written)) refl refl

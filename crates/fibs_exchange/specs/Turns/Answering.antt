@@ -1,6 +1,6 @@
 -- What the client's answer to a typed line calls for, and what an answer of a part of a turn says. No public contract
 -- rests on it.
-use Rattle.std.specs.Prelude.{codes, None, Some, ◌∷◌, [], List, ℕ, ⊤, Result, Ok, Err}
+use Rattle.std.specs.Prelude.{None, Some, ◌∷◌, [], ⊤, Result, Ok, Err}
 use Rattle.fibs_commands.specs.TextOf.{text_of}
 use Rattle.fibs_commands.specs.PlainOf.{plain_value}
 use Rattle.fibs_position.specs.DecisionValue.{decision_of}
@@ -8,14 +8,13 @@ use Rattle.fibs_exchange.specs.declared.exchange.typing.Typed.{Typed}
 use Rattle.fibs_exchange.specs.declared.exchange.typing.Typed.TheVariants as T
 use Rattle.fibs_exchange.specs.declared.exchange.typing.Answer.{Answer}
 use Rattle.fibs_exchange.specs.declared.exchange.typing.Answer.TheVariants as A
-use Rattle.fibs_exchange.specs.declared.exchange.typing.Reply.{Reply}
-use Rattle.fibs_exchange.specs.declared.exchange.typing.Reply.TheVariants as R
 use Rattle.fibs_exchange.specs.declared.exchange.turn_fault.TurnFault.{TurnFault}
 use Rattle.fibs_exchange.specs.declared.exchange.turn_fault.TurnFault.TheVariants as F
 use Rattle.fibs_show.specs.Writing.{Progress, Whole, Broken}
+use Rattle.fibs_exchange.specs.Turns.SaidOf.{said_of}
 use Rattle.fibs_exchange.specs.Turns.Acts.{Act, answer_act}
 use Rattle.fibs_exchange.specs.Turns.Typing.{TypedValue, typed_decision, typed_plain, typed_order, typed_withdrawal}
-use Rattle.fibs_exchange.specs.Turns.Typing.{typed_none, refused_line, plain_line}
+use Rattle.fibs_exchange.specs.Turns.Typing.{typed_none}
 
 abbrev pub typed_value : Typed → TypedValue
 typed_value (T.Decision d) = typed_decision (decision_of d)
@@ -24,16 +23,9 @@ typed_value T.Order = typed_order
 typed_value T.Withdrawal = typed_withdrawal
 typed_value T.Unknown = typed_none
 
-abbrev pub reply_line : Reply → List ℕ
-reply_line R.Ordered = codes "ordered"
-reply_line R.Withdrawn = codes "withdrawn"
-reply_line (R.Refused why) = refused_line why
-reply_line (R.NotSent why) = plain_line why
-reply_line R.Unknown = codes "unknown"
-
 abbrev pub answered_act : Answer → Act
 answered_act (A.Sent command) = answer_act None (text_of command ∷ [])
-answered_act (A.Said reply) = answer_act (Some (reply_line reply)) []
+answered_act (A.Told said) = answer_act (Some (said_of said)) []
 
 -- what holds of how far the commands went, where all that went well was printed
 abbrev pub IfPrinted : Result ⊤ TurnFault → (Progress → Type 0) → Type 0

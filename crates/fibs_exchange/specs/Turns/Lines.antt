@@ -11,9 +11,9 @@ use Rattle.fibs_session.specs.History.Hearing.{heard, line_reading}
 use Rattle.fibs_session.specs.History.Machine.{Talk, is_online, gained, wire_of}
 use Rattle.fibs_session.specs.Calls.SessionOf.{TakenValue}
 use Rattle.fibs_show.specs.Escape.{escaped}
-use Rattle.fibs_position.specs.Names.{phase_name}
 use Rattle.fibs_show.specs.Show.{reading_text}
-use Rattle.fibs_exchange.specs.Turns.Acts.{Act, asked_text}
+use Rattle.fibs_exchange.specs.Turns.Told.{SaidValue, heard_said, phase_said, confirmed_said, rolled_said}
+use Rattle.fibs_exchange.specs.Turns.Acts.{Act}
 
 -- how a whole line is printed: as by `show`, but that a message is printed as it was spelled
 abbrev pub said_text : List ℕ → ReadingValue → List ℕ
@@ -26,21 +26,21 @@ said_text bytes (malformed_line number k f) = reading_text (malformed_line numbe
 abbrev pub heard_text : ReadLine → ReadingValue → List ℕ
 heard_text line r = if line.cut then codes "cut " ++ escaped line.bytes else said_text line.bytes r
 
--- after a good board its phase is printed
-abbrev pub phase_lines : ReadingValue → List (List ℕ)
-phase_lines (numbered_line m) = []
-phase_lines (board_line b) = if good b then (codes "phase " ++ phase_name (phase_of b)) ∷ [] else []
-phase_lines (text_line text) = []
-phase_lines (malformed_line number k f) = []
+-- after a good board its phase is told
+abbrev pub phase_told : ReadingValue → List SaidValue
+phase_told (numbered_line m) = []
+phase_told (board_line b) = if good b then phase_said (phase_of b) ∷ [] else []
+phase_told (text_line text) = []
+phase_told (malformed_line number k f) = []
 
 -- and where it confirms a decision, that
-abbrev pub confirmed_lines : Option Ask → List (List ℕ)
-confirmed_lines None = []
-confirmed_lines (Some ask) = (codes "confirmed " ++ asked_text ask) ∷ []
+abbrev pub confirmed_told : Option Ask → List SaidValue
+confirmed_told None = []
+confirmed_told (Some ask) = confirmed_said ask ∷ []
 
 -- and where it makes a standing order due, that `roll` was sent
-abbrev pub rolled_lines : Bool → List (List ℕ)
-rolled_lines rolled = if rolled then codes "sent roll" ∷ [] else []
+abbrev pub rolled_told : Bool → List SaidValue
+rolled_told rolled = if rolled then rolled_said ∷ [] else []
 
 -- the directory is told each message
 abbrev pub messages_in : ReadingValue → List MessageValue
@@ -54,7 +54,7 @@ messages_in (malformed_line number k f) = []
 abbrev pub heard_act : ReadLine → ReadingValue → List (List ℕ) → Option Ask → Bool → Act
 heard_act line r send confirmed rolled = record {
   writes = wire_of send;
-  prints = heard_text line r ∷ (phase_lines r ++ (confirmed_lines confirmed ++ rolled_lines rolled));
+  tells = heard_said line r ∷ (phase_told r ++ (confirmed_told confirmed ++ rolled_told rolled));
   notes = messages_in r;
 }
 

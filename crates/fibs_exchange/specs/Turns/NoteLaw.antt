@@ -16,6 +16,7 @@ TellsNothing m = (m.number ≢ 5) × (m.number ≢ 8)
 -- messages heard but those that it refused
 abbrev pub TurnsLeaveNoPlayer : Type 0
 TurnsLeaveNoPlayer =
-    (t : Talk) (new : ClientValue) (typed left still : Option (List ℕ)) (a b : Outside) (e : Ending)
+    (t : Talk) (new : ClientValue) (typed left still : Option (List ℕ)) (a b : Outside (Option (List ℕ)))
+    (e : Ending)
     (turned : Turned t new typed left still a b e)
     → AllByRecursion (λ act. AllByRecursion TellsNothing act.notes) turned.did.hand

@@ -1,12 +1,13 @@
 -- The lines that a turn prints, the directory's left aside.
-use Rattle.std.specs.Prelude.{◌≡◌, ℕ, Bool, true, false, cond, nat_eq, List, [], ◌∷◌, ◌++◌, codes, Option}
+use Rattle.std.specs.Prelude.{◌≡◌, ℕ, Bool, cond, nat_eq, List, [], ◌∷◌, ◌++◌, codes, map, Option}
 use Rattle.std.specs.List.{flat_map, starts_with}
 use Rattle.std.specs.Io.KnownBytes.{Appends}
 use Rattle.fibs_session.specs.History.Machine.{Talk}
 use Rattle.fibs_session.specs.Calls.Standing.{ClientValue}
 use Rattle.fibs_exchange.specs.declared.exchange.Ending.{Ending}
 use Rattle.fibs_exchange.specs.Turns.Acts.{Act, text_of_lines}
-use Rattle.fibs_exchange.specs.Turns.Script.{Outside, Done, acts_of}
+use Rattle.fibs_exchange.specs.Turns.Account.{line_of}
+use Rattle.fibs_exchange.specs.Turns.Script.{Outside, acts_of}
 use Rattle.fibs_exchange.specs.Turns.Turn.{Turned, end_acts}
 
 abbrev pub is_directory_line : List ℕ → Bool
@@ -18,16 +19,17 @@ without_directory (line ∷ lines) =
     cond (is_directory_line line) (without_directory lines) (line ∷ without_directory lines)
 
 abbrev pub lines_of_acts : List Act → List (List ℕ)
-lines_of_acts = flat_map (λ act. act.prints)
+lines_of_acts = flat_map (λ act. map line_of act.tells)
 
 -- what was printed is these lines, and lines of the directory
-abbrev pub PrintsBesides : Outside → Outside → List (List ℕ) → Type 0
+abbrev pub PrintsBesides : Outside (Option (List ℕ)) → Outside (Option (List ℕ)) → List (List ℕ) → Type 0
 PrintsBesides a b lines =
-    (all : List (List ℕ)) × Appends a.printed b.printed (text_of_lines all) × (without_directory all ≡ lines)
+    (all : List (List ℕ)) × Appends a.front b.front (text_of_lines all) × (without_directory all ≡ lines)
 
 -- a turn prints the lines of the acts that were done, and then those of the end
 abbrev pub TurnsPrintTheirActs : Type 0
 TurnsPrintTheirActs =
-    (t : Talk) (new : ClientValue) (typed left still : Option (List ℕ)) (a b : Outside) (e : Ending)
+    (t : Talk) (new : ClientValue) (typed left still : Option (List ℕ)) (a b : Outside (Option (List ℕ)))
+    (e : Ending)
     (turned : Turned t new typed left still a b e)
     → PrintsBesides a b (lines_of_acts (acts_of turned.did.done ++ end_acts e))

@@ -1,5 +1,5 @@
 -- A script is a list of acts. This is what was done of one, whether a write failed or not.
-use Rattle.std.specs.Prelude.{◌≡◌, ℕ, List, [], ◌∷◌, ◌++◌, map, codes, Option, Some, None, ◌⊎◌}
+use Rattle.std.specs.Prelude.{◌≡◌, ℕ, List, [], ◌∷◌, ◌++◌, map, Option, Some, None, ◌⊎◌}
 use Rattle.std.proofs.Common.{inl, inr}
 use Rattle.std.specs.Borrow.{MutBor}
 use Rattle.std.specs.List.{flat_map}
@@ -7,34 +7,32 @@ use Rattle.std.specs.Io.KnownBytes.{Appends}
 use Rattle.fibs_messages.specs.Message.{MessageValue}
 use Rattle.fibs_directory.specs.declared.fault.DirectoryFault.{DirectoryFault}
 use Rattle.fibs_directory.specs.Directory.{IsDirectory}
-use Rattle.fibs_directory.specs.Directory.Faults.{directory_fault_number, directory_fault_name}
 use Rattle.fibs_show.specs.Writing.{Progress, Whole, Broken}
-use Rattle.fibs_exchange.specs.Turns.Acts.{Act, text_of_lines}
-use Rattle.fibs_exchange.specs.Turns.Typing.{reason_line}
+use Rattle.fibs_exchange.specs.Turns.Told.{SaidValue, unnoted_said}
+use Rattle.fibs_exchange.specs.Turns.Acts.{Act}
 
--- what is outside of the client: what the stream and the printer hold, where they tell it, and the directory's entries
-pub record Outside : Type 0 where
+-- what is outside of the client: what the stream holds, where it tells it, the front end, and the directory's entries
+pub record Outside (F : Type 0) : Type 0 where
   pub wrote : Option (List ℕ)
-  pub printed : Option (List ℕ)
+  pub front : F
   pub players : List MessageValue
 
-abbrev pub outside : Option (List ℕ) → Option (List ℕ) → List MessageValue → Outside
-outside wrote printed players = record { wrote = wrote; printed = printed; players = players }
+abbrev pub outside : {F : Type 0} → Option (List ℕ) → F → List MessageValue → Outside F
+outside wrote front players = record { wrote = wrote; front = front; players = players }
 
 -- an act that was done whole; and, where the directory refused a message, why
 pub record Done : Type 0 where
   pub act : Act
   pub refused : Option DirectoryFault
 
--- a refusal of the directory is said
-abbrev pub directory_lines : Option DirectoryFault → List (List ℕ)
-directory_lines None = []
-directory_lines (Some why) =
-    reason_line (codes "directory ") (directory_fault_number why) (directory_fault_name why) ∷ []
+-- a refusal of the directory is told
+abbrev pub directory_told : Option DirectoryFault → List SaidValue
+directory_told None = []
+directory_told (Some why) = unnoted_said why ∷ []
 
--- the lines of an act, and after them the directory's
-abbrev pub done_lines : Done → List (List ℕ)
-done_lines d = d.act.prints ++ directory_lines d.refused
+-- what an act tells, and after it the directory's
+abbrev pub done_told : Done → List SaidValue
+done_told d = d.act.tells ++ directory_told d.refused
 
 -- what the directory has noted: not what it refused
 abbrev pub noted_unless : Option DirectoryFault → List MessageValue → List MessageValue
@@ -51,8 +49,8 @@ acts_of = map (λ d. d.act)
 abbrev pub writes_of : List Done → List ℕ
 writes_of = flat_map (λ d. d.act.writes)
 
-abbrev pub prints_of : List Done → List ℕ
-prints_of = flat_map (λ d. text_of_lines (done_lines d))
+abbrev pub tells_of : List Done → List SaidValue
+tells_of = flat_map done_told
 
 abbrev pub notes_of : List Done → List MessageValue
 notes_of = flat_map (λ d. noted_unless d.refused d.act.notes)
@@ -67,16 +65,17 @@ InHand Whole hand part = (hand ≡ []) × (part ≡ [])
 InHand Broken hand part =
     (act : Act) × (missing : ℕ) × (rest : List ℕ) × (hand ≡ act ∷ []) × (act.writes ≡ part ++ (missing ∷ rest))
 
--- the script was done: each act written whole, printed and noted, up to the one in hand, of which a part was written
--- and nothing printed or noted
-pub record Did (a b : Outside) (script : List Act) (p : Progress) : Type 0 where
+-- the script was done: each act written whole, told and noted, up to the one in hand, of which a part was written
+-- and nothing told or noted
+pub record Did {F : Type 0} (Tells : F → List SaidValue → F → Type 0) (a b : Outside F) (script : List Act)
+    (p : Progress) : Type 0 where
   pub done : List Done
   pub hand : List Act
   pub part : List ℕ
   pub acts : script ≡ acts_of done ++ hand
   pub in_hand : InHand p hand part
   pub wrote : Appends a.wrote b.wrote (writes_of done ++ part)
-  pub printed : Appends a.printed b.printed (prints_of done)
+  pub told : Tells a.front (tells_of done) b.front
   pub noted : Notes a.players b.players (notes_of done)
 
 -- the commands of a script were written, each act's whole, up to the last act where a write failed: of its commands a

@@ -1,17 +1,18 @@
 -- One turn of a client with its stream: the typed line, the lines that are heard, and the end of the connection.
-use Rattle.std.specs.Prelude.{◌≡◌, ◌≢◌, ◌<◌, ◌≤◌, ◌*◌, ℕ, Bool, true, false, List, [], ◌∷◌, ◌++◌, length, take}
+use Rattle.std.specs.Prelude.{◌≡◌, ◌≢◌, ◌<◌, ℕ, Bool, true, false, List, [], ◌∷◌, ◌++◌, length, take}
 use Rattle.std.specs.Prelude.{Option, Some, None, option_map}
 use Rattle.std.specs.Borrow.{Bor}
 use Rattle.std.specs.Io.KnownBytes.{Appends, Consumes}
 use Rattle.fibs_lines.specs.Lines.{lines_of}
-use Rattle.fibs_session.specs.History.Words.{Ask}
 use Rattle.fibs_session.specs.History.Machine.{Talk, Lose, Piece, step, is_online, unconfirmed_now}
 use Rattle.fibs_session.specs.Calls.SessionOf.{ask_of}
 use Rattle.fibs_session.specs.Calls.Standing.{ClientValue, StandsAfter}
 use Rattle.fibs_exchange.specs.declared.exchange.Ending.{Ending}
 use Rattle.fibs_exchange.specs.declared.exchange.Ending.TheVariants.{Quiet, Lost}
 use Rattle.fibs_show.specs.Writing.{Progress, Whole, Broken}
-use Rattle.fibs_exchange.specs.Turns.Acts.{Act, only_print, lost_line}
+use Rattle.fibs_exchange.specs.Turns.Told.{SaidValue, lost_said}
+use Rattle.fibs_exchange.specs.Turns.Account.{Accounts}
+use Rattle.fibs_exchange.specs.Turns.Acts.{Act, only_tell}
 use Rattle.fibs_exchange.specs.Turns.Lines.{piece_acts}
 use Rattle.fibs_exchange.specs.Turns.Typing.{talk_after, typed_acts}
 use Rattle.fibs_exchange.specs.Turns.Script.{Outside, Did, Called, calls_of}
@@ -46,20 +47,21 @@ Extent Whole stream fed rest = rest ≡ []
 Extent Broken stream fed rest = EndsALine stream fed × (0 < length fed)
 
 -- of these bytes a front was fed to a client that stood after t, and what its lines call for was done
-pub record Talked (t : Talk) (new : ClientValue) (bytes : List ℕ) (a b : Outside) (p : Progress) : Type 0 where
+pub record Talked {F : Type 0} (Tells : F → List SaidValue → F → Type 0) (t : Talk) (new : ClientValue)
+    (bytes : List ℕ) (a b : Outside F) (p : Progress) : Type 0 where
   pub fed : List ℕ
   pub rest : List ℕ
   pub cut : bytes ≡ fed ++ rest
   pub extent : Extent p t.stream fed rest
   pub stands : StandsAfter new (step t (Piece fed)).talk
-  pub did : Did a b (piece_acts t fed) p
+  pub did : Did Tells a b (piece_acts t fed) p
 
 -- ---- the end
 
--- the end of a connection is printed
+-- the end of a connection is told
 abbrev pub end_acts : Ending → List Act
 end_acts Quiet = []
-end_acts (Lost waited) = only_print (lost_line (option_map ask_of waited)) ∷ []
+end_acts (Lost waited) = only_tell (lost_said (option_map ask_of waited)) ∷ []
 
 -- how the client that stood after t stands at the end. Quiet comes only where every write went well; what is lost is
 -- what the history says is unconfirmed
@@ -67,8 +69,9 @@ abbrev pub LeavesAs : Ending → Progress → Talk → ClientValue → Type 0
 LeavesAs Quiet p t new = StandsAfter new t × (p ≡ Whole)
 LeavesAs (Lost waited) p t new = StandsAfter new (step t Lose).talk × (option_map ask_of waited ≡ unconfirmed_now t)
 
-pub record Ended (p : Progress) (t : Talk) (new : ClientValue) (a b : Outside) (e : Ending) : Type 0 where
-  pub did : Did a b (end_acts e) Whole
+pub record Ended {F : Type 0} (Tells : F → List SaidValue → F → Type 0) (p : Progress) (t : Talk) (new : ClientValue)
+    (a b : Outside F) (e : Ending) : Type 0 where
+  pub did : Did Tells a b (end_acts e) Whole
   pub leaves : LeavesAs e p t new
 
 -- ---- all of it
@@ -89,16 +92,21 @@ IntakeExtent Broken stream fed rest = EndsALine stream fed
 
 -- a client that stood after t made the typed call, then it was fed the bytes that were read, and then it lost its
 -- connection where it is lost; what that calls for was done, in this order
-pub record Turned (t : Talk) (new : ClientValue) (typed left still : Option (List ℕ)) (a b : Outside) (e : Ending)
-    : Type 0 where
+pub record TurnedBy {F : Type 0} (Tells : F → List SaidValue → F → Type 0) (t : Talk) (new : ClientValue)
+    (typed left still : Option (List ℕ)) (a b : Outside F) (e : Ending) : Type 0 where
   pub intake : Intake left still
   pub progress : Progress
   pub extent : IntakeExtent progress t.stream intake.fed intake.rest
-  pub mid : Outside
-  pub did : Did a mid (typed_acts t typed ++ piece_acts (talk_after t typed) intake.fed) progress
-  pub ended : Ended progress (step (talk_after t typed) (Piece intake.fed)).talk new mid b e
+  pub mid : Outside F
+  pub did : Did Tells a mid (typed_acts t typed ++ piece_acts (talk_after t typed) intake.fed) progress
+  pub ended : Ended Tells progress (step (talk_after t typed) (Piece intake.fed)).talk new mid b e
   pub offline : is_online t ≡ false → intake.read ≡ []
   pub quiet : is_online t ≡ false → e ≡ Quiet
+
+-- the same of a writer, where what is told is printed
+abbrev pub Turned : Talk → ClientValue → Option (List ℕ) → Option (List ℕ) → Option (List ℕ)
+    → Outside (Option (List ℕ)) → Outside (Option (List ℕ)) → Ending → Type 0
+Turned = TurnedBy Accounts
 
 -- ---- a print that fails
 

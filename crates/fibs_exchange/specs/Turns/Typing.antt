@@ -1,5 +1,5 @@
 -- What is done for a line that the user types.
-use Rattle.std.specs.Prelude.{◌++◌, ℕ, List, [], ◌∷◌, codes, cond, Option, Some, None, option_map}
+use Rattle.std.specs.Prelude.{◌++◌, ℕ, Bool, true, false, List, [], ◌∷◌, codes, cond, Option, Some, None, option_map}
 use Rattle.std.specs.Str.{bytes_eq}
 use Rattle.std.specs.Fmt.{decimal}
 use Rattle.fibs_boards.specs.Board.{BoardFields}
@@ -16,7 +16,9 @@ use Rattle.fibs_session.specs.History.Machine.{plain_refusal, Order, Withdraw, o
 use Rattle.fibs_session.specs.History.Refusals.{refusal_number, refusal_name, plain_refusal_number, plain_refusal_name}
 use Rattle.fibs_commands.specs.CommandReading.{read_command}
 use Rattle.fibs_commands.specs.PlainReading.{read_plain}
-use Rattle.fibs_exchange.specs.Turns.Acts.{Act, only_print, answer_act}
+use Rattle.fibs_exchange.specs.Turns.Told.{SaidValue, ordered_said, withdrawn_said, refused_said, not_sent_said}
+use Rattle.fibs_exchange.specs.Turns.Told.{unknown_said}
+use Rattle.fibs_exchange.specs.Turns.Acts.{Act, only_tell, answer_act}
 
 -- what was typed: a decision, a plain command, a standing order to roll, its withdrawal, or none of these
 pub data TypedValue : Type 0 where
@@ -25,6 +27,14 @@ pub data TypedValue : Type 0 where
   typed_order : TypedValue
   typed_withdrawal : TypedValue
   typed_none : TypedValue
+
+-- it is one of these
+abbrev pub is_command : TypedValue → Bool
+is_command (typed_decision d) = true
+is_command (typed_plain p) = true
+is_command typed_order = true
+is_command typed_withdrawal = true
+is_command typed_none = false
 
 -- a standing order is given, and withdrawn, by these words
 abbrev pub order_in : List ℕ → TypedValue
@@ -63,10 +73,10 @@ plain_label (P.Fault fault) = codes "fault "
 abbrev pub plain_line : PlainRefusal → List ℕ
 plain_line why = reason_line (plain_label why) (plain_refusal_number why) (plain_refusal_name why)
 
--- a standing order is answered by a word, or by why it is refused
-abbrev pub order_line : List ℕ → Option Refusal → List ℕ
-order_line word None = word
-order_line word (Some why) = refused_line why
+-- a standing order is taken, or it is said why not
+abbrev pub order_told : SaidValue → Option Refusal → SaidValue
+order_told said None = said
+order_told said (Some why) = refused_said why
 
 -- what the client does with it
 abbrev pub typed_step : Talk → TypedValue → Step
@@ -76,14 +86,14 @@ typed_step t typed_order = step t Order
 typed_step t typed_withdrawal = step t Withdraw
 typed_step t typed_none = stays t
 
--- what it calls for: the command is written and then printed as sent, or it is said why not. A standing order sends
+-- what it calls for: the command is written and then told as sent, or it is told why not. A standing order sends
 -- nothing by itself
 abbrev pub typed_act : Talk → TypedValue → Act
-typed_act t (typed_decision d) = answer_act (option_map refused_line (answer_now t d)) (step t (Click d)).send
-typed_act t (typed_plain p) = answer_act (option_map plain_line (plain_refusal t p)) (step t (PlainInput p)).send
-typed_act t typed_order = only_print (order_line (codes "ordered") (order_refusal t.log))
-typed_act t typed_withdrawal = only_print (order_line (codes "withdrawn") (withdraw_refusal t.log))
-typed_act t typed_none = only_print (codes "unknown")
+typed_act t (typed_decision d) = answer_act (option_map refused_said (answer_now t d)) (step t (Click d)).send
+typed_act t (typed_plain p) = answer_act (option_map not_sent_said (plain_refusal t p)) (step t (PlainInput p)).send
+typed_act t typed_order = only_tell (order_told ordered_said (order_refusal t.log))
+typed_act t typed_withdrawal = only_tell (order_told withdrawn_said (withdraw_refusal t.log))
+typed_act t typed_none = only_tell unknown_said
 
 -- the same of a line that may have been typed
 

@@ -1,28 +1,27 @@
 //! A typed line.
-ghost use Rattle.std.specs.Prelude.{◌≡◌, ◌≤◌, ◌++◌, ◌∷◌, [], ℕ, List, Option, OnOk, false, length};
+ghost use Rattle.std.specs.Prelude.{◌≡◌, ◌∷◌, [], ℕ, List, Option, OnOk, false};
 ghost use Rattle.std.specs.Io.KnownBytes.{Appends, Keeps};
 ghost use Rattle.fibs_session.specs.History.Machine.{Talk, shown_now, is_online};
 ghost use Rattle.fibs_session.specs.Calls.Standing.{StandsAfter};
 ghost use Rattle.fibs_messages.specs.Message.{MessageValue};
 ghost use Rattle.fibs_commands.specs.CommandReading.{read_command};
 ghost use Rattle.fibs_commands.specs.PlainReading.{read_plain};
-ghost use Rattle.fibs_exchange.specs.Turns.Acts.{line_bytes, text_of_lines};
-ghost use Rattle.fibs_exchange.specs.Turns.Answering.{typed_value, reply_line, answered_act};
+ghost use Rattle.fibs_exchange.specs.Turns.Answering.{typed_value, answered_act};
 ghost use Rattle.fibs_exchange.specs.Turns.Answering.{IfPrinted, IfUnprinted};
 ghost use Rattle.fibs_exchange.specs.Turns.Script.{Did, outside};
 ghost use Rattle.fibs_exchange.specs.Turns.Turn.{FitsStream};
 ghost use Rattle.fibs_exchange.specs.Turns.Typing.{shown_direction, typed_as, typed_now, typed_step, typed_act};
-ghost use Rattle.fibs_exchange.specs.Turns.Typing.{plain_label, order_in};
+ghost use Rattle.fibs_exchange.specs.Turns.Typing.{order_in, is_command};
 ghost use Rattle.fibs_show.specs.Writing.{Whole};
 
 use super::ExchangeFault;
+use super::front::Front;
 use super::link::Link;
-use super::printing::{print_line, print_reason};
-use super::sending::{send_command, text_bytes};
+use super::said::Said;
+use super::sending::send_command;
 use super::turn_fault::TurnFault;
 use fibs_position::{Decision, Direction};
 use fibs_session::{Client, CommandText, Plain, PlainRefusal, Refusal, read_command, read_plain};
-use std::io::Write;
 
 /// What was typed.
 #[derive(Clone, Copy)]
@@ -39,28 +38,13 @@ enum Typed<'a> {
     Unknown,
 }
 
-/// What is said where nothing is sent.
-#[derive(Clone, Copy)]
-enum Reply {
-    /// A standing order to roll was given.
-    Ordered,
-    /// The standing order to roll was withdrawn.
-    Withdrawn,
-    /// The client refuses the decision, the standing order or its withdrawal.
-    Refused(Refusal),
-    /// The client refuses the plain command.
-    NotSent(PlainRefusal),
-    /// The line is no command.
-    Unknown,
-}
-
 /// What the client answers to a typed line.
 #[derive(Clone, Copy)]
 enum Answer {
     /// The command is to be sent.
     Sent(CommandText),
-    /// Nothing is sent.
-    Said(Reply),
+    /// Nothing is sent, and this is told.
+    Told(Said<'static>),
 }
 
 /// The direction of the board that is shown. Without a board it is that of a player who goes down.
@@ -101,6 +85,25 @@ fn read_typed(text: &[u8], direction: Direction) -> Typed<'_>
     }
 }
 
+/// Whether this is a command, or an order.
+fn is_typed_command(typed: &Typed<'_>) -> bool
+    ensures { result ≡ is_command (typed_value typed.now) }
+{
+    match typed {
+        Typed::Decision(_) | Typed::Plain(_) | Typed::Order | Typed::Withdrawal => true,
+        Typed::Unknown => false,
+    }
+}
+
+/// Whether a typed line is a decision at the board shown, a plain command, or a standing order or its withdrawal. Any
+/// other is told as unknown.
+pub fn is_command(client: &Client, text: &[u8]) -> bool
+    ensures { (t : Talk) → StandsAfter client.now t → result ≡ is_command (typed_now t text.now) }
+{
+    let typed = read_typed(text, shown_direction(client));
+    is_typed_command(&typed)
+}
+
 /// What the client answers.
 fn answer_typed(client: &mut Client, typed: &Typed<'_>) -> Answer
     ensures stands { (t : Talk) → StandsAfter client.old t →
@@ -110,21 +113,21 @@ fn answer_typed(client: &mut Client, typed: &Typed<'_>) -> Answer
     match typed {
         Typed::Decision(decision) => match client.decide(decision) {
             Ok(command) => Answer::Sent(command),
-            Err(why) => Answer::Said(Reply::Refused(why)),
+            Err(why) => Answer::Told(Said::Refused(why)),
         },
         Typed::Plain(plain) => match client.plain(plain) {
             Ok(command) => Answer::Sent(command),
-            Err(why) => Answer::Said(Reply::NotSent(why)),
+            Err(why) => Answer::Told(Said::NotSent(why)),
         },
         Typed::Order => match client.order_roll() {
-            Ok(()) => Answer::Said(Reply::Ordered),
-            Err(why) => Answer::Said(Reply::Refused(why)),
+            Ok(()) => Answer::Told(Said::Ordered),
+            Err(why) => Answer::Told(Said::Refused(why)),
         },
         Typed::Withdrawal => match client.withdraw_roll() {
-            Ok(()) => Answer::Said(Reply::Withdrawn),
-            Err(why) => Answer::Said(Reply::Refused(why)),
+            Ok(()) => Answer::Told(Said::Withdrawn),
+            Err(why) => Answer::Told(Said::Refused(why)),
         },
-        Typed::Unknown => Answer::Said(Reply::Unknown),
+        Typed::Unknown => Answer::Told(Said::Unknown),
     }
 }
 
@@ -138,75 +141,51 @@ fn answer_text(client: &mut Client, text: &[u8]) -> Answer
     answer_typed(client, &typed)
 }
 
-/// Prints what is said where nothing is sent.
-fn print_reply<W: Write>(reply: Reply, out: &mut W) -> Result<(), ExchangeFault>
-    ensures { OnOk result (Appends (W.contents out.old) (W.contents out.new) (line_bytes (reply_line reply))) }
-{
-    match reply {
-        Reply::Ordered => print_line(b"ordered", b"", out),
-        Reply::Withdrawn => print_line(b"withdrawn", b"", out),
-        Reply::Refused(why) => print_reason(b"refused ", why.number(), why, out),
-        Reply::NotSent(why) => print_reason(plain_label(why), why.number(), why, out),
-        Reply::Unknown => print_line(b"unknown", b"", out),
-    }
-}
-
-/// What a refusal of a plain command is called: a fault is the command's own.
-fn plain_label(why: PlainRefusal) -> &'static [u8]
-    ensures value { result.now ≡ plain_label why }
-    ensures short { length result.now ≤ 8 }
-{
-    match why {
-        PlainRefusal::Offline | PlainRefusal::NotOn => b"refused ",
-        PlainRefusal::Fault(_) => b"fault ",
-    }
-}
-
-/// Does what a typed line asks for: its command is written, and then printed as sent.
-pub(super) fn type_line<S: Link, W: Write>(
+/// Does what a typed line asks for: its command is written, and then told as sent.
+pub(super) fn type_line<S: Link, F: Front>(
     client: &mut Client,
     text: &[u8],
     stream: &mut S,
-    out: &mut W,
+    front: &mut F,
 ) -> Result<(), TurnFault>
     ensures stands { (t : Talk) → StandsAfter client.old t →
         StandsAfter client.new (typed_step t (typed_now t text.now)).talk }
     ensures did { IfPrinted result (λ p. (t : Talk) → StandsAfter client.old t → (players : List MessageValue) →
-        Did (outside (S.contents stream.old) (W.contents out.old) players)
-        (outside (S.contents stream.new) (W.contents out.new) players) (typed_act t (typed_now t text.now) ∷ []) p) }
+        Did F.tells (outside (S.contents stream.old) front.old players)
+        (outside (S.contents stream.new) front.new players) (typed_act t (typed_now t text.now) ∷ []) p) }
     ensures stopped { IfUnprinted result ((t : Talk) → StandsAfter client.old t →
         Appends (S.contents stream.old) (S.contents stream.new) (typed_act t (typed_now t text.now)).writes) }
     ensures apart { Keeps (S.remaining stream.old) (S.remaining stream.new) }
 {
     match answer_text(client, text) {
-        Answer::Said(reply) => {
-            print_reply(reply, out)?;
+        Answer::Told(said) => {
+            front.tell(&said)?;
             Ok(())
         }
         Answer::Sent(command) => {
             send_command(&command, stream)?;
-            print_line(b"sent ", text_bytes(&command), out)?;
+            front.tell(&Said::Sent(&command))?;
             Ok(())
         }
     }
 }
 
 /// The same offline, where the client sends nothing.
-pub(super) fn type_offline<W: Write>(
+pub(super) fn type_offline<F: Front>(
     client: &mut Client,
     text: &[u8],
-    out: &mut W,
+    front: &mut F,
 ) -> Result<(), ExchangeFault>
     requires { FitsStream client.old false }
     ensures stands { (t : Talk) → StandsAfter client.old t →
         StandsAfter client.new (typed_step t (typed_now t text.now)).talk }
     ensures did { OnOk result ((t : Talk) → StandsAfter client.old t →
         (wrote : Option (List ℕ)) → (players : List MessageValue) →
-        Did (outside wrote (W.contents out.old) players) (outside wrote (W.contents out.new) players)
+        Did F.tells (outside wrote front.old players) (outside wrote front.new players)
         (typed_act t (typed_now t text.now) ∷ []) Whole) }
 {
     match answer_text(client, text) {
-        Answer::Said(reply) => print_reply(reply, out),
+        Answer::Told(said) => front.tell(&said),
         Answer::Sent(_) => unreachable!(),
     }
 }

@@ -9,8 +9,8 @@ loop-init g c = (
       (g.R.Read.remaining c.args.typed.now) refl,
 )
 
-pub returns-in_err-flush-clause-spends : goal.returns-in_err-flush-clause-spends
-returns-in_err-flush-clause-spends g c = c.loop.invariant.1
+pub returns-in_err-rest-clause-spends : goal.returns-in_err-rest-clause-spends
+returns-in_err-rest-clause-spends g c = c.loop.invariant.1
 
 pub returns-in_err-read_line-clause-spends : goal.returns-in_err-read_line-clause-spends
 returns-in_err-read_line-clause-spends g c =
@@ -24,8 +24,8 @@ pub returns-in_err-answer-clause-spends : goal.returns-in_err-answer-clause-spen
 returns-in_err-answer-clause-spends g c =
     spends_more c.args.lines.now c.loop.lines c.read_line.new.self _ _ _ c.loop.invariant.1 c.read_line.ensures.spends
 
-pub returns-in_err-flush-in-Away-clause-spends : goal.returns-in_err-flush-in-Away-clause-spends
-returns-in_err-flush-in-Away-clause-spends g c =
+pub returns-in_err-rest-in-Away-clause-spends : goal.returns-in_err-rest-in-Away-clause-spends
+returns-in_err-rest-in-Away-clause-spends g c =
     spends_more c.args.lines.now c.loop.lines c.read_line.new.self _ _ _ c.loop.invariant.1 c.read_line.ensures.spends
 
 pub returns-in-Away-clause-spends : goal.returns-in-Away-clause-spends
@@ -40,3 +40,7 @@ loop-preserved g c = (
 
 pub returns-clause-spends : goal.returns-clause-spends
 returns-clause-spends g c = c.loop.invariant.1
+
+pub returns-in_err-wish-clause-spends : goal.returns-in_err-wish-clause-spends
+returns-in_err-wish-clause-spends g c =
+    spends_more c.args.lines.now c.loop.lines c.read_line.new.self _ _ _ c.loop.invariant.1 c.read_line.ensures.spends

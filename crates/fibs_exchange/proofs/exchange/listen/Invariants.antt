@@ -10,7 +10,7 @@ use Rattle.fibs_exchange.proofs.exchange.listen.Given as goal
 abbrev pub invariant-loop-made : goal.invariant-loop-made
 invariant-loop-made g l = (read : List ℕ)
     × Consumes (g.S.Read.remaining l.initial.stream) (g.S.Read.remaining l.stream) read
-    × ((t : Talk) → StandsAfter l.initial.client t → Gone t l.client read
-    (outside (g.S.Write.contents l.initial.stream) (g.W.Write.contents l.initial.out) l.initial.directory)
-    (outside (g.S.Write.contents l.stream) (g.W.Write.contents l.out) l.directory))
+    × ((t : Talk) → StandsAfter l.initial.client t → Gone g.F.Front.tells t l.client read
+    (outside (g.S.Write.contents l.initial.stream) l.initial.front l.initial.directory)
+    (outside (g.S.Write.contents l.stream) l.front l.directory))
     × (length read ≤ l.made * 1024) × (length l.portion ≡ 1024)

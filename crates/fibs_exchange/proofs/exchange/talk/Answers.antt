@@ -1,4 +1,4 @@
-use Rattle.std.proofs.Common.{◌≡◌, true, sym, ap, subst, ◌∙◌, Some, None}
+use Rattle.std.proofs.Common.{◌∙◌}
 use Rattle.fibs_show.specs.Writing.{Broken}
 use Rattle.fibs_exchange.specs.Turns.Typing.{typed_now, typed_step}
 use Rattle.fibs_exchange.proofs.TurnLemmas.Wrote.{if_ok_weaker}
@@ -14,7 +14,7 @@ returns-in-Ok-clause-turned g c =
     (λ e h t at on.
     let text = c.in-Some.text.now in
     let v = typed_now t text in
-    turned_typed e t _ text _ _ _ _ _ _ on c.type_line.ensures.apart (c.in-Ok.ensures.did t at c.args.directory.now)
+    turned_typed g.met.F.Front.joins e t _ text _ _ _ _ _ _ on c.type_line.ensures.apart (c.in-Ok.ensures.did t at c.args.directory.now)
     (h (typed_step t v).talk (c.type_line.ensures.stands t at)
     ((typed_stays t v).online ∙ on))) c.listen-in-Ok.ensures.turned)
 
@@ -23,7 +23,7 @@ returns-in-Err-Stream-clause-turned g c =
     rw c.in-Some.is (if_ok_weaker c.end_connection.result
     (λ e h t at on.
     let text = c.in-Some.text.now in
-    turned_broken e t _ text _ _ _ _ _ on c.empty_piece_is_nothing.ensures c.type_line.ensures.apart
+    turned_broken g.met.F.Front.joins e t _ text _ _ _ _ _ on c.empty_piece_is_nothing.ensures c.type_line.ensures.apart
     ((rw c.in-Err-Stream.field-0-is at c.in-Err-Stream.ensures.did) t at c.args.directory.now)
     (h Broken (typed_step t (typed_now t text)).talk
     (c.type_line.ensures.stands t at) _ _)) c.end_connection.ensures.ended)

@@ -5,11 +5,11 @@ use Rattle.fibs_exchange.proofs.exchange.talk_offline.Goals as goal
 
 pub returns-in-None-clause-turned : goal.returns-in-None-clause-turned
 returns-in-None-clause-turned g c = λ t at off players. rw c.in-None.is
-    (turned_nothing t _ _ c.empty_piece_is_nothing.ensures at)
+    (turned_nothing g.met.F.Front.joins t _ _ c.empty_piece_is_nothing.ensures at)
 
 pub returns-in_ok-type_offline-in-Some-clause-turned : goal.returns-in_ok-type_offline-in-Some-clause-turned
 returns-in_ok-type_offline-in-Some-clause-turned g c = λ t at off players.
-    rw c.in-Some.is (turned_offline t _ c.in-Some.text.now _ _ c.empty_piece_is_nothing.ensures
+    rw c.in-Some.is (turned_offline g.met.F.Front.joins t _ c.in-Some.text.now _ _ c.empty_piece_is_nothing.ensures
     (c.type_offline.ensures.stands t at)
     (c.in_ok-type_offline-in-Some.ensures.did t at None players))
 

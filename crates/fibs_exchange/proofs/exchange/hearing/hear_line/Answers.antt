@@ -1,13 +1,11 @@
 use Rattle.std.proofs.Common.{refl, subst}
 use Rattle.std.specs.Io.KnownBytes.{Appends}
-use Rattle.std.proofs.KnownBytes.{Appends-trans}
 use Rattle.fibs_session.specs.History.Machine.{wire_of}
 use Rattle.fibs_session.specs.Calls.SessionOf.{texts_of, taken_of}
 use Rattle.fibs_show.specs.Writing.{Wrote}
 use Rattle.fibs_show.specs.Writing.{Whole, Broken}
-use Rattle.fibs_exchange.specs.Turns.Acts.{text_of_lines}
 use Rattle.fibs_exchange.specs.Turns.Lines.{taken_act}
-use Rattle.fibs_exchange.specs.Turns.Script.{directory_lines}
+use Rattle.fibs_exchange.specs.Turns.Script.{directory_told}
 use Rattle.fibs_exchange.proofs.TurnLemmas.Scripts.{did_act, did_part}
 use Rattle.fibs_exchange.proofs.TurnLemmas.Faults.{at_stream, at_output, on_any_unprinted, printed_at_stream}
 use Rattle.fibs_exchange.proofs.exchange.hearing.hear_line.Goals as goal
@@ -15,7 +13,7 @@ use Rattle.fibs_exchange.proofs.exchange.hearing.hear_line.Goals as goal
 pub returns-in_err-send_commands-clause-did : goal.returns-in_err-send_commands-clause-did
 returns-in_err-send_commands-clause-did g c =
     at_stream c.from_residual.result _ c.from_residual.ensures.1
-    (did_part _ _ (taken_act (taken_of c.args.taken.now))
+    (did_part g.met.F.Front.joins _ _ (taken_act (taken_of c.args.taken.now))
     (subst (λ l. Wrote Broken (g.S.Write.contents c.args.stream.now) (g.S.Write.contents c.send_commands.new.stream)
     (wire_of (texts_of l))) c.as_slice.ensures.value c.in_err-send_commands.ensures.wrote) refl refl)
 
@@ -23,15 +21,15 @@ pub returns-clause-did : goal.returns-clause-did
 returns-clause-did g c =
     let act = taken_act (taken_of c.args.taken.now) in
     let note = c.in_ok-note_taken.ensures in
-    did_act _ _ act note.0
+    let joins = g.met.F.Front.joins in
+    did_act joins _ _ act note.0
     (subst (λ l. Wrote Whole (g.S.Write.contents c.args.stream.now) (g.S.Write.contents c.send_commands.new.stream)
     (wire_of (texts_of l))) c.as_slice.ensures.value c.in_ok-send_commands.ensures.wrote)
-    (Appends-trans _ _ _ (text_of_lines act.prints)
-    (text_of_lines (directory_lines note.0)) c.in_ok-print_taken.ensures note.1) note.2
+    (joins.joined _ _ _ act.tells (directory_told note.0) c.in_ok-tell_taken.ensures note.1) note.2
 
-pub returns-in_err-print_taken-clause-stopped : goal.returns-in_err-print_taken-clause-stopped
-returns-in_err-print_taken-clause-stopped g c =
-    on_any_unprinted c.from_residual-in_err-print_taken.result
+pub returns-in_err-tell_taken-clause-stopped : goal.returns-in_err-tell_taken-clause-stopped
+returns-in_err-tell_taken-clause-stopped g c =
+    on_any_unprinted c.from_residual-in_err-tell_taken.result
     (subst (λ l. Appends (g.S.Write.contents c.args.stream.now) (g.S.Write.contents c.send_commands.new.stream)
     (wire_of (texts_of l))) c.as_slice.ensures.value c.in_ok-send_commands.ensures.wrote)
 
@@ -46,9 +44,9 @@ returns-in_err-send_commands-clause-stopped g c = printed_at_stream c.from_resid
     (Appends (g.S.Write.contents c.args.stream.now) (g.S.Write.contents c.send_commands.new.stream)
     (taken_act (taken_of c.args.taken.now)).writes) c.from_residual.ensures.1
 
-pub returns-in_err-print_taken-clause-did : goal.returns-in_err-print_taken-clause-did
-returns-in_err-print_taken-clause-did g c =
-    at_output c.from_residual-in_err-print_taken.result _ c.from_residual-in_err-print_taken.ensures.1
+pub returns-in_err-tell_taken-clause-did : goal.returns-in_err-tell_taken-clause-did
+returns-in_err-tell_taken-clause-did g c =
+    at_output c.from_residual-in_err-tell_taken.result _ c.from_residual-in_err-tell_taken.ensures.1
 
 pub returns-in_err-note_taken-clause-did : goal.returns-in_err-note_taken-clause-did
 returns-in_err-note_taken-clause-did g c =

@@ -1,15 +1,15 @@
-use Rattle.std.proofs.Common.{◌≡◌, ◌++◌, ◌<◌, ◌≤◌, ℕ, List, [], ◌∷◌, length, take, drop, Option, Some, None, arith}
+use Rattle.std.proofs.Common.{◌≡◌, ◌++◌, ◌<◌, ◌≤◌, ℕ, List, [], ◌∷◌, length, take, drop, Some, arith}
 use Rattle.std.proofs.Common.{length-take, refl, sym, ap, subst, ◌∙◌, append-nil}
 use Rattle.std.proofs.lemmas.List.{take_rest}
 use Rattle.std.proofs.KnownBytes.{Keeps-refl, Keeps-trans}
 use Rattle.std.specs.Prelude.{option_map}
 use Rattle.std.specs.Io.KnownBytes.{Appends, Keeps}
-use Rattle.fibs_session.specs.History.Machine.{Talk, Piece, step}
+use Rattle.fibs_session.specs.History.Machine.{Piece, step}
 use Rattle.fibs_session.specs.Calls.Feeding.{FeedAnswers, Shows}
 use Rattle.fibs_session.specs.Calls.SessionOf.{taken_of}
 use Rattle.fibs_exchange.specs.Turns.Lines.{taken_act, piece_acts}
 use Rattle.fibs_exchange.specs.Turns.Script.{Did, outside, calls_of}
-use Rattle.fibs_show.specs.Writing.{Whole, Broken}
+use Rattle.fibs_show.specs.Writing.{Whole}
 use Rattle.fibs_exchange.proofs.TurnLemmas.Wrote.{front_more}
 use Rattle.fibs_exchange.proofs.TurnLemmas.Scripts.{did_nothing}
 use Rattle.fibs_exchange.proofs.TurnLemmas.Hearing.{taken_acts, acts_taken, taken_online, ends_taken, piece_online}
@@ -23,15 +23,15 @@ long : (n : ℕ) (xs : List ℕ) → 0 < n → n ≤ length xs → 0 < length (t
 long n xs h k = omega (arith, h, k, length-take n xs)
 
 pub loop-rest-init : goal.loop-rest-init
-loop-rest-init g c = ([], refl, λ t at. gone_nothing c.empty_piece_is_nothing.ensures t _ _ at, Keeps-refl _)
+loop-rest-init g c = ([], refl, λ t at. gone_nothing g.met.F.Front.joins c.empty_piece_is_nothing.ensures t _ _ at, Keeps-refl _)
 
 pub returns-in_err-hear_line-in-Some-clause-talked : goal.returns-in_err-hear_line-in-Some-clause-talked
 returns-in_err-hear_line-in-Some-clause-talked g c =
     printed_on c.from_residual.result
-    (λ p. Did (outside (g.S.Write.contents c.loop-rest.stream)
-    (g.W.Write.contents c.loop-rest.out) c.loop-rest.directory)
+    (λ p. Did g.F.Front.tells (outside (g.S.Write.contents c.loop-rest.stream)
+    c.loop-rest.front c.loop-rest.directory)
     (outside (g.S.Write.contents c.hear_line.new.stream)
-    (g.W.Write.contents c.hear_line.new.out) c.hear_line.new.directory)
+    c.hear_line.new.front c.hear_line.new.directory)
     (taken_act (taken_of c.in-Some.taken) ∷ []) p) _ _ c.from_residual.ensures.1
     (λ did t at.
     let i = c.loop-rest.invariant in
@@ -43,7 +43,7 @@ returns-in_err-hear_line-in-Some-clause-talked g c =
     let shown = subst (λ x. Shows c.read-heard.new.self c.read-heard.result (option_map taken_of x)) c.in-Some.is
     (c.got-got.ensures.shows c.read-heard.ensures.keeps) in
     let fed : FeedAnswers c.loop-rest.client rest used (Some k) = c.read-heard.ensures.answers (Some k) shown in
-    broke_at c.pieces_join.ensures c.lines_only_grow.ensures t c.read-heard.new.self i.0 (take used rest)
+    broke_at g.met.F.Front.joins c.pieces_join.ensures c.lines_only_grow.ensures t c.read-heard.new.self i.0 (take used rest)
     (drop used rest) c.args.portion.now (taken_act k ∷ []) _ _ _
     (front_more c.args.portion.now i.0 rest used i.1)
     (sym (piece_online t i.0) ∙ taken_online c.loop-rest.client rest used k fed u gone.stands) gone.did
@@ -92,13 +92,13 @@ loop-rest-preserved g c =
     let shown = c.got-got.ensures.shows c.read-heard.ensures.keeps in
     let fed : FeedAnswers c.loop-rest.client rest h taken = c.read-heard.ensures.answers taken shown in
     let before = outside (g.S.Write.contents c.loop-rest.stream)
-    (g.W.Write.contents c.loop-rest.out) c.loop-rest.directory in
+    c.loop-rest.front c.loop-rest.directory in
     let now = outside (g.S.Write.contents c.match-got.stream)
-    (g.W.Write.contents c.match-got.out) c.match-got.directory in
-    let did : Did before now (taken_acts taken) Whole = elim c.match-got.branch [
+    c.match-got.front c.match-got.directory in
+    let did : Did g.F.Front.tells before now (taken_acts taken) Whole = elim c.match-got.branch [
       | in-Some+in_ok-hear_line-in-Some w ↦ rw
-          (w.directory-is, w.stream-is, w.out-is, w.in-Some.is) w.in_ok-hear_line-in-Some.ensures.did
-      | in-None w ↦ rw (w.directory-is, w.stream-is, w.out-is, w.in-None.is) (did_nothing _)
+          (w.directory-is, w.stream-is, w.front-is, w.in-Some.is) w.in_ok-hear_line-in-Some.ensures.did
+      | in-None w ↦ rw (w.directory-is, w.stream-is, w.front-is, w.in-None.is) (did_nothing g.met.F.Front.joins _)
     ] in
     let apart : Keeps (g.S.Read.remaining c.loop-rest.stream) (g.S.Read.remaining c.match-got.stream) =
     elim c.match-got.branch [
@@ -112,7 +112,7 @@ loop-rest-preserved g c =
           let gone = i.2 t at in
           let u = (step t (Piece i.0)).talk in
           rw c.got-got.ensures.used
-          (gone_more c.pieces_join.ensures c.lines_only_grow.ensures t c.read-heard.new.self i.0 (take h rest)
+          (gone_more g.met.F.Front.joins c.pieces_join.ensures c.lines_only_grow.ensures t c.read-heard.new.self i.0 (take h rest)
           (taken_acts taken) _ before now gone.did
           (c.read-heard.ensures.does.stands u gone.stands)
           (acts_taken c.loop-rest.client rest h taken fed u gone.stands) did),

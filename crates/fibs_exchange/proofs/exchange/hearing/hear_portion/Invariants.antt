@@ -9,9 +9,9 @@ use Rattle.fibs_exchange.proofs.exchange.hearing.hear_portion.Given as goal
 -- a front is fed, and what its lines call for is done
 abbrev pub invariant-loop-rest : goal.invariant-loop-rest
 invariant-loop-rest g l = (front : List ℕ) × (l.portion ≡ front ++ l.rest)
-    × ((t : Talk) → StandsAfter l.initial.client t → Gone t l.client front
-    (outside (g.S.Write.contents l.initial.stream) (g.W.Write.contents l.initial.out) l.initial.directory)
-    (outside (g.S.Write.contents l.stream) (g.W.Write.contents l.out) l.directory))
+    × ((t : Talk) → StandsAfter l.initial.client t → Gone g.F.Front.tells t l.client front
+    (outside (g.S.Write.contents l.initial.stream) l.initial.front l.initial.directory)
+    (outside (g.S.Write.contents l.stream) l.front l.directory))
     × Keeps (g.S.Read.remaining l.initial.stream) (g.S.Read.remaining l.stream)
 
 abbrev pub decreases-loop-rest : goal.decreases-loop-rest
