@@ -1,14 +1,16 @@
 -- What the engines answer, in the words of the program.
 use Rattle.std.proofs.Common.{◌≡◌, ◌⊎◌, ◌++◌, ◌∷◌, [], ℕ, List, Option, Result, Ok, Err, IfOk, OnOk, IsErrOf}
-use Rattle.std.proofs.Common.{MatchResult, refl, sym, subst}
+use Rattle.std.proofs.Common.{Some, None, MatchResult, refl, sym, subst, inl, arith}
+use Rattle.std.proofs.KnownBytes.{Keeps-refl}
 use Rattle.std.specs.Borrow.{Bor}
 use Rattle.std.specs.Io.KnownBytes.{Appends, Keeps, IsAtEnd}
 use Rattle.fibs_boards.specs.Board.{BoardFields}
-use Rattle.fibs_loop.specs.Looping.{EndsScript}
 use Rattle.fibs_show.specs.Plays.{PlaysText}
-use Rattle.fibs_cli.specs.Program.{Streams, Showed, Listed, Played, RanScript, Served}
+use Rattle.fibs_cli.specs.Program.{Streams, Showed, Listed, Played, RanScript, PlayedScript, Served}
 use Rattle.fibs_show.specs.Printing.{Printed}
-use Rattle.fibs_replay.specs.Replay.Output.{Replayed, ReplayFailed, ReplayedInPart}
+use Rattle.fibs_replay.specs.Replay.Output.{LoggedInPart, Replayed, ReplayFailed, ReplayedInPart}
+use Rattle.fibs_replay.specs.Replay.Scripts.{script_limit}
+use Rattle.fibs_show.specs.Reads.{LostAtMost}
 use Rattle.fibs_show.specs.Show.{WroteAll, WroteRead, WroteLines, WroteFront}
 use Rattle.fibs_show.specs.Writing.{GainedFront}
 use Rattle.fibs_cli.specs.declared.arguments.Request.{Request}
@@ -68,5 +70,22 @@ served_plays request line r a b is played kept = subst (λ q. Served q r a b) (s
 
 -- a request to play a script over sockets is served so
 pub served_loop : (request : Request) (r : Result ℕ EngineFault) (a b : Streams)
-    → request ≡ Loop → EndsScript r → Keeps a.err b.err → Served request r a b
-served_loop request r a b is ends kept = subst (λ q. Served q r a b) (sym is) (ends, kept)
+    → request ≡ Loop → PlayedScript r a.input b.input a.out b.out → Keeps a.err b.err → Served request r a b
+served_loop request r a b is played kept = subst (λ q. Served q r a b) (sym is) (played, kept)
+
+-- the clauses of `play_loop` in one
+pub played_script : (r : Result ℕ EngineFault) (left still held now : Option (List ℕ))
+    → IfOk r (λ status. Replayed status left still held now)
+    → (IsErrOf r Device → ReplayFailed left still held now ⊎ LoggedInPart left still held now)
+    → (IsErrOf r Memory → ReplayedInPart left still held now) → PlayedScript r left still held now
+played_script (Ok status) left still held now done device memory = done
+played_script (Err Device) left still held now done device memory = device refl
+played_script (Err Memory) left still held now done device memory = memory refl
+
+-- nothing is read and nothing printed
+reads_nothing : (left : Option (List ℕ)) → LostAtMost script_limit left left
+reads_nothing None = ([], omega arith, tt)
+reads_nothing (Some bytes) = ([], omega arith, refl)
+
+pub not_begun : (left held : Option (List ℕ)) → PlayedScript (Err Device) left left held held
+not_begun left held = inl (inl (reads_nothing left, Keeps-refl held))

@@ -6,9 +6,8 @@ use Rattle.fibs_boards.specs.Board.{BoardFields}
 use Rattle.fibs_messages.specs.Line.{ReadingValue, board_line, IsReading}
 use Rattle.fibs_position.specs.GoodBoard.{IsGood}
 use Rattle.fibs_connect.specs.Converse.Ending.{Conversed}
-use Rattle.fibs_loop.specs.Looping.{EndsScript}
 use Rattle.fibs_show.specs.Plays.{PlaysText, Refusal}
-use Rattle.fibs_replay.specs.Replay.Output.{Replayed, ReplayFailed, ReplayedInPart}
+use Rattle.fibs_replay.specs.Replay.Output.{LoggedInPart, Replayed, ReplayFailed, ReplayedInPart}
 use Rattle.fibs_show.specs.Show.{WroteAll, WroteRead, WroteLines, WroteFront}
 use Rattle.fibs_show.specs.Printing.{Printed}
 use Rattle.fibs_show.specs.Writing.{GainedFront}
@@ -58,13 +57,20 @@ RanScript (Ok status) a b = Replayed status a.input b.input a.out b.out
 RanScript (Err fault.Device) a b = ReplayFailed a.input b.input a.out b.out
 RanScript (Err fault.Memory) a b = ReplayedInPart a.input b.input a.out b.out
 
+-- the engine `loop` answered so: as `replay`; but a socket may also have failed, and then the log so far was printed
+abbrev pub PlayedScript : Result ℕ EngineFault → (left still held now : Option (List ℕ)) → Type 0
+PlayedScript (Ok status) left still held now = Replayed status left still held now
+PlayedScript (Err fault.Device) left still held now =
+    ReplayFailed left still held now ⊎ LoggedInPart left still held now
+PlayedScript (Err fault.Memory) left still held now = ReplayedInPart left still held now
+
 -- an engine answered so for a request
 abbrev pub Served : Request → Result ℕ EngineFault → Streams → Streams → Type 0
 Served Show result a b = Showed result a b × Keeps a.err b.err
 Served (Plays line) result a b = Played line.now result a b × Keeps a.input b.input
 Served Replay result a b = RanScript result a b × Keeps a.err b.err
 Served (Connect host port name password_file) result a b = Conversed name.now result a.input a.out b.out a.err b.err
-Served Loop result a b = EndsScript result × Keeps a.err b.err
+Served Loop result a b = PlayedScript result a.input b.input a.out b.out × Keeps a.err b.err
 
 -- a command line is answered so: help is printed on standard output with status 0, and what is wrong with it on
 -- standard error with status 2

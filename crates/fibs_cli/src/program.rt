@@ -1,9 +1,8 @@
 //! What the program does with a command line: which engine runs on which devices, what is printed, and the exit status.
 ghost use Rattle.std.specs.Prelude.{◌≡◌};
-ghost use Rattle.fibs_cli.specs.Program.{Answered, SaysWhy, Served, fault_line, status_of, streams};
+ghost use Rattle.fibs_cli.specs.Program.{Answered, PlayedScript, SaysWhy, Served, fault_line, status_of, streams};
 ghost use Rattle.fibs_show.specs.Printing.{Printed};
 ghost use Rattle.fibs_show.specs.Status.{code_of};
-ghost use Rattle.fibs_loop.specs.Looping.{EndsScript};
 
 use crate::arguments::{Answer, Request};
 use fibs_connect::connect::converse_at;
@@ -81,7 +80,8 @@ fn play_here<N: Net<Listener = TcpListener, Stream = TcpStream>, R: Read, W: Wri
     input: &mut R,
     out: &mut W,
 ) -> Result<u8, EngineFault>
-    ensures { EndsScript result }
+    ensures { PlayedScript result (R.remaining input.old) (R.remaining input.new)
+        (W.contents out.old) (W.contents out.new) }
 {
     match TcpListener::bind(rt, "127.0.0.1:0") {
         Ok(listener) => play_loop(rt, alloc, &listener, input, out),

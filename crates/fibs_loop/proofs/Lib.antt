@@ -1,5 +1,1 @@
-pub mod Talks
-pub mod Pieces
-pub mod Inboxes
-pub mod Takings
-pub mod Playing
+pub mod Portions

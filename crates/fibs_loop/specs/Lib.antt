@@ -1,7 +1,1 @@
-pub mod Looping
-pub mod TableOf
-pub mod Answers
-pub mod Events
-pub mod Notes
-pub mod Hearing
-pub mod Serving
+pub mod Ways

@@ -1,34 +1,18 @@
 //! `fibs loop`: a script of events, played by a client and a model server over real sockets.
-ghost use Rattle.fibs_show.specs.Status.{code_of};
-ghost use Rattle.std.specs.Prelude.{◌≡◌, ◌≤◌, ◌<◌, ◌^◌, List, length, IfOk};
-ghost use Rattle.fibs_boards.specs.Board.{BoardFields};
-ghost use Rattle.fibs_model.specs.Events.{Event};
-ghost use Rattle.fibs_loop.specs.Looping.{EndsScript};
-ghost use Rattle.fibs_replay.specs.Replay.Limits.{write_len};
-ghost use Rattle.fibs_replay.specs.Replay.Scripts.{SayEvents, SayScript, script_lines};
+ghost use Rattle.std.specs.Prelude.{◌+◌, ◌⊎◌, IfOk, IsErrOf};
+ghost use Rattle.fibs_show.specs.Reads.{LostAtMost};
+ghost use Rattle.fibs_replay.specs.Replay.Limits.{read_len};
+ghost use Rattle.fibs_replay.specs.Replay.Output.{LoggedInPart, Replayed, ReplayedInPart, ReplayFailed};
+ghost use Rattle.fibs_replay.specs.Replay.Scripts.{script_limit};
 
-mod hearing;
-mod queue;
 mod sockets;
-mod stop;
-mod table;
 
-use bstr::Lines;
-use fibs_model::Entry;
-use fibs_replay::replay::events::read_event;
-use fibs_replay::replay::first_board;
-use fibs_replay::replay::input::read_script;
-use fibs_replay::replay::limits::READ_LEN;
-use fibs_replay::replay::output::{end_line, print_log, refused_line, unread_line};
-use fibs_replay::replay::run::script_login;
-use fibs_replay::replay::script::{first_unreadable, script_lines};
+use fibs_replay::replay::replay_over;
 use fibs_show::fault::EngineFault;
-use fibs_show::status::Status;
+use sockets::{BothEnds, Sockets};
 use std::alloc::Global;
 use std::io::{Read, Write};
 use std::net::{Net, TcpListener, TcpStream};
-use stop::Stop;
-use table::Table;
 
 /// Reads a script and plays it: a client at one end of a connection and a model server at the other, in turn, over a
 /// socket to the listener for each connection that is opened. It prints what `replay` prints, and has its status.
@@ -45,96 +29,18 @@ pub fn play_loop<N: Net<Stream = TcpStream>, R: Read, W: Write>(
     reader: &mut R,
     writer: &mut W,
 ) -> Result<u8, EngineFault>
-    ensures { EndsScript result }
+    ensures done { IfOk result (λ status.
+        Replayed status (R.remaining reader.old) (R.remaining reader.new)
+        (W.contents writer.old) (W.contents writer.new)) }
+    ensures device { IsErrOf result EngineFault.Device →
+        ReplayFailed (R.remaining reader.old) (R.remaining reader.new) (W.contents writer.old) (W.contents writer.new)
+        ⊎ LoggedInPart (R.remaining reader.old) (R.remaining reader.new)
+        (W.contents writer.old) (W.contents writer.new) }
+    ensures memory { IsErrOf result EngineFault.Memory →
+        ReplayedInPart (R.remaining reader.old) (R.remaining reader.new)
+        (W.contents writer.old) (W.contents writer.new) }
+    ensures few { LostAtMost (script_limit + read_len) (R.remaining reader.old) (R.remaining reader.new) }
 {
-    match read_script(alloc, &mut [0; READ_LEN], reader)? {
-        None => finish(&[], &unread_line(0), Status::Refused, writer),
-        Some(script) => match first_unreadable(script.as_slice()) {
-            Some(number) => finish(&[], &unread_line(number), Status::Refused, writer),
-            None => play_script(rt, alloc, listener, script.as_slice(), writer),
-        },
-    }
-}
-
-/// Prints the log and a last line, and answers the status.
-fn finish<W: Write>(
-    log: &[Entry],
-    last: &[u8],
-    status: Status,
-    writer: &mut W,
-) -> Result<u8, EngineFault>
-    requires { length last.now ≤ write_len }
-    ensures { IfOk result (λ s. s ≡ code_of status) }
-{
-    print_log(log, last, writer)?;
-    Ok(status.code())
-}
-
-/// Plays a script whose lines are readable.
-fn play_script<N: Net<Stream = TcpStream>, W: Write>(
-    rt: &N,
-    alloc: Global,
-    listener: &TcpListener,
-    script: &[u8],
-    writer: &mut W,
-) -> Result<u8, EngineFault>
-    requires short { length script.now < 2 ^ 63 }
-    requires readable { (b : BoardFields) × (events : List Event) × SayScript (script_lines script.now) b events }
-    ensures { EndsScript result }
-{
-    let mut lines = script_lines(script);
-    let board = match first_board(&mut lines) {
-        Some(board) => board,
-        None => unreachable!(),
-    };
-    match Table::new(alloc, board, script_login()) {
-        Err(why) => finish(&[], &refused_line(0, why), Status::Refused, writer),
-        Ok(mut table) => {
-            let (done, stop) = play_lines(&mut table, rt, listener, &mut lines);
-            print_end(table.log(), done, stop, writer)
-        }
-    }
-}
-
-/// Does the events that the lines say, up to the first at which it stops. Says how many it did.
-fn play_lines<N: Net<Stream = TcpStream>>(
-    table: &mut Table,
-    rt: &N,
-    listener: &TcpListener,
-    lines: &mut Lines<'_>,
-) -> (usize, Option<Stop>)
-    requires few { length lines.old < 2 ^ 63 }
-    requires readable { (events : List Event) × SayEvents lines.old events }
-{
-    let mut done = 0;
-    while let Some(line) = lines.next() {
-        let event = match read_event(line) {
-            Some(event) => event,
-            None => unreachable!(),
-        };
-        match table.step(rt, listener, &event) {
-            Ok(()) => done += 1,
-            Err(stop) => return (done, Some(stop)),
-        }
-    }
-    (done, None)
-}
-
-/// Prints the log and how the script ended, and answers the status. After a fault it prints the log alone.
-fn print_end<W: Write>(
-    log: &[Entry],
-    done: usize,
-    stop: Option<Stop>,
-    writer: &mut W,
-) -> Result<u8, EngineFault>
-    ensures { EndsScript result }
-{
-    match stop {
-        None => finish(log, &end_line(done), Status::Done, writer),
-        Some(Stop::Refused(why)) => finish(log, &refused_line(done, why), Status::Refused, writer),
-        Some(Stop::Fault(fault)) => {
-            finish(log, b"", Status::Done, writer)?;
-            Err(fault)
-        }
-    }
+    let mut carrier = BothEnds::new(Sockets::new(rt, listener));
+    replay_over(&mut carrier, alloc, reader, writer)
 }

@@ -8,6 +8,7 @@ pub mod Asking
 pub mod Sending
 pub mod Taking
 pub mod Serving
+pub mod Crossing
 pub mod Hearing
 pub mod Delivering
 pub mod Stepping

@@ -5,6 +5,7 @@ pub mod ServerOf
 pub mod Events
 pub mod EventOf
 pub mod EntryOf
+pub mod Carrying
 pub mod World
 pub mod Refusals
 pub mod Runs
@@ -20,6 +21,7 @@ pub mod WireOf
 pub mod LinksOf
 pub mod WireLinks
 pub mod WorldOf
+pub mod Crossings
 pub mod Calls
 pub mod HearingOf
 pub mod WorldCalls

@@ -8,6 +8,8 @@ use Rattle.fibs_model.specs.Refusals.{refusal}
 use Rattle.fibs_model.specs.Runs.{MayBe, world_after}
 use Rattle.fibs_model.specs.World.{World}
 use Rattle.fibs_model.specs.WorldOf.{WorldValue, StandsFor}
+use Rattle.fibs_model.specs.declared.halt.Stop.{Stop}
+use Rattle.fibs_model.specs.declared.halt.Stop.TheVariants.{Refused, Broken}
 use Rattle.fibs_model.specs.declared.refusal.WorldRefusal.{WorldRefusal}
 use Rattle.fibs_model.specs.declared.refusal.WorldRefusal.TheVariants.{Memory}
 
@@ -36,6 +38,12 @@ abbrev pub Agrees : Option WorldRefusal → Option WorldRefusal → Type 0
 Agrees None answer = answer ≡ None
 Agrees (Some why) answer = Tells why answer
 
+-- the same of an event that goes over a carrier, which breaks only where the table refuses nothing
+abbrev pub Halts : Option Stop → Option WorldRefusal → Type 0
+Halts None answer = answer ≡ None
+Halts (Some (Refused why)) answer = Tells why answer
+Halts (Some Broken) answer = answer ≡ None
+
 -- the event, where it was accepted
 abbrev pub accepted : {E : Type 0} → Result (Unit {0}) E → Event → List Event
 accepted (Ok done) e = e ∷ []
@@ -46,3 +54,9 @@ abbrev pub Stops : Option WorldRefusal → World → List Event → Type 0
 Stops None w left = left ≡ []
 Stops (Some why) w [] = ⊥
 Stops (Some why) w (e ∷ later) = Tells why (refusal w e)
+
+-- the same of a run over a carrier, which may also have broken there
+abbrev pub HaltsAt : Option Stop → World → List Event → Type 0
+HaltsAt None w left = left ≡ []
+HaltsAt (Some stop) w [] = ⊥
+HaltsAt (Some stop) w (e ∷ later) = Halts (Some stop) (refusal w e)

@@ -1,5 +1,6 @@
 //! Laws of the world. Each function does nothing else: its contract is the law.
 
+ghost use Rattle.fibs_model.specs.Crossings.{CrossingsJoin};
 ghost use Rattle.fibs_model.specs.Joint.{JointStatement};
 ghost use Rattle.fibs_model.specs.Laws.{HeadlineHolds, NothingServedIsStale};
 ghost use Rattle.fibs_model.specs.Once.{OneStep, OnceHolds};
@@ -68,3 +69,8 @@ pub fn once()
     fibs_position::laws::effect_is_good();
     fibs_position::laws::no_three_in_a_row();
 }
+
+/// What crosses a carrier at several events is what crosses at each, one after another.
+pub fn crossings_join()
+    ensures { CrossingsJoin }
+{}

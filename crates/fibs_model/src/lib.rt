@@ -1,8 +1,10 @@
 //! A model of a backgammon server, and what holds of it, of the wires to it and of a client: the headline.
 #![tactic(auto)]
 
+mod carrier;
 mod entry;
 mod event;
+mod halt;
 pub mod laws;
 mod refusal;
 mod run_end;
@@ -10,8 +12,10 @@ mod server;
 pub mod wire;
 mod world;
 
+pub use carrier::{Broken, Carrier, InMemory, Way};
 pub use entry::Entry;
 pub use event::Event;
+pub use halt::Stop;
 pub use refusal::WorldRefusal;
 pub use run_end::RunEnd;
 pub use server::{Served, Server, is_die};

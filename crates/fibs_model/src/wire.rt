@@ -42,6 +42,7 @@ impl Model for Wire {
 pub fn whole_line(bytes: &[u8]) -> Option<usize>
     ensures in_range { IfSome result (λ len. len + 2 ≤ length bytes.now) }
     ensures line { next_line bytes.now ≡ option_map (λ len. (take len bytes.now, drop (len + 2) bytes.now)) result }
+    ensures ends { IfSome result (λ len. take (len + 2) bytes.now ≡ on_wire (take len bytes.now)) }
 {
     memmem::find(bytes, b"\r\n")
 }

@@ -1,7 +1,7 @@
 //! The world: a server, a client, and the wires between them.
 
 ghost use Rattle.std.specs.Prelude.{◌≡◌, ◌≤◌, ◌≢◌, ◌↔◌, ◌++◌, ℕ, List, [], None, Some, Option, IsOk, IfOk, OnErr};
-ghost use Rattle.std.specs.Prelude.{length, map, take, drop, option_map, if◌then◌else◌};
+ghost use Rattle.std.specs.Prelude.{true, IsErrOf, OnOk, length, map, take, drop, option_map, if◌then◌else◌};
 ghost use Rattle.std.specs.Option.{option_copied};
 ghost use Rattle.std.specs.Result.{result_err};
 ghost use Rattle.fibs_boards.specs.Board.{BoardFields};
@@ -10,15 +10,17 @@ ghost use Rattle.fibs_position.specs.GoodBoard.{IsGood, good};
 ghost use Rattle.fibs_session.specs.History.Words.{last, shown, open_now};
 ghost use Rattle.fibs_commands.specs.LoginOf.{name_of, password_of};
 ghost use Rattle.fibs_commands.specs.Logins.{login_text};
+ghost use Rattle.fibs_model.specs.Crossings.{crossings_of};
 ghost use Rattle.fibs_model.specs.EntryOf.{entry_of};
 ghost use Rattle.fibs_model.specs.EventOf.{event_of};
 ghost use Rattle.fibs_model.specs.Events as E;
 ghost use Rattle.fibs_model.specs.Headline.{Headline};
 ghost use Rattle.fibs_model.specs.Once.{Once};
 ghost use Rattle.fibs_model.specs.Refusals.{refusal};
-ghost use Rattle.fibs_model.specs.WorldCalls.{WorldStandsAfter, machine_after, Agrees, Stops, accepted};
+ghost use Rattle.fibs_model.specs.WorldCalls.{WorldStandsAfter, machine_after, Agrees, Halts, Stops, accepted};
 
 mod clicking;
+mod crossing;
 mod delivering;
 mod hearing;
 mod link;
@@ -31,8 +33,10 @@ mod sending;
 mod serving;
 mod stepping;
 
+use crate::carrier::{Carrier, InMemory};
 use crate::entry::Entry;
 use crate::event::Event;
+use crate::halt::{Halt, Stop};
 use crate::laws;
 use crate::refusal::WorldRefusal;
 use crate::run_end::RunEnd;
@@ -47,6 +51,9 @@ use std::marker::Model;
 ///
 /// `new` makes one, `step` and `run` do events, and `log` tells what they led to: a function of the first board and of
 /// the events, in which all choices stand. Of every list of events the headline holds.
+///
+/// `carry_out` does an event over a carrier, which the bytes cross that pass from one side to the other; `step` and
+/// `run` have one that has nothing to carry.
 #[derive(Drop)]
 pub struct World {
     alloc: Global,
@@ -110,13 +117,48 @@ impl World {
             WorldStandsAfter self.old name password first events →
             Once (login_text name password) first (events ++ accepted result (event_of event.now)) }
     {
+        match self.carry_out(&mut InMemory, event) {
+            Ok(()) => Ok(()),
+            Err(Stop::Refused(why)) => Err(why),
+            Err(Stop::Broken) => unreachable!(),
+        }
+    }
+
+    /// Does one event, whose bytes cross a carrier, or says why it is not done: the first refusal of the event's line;
+    /// `Memory` only where no other holds; `Broken` only where none holds and the carrier may break. An event that is
+    /// not done changes nothing: the memory that it needs is had first, then its bytes cross, and after that nothing
+    /// can fail.
+    ///
+    /// The carrier is given what crosses at the event and nothing else, and nothing at an event that is refused.
+    pub fn carry_out<C: Carrier>(&mut self, carrier: &mut C, event: &Event<'_>) -> Result<(), Stop>
+        ensures refusal { (name password : List ℕ) (first : BoardFields) (events : List E.Event) →
+            WorldStandsAfter self.old name password first events →
+            Halts (result_err result) (refusal (machine_after name password first events) (event_of event.now)) }
+        ensures unbroken { IsErrOf result Stop.Broken → C.may_break ≡ true }
+        ensures refused { OnErr result (self.new ≡ self.old) }
+        ensures carries { (name password : List ℕ) (first : BoardFields) (events : List E.Event) →
+            WorldStandsAfter self.old name password first events →
+            OnOk result (C.carries carrier.old
+            (crossings_of (machine_after name password first events) (event_of event.now)) carrier.new) }
+        ensures untouched { (why : WorldRefusal) → result_err result ≡ Some (Stop.Refused why) → carrier.new ≡ carrier.old }
+        ensures stands { (name password : List ℕ) (first : BoardFields) (events : List E.Event) →
+            WorldStandsAfter self.old name password first events →
+            WorldStandsAfter self.new name password first (events ++ accepted result (event_of event.now)) }
+        ensures headline { (name password : List ℕ) (first : BoardFields) (events : List E.Event) →
+            WorldStandsAfter self.old name password first events →
+            Headline (machine_after name password first (events ++ accepted result (event_of event.now))) }
+        ensures once { (name password : List ℕ) (first : BoardFields) (events : List E.Event) →
+            WorldStandsAfter self.old name password first events →
+            Once (login_text name password) first (events ++ accepted result (event_of event.now)) }
+    {
         laws::headline();
         laws::once();
         match self.refusal(event) {
-            Some(why) => Err(why),
-            None => match self.take(event) {
+            Some(why) => Err(Stop::Refused(why)),
+            None => match self.take(carrier, event) {
                 Ok(()) => Ok(()),
-                Err(_) => Err(WorldRefusal::Memory),
+                Err(Halt::Memory) => Err(Stop::Refused(WorldRefusal::Memory)),
+                Err(Halt::Broken) => Err(Stop::Broken),
             },
         }
     }

@@ -6,4 +6,5 @@ pub mod Lines
 pub mod Scripts
 pub mod Outputs
 pub mod Runs
+pub mod Carrying
 pub mod Reads

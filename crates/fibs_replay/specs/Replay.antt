@@ -5,5 +5,6 @@ pub mod EventReading
 pub mod Scripts
 pub mod LogLines
 pub mod Output
+pub mod Carried
 pub mod Passing
 pub mod Running

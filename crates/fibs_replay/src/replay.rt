@@ -1,12 +1,13 @@
 //! `fibs replay`: runs a script of events, and prints the log of the world.
-ghost use Rattle.std.specs.Prelude.{◌≡◌, ◌≤◌, ◌+◌, ◌∷◌, ℕ, List, length, IfOk, IfSome, IfNone, IsErrOf};
+ghost use Rattle.std.specs.Prelude.{◌≡◌, ◌≤◌, ◌+◌, ◌∷◌, ◌⊎◌, ℕ, List, true, length, IfOk, IfSome, IfNone, IsErrOf};
 ghost use Rattle.fibs_boards.specs.Board.{BoardFields, BoardText};
 ghost use Rattle.fibs_boards.specs.StoredBoard.{fields_of};
 ghost use Rattle.fibs_model.specs.Events.{Event};
 ghost use Rattle.fibs_show.specs.Printing.{Printed};
 ghost use Rattle.fibs_show.specs.Reads.{LostAtMost};
+ghost use Rattle.fibs_replay.specs.Replay.Carried.{CarriedFor, Carried};
 ghost use Rattle.fibs_replay.specs.Replay.Limits.{read_len};
-ghost use Rattle.fibs_replay.specs.Replay.Output.{Replayed, ReplayedInPart, ReplayFailed};
+ghost use Rattle.fibs_replay.specs.Replay.Output.{LoggedInPart, Replayed, ReplayedInPart, ReplayFailed};
 ghost use Rattle.fibs_replay.specs.Replay.Running.{PrintedFor};
 ghost use Rattle.fibs_replay.specs.Replay.Scripts.{SayScript, script_limit, script_lines};
 
@@ -21,7 +22,7 @@ pub mod script;
 use bstr::Lines;
 use events::read_board;
 use fibs_messages::Board;
-use fibs_model::World;
+use fibs_model::{Carrier, InMemory, World};
 use fibs_show::fault::EngineFault;
 use fibs_show::status::Status;
 use fibs_show::writing::write_bytes;
@@ -53,9 +54,37 @@ pub fn replay<R: Read, W: Write>(
         (W.contents writer.old) (W.contents writer.new) }
     ensures few { LostAtMost (script_limit + read_len) (R.remaining reader.old) (R.remaining reader.new) }
 {
+    replay_over(&mut InMemory, alloc, reader, writer)
+}
+
+/// Does what `replay` does, over a carrier, to which no connection was made yet. Where that breaks it has printed the
+/// log so far, and answers `Device`.
+///
+/// Where it does not answer `Device`, the carrier was given what crosses at the events that were done, and nothing else.
+pub fn replay_over<C: Carrier, R: Read, W: Write>(
+    carrier: &mut C,
+    alloc: Global,
+    reader: &mut R,
+    writer: &mut W,
+) -> Result<u8, EngineFault>
+    ensures done { IfOk result (λ status.
+        Replayed status (R.remaining reader.old) (R.remaining reader.new)
+        (W.contents writer.old) (W.contents writer.new)) }
+    ensures device { IsErrOf result EngineFault.Device →
+        ReplayFailed (R.remaining reader.old) (R.remaining reader.new) (W.contents writer.old) (W.contents writer.new)
+        ⊎ ((C.may_break ≡ true) × LoggedInPart (R.remaining reader.old) (R.remaining reader.new)
+        (W.contents writer.old) (W.contents writer.new)) }
+    ensures memory { IsErrOf result EngineFault.Memory →
+        ReplayedInPart (R.remaining reader.old) (R.remaining reader.new)
+        (W.contents writer.old) (W.contents writer.new) }
+    ensures carries { ¬ IsErrOf result EngineFault.Device →
+        Carried C.carries (R.remaining reader.old) (R.remaining reader.new)
+        (W.contents writer.old) (W.contents writer.new) carrier.old carrier.new }
+    ensures few { LostAtMost (script_limit + read_len) (R.remaining reader.old) (R.remaining reader.new) }
+{
     match read_lines(alloc, reader)? {
         Script::Unreadable(number) => print_unrun(&unread_line(number), writer),
-        Script::Readable(script) => replay_readable(alloc, script.as_slice(), writer),
+        Script::Readable(script) => replay_readable(carrier, alloc, script.as_slice(), writer),
     }
 }
 
@@ -77,15 +106,19 @@ pub fn first_board(lines: &mut Lines<'_>) -> Option<Board>
 }
 
 /// Runs a script whose lines are readable.
-fn replay_readable<W: Write>(
+fn replay_readable<C: Carrier, W: Write>(
+    carrier: &mut C,
     alloc: Global,
     script: &[u8],
     writer: &mut W,
 ) -> Result<u8, EngineFault>
     requires short { length script.now ≤ script_limit }
     requires readable { (b : BoardFields) × (events : List Event) × SayScript (script_lines script.now) b events }
-    ensures { PrintedFor script.now result (W.contents writer.old) (W.contents writer.new) }
+    ensures printed { PrintedFor C.may_break script.now result (W.contents writer.old) (W.contents writer.new) }
+    ensures carries { ¬ IsErrOf result EngineFault.Device →
+        CarriedFor C.carries script.now (W.contents writer.old) (W.contents writer.new) carrier.old carrier.new }
 {
+    fibs_model::laws::crossings_join();
     fibs_position::laws::good_is_exact();
     let mut lines = script_lines(script);
     let board = match first_board(&mut lines) {
@@ -95,7 +128,7 @@ fn replay_readable<W: Write>(
     match World::new(alloc, board, script_login()) {
         Err(why) => print_unrun(&refused_line(0, why), writer),
         Ok(mut world) => {
-            let end = run_lines(&mut world, &mut lines);
+            let end = run_lines(&mut world, carrier, &mut lines);
             print_run(world.log(), end, writer)
         }
     }

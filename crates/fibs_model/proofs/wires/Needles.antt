@@ -1,7 +1,7 @@
 -- The next whole line is found by a search for CR LF.
 use Rattle.std.proofs.Common.{◌≡◌, ℕ, zero, suc, ◌+◌, ◌<◌, Bool, true, false, List, [], ◌∷◌, Option, Some, None}
-use Rattle.std.proofs.Common.{take, drop, nat_eq, refl, sym, ap, ◌∙◌, arith}
-use Rattle.std.specs.Prelude.{◌&&◌, slice_index, option_map, if◌then◌else◌}
+use Rattle.std.proofs.Common.{◌++◌, take, drop, nat_eq, refl, sym, ap, ◌∙◌, arith}
+use Rattle.std.specs.Prelude.{◌&&◌, slice_index, option_map, IfSome, if◌then◌else◌}
 use Rattle.memchr.specs.Find.{OccursAt, FindsNeedle}
 use Rattle.fibs_model.specs.Wires.{next_line, put}
 
@@ -99,3 +99,21 @@ pub searched : (bytes : List ℕ) (answer : Option ℕ) → FindsNeedle bytes li
     → next_line bytes ≡ option_map (λ len. (take len bytes, drop (len + 2) bytes)) answer
 searched bytes None h = none_found bytes (λ k o. h k (omega arith) (omega (arith, o.fits)) o)
 searched bytes (Some k) h = found bytes k (λ j below. h.0.before j (omega arith) below) h.1
+
+-- two bytes that are CR LF
+ends_pair : (b c : ℕ) (bytes : List ℕ) → b ≡ 13 → c ≡ 10 → take 2 (b ∷ c ∷ bytes) ≡ line_end
+ends_pair b c bytes e f = cc
+
+-- where it occurs, the bytes in front and it are those up to its end
+ends : (bytes : List ℕ) (k : ℕ) → OccursAt bytes line_end k → take (k + 2) bytes ≡ take k bytes ++ line_end
+ends [] k o = absurd (omega (arith, o.fits))
+ends (b ∷ []) k o = absurd (omega (arith, o.fits))
+ends (b ∷ c ∷ bytes) zero o = ends_pair b c bytes (o.reads 0 (omega arith)) (o.reads 1 (omega arith))
+ends (b ∷ c ∷ bytes) (suc k) o =
+    ap (λ n. take n (b ∷ c ∷ bytes)) {x = suc k + 2} {y = suc (k + 2)} (omega arith)
+    ∙ ap (λ xs. b ∷ xs) (ends (c ∷ bytes) k (behind_occurs b (c ∷ bytes) k o))
+
+pub searched_ends : (bytes : List ℕ) (answer : Option ℕ) → FindsNeedle bytes line_end 0 answer
+    → IfSome answer (λ len. take (len + 2) bytes ≡ take len bytes ++ line_end)
+searched_ends bytes None h = tt
+searched_ends bytes (Some k) h = ends bytes k h.1

@@ -1,8 +1,9 @@
 //! Bytes go to the client.
 
 ghost use Rattle.std.specs.Prelude.{◌≡◌, ◌≤◌, ◌<◌, ◌+◌, ◌*◌, ◌++◌, count_by, length, map, take, drop};
-ghost use Rattle.std.specs.Prelude.{vec_len, vec_capacity, if◌then◌else◌, IfSome, OnOk, OnErr};
+ghost use Rattle.std.specs.Prelude.{vec_len, vec_capacity, if◌then◌else◌, IfSome, true, OnOk, OnErr, IsErrOf};
 ghost use Rattle.fibs_lines.specs.Lines.{is_line_end};
+ghost use Rattle.fibs_model.specs.Crossings.{crossings_in};
 ghost use Rattle.fibs_model.specs.EntryOf.{entry_of};
 ghost use Rattle.fibs_model.specs.Events as E;
 ghost use Rattle.fibs_model.specs.HearingOf.{HearsPiece, HearsNext, RoomForPiece, RoomForNext};
@@ -10,10 +11,13 @@ ghost use Rattle.fibs_model.specs.LinksOf.{seen, link_at};
 ghost use Rattle.fibs_model.specs.WorldOf.{May, Goes};
 
 use super::World;
+use super::crossing::cross_to_client;
 use super::hearing::hear_all;
 use super::link::Link;
 use super::links::make_room;
+use crate::carrier::Carrier;
 use crate::entry::Entry;
+use crate::halt::Halt;
 use crate::wire::line_ends;
 use fibs_session::Client;
 use std::alloc::AllocError;
@@ -95,16 +99,20 @@ fn hear_next(
 
 impl World {
     /// The next `n` bytes go to the client, or all if they are fewer.
-    pub(super) fn deliver(&mut self, n: usize) -> Result<(), AllocError>
+    pub(super) fn deliver<C: Carrier>(&mut self, carrier: &mut C, n: usize) -> Result<(), Halt>
         requires may { May self.old (E.Deliver n) }
         ensures ok { OnOk result (Goes self.old self.new (E.Deliver n)) }
         ensures err { OnErr result (self.new ≡ self.old) }
+        ensures carries { OnOk result (C.carries carrier.old (crossings_in self.old (E.Deliver n)) carrier.new) }
+        ensures untouched { IsErrOf result Halt.Memory → carrier.new ≡ carrier.old }
+        ensures unbroken { IsErrOf result Halt.Broken → C.may_break ≡ true }
     {
         fibs_session::client::laws::servers_entries_are_silent();
         let ends = ends_ahead(&self.links, self.current, n);
         let most = most_added(ends, self.client.ordered()).ok_or(AllocError)?;
         make_room(&mut self.links, self.current, 0, most.bytes)?;
         self.log.reserve(most.entries)?;
+        cross_to_client(carrier, &self.links, self.current, n)?;
         hear_next(
             &mut self.client,
             &mut self.links,

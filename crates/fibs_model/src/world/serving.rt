@@ -1,9 +1,10 @@
 //! The server takes a line.
 
-ghost use Rattle.std.specs.Prelude.{◌≡◌, ◌≤◌, ◌<◌, ◌+◌, ◌++◌, ℕ, List, Some, length, OnOk, OnErr, IsSome};
-ghost use Rattle.std.specs.Prelude.{vec_len, slice_index, if◌then◌else◌};
+ghost use Rattle.std.specs.Prelude.{◌≡◌, ◌≤◌, ◌<◌, ◌+◌, ◌++◌, ℕ, List, Some, true, length, OnOk, OnErr, IsErrOf};
+ghost use Rattle.std.specs.Prelude.{IsSome, vec_len, slice_index, if◌then◌else◌};
 ghost use Rattle.fibs_boards.specs.Board.{spelling};
 ghost use Rattle.fibs_model.specs.Calls.{is_answered, send_links, TakesLine, TakesNext};
+ghost use Rattle.fibs_model.specs.Crossings.{crossings_in};
 ghost use Rattle.fibs_model.specs.Events as E;
 ghost use Rattle.fibs_model.specs.LinksOf.{seen, link_at, RoomToClient};
 ghost use Rattle.fibs_model.specs.ServerOf.{served_of};
@@ -11,12 +12,14 @@ ghost use Rattle.fibs_model.specs.Wires.{next_line};
 ghost use Rattle.fibs_model.specs.WorldOf.{May, Goes};
 
 use super::World;
+use super::crossing::cross_line;
 use super::hearing::note;
 use super::link::Link;
 use super::links::{BOARD, make_room, send_line};
+use crate::carrier::Carrier;
+use crate::halt::Halt;
 use crate::server::{Served, Server};
 use crate::wire::whole_line;
-use std::alloc::AllocError;
 
 /// The server takes the next line of a connection.
 fn take_line(server: &mut Server, link: &mut Link, conn: usize, len: usize, dice: [u8; 2]) -> Served
@@ -64,14 +67,24 @@ fn answer_line(server: &Server, links: &mut Vec<Link>, conn: usize, served: Serv
 
 impl World {
     /// The server takes the next whole line of a connection.
-    pub(super) fn serve(&mut self, conn: usize, dice: [u8; 2]) -> Result<(), AllocError>
+    pub(super) fn serve<C: Carrier>(
+        &mut self,
+        carrier: &mut C,
+        conn: usize,
+        dice: [u8; 2],
+    ) -> Result<(), Halt>
         requires may { May self.old (E.Serve conn (slice_index dice 0) (slice_index dice 1)) }
         ensures ok { OnOk result (Goes self.old self.new (E.Serve conn (slice_index dice 0) (slice_index dice 1))) }
         ensures err { OnErr result (self.new ≡ self.old) }
+        ensures carries { OnOk result (C.carries carrier.old
+            (crossings_in self.old (E.Serve conn (slice_index dice 0) (slice_index dice 1))) carrier.new) }
+        ensures untouched { IsErrOf result Halt.Memory → carrier.new ≡ carrier.old }
+        ensures unbroken { IsErrOf result Halt.Broken → C.may_break ≡ true }
     {
         fibs_session::client::laws::servers_entries_are_silent();
         self.log.reserve(1)?;
         make_room(&mut self.links, self.current, BOARD, 0)?;
+        cross_line(carrier, &self.links, self.current, conn)?;
         let board = *self.server.board();
         let served = take_next(&mut self.server, &mut self.links, conn, dice);
         note(&mut self.log, served.entry(conn, board));

@@ -1,9 +1,8 @@
 -- The lines of a script are run on a world, and what they led to is printed.
-use Rattle.std.proofs.Common.{◌≡◌, ◌↔◌, Bool, true, false, if◌then◌else◌, ℕ, ◌+◌, ◌≤◌, List, [], ◌∷◌, ◌++◌, ◌⊎◌, length}
-use Rattle.std.proofs.Common.{codes, Option, Some, None, option_map, Result, Ok, Err, IfOk, refl, ap, sym, ◌∙◌, subst}
+use Rattle.std.proofs.Common.{◌≡◌, Bool, true, false, if◌then◌else◌, ℕ, ◌+◌, ◌≤◌, List, [], ◌∷◌, ◌++◌, ◌⊎◌, length}
+use Rattle.std.proofs.Common.{Option, Some, None, Result, Ok, Err, IfOk, refl, ap, sym, ◌∙◌, subst}
 use Rattle.std.proofs.Common.{arith, append_assoc, append-nil, length-append, inl, inr}
 use Rattle.std.specs.Result.{IsErrOf}
-use Rattle.std.specs.Io.KnownBytes.{Appends}
 use Rattle.fibs_boards.specs.Board.{BoardFields, BoardText}
 use Rattle.fibs_position.specs.GoodBoard.{good, IsGood}
 use Rattle.fibs_position.specs.Laws.{GoodIsExact}
@@ -13,21 +12,21 @@ use Rattle.fibs_model.specs.Events.{Event}
 use Rattle.fibs_model.specs.Refusals.{refusal}
 use Rattle.fibs_model.specs.Runs.{AllAccepted, after_all, MayBe, world_after}
 use Rattle.fibs_model.specs.World.{World, start, after}
-use Rattle.fibs_model.specs.WorldCalls.{Tells, Stops}
+use Rattle.fibs_model.specs.WorldCalls.{Tells, Halts, HaltsAt}
 use Rattle.fibs_model.specs.WorldOf.{WorldValue}
 use Rattle.fibs_model.specs.declared.event.Event.{Event as ProgramEvent}
+use Rattle.fibs_model.specs.declared.halt.Stop.{Stop}
+use Rattle.fibs_model.specs.declared.halt.Stop.TheVariants as S
 use Rattle.fibs_model.specs.declared.refusal.WorldRefusal.{WorldRefusal}
 use Rattle.fibs_model.specs.declared.refusal.WorldRefusal.TheVariants as W
 use Rattle.fibs_show.specs.declared.fault.EngineFault.{EngineFault}
 use Rattle.fibs_show.specs.declared.fault.EngineFault.TheVariants as fault
 use Rattle.fibs_show.specs.Printing.{Printed}
-use Rattle.fibs_show.specs.Writing.{GainedFront}
-use Rattle.fibs_replay.specs.Replay.EventLines.{SaysEvent}
 use Rattle.fibs_replay.specs.Replay.LogLines.{log_text}
 use Rattle.fibs_replay.specs.Replay.Output.{script_login, unread_text, end_text, refused_text, log_after, ReplayText}
-use Rattle.fibs_replay.specs.Replay.Output.{too_long, unreadable, refused, to_the_end, LogOf, IsFor, Replayed}
-use Rattle.fibs_replay.specs.Replay.Output.{ReplayFailed, ReplayedInPart, ReadWhole, ReadLines}
-use Rattle.fibs_replay.specs.Replay.Running.{StandsFrom, RanTo, RunPrinted, PrintedFor}
+use Rattle.fibs_replay.specs.Replay.Output.{too_long, unreadable, refused, to_the_end, LogOf, Replayed}
+use Rattle.fibs_replay.specs.Replay.Output.{LoggedInPart, ReplayFailed, ReplayedInPart, ReadWhole, ReadLines}
+use Rattle.fibs_replay.specs.Replay.Running.{StandsFrom, RanTo, Broke, RunPrinted, PrintedFor}
 use Rattle.fibs_replay.specs.Replay.Scripts.{script_limit, script_lines, SayEvents, SayScript, IsNoEvent}
 use Rattle.fibs_replay.specs.Replay.Scripts.{FirstUnreadable}
 use Rattle.fibs_replay.specs.declared.replay.script.Script.TheVariants.{Unreadable}
@@ -79,6 +78,12 @@ run_begins first events world lines stands said =
       count = refl;
     }
 
+pub run_begins_none : (first : BoardFields) (events : List Event) (world : WorldValue) (lines : List (List ℕ))
+    (stands : StandsFrom world first []) (said : SayEvents lines events)
+    → (run_begins first events world lines stands said).before ≡ []
+unfolding run_begins
+run_begins_none first events world lines stands said = refl
+
 -- the first of some lines says the event that was read of it
 pub record FirstSaid (lines rest : List (List ℕ)) (later : List Event) (e : Event) : Type 0 where
   pub others : List Event
@@ -124,15 +129,26 @@ run_more first events old new lines rest line done event run is exact accepts go
       count = omega arith;
     }
 
--- it is refused
+pub run_more_one : (first : BoardFields) (events : List Event) (old new : WorldValue) (lines rest : List (List ℕ))
+    (line : List ℕ) (done : ℕ) (event : ProgramEvent) (run : Running first events old lines done)
+    (is : lines ≡ line ∷ rest) (exact : ReadsLine (Some event) line)
+    (accepts : (es : List Event) → StandsFrom old first es
+    → refusal (world_after script_login first es) (event_of event) ≡ None)
+    (goes : (es : List Event) → StandsFrom old first es → StandsFrom new first (es ++ event_of event ∷ []))
+    → (run_more first events old new lines rest line done event run is exact accepts goes).before
+    ≡ run.before ++ event_of event ∷ []
+unfolding run_more
+run_more_one first events old new lines rest line done event run is exact accepts goes = refl
+
+-- it is not
 pub run_stops : (first : BoardFields) (events : List Event) (old new : WorldValue) (lines rest : List (List ℕ))
-    (line : List ℕ) (done : ℕ) (event : ProgramEvent) (why : WorldRefusal)
+    (line : List ℕ) (done : ℕ) (event : ProgramEvent) (stop : Stop)
     → Running first events old lines done → lines ≡ line ∷ rest → ReadsLine (Some event) line
     → ((es : List Event) → StandsFrom old first es
-    → Tells why (refusal (world_after script_login first es) (event_of event)))
+    → Halts (Some stop) (refusal (world_after script_login first es) (event_of event)))
     → new ≡ old
-    → RanTo first events new done (Some why)
-run_stops first events old new lines rest line done event why run is exact tells kept =
+    → RanTo first events new done (Some stop)
+run_stops first events old new lines rest line done event stop run is exact halts kept =
     let next = said_first lines rest line run.later event is run.said exact in
     record {
       before = run.before;
@@ -141,8 +157,8 @@ run_stops first events old new lines rest line done event why run is exact tells
       may_be = run.may_be;
       stands = subst (λ w. StandsFrom w first run.before) (sym kept) run.stands;
       count = run.count;
-      stops = subst (Stops (Some why) (world_after script_login first run.before)) (sym next.is)
-          (tells run.before run.stands);
+      stops = subst (HaltsAt (Some stop) (world_after script_login first run.before)) (sym next.is)
+          (halts run.before run.stands);
     }
 
 -- no line is left
@@ -192,21 +208,32 @@ none_unread lines rest line is said none = go (subst Readable is said)
 -- what is printed for the script
 
 -- a text that is for the script was printed
-pub printed_for : (r : Result ℕ EngineFault) (script text wanted : List ℕ) (status : ℕ) (held now : Option (List ℕ))
-    → ReplayText script wanted status → text ≡ wanted
-    → Printed status text r held now → PrintedFor script r held now
-printed_for (Ok answered) script text wanted status held now for same h =
+pub printed_for : (may_break : Bool) (r : Result ℕ EngineFault) (script text wanted : List ℕ) (status : ℕ)
+    (held now : Option (List ℕ)) → ReplayText script wanted status → text ≡ wanted
+    → Printed status text r held now → PrintedFor may_break script r held now
+printed_for may_break (Ok answered) script text wanted status held now for same h =
     (text, subst (ReplayText script text) (sym h.0) (subst (λ t. ReplayText script t status) (sym same) for), h.1)
-printed_for (Err fault.Device) script text wanted status held now for same h =
-    (text, inl (status, subst (λ t. ReplayText script t status) (sym same) for), h.1)
-printed_for (Err fault.Memory) script text wanted status held now for same h = let wrong = h.0 in absurd cc
+printed_for may_break (Err fault.Device) script text wanted status held now for same h =
+    inl (text, inl (status, subst (λ t. ReplayText script t status) (sym same) for), h.1)
+printed_for may_break (Err fault.Memory) script text wanted status held now for same h = let wrong = h.0 in absurd cc
 
 -- the log so far
-log_for : (r : Result ℕ EngineFault) (script text : List ℕ) (held now : Option (List ℕ)) → LogOf script text
-    → RunPrinted (Some W.Memory) 0 text r held now → PrintedFor script r held now
-log_for (Ok answered) script text held now for h = absurd h
-log_for (Err fault.Device) script text held now for h = (text, inr for, h)
-log_for (Err fault.Memory) script text held now for h = (text, for, h)
+log_for : (may_break : Bool) (r : Result ℕ EngineFault) (script text : List ℕ) (held now : Option (List ℕ))
+    → LogOf script text → RunPrinted (Some (S.Refused W.Memory)) 0 text r held now
+    → PrintedFor may_break script r held now
+log_for may_break (Ok answered) script text held now for h = absurd h
+log_for may_break (Err fault.Device) script text held now for h = inl (text, inr for, h)
+log_for may_break (Err fault.Memory) script text held now for h = (text, for, h)
+
+-- the log so far, where the carrier broke
+log_for_broken : (may_break : Bool) (r : Result ℕ EngineFault) (script text : List ℕ) (held now : Option (List ℕ))
+    → may_break ≡ true → LogOf script text → Broke text r held now → PrintedFor may_break script r held now
+log_for_broken may_break (Ok answered) script text held now may for h = absurd h
+log_for_broken may_break (Err fault.Device) script text held now may for h = elim h [
+  | inl front ↦ inl (text, inr for, front)
+  | inr whole ↦ inr (may, text, for, whole)
+]
+log_for_broken may_break (Err fault.Memory) script text held now may for h = absurd h
 
 -- a script whose lines are readable, and whose first board is good
 pub record IsRun (script : List ℕ) (first : BoardFields) (events : List Event) : Type 0 where
@@ -214,15 +241,15 @@ pub record IsRun (script : List ℕ) (first : BoardFields) (events : List Event)
   pub says : SayScript (script_lines script) first events
   pub is_good : IsGood first
 
-module _ (script : List ℕ) (first : BoardFields) (events : List Event) (world : WorldValue) (noted : List Entry)
-    (done : ℕ) (held now : Option (List ℕ)) (is : IsRun script first events) where
+module _ (may_break : Bool) (script : List ℕ) (first : BoardFields) (events : List Event) (world : WorldValue)
+    (noted : List Entry) (done : ℕ) (held now : Option (List ℕ)) (is : IsRun script first events) where
   -- it was run to its end
   ended : (r : Result ℕ EngineFault) (ran : RanTo first events world done None)
       → noted ≡ (world_after script_login first ran.before).log
-      → RunPrinted None done (log_text noted) r held now → PrintedFor script r held now
+      → RunPrinted None done (log_text noted) r held now → PrintedFor may_break script r held now
   ended r ran log h =
       let whole : events ≡ ran.before = ran.cut ∙ ap (λ l. ran.before ++ l) ran.stops ∙ append-nil ran.before in
-      printed_for r script (log_text noted ++ end_text done)
+      printed_for may_break r script (log_text noted ++ end_text done)
       (log_after first ran.before ++ end_text (length ran.before)) 0 held now
       (to_the_end first ran.before is.short (subst (SayScript (script_lines script) first) whole is.says) is.is_good
       ran.may_be)
@@ -231,9 +258,17 @@ module _ (script : List ℕ) (first : BoardFields) (events : List Event) (world 
   -- it stopped where memory ran out
   gave_up : (r : Result ℕ EngineFault) (before later : List Event) → events ≡ before ++ later
       → MayBe script_login first before → noted ≡ (world_after script_login first before).log
-      → RunPrinted (Some W.Memory) done (log_text noted) r held now → PrintedFor script r held now
+      → RunPrinted (Some (S.Refused W.Memory)) done (log_text noted) r held now → PrintedFor may_break script r held now
   gave_up r before later cut may_be log h =
-      log_for r script (log_text noted) held now
+      log_for may_break r script (log_text noted) held now
+      (first, before, later, subst (SayScript (script_lines script) first) cut is.says, may_be, ap log_text log) h
+
+  -- it stopped where the carrier broke
+  broke : (r : Result ℕ EngineFault) (before later : List Event) → may_break ≡ true → events ≡ before ++ later
+      → MayBe script_login first before → noted ≡ (world_after script_login first before).log
+      → Broke (log_text noted) r held now → PrintedFor may_break script r held now
+  broke r before later may cut may_be log h =
+      log_for_broken may_break r script (log_text noted) held now may
       (first, before, later, subst (SayScript (script_lines script) first) cut is.says, may_be, ap log_text log) h
 
   -- it stopped at an event that is refused
@@ -241,9 +276,9 @@ module _ (script : List ℕ) (first : BoardFields) (events : List Event) (world 
       → events ≡ before ++ e ∷ later → MayBe script_login first before
       → done ≡ length before → refusal (world_after script_login first before) e ≡ Some why
       → noted ≡ (world_after script_login first before).log
-      → Printed 3 (log_text noted ++ refused_text done why) r held now → PrintedFor script r held now
+      → Printed 3 (log_text noted ++ refused_text done why) r held now → PrintedFor may_break script r held now
   stopped r why before e later cut may_be count told log h =
-      printed_for r script (log_text noted ++ refused_text done why)
+      printed_for may_break r script (log_text noted ++ refused_text done why)
       (log_after first before ++ refused_text (length before) why) 3 held now
       (refused first before e later why is.short (subst (SayScript (script_lines script) first) cut is.says) is.is_good
       may_be told)
@@ -253,7 +288,7 @@ module _ (script : List ℕ) (first : BoardFields) (events : List Event) (world 
 -- a refusal is want of memory, or the table's
 told_or_memory : (why : WorldRefusal) (answer : Option WorldRefusal) (done : ℕ) (log : List ℕ)
     (r : Result ℕ EngineFault) (held now : Option (List ℕ)) → Tells why answer
-    → RunPrinted (Some why) done log r held now
+    → RunPrinted (Some (S.Refused why)) done log r held now
     → (why ≡ W.Memory) ⊎ ((answer ≡ Some why) × Printed 3 (log ++ refused_text done why) r held now)
 told_or_memory W.Memory answer done log r held now t h = inl refl
 told_or_memory W.AlreadyOpen answer done log r held now t h = inr (t, h)
@@ -266,37 +301,42 @@ told_or_memory W.BadBoard answer done log r held now t h = inr (t, h)
 told_or_memory W.BadDice answer done log r held now t h = inr (t, h)
 
 -- what is printed after a run is for the script
-pub printed_run : (script : List ℕ) (first : BoardFields) (events : List Event) (world : WorldValue)
-    (noted : List Entry) (done : ℕ) (why : Option WorldRefusal) (held now : Option (List ℕ)) (r : Result ℕ EngineFault)
-    → IsRun script first events → RanTo first events world done why
+pub printed_run : (may_break : Bool) (script : List ℕ) (first : BoardFields) (events : List Event) (world : WorldValue)
+    (noted : List Entry) (done : ℕ) (stop : Option Stop) (held now : Option (List ℕ)) (r : Result ℕ EngineFault)
+    → IsRun script first events → RanTo first events world done stop → (stop ≡ Some S.Broken → may_break ≡ true)
     → ((es : List Event) → StandsFrom world first es → noted ≡ (world_after script_login first es).log)
-    → RunPrinted why done (log_text noted) r held now → PrintedFor script r held now
-printed_run script first events world noted done None held now r is ran log h =
-    ended script first events world noted done held now is r ran (log ran.before ran.stands) h
-printed_run script first events world noted done (Some why) held now r is ran log h = go ran.later refl ran.stops
+    → RunPrinted stop done (log_text noted) r held now → PrintedFor may_break script r held now
+printed_run may_break script first events world noted done None held now r is ran may log h =
+    ended may_break script first events world noted done held now is r ran (log ran.before ran.stands) h
+printed_run may_break script first events world noted done (Some S.Broken) held now r is ran may log h =
+    broke may_break script first events world noted done held now is r ran.before ran.later (may refl) ran.cut
+    ran.may_be (log ran.before ran.stands) h
+printed_run may_break script first events world noted done (Some (S.Refused why)) held now r is ran may log h =
+    go ran.later refl ran.stops
   where
     same_log : noted ≡ (world_after script_login first ran.before).log
     same_log = log ran.before ran.stands
 
-    out_of_memory : why ≡ W.Memory → PrintedFor script r held now
+    out_of_memory : why ≡ W.Memory → PrintedFor may_break script r held now
     out_of_memory e =
-        gave_up script first events world noted done held now is r ran.before ran.later ran.cut ran.may_be same_log
-        (subst (λ w. RunPrinted (Some w) done (log_text noted) r held now) e h)
+        gave_up may_break script first events world noted done held now is r ran.before ran.later ran.cut ran.may_be
+        same_log (subst (λ w. RunPrinted (Some (S.Refused w)) done (log_text noted) r held now) e h)
 
-    go : (later : List Event) → ran.later ≡ later → Stops (Some why) (world_after script_login first ran.before) later
-        → PrintedFor script r held now
+    go : (later : List Event) → ran.later ≡ later
+        → HaltsAt (Some (S.Refused why)) (world_after script_login first ran.before) later
+        → PrintedFor may_break script r held now
     go [] e stops = absurd stops
     go (f ∷ later) e stops = elim (told_or_memory why (refusal (world_after script_login first ran.before) f) done
         (log_text noted) r held now stops h) [
           | inl memory ↦ out_of_memory memory
-          | inr told ↦ stopped script first events world noted done held now is r why ran.before f later
+          | inr told ↦ stopped may_break script first events world noted done held now is r why ran.before f later
               (ran.cut ∙ ap (λ l. ran.before ++ l) e) ran.may_be ran.count told.0 same_log told.1
         ]
 
 -- another reason than want of memory is printed
 pub other_reason : (why : WorldRefusal) (done : ℕ) (log : List ℕ) (r : Result ℕ EngineFault)
     (held now : Option (List ℕ)) → (why ≡ W.Memory → ⊥)
-    → Printed 3 (log ++ refused_text done why) r held now → RunPrinted (Some why) done log r held now
+    → Printed 3 (log ++ refused_text done why) r held now → RunPrinted (Some (S.Refused why)) done log r held now
 other_reason W.Memory done log r held now other h = absurd (other refl)
 other_reason W.AlreadyOpen done log r held now other h = h
 other_reason W.NotOpen done log r held now other h = h
@@ -367,24 +407,30 @@ unread_failed (Err why) number left still held now text read is h failed =
 
 -- a script whose lines are readable
 
-pub readable_done : (r : Result ℕ EngineFault) (script : List ℕ) (left still held now : Option (List ℕ))
-    → ReadWhole (Some script) left still → PrintedFor script r held now
+pub readable_done : (may_break : Bool) (r : Result ℕ EngineFault) (script : List ℕ)
+    (left still held now : Option (List ℕ)) → ReadWhole (Some script) left still
+    → PrintedFor may_break script r held now
     → IfOk r (λ status. Replayed status left still held now)
-readable_done (Ok status) script left still held now read h = (script, h.0, read.0, inl read.1, h.1, h.2)
-readable_done (Err why) script left still held now read h = tt
+readable_done may_break (Ok status) script left still held now read h = (script, h.0, read.0, inl read.1, h.1, h.2)
+readable_done may_break (Err why) script left still held now read h = tt
 
-pub readable_failed : (r : Result ℕ EngineFault) (script : List ℕ) (left still held now : Option (List ℕ))
-    → ReadWhole (Some script) left still → PrintedFor script r held now
-    → IsErrOf r fault.Device → ReplayFailed left still held now
-readable_failed (Ok status) script left still held now read h failed = absurd cc
-readable_failed (Err fault.Device) script left still held now read h failed =
-    inr (script, h.0, read.0, inl read.1, h.1, h.2)
-readable_failed (Err fault.Memory) script left still held now read h failed = absurd cc
+pub readable_failed : (may_break : Bool) (r : Result ℕ EngineFault) (script : List ℕ)
+    (left still held now : Option (List ℕ)) → ReadWhole (Some script) left still
+    → PrintedFor may_break script r held now
+    → IsErrOf r fault.Device
+    → ReplayFailed left still held now ⊎ ((may_break ≡ true) × LoggedInPart left still held now)
+readable_failed may_break (Ok status) script left still held now read h failed = absurd cc
+readable_failed may_break (Err fault.Device) script left still held now read h failed = elim h [
+  | inl front ↦ inl (inr (script, front.0, read.0, inl read.1, front.1, front.2))
+  | inr whole ↦ inr (whole.0, (script, whole.1, read.0, read.1, whole.2, whole.3))
+]
+readable_failed may_break (Err fault.Memory) script left still held now read h failed = absurd cc
 
-pub readable_in_part : (r : Result ℕ EngineFault) (script : List ℕ) (left still held now : Option (List ℕ))
-    → ReadWhole (Some script) left still → PrintedFor script r held now
+pub readable_in_part : (may_break : Bool) (r : Result ℕ EngineFault) (script : List ℕ)
+    (left still held now : Option (List ℕ)) → ReadWhole (Some script) left still
+    → PrintedFor may_break script r held now
     → IsErrOf r fault.Memory → ReplayedInPart left still held now
-readable_in_part (Ok status) script left still held now read h failed = absurd cc
-readable_in_part (Err fault.Device) script left still held now read h failed = absurd cc
-readable_in_part (Err fault.Memory) script left still held now read h failed =
+readable_in_part may_break (Ok status) script left still held now read h failed = absurd cc
+readable_in_part may_break (Err fault.Device) script left still held now read h failed = absurd cc
+readable_in_part may_break (Err fault.Memory) script left still held now read h failed =
     inr (script, h.0, read.0, read.1, h.1, h.2)

@@ -1,5 +1,5 @@
 -- What `fibs replay` prints for a script, and its status.
-use Rattle.std.specs.Prelude.{◌≡◌, ◌≤◌, ◌<◌, ◌++◌, ◌⊎◌, ℕ, List, [], ◌∷◌, codes, decimal, length, Option, Some, None}
+use Rattle.std.specs.Prelude.{◌≡◌, ◌≤◌, ◌<◌, ◌++◌, ◌⊎◌, ℕ, List, ◌∷◌, codes, decimal, length, Option, Some, None}
 use Rattle.std.specs.Io.KnownBytes.{Appends, Consumes, IsAtEnd, Keeps}
 use Rattle.fibs_boards.specs.Board.{BoardFields}
 use Rattle.fibs_position.specs.GoodBoard.{IsGood}
@@ -85,11 +85,14 @@ ReplayFailed left still held now =
     ⊎ ((script text : List ℕ) × Consumes left still script × (IsAtEnd still ⊎ (script_limit < length script))
     × IsFor script text × GainedFront held now text)
 
--- memory ran out: nothing was written; or the reader was read to its end, and just the lines of the log so far were
+-- the reader was read to its end, and just the lines of the log so far were written
+abbrev pub LoggedInPart : Option (List ℕ) → Option (List ℕ) → Option (List ℕ) → Option (List ℕ) → Type 0
+LoggedInPart left still held now =
+    (script text : List ℕ) × Consumes left still script × IsAtEnd still × LogOf script text × Appends held now text
+
+-- memory ran out: nothing was written, or just the lines of the log so far
 abbrev pub ReplayedInPart : Option (List ℕ) → Option (List ℕ) → Option (List ℕ) → Option (List ℕ) → Type 0
-ReplayedInPart left still held now =
-    Keeps held now
-    ⊎ ((script text : List ℕ) × Consumes left still script × IsAtEnd still × LogOf script text × Appends held now text)
+ReplayedInPart left still held now = Keeps held now ⊎ LoggedInPart left still held now
 
 -- a reader was read to its end, which is a script; or past the limit of one
 abbrev pub ReadWhole : Option (List ℕ) → Option (List ℕ) → Option (List ℕ) → Type 0

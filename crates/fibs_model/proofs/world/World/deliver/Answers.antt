@@ -7,7 +7,7 @@ use Rattle.fibs_model.proofs.Likeness.Delivering.{heard_stands, heard_after}
 use Rattle.fibs_model.proofs.world.World.deliver.Goals as goal
 
 pub invariant_of-self-2 : goal.invariant_of-self-2
-invariant_of-self-2 c =
+invariant_of-self-2 g c =
     let all = c.hear_next.new.links.ok.0 in
     let e = Deliver c.args.n in
     kept_on c.self.inside _ e c.self.invariant
@@ -18,7 +18,7 @@ invariant_of-self-2 c =
     (omega (arith, all, c.hear_next.ensures.len, c.make_room.ensures.len, c.self.invariant.known))
 
 pub returns-clause-ok : goal.returns-clause-ok
-returns-clause-ok c =
+returns-clause-ok g c =
     let e = Deliver c.args.n in
     goes_seen _ _ _ e c.self.view_is
     (heard_stands c.servers_entries_are_silent.ensures (world_of c.self.inside) _ c.args.n refl

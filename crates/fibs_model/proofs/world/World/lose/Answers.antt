@@ -6,7 +6,7 @@ use Rattle.fibs_model.proofs.Likeness.Losing.{lost_stands}
 use Rattle.fibs_model.proofs.world.World.lose.Goals as goal
 
 pub invariant_of-self-2 : goal.invariant_of-self-2
-invariant_of-self-2 c =
+invariant_of-self-2 g c =
     let e = Lose c.args.kept in
     kept_on c.self.inside _ e c.self.invariant
     (lost_stands c.servers_entries_are_silent.ensures (world_of c.self.inside) _ c.args.kept _ refl c.cut.ensures.value
@@ -16,7 +16,7 @@ invariant_of-self-2 c =
     (omega arith)
 
 pub returns-clause-ok : goal.returns-clause-ok
-returns-clause-ok c =
+returns-clause-ok g c =
     let e = Lose c.args.kept in
     goes_seen _ _ _ e c.self.view_is
     (lost_stands c.servers_entries_are_silent.ensures (world_of c.self.inside) _ c.args.kept _ refl c.cut.ensures.value

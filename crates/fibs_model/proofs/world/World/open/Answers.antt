@@ -14,7 +14,7 @@ use Rattle.fibs_model.proofs.Likeness.Opening.{opened_stands, opened_wires}
 use Rattle.fibs_model.proofs.world.World.«open».Goals as goal
 
 pub invariant_of-self-2 : goal.invariant_of-self-2
-invariant_of-self-2 c =
+invariant_of-self-2 g c =
     let all = c.push_reserved.new.self.ok.0 in
     let before = c.self.inside.links.ok.0 in
     let number : c.len-self-inside.result ≡ length (map link_of c.self.inside.links.items) + 1 =
@@ -41,7 +41,7 @@ invariant_of-self-2 c =
     (omega (arith, all, c.len-self-inside.ensures))
 
 pub returns-clause-ok : goal.returns-clause-ok
-returns-clause-ok c =
+returns-clause-ok g c =
     let before = c.self.inside.links.ok.0 in
     let number : c.len-self-inside.result ≡ length (map link_of c.self.inside.links.items) + 1 =
     omega (

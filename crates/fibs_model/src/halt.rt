@@ -1,0 +1,45 @@
+//! Why an event is not done.
+
+ghost use Rattle.std.specs.Prelude.{◌≡◌};
+
+use crate::carrier::Broken;
+use crate::refusal::WorldRefusal;
+use std::alloc::AllocError;
+
+/// Why an event that may be is not done.
+#[derive(Clone, Copy, Debug, PartialEq, Eq)]
+pub(crate) enum Halt {
+    /// No memory could be had for what the event adds.
+    Memory,
+    /// The carrier failed.
+    Broken,
+}
+
+impl From<AllocError> for Halt {
+    ghost use Rattle.fibs_model.specs.declared.halt.Halt.TheVariants.{Memory};
+
+    ghost from_gives = { λ _ halt. halt ≡ Memory };
+
+    fn from(_: AllocError) -> Halt {
+        Halt::Memory
+    }
+}
+
+impl From<Broken> for Halt {
+    ghost use Rattle.fibs_model.specs.declared.halt.Halt.TheVariants as H;
+
+    ghost from_gives = { λ _ halt. halt ≡ H.Broken };
+
+    fn from(_: Broken) -> Halt {
+        Halt::Broken
+    }
+}
+
+/// Why an event is not done.
+#[derive(Clone, Copy, Debug, PartialEq, Eq)]
+pub enum Stop {
+    /// The event may not be, or no memory could be had for what it adds.
+    Refused(WorldRefusal),
+    /// The carrier failed.
+    Broken,
+}
