@@ -5,7 +5,7 @@ mod terminal;
 
 use fibs_cli::arguments::Answer;
 use fibs_cli::{arguments, program};
-use fibs_show::fault::EngineFault;
+use fibs_engine::fault::EngineFault;
 use std::env;
 use std::io::ErrorKind;
 use std::process::ExitCode;

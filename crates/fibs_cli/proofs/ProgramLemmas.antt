@@ -7,16 +7,16 @@ use Rattle.std.specs.Io.KnownBytes.{Appends, Keeps, IsAtEnd}
 use Rattle.fibs_boards.specs.Board.{BoardFields}
 use Rattle.fibs_show.specs.Plays.{PlaysText}
 use Rattle.fibs_cli.specs.Program.{Streams, Showed, Listed, Played, RanScript, PlayedScript, Served}
-use Rattle.fibs_show.specs.Printing.{Printed}
+use Rattle.fibs_engine.specs.Printing.{Printed}
 use Rattle.fibs_replay.specs.Replay.Output.{LoggedInPart, Replayed, ReplayFailed, ReplayedInPart}
 use Rattle.fibs_replay.specs.Replay.Scripts.{script_limit}
-use Rattle.fibs_show.specs.Reads.{LostAtMost}
+use Rattle.fibs_engine.specs.Reads.{LostAtMost}
 use Rattle.fibs_show.specs.Show.{WroteAll, WroteRead, WroteLines, WroteFront}
-use Rattle.fibs_show.specs.Writing.{GainedFront}
+use Rattle.fibs_engine.specs.Writing.{GainedFront}
 use Rattle.fibs_cli.specs.declared.arguments.Request.{Request}
 use Rattle.fibs_cli.specs.declared.arguments.Request.TheVariants.{Show, Plays, Replay, Loop}
-use Rattle.fibs_show.specs.declared.fault.EngineFault.{EngineFault}
-use Rattle.fibs_show.specs.declared.fault.EngineFault.TheVariants.{Device, Memory}
+use Rattle.fibs_engine.specs.declared.fault.EngineFault.{EngineFault}
+use Rattle.fibs_engine.specs.declared.fault.EngineFault.TheVariants.{Device, Memory}
 
 -- the clauses of `show` in one
 pub showed : (r : Result ℕ EngineFault) (a b : Streams) → IfOk r (λ status. status ≡ 0)

@@ -9,14 +9,14 @@ use Rattle.fibs_connect.specs.Converse.Ending.{Conversed}
 use Rattle.fibs_show.specs.Plays.{PlaysText, Refusal}
 use Rattle.fibs_replay.specs.Replay.Output.{LoggedInPart, Replayed, ReplayFailed, ReplayedInPart}
 use Rattle.fibs_show.specs.Show.{WroteAll, WroteRead, WroteLines, WroteFront}
-use Rattle.fibs_show.specs.Printing.{Printed}
-use Rattle.fibs_show.specs.Writing.{GainedFront}
+use Rattle.fibs_engine.specs.Printing.{Printed}
+use Rattle.fibs_engine.specs.Writing.{GainedFront}
 use Rattle.fibs_cli.specs.declared.arguments.Answer.{Answer}
 use Rattle.fibs_cli.specs.declared.arguments.Answer.TheVariants.{Engine, Help, Refused, Memory}
 use Rattle.fibs_cli.specs.declared.arguments.Request.{Request}
 use Rattle.fibs_cli.specs.declared.arguments.Request.TheVariants.{Show, Plays, Replay, Connect, Loop}
-use Rattle.fibs_show.specs.declared.fault.EngineFault.{EngineFault}
-use Rattle.fibs_show.specs.declared.fault.EngineFault.TheVariants as fault
+use Rattle.fibs_engine.specs.declared.fault.EngineFault.{EngineFault}
+use Rattle.fibs_engine.specs.declared.fault.EngineFault.TheVariants as fault
 
 -- what the standard input has left to read, and what the standard output and the standard error hold: Some list where
 -- a stream tells its bytes, None where it tells nothing

@@ -11,6 +11,6 @@ pub use fibs_exchange::exchange::link::Link;
 pub use fibs_exchange::exchange::{Ending, ExchangeFault, exchange};
 pub use fibs_loop::play_loop::play_loop;
 pub use fibs_replay::replay::replay;
-pub use fibs_show::fault::EngineFault;
+pub use fibs_engine::fault::EngineFault;
 pub use fibs_show::plays::plays;
 pub use fibs_show::show::{StreamFault, show, show_portions};

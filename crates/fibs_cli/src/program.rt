@@ -1,19 +1,19 @@
 //! What the program does with a command line: which engine runs on which devices, what is printed, and the exit status.
 ghost use Rattle.std.specs.Prelude.{◌≡◌};
 ghost use Rattle.fibs_cli.specs.Program.{Answered, PlayedScript, SaysWhy, Served, fault_line, status_of, streams};
-ghost use Rattle.fibs_show.specs.Printing.{Printed};
-ghost use Rattle.fibs_show.specs.Status.{code_of};
+ghost use Rattle.fibs_engine.specs.Printing.{Printed};
+ghost use Rattle.fibs_engine.specs.Status.{code_of};
 
 use crate::arguments::{Answer, Request};
 use fibs_connect::connect::converse_at;
 use fibs_connect::connect::dial::Place;
 use fibs_loop::play_loop::play_loop;
 use fibs_replay::replay::replay;
-use fibs_show::fault::EngineFault;
+use fibs_engine::fault::EngineFault;
 use fibs_show::plays::plays;
 use fibs_show::show::show;
-use fibs_show::status::Status;
-use fibs_show::writing::write_bytes;
+use fibs_engine::status::Status;
+use fibs_engine::writing::write_bytes;
 use std::alloc::Global;
 use std::io::{Read, Write};
 use std::net::{Net, TcpListener, TcpStream};

@@ -2,7 +2,7 @@
 
 use fibs_connect::connect::dial::Dial;
 use fibs_connect::connect::{converse, converse_with};
-use fibs_show::fault::EngineFault;
+use fibs_engine::fault::EngineFault;
 use fibs_test_tools::devices::Endless;
 use fibs_test_tools::outcome::Outcome;
 use fibs_test_tools::pipe::{After, FAULT, Pipe, QUIET};

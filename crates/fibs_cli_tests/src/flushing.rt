@@ -3,7 +3,7 @@
 use fibs_connect::connect::converse_with;
 use fibs_connect::connect::dial::Dial;
 use fibs_exchange::exchange::link::Link;
-use fibs_show::fault::EngineFault;
+use fibs_engine::fault::EngineFault;
 use fibs_test_tools::pipe::{After, Pipe};
 use std::alloc::Global;
 use std::cell::Cell;

@@ -1,7 +1,7 @@
 //! The command line, from its words to the exit status.
 use fibs_cli::arguments;
 use fibs_cli::program::{answer, status};
-use fibs_show::fault::EngineFault;
+use fibs_engine::fault::EngineFault;
 use fibs_test_tools::outcome::Outcome;
 use fibs_test_tools::pipe::{After, Pipe};
 use fibs_test_tools::text::text_of;

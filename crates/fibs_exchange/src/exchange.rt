@@ -7,7 +7,7 @@ ghost use Rattle.fibs_session.specs.Calls.Standing.{StandsAfter};
 ghost use Rattle.fibs_messages.specs.Message.{MessageValue};
 ghost use Rattle.fibs_exchange.specs.Turns.Script.{outside, known_before, known_after};
 ghost use Rattle.fibs_exchange.specs.Turns.Turn.{Turned, TurnedBy, Stopped, FitsStream, bytes_of, is_there, still_given};
-ghost use Rattle.fibs_show.specs.Reads.{LostAtMost, turn_limit};
+ghost use Rattle.fibs_engine.specs.Reads.{LostAtMost, turn_limit};
 
 pub mod front;
 mod hearing;
@@ -21,9 +21,9 @@ mod turn_fault;
 pub mod typing;
 
 use fibs_session::{Client, Directory, Outstanding};
-use fibs_show::fault::EngineFault;
-use fibs_show::limits::READ_PORTION;
-use fibs_show::writing::Broken;
+use fibs_engine::fault::EngineFault;
+use fibs_engine::limits::READ_PORTION;
+use fibs_engine::writing::Broken;
 use front::Front;
 use hearing::hear_portion;
 use link::Link;
@@ -66,7 +66,7 @@ impl From<Broken> for ExchangeFault {
 }
 
 impl From<ExchangeFault> for EngineFault {
-    ghost use Rattle.fibs_show.specs.declared.fault.EngineFault.TheVariants.{Device};
+    ghost use Rattle.fibs_engine.specs.declared.fault.EngineFault.TheVariants.{Device};
 
     ghost from_gives = { λ _ e. e ≡ Device };
 

@@ -1,6 +1,6 @@
 //! `fibs loop`: a script of events, played by a client and a model server over real sockets.
 ghost use Rattle.std.specs.Prelude.{◌+◌, ◌⊎◌, IfOk, IsErrOf};
-ghost use Rattle.fibs_show.specs.Reads.{LostAtMost};
+ghost use Rattle.fibs_engine.specs.Reads.{LostAtMost};
 ghost use Rattle.fibs_replay.specs.Replay.Limits.{read_len};
 ghost use Rattle.fibs_replay.specs.Replay.Output.{LoggedInPart, Replayed, ReplayedInPart, ReplayFailed};
 ghost use Rattle.fibs_replay.specs.Replay.Scripts.{script_limit};
@@ -8,7 +8,7 @@ ghost use Rattle.fibs_replay.specs.Replay.Scripts.{script_limit};
 mod sockets;
 
 use fibs_replay::replay::replay_over;
-use fibs_show::fault::EngineFault;
+use fibs_engine::fault::EngineFault;
 use sockets::{BothEnds, Sockets};
 use std::alloc::Global;
 use std::io::{Read, Write};

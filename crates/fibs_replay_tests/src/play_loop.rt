@@ -2,7 +2,7 @@
 
 use super::replay::{is_log_so_far, replayed};
 use fibs_loop::play_loop::play_loop;
-use fibs_show::fault::EngineFault;
+use fibs_engine::fault::EngineFault;
 use fibs_test_tools::outcome::Outcome;
 use fibs_test_tools::pipe::{After, Pipe};
 use fibs_test_tools::text::{Text, joined, text_of};

@@ -2,7 +2,7 @@
 use Rattle.std.specs.Prelude.{◌≡◌, ◌⊎◌, ◌++◌, ◌+◌, ◌<◌, ◌≤◌, suc, ℕ, List, [], ◌∷◌, Option, Some, None, length}
 use Rattle.std.specs.Io.KnownBytes.{Appends, Keeps}
 use Rattle.fibs_fields.specs.Split.{before, after}
-use Rattle.fibs_show.specs.Writing.{GainedFront}
+use Rattle.fibs_engine.specs.Writing.{GainedFront}
 use Rattle.fibs_screen.specs.Showing.{ShowsAs}
 
 -- how long a line may be that is kept until it ends

@@ -1,14 +1,14 @@
 //! What one line shows as.
 ghost use Rattle.std.specs.Prelude.{◌≡◌, ◌++◌, OnOk, IfOk, IfErr, IsErrOf, List, ℕ};
 ghost use Rattle.std.specs.Io.KnownBytes.{Appends, Keeps};
-ghost use Rattle.fibs_show.specs.Writing.{GainedFront};
+ghost use Rattle.fibs_engine.specs.Writing.{GainedFront};
 ghost use Rattle.fibs_screen.specs.Showing.{ShowsAs, DrawsAs, Pictured, line_in_words};
 
 use fibs_boards::board::Board;
 use fibs_picture::draw;
 use fibs_position::Position;
-use fibs_show::fault::EngineFault;
-use fibs_show::writing::write_bytes;
+use fibs_engine::fault::EngineFault;
+use fibs_engine::writing::write_bytes;
 use fibs_words::append_in_words;
 use std::alloc::{AllocError, Global};
 use std::io;

@@ -8,8 +8,8 @@ use Rattle.fibs_position.specs.GoodBoard.{IsGood, HasFault, faults}
 use Rattle.fibs_position.specs.declared.position_fault.PositionFault.{PositionFault}
 use Rattle.fibs_position.specs.declared.position_fault.PositionFault.TheVariants.{NotYou, TooManyOwn, TooManyOther}
 use Rattle.fibs_show.specs.Plays.{Refusal}
-use Rattle.fibs_show.specs.declared.fault.EngineFault.{EngineFault}
-use Rattle.fibs_show.specs.declared.fault.EngineFault.TheVariants.{Device, Memory}
+use Rattle.fibs_engine.specs.declared.fault.EngineFault.{EngineFault}
+use Rattle.fibs_engine.specs.declared.fault.EngineFault.TheVariants.{Device, Memory}
 
 -- the first that fits does fit
 first_fits : {X : Type 0} (fits : X → Type 0) (xs : List X) (x : X) → IsFirst fits xs x → fits x

@@ -17,13 +17,15 @@ use Rattle.fibs_lines.specs.declared.lines.Fed.{Fed}
 use Rattle.fibs_lines.specs.declared.line.Line.{Line}
 use Rattle.fibs_messages.specs.Line.{ReadingValue, IsReading}
 use Rattle.fibs_messages.specs.Message.{HasNumber, IsNumbered}
-use Rattle.fibs_show.specs.Escape.{escaped}
-use Rattle.fibs_show.specs.Show.{reading_text, ShownAs, ShownLine, ShownLines, ShowText, WroteLinesOf, WroteRead}
+use Rattle.fibs_engine.specs.Escape.{escaped}
+use Rattle.fibs_engine.specs.Readings.{reading_text}
+use Rattle.fibs_show.specs.Show.{ShownAs, ShownLine, ShownLines, ShowText, WroteLinesOf, WroteRead}
 use Rattle.fibs_show.specs.Show.{WroteFront, WroteAll, unfinished_text}
 use Rattle.fibs_show.specs.Shows.{Shows, EndsText}
-use Rattle.fibs_show.specs.Reads.{LostAtMost}
-use Rattle.fibs_show.specs.Writing.{GainedFront}
-use Rattle.fibs_show.proofs.WriteLemmas.{front_after, front_of_more}
+use Rattle.fibs_engine.specs.Reads.{LostAtMost}
+use Rattle.fibs_engine.specs.Writing.{GainedFront}
+use Rattle.fibs_engine.proofs.ReadLemmas.{kept_consumes}
+use Rattle.fibs_engine.proofs.WriteLemmas.{front_after, front_of_more}
 
 -- a line that was cut
 pub cut_line : (line : ReadLine) → line.cut ≡ true → ShownLine line (codes "cut " ++ escaped line.bytes)
@@ -111,29 +113,6 @@ shows_more old mid now front rest added text fed before moves feeds lent =
           ∙ ap (λ l. l ++ lent_lines fed.line) (before.gains s h)
           ∙ append_assoc (lines_of s) before.gained (lent_lines fed.line);
     }
-
--- the part that was used joins the front
-pub front_more : (portion front rest : List ℕ) (used : ℕ) → portion ≡ front ++ rest
-    → portion ≡ (front ++ take used rest) ++ drop used rest
-front_more portion front rest used e =
-    e ∙ ap (λ l. front ++ l) (sym (take-append-drop used rest))
-    ∙ sym (append_assoc front (take used rest) (drop used rest))
-
--- what a list that grows where a call succeeds is then
-pub on_ok_grown : {T E A : Type 0} (r : Result T E) (now grown kept wanted : List A)
-    → now ≡ (if is_ok r then grown else kept) → grown ≡ wanted → OnOk r (now ≡ wanted)
-on_ok_grown (Ok x) now grown kept wanted e same = e ∙ same
-on_ok_grown (Err x) now grown kept wanted e same = tt
-
-pub on_ok_weaker : {T E P Q : Type 0} (r : Result T E) → (P → Q) → OnOk r P → OnOk r Q
-on_ok_weaker (Ok x) f h = f h
-on_ok_weaker (Err e) f h = tt
-
--- a reader that keeps its bytes loses none
-pub kept_consumes : (left still : Option (List ℕ)) → Keeps left still → Consumes left still []
-kept_consumes None still h = tt
-kept_consumes (Some xs) None h = h
-kept_consumes (Some xs) (Some ys) h = sym h
 
 -- what the loop over portions keeps after so many reads of at most `size` bytes: the bytes that were read, what is
 -- printed for their lines, and that this was written

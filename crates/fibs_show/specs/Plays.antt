@@ -15,7 +15,7 @@ use Rattle.fibs_position.specs.declared.phase.Phase.{Phase}
 use Rattle.fibs_position.specs.Names.{phase_name, position_fault_name}
 use Rattle.fibs_position.specs.declared.position_fault.PositionFault.{PositionFault}
 use Rattle.fibs_commands.specs.Commands.{command_of}
-use Rattle.fibs_show.specs.Show.{reading_text}
+use Rattle.fibs_engine.specs.Readings.{reading_text}
 
 -- a play's command, by which the player whose checkers go this way sends it, and a line end
 abbrev pub play_line : Direction → List Hop → List ℕ

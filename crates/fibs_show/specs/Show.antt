@@ -4,21 +4,10 @@ use Rattle.std.specs.Prelude.{if◌then◌else◌}
 use Rattle.std.specs.Fmt.{decimal}
 use Rattle.std.specs.Io.KnownBytes.{Appends, Consumes}
 use Rattle.fibs_lines.specs.Lines.{ReadLine, lines_of, rest_of, kept_limit}
-use Rattle.fibs_boards.specs.Board.{spelling}
-use Rattle.fibs_messages.specs.Line.{ReadingValue, numbered_line, board_line, text_line, malformed_line, IsReading}
-use Rattle.fibs_messages.specs.Message.{canonical}
-use Rattle.fibs_fields.specs.Faults.{fault_name}
-use Rattle.fibs_show.specs.Escape.{escaped}
-use Rattle.fibs_show.specs.Writing.{GainedFront}
-
--- what is printed for what a line says: the message by its canonical line; the board as it is spelled; the text; or the
--- number, the field and the fault of a malformed line
-abbrev pub reading_text : ReadingValue → List ℕ
-reading_text (numbered_line message) = codes "message " ++ escaped (canonical message)
-reading_text (board_line board) = spelling board
-reading_text (text_line text) = codes "text " ++ escaped text
-reading_text (malformed_line number field fault) =
-    codes "malformed " ++ (decimal number ++ (32 ∷ (decimal field ++ (32 ∷ fault_name fault))))
+use Rattle.fibs_messages.specs.Line.{ReadingValue, IsReading}
+use Rattle.fibs_engine.specs.Escape.{escaped}
+use Rattle.fibs_engine.specs.Readings.{reading_text}
+use Rattle.fibs_engine.specs.Writing.{GainedFront}
 
 -- what is printed for a line: `cut` and its kept bytes where it was cut, else what it reads as
 abbrev pub ShownAs : Bool → List ℕ → List ℕ → Type 0

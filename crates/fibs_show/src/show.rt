@@ -3,15 +3,15 @@ ghost use Rattle.std.specs.Prelude.{◌≡◌, ◌≤◌, ◌<◌, ◌*◌, ◌�
 ghost use Rattle.std.specs.Prelude.{MatchResult};
 ghost use Rattle.std.specs.Io.KnownBytes.{Appends, IsAtEnd};
 ghost use Rattle.fibs_show.specs.Show.{unfinished_text, WroteAll, WroteRead, WroteLines, WroteLinesOf, WroteFront};
-ghost use Rattle.fibs_show.specs.Reads.{LostAtLeast, LostAtMost};
+ghost use Rattle.fibs_engine.specs.Reads.{LostAtLeast, LostAtMost};
 ghost use Rattle.fibs_show.specs.Shows.{EndsText, Shows};
-ghost use Rattle.fibs_show.specs.Writing.{GainedFront};
+ghost use Rattle.fibs_engine.specs.Writing.{GainedFront};
 
-use crate::fault::EngineFault;
-use crate::limits::{MOST_INPUT_READS, READ_PORTION};
-use crate::printing::line::{append_line, append_number};
-use crate::status::Status;
-use crate::writing::{Broken, write_bytes};
+use fibs_engine::fault::EngineFault;
+use fibs_engine::limits::{MOST_INPUT_READS, READ_PORTION};
+use crate::line::{append_line, append_number};
+use fibs_engine::status::Status;
+use fibs_engine::writing::{Broken, write_bytes};
 use fibs_lines::{Lines, laws};
 use std::alloc::{AllocError, Global};
 use std::io::{Read, Write};

@@ -1,5 +1,5 @@
 //! The engine `plays`.
-use fibs_show::fault::EngineFault;
+use fibs_engine::fault::EngineFault;
 use fibs_show::plays::plays;
 use fibs_test_tools::devices::FailsOnce;
 use fibs_test_tools::outcome::Outcome;

@@ -1,6 +1,6 @@
 //! Devices of which a signal interrupts calls.
-use fibs_show::fault::EngineFault;
-use fibs_show::retrying::{RETRIES, read_retrying, write_retrying};
+use fibs_engine::fault::EngineFault;
+use fibs_engine::retrying::{RETRIES, read_retrying, write_retrying};
 use fibs_show::show::show;
 use fibs_test_tools::outcome::Outcome;
 use fibs_test_tools::pipe::{After, Pipe};

@@ -1,5 +1,5 @@
 //! The engines over streams in memory.
-use fibs_show::fault::EngineFault;
+use fibs_engine::fault::EngineFault;
 use fibs_show::show::{StreamFault, show, show_portions};
 use fibs_test_tools::devices::{Endless, FailsOnce};
 use fibs_test_tools::outcome::Outcome;

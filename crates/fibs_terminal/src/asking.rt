@@ -17,7 +17,7 @@ use fibs_connect::connect::words::{TypedLine, Wish, Words, wish_of};
 use fibs_exchange::exchange::ExchangeFault;
 use fibs_exchange::exchange::typing::is_command;
 use fibs_session::Client;
-use fibs_show::writing::write_bytes;
+use fibs_engine::writing::write_bytes;
 use std::io::Write;
 
 /// Spells a line out where the client would not know it.

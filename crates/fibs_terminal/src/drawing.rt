@@ -15,7 +15,7 @@ use fibs_exchange::exchange::said::Said;
 use fibs_messages::Reading;
 use fibs_picture::draw;
 use fibs_position::Position;
-use fibs_show::writing::write_bytes;
+use fibs_engine::writing::write_bytes;
 use std::io::Write;
 
 /// Prints what is told as the plain account does.

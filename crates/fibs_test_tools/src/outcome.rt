@@ -1,7 +1,7 @@
 //! What an engine comes to, for the tests.
 
 use crate::text::{Text, text_of};
-use fibs_show::fault::EngineFault;
+use fibs_engine::fault::EngineFault;
 
 /// How an engine ended, and what it printed on standard output and on standard error.
 #[derive(Debug, Drop)]

@@ -10,7 +10,7 @@ use Rattle.fibs_commands.specs.PlainCommands.{first_of, name_fault}
 use Rattle.fibs_commands.specs.declared.plain.PlainFault.{PlainFault}
 use Rattle.fibs_commands.specs.declared.plain.PlainFault.TheVariants.{TooLong}
 use Rattle.std.specs.Io.KnownBytes.{prepend_known}
-use Rattle.fibs_show.specs.declared.fault.EngineFault.{EngineFault}
+use Rattle.fibs_engine.specs.declared.fault.EngineFault.{EngineFault}
 use Rattle.fibs_connect.specs.Converse.Typing.{typed_line}
 use Rattle.fibs_connect.specs.Converse.Reading.{TakesLine}
 use Rattle.fibs_connect.specs.Converse.Ending.{EndsBy, ConversedOver}

@@ -17,7 +17,7 @@ use Rattle.fibs_session.specs.Calls.Standing.{ClientValue, StandsAfter}
 use Rattle.fibs_session.specs.Calls.Doing.{Does}
 use Rattle.fibs_exchange.specs.declared.exchange.Ending.{Ending}
 use Rattle.fibs_exchange.specs.declared.exchange.Ending.TheVariants.{Quiet, Lost}
-use Rattle.fibs_show.specs.Writing.{Broken}
+use Rattle.fibs_engine.specs.Writing.{Broken}
 use Rattle.fibs_exchange.specs.Turns.Turn.{FitsStream, LeavesAs, TurnedBy, is_there, still_given}
 use Rattle.fibs_exchange.proofs.TurnLemmas.Turns.{loses_offline}
 use Rattle.fibs_exchange.proofs.TurnLemmas.Hearing.{open_append}

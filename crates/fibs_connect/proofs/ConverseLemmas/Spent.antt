@@ -3,7 +3,7 @@ use Rattle.std.proofs.Common.{◌≡◌, ◌≤◌, ◌+◌, ◌*◌, ℕ, List,
 use Rattle.std.proofs.Common.{length-take}
 use Rattle.std.specs.Io.KnownBytes.{Consumes, Keeps}
 use Rattle.std.proofs.KnownBytes.{Consumes-nil, Consumes-trans, Consumes-kept}
-use Rattle.fibs_show.specs.Reads.{LostAtMost}
+use Rattle.fibs_engine.specs.Reads.{LostAtMost}
 use Rattle.fibs_connect.specs.Converse.Reading.{TypedValue, SpendsReads}
 
 -- no read was made

@@ -7,8 +7,8 @@ use Rattle.fibs_commands.specs.declared.plain.PlainFault.{PlainFault}
 use Rattle.fibs_exchange.specs.Turns.Acts.{line_bytes}
 use Rattle.fibs_exchange.specs.Turns.Typing.{reason_line}
 use Rattle.fibs_connect.specs.Converse.Typing.{typed_line}
-use Rattle.fibs_show.specs.declared.fault.EngineFault.{EngineFault}
-use Rattle.fibs_show.specs.declared.fault.EngineFault.TheVariants as fault
+use Rattle.fibs_engine.specs.declared.fault.EngineFault.{EngineFault}
+use Rattle.fibs_engine.specs.declared.fault.EngineFault.TheVariants as fault
 
 -- the line that says what is wrong with a name or a password
 abbrev pub login_fault_line : PlainFault → List ℕ

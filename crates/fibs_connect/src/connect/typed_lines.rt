@@ -9,8 +9,8 @@ ghost use Rattle.fibs_connect.specs.Converse.Reading.{ahead, FitsDevice, TakesLi
 use super::wish::TYPED_LIMIT;
 use arrayvec::ArrayVec;
 use fibs_messages::split;
-use fibs_show::fault::EngineFault;
-use fibs_show::limits::READ_PORTION;
+use fibs_engine::fault::EngineFault;
+use fibs_engine::limits::READ_PORTION;
 use std::io::Read;
 use std::marker::Model;
 
@@ -33,7 +33,7 @@ pub enum TypedFault {
 }
 
 impl From<TypedFault> for EngineFault {
-    ghost use Rattle.fibs_show.specs.declared.fault.EngineFault.TheVariants.{Device};
+    ghost use Rattle.fibs_engine.specs.declared.fault.EngineFault.TheVariants.{Device};
 
     ghost from_gives = { λ _ e. e ≡ Device };
 

@@ -11,7 +11,7 @@ use Rattle.fibs_session.specs.History.Log.{Entry}
 use Rattle.fibs_session.specs.History.Words.{open_now}
 use Rattle.fibs_session.specs.History.Hearing.{Heard, heard, nothing_heard, line_reading}
 use Rattle.fibs_session.specs.History.Machine.{Talk, is_online, gained, wire_of}
-use Rattle.fibs_show.specs.Writing.{Progress, Whole, Broken}
+use Rattle.fibs_engine.specs.Writing.{Progress, Whole, Broken}
 use Rattle.fibs_exchange.specs.Turns.Acts.{Act}
 use Rattle.fibs_exchange.specs.Turns.Lines.{line_act, line_acts, piece_acts, messages_in}
 use Rattle.fibs_exchange.specs.Turns.Typing.{talk_after, typed_acts, typed_act, typed_now}

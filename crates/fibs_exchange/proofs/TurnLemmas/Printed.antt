@@ -22,7 +22,7 @@ use Rattle.fibs_session.specs.History.Machine.{is_online, gained, order_refusal,
 use Rattle.fibs_directory.specs.declared.fault.DirectoryFault.{DirectoryFault}
 use Rattle.fibs_exchange.specs.declared.exchange.Ending.{Ending}
 use Rattle.fibs_exchange.specs.declared.exchange.Ending.TheVariants.{Quiet, Lost}
-use Rattle.fibs_show.specs.Escape.{escaped}
+use Rattle.fibs_engine.specs.Escape.{escaped}
 use Rattle.fibs_position.specs.Phases.{phase_of}
 use Rattle.fibs_exchange.specs.Turns.Told.{SaidValue, heard_said, phase_said, confirmed_said, sent_said, ordered_said}
 use Rattle.fibs_exchange.specs.Turns.Told.{withdrawn_said, refused_said, not_sent_said, unknown_said, lost_said}

@@ -4,8 +4,8 @@ use Rattle.std.proofs.Common.{mul-le-mul_right}
 use Rattle.std.proofs.lemmas.List.{length-append, length-take}
 use Rattle.std.specs.Io.KnownBytes.{Consumes, Keeps}
 use Rattle.std.proofs.KnownBytes.{Consumes-kept, Consumes-trans}
-use Rattle.fibs_show.specs.Reads.{LostAtMost}
-use Rattle.fibs_show.proofs.ShowLemmas.{kept_consumes}
+use Rattle.fibs_engine.specs.Reads.{LostAtMost}
+use Rattle.fibs_engine.proofs.ReadLemmas.{kept_consumes}
 
 -- a portion more makes one more read
 pub more_read : (made size : ℕ) (read : List ℕ) (count : ℕ) (portion : List ℕ) → length read ≤ made * size

@@ -4,7 +4,7 @@ use Rattle.std.specs.Borrow.{MutBor}
 use Rattle.fibs_messages.specs.Message.{MessageValue}
 use Rattle.fibs_session.specs.History.Machine.{Talk}
 use Rattle.fibs_session.specs.Calls.Standing.{ClientValue}
-use Rattle.fibs_show.specs.Writing.{Progress, Whole}
+use Rattle.fibs_engine.specs.Writing.{Progress, Whole}
 use Rattle.fibs_exchange.specs.declared.exchange.Ending.{Ending}
 use Rattle.fibs_exchange.specs.Turns.Told.{SaidValue}
 use Rattle.fibs_exchange.specs.Turns.Account.{Accounts}

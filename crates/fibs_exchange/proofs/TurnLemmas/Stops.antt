@@ -9,7 +9,7 @@ use Rattle.fibs_lines.specs.StreamLaws.{LinesOnlyGrow}
 use Rattle.fibs_session.specs.History.Machine.{Talk, Piece, Lose, step, is_online}
 use Rattle.fibs_session.specs.History.MachineLaws.{PiecesJoin, EmptyPieceIsNothing}
 use Rattle.fibs_session.specs.Calls.Standing.{ClientValue, StandsAfter}
-use Rattle.fibs_show.specs.Writing.{Progress, Whole, Broken}
+use Rattle.fibs_engine.specs.Writing.{Progress, Whole, Broken}
 use Rattle.fibs_exchange.specs.Turns.Told.{SaidValue}
 use Rattle.fibs_exchange.specs.Turns.Acts.{Act}
 use Rattle.fibs_exchange.specs.Turns.Lines.{piece_acts}

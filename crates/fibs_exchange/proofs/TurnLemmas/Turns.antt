@@ -13,7 +13,7 @@ use Rattle.fibs_session.specs.History.MachineLaws.{PiecesJoin, EmptyPieceIsNothi
 use Rattle.fibs_session.specs.Calls.Standing.{ClientValue, StandsAfter}
 use Rattle.fibs_exchange.specs.declared.exchange.Ending.{Ending}
 use Rattle.fibs_exchange.specs.declared.exchange.Ending.TheVariants.{Quiet, Lost}
-use Rattle.fibs_show.specs.Writing.{Progress, Whole, Broken}
+use Rattle.fibs_engine.specs.Writing.{Progress, Whole, Broken}
 use Rattle.fibs_exchange.specs.Turns.Told.{SaidValue, Joins}
 use Rattle.fibs_exchange.specs.Turns.Acts.{Act}
 use Rattle.fibs_exchange.specs.Turns.Lines.{piece_acts}

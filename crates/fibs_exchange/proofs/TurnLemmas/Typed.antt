@@ -16,8 +16,8 @@ use Rattle.fibs_session.specs.History.Machine.{Talk, is_online, answer_now}
 use Rattle.fibs_session.specs.History.Machine.{plain_refusal, on_wire, clicks_by, decides_on, sends_plain, notes_if}
 use Rattle.fibs_session.specs.History.Machine.{order_refusal, withdraw_refusal}
 use Rattle.fibs_messages.specs.Message.{MessageValue}
-use Rattle.fibs_show.specs.Writing.{Wrote}
-use Rattle.fibs_show.specs.Writing.{Whole, Broken}
+use Rattle.fibs_engine.specs.Writing.{Wrote}
+use Rattle.fibs_engine.specs.Writing.{Whole, Broken}
 use Rattle.fibs_exchange.specs.Turns.Told.{SaidValue, Joins, sent_said}
 use Rattle.fibs_exchange.specs.Turns.Acts.{Act, answer_act}
 use Rattle.fibs_exchange.specs.Turns.Script.{Did, Notes, outside}

@@ -3,24 +3,8 @@ use Rattle.std.proofs.Common.{◌≡◌, ℕ, List, [], ◌∷◌, ◌++◌, Opt
 use Rattle.std.proofs.Common.{append-nil, take, drop, take-append-drop, Result, Ok, Err, OnOk, IfOk}
 use Rattle.std.specs.Io.KnownBytes.{Appends, Consumes}
 use Rattle.std.proofs.KnownBytes.{Appends-trans, Consumes-trans}
-use Rattle.fibs_show.specs.Writing.{Wrote}
-use Rattle.fibs_show.specs.Writing.{Progress, Whole, Broken}
-
--- an answer that says more
-pub on_ok_weaker : {T E P Q : Type 0} (r : Result T E) → (P → Q) → OnOk r P → OnOk r Q
-on_ok_weaker (Ok x) f h = f h
-on_ok_weaker (Err e) f h = tt
-
-pub if_ok_weaker : {T E : Type 0} {P Q : T → Type 0} (r : Result T E) → ((x : T) → P x → Q x) → IfOk r P → IfOk r Q
-if_ok_weaker (Ok x) f h = f x h
-if_ok_weaker (Err e) f h = tt
-
--- the part that was used joins the front
-pub front_more : (portion front rest : List ℕ) (used : ℕ) → portion ≡ front ++ rest
-    → portion ≡ (front ++ take used rest) ++ drop used rest
-front_more portion front rest used e =
-    e ∙ ap (λ l. front ++ l) (sym (take-append-drop used rest))
-    ∙ sym (append_assoc front (take used rest) (drop used rest))
+use Rattle.fibs_engine.specs.Writing.{Wrote}
+use Rattle.fibs_engine.specs.Writing.{Progress, Whole, Broken}
 
 -- after what was written whole
 pub wrote_more : (p : Progress) (a b c : Option (List ℕ)) (xs ys : List ℕ) → Appends a b xs → Wrote p b c ys

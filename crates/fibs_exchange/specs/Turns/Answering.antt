@@ -10,7 +10,7 @@ use Rattle.fibs_exchange.specs.declared.exchange.typing.Answer.{Answer}
 use Rattle.fibs_exchange.specs.declared.exchange.typing.Answer.TheVariants as A
 use Rattle.fibs_exchange.specs.declared.exchange.turn_fault.TurnFault.{TurnFault}
 use Rattle.fibs_exchange.specs.declared.exchange.turn_fault.TurnFault.TheVariants as F
-use Rattle.fibs_show.specs.Writing.{Progress, Whole, Broken}
+use Rattle.fibs_engine.specs.Writing.{Progress, Whole, Broken}
 use Rattle.fibs_exchange.specs.Turns.SaidOf.{said_of}
 use Rattle.fibs_exchange.specs.Turns.Acts.{Act, answer_act}
 use Rattle.fibs_exchange.specs.Turns.Typing.{TypedValue, typed_decision, typed_plain, typed_order, typed_withdrawal}

@@ -10,8 +10,8 @@ use Rattle.fibs_session.specs.History.Words.{Ask, open_now}
 use Rattle.fibs_session.specs.History.Hearing.{heard, line_reading}
 use Rattle.fibs_session.specs.History.Machine.{Talk, is_online, gained, wire_of}
 use Rattle.fibs_session.specs.Calls.SessionOf.{TakenValue}
-use Rattle.fibs_show.specs.Escape.{escaped}
-use Rattle.fibs_show.specs.Show.{reading_text}
+use Rattle.fibs_engine.specs.Escape.{escaped}
+use Rattle.fibs_engine.specs.Readings.{reading_text}
 use Rattle.fibs_exchange.specs.Turns.Told.{SaidValue, heard_said, phase_said, confirmed_said, rolled_said}
 use Rattle.fibs_exchange.specs.Turns.Acts.{Act}
 

@@ -7,7 +7,7 @@ use Rattle.std.specs.Io.KnownBytes.{Appends}
 use Rattle.fibs_messages.specs.Message.{MessageValue}
 use Rattle.fibs_directory.specs.declared.fault.DirectoryFault.{DirectoryFault}
 use Rattle.fibs_directory.specs.Directory.{IsDirectory}
-use Rattle.fibs_show.specs.Writing.{Progress, Whole, Broken}
+use Rattle.fibs_engine.specs.Writing.{Progress, Whole, Broken}
 use Rattle.fibs_exchange.specs.Turns.Told.{SaidValue, unnoted_said}
 use Rattle.fibs_exchange.specs.Turns.Acts.{Act}
 

@@ -9,7 +9,7 @@ use Rattle.fibs_session.specs.Calls.SessionOf.{ask_of}
 use Rattle.fibs_session.specs.Calls.Standing.{ClientValue, StandsAfter}
 use Rattle.fibs_exchange.specs.declared.exchange.Ending.{Ending}
 use Rattle.fibs_exchange.specs.declared.exchange.Ending.TheVariants.{Quiet, Lost}
-use Rattle.fibs_show.specs.Writing.{Progress, Whole, Broken}
+use Rattle.fibs_engine.specs.Writing.{Progress, Whole, Broken}
 use Rattle.fibs_exchange.specs.Turns.Told.{SaidValue, lost_said}
 use Rattle.fibs_exchange.specs.Turns.Account.{Accounts}
 use Rattle.fibs_exchange.specs.Turns.Acts.{Act, only_tell}

@@ -2,7 +2,7 @@
 ghost use Rattle.std.specs.Io.{ReadsAtMost, WritesAtMost};
 ghost use Rattle.std.specs.Io.KnownBytes.{Keeps, ReadConsumes, WriteAppends};
 
-use fibs_show::retrying::{read_retrying, write_retrying};
+use fibs_engine::retrying::{read_retrying, write_retrying};
 use std::io;
 use std::io::{Read, Write};
 use std::net::TcpStream;

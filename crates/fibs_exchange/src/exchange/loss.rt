@@ -5,7 +5,7 @@ ghost use Rattle.fibs_session.specs.History.Machine.{Talk, Lose, step};
 ghost use Rattle.fibs_session.specs.Calls.Standing.{StandsAfter};
 ghost use Rattle.fibs_exchange.specs.Turns.Script.{outside};
 ghost use Rattle.fibs_exchange.specs.Turns.Turn.{Ended};
-ghost use Rattle.fibs_show.specs.Writing.{Progress};
+ghost use Rattle.fibs_engine.specs.Writing.{Progress};
 
 use super::front::Front;
 use super::said::Said;

@@ -24,8 +24,8 @@ use arrayvec::ArrayVec;
 use fibs_lines::Line;
 use fibs_messages::Reading;
 use fibs_session::{Outstanding, PlainRefusal, Player};
-use fibs_show::printing::fixed::{append, append_number};
-use fibs_show::printing::malformed::malformed_text;
+use fibs_engine::fixed::{append, append_number};
+use fibs_engine::malformed::malformed_text;
 use std::io::Write;
 
 /// The line of a player: a name has at most 64 bytes.

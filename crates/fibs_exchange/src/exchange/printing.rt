@@ -3,7 +3,7 @@ ghost use Rattle.std.specs.Prelude.{◌≡◌, ◌≤◌, ◌+◌, ◌++◌, len
 ghost use Rattle.std.specs.Io.KnownBytes.{Appends};
 ghost use Rattle.fibs_commands.specs.TextOf.{text_of};
 ghost use Rattle.fibs_session.specs.Calls.SessionOf.{ask_of};
-ghost use Rattle.fibs_show.specs.Escape.{escaped};
+ghost use Rattle.fibs_engine.specs.Escape.{escaped};
 ghost use Rattle.fibs_exchange.specs.Turns.Acts.{line_bytes, asked_text};
 ghost use Rattle.fibs_exchange.specs.Turns.Typing.{reason_line};
 
@@ -12,9 +12,9 @@ use arrayvec::ArrayVec;
 use fibs_lines::LIMIT;
 use fibs_position::Direction;
 use fibs_session::{CommandText, Outstanding, decision_text};
-use fibs_show::printing::escape::write_escaped;
-use fibs_show::printing::fixed::{append, append_number};
-use fibs_show::writing::write_bytes;
+use fibs_engine::escape::write_escaped;
+use fibs_engine::fixed::{append, append_number};
+use fibs_engine::writing::write_bytes;
 use std::fmt::Display;
 use std::io::Write;
 

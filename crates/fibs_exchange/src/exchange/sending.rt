@@ -4,13 +4,13 @@ ghost use Rattle.std.specs.Io.KnownBytes.{Keeps};
 ghost use Rattle.fibs_commands.specs.TextOf.{text_of};
 ghost use Rattle.fibs_session.specs.History.Machine.{on_wire, wire_of};
 ghost use Rattle.fibs_session.specs.Calls.SessionOf.{texts_of};
-ghost use Rattle.fibs_show.specs.Writing.{Wrote, progress_of};
+ghost use Rattle.fibs_engine.specs.Writing.{Wrote, progress_of};
 
 use super::link::Link;
 use arrayvec::{ArrayString, ArrayVec};
 use fibs_session::AnswerText;
-use fibs_show::printing::fixed::append;
-use fibs_show::writing::Broken;
+use fibs_engine::fixed::append;
+use fibs_engine::writing::Broken;
 
 /// A command of at most 512 bytes and its line end.
 type WireLine = ArrayVec<u8, 514>;

@@ -3,7 +3,7 @@ ghost use Rattle.std.specs.Prelude.{◌≡◌};
 ghost use Rattle.fibs_exchange.specs.declared.exchange.turn_fault.TurnFault.TheVariants.{Stream, Output};
 
 use super::ExchangeFault;
-use fibs_show::writing::Broken;
+use fibs_engine::writing::Broken;
 
 /// Which side failed.
 #[derive(Clone, Copy)]

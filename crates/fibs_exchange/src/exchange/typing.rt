@@ -12,7 +12,7 @@ ghost use Rattle.fibs_exchange.specs.Turns.Script.{Did, outside};
 ghost use Rattle.fibs_exchange.specs.Turns.Turn.{FitsStream};
 ghost use Rattle.fibs_exchange.specs.Turns.Typing.{shown_direction, typed_as, typed_now, typed_step, typed_act};
 ghost use Rattle.fibs_exchange.specs.Turns.Typing.{order_in, is_command};
-ghost use Rattle.fibs_show.specs.Writing.{Whole};
+ghost use Rattle.fibs_engine.specs.Writing.{Whole};
 
 use super::ExchangeFault;
 use super::front::Front;

@@ -3,7 +3,7 @@ use Rattle.std.proofs.Common.{◌≡◌, ◌≤◌, ◌+◌, ◌++◌, ℕ, List
 use Rattle.std.proofs.lemmas.List.{length-append, length-take}
 use Rattle.std.specs.Io.KnownBytes.{Consumes, Keeps}
 use Rattle.std.proofs.KnownBytes.{Consumes-kept, Consumes-trans}
-use Rattle.fibs_show.specs.Reads.{LostAtMost}
+use Rattle.fibs_engine.specs.Reads.{LostAtMost}
 
 -- a read that gave nothing
 pub few_kept : (most : ℕ) (a b c : Option (List ℕ)) (read : List ℕ) → Consumes a b read → length read ≤ most → Keeps b c

@@ -19,9 +19,9 @@ use Rattle.fibs_model.specs.declared.halt.Stop.{Stop}
 use Rattle.fibs_model.specs.declared.halt.Stop.TheVariants as S
 use Rattle.fibs_model.specs.declared.refusal.WorldRefusal.{WorldRefusal}
 use Rattle.fibs_model.specs.declared.refusal.WorldRefusal.TheVariants as W
-use Rattle.fibs_show.specs.declared.fault.EngineFault.{EngineFault}
-use Rattle.fibs_show.specs.declared.fault.EngineFault.TheVariants as fault
-use Rattle.fibs_show.specs.Printing.{Printed}
+use Rattle.fibs_engine.specs.declared.fault.EngineFault.{EngineFault}
+use Rattle.fibs_engine.specs.declared.fault.EngineFault.TheVariants as fault
+use Rattle.fibs_engine.specs.Printing.{Printed}
 use Rattle.fibs_replay.specs.Replay.LogLines.{log_text}
 use Rattle.fibs_replay.specs.Replay.Output.{script_login, unread_text, end_text, refused_text, log_after, ReplayText}
 use Rattle.fibs_replay.specs.Replay.Output.{too_long, unreadable, refused, to_the_end, LogOf, Replayed}

@@ -10,8 +10,8 @@ use Rattle.fibs_model.specs.Events.{Event}
 use Rattle.fibs_model.specs.RefusalNames.{refusal_number, refusal_name}
 use Rattle.fibs_model.specs.Refusals.{refusal}
 use Rattle.fibs_model.specs.Runs.{MayBe, world_after}
-use Rattle.fibs_show.specs.Reads.{LostAtMost}
-use Rattle.fibs_show.specs.Writing.{GainedFront}
+use Rattle.fibs_engine.specs.Reads.{LostAtMost}
+use Rattle.fibs_engine.specs.Writing.{GainedFront}
 use Rattle.fibs_replay.specs.Replay.LogLines.{line_bytes, log_text}
 use Rattle.fibs_replay.specs.Replay.Scripts.{script_limit, script_lines, SayScript, FirstUnreadable, ReadsScript}
 use Rattle.fibs_replay.specs.declared.replay.script.Script.{Script}

@@ -8,11 +8,11 @@ use Rattle.fibs_model.specs.Events.{Event}
 use Rattle.fibs_model.specs.Runs.{MayBe, world_after}
 use Rattle.fibs_model.specs.WorldCalls.{WorldStandsAfter, HaltsAt}
 use Rattle.fibs_model.specs.WorldOf.{WorldValue}
-use Rattle.fibs_show.specs.declared.fault.EngineFault.{EngineFault}
-use Rattle.fibs_show.specs.declared.fault.EngineFault.TheVariants as fault
+use Rattle.fibs_engine.specs.declared.fault.EngineFault.{EngineFault}
+use Rattle.fibs_engine.specs.declared.fault.EngineFault.TheVariants as fault
 use Rattle.std.specs.Io.KnownBytes.{Appends}
-use Rattle.fibs_show.specs.Printing.{Printed}
-use Rattle.fibs_show.specs.Writing.{GainedFront}
+use Rattle.fibs_engine.specs.Printing.{Printed}
+use Rattle.fibs_engine.specs.Writing.{GainedFront}
 use Rattle.fibs_replay.specs.Replay.Output.{script_login, end_text, refused_text, ReplayText, LogOf, IsFor}
 
 -- the world stands after these events of the user of scripts

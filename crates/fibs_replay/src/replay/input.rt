@@ -1,13 +1,13 @@
 //! A script is read.
 ghost use Rattle.std.specs.Prelude.{◌<◌, ◌+◌, length, option_map, IfOk, IsErrOf};
-ghost use Rattle.fibs_show.specs.Reads.{LostAtMost};
+ghost use Rattle.fibs_engine.specs.Reads.{LostAtMost};
 ghost use Rattle.fibs_replay.specs.Replay.Limits.{read_len};
 ghost use Rattle.fibs_replay.specs.Replay.Output.{ReadWhole, ReadLines};
 ghost use Rattle.fibs_replay.specs.Replay.Scripts.{script_limit};
 
 use super::limits::{READ_LEN, SCRIPT_LIMIT};
 use super::script::{Script, first_unreadable};
-use fibs_show::fault::EngineFault;
+use fibs_engine::fault::EngineFault;
 use std::alloc::Global;
 use std::io::Read;
 

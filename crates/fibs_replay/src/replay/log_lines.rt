@@ -17,7 +17,7 @@ use arrayvec::ArrayVec;
 use fibs_messages::Board;
 use fibs_model::Entry;
 use fibs_session::{Outstanding, Refusal};
-use fibs_show::printing::fixed::append;
+use fibs_engine::fixed::append;
 use itoa::Buffer;
 
 /// Text on its way to a writer: as much as is written at once.

@@ -1,7 +1,7 @@
 //! What is written for a script: the lines of the log, and a last line.
 ghost use Rattle.std.specs.Prelude.{◌≡◌, ◌≤◌, ◌++◌, length, map};
 ghost use Rattle.fibs_model.specs.EntryOf.{entry_of};
-ghost use Rattle.fibs_show.specs.Writing.{Wrote, progress_of};
+ghost use Rattle.fibs_engine.specs.Writing.{Wrote, progress_of};
 ghost use Rattle.fibs_replay.specs.Replay.Limits.{write_len};
 ghost use Rattle.fibs_replay.specs.Replay.LogLines.{log_text};
 ghost use Rattle.fibs_replay.specs.Replay.Passing.{MadeRoom};
@@ -11,8 +11,8 @@ use super::limits::{ENTRY_LEN, LAST_LINE_LEN};
 use super::log_lines::{Portion, append_entry};
 use arrayvec::ArrayVec;
 use fibs_model::{Entry, WorldRefusal};
-use fibs_show::printing::fixed::append;
-use fibs_show::writing::{Broken, write_bytes};
+use fibs_engine::fixed::append;
+use fibs_engine::writing::{Broken, write_bytes};
 use itoa::Buffer;
 use std::io::Write;
 

@@ -5,8 +5,8 @@ ghost use Rattle.fibs_commands.specs.LoginOf.{name_of, password_of};
 ghost use Rattle.fibs_model.specs.Crossings.{crossings};
 ghost use Rattle.fibs_model.specs.EntryOf.{entry_of};
 ghost use Rattle.fibs_model.specs.Events.{Event};
-ghost use Rattle.fibs_show.specs.Printing.{Printed};
-ghost use Rattle.fibs_show.specs.Status.{code_of};
+ghost use Rattle.fibs_engine.specs.Printing.{Printed};
+ghost use Rattle.fibs_engine.specs.Status.{code_of};
 ghost use Rattle.fibs_replay.specs.Replay.Limits.{write_len};
 ghost use Rattle.fibs_replay.specs.Replay.LogLines.{log_text};
 ghost use Rattle.fibs_replay.specs.Replay.Output.{script_login};
@@ -18,8 +18,8 @@ use super::output::{end_line, print_log, refused_line};
 use bstr::Lines;
 use fibs_model::{Carrier, Entry, Stop, World, WorldRefusal};
 use fibs_session::Login;
-use fibs_show::fault::EngineFault;
-use fibs_show::status::Status;
+use fibs_engine::fault::EngineFault;
+use fibs_engine::status::Status;
 use std::io::Write;
 
 /// How a run of a script ended.

@@ -2,7 +2,7 @@ use Rattle.std.proofs.Common.{None, Some, inl, inr, ap, sym, ◌∙◌}
 use Rattle.std.specs.Result.{result_err}
 use Rattle.std.proofs.KnownBytes.{Keeps-refl}
 use Rattle.fibs_commands.specs.Logins.{login_fault}
-use Rattle.fibs_exchange.proofs.TurnLemmas.Wrote.{if_ok_weaker}
+use Rattle.fibs_engine.proofs.OkLemmas.{if_ok_weaker}
 use Rattle.fibs_connect.proofs.ConverseLemmas.Logins.{conversed_by}
 use Rattle.fibs_connect.proofs.ConverseLemmas.Spent.{spends_more, spends_few}
 use Rattle.fibs_connect.proofs.connect.converse_with.Goals as goal

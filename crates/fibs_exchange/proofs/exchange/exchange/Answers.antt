@@ -1,5 +1,5 @@
 use Rattle.std.proofs.Common.{rules, false}
-use Rattle.fibs_exchange.proofs.TurnLemmas.Wrote.{if_ok_weaker}
+use Rattle.fibs_engine.proofs.OkLemmas.{if_ok_weaker}
 use Rattle.fibs_exchange.proofs.TurnLemmas.Turns.{next_fits}
 use Rattle.fibs_exchange.proofs.TurnLemmas.Seen.{turn_accounted}
 use Rattle.fibs_exchange.proofs.exchange.exchange.Goals as goal

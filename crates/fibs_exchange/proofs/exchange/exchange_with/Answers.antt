@@ -1,5 +1,5 @@
 use Rattle.std.proofs.Common.{false, true}
-use Rattle.fibs_exchange.proofs.TurnLemmas.Wrote.{if_ok_weaker}
+use Rattle.fibs_engine.proofs.OkLemmas.{if_ok_weaker}
 use Rattle.fibs_exchange.proofs.TurnLemmas.Turns.{next_fits}
 use Rattle.fibs_exchange.proofs.exchange.exchange_with.Goals as goal
 

@@ -3,10 +3,11 @@ use Rattle.std.specs.Io.KnownBytes.{Consumes}
 use Rattle.std.proofs.KnownBytes.{Consumes-nil, Consumes-trans, Consumes-kept}
 use Rattle.fibs_session.specs.History.Machine.{Piece, step}
 use Rattle.fibs_exchange.specs.declared.exchange.Ending.TheVariants.{Quiet}
-use Rattle.fibs_show.specs.Writing.{Whole, Broken}
+use Rattle.fibs_engine.specs.Writing.{Whole, Broken}
 use Rattle.fibs_exchange.specs.Turns.Script.{outside}
 use Rattle.fibs_exchange.specs.Turns.Turn.{all_fed, lost}
-use Rattle.fibs_exchange.proofs.TurnLemmas.Wrote.{if_ok_weaker, consumes_none}
+use Rattle.fibs_engine.proofs.OkLemmas.{if_ok_weaker}
+use Rattle.fibs_exchange.proofs.TurnLemmas.Wrote.{consumes_none}
 use Rattle.fibs_exchange.proofs.TurnLemmas.Turns.{gone_nothing, gone_kept, gone_portion, broke_portion, still_open}
 use Rattle.fibs_exchange.proofs.TurnLemmas.Turns.{turned}
 use Rattle.fibs_exchange.proofs.TurnLemmas.Turns.{turned_whole}

@@ -1,5 +1,5 @@
 use Rattle.std.proofs.Common.{subst}
-use Rattle.fibs_show.specs.Writing.{GainedFront}
+use Rattle.fibs_engine.specs.Writing.{GainedFront}
 use Rattle.fibs_show.proofs.plays.print_plays.Goals as goal
 
 pub returns-in_err-write_bytes-clause-device : goal.returns-in_err-write_bytes-clause-device

@@ -1,6 +1,7 @@
 use Rattle.std.proofs.Common.{◌≡◌, ◌++◌, ◌∷◌, ℕ, List, [], take, refl, sym, ap, ◌∙◌, append-nil, append_assoc}
 use Rattle.std.proofs.lemmas.List.{take_rest}
-use Rattle.fibs_show.proofs.ShowLemmas.{ShownLent, lent_none, lent_some, shows_nothing, shows_more, front_more}
+use Rattle.fibs_engine.proofs.WriteLemmas.{front_more}
+use Rattle.fibs_show.proofs.ShowLemmas.{ShownLent, lent_none, lent_some, shows_nothing, shows_more}
 use Rattle.fibs_show.proofs.show.append_portion.Goals.{in-Some+in_ok-append_line-in-Some, in-None}
 use Rattle.fibs_show.proofs.show.append_portion.Goals as goal
 

@@ -1,9 +1,11 @@
 use Rattle.std.proofs.Common.{rules, ◌≡◌, ◌<◌, ◌++◌, [], arith, sym, subst, ap, ◌∙◌, take, length}
 use Rattle.std.specs.Io.KnownBytes.{Appends, Consumes}
 use Rattle.fibs_show.specs.Show.{WroteLinesOf}
-use Rattle.fibs_show.specs.Writing.{GainedFront}
+use Rattle.fibs_engine.specs.Writing.{GainedFront}
 use Rattle.fibs_show.proofs.ShowLemmas.{passed_more, passed_part, passed_front, passed_whole, passed_whole_front}
-use Rattle.fibs_show.proofs.ShowLemmas.{passed_few, kept_consumes, on_ok_weaker, portion_part, portion_some}
+use Rattle.fibs_engine.proofs.OkLemmas.{on_ok_weaker}
+use Rattle.fibs_engine.proofs.ReadLemmas.{kept_consumes}
+use Rattle.fibs_show.proofs.ShowLemmas.{passed_few, portion_part, portion_some}
 use Rattle.fibs_show.proofs.show.show_portions.Goals as goal
 
 pub returns-in-Ok-eq0-clause-whole : goal.returns-in-Ok-eq0-clause-whole

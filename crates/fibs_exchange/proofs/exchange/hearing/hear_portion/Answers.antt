@@ -9,8 +9,8 @@ use Rattle.fibs_session.specs.Calls.Feeding.{FeedAnswers, Shows}
 use Rattle.fibs_session.specs.Calls.SessionOf.{taken_of}
 use Rattle.fibs_exchange.specs.Turns.Lines.{taken_act, piece_acts}
 use Rattle.fibs_exchange.specs.Turns.Script.{Did, outside, calls_of}
-use Rattle.fibs_show.specs.Writing.{Whole}
-use Rattle.fibs_exchange.proofs.TurnLemmas.Wrote.{front_more}
+use Rattle.fibs_engine.specs.Writing.{Whole}
+use Rattle.fibs_engine.proofs.WriteLemmas.{front_more}
 use Rattle.fibs_exchange.proofs.TurnLemmas.Scripts.{did_nothing}
 use Rattle.fibs_exchange.proofs.TurnLemmas.Hearing.{taken_acts, acts_taken, taken_online, ends_taken, piece_online}
 use Rattle.fibs_exchange.proofs.TurnLemmas.Turns.{gone_nothing, gone_more, broke_at}

@@ -1,6 +1,6 @@
 use Rattle.std.proofs.Common.{◌++◌, [], None, Some, sym, subst, append-nil}
 use Rattle.fibs_directory.specs.Directory.{IsDirectory}
-use Rattle.fibs_exchange.proofs.TurnLemmas.Wrote.{on_ok_weaker}
+use Rattle.fibs_engine.proofs.OkLemmas.{on_ok_weaker}
 use Rattle.fibs_exchange.proofs.exchange.hearing.note_taken.Goals as goal
 
 pub returns-in-Err : goal.returns-in-Err

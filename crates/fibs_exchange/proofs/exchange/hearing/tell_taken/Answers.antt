@@ -5,7 +5,7 @@ use Rattle.fibs_messages.specs.Line.{reading_of}
 use Rattle.fibs_session.specs.Calls.SessionOf.{ask_of}
 use Rattle.fibs_exchange.specs.Turns.Told.{heard_said}
 use Rattle.fibs_exchange.specs.Turns.Lines.{phase_told, confirmed_told, rolled_told}
-use Rattle.fibs_exchange.proofs.TurnLemmas.Wrote.{on_ok_weaker}
+use Rattle.fibs_engine.proofs.OkLemmas.{on_ok_weaker}
 use Rattle.fibs_exchange.proofs.exchange.hearing.tell_taken.Goals as goal
 
 pub returns : goal.returns

@@ -5,7 +5,7 @@ use Rattle.fibs_commands.specs.TextOf.{text_of}
 use Rattle.arrayvec.specs.ArrayString.{ArrayString as CommandText}
 use Rattle.fibs_session.specs.History.Machine.{on_wire, wire_of}
 use Rattle.fibs_session.specs.Calls.SessionOf.{texts_of}
-use Rattle.fibs_show.specs.Writing.{Broken, Wrote}
+use Rattle.fibs_engine.specs.Writing.{Broken, Wrote}
 use Rattle.fibs_exchange.proofs.TurnLemmas.Faults.{broken_on}
 use Rattle.fibs_exchange.proofs.TurnLemmas.Wrote.{wrote_more, wrote_front}
 use Rattle.fibs_exchange.proofs.exchange.sending.send_commands.Goals as goal

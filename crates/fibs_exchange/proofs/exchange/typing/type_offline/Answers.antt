@@ -1,7 +1,7 @@
 use Rattle.std.proofs.KnownBytes.{Appends-nil}
 use Rattle.fibs_exchange.specs.Turns.SaidOf.{said_of}
 use Rattle.fibs_exchange.specs.Turns.Typing.{typed_now}
-use Rattle.fibs_exchange.proofs.TurnLemmas.Wrote.{on_ok_weaker}
+use Rattle.fibs_engine.proofs.OkLemmas.{on_ok_weaker}
 use Rattle.fibs_exchange.proofs.TurnLemmas.Typed.{did_reply}
 use Rattle.fibs_exchange.proofs.exchange.typing.type_offline.Goals as goal
 

@@ -1,7 +1,7 @@
 use Rattle.std.proofs.Common.{◌≡◌, ◌++◌, ◌∙◌, map, sym, subst}
 use Rattle.fibs_model.specs.EntryOf.{entry_of}
 use Rattle.fibs_replay.specs.Replay.LogLines.{log_text}
-use Rattle.fibs_show.specs.Writing.{Wrote, progress_of}
+use Rattle.fibs_engine.specs.Writing.{Wrote, progress_of}
 use Rattle.fibs_replay.proofs.ReplayLemmas.Outputs.{broken_on, entry_passed, entry_broken, all_passed}
 use Rattle.fibs_replay.proofs.replay.output.print_log.Goals as goal
 

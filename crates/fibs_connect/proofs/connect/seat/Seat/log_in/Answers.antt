@@ -1,7 +1,7 @@
 use Rattle.std.proofs.Common.{None, []}
 use Rattle.fibs_session.specs.Calls.SessionOf.{handed}
 use Rattle.fibs_session.specs.History.Machine.{Open, step}
-use Rattle.fibs_show.specs.Writing.{Broken}
+use Rattle.fibs_engine.specs.Writing.{Broken}
 use Rattle.fibs_connect.proofs.ConverseLemmas.Seats.{seat_opens, seat_lost}
 use Rattle.fibs_connect.proofs.connect.seat.Seat.log_in.Goals as goal
 

@@ -1,6 +1,6 @@
 use Rattle.std.proofs.Common.{◌∷◌, [], refl, inr}
 use Rattle.fibs_exchange.specs.Turns.Told.{no_connection_said}
-use Rattle.fibs_exchange.proofs.TurnLemmas.Wrote.{on_ok_weaker}
+use Rattle.fibs_engine.proofs.OkLemmas.{on_ok_weaker}
 use Rattle.fibs_connect.proofs.ConverseLemmas.Seats.{on_ok_both, seat_connects}
 use Rattle.fibs_connect.proofs.connect.seat.Seat.open.Goals as goal
 

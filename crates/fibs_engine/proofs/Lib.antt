@@ -1,0 +1,5 @@
+pub mod EscapeLemmas
+pub mod EscapeWindows
+pub mod OkLemmas
+pub mod ReadLemmas
+pub mod WriteLemmas

@@ -1,0 +1,6 @@
+pub mod Escape
+pub mod Printing
+pub mod Readings
+pub mod Reads
+pub mod Status
+pub mod Writing

@@ -1,7 +1,0 @@
-use Rattle.fibs_show.proofs.EscapeLemmas.{escaped_unchanged}
-use Rattle.fibs_show.proofs.printing.escape.escape_from.Goals as goal
-
-pub returns-then-not-has_escaped : goal.returns-then-not-has_escaped
-returns-then-not-has_escaped c =
-    escaped_unchanged c.args.text.now.items c.deref.result.now c.args.start c.has_escaped.result c.deref.ensures.value
-    c.has_escaped.ensures c.if-not-has_escaped.true

@@ -1,0 +1,145 @@
+//! One line of text for each line of the server.
+ghost use Rattle.std.specs.Prelude.{◌≡◌, ◌++◌, ◌∷◌, [], ℕ, List, codes, OnOk};
+ghost use Rattle.fibs_lines.specs.Lines.{value_of};
+ghost use Rattle.fibs_boards.specs.Board.{spelling};
+ghost use Rattle.fibs_messages.specs.Line.{IsBoardLine, IsReading, ReadingValue, malformed_line};
+ghost use Rattle.fibs_messages.specs.Message.{canonical};
+ghost use Rattle.fibs_messages.specs.Message.{message_of};
+ghost use Rattle.fibs_boards.specs.StoredBoard.{fields_of};
+ghost use Rattle.fibs_engine.specs.Escape.{escaped};
+ghost use Rattle.fibs_engine.specs.Readings.{reading_text};
+ghost use Rattle.fibs_show.specs.Show.{ShownLine};
+
+use fibs_engine::escape::{append_escaped, escape_from};
+use fibs_engine::malformed::malformed_text;
+use fibs_lines::Line;
+use fibs_messages::{
+    Board, Fault, Message, Reading, canonical_line, check_board, is_board_line, message_number,
+    print_message, read,
+};
+use itoa::{Buffer, Integer};
+use std::alloc::{AllocError, Global};
+
+/// Appends a number.
+pub fn append_number<I: Integer>(number: I, text: &mut Vec<u8>) -> Result<(), AllocError>
+    ensures { OnOk result (text.new.items ≡ text.old.items ++ I.text number) }
+{
+    text.extend_from_slice(Buffer::new().format(number).as_bytes())
+}
+
+/// Appends what is printed for a malformed line.
+fn append_malformed(
+    number: u8,
+    field: usize,
+    fault: Fault,
+    text: &mut Vec<u8>,
+) -> Result<(), AllocError>
+    ensures { OnOk result (text.new.items ≡ text.old.items ++ reading_text (malformed_line number field fault)) }
+{
+    text.extend_from_slice(malformed_text(number, field, fault).as_slice())
+}
+
+/// Appends what is printed for a message. It is not inlined, since room for its largest values is cleared at each call.
+#[inline(never)]
+fn append_message(
+    alloc: Global,
+    message: &Message<'_>,
+    text: &mut Vec<u8>,
+) -> Result<(), AllocError>
+    ensures { OnOk result (text.new.items
+        ≡ text.old.items ++ (codes "message " ++ escaped (canonical (message_of message.now)))) }
+{
+    text.extend_from_slice(b"message ")?;
+    let start = text.len();
+    print_message(alloc, message, text)?;
+    escape_from(alloc, start, text)
+}
+
+/// Appends what is printed for a board. It is not inlined, since room for its largest values is cleared at each call.
+#[inline(never)]
+fn append_board(board: &Board, text: &mut Vec<u8>) -> Result<(), AllocError>
+    ensures { OnOk result (text.new.items ≡ text.old.items ++ spelling (fields_of board.now)) }
+{
+    board.print_into(text)
+}
+
+/// Appends what is printed for a text.
+fn append_text(bytes: &[u8], text: &mut Vec<u8>) -> Result<(), AllocError>
+    ensures { OnOk result (text.new.items ≡ text.old.items ++ (codes "text " ++ escaped bytes.now)) }
+{
+    text.extend_from_slice(b"text ")?;
+    append_escaped(bytes, text)
+}
+
+/// Appends what is printed for a board line. A line that says a board is copied.
+fn append_board_line(line: &[u8], text: &mut Vec<u8>) -> Result<(), AllocError>
+    requires { IsBoardLine line.now }
+    ensures { OnOk result ((reading : ReadingValue) × IsReading line.now reading
+        × (text.new.items ≡ text.old.items ++ reading_text reading)) }
+{
+    match check_board(line) {
+        Ok(board) => text.extend_from_slice(board),
+        Err(wrong) => append_malformed(0, wrong.field, wrong.fault, text),
+    }
+}
+
+/// Appends what is printed for a message, by its canonical line.
+fn append_canonical(canonical: &[u8], text: &mut Vec<u8>) -> Result<(), AllocError>
+    ensures { OnOk result (text.new.items ≡ text.old.items ++ (codes "message " ++ escaped canonical.now)) }
+{
+    text.extend_from_slice(b"message ")?;
+    append_escaped(canonical, text)
+}
+
+/// Appends what is printed for a line that is read for it. It is not inlined, since room for what is read is cleared
+/// at each call.
+///
+/// What `read` answers is matched where it stands: a name for it would be a copy of its hundreds of bytes.
+#[inline(never)]
+fn append_read(alloc: Global, line: &[u8], text: &mut Vec<u8>) -> Result<(), AllocError>
+    ensures { OnOk result ((reading : ReadingValue) × IsReading line.now reading
+        × (text.new.items ≡ text.old.items ++ reading_text reading)) }
+{
+    match read(line) {
+        Reading::Numbered(message) => append_message(alloc, &message, text),
+        Reading::Board(board) => append_board(&board, text),
+        Reading::Text(bytes) => append_text(bytes, text),
+        Reading::Malformed {
+            number,
+            field,
+            fault,
+        } => append_malformed(number, field, fault, text),
+    }
+}
+
+/// Appends what is printed for a line that was not cut. Nearly all lines of a server stand as they are printed.
+fn append_reading(alloc: Global, line: &[u8], text: &mut Vec<u8>) -> Result<(), AllocError>
+    ensures { OnOk result ((reading : ReadingValue) × IsReading line.now reading
+        × (text.new.items ≡ text.old.items ++ reading_text reading)) }
+{
+    if is_board_line(line) {
+        return append_board_line(line, text);
+    }
+    if message_number(line).is_none() {
+        return append_text(line, text);
+    }
+    match canonical_line(line) {
+        Some(canonical) => append_canonical(canonical, text),
+        None => append_read(alloc, line, text),
+    }
+}
+
+/// Appends what is printed for a line, and a line end.
+pub fn append_line(alloc: Global, line: &Line<'_>, text: &mut Vec<u8>) -> Result<(), AllocError>
+    ensures { OnOk result ((shown : List ℕ) × ShownLine (value_of line.now) shown
+        × (text.new.items ≡ text.old.items ++ (shown ++ (10 ∷ [])))) }
+{
+    if line.cut {
+        text.extend_from_slice(b"cut ")?;
+        append_escaped(line.bytes, text)?;
+    } else {
+        append_reading(alloc, line.bytes, text)?;
+    }
+    text.push(b'\n')?;
+    Ok(())
+}
