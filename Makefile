@@ -1,10 +1,8 @@
-# make            proves and builds the program, and leaves it as bin/fibs, with bin/fibs-play beside it
-# make lib        proves and builds the library for C: lib/libfibs.a, lib/libfibs.so and lib/fibs.pc. It takes a C compiler
-# make test       passes all tests: the gate, then the tests of the built program
-# make install    copies the program, with fibs-play, its page and the completions for shells, and the library for C, with its
-#                 header, to $(PREFIX); make install-program, make install-lib one of them alone
-# make bench      measures the program beside others, in ratios
-# make clean      removes what the other targets made
+# `make help` lists the targets. `make` uses all processors, `make -j2` two.
+.DEFAULT_GOAL := all
+# what runs side by side are crates, and scripts/prove runs them
+.NOTPARALLEL:
+.DELETE_ON_ERROR:
 
 PREFIX ?= /usr/local
 SHARE = $(PREFIX)/share
@@ -12,6 +10,7 @@ MEGABYTES ?= 50
 ROUNDS ?= 5
 PEER ?= $(if $(shell command -v rustc),bin/plain_show)
 BUILT := crates/fibs/out/fibs
+CRATES := $(shell sed -nE 's/^([a-z0-9_]+)( [^:]*)?:.*/\1/p' crates.txt)
 
 # The library for C. A change after which a caller has to be built again makes the second number of its soname one more.
 VERSION := 0.1.0
@@ -20,26 +19,43 @@ C_ARCHIVE := crates/fibs_c/out/libfibs_c.a
 # the heap of the toolchain's library, over malloc, realloc and free
 KIT_ARCHIVE = $(dir $(shell rt doc))c/liblibc_c.a
 
-.PHONY: all lib test install install-program install-surface install-lib bench clean
+.PHONY: all lib test quick fmt dist install install-program install-surface install-lib bench clean help $(CRATES)
 
-all:
-	cd crates/fibs && rt run -- --help > /dev/null
-	mkdir -p bin
-	install -m 755 $(BUILT) bin/fibs
-	install -m 755 scripts/fibs-play bin/fibs-play
+all: ## proves and builds the program: bin/fibs, with bin/fibs-play beside it
+	@scripts/tools build
+	@scripts/prove fibs
+	@mkdir -p bin
+	@cmp -s $(BUILT) bin/fibs || install -m 755 $(BUILT) bin/fibs
+	@cmp -s scripts/fibs-play bin/fibs-play || install -m 755 scripts/fibs-play bin/fibs-play
 
-test:
-	tests/run
+lib: ## proves and builds the library for C: lib/libfibs.a, lib/libfibs.so and lib/fibs.pc
+	@scripts/tools lib
+	@scripts/prove fibs_c
+	@$(MAKE) --no-print-directory lib/libfibs.a lib/libfibs.so lib/fibs.pc
 
-lib:
-	cd crates/fibs_c && rt lib > /dev/null
-	$(MAKE) lib/libfibs.a lib/libfibs.so lib/fibs.pc
+test: ## passes all tests: the proofs, the edits that must fail, the tests of what was built
+	@scripts/tools test
+	@tests/run
+
+quick: ## what needs no proof, on what make and make lib built, in three minutes at most
+	@tests/quick
+
+$(CRATES): ## (the name of a crate) proves it, and what it stands on
+	@scripts/prove $@
+
+fmt: ## lays out the files of each crate
+	@for crate in $(CRATES); do (cd crates/$$crate && rt fmt) || exit 1; done
+
+dist: ## makes dist/: packages of the program and of the library, for machines without a prover
+	@scripts/tools dist
+	@$(MAKE) --no-print-directory all lib
+	@VERSION=$(VERSION) SONAME=$(SONAME) scripts/dist
 
 # one archive, which needs the C library alone
 lib/libfibs.a: $(C_ARCHIVE)
 	rm -rf lib/objects $@ && mkdir -p lib/objects
 	cd lib/objects && ar x ../../$(C_ARCHIVE) && ar x $(KIT_ARCHIVE) heap.pic.o
-	ar rcs $@ lib/objects/*.o
+	ar rcsD $@ lib/objects/*.o
 	rm -rf lib/objects
 
 lib/libfibs.so: lib/libfibs.a lib/fibs.map
@@ -50,17 +66,16 @@ lib/libfibs.so: lib/libfibs.a lib/fibs.map
 lib/fibs.pc: lib/fibs.pc.in Makefile
 	sed -e 's|@PREFIX@|$(PREFIX)|; s|@VERSION@|$(VERSION)|' $< > $@
 
-install: install-program install-lib
+install: install-program install-lib ## copies the program and the library for C to $(PREFIX)
 
-install-program: all install-surface
-	install -d $(DESTDIR)$(PREFIX)/bin
-	install -m 755 bin/fibs $(DESTDIR)$(PREFIX)/bin/fibs
+install-program: all install-surface ## the program alone, with fibs-play, its page and the completions
 
 # what is built of nothing
 install-surface:
 	install -d $(DESTDIR)$(PREFIX)/bin $(DESTDIR)$(SHARE)/man/man1 $(DESTDIR)$(SHARE)/fibs \
 		$(DESTDIR)$(SHARE)/bash-completion/completions $(DESTDIR)$(SHARE)/zsh/site-functions \
 		$(DESTDIR)$(SHARE)/fish/vendor_completions.d
+	[ ! -x bin/fibs ] || install -m 755 bin/fibs $(DESTDIR)$(PREFIX)/bin/fibs
 	install -m 755 scripts/fibs-play $(DESTDIR)$(PREFIX)/bin/fibs-play
 	install -m 644 docs/fibs.1 $(DESTDIR)$(SHARE)/man/man1/fibs.1
 	ln -sf fibs.1 $(DESTDIR)$(SHARE)/man/man1/fibs-play.1
@@ -71,7 +86,10 @@ install-surface:
 	install -m 644 completions/fibs.fish $(DESTDIR)$(SHARE)/fish/vendor_completions.d/fibs.fish
 	ln -sf fibs.fish $(DESTDIR)$(SHARE)/fish/vendor_completions.d/fibs-play.fish
 
-install-lib: lib
+install-lib: lib install-lib-files ## the library for C alone, with its header
+
+# the library as it stands
+install-lib-files:
 	install -d $(DESTDIR)$(PREFIX)/include $(DESTDIR)$(PREFIX)/lib/pkgconfig
 	install -m 644 include/fibs.h $(DESTDIR)$(PREFIX)/include/fibs.h
 	install -m 644 lib/libfibs.a $(DESTDIR)$(PREFIX)/lib/libfibs.a
@@ -83,8 +101,8 @@ bin/plain_show: bench/plain_show.rs
 	mkdir -p bin
 	rustc -O -o $@ $<
 
-bench: all lib $(PEER)
-	cd crates/fibs_bench && rt run > /dev/null < /dev/null
+bench: all lib $(PEER) ## measures the program beside others, in ratios
+	scripts/prove fibs_bench
 	PEER=$(PEER) bench/show bin/fibs $(MEGABYTES) $(ROUNDS)
 	bench/loops crates/fibs_bench/out/fibs_bench $(MEGABYTES) $(ROUNDS)
 	bench/c_calls crates/fibs_bench/out/fibs_bench $(MEGABYTES) $(ROUNDS)
@@ -93,5 +111,11 @@ bench: all lib $(PEER)
 	bench/latency bin/fibs
 	bench/seat bin/fibs
 
-clean:
-	rm -rf bin lib/*.a lib/*.so* lib/fibs.pc crates/*/out
+clean: ## removes what the other targets made
+	rm -rf bin dist out lib/*.a lib/*.so* lib/fibs.pc crates/*/out
+
+help: ## lists the targets
+	@awk -F ': .*## ' '/^[a-z$$][^:]*:.*## / { name = $$1; sub(/^\$$\(CRATES\)/, "CRATE", name); printf "make %-16s %s\n", name, $$2 }' Makefile
+
+.DEFAULT:
+	@echo "make: there is no target $@; make help lists them" >&2; exit 2
