@@ -19,7 +19,8 @@ C_ARCHIVE := crates/fibs_c/out/libfibs_c.a
 # the heap of the toolchain's library, over malloc, realloc and free
 KIT_ARCHIVE = $(dir $(shell rt doc))c/liblibc_c.a
 
-.PHONY: all lib test quick fmt dist install install-program install-surface install-lib bench clean help $(CRATES)
+.PHONY: all lib test quick fmt dist install install-program install-surface install-lib \
+	install-lib-files dist-files bench clean help $(CRATES)
 
 all: ## proves and builds the program: bin/fibs, with bin/fibs-play beside it
 	@scripts/tools build
@@ -49,6 +50,10 @@ fmt: ## lays out the files of each crate
 dist: ## makes dist/: packages of the program and of the library, for machines without a prover
 	@scripts/tools dist
 	@$(MAKE) --no-print-directory all lib
+	@$(MAKE) --no-print-directory dist-files
+
+# packs what is built as it stands
+dist-files:
 	@VERSION=$(VERSION) SONAME=$(SONAME) scripts/dist
 
 # one archive, which needs the C library alone
