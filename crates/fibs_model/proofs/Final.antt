@@ -5,7 +5,7 @@ use Rattle.std.proofs.Common.{length-append}
 use Rattle.std.proofs.lemmas.Bool.Decides.{eqb_tells}
 use Rattle.fibs_boards.specs.Board.{BoardFields as Board}
 use Rattle.fibs_position.specs.DecisionValue.{DecisionValue as Decision}
-use Rattle.fibs_session.specs.declared.refusal.Refusal.{Refusal}
+use Rattle.fibs_history.specs.declared.refusal.Refusal.{Refusal}
 use Rattle.fibs_session.specs.History.Log.{Entry, Opened, LoggedIn, Welcomed, Informed, Shown, Took, Lost, Ordered}
 use Rattle.fibs_session.specs.History.Log.{Withdrawn}
 use Rattle.fibs_session.specs.History.Orders.{is_due}
@@ -13,7 +13,7 @@ use Rattle.fibs_session.specs.History.Words.{Ask, is_empty, open_now, sent, took
 use Rattle.std.specs.Prelude.{nat_lt}
 use Rattle.std.proofs.Common.{append-nil}
 use Rattle.fibs_messages.specs.Line.{ReadingValue, numbered_line, board_line, text_line, malformed_line}
-use Rattle.fibs_session.specs.declared.refusal.PlainRefusal.{PlainRefusal}
+use Rattle.fibs_history.specs.declared.refusal.PlainRefusal.{PlainRefusal}
 use Rattle.fibs_session.specs.History.Hearing.{nothing_heard, flags_of, shows_board}
 use Rattle.fibs_session.specs.History.Machine.{plain_refusal, order_refusal, withdraw_refusal}
 use Rattle.fibs_model.specs.Wires.{delivered, taken, next_line}

@@ -11,8 +11,8 @@ use Rattle.fibs_position.specs.DecisionValue.{DecisionValue}
 use Rattle.fibs_position.specs.GamePart.{same_game}
 use Rattle.fibs_position.specs.GoodBoard.{good}
 use Rattle.fibs_commands.specs.PlainCommands.{PlainValue, plain_of}
-use Rattle.fibs_session.specs.declared.refusal.Refusal.{Refusal}
-use Rattle.fibs_session.specs.declared.refusal.PlainRefusal.{PlainRefusal}
+use Rattle.fibs_history.specs.declared.refusal.Refusal.{Refusal}
+use Rattle.fibs_history.specs.declared.refusal.PlainRefusal.{PlainRefusal}
 use Rattle.fibs_session.specs.History.Log.{Entry}
 use Rattle.fibs_session.specs.History.Log as L
 use Rattle.fibs_session.specs.History.Words.{is_empty, open_from, open_now, opened_by, connections, unconfirmed, answer}
@@ -26,7 +26,8 @@ use Rattle.fibs_session.specs.History.Machine.{sends_plain as talk_sends_plain, 
 use Rattle.fibs_session.specs.History.Machine.{gained, on_wire, wire_of, notes_if, order_refusal, withdraw_refusal}
 use Rattle.fibs_session.specs.History.Machine as M
 use Rattle.fibs_session.specs.Calls.Standing.{ClientValue, StandsAfter}
-use Rattle.fibs_session.specs.History.MachineLaws.{ServersEntriesAreSilent, IsServers, logs_in, takes, undoes}
+use Rattle.fibs_session.specs.Calls.ClientLaws.{ServersEntriesAreSilent}
+use Rattle.fibs_session.specs.History.MachineLaws.{IsServers, logs_in, takes, undoes}
 use Rattle.fibs_model.specs.Wires.{Link, delivered, more_asked, taken, cut_off, next_line}
 use Rattle.fibs_model.specs.Server.{Served, Stale, LoggedIn, Took, Undone, Answered, command}
 use Rattle.fibs_model.specs.Events.{Event, Open, Click, Plain, Deliver, Lose, Serve, Own, Repeat, Text, Order, Withdraw}

@@ -12,8 +12,8 @@ use Rattle.fibs_position.specs.GamePart.{Differ, same_game}
 use Rattle.fibs_position.specs.GoodBoard.{good as is_good}
 use Rattle.fibs_position.specs.Laws.{EffectIsExact, EffectIsGood}
 use Rattle.fibs_commands.specs.PlainCommands.{PlainValue}
-use Rattle.fibs_session.specs.declared.refusal.Refusal.{Refusal}
-use Rattle.fibs_session.specs.declared.refusal.PlainRefusal.{PlainRefusal}
+use Rattle.fibs_history.specs.declared.refusal.Refusal.{Refusal}
+use Rattle.fibs_history.specs.declared.refusal.PlainRefusal.{PlainRefusal}
 use Rattle.fibs_session.specs.History.Hearing.{nothing_heard, flags_of, line_reading, shown_entries, shows_board, Heard}
 use Rattle.fibs_session.specs.History.Log.{Entry, Opened, Welcomed, Informed, Shown, Clicked, Sent, Took, Undone, Lost}
 use Rattle.fibs_session.specs.History.Log.{Ordered, Withdrawn}

@@ -10,10 +10,10 @@ use Rattle.fibs_position.specs.Names.{disallowed_number, position_fault_number, 
 use Rattle.fibs_position.specs.declared.disallowed.Disallowed.{Disallowed}
 use Rattle.fibs_position.specs.declared.position_fault.PositionFault.{PositionFault}
 use Rattle.fibs_session.specs.History.Refusals.{refusal_number, refusal_name}
-use Rattle.fibs_session.specs.declared.refusal.Refusal.{Refusal}
-use Rattle.fibs_session.specs.declared.refusal.Refusal.TheVariants as R
-use Rattle.fibs_session.specs.declared.refusal.PlainRefusal.{PlainRefusal}
-use Rattle.fibs_session.specs.declared.refusal.PlainRefusal.TheVariants as P
+use Rattle.fibs_history.specs.declared.refusal.Refusal.{Refusal}
+use Rattle.fibs_history.specs.declared.refusal.Refusal.TheVariants as R
+use Rattle.fibs_history.specs.declared.refusal.PlainRefusal.{PlainRefusal}
+use Rattle.fibs_history.specs.declared.refusal.PlainRefusal.TheVariants as P
 
 -- the client's refusal, or 0 where it does not refuse
 abbrev pub refusal_status : Option Refusal → ℕ

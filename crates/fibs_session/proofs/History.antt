@@ -1,10 +1,5 @@
--- What a history says after more entries, and what the fields of a session say of it.
-pub mod Lists
-pub mod Past
-pub mod Words
+-- From the fields of a session to the history: what more entries change.
 pub mod Texts
 pub mod Fields
 pub mod Steps
-pub mod Due
-pub mod Joins
-pub mod Owing
+pub mod GoesOn

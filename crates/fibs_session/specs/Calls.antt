@@ -8,3 +8,4 @@ pub mod ClientOf
 pub mod Feeding
 pub mod InputOf
 pub mod Writing
+pub mod ClientLaws

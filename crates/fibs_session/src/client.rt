@@ -9,9 +9,9 @@ ghost use Rattle.fibs_boards.specs.StoredBoard.{fields_of};
 ghost use Rattle.fibs_position.specs.DecisionValue.{decision_of};
 ghost use Rattle.fibs_session.specs.Calls.Doing.{Does};
 ghost use Rattle.fibs_session.specs.Calls.Standing.{StandsAfter};
-ghost use Rattle.fibs_session.specs.History.Machine.{Talk, start, Open, Lose, Piece, Click, PlainInput, open_refusal};
-ghost use Rattle.fibs_session.specs.History.Machine.{unconfirmed_now, answer_now, plain_refusal, shown_now};
-ghost use Rattle.fibs_session.specs.History.Machine.{Order, Withdraw, order_refusal, withdraw_refusal, ordered_now};
+ghost use Rattle.fibs_history.specs.Machine.{Talk, start, Open, Lose, Piece, Click, PlainInput, open_refusal};
+ghost use Rattle.fibs_history.specs.Machine.{unconfirmed_now, answer_now, plain_refusal, shown_now};
+ghost use Rattle.fibs_history.specs.Machine.{Order, Withdraw, order_refusal, withdraw_refusal, ordered_now};
 ghost use Rattle.fibs_commands.specs.LoginOf.{login_of};
 ghost use Rattle.fibs_commands.specs.PlainOf.{plain_value};
 
@@ -22,9 +22,9 @@ pub mod laws;
 mod owned_reading;
 mod run;
 
-use crate::refusal::{PlainRefusal, Refusal};
 use crate::session::{Outstanding, Session, Taken};
 use fibs_commands::{CommandText, Login, Plain};
+use fibs_history::{PlainRefusal, Refusal};
 use fibs_lines::Lines;
 use fibs_messages::Board;
 use fibs_position::Decision;

@@ -3,7 +3,6 @@
 
 pub mod client;
 pub mod laws;
-mod refusal;
 mod session;
 
 pub use client::{Client, Got, HeardLine, Input, run_client};
@@ -12,5 +11,5 @@ pub use fibs_commands::{
     moreboards_text, plain_text, read_command, read_plain, roll_text, style_text,
 };
 pub use fibs_directory::{Directory, DirectoryFault, Player};
-pub use refusal::{PlainRefusal, Refusal};
+pub use fibs_history::{PlainRefusal, Refusal};
 pub use session::{Outstanding, Session, Taken};

@@ -9,10 +9,10 @@ ghost use Rattle.fibs_boards.specs.StoredBoard.{fields_of};
 ghost use Rattle.fibs_position.specs.DecisionValue.{decision_of};
 ghost use Rattle.fibs_session.specs.Calls.Doing.{SessionDoes, SessionHears};
 ghost use Rattle.fibs_session.specs.Calls.Standing.{SessionStandsAfter};
-ghost use Rattle.fibs_session.specs.History.Hearing.{line_reading};
-ghost use Rattle.fibs_session.specs.History.Machine.{Talk, start, Open, Lose, Click, PlainInput, open_refusal};
-ghost use Rattle.fibs_session.specs.History.Machine.{unconfirmed_now, answer_now, plain_refusal, shown_now, is_online};
-ghost use Rattle.fibs_session.specs.History.Machine.{Order, Withdraw, order_refusal, withdraw_refusal, ordered_now};
+ghost use Rattle.fibs_history.specs.Hearing.{line_reading};
+ghost use Rattle.fibs_history.specs.Machine.{Talk, start, Open, Lose, Click, PlainInput, open_refusal};
+ghost use Rattle.fibs_history.specs.Machine.{unconfirmed_now, answer_now, plain_refusal, shown_now, is_online};
+ghost use Rattle.fibs_history.specs.Machine.{Order, Withdraw, order_refusal, withdraw_refusal, ordered_now};
 ghost use Rattle.fibs_commands.specs.LoginOf.{login_of};
 ghost use Rattle.fibs_commands.specs.PlainOf.{plain_value};
 
@@ -23,8 +23,8 @@ mod ordering;
 mod shown_board;
 mod taken;
 
-use crate::refusal::{PlainRefusal, Refusal};
 use fibs_commands::{CommandText, Login, Plain};
+use fibs_history::{PlainRefusal, Refusal};
 use fibs_lines::Line;
 use fibs_messages::Board;
 use fibs_position::{Decision, laws};

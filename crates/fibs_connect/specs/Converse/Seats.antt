@@ -6,7 +6,7 @@ use Rattle.fibs_session.specs.History.Machine.{Talk, is_online}
 use Rattle.fibs_session.specs.Calls.Standing.{ClientValue, StandsAfter}
 use Rattle.fibs_exchange.specs.declared.exchange.Ending.{Ending}
 use Rattle.fibs_exchange.specs.Turns.Told.{SaidValue, refused_said, unknown_said, no_connection_said}
-use Rattle.fibs_session.specs.declared.refusal.Refusal.TheVariants.{AlreadyOpen}
+use Rattle.fibs_history.specs.declared.refusal.Refusal.TheVariants.{AlreadyOpen}
 use Rattle.fibs_exchange.specs.Turns.Script.{outside}
 use Rattle.fibs_exchange.specs.Turns.Turn.{TurnedBy, still_given}
 use Rattle.fibs_connect.specs.Converse.Players.{players_told}

@@ -11,9 +11,9 @@ use Rattle.fibs_lines.specs.Lines.{ReadLine}
 use Rattle.fibs_boards.specs.Board.{BoardFields}
 use Rattle.fibs_messages.specs.Line.{ReadingValue, numbered_line, board_line, text_line, malformed_line}
 use Rattle.fibs_position.specs.GoodBoard.{good}
-use Rattle.fibs_session.specs.declared.refusal.Refusal.{Refusal}
-use Rattle.fibs_session.specs.declared.refusal.PlainRefusal.{PlainRefusal}
-use Rattle.fibs_session.specs.declared.refusal.PlainRefusal.TheVariants as P
+use Rattle.fibs_history.specs.declared.refusal.Refusal.{Refusal}
+use Rattle.fibs_history.specs.declared.refusal.PlainRefusal.{PlainRefusal}
+use Rattle.fibs_history.specs.declared.refusal.PlainRefusal.TheVariants as P
 use Rattle.fibs_session.specs.History.Log.{Entry}
 use Rattle.fibs_session.specs.History.Words.{Ask, open_now}
 use Rattle.fibs_session.specs.History.Hearing.{Heard, heard, line_reading}

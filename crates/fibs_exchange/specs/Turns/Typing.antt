@@ -8,9 +8,9 @@ use Rattle.fibs_position.specs.DirectionOf.{direction_of}
 use Rattle.fibs_position.specs.declared.direction.Direction.{Direction}
 use Rattle.fibs_position.specs.declared.direction.Direction.TheVariants.{Down}
 use Rattle.fibs_commands.specs.PlainCommands.{PlainValue}
-use Rattle.fibs_session.specs.declared.refusal.Refusal.{Refusal}
-use Rattle.fibs_session.specs.declared.refusal.PlainRefusal.{PlainRefusal}
-use Rattle.fibs_session.specs.declared.refusal.PlainRefusal.TheVariants as P
+use Rattle.fibs_history.specs.declared.refusal.Refusal.{Refusal}
+use Rattle.fibs_history.specs.declared.refusal.PlainRefusal.{PlainRefusal}
+use Rattle.fibs_history.specs.declared.refusal.PlainRefusal.TheVariants as P
 use Rattle.fibs_session.specs.History.Machine.{Talk, Step, Click, PlainInput, step, stays, shown_now, answer_now}
 use Rattle.fibs_session.specs.History.Machine.{plain_refusal, Order, Withdraw, order_refusal, withdraw_refusal}
 use Rattle.fibs_session.specs.History.Refusals.{refusal_number, refusal_name, plain_refusal_number, plain_refusal_name}

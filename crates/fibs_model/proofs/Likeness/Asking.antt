@@ -5,8 +5,8 @@ use Rattle.fibs_boards.specs.Board.{BoardFields}
 use Rattle.fibs_position.specs.DecisionValue.{DecisionValue}
 use Rattle.fibs_position.specs.GamePart.{same_game}
 use Rattle.fibs_commands.specs.PlainCommands.{PlainValue, plain_of}
-use Rattle.fibs_session.specs.declared.refusal.Refusal.{Refusal}
-use Rattle.fibs_session.specs.declared.refusal.PlainRefusal.{PlainRefusal}
+use Rattle.fibs_history.specs.declared.refusal.Refusal.{Refusal}
+use Rattle.fibs_history.specs.declared.refusal.PlainRefusal.{PlainRefusal}
 use Rattle.fibs_session.specs.History.Log.{Entry, Clicked, Sent, Ordered, Withdrawn}
 use Rattle.fibs_session.specs.History.Words.{open_from, open_now, answer}
 use Rattle.fibs_session.specs.History.Allows.{allows}
@@ -14,7 +14,7 @@ use Rattle.fibs_session.specs.History.Machine.{Talk, Step, answer_now, shown_now
 use Rattle.fibs_session.specs.History.Machine.{plain_refusal, order_refusal, withdraw_refusal, wire_of}
 use Rattle.fibs_session.specs.History.Machine.{sends_plain as talk_sends_plain}
 use Rattle.fibs_session.specs.History.Machine as M
-use Rattle.fibs_session.specs.History.MachineLaws.{ServersEntriesAreSilent}
+use Rattle.fibs_session.specs.Calls.ClientLaws.{ServersEntriesAreSilent}
 use Rattle.fibs_session.specs.Calls.Standing.{StandsAfter}
 use Rattle.fibs_session.specs.Calls.Doing.{Does}
 use Rattle.fibs_model.specs.EntryOf.{entry_of}

@@ -13,7 +13,7 @@ use Rattle.fibs_session.specs.History.Hearing.{Heard, heard, line_reading}
 use Rattle.fibs_session.specs.History.Log.{Entry}
 use Rattle.fibs_session.specs.History.Machine.{Talk, Piece, step, gained, on_wire, wire_of, ordered_now}
 use Rattle.fibs_session.specs.History.Machine as M
-use Rattle.fibs_session.specs.History.MachineLaws.{ServersEntriesAreSilent}
+use Rattle.fibs_session.specs.Calls.ClientLaws.{ServersEntriesAreSilent}
 use Rattle.fibs_session.specs.History.Owing.{owed_on, owed, entries_owed}
 use Rattle.fibs_session.specs.History.Words.{is_empty, open_now, welcomed, informed}
 use Rattle.fibs_model.specs.Clients.{Steps}

@@ -5,7 +5,7 @@ use Rattle.fibs_session.specs.History.Log as L
 use Rattle.fibs_session.specs.History.Words.{Ask, open_now, unconfirmed}
 use Rattle.fibs_session.specs.History.Machine.{Talk, unconfirmed_now}
 use Rattle.fibs_session.specs.History.Machine as M
-use Rattle.fibs_session.specs.History.MachineLaws.{ServersEntriesAreSilent}
+use Rattle.fibs_session.specs.Calls.ClientLaws.{ServersEntriesAreSilent}
 use Rattle.fibs_session.specs.Calls.Standing.{StandsAfter}
 use Rattle.fibs_session.specs.Calls.Doing.{Does}
 use Rattle.fibs_model.specs.Events.{Lose}

@@ -6,7 +6,7 @@ use Rattle.fibs_session.specs.History.Log as L
 use Rattle.fibs_session.specs.History.Log.{Entry}
 use Rattle.fibs_session.specs.History.Words.{is_empty, open_now}
 use Rattle.fibs_session.specs.History.Machine.{on_wire}
-use Rattle.fibs_session.specs.History.MachineLaws.{ServersEntriesAreSilent}
+use Rattle.fibs_session.specs.Calls.ClientLaws.{ServersEntriesAreSilent}
 use Rattle.fibs_session.specs.Calls.Standing.{StandsAfter}
 use Rattle.fibs_model.specs.Server.{ServerValue}
 use Rattle.fibs_model.specs.Calls.{send_links, served_entries, is_answered, TakesNext}

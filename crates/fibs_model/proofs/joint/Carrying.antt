@@ -13,8 +13,8 @@ use Rattle.fibs_session.specs.History.Machine.{on_wire}
 use Rattle.fibs_session.specs.History.Orders.{is_due}
 use Rattle.fibs_session.specs.History.Words.{last, open_from, open_now, shown}
 use Rattle.fibs_commands.specs.PlainCommands.{PlainValue}
-use Rattle.fibs_session.specs.declared.refusal.PlainRefusal.{PlainRefusal}
-use Rattle.fibs_session.specs.declared.refusal.Refusal.{Refusal}
+use Rattle.fibs_history.specs.declared.refusal.PlainRefusal.{PlainRefusal}
+use Rattle.fibs_history.specs.declared.refusal.Refusal.{Refusal}
 use Rattle.fibs_boards.specs.Board.{BoardFields as Board}
 use Rattle.fibs_model.specs.Joint.{Carried}
 use Rattle.fibs_model.specs.Wires.{Link, more_asked}

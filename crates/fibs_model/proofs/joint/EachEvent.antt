@@ -9,9 +9,9 @@ use Rattle.fibs_session.specs.History.Words.{open_now}
 use Rattle.fibs_commands.specs.PlainCommands.{PlainValue, plain_fault_of}
 use Rattle.fibs_commands.specs.declared.plain.PlainFault.{PlainFault}
 use Rattle.std.specs.Prelude.{option_map}
-use Rattle.fibs_session.specs.declared.refusal.PlainRefusal.{PlainRefusal}
-use Rattle.fibs_session.specs.declared.refusal.PlainRefusal.TheVariants as P
-use Rattle.fibs_session.specs.declared.refusal.Refusal.{Refusal}
+use Rattle.fibs_history.specs.declared.refusal.PlainRefusal.{PlainRefusal}
+use Rattle.fibs_history.specs.declared.refusal.PlainRefusal.TheVariants as P
+use Rattle.fibs_history.specs.declared.refusal.Refusal.{Refusal}
 use Rattle.fibs_session.specs.History.Log.{Entry, Ordered, Withdrawn}
 use Rattle.fibs_session.specs.History.Machine.{plain_refusal, may_send, order_refusal, withdraw_refusal}
 use Rattle.fibs_model.specs.Wires.{next_line}

@@ -8,7 +8,7 @@ use Rattle.std.proofs.lemmas.Bool.Decides.{eqb_tells}
 use Rattle.std.proofs.lemmas.Bool.{cases_lt}
 use Rattle.fibs_boards.specs.Board.{BoardFields as Board}
 use Rattle.fibs_position.specs.DecisionValue.{DecisionValue as Decision, roll}
-use Rattle.fibs_session.specs.declared.refusal.Refusal.{Refusal}
+use Rattle.fibs_history.specs.declared.refusal.Refusal.{Refusal}
 use Rattle.fibs_session.specs.History.Log.{Entry}
 use Rattle.fibs_session.specs.History.Log.{Opened, LoggedIn, Welcomed, Informed, Shown, Clicked, Sent, Took, Undone}
 use Rattle.fibs_session.specs.History.Log.{Lost, Ordered, Withdrawn}

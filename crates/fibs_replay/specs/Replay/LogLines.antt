@@ -2,7 +2,7 @@
 -- spelled, commands in the numbers of their own board.
 use Rattle.std.specs.Prelude.{◌++◌, ℕ, Bool, List, ◌∷◌, [], codes, decimal, Option, Some, None, flat_map, if◌then◌else◌}
 use Rattle.fibs_boards.specs.Board.{spelling}
-use Rattle.fibs_session.specs.declared.refusal.Refusal.{Refusal}
+use Rattle.fibs_history.specs.declared.refusal.Refusal.{Refusal}
 use Rattle.fibs_session.specs.History.Asked.{asked_text}
 use Rattle.fibs_session.specs.History.Log.{Entry, Opened, LoggedIn, Welcomed, Informed, Shown, Clicked, Sent, Took}
 use Rattle.fibs_session.specs.History.Log.{Undone, Lost, Ordered, Withdrawn}

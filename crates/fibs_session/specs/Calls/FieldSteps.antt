@@ -13,16 +13,16 @@ use Rattle.fibs_position.specs.GamePart.{same_game}
 use Rattle.fibs_position.specs.Phases.{phase_of}
 use Rattle.fibs_commands.specs.FirstCommands.{style_text}
 use Rattle.fibs_commands.specs.PlainCommands.{PlainValue, automove_off, greedy_off, plain_fault_of, plain_of}
-use Rattle.fibs_session.specs.declared.refusal.Refusal.{Refusal}
-use Rattle.fibs_session.specs.declared.refusal.Refusal.TheVariants.{AlreadyOpen, Offline, NotReady, ServerPlays}
-use Rattle.fibs_session.specs.declared.refusal.Refusal.TheVariants.{AlreadyOrdered, NotOrdered}
-use Rattle.fibs_session.specs.declared.refusal.PlainRefusal.{PlainRefusal}
-use Rattle.fibs_session.specs.declared.refusal.PlainRefusal.TheVariants as P
-use Rattle.fibs_session.specs.History.Words.{Ask, one_if, if_board, plays_itself}
-use Rattle.fibs_session.specs.History.Hearing.{flags_of, initial_commands}
-use Rattle.fibs_session.specs.History.Allows.{allows}
-use Rattle.fibs_session.specs.History.Orders.{is_to_roll}
-use Rattle.fibs_session.specs.History.Machine.{flag_is_on}
+use Rattle.fibs_history.specs.declared.refusal.Refusal.{Refusal}
+use Rattle.fibs_history.specs.declared.refusal.Refusal.TheVariants.{AlreadyOpen, Offline, NotReady, ServerPlays}
+use Rattle.fibs_history.specs.declared.refusal.Refusal.TheVariants.{AlreadyOrdered, NotOrdered}
+use Rattle.fibs_history.specs.declared.refusal.PlainRefusal.{PlainRefusal}
+use Rattle.fibs_history.specs.declared.refusal.PlainRefusal.TheVariants as P
+use Rattle.fibs_history.specs.Words.{Ask, one_if, if_board, plays_itself}
+use Rattle.fibs_history.specs.Hearing.{flags_of, initial_commands}
+use Rattle.fibs_history.specs.Allows.{allows}
+use Rattle.fibs_history.specs.Orders.{is_to_roll}
+use Rattle.fibs_history.specs.Machine.{flag_is_on}
 use Rattle.fibs_session.specs.Calls.SessionValue.{SessionValue}
 
 abbrev pub fresh : List ℕ → Bool → SessionValue

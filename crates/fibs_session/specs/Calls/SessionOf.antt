@@ -14,8 +14,8 @@ use Rattle.fibs_session.specs.declared.session.taken.Outstanding.{Outstanding}
 use Rattle.fibs_session.specs.declared.session.taken.Taken.{Taken}
 use Rattle.fibs_session.specs.declared.session.ServerFlags.{ServerFlags}
 use Rattle.fibs_session.specs.declared.session.Session.{Session}
-use Rattle.fibs_session.specs.History.Log.{Flags}
-use Rattle.fibs_session.specs.History.Words.{Ask}
+use Rattle.fibs_history.specs.Log.{Flags}
+use Rattle.fibs_history.specs.Words.{Ask}
 use Rattle.fibs_commands.specs.LoginOf.{login_of}
 use Rattle.fibs_session.specs.Calls.SessionValue.{SessionValue}
 

@@ -1,13 +1,14 @@
 -- A session's fields as values, and what a history says of each. No public contract opens it.
-use Rattle.std.specs.Prelude.{◌≡◌, ◌≤◌, ◌<◌, ℕ, Bool, false, not, List, [], Option, nat_eq}
+use Rattle.std.specs.Prelude.{◌≡◌, ℕ, Bool, false, not, List, Option, nat_eq}
 use Rattle.std.specs.Str.{bytes_eq}
 use Rattle.fibs_boards.specs.Board.{BoardFields}
 use Rattle.fibs_position.specs.GamePart.{same_game}
 use Rattle.fibs_commands.specs.PlainCommands.{automove_off, greedy_off, plain_of}
-use Rattle.fibs_session.specs.History.Log.{Entry, Flags}
-use Rattle.fibs_session.specs.History.Words.{Ask, is_empty, last, open_now, connections, shown, sent, welcomed}
-use Rattle.fibs_session.specs.History.Words.{informed, orders, is_ordered, unconfirmed}
-use Rattle.fibs_session.specs.History.Machine.{Talk, was_sent}
+use Rattle.fibs_history.specs.Log.{Flags}
+use Rattle.fibs_history.specs.Words.{Ask, is_empty, last, open_now, shown, welcomed}
+use Rattle.fibs_history.specs.Words.{informed, is_ordered, unconfirmed}
+use Rattle.fibs_history.specs.Machine.{Talk, was_sent}
+use Rattle.fibs_history.specs.Numbering.{Numbered}
 
 -- what a session keeps
 pub record SessionValue : Type 0 where
@@ -25,20 +26,6 @@ pub record SessionValue : Type 0 where
 pub record IsNoToggle (text : List ℕ) : Type 0 where
   pub no_automove : bytes_eq (plain_of automove_off) text ≡ false
   pub no_greedy : bytes_eq (plain_of greedy_off) text ≡ false
-
--- nothing is noted of the connection
-pub record Quiet (c : ℕ) (log : List Entry) : Type 0 where
-  pub no_welcome : welcomed c log ≡ []
-  pub no_flags : informed c log ≡ []
-  pub no_board : shown c log ≡ []
-  pub no_sent : sent c log ≡ []
-  pub no_order : orders c log ≡ []
-
--- what is noted is of connections that were opened
-pub record Numbered (log : List Entry) : Type 0 where
-  pub below : open_now log ≤ connections log
-  pub none : Quiet 0 log
-  pub fresh : (c : ℕ) → connections log < c → Quiet c log
 
 -- the fields are what the history says of the open connection, which is 0 offline: then nothing was noted of it
 pub record At (v : SessionValue) (t : Talk) : Type 0 where

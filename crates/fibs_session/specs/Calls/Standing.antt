@@ -1,7 +1,7 @@
 -- A client stands after what has happened.
 use Rattle.std.specs.Prelude.{ℕ, List}
 use Rattle.fibs_lines.specs.LinesValue.{LinesValue, StandsAfter as LinesStandAfter}
-use Rattle.fibs_session.specs.History.Machine.{Talk, InputValue, start, run}
+use Rattle.fibs_history.specs.Machine.{Talk, InputValue, start, run}
 use Rattle.fibs_session.specs.Calls.SessionValue.{SessionValue, At}
 
 -- a session stands after what has happened. Callers name what has happened by this word, and never open it

@@ -1,27 +1,12 @@
-//! Laws of the client as a machine over its inputs, for proofs in the crates above. Each function does nothing: its
-//! contract is the law, stated in `specs/History/MachineLaws.antt`.
+//! Laws of the client, and of its history, for proofs in the crates above. Each function does nothing: its contract is
+//! the law.
 
-ghost use Rattle.fibs_session.specs.History.Orders.{DueOrders};
-ghost use Rattle.fibs_session.specs.History.Owing.{PiecesTakeFromWhatIsOwed, PiecesTakeFromTheEntriesOwed};
-ghost use Rattle.fibs_session.specs.History.MachineLaws.{PiecesJoin, EmptyPieceIsNothing, InputsGoOn};
-ghost use Rattle.fibs_session.specs.History.MachineLaws.{LinesOpenNoConnection, ServersEntriesAreSilent};
+ghost use Rattle.fibs_session.specs.Calls.ClientLaws.{InputsGoOn, ServersEntriesAreSilent};
 
-/// Bytes may come in any pieces: two pieces after each other are one.
-pub fn pieces_join()
-    ensures { PiecesJoin }
-{
-    fibs_lines::laws::lines_only_grow();
-}
-
-/// No bytes are no input.
-pub fn empty_piece_is_nothing()
-    ensures { EmptyPieceIsNothing }
-{}
-
-/// No line opens or ends a connection.
-pub fn lines_open_no_connection()
-    ensures { LinesOpenNoConnection }
-{}
+pub use fibs_history::laws::{
+    a_due_order_says, empty_piece_is_nothing, lines_open_no_connection, pieces_join,
+    pieces_take_from_the_entries_owed, pieces_take_from_what_is_owed,
+};
 
 /// What a server notes says nothing to a client.
 pub fn servers_entries_are_silent()
@@ -31,21 +16,4 @@ pub fn servers_entries_are_silent()
 /// A call leaves a client after its list of inputs with the call's.
 pub fn inputs_go_on()
     ensures { InputsGoOn }
-{}
-
-/// An order is due exactly where four facts hold.
-pub fn a_due_order_says()
-    ensures { DueOrders }
-{}
-
-/// What a piece makes a client hand out is taken from what is owed on the connection: 18 bytes of commands, line ends
-/// included, before message 1, 44 before message 2, and 6 at each line to come while a standing order stands.
-pub fn pieces_take_from_what_is_owed()
-    ensures { PiecesTakeFromWhatIsOwed }
-{}
-
-/// What a piece makes a client note is taken from what is owed: an entry at each line to come, and while a standing
-/// order stands one more.
-pub fn pieces_take_from_the_entries_owed()
-    ensures { PiecesTakeFromTheEntriesOwed }
 {}

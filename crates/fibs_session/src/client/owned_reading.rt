@@ -4,7 +4,7 @@ ghost use Rattle.std.specs.Prelude.{◌≡◌};
 ghost use Rattle.fibs_lines.specs.Lines.{value_of};
 ghost use Rattle.fibs_lines.specs.Lines.{ReadLine};
 ghost use Rattle.fibs_messages.specs.Line.{reading_of};
-ghost use Rattle.fibs_session.specs.History.Hearing.{line_reading};
+ghost use Rattle.fibs_history.specs.Hearing.{line_reading};
 
 use crate::session::read_line;
 use fibs_lines::Line;

@@ -5,8 +5,8 @@ ghost use Rattle.fibs_session.specs.Calls.FieldSteps.{fresh, open_fields, open_s
 ghost use Rattle.fibs_commands.specs.LoginOf.{login_of};
 
 use super::{Outstanding, Session};
-use crate::refusal::Refusal;
 use fibs_commands::{CommandText, Login};
+use fibs_history::Refusal;
 
 impl Session {
     ghost use Rattle.fibs_session.specs.Calls.SessionOf.{session_of, ask_of, handed, refusal_in};

@@ -6,13 +6,13 @@ ghost use Rattle.fibs_boards.specs.StoredBoard.{fields_of};
 ghost use Rattle.fibs_position.specs.DecisionValue.{decision_of};
 ghost use Rattle.fibs_session.specs.Calls.FieldSteps.{answer_of, decide_fields, decide_send, may_send_of};
 ghost use Rattle.fibs_session.specs.Calls.FieldSteps.{plain_refusal_of, plain_fields, plain_send, with_plain};
-ghost use Rattle.fibs_session.specs.History.Allows.{refusal_of};
-ghost use Rattle.fibs_session.specs.History.Machine.{flag_is_on};
+ghost use Rattle.fibs_history.specs.Allows.{refusal_of};
+ghost use Rattle.fibs_history.specs.Machine.{flag_is_on};
 ghost use Rattle.fibs_commands.specs.PlainOf.{plain_value};
 
 use super::{Outstanding, Session};
-use crate::refusal::{PlainRefusal, Refusal};
 use fibs_commands::{CommandText, Plain, plain_text};
+use fibs_history::{PlainRefusal, Refusal};
 use fibs_messages::Board;
 use fibs_position::{Decision, Disallowed};
 

@@ -8,12 +8,12 @@ ghost use Rattle.fibs_boards.specs.StoredBoard.{fields_of};
 ghost use Rattle.fibs_position.specs.DecisionValue.{roll};
 ghost use Rattle.fibs_position.specs.DirectionOf.{direction_of};
 ghost use Rattle.fibs_commands.specs.Commands.{command_of};
-ghost use Rattle.fibs_session.specs.History.Words.{one_if};
+ghost use Rattle.fibs_history.specs.Words.{one_if};
 ghost use Rattle.fibs_messages.specs.declared.messages.message.Message.TheVariants.{OwnInfo as TheOwnInfo};
 ghost use Rattle.fibs_session.specs.Calls.FieldSteps.{message_fields, heard_fields, with_board, confirmed_of};
 ghost use Rattle.fibs_session.specs.Calls.FieldSteps.{line_fields, unheard, with_roll, due_of};
 ghost use Rattle.fibs_session.specs.Calls.SessionValue.{SessionValue};
-ghost use Rattle.fibs_session.specs.History.Hearing.{initial_commands, line_reading};
+ghost use Rattle.fibs_history.specs.Hearing.{initial_commands, line_reading};
 ghost use Rattle.fibs_commands.specs.TextOf.{text_of};
 
 use super::{Outstanding, ServerFlags, Session, ShownBoard};

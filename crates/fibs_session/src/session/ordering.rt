@@ -6,7 +6,7 @@ ghost use Rattle.fibs_boards.specs.StoredBoard.{fields_of};
 ghost use Rattle.fibs_session.specs.Calls.FieldSteps.{due_of, order_refusal_of, withdraw_refusal_of, with_order};
 
 use super::{Session, ShownBoard};
-use crate::refusal::Refusal;
+use fibs_history::Refusal;
 use fibs_position::{Decision, Phase};
 
 /// The field that says whether the player may double.

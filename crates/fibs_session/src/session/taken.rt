@@ -20,7 +20,7 @@ pub struct Outstanding {
 
 impl Outstanding {
     ghost use Rattle.fibs_session.specs.Calls.SessionOf.{ask_of};
-    ghost use Rattle.fibs_session.specs.History.Asked.{asked_text};
+    ghost use Rattle.fibs_history.specs.Asked.{asked_text};
 
     /// The command of the decision, in the numbers of its board.
     pub fn command(&self) -> CommandText

@@ -13,8 +13,8 @@ use Rattle.fibs_position.specs.Names.{position_fault_number, position_fault_name
 use Rattle.fibs_position.specs.declared.position_fault.PositionFault.{PositionFault}
 use Rattle.fibs_position.specs.declared.position_fault.PositionFault.TheVariants.{NotYou, TooManyOwn, TooManyOther}
 use Rattle.fibs_session.specs.History.Refusals.{refusal_number, refusal_name}
-use Rattle.fibs_session.specs.declared.refusal.Refusal.{Refusal}
-use Rattle.fibs_session.specs.declared.refusal.Refusal.TheVariants as R
+use Rattle.fibs_history.specs.declared.refusal.Refusal.{Refusal}
+use Rattle.fibs_history.specs.declared.refusal.Refusal.TheVariants as R
 use Rattle.fibs_records.specs.Statuses.{status_name}
 use Rattle.fibs_records.proofs.laws.statuses_are_named.Goals as goal
 

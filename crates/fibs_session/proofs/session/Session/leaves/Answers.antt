@@ -1,7 +1,7 @@
 use Rattle.std.proofs.Common.{[], None, false, ap, sym}
 use Rattle.fibs_lines.specs.Lines.{value_of}
 use Rattle.fibs_position.specs.GamePart.{same_game}
-use Rattle.fibs_session.specs.History.Words.{IsLikeness}
+use Rattle.fibs_history.specs.Words.{IsLikeness}
 use Rattle.fibs_session.specs.Calls.SessionOf.{session_of}
 use Rattle.fibs_session.proofs.Calls.SessionLaws.{line_hears}
 use Rattle.fibs_session.proofs.session.Session.leaves.Goals as goal

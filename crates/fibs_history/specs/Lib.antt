@@ -1,0 +1,11 @@
+pub mod Log
+pub mod Words
+pub mod Asked
+pub mod Allows
+pub mod Orders
+pub mod Hearing
+pub mod Refusals
+pub mod Machine
+pub mod MachineLaws
+pub mod Owing
+pub mod Numbering
