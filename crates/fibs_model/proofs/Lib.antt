@@ -1,12 +1,4 @@
 pub mod Outcomes
-pub mod Lawful
-pub mod Answering
-pub mod log
 pub mod wires
-pub mod joint
-pub mod Final
-pub mod Steps
-pub mod OnceLemmas
-pub mod RealLaws
-pub mod Projection
+pub mod Following
 pub mod Likeness

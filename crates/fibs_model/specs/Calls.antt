@@ -4,17 +4,17 @@ use Rattle.std.specs.Prelude.{Option, Some, None, if◌then◌else◌, nat_eq, n
 use Rattle.fibs_boards.specs.Board.{BoardFields}
 use Rattle.fibs_position.specs.DecisionValue.{DecisionValue}
 use Rattle.fibs_history.specs.declared.refusal.Refusal.{Refusal}
-use Rattle.fibs_session.specs.History.Log as L
-use Rattle.fibs_session.specs.History.Machine.{on_wire, wire_of}
+use Rattle.fibs_history.specs.Log as L
+use Rattle.fibs_history.specs.Machine.{on_wire, wire_of}
 use Rattle.fibs_model.specs.LinksOf.{LinkValue, link_at, set_link}
-use Rattle.fibs_model.specs.Server as V
-use Rattle.fibs_model.specs.Server.{ServerValue, is_die}
+use Rattle.fibs_machine.specs.Server as V
+use Rattle.fibs_machine.specs.Server.{ServerValue, is_die}
 use Rattle.fibs_model.specs.WireLinks.{more_asked, more_coming, taken}
-use Rattle.fibs_model.specs.Wires.{next_line}
+use Rattle.fibs_machine.specs.Wires.{next_line}
 use Rattle.fibs_model.specs.ServerOf.{after_line}
 use Rattle.fibs_model.specs.declared.world.link.Link as C
-use Rattle.fibs_model.specs.declared.refusal.WorldRefusal.{WorldRefusal}
-use Rattle.fibs_model.specs.declared.refusal.WorldRefusal.TheVariants.{NoSuchConnection, BadDice, NothingToServe}
+use Rattle.fibs_machine.specs.declared.refusal.WorldRefusal.{WorldRefusal}
+use Rattle.fibs_machine.specs.declared.refusal.WorldRefusal.TheVariants.{NoSuchConnection, BadDice, NothingToServe}
 
 -- commands go on the wire to the server
 abbrev pub ask_links : List LinkValue → ℕ → List (List ℕ) → List LinkValue

@@ -4,8 +4,8 @@ use Rattle.std.specs.Result.{result_err}
 use Rattle.fibs_boards.specs.StoredBoard.{fields_of}
 use Rattle.fibs_messages.specs.Line.{ReadingValue, board_line}
 use Rattle.fibs_position.specs.DecisionValue.{decision_of, roll}
-use Rattle.fibs_session.specs.History.Log as V
-use Rattle.fibs_session.specs.History.Words.{one_if}
+use Rattle.fibs_history.specs.Log as V
+use Rattle.fibs_history.specs.Words.{one_if}
 use Rattle.fibs_session.specs.Calls.SessionOf.{ask_of}
 use Rattle.fibs_model.specs.declared.entry.Entry.{Entry}
 use Rattle.fibs_model.specs.declared.entry.Entry.TheVariants as E

@@ -3,7 +3,7 @@ use Rattle.std.specs.Prelude.{slice_index}
 use Rattle.fibs_boards.specs.StoredBoard.{fields_of}
 use Rattle.fibs_position.specs.DecisionValue.{decision_of}
 use Rattle.fibs_commands.specs.PlainOf.{plain_value}
-use Rattle.fibs_model.specs.Events as V
+use Rattle.fibs_machine.specs.Events as V
 use Rattle.fibs_model.specs.declared.event.Event.{Event}
 use Rattle.fibs_model.specs.declared.event.Event.TheVariants as E
 

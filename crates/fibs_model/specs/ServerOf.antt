@@ -2,8 +2,8 @@
 use Rattle.std.specs.Prelude.{ℕ, Bool, List, slice_index}
 use Rattle.fibs_boards.specs.Board.{BoardFields}
 use Rattle.fibs_position.specs.DecisionValue.{decision_of}
-use Rattle.fibs_model.specs.Server as V
-use Rattle.fibs_model.specs.Server.{ServerValue}
+use Rattle.fibs_machine.specs.Server as V
+use Rattle.fibs_machine.specs.Server.{ServerValue}
 use Rattle.fibs_model.specs.declared.server.Served.{Served}
 use Rattle.fibs_model.specs.declared.server.Served.TheVariants as S
 

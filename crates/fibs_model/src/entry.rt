@@ -3,8 +3,8 @@
 ghost use Rattle.std.specs.Prelude.{◌≡◌, ◌++◌, List, true};
 ghost use Rattle.fibs_messages.specs.Line.{reading_of};
 ghost use Rattle.fibs_messages.specs.Message.{message_of};
-ghost use Rattle.fibs_session.specs.History.Hearing.{heard, heard_message};
-ghost use Rattle.fibs_session.specs.History.Log as L;
+ghost use Rattle.fibs_history.specs.Hearing.{heard, heard_message};
+ghost use Rattle.fibs_history.specs.Log as L;
 
 use fibs_messages::{Board, Message, Reading};
 use fibs_position::{Decision, is_good};

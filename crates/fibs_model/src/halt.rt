@@ -3,7 +3,7 @@
 ghost use Rattle.std.specs.Prelude.{◌≡◌};
 
 use crate::carrier::Broken;
-use crate::refusal::WorldRefusal;
+use fibs_machine::WorldRefusal;
 use std::alloc::AllocError;
 
 /// Why an event that may be is not done.

@@ -10,10 +10,10 @@ ghost use Rattle.fibs_position.specs.First.{IsFirst};
 ghost use Rattle.fibs_position.specs.GoodBoard.{IsGood, HasFault, faults};
 ghost use Rattle.fibs_position.specs.GoodBoard.{good};
 ghost use Rattle.fibs_position.specs.PositionValue.{position_of, position_value};
-ghost use Rattle.fibs_model.specs.Server.{answered, is_die, obeyed, own_refusal, user_decides};
+ghost use Rattle.fibs_machine.specs.Server.{answered, is_die, obeyed, own_refusal, user_decides};
 
 use crate::entry::Entry;
-use crate::refusal::WorldRefusal;
+use fibs_machine::WorldRefusal;
 use fibs_messages::Board;
 use fibs_position::{Decision, Direction, Phase, Position, PositionFault, effect};
 use fibs_session::read_command;
@@ -96,7 +96,7 @@ impl Model for Server {
     ghost use Rattle.fibs_boards.specs.StoredBoard.{fields_of};
     ghost use Rattle.fibs_position.specs.GoodBoard.{good};
     ghost use Rattle.fibs_position.specs.PositionValue.{position_of, position_value};
-    ghost use Rattle.fibs_model.specs.Server.{ServerValue};
+    ghost use Rattle.fibs_machine.specs.Server.{ServerValue};
 
     ghost Value = { ServerValue };
 

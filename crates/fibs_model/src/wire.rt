@@ -4,10 +4,10 @@ ghost use Rattle.std.specs.Prelude.{◌≡◌, ◌≤◌, ◌+◌, ◌++◌, [],
 ghost use Rattle.std.specs.Prelude.{IfSome, IfOk, OnOk, vec_len, vec_capacity};
 ghost use Rattle.fibs_lines.specs.Lines.{value_of};
 ghost use Rattle.fibs_lines.specs.Lines.{is_line_end, lines_of};
-ghost use Rattle.fibs_session.specs.History.Hearing.{line_reading};
-ghost use Rattle.fibs_session.specs.History.Machine.{on_wire};
-ghost use Rattle.fibs_model.specs.Refusals.{is_board_text, reads_as_board};
-ghost use Rattle.fibs_model.specs.Wires.{next_line};
+ghost use Rattle.fibs_history.specs.Hearing.{line_reading};
+ghost use Rattle.fibs_history.specs.Machine.{on_wire};
+ghost use Rattle.fibs_machine.specs.Refusals.{is_board_text, reads_as_board};
+ghost use Rattle.fibs_machine.specs.Wires.{next_line};
 
 use fibs_lines::{Line, Lines, sent_line};
 use fibs_messages::{Reading, read};

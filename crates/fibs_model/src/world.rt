@@ -7,16 +7,16 @@ ghost use Rattle.std.specs.Result.{result_err};
 ghost use Rattle.fibs_boards.specs.Board.{BoardFields};
 ghost use Rattle.fibs_boards.specs.StoredBoard.{fields_of};
 ghost use Rattle.fibs_position.specs.GoodBoard.{IsGood, good};
-ghost use Rattle.fibs_session.specs.History.Words.{last, shown, open_now};
+ghost use Rattle.fibs_history.specs.Words.{last, shown, open_now};
 ghost use Rattle.fibs_commands.specs.LoginOf.{name_of, password_of};
 ghost use Rattle.fibs_commands.specs.Logins.{login_text};
 ghost use Rattle.fibs_model.specs.Crossings.{crossings_of};
 ghost use Rattle.fibs_model.specs.EntryOf.{entry_of};
 ghost use Rattle.fibs_model.specs.EventOf.{event_of};
-ghost use Rattle.fibs_model.specs.Events as E;
-ghost use Rattle.fibs_model.specs.Headline.{Headline};
-ghost use Rattle.fibs_model.specs.Once.{Once};
-ghost use Rattle.fibs_model.specs.Refusals.{refusal};
+ghost use Rattle.fibs_machine.specs.Events as E;
+ghost use Rattle.fibs_machine.specs.Headline.{Headline};
+ghost use Rattle.fibs_machine.specs.Once.{Once};
+ghost use Rattle.fibs_machine.specs.Refusals.{refusal};
 ghost use Rattle.fibs_model.specs.WorldCalls.{WorldStandsAfter, machine_after, Agrees, Halts, Stops, accepted};
 
 mod clicking;
@@ -38,9 +38,9 @@ use crate::entry::Entry;
 use crate::event::Event;
 use crate::halt::{Halt, Stop};
 use crate::laws;
-use crate::refusal::WorldRefusal;
 use crate::run_end::RunEnd;
 use crate::server::Server;
+use fibs_machine::WorldRefusal;
 use fibs_messages::Board;
 use fibs_session::{Client, Login};
 use link::Link;
@@ -76,7 +76,7 @@ impl Model for World {
 }
 
 impl World {
-    ghost use Rattle.fibs_model.specs.declared.refusal.WorldRefusal.TheVariants.{BadBoard};
+    ghost use Rattle.fibs_machine.specs.declared.refusal.WorldRefusal.TheVariants.{BadBoard};
 
     /// A world in which nothing has happened, with a first board of the server and the login of the user.
     ///

@@ -1,5 +1,5 @@
 -- Bytes are delivered to the client.
-use Rattle.std.proofs.Common.{◌≡◌, ◌≤◌, ◌<◌, ◌+◌, ◌-◌, ◌*◌, ℕ, zero, suc, Bool, true, false, inl, inr, List, [], ◌∷◌}
+use Rattle.std.proofs.Common.{◌≡◌, ◌≤◌, ◌<◌, ◌+◌, ◌-◌, ℕ, zero, suc, Bool, true, false, inl, inr, List, [], ◌∷◌}
 use Rattle.std.proofs.Common.{◌++◌}
 use Rattle.std.proofs.Common.{length, take, drop, get_or, nat_eq, if◌then◌else◌, refl, sym, ap, subst, ◌∙◌, arith}
 use Rattle.std.proofs.Common.{append-nil, append_assoc}
@@ -9,32 +9,33 @@ use Rattle.std.proofs.lemmas.Bool.Decides.{eqb_tells}
 use Rattle.fibs_lines.specs.Lines.{ReadLine}
 use Rattle.fibs_session.specs.Calls.Doing.{Does}
 use Rattle.fibs_session.specs.Calls.Standing.{ClientValue}
-use Rattle.fibs_session.specs.History.Hearing.{Heard, heard, line_reading}
-use Rattle.fibs_session.specs.History.Log.{Entry}
-use Rattle.fibs_session.specs.History.Machine.{Talk, Piece, step, gained, on_wire, wire_of, ordered_now}
-use Rattle.fibs_session.specs.History.Machine as M
+use Rattle.fibs_history.specs.Hearing.{Heard, heard, line_reading}
+use Rattle.fibs_history.specs.Log.{Entry}
+use Rattle.fibs_history.specs.Machine.{Talk, Piece, step, gained, on_wire, wire_of, ordered_now}
+use Rattle.fibs_history.specs.Machine as M
 use Rattle.fibs_session.specs.Calls.ClientLaws.{ServersEntriesAreSilent}
-use Rattle.fibs_session.specs.History.Owing.{owed_on, owed, entries_owed}
-use Rattle.fibs_session.specs.History.Words.{is_empty, open_now, welcomed, informed}
-use Rattle.fibs_model.specs.Clients.{Steps}
-use Rattle.fibs_model.specs.Events.{Deliver}
+use Rattle.fibs_history.specs.Owing.{owed, entries_owed}
+use Rattle.fibs_history.specs.Words.{open_now}
+use Rattle.fibs_machine.specs.Talks.{Steps}
+use Rattle.fibs_machine.specs.Events.{Deliver}
 use Rattle.fibs_model.specs.HearingOf.{HearsPiece, HearsNext, IsTalking, RoomForPiece, RoomForNext}
-use Rattle.fibs_model.specs.LinksOf.{LinkValue, kept_of, link_of, seen, link_at, set_link, RoomToServer}
-use Rattle.fibs_model.specs.Wires.{Link}
+use Rattle.fibs_model.specs.LinksOf.{LinkValue, kept_of, link_of, seen, link_at, set_link}
+use Rattle.fibs_machine.specs.Wires.{Link}
 use Rattle.fibs_model.specs.WireLinks as value
-use Rattle.fibs_model.specs.World.{World, after, linked, hears_all, does_heard, talk_of}
+use Rattle.fibs_machine.specs.World.{World, after, linked, hears_all, does_heard, talk_of}
 use Rattle.fibs_model.specs.WorldOf.{WorldValue, StandsFor, Goes, May}
-use Rattle.fibs_model.specs.declared.refusal.WorldRefusal.TheVariants.{NotOpen}
+use Rattle.fibs_machine.specs.declared.refusal.WorldRefusal.TheVariants.{NotOpen}
 use Rattle.fibs_model.specs.declared.world.link.Link as C
-use Rattle.fibs_model.proofs.Projection.{talk_is_projected, heard_open}
-use Rattle.fibs_model.proofs.joint.EachEvent.{is_open}
-use Rattle.fibs_model.proofs.joint.Joint.{linked_same}
-use Rattle.fibs_model.proofs.log.Lists.{same_number, other_number}
-use Rattle.fibs_model.proofs.log.Past.{open_append}
+use Rattle.fibs_history.proofs.Joins.{lines_open_none}
+use Rattle.fibs_machine.proofs.Projection.{talk_is_projected}
+use Rattle.fibs_machine.proofs.joint.EachEvent.{is_open}
+use Rattle.fibs_machine.proofs.joint.Joint.{linked_same}
+use Rattle.fibs_history.proofs.Lists.{same_number, other_number}
+use Rattle.fibs_history.proofs.Past.{open_append}
 use Rattle.fibs_model.proofs.Likeness.Hearing.{ends}
 use Rattle.fibs_model.proofs.Likeness.Events.{current_known, client_after, sound_after}
 use Rattle.fibs_model.proofs.Likeness.Links.{links_linked, length_set_link, link_set, link_was, value_path}
-use Rattle.fibs_model.specs.Wires.{more_asked, delivered}
+use Rattle.fibs_machine.specs.Wires.{more_asked, delivered}
 use Rattle.fibs_model.proofs.Likeness.Whole.{whole_path}
 
 -- what hearing lines does to the rest of the world
@@ -79,7 +80,7 @@ heeds_all c (l ∷ ls) w =
     let w1 : World = does_heard c w h in
     let k = heeds_all c ls w1 in
     let here1 : open_now (w.log ++ h.entries) ≡ open_now w.log =
-    open_append 0 w.log h.entries ∙ (heard_open c w.log (line_reading l) (open_now w.log)).1 in
+    open_append 0 w.log h.entries ∙ (lines_open_none c w.log (line_reading l)).1 (open_now w.log) in
     let mine : w1.links c ≡ more_asked (w.links c) (wire_of h.send) =
     ap (λ b. if b then more_asked (w.links c) (wire_of h.send) else w.links c) (same_number c) in
     record {

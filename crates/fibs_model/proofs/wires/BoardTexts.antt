@@ -9,9 +9,9 @@ use Rattle.fibs_lines.specs.Feeding.{Feeds, lent_lines}
 use Rattle.fibs_lines.specs.StreamLaws.{EmptyStreamHasNoLine, LinesOnlyGrow, LineEndEndsALine}
 use Rattle.fibs_lines.specs.declared.line.Line.{Line}
 use Rattle.fibs_lines.specs.declared.lines.Fed.{Fed}
-use Rattle.fibs_session.specs.History.Hearing.{line_reading}
-use Rattle.fibs_session.specs.History.Machine.{on_wire}
-use Rattle.fibs_model.specs.Refusals.{is_board_text, reads_as_board}
+use Rattle.fibs_history.specs.Hearing.{line_reading}
+use Rattle.fibs_history.specs.Machine.{on_wire}
+use Rattle.fibs_machine.specs.Refusals.{is_board_text, reads_as_board}
 use Rattle.fibs_model.proofs.wires.Needles.{line_end}
 
 -- two lines, and any between them, are a board text

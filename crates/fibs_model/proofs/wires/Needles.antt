@@ -3,7 +3,7 @@ use Rattle.std.proofs.Common.{◌≡◌, ℕ, zero, suc, ◌+◌, ◌<◌, Bool,
 use Rattle.std.proofs.Common.{◌++◌, take, drop, nat_eq, refl, sym, ap, ◌∙◌, arith}
 use Rattle.std.specs.Prelude.{◌&&◌, slice_index, option_map, IfSome, if◌then◌else◌}
 use Rattle.memchr.specs.Find.{OccursAt, FindsNeedle}
-use Rattle.fibs_model.specs.Wires.{next_line, put}
+use Rattle.fibs_machine.specs.Wires.{next_line, put}
 
 -- the bytes of CR LF
 abbrev pub line_end : List ℕ

@@ -7,7 +7,7 @@ ghost use Rattle.fibs_session.specs.Calls.SessionOf.{refusal_in};
 ghost use Rattle.fibs_commands.specs.PlainOf.{plain_value};
 ghost use Rattle.fibs_model.specs.Calls.{click_entries};
 ghost use Rattle.fibs_model.specs.EntryOf.{entry_of};
-ghost use Rattle.fibs_model.specs.Events as E;
+ghost use Rattle.fibs_machine.specs.Events as E;
 ghost use Rattle.fibs_model.specs.WorldOf.{May, Goes};
 
 use super::World;

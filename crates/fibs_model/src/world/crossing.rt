@@ -5,7 +5,7 @@ ghost use Rattle.fibs_model.specs.declared.carrier.Way.TheVariants.{ToServer, To
 ghost use Rattle.fibs_model.specs.Carrying.{crossed, closed};
 ghost use Rattle.fibs_model.specs.Crossings.{line_crossings};
 ghost use Rattle.fibs_model.specs.LinksOf.{seen, link_at};
-ghost use Rattle.fibs_model.specs.Wires.{next_line};
+ghost use Rattle.fibs_machine.specs.Wires.{next_line};
 
 use super::link::Link;
 use crate::carrier::{Broken, Carrier, Way};

@@ -5,7 +5,7 @@ ghost use Rattle.std.specs.Prelude.{vec_len, vec_capacity, if◌then◌else◌, 
 ghost use Rattle.fibs_lines.specs.Lines.{is_line_end};
 ghost use Rattle.fibs_model.specs.Crossings.{crossings_in};
 ghost use Rattle.fibs_model.specs.EntryOf.{entry_of};
-ghost use Rattle.fibs_model.specs.Events as E;
+ghost use Rattle.fibs_machine.specs.Events as E;
 ghost use Rattle.fibs_model.specs.HearingOf.{HearsPiece, HearsNext, RoomForPiece, RoomForNext};
 ghost use Rattle.fibs_model.specs.LinksOf.{seen, link_at};
 ghost use Rattle.fibs_model.specs.WorldOf.{May, Goes};

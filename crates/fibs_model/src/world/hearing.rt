@@ -4,9 +4,9 @@ ghost use Rattle.std.specs.Prelude.{◌≡◌, ◌≤◌, ◌<◌, ◌+◌, ◌+
 ghost use Rattle.std.specs.Prelude.{vec_capacity};
 ghost use Rattle.fibs_messages.specs.Line.{reading_of};
 ghost use Rattle.fibs_session.specs.Calls.SessionOf.{texts_of};
-ghost use Rattle.fibs_session.specs.History.Hearing.{heard};
-ghost use Rattle.fibs_session.specs.History.Log as L;
-ghost use Rattle.fibs_session.specs.History.Machine.{wire_of};
+ghost use Rattle.fibs_history.specs.Hearing.{heard};
+ghost use Rattle.fibs_history.specs.Log as L;
+ghost use Rattle.fibs_history.specs.Machine.{wire_of};
 ghost use Rattle.fibs_model.specs.EntryOf.{entry_of, entries_of};
 ghost use Rattle.fibs_model.specs.HearingOf.{HearsPiece, RoomForLine, RoomForPiece};
 

@@ -2,7 +2,7 @@
 
 ghost use Rattle.std.specs.Prelude.{◌≡◌, true, OnOk, OnErr, IsErrOf};
 ghost use Rattle.fibs_model.specs.Crossings.{crossings_in};
-ghost use Rattle.fibs_model.specs.Events.{Open};
+ghost use Rattle.fibs_machine.specs.Events.{Open};
 ghost use Rattle.fibs_model.specs.WorldOf.{May, Goes};
 
 use super::World;

@@ -4,7 +4,7 @@ ghost use Rattle.std.specs.Prelude.{◌≡◌, OnOk, OnErr};
 ghost use Rattle.std.specs.Result.{result_err};
 ghost use Rattle.fibs_model.specs.Calls.{unless_refused};
 ghost use Rattle.fibs_model.specs.EntryOf.{entry_of, entries_of};
-ghost use Rattle.fibs_model.specs.Events as E;
+ghost use Rattle.fibs_machine.specs.Events as E;
 ghost use Rattle.fibs_model.specs.WorldOf.{May, Goes};
 
 use super::World;

@@ -4,16 +4,16 @@ ghost use Rattle.std.specs.Prelude.{◌≡◌, ℕ, List, length, slice_index};
 ghost use Rattle.fibs_model.specs.Calls.{serve_refusal};
 ghost use Rattle.fibs_model.specs.EventOf.{event_of};
 ghost use Rattle.fibs_model.specs.LinksOf.{seen, link_at};
-ghost use Rattle.fibs_model.specs.Refusals.{refusal};
-ghost use Rattle.fibs_model.specs.World as W;
+ghost use Rattle.fibs_machine.specs.Refusals.{refusal};
+ghost use Rattle.fibs_machine.specs.World as W;
 ghost use Rattle.fibs_model.specs.WorldOf.{StandsFor};
 
 use super::World;
 use super::link::Link;
 use crate::event::Event;
-use crate::refusal::WorldRefusal;
 use crate::server::is_die;
 use crate::wire::{is_board_text, whole_line};
+use fibs_machine::WorldRefusal;
 
 /// Why a line of a connection may not be served.
 #[tactic(auto, unfolding(crate::specs::Calls::serve_refusal))]

@@ -2,7 +2,7 @@
 
 ghost use Rattle.std.specs.Prelude.{◌≡◌, ◌≤◌, OnOk, OnErr};
 ghost use Rattle.fibs_boards.specs.StoredBoard.{fields_of};
-ghost use Rattle.fibs_model.specs.Events as E;
+ghost use Rattle.fibs_machine.specs.Events as E;
 ghost use Rattle.fibs_model.specs.WorldOf.{May, Goes};
 
 use super::World;

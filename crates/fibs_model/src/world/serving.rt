@@ -5,10 +5,10 @@ ghost use Rattle.std.specs.Prelude.{IsSome, vec_len, slice_index, if◌then◌el
 ghost use Rattle.fibs_boards.specs.Board.{spelling};
 ghost use Rattle.fibs_model.specs.Calls.{is_answered, send_links, TakesLine, TakesNext};
 ghost use Rattle.fibs_model.specs.Crossings.{crossings_in};
-ghost use Rattle.fibs_model.specs.Events as E;
+ghost use Rattle.fibs_machine.specs.Events as E;
 ghost use Rattle.fibs_model.specs.LinksOf.{seen, link_at, RoomToClient};
 ghost use Rattle.fibs_model.specs.ServerOf.{served_of};
-ghost use Rattle.fibs_model.specs.Wires.{next_line};
+ghost use Rattle.fibs_machine.specs.Wires.{next_line};
 ghost use Rattle.fibs_model.specs.WorldOf.{May, Goes};
 
 use super::World;

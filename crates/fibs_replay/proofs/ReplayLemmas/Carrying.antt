@@ -12,8 +12,8 @@ use Rattle.fibs_model.specs.Runs.{world_after}
 use Rattle.fibs_model.specs.WorldOf.{WorldValue}
 use Rattle.fibs_model.specs.declared.halt.Stop.{Stop}
 use Rattle.fibs_model.specs.declared.halt.Stop.TheVariants as S
-use Rattle.fibs_model.specs.declared.refusal.WorldRefusal.{WorldRefusal}
-use Rattle.fibs_model.specs.declared.refusal.WorldRefusal.TheVariants as W
+use Rattle.fibs_machine.specs.declared.refusal.WorldRefusal.{WorldRefusal}
+use Rattle.fibs_machine.specs.declared.refusal.WorldRefusal.TheVariants as W
 use Rattle.fibs_engine.specs.Printing.{Printed}
 use Rattle.fibs_engine.specs.declared.fault.EngineFault.{EngineFault}
 use Rattle.fibs_engine.specs.declared.fault.EngineFault.TheVariants as fault

@@ -4,8 +4,8 @@ use Rattle.std.specs.Io.KnownBytes.{Appends, Consumes, IsAtEnd, Keeps}
 use Rattle.fibs_boards.specs.Board.{BoardFields}
 use Rattle.fibs_position.specs.GoodBoard.{IsGood}
 use Rattle.fibs_commands.specs.Logins.{login_text}
-use Rattle.fibs_model.specs.declared.refusal.WorldRefusal.{WorldRefusal}
-use Rattle.fibs_model.specs.declared.refusal.WorldRefusal.TheVariants.{BadBoard}
+use Rattle.fibs_machine.specs.declared.refusal.WorldRefusal.{WorldRefusal}
+use Rattle.fibs_machine.specs.declared.refusal.WorldRefusal.TheVariants.{BadBoard}
 use Rattle.fibs_model.specs.Events.{Event}
 use Rattle.fibs_model.specs.RefusalNames.{refusal_number, refusal_name}
 use Rattle.fibs_model.specs.Refusals.{refusal}

@@ -1,5 +1,5 @@
 use Rattle.std.proofs.Common.{ap, sym, ◌∙◌}
-use Rattle.fibs_model.specs.Refusals.{is_board_text}
+use Rattle.fibs_machine.specs.Refusals.{is_board_text}
 use Rattle.fibs_model.proofs.wire.is_board_text.Goals as goal
 
 pub returns-in-Some : goal.returns-in-Some

@@ -1,6 +1,6 @@
 use Rattle.std.proofs.Common.{◌≡◌, ◌++◌, sym, subst, ◌∙◌, append-nil}
 use Rattle.fibs_messages.specs.Line.{reading_of}
-use Rattle.fibs_session.specs.History.Hearing.{heard}
+use Rattle.fibs_history.specs.Hearing.{heard}
 use Rattle.fibs_model.specs.EntryOf.{entries_of, roll_entries}
 use Rattle.fibs_model.proofs.entry.Entry.of_reading.Goals as goal
 

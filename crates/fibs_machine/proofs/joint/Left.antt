@@ -1,0 +1,106 @@
+-- What is left on a wire to the server: lines of which at most one is a decision, the one that is not served.
+use Rattle.std.proofs.Common.{◌≡◌, ◌⊎◌, inl, inr, ℕ, Bool, true, false, List, [], ◌∷◌, ◌++◌, Option, Some, None, nat_eq}
+use Rattle.std.proofs.Common.{flat_map, refl, sym, ◌∙◌, ap, subst, append_assoc}
+use Rattle.fibs_boards.specs.Board.{BoardFields as Board}
+use Rattle.fibs_history.specs.Machine.{on_wire}
+use Rattle.fibs_history.specs.Words.{Ask, open_now}
+use Rattle.fibs_machine.specs.Joint.{AreLines, NoDecision, OneDecision, AtMostThis, Left}
+use Rattle.fibs_machine.specs.Server.{command}
+use Rattle.fibs_machine.specs.Wires.{next_line}
+use Rattle.fibs_machine.specs.World.{World}
+use Rattle.fibs_machine.proofs.Lawful.{NoReturn, AllQuiet}
+use Rattle.fibs_machine.proofs.joint.Joint.{Held}
+use Rattle.fibs_machine.proofs.wires.Cuts.{line_whole}
+use Rattle.fibs_machine.proofs.wires.Ways.{Queue, OnWay}
+
+-- the texts hold no CR
+abbrev Texts : List (List ℕ) → Type 0
+Texts [] = Unit {0}
+Texts (t ∷ ts) = NoReturn t × Texts ts
+
+-- nor do commands that are no decisions
+quiet_texts : (ts gone : List (List ℕ)) → AllQuiet (ts ++ gone) → Texts ts
+quiet_texts [] gone h = tt
+quiet_texts (t ∷ ts) gone h = (h.0.text, quiet_texts ts gone h.1)
+
+-- nor all commands on their way
+queue_texts : (p : Option Ask) (ts gone : List (List ℕ)) → Queue p (ts ++ gone) → Texts ts
+queue_texts None ts gone q = quiet_texts ts gone q
+queue_texts (Some a) [] gone q = tt
+queue_texts (Some a) (t ∷ ts) gone q = elim q [
+  | inl k ↦ (k.0.text, queue_texts (Some a) ts gone k.1)
+  | inr k ↦ (k.1, quiet_texts ts gone k.2)
+]
+
+-- whole commands and a part of one are these lines
+lines_are : (ts : List (List ℕ)) (part bytes : List ℕ) → bytes ≡ flat_map on_wire ts ++ part → next_line part ≡ None
+    → Texts ts → AreLines bytes ts
+lines_are [] part bytes e none h = ap next_line e ∙ none
+lines_are (t ∷ ts) part bytes e none h = (
+  flat_map on_wire ts ++ part,
+  ap next_line (e ∙ append_assoc (on_wire t) (flat_map on_wire ts) part)
+      ∙ line_whole t (flat_map on_wire ts ++ part) h.0,
+  lines_are ts part (flat_map on_wire ts ++ part) refl none h.1,
+)
+
+-- the first of commands that are no decisions
+quiet_front : (ts gone : List (List ℕ)) → AllQuiet (ts ++ gone) → AllQuiet ts
+quiet_front [] gone h = tt
+quiet_front (t ∷ ts) gone h = (h.0, quiet_front ts gone h.1)
+
+-- none of them is a decision
+quiet_none : (now : Board) (ts : List (List ℕ)) → AllQuiet ts → NoDecision now ts
+quiet_none now [] h = tt
+quiet_none now (t ∷ ts) h = (h.0.quiet now, quiet_none now ts h.1)
+
+-- the decision is among the commands that are there, or among those that a loss took
+queue_one : (now : Board) (a : Ask) → a.0 ≡ now → (ts gone : List (List ℕ)) → Queue (Some a) (ts ++ gone)
+    → OneDecision now a.1 ts ⊎ (NoDecision now ts × Queue (Some a) gone)
+queue_one now a is [] gone q = inr (tt, q)
+queue_one now a is (t ∷ ts) gone q = elim q [
+  | inl k ↦ elim (queue_one now a is ts gone k.1) [
+    | inl o ↦ inl (record {
+      before = t ∷ o.before;
+      later = o.later;
+      all = ap (λ l. t ∷ l) o.all;
+      none_before = (k.0.quiet now, o.none_before);
+      none_later = o.none_later;
+    })
+    | inr n ↦ inr ((k.0.quiet now, n.0), n.1)
+  ]
+  | inr k ↦ inl (record {
+    before = [];
+    later = ts;
+    all = ap (λ x. x ∷ ts) (k.0 ∙ ap (λ b. command b a.1) is);
+    none_before = tt;
+    none_later = quiet_none now ts (quiet_front ts gone k.2);
+  })
+]
+
+-- what cannot be true is false
+not_true : (o : Bool) → (o ≡ true → ⊥) → o ≡ false
+not_true true h = absurd (h refl)
+not_true false h = refl
+
+-- at most the decision that is not served is on the wire
+few : (o : Bool) (now : Board) (p : Option Ask) (asked : List ℕ) (way : OnWay o p asked) → Held now p
+    → AtMostThis o now p way.ts
+few o now None asked way held = quiet_none now way.ts (quiet_front way.ts way.gone way.queue)
+few o now (Some a) asked way held = (
+  sym held.0,
+  elim (queue_one now a (sym held.0) way.ts way.gone way.queue) [
+    | inl one ↦ inl one
+    | inr n ↦
+        inr (not_true o (λ e. subst (Queue (Some a)) (way.exact e).1 n.1), n.0)
+  ],
+)
+
+-- what is left on the wire of a connection
+pub left_on : (w : World) (c : ℕ) (p : Option Ask) → OnWay (nat_eq (open_now w.log) c) p (w.links c).asked
+    → Held w.board p → Left c p w
+left_on w c p way held = record {
+  lines = way.ts;
+  are_lines =
+      lines_are way.ts way.part (w.links c).asked way.bytes way.no_more (queue_texts p way.ts way.gone way.queue);
+  at_most_this = few (nat_eq (open_now w.log) c) w.board p (w.links c).asked way held;
+}

@@ -1,0 +1,15 @@
+pub mod RefusalNames
+pub mod Wires
+pub mod Server
+pub mod Events
+pub mod World
+pub mod Refusals
+pub mod Runs
+pub mod Headline
+pub mod Once
+pub mod Stale
+pub mod Acts
+pub mod Joint
+pub mod Owed
+pub mod Laws
+pub mod Talks
