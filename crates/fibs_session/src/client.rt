@@ -15,6 +15,7 @@ ghost use Rattle.fibs_history.specs.Machine.{Order, Withdraw, order_refusal, wit
 ghost use Rattle.fibs_commands.specs.LoginOf.{login_of};
 ghost use Rattle.fibs_commands.specs.PlainOf.{plain_value};
 
+mod asking;
 mod got;
 mod heard_line;
 mod input;

@@ -1,0 +1,14 @@
+//! Front ends: what is told what happens, and says what a typed line asks for. The plain account is one.
+#![tactic(auto)]
+
+pub mod fault;
+pub mod front;
+mod heard;
+pub mod plain;
+pub mod printing;
+pub mod said;
+pub mod taking;
+pub mod typed_line;
+pub mod typing;
+pub mod wish;
+pub mod words;
