@@ -10,9 +10,9 @@ use Rattle.fibs_position.specs.DirectionOf.{direction_of}
 use Rattle.fibs_commands.specs.Commands.{command_of}
 use Rattle.fibs_directory.specs.Directory.Faults.{directory_fault_number, directory_fault_name}
 use Rattle.fibs_directory.specs.declared.fault.DirectoryFault.{DirectoryFault}
-use Rattle.fibs_session.specs.declared.refusal.Refusal.{Refusal}
-use Rattle.fibs_session.specs.declared.refusal.PlainRefusal.{PlainRefusal}
-use Rattle.fibs_session.specs.declared.refusal.PlainRefusal.TheVariants as P
+use Rattle.fibs_history.specs.declared.refusal.Refusal.{Refusal}
+use Rattle.fibs_history.specs.declared.refusal.PlainRefusal.{PlainRefusal}
+use Rattle.fibs_history.specs.declared.refusal.PlainRefusal.TheVariants as P
 use Rattle.fibs_session.specs.History.Refusals.{refusal_number, refusal_name, plain_refusal_number, plain_refusal_name}
 use Rattle.fibs_session.specs.History.Words.{Ask}
 use Rattle.fibs_engine.specs.Escape.{escaped}
