@@ -1,0 +1,39 @@
+-- What may be decided now, and how a terminal says it (the project's own).
+use Rattle.std.specs.Prelude.{◌≡◌, ◌++◌, ℕ, List, [], codes, Bool, true, false, is_none, Option, Some, None, IfSome}
+use Rattle.fibs_commands.specs.Commands.{command_of}
+use Rattle.fibs_position.specs.declared.direction.Direction.{Direction}
+use Rattle.fibs_position.specs.DecisionValue.{DecisionValue, roll, double, accept, reject, move}
+use Rattle.fibs_rules.specs.declared.play.Play.{Play}
+use Rattle.fibs_rules.specs.PlayValue.{hops_of}
+use Rattle.fibs_session.specs.History.Machine.{Talk, answer_now}
+use Rattle.fibs_advice.specs.declared.offers.Offers.{Offers}
+
+-- the client takes a decision now: by the history it refuses it by nothing
+abbrev pub is_taken : Talk → DecisionValue → Bool
+is_taken t d = is_none (answer_now t d)
+
+-- what is offered is what the client takes now, and the move that is named is one that it takes
+pub record OffersNow (t : Talk) (o : Offers) : Type 0 where
+  pub roll : o.roll ≡ is_taken t roll
+  pub double : o.double ≡ is_taken t double
+  pub accept : o.accept ≡ is_taken t accept
+  pub reject : o.reject ≡ is_taken t reject
+  pub example : IfSome o.example (λ play. is_taken t (move (hops_of play)) ≡ true)
+
+-- a move in the numbers of the board
+abbrev pub example_text : Direction → Option Play → List ℕ
+example_text direction None = []
+example_text direction (Some play) =
+    codes "Your move, as in: " ++ (command_of direction (move (hops_of play)) ++ codes "\n")
+
+-- to roll, and to double only if that is taken too; to answer a double
+abbrev pub hint_words : Bool → Bool → Bool → Bool → List ℕ
+hint_words true true _ _ = codes "Your turn: roll, or double.\n"
+hint_words true false _ _ = codes "Your turn: roll.\n"
+hint_words false _ true _ = codes "You are offered a double: accept, or reject.\n"
+hint_words false _ false true = codes "You are offered a double: reject.\n"
+hint_words false _ false false = []
+
+-- the hint: a decision stands in it only if it is taken, and where none is it is empty
+abbrev pub hint_text : Offers → List ℕ
+hint_text o = hint_words o.roll o.double o.accept o.reject ++ example_text o.direction o.example

@@ -1,0 +1,198 @@
+//! Which rule a move breaks.
+ghost use Rattle.std.specs.Prelude.{◌≤◌};
+
+use fibs_boards::board::Board;
+use fibs_commands::decision_text;
+use fibs_position::{Decision, Direction, Play, Position, Step};
+use itoa::Buffer;
+use std::alloc::{AllocError, Global};
+
+/// The bar, in the player's own numbering.
+const BAR: u8 = 25;
+
+/// A rule that a move breaks.
+#[derive(Clone, Copy, PartialEq, Eq)]
+enum Broken {
+    /// A checker on the bar enters first.
+    Bar,
+    /// No checker stands there.
+    Empty(u8),
+    /// The opponent holds the place.
+    Held(u8),
+    /// Checkers are outside of the home.
+    Outside,
+    /// No die plays the step.
+    Distance(Step),
+    /// More dice can be played.
+    MoreDice(u8),
+    /// The larger die can be played.
+    Larger,
+}
+
+/// How many of the player's checkers are on a place after the first steps of a move.
+fn checkers_on(position: &Position, steps: &[Step], place: u8) -> u8
+    requires { place ≤ 25 }
+{
+    let mut count = position.own(place);
+    for step in steps {
+        if step.target() == place {
+            count = count.saturating_add(1);
+        }
+        if step.source() == place {
+            count = count.saturating_sub(1);
+        }
+    }
+    count
+}
+
+/// Whether a checker of the player is outside of his home.
+fn is_outside(position: &Position, steps: &[Step]) -> bool {
+    for place in 7..26 {
+        if checkers_on(position, steps, place) > 0 {
+            return true;
+        }
+    }
+    false
+}
+
+/// Whether the opponent holds a place.
+fn is_held(position: &Position, place: u8) -> bool {
+    place >= 1 && place <= 24 && position.other(place) >= 2
+}
+
+/// Whether a die may play a step: the distance is that of a die, or a checker goes off by a larger one.
+fn is_played_by(die: u8, step: &Step) -> bool {
+    let distance = step.source().saturating_sub(step.target());
+    distance == die || (step.target() == 0 && distance < die)
+}
+
+/// The rule that a step breaks after others, if it breaks one by itself.
+fn broken_by(position: &Position, dice: (u8, u8), before: &[Step], step: &Step) -> Option<Broken> {
+    if step.source() != BAR && checkers_on(position, before, BAR) > 0 {
+        return Some(Broken::Bar);
+    }
+    if checkers_on(position, before, step.source()) == 0 {
+        return Some(Broken::Empty(step.source()));
+    }
+    if !is_played_by(dice.0, step) && !is_played_by(dice.1, step) {
+        return Some(Broken::Distance(*step));
+    }
+    if is_held(position, step.target()) {
+        return Some(Broken::Held(step.target()));
+    }
+    if step.target() == 0 && is_outside(position, before) {
+        return Some(Broken::Outside);
+    }
+    None
+}
+
+/// The rule that a move breaks, if it can be told.
+fn broken_rule(position: &Position, dice: (u8, u8), play: &Play) -> Option<Broken> {
+    let steps = play.steps();
+    for place in 0..steps.len() {
+        let found = broken_by(position, dice, &steps[..place], &steps[place]);
+        if found.is_some() {
+            return found;
+        }
+    }
+    let most = position.most_dice();
+    if steps.len() < usize::from(most) {
+        Some(Broken::MoreDice(most))
+    } else if steps.len() == 1 {
+        Some(Broken::Larger)
+    } else {
+        None
+    }
+}
+
+/// Appends a place by the numbers of the board.
+fn append_place(place: u8, direction: Direction, text: &mut Vec<u8>) -> Result<(), AllocError> {
+    if place == 0 {
+        text.extend_from_slice(b"off")
+    } else if place >= BAR {
+        text.extend_from_slice(b"the bar")
+    } else {
+        text.extend_from_slice(Buffer::new().format(direction.line_place(place)).as_bytes())
+    }
+}
+
+/// Appends words, a place and a full stop.
+fn append_of_place(
+    words: &[u8],
+    place: u8,
+    direction: Direction,
+    text: &mut Vec<u8>,
+) -> Result<(), AllocError> {
+    text.extend_from_slice(words)?;
+    append_place(place, direction, text)?;
+    text.extend_from_slice(b".")
+}
+
+/// Appends that more dice must be played.
+fn append_more_dice(most: u8, text: &mut Vec<u8>) -> Result<(), AllocError> {
+    match most {
+        2 => text.extend_from_slice(b"Both dice must be played."),
+        1 => text.extend_from_slice(b"A die must be played."),
+        _ => {
+            text.extend_from_slice(b"As many dice as can be must be played: ")?;
+            text.extend_from_slice(Buffer::new().format(most).as_bytes())?;
+            text.extend_from_slice(b".")
+        }
+    }
+}
+
+/// Appends a rule that is broken.
+fn append_broken(
+    broken: &Broken,
+    direction: Direction,
+    text: &mut Vec<u8>,
+) -> Result<(), AllocError> {
+    match broken {
+        Broken::Bar => text.extend_from_slice(b"A checker on the bar enters first."),
+        Broken::Empty(place) => {
+            append_of_place(b"You have no checker on ", *place, direction, text)
+        }
+        Broken::Held(place) => append_of_place(b"Your opponent holds ", *place, direction, text),
+        Broken::Outside => { text.extend_from_slice(b"No checker goes off before all are home.") }
+        Broken::Distance(step) => {
+            text.extend_from_slice(b"No die plays from ")?;
+            append_place(step.source(), direction, text)?;
+            append_of_place(b" to ", step.target(), direction, text)
+        }
+        Broken::MoreDice(most) => append_more_dice(*most, text),
+        Broken::Larger => text.extend_from_slice(b"The larger die must be played."),
+    }
+}
+
+/// A die of the player's, 0 if there is none.
+fn die(board: &Board, number: usize) -> u8
+    requires low { 34 ≤ number }
+    requires high { number ≤ 35 }
+{
+    board.field(number) as u8
+}
+
+/// Appends the rule that a move breaks on a board, and a move that is legal, if there is one.
+///
+/// Errors: if memory runs out.
+pub fn append_rule(
+    alloc: Global,
+    board: &Board,
+    play: &Play,
+    text: &mut Vec<u8>,
+) -> Result<(), AllocError> {
+    let Ok(position) = Position::of(board) else {
+        return Ok(());
+    };
+    let direction = Direction::of(board);
+    match broken_rule(&position, (die(board, 34), die(board, 35)), play) {
+        Some(broken) => append_broken(&broken, direction, text)?,
+        None => text.extend_from_slice(b"The rules don't allow this move.")?,
+    }
+    let plays = position.plays(alloc)?;
+    if let Some(legal) = plays.first() {
+        text.extend_from_slice(b" Legal: ")?;
+        text.extend_from_slice(decision_text(&Decision::Move(*legal), direction).as_bytes())?;
+    }
+    Ok(())
+}

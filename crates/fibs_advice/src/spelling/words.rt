@@ -1,0 +1,156 @@
+//! Words as players type them: with spaces at both ends, in capitals, and a few short ones.
+
+use crate::offers::{direction, is_taken};
+use crate::spelling::moves::{only_meaning, typed_move};
+use bstr::ByteSlice;
+use fibs_commands::{CommandText, decision_text};
+use fibs_fields::split::split;
+use fibs_fields::trailing_spaces::without_spaces;
+use fibs_position::{Decision, Play, Position};
+use fibs_session::Client;
+use std::alloc::{AllocError, Global};
+
+/// Appends a text in small letters.
+fn append_small(bytes: &[u8], text: &mut Vec<u8>) -> Result<(), AllocError> {
+    for byte in bytes {
+        text.extend_from_slice(&[byte.to_ascii_lowercase()])?;
+    }
+    Ok(())
+}
+
+/// What follows the spaces at the front.
+fn without_front(line: &[u8]) -> &[u8] {
+    line.trim_start_with(|c| c == ' ')
+}
+
+/// Whether the word sends the rest of its line to people, or to the server as it is.
+fn is_talk(word: &[u8]) -> bool {
+    word == b"say".as_slice()
+        || word == b"tell".as_slice()
+        || word == b"shout".as_slice()
+        || word == b"whisper".as_slice()
+        || word == b"kibitz".as_slice()
+        || word == b"message".as_slice()
+        || word == b"send".as_slice()
+}
+
+/// Whether names follow the word, whose capitals stay.
+fn takes_name(word: &[u8]) -> bool {
+    word == b"invite".as_slice()
+        || word == b"join".as_slice()
+        || word == b"gag".as_slice()
+        || word == b"ungag".as_slice()
+}
+
+/// The word that a short one stands for: none for a decision but `roll` and `move`.
+fn long_word(word: &[u8]) -> &[u8] {
+    if word == b"r".as_slice() {
+        b"roll"
+    } else if word == b"m".as_slice() {
+        b"move"
+    } else if word == b"k".as_slice() {
+        b"kibitz"
+    } else if word == b"t".as_slice() {
+        b"tell"
+    } else if word == b"?".as_slice() {
+        b"help"
+    } else {
+        word
+    }
+}
+
+/// The legal move of the board that is shown which was typed, if it was one only.
+fn meant(alloc: Global, client: &Client, typed: &Play) -> Result<Play, AllocError> {
+    if is_taken(client, &Decision::Move(*typed)) {
+        return Ok(*typed);
+    }
+    let Some(board) = client.shown() else {
+        return Ok(*typed);
+    };
+    let Ok(position) = Position::of(board) else {
+        return Ok(*typed);
+    };
+    let plays = position.plays(alloc)?;
+    match only_meaning(typed, plays.as_slice()) {
+        Some(play) => Ok(play),
+        None => Ok(*typed),
+    }
+}
+
+/// The command of the move that the words say, if they say one.
+fn move_command(
+    alloc: Global,
+    client: &Client,
+    words: &[u8],
+) -> Result<Option<CommandText>, AllocError> {
+    let direction = direction(client);
+    match typed_move(words, direction) {
+        None => Ok(None),
+        Some(typed) => {
+            let play = meant(alloc, client, &typed)?;
+            Ok(Some(decision_text(&Decision::Move(play), direction)))
+        }
+    }
+}
+
+/// Appends a word, and what follows it after one space.
+fn append_word(word: &[u8], rest: Option<&[u8]>, text: &mut Vec<u8>) -> Result<(), AllocError> {
+    text.extend_from_slice(word)?;
+    if let Some(rest) = rest {
+        text.extend_from_slice(b" ")?;
+        text.extend_from_slice(rest)?;
+    }
+    Ok(())
+}
+
+/// Where the steps of a move would be: behind `move`, or in the whole line.
+fn move_words<'a>(word: &[u8], rest: Option<&'a [u8]>, line: &'a [u8]) -> &'a [u8] {
+    if word != b"move".as_slice() {
+        return line;
+    }
+    match rest {
+        Some(rest) => rest,
+        None => b"",
+    }
+}
+
+/// Appends a line in small letters, with a long word for a short one, or the move that it says.
+fn append_plain(
+    alloc: Global,
+    client: &Client,
+    line: &[u8],
+    text: &mut Vec<u8>,
+) -> Result<(), AllocError> {
+    let mut small = Vec::new(alloc);
+    append_small(line, &mut small)?;
+    let (word, rest) = split(small.as_slice(), b' ');
+    let word = long_word(word);
+    match move_command(alloc, client, move_words(word, rest, small.as_slice()))? {
+        Some(command) => text.extend_from_slice(command.as_bytes()),
+        None => append_word(word, rest, text),
+    }
+}
+
+/// Appends how a line is spelled that the client does not know. What is sent to people stays as it is, but for the
+/// spaces at its front and the case of its first word.
+///
+/// Errors: if memory runs out.
+pub fn append_spelled(
+    alloc: Global,
+    client: &Client,
+    line: &[u8],
+    text: &mut Vec<u8>,
+) -> Result<(), AllocError> {
+    let line = without_front(line);
+    let (word, rest) = split(line, b' ');
+    let mut small = Vec::new(alloc);
+    append_small(word, &mut small)?;
+    let word = long_word(small.as_slice());
+    if is_talk(word) {
+        return append_word(word, rest, text);
+    }
+    if takes_name(word) {
+        return append_word(word, rest.map(without_spaces), text);
+    }
+    append_plain(alloc, client, without_spaces(line), text)
+}

@@ -1,0 +1,11 @@
+//! What is said to a person at a terminal: messages, reasons, dates and lists in words.
+#![tactic(auto)]
+
+pub mod dates;
+pub mod help;
+pub mod lists;
+pub mod messages;
+pub mod outcomes;
+pub mod reasons;
+pub mod settings;
+pub mod shown;

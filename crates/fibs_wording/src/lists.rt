@@ -1,0 +1,68 @@
+//! The list of players.
+
+use crate::messages::{append_rating, append_state, front};
+use crate::shown::pad_from;
+use fibs_session::{Directory, Player};
+use itoa::Buffer;
+use std::alloc::{AllocError, Global};
+use std::cmp::Reverse;
+
+/// The columns of a name.
+const NAME_COLUMNS: usize = 26;
+
+/// The columns of a name and a rating.
+const RATED_COLUMNS: usize = 36;
+
+/// Appends the row of a player.
+fn append_row(player: &Player, text: &mut Vec<u8>) -> Result<(), AllocError> {
+    let start = text.len();
+    text.extend_from_slice(front(player.name.as_slice()))?;
+    pad_from(start, NAME_COLUMNS, text)?;
+    append_rating(player.rating, text)?;
+    pad_from(start, RATED_COLUMNS, text)?;
+    append_state(
+        front(player.opponent.as_slice()),
+        front(player.watching.as_slice()),
+        player.ready,
+        player.away,
+        text,
+    )?;
+    text.extend_from_slice(b"\n")
+}
+
+/// The places of the players in the directory, those of the best first.
+fn by_rating(alloc: Global, directory: &Directory) -> Result<Vec<usize>, AllocError> {
+    let mut rated: Vec<(u32, usize)> = Vec::new(alloc);
+    for place in 0..directory.len() {
+        if let Some(player) = directory.at(place) {
+            rated.push((player.rating, place))?;
+        }
+    }
+    rated.sort_by_key(|entry| Reverse(entry.0))?;
+    let mut places = Vec::new(alloc);
+    for entry in &rated {
+        places.push(entry.1)?;
+    }
+    Ok(places)
+}
+
+/// Appends how many players there are: `26 players`.
+pub fn append_count(count: usize, text: &mut Vec<u8>) -> Result<(), AllocError> {
+    text.extend_from_slice(Buffer::new().format(count).as_bytes())?;
+    text.extend_from_slice(if count == 1 { b" player" } else { b" players" })
+}
+
+/// Appends a row for each player, the best first, and how many there are.
+pub fn append_players(
+    alloc: Global,
+    directory: &Directory,
+    text: &mut Vec<u8>,
+) -> Result<(), AllocError> {
+    for place in &by_rating(alloc, directory)? {
+        if let Some(player) = directory.at(*place) {
+            append_row(player, text)?;
+        }
+    }
+    append_count(directory.len(), text)?;
+    text.extend_from_slice(b".\n")
+}

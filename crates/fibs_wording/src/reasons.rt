@@ -1,0 +1,128 @@
+//! Why something was not done, in words. The number and the name stand behind it in brackets.
+
+use fibs_messages::Fault;
+use fibs_session::{DirectoryFault, PlainFault, PlainRefusal, Refusal};
+use itoa::Buffer;
+use std::alloc::AllocError;
+
+/// What a refusal says.
+pub fn refusal_words(why: Refusal) -> &'static [u8] {
+    match why {
+        Refusal::AlreadyOpen => b"You are connected already.",
+        Refusal::Offline => b"There is no connection: type open.",
+        Refusal::NotReady => b"The server has not let you in yet.",
+        Refusal::ServerPlays => b"The server plays for you: toggle automove, or toggle greedy.",
+        Refusal::NoBoard => b"No board was shown yet: type board.",
+        Refusal::Waiting => b"You have decided, and no new board has come yet.",
+        Refusal::NotYours => b"There is nothing for you to decide on this board.",
+        Refusal::WrongKind => b"That can't be done on this board: help says what can.",
+        Refusal::IllegalPlay => b"The rules don't allow this move.",
+        Refusal::NotOn => b"It is off already, or will be at your next login.",
+        Refusal::AlreadyOrdered => b"The order to roll stands already.",
+        Refusal::NotOrdered => b"No order to roll stands.",
+    }
+}
+
+/// What a fault of a plain command says.
+fn plain_fault_words(why: PlainFault) -> &'static [u8] {
+    match why {
+        PlainFault::BadName => b"A name has 1 to 64 printable characters, and no space or colon.",
+        PlainFault::BadText => b"A text has printable ASCII characters, at least one.",
+        PlainFault::TooLong => b"A text has at most 400 characters.",
+    }
+}
+
+/// What the refusal of a plain command says.
+pub fn plain_words(why: PlainRefusal) -> &'static [u8] {
+    match why {
+        PlainRefusal::Offline => refusal_words(Refusal::Offline),
+        PlainRefusal::NotOn => refusal_words(Refusal::NotOn),
+        PlainRefusal::Fault(fault) => plain_fault_words(fault),
+    }
+}
+
+/// What is called the name of a plain refusal.
+fn plain_name(why: PlainRefusal) -> &'static [u8] {
+    match why {
+        PlainRefusal::Offline => b"Offline",
+        PlainRefusal::NotOn => b"NotOn",
+        PlainRefusal::Fault(PlainFault::BadName) => b"BadName",
+        PlainRefusal::Fault(PlainFault::BadText) => b"BadText",
+        PlainRefusal::Fault(PlainFault::TooLong) => b"TooLong",
+    }
+}
+
+/// Appends words, and a number and a name in brackets.
+fn append_reason(
+    words: &[u8],
+    number: u8,
+    name: &[u8],
+    text: &mut Vec<u8>,
+) -> Result<(), AllocError> {
+    text.extend_from_slice(words)?;
+    text.extend_from_slice(b" [")?;
+    text.extend_from_slice(Buffer::new().format(number).as_bytes())?;
+    text.extend_from_slice(b" ")?;
+    text.extend_from_slice(name)?;
+    text.extend_from_slice(b"]")
+}
+
+/// Appends why a decision was refused.
+pub fn append_refusal(why: Refusal, text: &mut Vec<u8>) -> Result<(), AllocError> {
+    append_reason(
+        refusal_words(why),
+        why.number(),
+        why.name().as_bytes(),
+        text,
+    )
+}
+
+/// Appends why a plain command was not sent.
+pub fn append_not_sent(why: PlainRefusal, text: &mut Vec<u8>) -> Result<(), AllocError> {
+    append_reason(plain_words(why), why.number(), plain_name(why), text)
+}
+
+/// Appends why the directory took no note of a player.
+pub fn append_unnoted(why: DirectoryFault, text: &mut Vec<u8>) -> Result<(), AllocError> {
+    match why {
+        DirectoryFault::Memory => append_reason(
+            b"The list of players lacks one: no memory is left.",
+            1,
+            b"Memory",
+            text,
+        ),
+        DirectoryFault::Full => append_reason(
+            b"The list of players lacks one: it holds 4096.",
+            2,
+            b"Full",
+            text,
+        ),
+    }
+}
+
+/// What is wrong with a field.
+fn fault_words(fault: Fault) -> &'static [u8] {
+    match fault {
+        Fault::Missing => b" is missing",
+        Fault::Extra => b" is one too many",
+        Fault::NotANumber => b" is no number",
+        Fault::OutOfRange => b" is out of range",
+        Fault::BadName => b" is no name or word",
+    }
+}
+
+/// Appends that a line is malformed: what it is, and what is wrong with it.
+pub fn append_malformed(
+    number: u8,
+    field: usize,
+    fault: Fault,
+    text: &mut Vec<u8>,
+) -> Result<(), AllocError> {
+    if number == 0 {
+        text.extend_from_slice(b"A board that can't be read: field ")?;
+    } else {
+        text.extend_from_slice(b"A message that can't be read: field ")?;
+    }
+    text.extend_from_slice(Buffer::new().format(field).as_bytes())?;
+    append_reason(fault_words(fault), number, fault.name().as_bytes(), text)
+}

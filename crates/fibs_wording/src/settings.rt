@@ -1,0 +1,22 @@
+//! What a terminal is.
+
+/// What a terminal is, as the environment says, and where the server is.
+#[derive(Clone, Copy)]
+pub struct Settings<'a> {
+    /// How many columns a line may have.
+    pub columns: usize,
+    /// How many rows there are.
+    pub rows: usize,
+    /// Whether it shows bold letters.
+    pub colour: bool,
+    /// Whether the bell may ring.
+    pub bell: bool,
+    /// Whether it shows letters beyond ASCII, as UTF-8.
+    pub utf8: bool,
+    /// How many seconds the clock of the place is ahead of UTC.
+    pub offset: i32,
+    /// The server's name.
+    pub host: &'a [u8],
+    /// The server's port.
+    pub port: u16,
+}
