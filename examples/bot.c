@@ -11,6 +11,7 @@
 
 #include <errno.h>
 #include <netdb.h>
+#include <stdbool.h>
 #include <stdio.h>
 #include <stdlib.h>
 #include <string.h>
@@ -20,9 +21,6 @@
 
 /* How often a connection is opened in vain, one second apart, before it gives up. */
 enum { MOST_TRIES = 10 };
-
-/* A bot needs no more plays of a board than there can be. */
-enum { MOST_PLAYS = 3060 };
 
 struct bot {
     fibs_client client;
@@ -51,7 +49,7 @@ static int dial(const char *host, const char *port) {
 /* Sends what is to be sent, and prints it where it is no login. */
 static bool send_wire(const struct bot *bot, const fibs_wire *wire, bool is_login) {
     if (!is_login && wire->len > 0) {
-        printf("> %.*s", (int)wire->len, (const char *)wire->bytes);
+        printf("> %.*s", (int)wire->len, wire->bytes);
         fflush(stdout);
     }
     for (size_t sent = 0; sent < wire->len;) {
@@ -71,11 +69,8 @@ static bool send_wire(const struct bot *bot, const fibs_wire *wire, bool is_logi
 static bool decide(struct bot *bot, const fibs_decision *decision) {
     static fibs_wire wire;
     fibs_status status = fibs_client_decide(&bot->client, decision, &wire);
-    if (status != FIBS_DONE && status != FIBS_WAITING) {
-        uint8_t name[16];
-        size_t len = 0;
-        fibs_status_name(status, name, sizeof name, &len);
-        printf("refused %u %.*s\n", (unsigned)status, (int)len, (const char *)name);
+    if (status != FIBS_STATUS_DONE && status != FIBS_STATUS_WAITING) {
+        printf("refused %u %s\n", (unsigned)status, fibs_status_name(status));
     }
     return send_wire(bot, &wire, false);
 }
@@ -86,47 +81,45 @@ static fibs_decision plain_decision(uint8_t kind) {
     return decision;
 }
 
-/* Whether the match is over with this game: fields 4 to 6 are its length and both scores. */
+/* Whether the match is over with this game. */
 static bool ends_match(const fibs_board *board) {
-    int32_t length = board->number[0];
-    return length <= 1 || board->number[1] >= length || board->number[2] >= length;
+    int32_t length = board->number[FIBS_BOARD_LENGTH];
+    return length <= 1 || board->number[FIBS_BOARD_SCORE] >= length
+           || board->number[FIBS_BOARD_OPPONENT_SCORE] >= length;
 }
 
 /* The game is over. */
-static bool finish(struct bot *bot, const uint8_t *line, size_t len) {
+static bool finish(struct bot *bot, const char *line, size_t len) {
     static fibs_wire wire;
     fibs_board board;
-    bool is_board = fibs_read_board(line, len, &board).kind == FIBS_BOARD;
+    bool is_board = fibs_read_board(line, len, &board).kind == FIBS_KIND_BOARD;
     bot->is_over = is_board && ends_match(&board);
     const char *command = bot->is_over ? "bye" : "join";
-    fibs_client_plain(&bot->client, (const uint8_t *)command, strlen(command), &wire);
+    fibs_client_plain(&bot->client, command, strlen(command), &wire);
     return send_wire(bot, &wire, false);
 }
 
 /* Answers a board. */
-static bool play(struct bot *bot, const uint8_t *line, size_t len) {
-    static const char *const names[] = {
-        "", "Over", "AnswerDouble", "OpponentActs", "RollOrDouble", "Move", "Passing"
-    };
-    static fibs_decision plays[MOST_PLAYS];
+static bool play(struct bot *bot, const char *line, size_t len) {
+    static fibs_decision plays[FIBS_MAX_PLAYS];
     fibs_decision decision;
     size_t count = 0;
     uint8_t phase = 0;
-    if (fibs_phase(line, len, &phase) != FIBS_DONE) {
+    if (fibs_phase(line, len, &phase) != FIBS_STATUS_DONE) {
         return true; /* the board of a game that is watched */
     }
-    printf("%s\n", names[phase]);
+    printf("%s\n", fibs_phase_name(phase));
     switch (phase) {
-    case FIBS_OVER:
+    case FIBS_PHASE_OVER:
         return finish(bot, line, len);
-    case FIBS_ANSWER_DOUBLE:
-        decision = plain_decision(FIBS_ACCEPT);
+    case FIBS_PHASE_ANSWER_DOUBLE:
+        decision = plain_decision(FIBS_DECISION_ACCEPT);
         return decide(bot, &decision);
-    case FIBS_ROLL_OR_DOUBLE:
-        decision = plain_decision(FIBS_ROLL);
+    case FIBS_PHASE_ROLL_OR_DOUBLE:
+        decision = plain_decision(FIBS_DECISION_ROLL);
         return decide(bot, &decision);
-    case FIBS_MOVES:
-        if (fibs_plays(line, len, plays, MOST_PLAYS, &count) != FIBS_DONE || count == 0) {
+    case FIBS_PHASE_MOVE:
+        if (fibs_plays(line, len, plays, FIBS_MAX_PLAYS, &count) != FIBS_STATUS_DONE || count == 0) {
             return false;
         }
         return decide(bot, &plays[0]);
@@ -136,16 +129,16 @@ static bool play(struct bot *bot, const uint8_t *line, size_t len) {
 }
 
 /* Gives the client what came, line by line. */
-static bool hear(struct bot *bot, const uint8_t *piece, size_t len) {
-    static uint8_t line[FIBS_LINE_LIMIT];
+static bool hear(struct bot *bot, const char *piece, size_t len) {
+    static char line[FIBS_MAX_LINE];
     static fibs_wire wire;
     fibs_heard heard = { 0 };
     for (size_t at = 0; at < len && !bot->is_over; at += heard.used) {
         fibs_status status = fibs_client_feed(&bot->client, piece + at, len - at, line, sizeof line, &heard, &wire);
-        if (status != FIBS_DONE || !send_wire(bot, &wire, false)) {
+        if (status != FIBS_STATUS_DONE || !send_wire(bot, &wire, false)) {
             return false;
         }
-        if (heard.ended && heard.kind.kind == FIBS_BOARD && !play(bot, line, heard.len)) {
+        if (heard.ended && heard.kind.kind == FIBS_KIND_BOARD && !play(bot, line, heard.len)) {
             return false;
         }
     }
@@ -154,9 +147,9 @@ static bool hear(struct bot *bot, const uint8_t *piece, size_t len) {
 
 /* Plays on one connection, until it is lost or the match is over. */
 static void play_connection(struct bot *bot) {
-    static uint8_t piece[4096];
+    static char piece[4096];
     static fibs_wire wire;
-    if (fibs_client_open(&bot->client, &wire) != FIBS_DONE || !send_wire(bot, &wire, true)) {
+    if (fibs_client_open(&bot->client, &wire) != FIBS_STATUS_DONE || !send_wire(bot, &wire, true)) {
         return;
     }
     while (!bot->is_over) {
@@ -173,11 +166,11 @@ static void play_connection(struct bot *bot) {
 /* The connection is lost: prints what waited. The server may have it or not, so that it is not sent again. */
 static void lose(struct bot *bot) {
     fibs_outstanding waited = { 0 };
-    uint8_t text[FIBS_COMMAND_LIMIT];
+    char text[FIBS_MAX_COMMAND];
     size_t len = 0;
     fibs_client_lose(&bot->client, &waited);
-    fibs_decision_text(&waited.decision, waited.board.number[39], text, sizeof text, &len);
-    printf("lost %.*s\n", (int)len, (const char *)text);
+    fibs_decision_text(&waited.decision, waited.board.number[FIBS_BOARD_DIRECTION], text, sizeof text, &len);
+    printf("lost %.*s\n", (int)len, text);
 }
 
 /* Plays until the match is over. */
@@ -201,7 +194,7 @@ static bool play_match(struct bot *bot, const char *host, const char *port) {
 }
 
 int main(int argc, char **argv) {
-    struct bot bot = { .client = FIBS_NONE };
+    struct bot bot = { .client = NULL };
     char password[256] = "";
     if (argc != 4) {
         fputs("bot HOST PORT NAME < PASSWORD\n", stderr);
@@ -211,10 +204,9 @@ int main(int argc, char **argv) {
         password[0] = '\0';
     }
     password[strcspn(password, "\r\n")] = '\0';
-    fibs_status status = fibs_client_new(&bot.client, (const uint8_t *)argv[3], strlen(argv[3]),
-                                         (const uint8_t *)password, strlen(password));
-    if (status != FIBS_DONE) {
-        fprintf(stderr, "bot: the name or the password is none, or memory ran out (%u)\n", (unsigned)status);
+    fibs_status status = fibs_client_new(&bot.client, argv[3], strlen(argv[3]), password, strlen(password));
+    if (status != FIBS_STATUS_DONE) {
+        fprintf(stderr, "bot: %s\n", fibs_status_name(status));
         return 4;
     }
     bool played = play_match(&bot, argv[1], argv[2]);

@@ -14,7 +14,7 @@ import ctypes
 import os
 import struct
 from collections import namedtuple
-from ctypes import POINTER, Structure, byref, c_bool, c_char_p, c_int32, c_size_t, c_uint8, c_uint32, c_uint64, c_void_p
+from ctypes import POINTER, Structure, byref, c_char_p, c_int32, c_size_t, c_uint8, c_uint32, c_uint64, c_void_p
 
 TEXT, MESSAGE, BOARD, MALFORMED = range(4)
 ROLL, DOUBLE, ACCEPT, REJECT, MOVE, RESIGN_NORMAL, RESIGN_GAMMON, RESIGN_BACKGAMMON = range(1, 9)
@@ -67,10 +67,6 @@ class Refused(Exception):
         super().__init__('%d %s' % (status, self.name))
 
 
-class _Handle(Structure):
-    _fields_ = [('at', c_void_p), ('held', c_bool)]
-
-
 class _Kind(Structure):
     _fields_ = [('field', c_size_t), ('kind', c_uint8), ('number', c_uint8), ('fault', c_uint8)]
 
@@ -112,7 +108,7 @@ class _Heard(Structure):
 # A row of fibs_read_lines: start, len, the wrong field, kind, number, fault, cut.
 _ROW = struct.Struct('=QQQBBB5xB7x')
 
-_HANDLE = POINTER(_Handle)
+_HANDLE = POINTER(c_void_p)
 _LENGTH = POINTER(c_size_t)
 _DATA = [c_char_p, c_size_t]
 _ROOM = [c_void_p, c_size_t]
@@ -120,8 +116,8 @@ _PIECE = [c_void_p, c_size_t]
 
 # Each function: what it answers, and its parameters.
 _FUNCTIONS = {
-    'fibs_status_name': (c_uint32, [c_uint32, *_ROOM, _LENGTH]),
-    'fibs_line_limit': (c_size_t, []),
+    'fibs_status_name': (c_char_p, [c_uint32]),
+    'fibs_max_line': (c_size_t, []),
     'fibs_lines_new': (c_uint32, [_HANDLE]),
     'fibs_lines_free': (None, [_HANDLE]),
     'fibs_lines_held': (c_uint32, [_HANDLE, _LENGTH]),
@@ -171,7 +167,7 @@ def _load():
 _lib = _load()
 
 # How many bytes of a line are kept.
-LIMIT = _lib.fibs_line_limit()
+LIMIT = _lib.fibs_max_line()
 
 
 def _check(status):
@@ -228,15 +224,14 @@ def _board_of(board):
 
 def status_name(status):
     """The name of a status, such as NotYours."""
-    room, size = ctypes.create_string_buffer(32), c_size_t()
-    return room.raw[:size.value].decode() if _lib.fibs_status_name(status, room, 32, byref(size)) == DONE else ''
+    return _lib.fibs_status_name(status).decode()
 
 
 class Reader:
     """Reads one stream, in whatever pieces it comes."""
 
     def __init__(self, rows=4096, room=1 << 18):
-        self._handle = _Handle()
+        self._handle = c_void_p()
         if rows < 1 or room < LIMIT:
             raise ValueError('no room for a line')
         _check(_lib.fibs_lines_new(byref(self._handle)))
@@ -367,7 +362,7 @@ class Client:
     """A client: what the server sends goes into feed, and what each call hands out goes to the server."""
 
     def __init__(self, name, password):
-        self._handle = _Handle()
+        self._handle = c_void_p()
         self._wire, self._heard = _Wire(), _Heard()
         self._text = ctypes.create_string_buffer(LIMIT)
         _check(_lib.fibs_client_new(byref(self._handle), name, len(name), password, len(password)))
@@ -460,7 +455,7 @@ class Directory:
     """The players of whom was told, in order; of each the twelve fields of message 5."""
 
     def __init__(self):
-        self._handle = _Handle()
+        self._handle = c_void_p()
         _check(_lib.fibs_directory_new(byref(self._handle)))
 
     def close(self):

@@ -1,11 +1,13 @@
 #!/usr/bin/env python3
 """Holds include/fibs.h to the library for C: c_header.py ARCHIVE
 
-Each exported function of crates/fibs_c has its declaration, with the same parameters in the same order and types of the same
-layout; each record of it and of crates/fibs_records has the same fields in the same order; each status and limit has its
-number; and the archive defines just these functions. Prints what differs, and then `N passed, M failed`.
+Each exported function of crates/fibs_c has its declaration, with the same parameters in the same order and types of the
+same layout; each record of it and of crates/fibs_records has the same fields in the same order; each enumerator and each
+macro has the library's own number; and the archive shows just these functions and those of lib/texts.c. Prints what
+differs, and then `N passed, M failed`.
 """
 
+import math
 import pathlib
 import re
 import subprocess
@@ -38,7 +40,7 @@ def c_type(rust):
     rust = rust.strip()
     array = re.fullmatch(r'\[(.+); (\d+)\]', rust)
     if array:
-        return '%s[%s]' % (c_type(array[1]), array[2])
+        return '%s[%s]' % ('char' if array[1] == 'u8' else c_type(array[1]), array[2])
     return NUMBERS.get(rust) or RECORDS[rust]
 
 
@@ -49,7 +51,8 @@ def c_parameter(rust):
         return []
     slice_of = re.fullmatch(r'&(mut )?\[(\w+)\]', rust)
     if slice_of:
-        return ['%s%s *' % ('' if slice_of[1] else 'const ', c_type(slice_of[2])), 'size_t']
+        kind = 'char' if slice_of[2] == 'u8' else c_type(slice_of[2])
+        return ['%s%s *' % ('' if slice_of[1] else 'const ', kind), 'size_t']
     reference = re.fullmatch(r'&(mut )?(\w+)', rust)
     if reference:
         return ['%s%s *' % ('' if reference[1] else 'const ', c_type(reference[2]))]
@@ -97,10 +100,14 @@ def header():
     """The same of the header."""
     text = without_comments((ROOT / 'include' / 'fibs.h').read_text())
     limits = {name: int(number) for name, number in re.findall(r'#define (FIBS_\w+) (\d+)', text)}
+    limits.update(re.findall(r'#define (FIBS_\w+) "(.*?)"', text))
     text = re.sub(r'(?m)^#.*$', '', text)
     functions, records, constants = {}, {}, {}
+    for name in re.findall(r'typedef struct \w+_held \*(\w+);', text):
+        records[name] = [('at', 'void *')]
     for body, name in re.findall(r'typedef struct \w+ \{(.*?)\} (\w+);', text, re.S):
         records[name] = [field for one in body.split(';') if one.strip() for field in declared(one)]
+    texts = re.findall(r'(?m)^const char \*(fibs_\w+)\([^)]*\);', text)
     for answer, name, parameters in re.findall(r'(?m)^(\w+) (fibs_\w+)\(([^)]*)\);', text):
         types = [] if parameters.strip() == 'void' else [declared(one)[0][1] for one in parameters.split(',')]
         functions[name] = (normal(answer), types)
@@ -111,7 +118,7 @@ def header():
             number = int(given) if given else number + 1
             if name.strip():
                 constants[name.strip()] = number
-    return functions, records, constants, limits
+    return functions, records, constants, limits, texts
 
 
 # Statuses of refusals and faults, by the numbers that the crates give them.
@@ -130,8 +137,63 @@ def family_statuses():
     for path, (kind, base) in FAMILIES.items():
         text = (ROOT / 'crates' / path).read_text()
         for name, number in re.findall(r'\b%s::(\w+) => (\d+),' % kind, text):
-            found['FIBS_%s%s' % ('FIELD_' if base == 300 else '', screaming(name))] = base + int(number)
+            found['FIBS_STATUS_%s%s' % ('FIELD_' if base == 300 else '', screaming(name))] = base + int(number)
+            if base == 300:
+                found['FIBS_FAULT_' + screaming(name)] = int(number)
     return found
+
+
+def numbers_of(path, pattern):
+    return {screaming(name): int(number) for name, number in
+            re.findall(pattern, (ROOT / 'crates' / path).read_text(), re.S)}
+
+
+# What each number of a board is, by its field (FIBS board style 3).
+BOARD = {'LENGTH': 4, 'SCORE': 5, 'OPPONENT_SCORE': 6, 'PLACES': 7, 'TURN': 33, 'DICE': 34, 'OPPONENT_DICE': 36,
+         'CUBE': 38, 'MAY_DOUBLE': 39, 'OPPONENT_MAY_DOUBLE': 40, 'WAS_DOUBLED': 41, 'COLOUR': 42, 'DIRECTION': 43,
+         'HOME': 44, 'BAR': 45, 'OFF': 46, 'OPPONENT_OFF': 47, 'ON_BAR': 48, 'OPPONENT_ON_BAR': 49, 'CAN_MOVE': 50,
+         'FORCED_MOVE': 51, 'DID_CRAWFORD': 52, 'REDOUBLES': 53, 'NUMBERS': 54}
+
+
+def enumerators():
+    """The enumerators other than statuses, by the numbers in the library's code."""
+    found = {'FIBS_FAULT_NONE': 0, 'FIBS_DECISION_NONE': 0, 'FIBS_KIND_TEXT': 0}
+    decisions = (ROOT / 'crates/fibs_records/src/decisions.rt').read_text()
+    kinds = {name: int(number) for number, name in re.findall(r'(\d) => Some\(Decision::(\w+)[,()]', decisions)}
+    kinds.pop('Resign')
+    kinds.update(('Resign' + name, int(number)) for name, number in re.findall(r'Stake::(\w+) => (\d)', decisions))
+    fields = 'fibs_records/src/fields.rt'
+    families = {
+        'PHASE': numbers_of('fibs_c/src/positions.rt', r'Phase::(\w+) => (\d),'),
+        'DECISION': {screaming(name): number for name, number in kinds.items()},
+        'FIELD': {**numbers_of(fields, r'pub fn (\w+)\([^)]*\) -> FieldPart[^{]*\{[^{]*\{\s*FieldPart::of_\w+\((\d),'),
+                  **numbers_of(fields, r'Field::(Text)\(text\) => FieldPart::of_bytes\((\d)')},
+        'KIND': numbers_of('fibs_records/src/kinds.rt', r'Reading::(Numbered|Board|Malformed)\b.{1,200}?kind: (\d),'),
+        'BOARD': {name: field - 4 for name, field in BOARD.items()}}
+    families['KIND']['MESSAGE'] = families['KIND'].pop('NUMBERED')
+    for family, numbers in families.items():
+        found.update(('FIBS_%s_%s' % (family, name), number) for name, number in numbers.items())
+    return found
+
+
+def limits_of():
+    """The macros, from where the library has them."""
+    def read(path, pattern):
+        return int(re.search(pattern, (ROOT / path).read_text())[1].replace('_', ''))
+    version = re.search(r'#define FIBS_VERSION "(.*)"', (ROOT / 'include/fibs.h').read_text())[1].split('.')
+    names = re.findall(r'=> "(\w+)"', (ROOT / 'crates/fibs_records/src/status.rt').read_text())
+    return {
+        'FIBS_MAX_LINE': read('crates/fibs_lines/src/lib.rt', r'pub const LIMIT: usize = ([\d_]+);'),
+        'FIBS_MAX_BOARD': read('crates/fibs_boards/src/print.rt', r'const LINE_LEN: usize = ([\d_]+);'),
+        'FIBS_MAX_COMMAND': read('crates/fibs_commands/src/text.rt', r'pub type CommandText = ArrayString<(\d+)>'),
+        'FIBS_MAX_WIRE': read('crates/fibs_records/src/wire.rt', r'pub bytes: \[u8; (\d+)\]'),
+        'FIBS_MAX_NAME': read('crates/fibs_records/src/boards.rt', r'pub player: \[u8; (\d+)\]'),
+        'FIBS_MAX_STATUS_NAME': max(map(len, names)),
+        'FIBS_MAX_STEPS': read('crates/fibs_records/src/decisions.rt', r'pub steps: \[PlayStep; (\d+)\]'),
+        'FIBS_MAX_PLAYS': math.comb(15 + 4 - 1, 4),
+        'FIBS_MAX_PLAYERS': read('crates/fibs_directory/src/directory.rt', r'const MOST_PLAYERS: usize = ([\d_]+);'),
+        'FIBS_VERSION': '.'.join(version), 'FIBS_VERSION_MAJOR': int(version[0]),
+        'FIBS_VERSION_MINOR': int(version[1]), 'FIBS_VERSION_PATCH': int(version[2])}
 
 
 class Counts:
@@ -147,23 +209,22 @@ class Counts:
 
 def main():
     functions, records, own = library()
-    c_functions, c_records, constants, limits = header()
+    c_functions, c_records, constants, limits, texts = header()
     counts = Counts()
     for name in sorted(set(functions) | set(c_functions)):
         counts.same(name, functions.get(name), c_functions.get(name))
     for name in sorted(set(records) | set(c_records)):
         counts.same(name, records.get(name), c_records.get(name))
-    statuses = family_statuses()
-    statuses.update(('FIBS_' + name, number) for name, number in own.items())
-    for name, number in sorted(statuses.items()):
-        counts.same(name, number, constants.get(name))
-    known = [name for name, number in constants.items() if number > 100 or name in statuses]
-    counts.same('the names of statuses', sorted(statuses), sorted(known))
-    line_limit = re.search(r'pub const LIMIT: usize = ([\d_]+);', (ROOT / 'crates/fibs_lines/src/lib.rt').read_text())
-    counts.same('FIBS_LINE_LIMIT', int(line_limit[1]), limits.get('FIBS_LINE_LIMIT'))
+    wanted = {**family_statuses(), **enumerators()}
+    wanted.update(('FIBS_STATUS_' + name, number) for name, number in own.items())
+    for name in sorted(set(wanted) | set(constants)):
+        counts.same(name, wanted.get(name), constants.get(name))
+    macros = limits_of()
+    for name in sorted(set(macros) | set(limits)):
+        counts.same(name, macros.get(name), limits.get(name))
     nm = subprocess.run(['nm', '-g', '--defined-only', sys.argv[1]], capture_output=True, text=True)
-    exported = {line.split()[-1] for line in nm.stdout.splitlines() if ' T ' in line}
-    counts.same('the archive', sorted(functions), sorted(name for name in exported if not name.startswith('rattle_')))
+    shown = sorted(line.split()[-1] for line in nm.stdout.splitlines() if re.search(r' [A-Z] ', line))
+    counts.same('the archive', sorted([*functions, *texts]), shown)
     print('%d passed, %d failed' % (counts.passed, counts.failed))
     return 1 if counts.failed else 0
 

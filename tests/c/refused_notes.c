@@ -7,12 +7,14 @@
 #include <inttypes.h>
 #include <string.h>
 
+#define S(name) FIBS_STATUS_##name
+
 enum { FIELDS = 12, MOST = 4096 };
 
 /* Which allocation is refused. */
 static long number;
 
-struct field { fibs_status status; fibs_field told; uint8_t text[32]; };
+struct field { fibs_status status; fibs_field told; char text[32]; };
 
 static bool are_equal(const struct field *a, const struct field *b) {
     return a->status == b->status && a->told.len == b->told.len && a->told.number == b->told.number &&
@@ -27,14 +29,14 @@ static struct field field_at(fibs_directory *directory, size_t place, size_t n) 
 
 static struct field field_of(fibs_directory *directory, const char *name, size_t n) {
     struct field field = { 0, { 0, 0, 0 }, { 0 } };
-    field.status = fibs_directory_field_of(directory, bytes(name), strlen(name), n, &field.told, field.text,
+    field.status = fibs_directory_field_of(directory, name, strlen(name), n, &field.told, field.text,
                                            sizeof field.text);
     return field;
 }
 
 static size_t players_in(fibs_directory *directory) {
     size_t len = 0;
-    check(fibs_directory_len(directory, &len) == FIBS_DONE, "fibs_directory_len", number);
+    check(fibs_directory_len(directory, &len) == S(DONE), "fibs_directory_len", number);
     return len;
 }
 
@@ -42,14 +44,14 @@ static size_t players_in(fibs_directory *directory) {
 static bool are_alike_at(fibs_directory *a, fibs_directory *b, size_t place) {
     char name[33] = { 0 };
     struct field at = field_at(a, place, 1);
-    if (at.status != FIBS_DONE) {
+    if (at.status != S(DONE)) {
         return false;
     }
     memcpy(name, at.text, at.told.len);
     for (size_t n = 1; n <= FIELDS; n++) {
         struct field a_at = field_at(a, place, n), b_at = field_at(b, place, n);
         struct field a_of = field_of(a, name, n), b_of = field_of(b, name, n);
-        if (a_at.status != FIBS_DONE || !are_equal(&a_at, &b_at) || !are_equal(&a_at, &a_of) ||
+        if (a_at.status != S(DONE) || !are_equal(&a_at, &b_at) || !are_equal(&a_at, &a_of) ||
             !are_equal(&a_of, &b_of)) {
             return false;
         }
@@ -71,12 +73,12 @@ static bool are_alike(fibs_directory *a, fibs_directory *b) {
             return false;
         }
     }
-    return players_in(b) == len && field_at(a, len, 1).status == FIBS_NO_PLAYER &&
-           field_at(b, len, 1).status == FIBS_NO_PLAYER;
+    return players_in(b) == len && field_at(a, len, 1).status == S(NO_PLAYER) &&
+           field_at(b, len, 1).status == S(NO_PLAYER);
 }
 
 static fibs_status note(fibs_directory *directory, const char *line) {
-    return fibs_directory_note(directory, bytes(line), strlen(line));
+    return fibs_directory_note(directory, line, strlen(line));
 }
 
 /* Both answer these lines alike, and are alike after each. */
@@ -93,7 +95,7 @@ static void check_filled_alike(fibs_directory *a, fibs_directory *b) {
     static const char *const known[] = { "5 p4095 - - 1 0 1700 0 3 1040515752 host - -", "8 p4000" };
     char line[80];
     for (size_t name = players_in(a); name <= MOST; name++) {
-        fibs_status wanted = name < MOST ? FIBS_DONE : FIBS_FULL;
+        fibs_status wanted = name < MOST ? S(DONE) : S(FULL);
         snprintf(line, sizeof line, "5 p%zu - - 1 0 1500 0 3 1040515752 host - -", name);
         check(note(a, line) == wanted && note(b, line) == wanted, line, number);
     }
@@ -105,17 +107,17 @@ struct story { const char *name; const char *const *lines; size_t count; bool is
 
 /* The directory is as its twin, which is told the lines before the refused one, and both go on alike. */
 static void check_twin(fibs_directory *directory, const struct story *story, size_t at) {
-    fibs_directory twin = FIBS_NONE;
+    fibs_directory twin = NULL;
     check(refused == 1, "one is refused", number);
-    check(fibs_directory_new(&twin) == FIBS_DONE, "the twin", number);
+    check(fibs_directory_new(&twin) == S(DONE), "the twin", number);
     for (size_t before = 0; before < at; before++) {
-        check(note(&twin, story->lines[before]) == FIBS_DONE, "the twin's note", number);
+        check(note(&twin, story->lines[before]) == S(DONE), "the twin's note", number);
     }
     size_t later = story->is_left_out ? at + 1 : at;
     check_alike(directory, &twin, story->lines + later, story->count - later);
     if (story->is_filled) {
         check_filled_alike(directory, &twin);
-        check(fibs_directory_clear(directory) == FIBS_DONE && fibs_directory_clear(&twin) == FIBS_DONE, "clear",
+        check(fibs_directory_clear(directory) == S(DONE) && fibs_directory_clear(&twin) == S(DONE), "clear",
               number);
         check(players_in(directory) == 0, "cleared", number);
         check_alike(directory, &twin, story->lines, story->count);
@@ -125,7 +127,7 @@ static void check_twin(fibs_directory *directory, const struct story *story, siz
 
 static bool has(fibs_directory *directory, size_t place, const char *name, uint64_t rating) {
     struct field told = field_at(directory, place, 1);
-    return told.status == FIBS_DONE && told.told.len == strlen(name) &&
+    return told.status == S(DONE) && told.told.len == strlen(name) &&
            memcmp(told.text, name, told.told.len) == 0 && field_at(directory, place, 6).told.number == rating;
 }
 
@@ -161,15 +163,15 @@ static void check_told(fibs_directory *directory, const struct story *story) {
 
 /* Tells a story with this allocation refused. Whether one was. */
 static bool run(const struct story *story) {
-    fibs_directory directory = FIBS_NONE;
+    fibs_directory directory = NULL;
     refuse(number);
     fibs_status made = fibs_directory_new(&directory);
-    check(made == (refused ? FIBS_MEMORY : FIBS_DONE), "fibs_directory_new", number);
-    if (made == FIBS_DONE) {
+    check(made == (refused ? S(MEMORY) : S(DONE)), "fibs_directory_new", number);
+    if (made == S(DONE)) {
         for (size_t at = 0; at < story->count; at++) {
             fibs_status told = note(&directory, story->lines[at]);
-            if (told != FIBS_DONE) {
-                check(told == FIBS_MEMORY, "the reason", number);
+            if (told != S(DONE)) {
+                check(told == S(MEMORY), "the reason", number);
                 check_twin(&directory, story, at);
                 break;
             }

@@ -56,7 +56,6 @@ static void refuse(long number) {
     live = 0;
 }
 
-static const uint8_t *bytes(const char *text) { return (const uint8_t *)text; }
 
 static int failed;
 

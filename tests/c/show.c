@@ -8,6 +8,7 @@
 #include "fibs.h"
 
 #include <inttypes.h>
+#include <stdbool.h>
 #include <stdio.h>
 #include <stdlib.h>
 #include <string.h>
@@ -21,23 +22,23 @@ static void must(bool holds, const char *what) {
     }
 }
 
-static void print_escaped(const uint8_t *bytes, size_t len) {
+static void print_escaped(const char *bytes, size_t len) {
     for (size_t i = 0; i < len; i++) {
         if (bytes[i] >= 32 && bytes[i] <= 126 && bytes[i] != '\\') {
             putchar(bytes[i]);
         } else {
-            printf("\\x%02x", bytes[i]);
+            printf("\\x%02x", (unsigned)(unsigned char)bytes[i]);
         }
     }
 }
 
 /* Prints a message from its number and its fields: an empty text is printed as nothing. */
-static void print_message(const uint8_t *line, size_t len, uint8_t number) {
-    static uint8_t text[FIBS_LINE_LIMIT];
+static void print_message(const char *line, size_t len, uint8_t number) {
+    static char text[FIBS_MAX_LINE];
     fibs_field field;
     fibs_status status;
     printf("message %d", number);
-    for (size_t n = 1; (status = fibs_read_field(line, len, n, &field, text, sizeof text)) == FIBS_DONE; n++) {
+    for (size_t n = 1; (status = fibs_read_field(line, len, n, &field, text, sizeof text)) == FIBS_STATUS_DONE; n++) {
         switch (field.kind) {
         case FIBS_FIELD_FLAG:
         case FIBS_FIELD_NUMBER:
@@ -57,21 +58,21 @@ static void print_message(const uint8_t *line, size_t len, uint8_t number) {
             must(field.number == 0, "a field of bytes has a number");
         }
     }
-    must(status == FIBS_NO_FIELD, "a message's field was refused");
+    must(status == FIBS_STATUS_NO_FIELD, "a message's field was refused");
     putchar('\n');
 }
 
-static void print_board(const uint8_t *line, size_t len) {
-    uint8_t text[FIBS_BOARD_LIMIT];
-    char again[FIBS_BOARD_LIMIT + 512];
+static void print_board(const char *line, size_t len) {
+    char text[FIBS_MAX_BOARD];
+    char again[FIBS_MAX_BOARD + 512];
     size_t printed = 0, wanted = 0;
     fibs_board board;
-    must(fibs_read_board(line, len, &board).kind == FIBS_BOARD, "a board is none");
-    must(fibs_print_board(line, len, text, 4, &wanted) == FIBS_SHORT, "four bytes are room for a board");
-    must(fibs_print_board(line, len, text, wanted, &printed) == FIBS_DONE && printed == wanted,
+    must(fibs_read_board(line, len, &board).kind == FIBS_KIND_BOARD, "a board is none");
+    must(fibs_print_board(line, len, text, 4, &wanted) == FIBS_STATUS_SHORT, "four bytes are room for a board");
+    must(fibs_print_board(line, len, text, wanted, &printed) == FIBS_STATUS_DONE && printed == wanted,
          "a board was not printed");
-    int at = sprintf(again, "board:%.*s:%.*s", (int)board.player_len, (const char *)board.player,
-                     (int)board.opponent_len, (const char *)board.opponent);
+    int at = sprintf(again, "board:%.*s:%.*s", (int)board.player_len, board.player,
+                     (int)board.opponent_len, board.opponent);
     for (int i = 0; i < 50; i++) {
         at += sprintf(again + at, ":%" PRId32, board.number[i]);
     }
@@ -80,15 +81,15 @@ static void print_board(const uint8_t *line, size_t len) {
     putchar('\n');
 }
 
-static void print_line(const uint8_t *line, size_t len, const fibs_kind *kind, uint8_t cut) {
-    switch (cut ? FIBS_TEXT : kind->kind) {
-    case FIBS_MESSAGE:
+static void print_line(const char *line, size_t len, const fibs_kind *kind, uint8_t cut) {
+    switch (cut ? FIBS_KIND_TEXT : kind->kind) {
+    case FIBS_KIND_MESSAGE:
         print_message(line, len, kind->number);
         break;
-    case FIBS_BOARD:
+    case FIBS_KIND_BOARD:
         print_board(line, len);
         break;
-    case FIBS_MALFORMED:
+    case FIBS_KIND_MALFORMED:
         printf("malformed %d %zu %s\n", kind->number, kind->field, faults[kind->fault]);
         break;
     default:
@@ -99,11 +100,11 @@ static void print_line(const uint8_t *line, size_t len, const fibs_kind *kind, u
 }
 
 /* One line a call. */
-static void show_each(fibs_lines *lines, const uint8_t *piece, size_t got) {
-    static uint8_t text[FIBS_LINE_LIMIT];
+static void show_each(fibs_lines *lines, const char *piece, size_t got) {
+    static char text[FIBS_MAX_LINE];
     fibs_fed fed = { 0 };
     for (size_t at = 0; at < got; at += fed.used) {
-        must(fibs_lines_feed(lines, piece + at, got - at, text, sizeof text, &fed) == FIBS_DONE, "feed");
+        must(fibs_lines_feed(lines, piece + at, got - at, text, sizeof text, &fed) == FIBS_STATUS_DONE, "feed");
         if (fed.ended) {
             fibs_kind kind = fibs_read(text, fed.len);
             print_line(text, fed.len, &kind, fed.cut);
@@ -112,11 +113,12 @@ static void show_each(fibs_lines *lines, const uint8_t *piece, size_t got) {
 }
 
 /* Many lines a call. */
-static void show_many(fibs_lines *lines, const uint8_t *piece, size_t got, uint8_t *text, size_t room) {
+static void show_many(fibs_lines *lines, const char *piece, size_t got, char *text, size_t room) {
     static fibs_line rows[7];
     fibs_told told = { 0 };
     for (size_t at = 0; at < got; at += told.used) {
-        must(fibs_read_lines(lines, piece + at, got - at, text, room, rows, 7, &told) == FIBS_DONE, "read_lines");
+        must(fibs_read_lines(lines, piece + at, got - at, text, room, rows, 7, &told) == FIBS_STATUS_DONE,
+             "read_lines");
         must(told.used > 0, "nothing was read");
         for (size_t i = 0; i < told.lines; i++) {
             print_line(text + rows[i].start, rows[i].len, &rows[i].kind, rows[i].cut);
@@ -125,13 +127,13 @@ static void show_many(fibs_lines *lines, const uint8_t *piece, size_t got, uint8
 }
 
 int main(int argc, char **argv) {
-    static uint8_t piece[1000];
+    static char piece[1000];
     bool each = argc > 1 && strcmp(argv[1], "-1") == 0;
-    size_t room = FIBS_LINE_LIMIT + (argc > 2 ? strtoul(argv[2], NULL, 10) : 2 * FIBS_LINE_LIMIT);
-    uint8_t *text = malloc(room);
-    fibs_lines lines = FIBS_NONE;
+    size_t room = FIBS_MAX_LINE + (argc > 2 ? strtoul(argv[2], NULL, 10) : 2 * FIBS_MAX_LINE);
+    char *text = malloc(room);
+    fibs_lines lines = NULL;
     size_t got, held = 0;
-    must(text != NULL && fibs_lines_new(&lines) == FIBS_DONE, "memory");
+    must(text != NULL && fibs_lines_new(&lines) == FIBS_STATUS_DONE, "memory");
     while ((got = fread(piece, 1, sizeof piece, stdin)) > 0) {
         if (each) {
             show_each(&lines, piece, got);
@@ -139,7 +141,7 @@ int main(int argc, char **argv) {
             show_many(&lines, piece, got, text, room);
         }
     }
-    must(fibs_lines_held(&lines, &held) == FIBS_DONE, "held");
+    must(fibs_lines_held(&lines, &held) == FIBS_STATUS_DONE, "held");
     if (held > 0) {
         printf("unfinished %zu\n", held);
     }

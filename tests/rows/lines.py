@@ -1,6 +1,6 @@
 """Lines: worked streams, and what is read of them."""
 
-from ctypes import POINTER, Structure, byref, c_char_p, c_size_t, c_uint8, c_uint32, create_string_buffer
+from ctypes import POINTER, Structure, byref, c_char_p, c_size_t, c_uint8, c_uint32, c_void_p, create_string_buffer
 
 from checks import fibs, test
 
@@ -11,7 +11,7 @@ class Fed(Structure):
     _fields_ = [('used', c_size_t), ('len', c_size_t), ('ended', c_uint8), ('cut', c_uint8)]
 
 
-HANDLE = POINTER(fibs._Handle)
+HANDLE = POINTER(c_void_p)
 FEED, RESET = fibs._lib.fibs_lines_feed, fibs._lib.fibs_lines_reset
 FEED.restype, FEED.argtypes = c_uint32, [HANDLE, c_char_p, c_size_t, c_char_p, c_size_t, POINTER(Fed)]
 RESET.restype, RESET.argtypes = c_uint32, [HANDLE]

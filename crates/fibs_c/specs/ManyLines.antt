@@ -33,8 +33,26 @@ pub record ReadsLines (old new : LinesValue) (piece : List ℕ) (told : Told) (r
   pub kinds : map kind_in (take told.lines rows) ≡ map kind_of_line (map (line_in text) (take told.lines rows))
   pub ends : (length piece ≤ told.used) ⊎ ((length rows ≤ told.lines) ⊎ (length text < told.bytes + kept_limit))
 
--- or no reader is held
-abbrev pub AreLinesRead : Option LinesValue → Option LinesValue → List ℕ → Told → List ToldLine → List ℕ → ℕ → Type 0
-AreLinesRead None new piece told rows text status = (status ≡ 501) × (new ≡ None)
-AreLinesRead (Some v) None piece told rows text status = ⊥
-AreLinesRead (Some v) (Some w) piece told rows text status = (status ≡ 0) × ReadsLines v w piece told rows text
+-- or no reader is held, and nothing is written
+abbrev pub AreLinesReadInRoom : Option LinesValue → Option LinesValue → List ℕ → Told → Told → List ToldLine
+    → List ToldLine → List ℕ → List ℕ → ℕ → Type 0
+AreLinesReadInRoom None new piece told told' rows rows' text text' status =
+    (status ≡ 501) × (new ≡ None) × (told' ≡ told) × (rows' ≡ rows) × (text' ≡ text)
+AreLinesReadInRoom (Some v) None piece told told' rows rows' text text' status = ⊥
+AreLinesReadInRoom (Some v) (Some w) piece told told' rows rows' text text' status =
+    (status ≡ 0) × ReadsLines v w piece told' rows' text'
+
+-- there is no room for one line: the room and the rows that are wanted are told, and nothing else is written
+pub record WantsRoom (old new : Option LinesValue) (told : Told) (status : ℕ) : Type 0 where
+  pub short : status ≡ 503
+  pub unchanged : new ≡ old
+  pub none_read : told.used ≡ 0
+  pub one_row : told.lines ≡ 1
+  pub one_line : told.bytes ≡ kept_limit
+
+abbrev pub AreLinesRead : Option LinesValue → Option LinesValue → List ℕ → Told → Told → List ToldLine
+    → List ToldLine → List ℕ → List ℕ → ℕ → Type 0
+AreLinesRead old new piece told told' rows rows' text text' status =
+    (((length text < kept_limit) ⊎ (length rows ≡ 0)) × WantsRoom old new told' status × (rows' ≡ rows) × (text' ≡ text))
+    ⊎ ((kept_limit ≤ length text) × (0 < length rows)
+    × AreLinesReadInRoom old new piece told told' rows rows' text text' status)

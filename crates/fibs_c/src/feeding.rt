@@ -117,7 +117,7 @@ fn hear(client: &mut Client, piece: &[u8], text: &mut [u8], wire: &mut Wire) -> 
 }
 
 /// Hears a piece up to and with the next line end; copies the line that ends there, if one does, into `text`, which has
-/// room for `fibs_line_limit()` bytes, and hands out the commands that answer it. To be called again with what is left,
+/// room for `fibs_max_line()` bytes, and hands out the commands that answer it. To be called again with what is left,
 /// until nothing is.
 #[unsafe(no_mangle)]
 pub extern "C" fn fibs_client_feed(

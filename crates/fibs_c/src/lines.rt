@@ -26,7 +26,7 @@ pub struct FedLine {
 
 /// How many bytes of a line are kept.
 #[unsafe(no_mangle)]
-pub extern "C" fn fibs_line_limit() -> usize
+pub extern "C" fn fibs_max_line() -> usize
     ensures { result ≡ kept_limit }
 {
     LIMIT
@@ -85,7 +85,7 @@ pub(crate) fn feed(lines: &mut Lines, piece: &[u8], text: &mut [u8]) -> FedLine
 }
 
 /// Reads a piece up to and with the next line end, and copies the line that ends there, if one does, into `text`, which
-/// has room for `fibs_line_limit()` bytes. To be called again with what is left, until nothing is.
+/// has room for `fibs_max_line()` bytes. To be called again with what is left, until nothing is.
 #[unsafe(no_mangle)]
 pub extern "C" fn fibs_lines_feed(
     alloc: Global,

@@ -13,7 +13,7 @@ use fibs_lines::{LIMIT, Lines};
 use fibs_messages::read;
 use fibs_records::LinesHandle;
 use fibs_records::kinds::LineKind;
-use fibs_records::status::{DONE, NO_HANDLE};
+use fibs_records::status::{DONE, NO_HANDLE, SHORT};
 use std::alloc::Global;
 
 /// A line among many.
@@ -129,8 +129,9 @@ fn read_all(lines: &mut Lines, piece: &[u8], text: &mut [u8], rows: &mut [ToldLi
 }
 
 /// Reads the lines of a piece: the text of each stands behind that of the one before, and what each is in `rows`. It
-/// stops where the piece ends, where `rows` are full, or where less than `fibs_line_limit()` bytes of `text` are left.
-/// To be called again with what is left of the piece, until nothing is.
+/// stops at the end of the piece, when `rows` are full, or when less than `fibs_max_line()` bytes of `text` are left. To
+/// be called again with what is left of the piece, until nothing is. If there is no room for one line, the room that is
+/// wanted is told.
 #[unsafe(no_mangle)]
 pub extern "C" fn fibs_read_lines(
     alloc: Global,
@@ -140,8 +141,17 @@ pub extern "C" fn fibs_read_lines(
     rows: &mut [ToldLine],
     told: &mut Told,
 ) -> u32
-    ensures { AreLinesRead lines.old.value lines.new.value piece.now told.new rows.new text.new result }
+    ensures { AreLinesRead lines.old.value lines.new.value piece.now told.old told.new rows.old rows.new text.old text.new
+        result }
 {
+    if text.len() < LIMIT || rows.is_empty() {
+        *told = Told {
+            used: 0,
+            lines: 1,
+            bytes: LIMIT,
+        };
+        return SHORT;
+    }
     match lines.take(alloc) {
         None => NO_HANDLE,
         Some(mut held) => {

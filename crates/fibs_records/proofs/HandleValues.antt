@@ -1,51 +1,54 @@
--- The machine values of a `Held`: what is owned tells them, and is made of nothing.
+-- The machine values of a handle: what is owned tells them, and is made of nothing.
 use Rattle.std.proofs.Common.{◌≡◌, ℕ, List, [], ◌∷◌, ◌++◌, refl, ◌∙◌, lit<}
-use Rattle.std.specs.Prelude.{Option, None, Some, Bool, true, false}
+use Rattle.std.specs.Prelude.{Option, None, Some}
 use seplogic.Ra.Ura.{Ura}
-use mir.Syntax.{ty_ptr, ty_bool, ty_struct, tcons, tnil, impl, dnil}
+use mir.Syntax.{ty_ptr, ty_struct, tcons, tnil, impl, dnil}
 use mir.Raw.{raw as bare}
-use mir.Val.{Val, vbool, vstruct, vcons, vnil, of_list}
-use base.Logic.{ent, emp, never, never_e, fst∗}
+use mir.Val.{Val, vstruct, vcons, vnil, of_list}
+use base.Logic.{ent, emp, guard, guard_i, never, never_e, fst∗, snd∗, via}
 use base.Fml.{Fml, ftrue}
+use contract.Monad.{fact_use}
 use types.Logic.{Logic, sem}
 use types.Kit.{Item, Goal, Seq, ‵, given, ◌$◌, drop, use1, learn}
 use denote.RattleType.{RattleType}
-use denote.Builtin.{bool}
 use denote.Memory.{lone}
 use denote.Param.{layout}
-use denote.RawPtr.{Ptr, RawPtr, block_ptr, null_ptr, ptr_val, in_a_block}
+use denote.RawPtr.{Ptr, RawPtr, block_ptr, null_ptr, ptr_val, in_a_block, Testable}
 use denote.Shadow.{shadow, makes_shadow}
 use denote.Struct.Struct.{Struct}
 use Rattle.core.proofs.cell.Inside.{Good}
 use Rattle.core.proofs.alloc.Calls.{Al, handle_tells}
+use Rattle.core.specs.Ptr.{points_to}
 use Rattle.libc.specs.Heap.{chunk}
 use Rattle.std_alloc.specs.Box.Ownership.{box_owns}
 use Rattle.std.specs.contracts.alloc.Global as heap
+use Rattle.std.specs.declared.alloc.Global.{Global}
 use Rattle.std.proofs.alloc.Global.TheLaws as heap_laws
+use Rattle.std.proofs.GlobalToken.{dealloc_token-Testable}
 use Rattle.std.specs.contracts.impls.GlobalAllocator.TheImpl.{ghosts}
 use Rattle.fibs_records.specs.Handles.{maybe_owns}
 
-abbrev pub held_val : Ptr → Bool → Val
-held_val p t = vstruct (vcons (ptr_val p) (vcons (vbool t) vnil))
+abbrev pub held_val : Ptr → Val
+held_val p = vstruct (vcons (ptr_val p) vnil)
 
-abbrev pub held_own : Ptr → Bool → List Val → Fml
-held_own p t = (Struct (record { name = []; args = []; types = []; fields = RawPtr ∷ bool ∷ [] })).own_val (p, (t, tt))
+abbrev pub held_own : Ptr → List Val → Fml
+held_own p = (Struct (record { name = []; args = []; types = []; fields = RawPtr ∷ [] })).own_val (p, tt)
 
-pub held_told : (p : Ptr) (t : Bool) (vs : List Val) → shadow (held_own p t vs) → vs ≡ held_val p t ∷ []
-held_told p t vs s = s.1.0 ∙ (λ i. vstruct (of_list (s.1.1.0 i ++ (s.1.1.1.0 i ++ []))) ∷ [])
+pub held_told : (p : Ptr) (vs : List Val) → shadow (held_own p vs) → vs ≡ held_val p ∷ []
+held_told p vs s = s.1.0 ∙ (λ i. vstruct (of_list (s.1.1.0 i ++ [])) ∷ [])
 
-pub held_made : {M : Type 1} {𝓤 : Ura M} (𝓛 : Logic 𝓤) (p : Ptr) (t : Bool)
-    → ent 𝓤 (emp 𝓤) (sem 𝓛 (held_own p t (held_val p t ∷ [])))
-held_made 𝓛 p t = makes_shadow 𝓛 (held_own p t (held_val p t ∷ [])) (λ _. (tt, (tt, (tt, tt))))
-    ((ptr_val p ∷ [], (vbool t ∷ [], tt)), (refl, (refl, (refl, tt))))
+pub held_made : {M : Type 1} {𝓤 : Ura M} (𝓛 : Logic 𝓤) (p : Ptr)
+    → ent 𝓤 (emp 𝓤) (sem 𝓛 (held_own p (held_val p ∷ [])))
+held_made 𝓛 p = makes_shadow 𝓛 (held_own p (held_val p ∷ [])) (λ _. (tt, (tt, tt)))
+    ((ptr_val p ∷ [], tt), (refl, (refl, tt)))
 
 pub ptr_typed : (p : Ptr) → Good ty_ptr (ptr_val p)
 ptr_typed (block_ptr b o) = (tt, tt)
 ptr_typed null_ptr = (tt, record { fits = lit< tt })
 
-pub held_typed : (p : Ptr) (t : Bool) → Good (ty_struct [] (tcons ty_ptr (tcons ty_bool tnil))) (held_val p t)
-held_typed (block_ptr b o) t = (tt, (tt, (tt, tt)))
-held_typed null_ptr t = (tt, (record { fits = lit< tt }, (tt, tt)))
+pub held_typed : (p : Ptr) → Good (ty_struct [] (tcons ty_ptr tnil)) (held_val p)
+held_typed (block_ptr b o) = (tt, (tt, tt))
+held_typed null_ptr = (tt, (record { fits = lit< tt }, tt))
 
 abbrev pub heap_row : RattleType
 heap_row = heap.the_row
@@ -59,6 +62,15 @@ heap_al = record {
   drops = impl [] tnil dnil;
 }
 
+-- the pointer of a box may be compared with null
+tested : {M : Type 1} {𝓤 : Ura M} (𝓛 : Logic 𝓤) (R : RattleType) (a : Global) (p : Ptr) (x : R.Denot)
+    → ent 𝓤 (sem 𝓛 (box_owns chunk R p x)) (guard 𝓤 (Testable p) (sem 𝓛 (box_owns chunk R p x)))
+tested {𝓤 = 𝓤} 𝓛 R a p x =
+    fact_use 𝓤 (Testable p)
+    (via 𝓤 _ (snd∗ 𝓤 (sem 𝓛 (points_to R p x)) (sem 𝓛 (chunk (bare (lone R.mir)) p)))
+    (dealloc_token-Testable 𝓛 a (bare (lone R.mir)) p))
+    (guard_i 𝓤 (Testable p) (sem 𝓛 (box_owns chunk R p x)))
+
 module _ {M : Type 1} {𝓤 : Ura M} {𝓛 : Logic 𝓤} {K : Type 0} {Γ : List (Item 𝓤)} {G : Goal 𝓤 𝓛.H} where
   -- what is owned of the allocator is one machine value
   pub heap_tells : K → (a : heap_row.Denot) (vs : List Val)
@@ -67,15 +79,15 @@ module _ {M : Type 1} {𝓤 : Ura M} {𝓛 : Logic 𝓤} {K : Type 0} {Γ : List
   heap_tells t a vs k = handle_tells heap_al t a vs k
 
   module _ (R : RattleType) where
-    -- either there is a value in a block, or there is none
-    pub held_split : K → (p : Ptr) (t : Bool) (v : Option R.Denot)
-        → ((b o : ℕ) (x : R.Denot) → p ≡ block_ptr b o → t ≡ true → v ≡ Some x
+    -- either there is a value in a block, or there is none and the pointer is null
+    pub held_split : K → Global → (p : Ptr) (v : Option R.Denot)
+        → ((b o : ℕ) (x : R.Denot) → p ≡ block_ptr b o → v ≡ Some x → Testable (block_ptr b o)
         → Seq K 𝓛 (‵ (box_owns chunk R (block_ptr b o) x) ∷ Γ) G)
-        → (t ≡ false → v ≡ None → Seq K 𝓛 Γ G)
-        → Seq K 𝓛 (‵ (maybe_owns chunk R p t v) ∷ Γ) G
-    held_split k p true (Some x) some none =
+        → (p ≡ null_ptr → v ≡ None → Seq K 𝓛 Γ G)
+        → Seq K 𝓛 (‵ (maybe_owns chunk R p v) ∷ Γ) G
+    held_split k a p (Some x) some none =
         in_a_block k p (λ q. box_owns chunk R q x) (fst∗ 𝓤 (never 𝓤) (sem 𝓛 (chunk (bare (lone R.mir)) null_ptr)))
-        (λ b o e. some b o x e refl refl)
-    held_split k p true None some none = use1 𝓛 (given ⊥ (‵ ftrue)) (never_e 𝓤 _) $ learn k (λ z. absurd z)
-    held_split k p false (Some x) some none = use1 𝓛 (given ⊥ (‵ ftrue)) (never_e 𝓤 _) $ learn k (λ z. absurd z)
-    held_split k p false None some none = drop k $ none refl refl
+        (λ b o e. use1 𝓛 (given (Testable (block_ptr b o)) (‵ (box_owns chunk R (block_ptr b o) x)))
+        (tested 𝓛 R a (block_ptr b o) x) $ learn k (λ t. some b o x e refl t))
+    held_split k a (block_ptr b o) None some none = use1 𝓛 (given ⊥ (‵ ftrue)) (never_e 𝓤 _) $ learn k (λ z. absurd z)
+    held_split k a null_ptr None some none = drop k $ none refl refl

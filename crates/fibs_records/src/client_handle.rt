@@ -15,17 +15,17 @@ use std::{mem, ptr};
 
 /// A client, or none, as C holds it.
 ///
-/// C makes one of zeros, which holds none, and from then on only hands it to the functions of this library.
+/// C sees a pointer. It begins with null, which holds none, and from then on only hands it to the functions of this
+/// library.
 #[repr(C)]
 #[derive(Drop)]
 pub struct ClientHandle {
     at: *mut u8,
-    held: bool,
     pub ghost value: { Option ClientValue },
 }
 
 impl Model for ClientHandle {
-    ghost also_owns = { λ h. maybe_owns chunk the_row h.at h.held h.value };
+    ghost also_owns = { λ h. maybe_owns chunk the_row h.at h.value };
 }
 
 impl ClientHandle {
@@ -35,7 +35,6 @@ impl ClientHandle {
     {
         ClientHandle {
             at: ptr::null_mut(),
-            held: false,
         }
     }
 
@@ -44,24 +43,21 @@ impl ClientHandle {
         ensures { result.value ≡ Some loose.value }
     {
         let Loose { at, alloc: _ } = loose;
-        ClientHandle {
-            at: at as *mut u8,
-            held: true,
-        }
+        ClientHandle { at: at as *mut u8 }
     }
 
     /// The pointer, where there is one.
     fn into_loose(self, alloc: Global) -> Option<Loose<Client, Global>>
         ensures { option_map (λ l. l.value) result ≡ self.value }
     {
-        let ClientHandle { at, held } = self;
-        if held {
-            return Some(Loose {
-                at: at as *mut Client,
-                alloc,
-            });
+        let ClientHandle { at } = self;
+        if at.is_null() {
+            return None;
         }
-        None
+        Some(Loose {
+            at: at as *mut Client,
+            alloc,
+        })
     }
 
     /// The one in the box.

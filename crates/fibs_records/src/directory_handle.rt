@@ -15,17 +15,17 @@ use std::{mem, ptr};
 
 /// A directory, or none, as C holds it.
 ///
-/// C makes one of zeros, which holds none, and from then on only hands it to the functions of this library.
+/// C sees a pointer. It begins with null, which holds none, and from then on only hands it to the functions of this
+/// library.
 #[repr(C)]
 #[derive(Drop)]
 pub struct DirectoryHandle {
     at: *mut u8,
-    held: bool,
     pub ghost value: { Option (List MessageValue) },
 }
 
 impl Model for DirectoryHandle {
-    ghost also_owns = { λ h. maybe_owns chunk the_row h.at h.held h.value };
+    ghost also_owns = { λ h. maybe_owns chunk the_row h.at h.value };
 }
 
 impl DirectoryHandle {
@@ -35,7 +35,6 @@ impl DirectoryHandle {
     {
         DirectoryHandle {
             at: ptr::null_mut(),
-            held: false,
         }
     }
 
@@ -44,24 +43,21 @@ impl DirectoryHandle {
         ensures { result.value ≡ Some loose.value }
     {
         let Loose { at, alloc: _ } = loose;
-        DirectoryHandle {
-            at: at as *mut u8,
-            held: true,
-        }
+        DirectoryHandle { at: at as *mut u8 }
     }
 
     /// The pointer, where there is one.
     fn into_loose(self, alloc: Global) -> Option<Loose<Directory, Global>>
         ensures { option_map (λ l. l.value) result ≡ self.value }
     {
-        let DirectoryHandle { at, held } = self;
-        if held {
-            return Some(Loose {
-                at: at as *mut Directory,
-                alloc,
-            });
+        let DirectoryHandle { at } = self;
+        if at.is_null() {
+            return None;
         }
-        None
+        Some(Loose {
+            at: at as *mut Directory,
+            alloc,
+        })
     }
 
     /// The one in the box.

@@ -15,17 +15,17 @@ use std::{mem, ptr};
 
 /// A reader of lines, or none, as C holds it.
 ///
-/// C makes one of zeros, which holds none, and from then on only hands it to the functions of this library.
+/// C sees a pointer. It begins with null, which holds none, and from then on only hands it to the functions of this
+/// library.
 #[repr(C)]
 #[derive(Drop)]
 pub struct LinesHandle {
     at: *mut u8,
-    held: bool,
     pub ghost value: { Option LinesValue },
 }
 
 impl Model for LinesHandle {
-    ghost also_owns = { λ h. maybe_owns chunk the_row h.at h.held h.value };
+    ghost also_owns = { λ h. maybe_owns chunk the_row h.at h.value };
 }
 
 impl LinesHandle {
@@ -35,7 +35,6 @@ impl LinesHandle {
     {
         LinesHandle {
             at: ptr::null_mut(),
-            held: false,
         }
     }
 
@@ -44,24 +43,21 @@ impl LinesHandle {
         ensures { result.value ≡ Some loose.value }
     {
         let Loose { at, alloc: _ } = loose;
-        LinesHandle {
-            at: at as *mut u8,
-            held: true,
-        }
+        LinesHandle { at: at as *mut u8 }
     }
 
     /// The pointer, where there is one.
     fn into_loose(self, alloc: Global) -> Option<Loose<Lines, Global>>
         ensures { option_map (λ l. l.value) result ≡ self.value }
     {
-        let LinesHandle { at, held } = self;
-        if held {
-            return Some(Loose {
-                at: at as *mut Lines,
-                alloc,
-            });
+        let LinesHandle { at } = self;
+        if at.is_null() {
+            return None;
         }
-        None
+        Some(Loose {
+            at: at as *mut Lines,
+            alloc,
+        })
     }
 
     /// The one in the box.

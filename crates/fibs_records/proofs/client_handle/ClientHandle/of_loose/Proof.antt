@@ -1,6 +1,6 @@
 -- `of_loose` takes over what the pointer owns.
 use Rattle.std.proofs.Common.{◌≡◌, List, [], ◌∷◌, ◌++◌, refl, sym, subst}
-use Rattle.std.specs.Prelude.{Some, true}
+use Rattle.std.specs.Prelude.{Some}
 use mir.Syntax.{Fn}
 use mir.Val.{Val, vptr}
 use base.Logic.{SProp, emp, ent, id⊢}
@@ -10,7 +10,7 @@ use contract.Monad.{fact, fact_i}
 use contract.Running.{tables}
 use types.Kit.{‵, raw, ◌⊛◌, ◌$◌, ◌∵◌, !, qed, by, move, drop, use0, split, fsplit, fjoin, suffices}
 use types.Part.{agg, sub, whole}
-use types.Run.{stop, fld, of_opd, true_lit, no_more, and_then, returns, enter}
+use types.Run.{stop, fld, of_opd, no_more, and_then, returns, enter}
 use types.ByLocal.{alloc_all, pass_all, free_all, look_at, get, get_in, sets}
 use denote.Exit.{yes}
 use denote.RattleType.{RattleType, owns}
@@ -52,7 +52,7 @@ of_loose_spec 𝓤 𝓛 𝓜 𝓡 wired =
     ftrue ∷ []) ∵ move ! (1 ∷ []) $ drop ! $ split ! $ move ! (1 ∷ []) $ fsplit ! $
     loose_out R Z LZ g ! v z.0.4.0 (λ b o h e ws fits.
     let w : Val = both (vptr b o) h in let typed = loose_good R Z LZ g b o h fits in
-    let x : (held.the_row).Denot = record { at = block_ptr b o; held = true; value = Some v.value } in
+    let x : (held.the_row).Denot = record { at = block_ptr b o; value = Some v.value } in
     let Said : Type 0 = x.value ≡ Some v.value in
     -- [the box; the handle; nothing; the tokens]
     move ! (1 ∷ []) $ drop ! $ move ! (1 ∷ []) $ drop ! $
@@ -62,11 +62,11 @@ of_loose_spec 𝓤 𝓛 𝓜 𝓡 wired =
     alloc_all ! (λ l. pass_all ! refl (typed, tt) $
     sets ! (of_opd ! (get_in ! (fld ! refl (stop !)) (sub ! 0 refl (whole !)))) refl (tt, tt) $
     sets ! (of_opd ! (get ! refl)) refl (tt, tt) $
-    sets ! (agg ! (and_then ! (get ! refl) (and_then ! (true_lit !) (no_more !)))) refl
-    (held_typed (block_ptr b o) true) $
+    sets ! (agg ! (and_then ! (get ! refl) (no_more !))) refl
+    (held_typed (block_ptr b o)) $
     returns ! (look_at ! 0 refl) $ free_all ! refl $
-    use0 𝓛 (‵ (held_own (block_ptr b o) true (held_val (block_ptr b o) true ∷ []))) (held_made 𝓛 (block_ptr b o) true) $
+    use0 𝓛 (‵ (held_own (block_ptr b o) (held_val (block_ptr b o) ∷ []))) (held_made 𝓛 (block_ptr b o)) $
     fjoin ! $
     use0 𝓛 (raw (fact 𝓤 Said)) (fact_i 𝓤 Said (emp 𝓤) refl) $ nothing ! $ nothing ! $ fjoin ! $
     move ! (3 ∷ 0 ∷ 2 ∷ 1 ∷ []) $
-    by ! (leaves 𝓛 En stays c z (held_val (block_ptr b o) true) x (tt, tt) (tt, tt)))))
+    by ! (leaves 𝓛 En stays c z (held_val (block_ptr b o)) x (tt, tt) (tt, tt)))))

@@ -1,0 +1,364 @@
+/* What a call writes: each out-parameter is filled with a pattern, each status of each function is got, and then just
+ * those are other than the pattern that the header names. Texts and rooms of NULL and 0 are used where they serve.
+ */
+#include "fibs.h"
+
+#include <stdbool.h>
+#include <stdio.h>
+#include <string.h>
+
+/* All that a call may write. */
+static struct outs {
+    fibs_fed fed;
+    fibs_told told;
+    fibs_line rows[3];
+    fibs_heard heard;
+    fibs_wire wire;
+    fibs_board board;
+    fibs_field field;
+    fibs_decision decision, plays[32];
+    fibs_outstanding waited;
+    uint8_t byte;
+    size_t size;
+    char text[FIBS_MAX_LINE + 9];
+} out, pattern;
+
+enum {
+    NOTHING = 0, FED = 1, TOLD = 2, ROWS = 4, HEARD = 8, WIRE = 16, BOARD = 32, FIELD = 64, DECISION = 128, PLAYS = 256,
+    WAITED = 512, BYTE = 1024, SIZE = 2048, TEXT = 4096
+};
+
+static int passed, failed;
+
+static void fill(void) {
+    memset(&pattern, 0xa5, sizeof pattern);
+    memcpy(&out, &pattern, sizeof out);
+}
+
+/* Which of them are no longer the pattern. */
+static unsigned written(void) {
+#define AT(member, bit) (memcmp(&out.member, &pattern.member, sizeof out.member) != 0 ? (unsigned)(bit) : 0u)
+    return AT(fed, FED) | AT(told, TOLD) | AT(rows, ROWS) | AT(heard, HEARD) | AT(wire, WIRE) | AT(board, BOARD)
+           | AT(field, FIELD) | AT(decision, DECISION) | AT(plays, PLAYS) | AT(waited, WAITED) | AT(byte, BYTE)
+           | AT(size, SIZE) | AT(text, TEXT);
+}
+
+static void check(bool holds, const char *what) {
+    if (holds) {
+        passed++;
+    } else {
+        printf("FAILED %s\n", what);
+        failed++;
+    }
+}
+
+/* A call has answered so and written just these; then all are filled again. */
+static void is(const char *what, fibs_status wanted, fibs_status got, unsigned members) {
+    unsigned found = written();
+    if (wanted != got || found != members) {
+        printf("FAILED %s: %s and %x, but %s and %x were wanted\n", what, fibs_status_name(got), found,
+               fibs_status_name(wanted), members);
+        failed++;
+    } else {
+        passed++;
+    }
+    fill();
+}
+
+/* The same of a call that hands out for the server: if it is refused the wire is empty, and its bytes stay. */
+static void sends(const char *what, fibs_status wanted, fibs_status got, unsigned members) {
+    bool is_empty = out.wire.len == 0 && memcmp(out.wire.bytes, pattern.wire.bytes, sizeof out.wire.bytes) == 0;
+    check(out.wire.len <= FIBS_MAX_WIRE && (got == FIBS_STATUS_DONE || is_empty), what);
+    is(what, wanted, got, members | WIRE);
+}
+
+#define S(name) FIBS_STATUS_##name
+#define T(text) text, strlen(text)
+
+static const char board[] =
+    "board:You:someplayer:3:0:1:0:-2:0:0:0:0:5:0:3:0:0:0:-5:5:0:0:0:-3:0:-5:0:0:0:0:2:0:1:6:2:0:0:1:1:1:0:1:-1:0:"
+    "25:0:0:0:0:2:0:0:0";
+static const char to_roll[] =
+    "board:You:someplayer:3:0:1:0:-2:0:0:0:0:5:0:3:0:0:0:-5:5:0:0:0:-3:0:-5:0:0:0:0:2:0:1:0:0:0:0:1:1:1:0:1:-1:0:"
+    "25:0:0:0:0:2:0:0:0";
+static const char theirs[] =
+    "board:You:someplayer:3:0:1:0:-2:0:0:0:0:5:0:3:0:0:0:-5:5:0:0:0:-3:0:-5:0:0:0:0:2:0:-1:0:0:6:2:1:1:1:0:1:-1:"
+    "0:25:0:0:0:0:2:0:0:0";
+static const char watched[] =
+    "board:bob:someplayer:3:0:1:0:-2:0:0:0:0:5:0:3:0:0:0:-5:5:0:0:0:-3:0:-5:0:0:0:0:2:0:1:6:2:0:0:1:1:1:0:1:-1:0:"
+    "25:0:0:0:0:2:0:0:0";
+static const char too_many[] =
+    "board:You:someplayer:3:0:1:0:15:15:0:0:0:5:0:3:0:0:0:-5:5:0:0:0:-3:0:-5:0:0:0:0:2:0:1:6:2:0:0:1:1:1:0:1:-1:"
+    "0:25:0:0:0:0:2:0:0:0";
+static const char too_many_theirs[] =
+    "board:You:someplayer:3:0:1:0:-15:-15:0:0:0:5:0:3:0:0:0:-5:5:0:0:0:-3:0:-5:0:0:0:0:2:0:1:6:2:0:0:1:1:1:0:1:"
+    "-1:0:25:0:0:0:0:2:0:0:0";
+static const char ready[] = "1 myself 1041253132 192.168.1.308\n"
+    "2 myself 1 1 0 0 0 0 1 1 2396 0 1 0 1 3457.85 0 0 0 0 0 Australia/Melbourne\n";
+static const char ready_automove[] = "1 myself 1041253132 192.168.1.308\n"
+    "2 myself 1 1 0 1 0 0 1 1 2396 0 1 0 1 3457.85 0 0 0 0 0 Australia/Melbourne\n";
+static const char player[] = "5 someplayer mgnu_advanced - 0 0 1912.15 827 8 1040515752 192.168.143.5 3DFiBs -";
+
+static const fibs_decision roll = { FIBS_DECISION_ROLL, 0, { { 0, 0 } } };
+static const fibs_decision none = { FIBS_DECISION_NONE, 0, { { 0, 0 } } };
+static const fibs_decision illegal = { FIBS_DECISION_MOVE, 1, { { 24, 23 } } };
+
+static void check_names(void) {
+    is("a status's name", S(DONE), fibs_status_text(S(HELD), out.text, sizeof out.text, &out.size), TEXT | SIZE);
+    is("no room for it", S(SHORT), fibs_status_text(S(HELD), out.text, 3, &out.size), SIZE);
+    is("no room at all", S(SHORT), fibs_status_text(S(HELD), NULL, 0, &out.size), SIZE);
+    is("no status", S(NO_STATUS), fibs_status_text(99, out.text, sizeof out.text, &out.size), NOTHING);
+}
+
+static void check_lines(void) {
+    fibs_lines lines = NULL;
+    for (int round = 0; round < 2; round++) {
+        is("feed of none", S(NO_HANDLE), fibs_lines_feed(&lines, T("a\n"), out.text, sizeof out.text, &out.fed),
+           NOTHING);
+        is("many of none", S(NO_HANDLE),
+           fibs_read_lines(&lines, T("a\n"), out.text, sizeof out.text, out.rows, 3, &out.told), NOTHING);
+        is("reset of none", S(NO_HANDLE), fibs_lines_reset(&lines), NOTHING);
+        is("held of none", S(NO_HANDLE), fibs_lines_held(&lines, &out.size), NOTHING);
+        is("new", S(DONE), fibs_lines_new(&lines), NOTHING);
+        fibs_lines held = lines;
+        is("new of one", S(HELD), fibs_lines_new(&lines), NOTHING);
+        check(lines != NULL && lines == held, "it stays");
+        is("no room for a line", S(SHORT),
+           fibs_lines_feed(&lines, T("a\n"), out.text, FIBS_MAX_LINE - 1, &out.fed), NOTHING);
+        is("no room", S(SHORT), fibs_lines_feed(&lines, T("a\n"), NULL, 0, &out.fed), NOTHING);
+        is("no room for many", S(SHORT),
+           fibs_read_lines(&lines, T("a\n"), out.text, FIBS_MAX_LINE - 1, out.rows, 3, &out.told), TOLD);
+        is("no rows", S(SHORT), fibs_read_lines(&lines, T("a\n"), out.text, sizeof out.text, NULL, 0, &out.told), TOLD);
+        is("no piece", S(DONE), fibs_lines_feed(&lines, NULL, 0, out.text, sizeof out.text, &out.fed), FED);
+        is("no piece for many", S(DONE),
+           fibs_read_lines(&lines, NULL, 0, out.text, sizeof out.text, out.rows, 3, &out.told), TOLD);
+        is("half a line", S(DONE), fibs_lines_feed(&lines, T("a"), out.text, sizeof out.text, &out.fed), FED);
+        is("half of many", S(DONE),
+           fibs_read_lines(&lines, T("b"), out.text, sizeof out.text, out.rows, 3, &out.told), TOLD);
+        fibs_lines_feed(&lines, T("c\nd"), out.text, sizeof out.text, &out.fed);
+        check(out.fed.used == 2 && out.fed.len == 3 && out.fed.ended == 1 && out.fed.cut == 0, "a line is told");
+        check(memcmp(out.text, "abc", 3) == 0 && memcmp(out.text + 3, pattern.text + 3, sizeof out.text - 3) == 0,
+              "just its bytes are written");
+        fill();
+        fibs_read_lines(&lines, T("d\ne\n"), out.text, sizeof out.text, out.rows, 3, &out.told);
+        check(out.told.used == 4 && out.told.lines == 2 && out.told.bytes == 2, "two lines are told");
+        check(memcmp(out.text, "de", 2) == 0 && memcmp(out.text + 2, pattern.text + 2, sizeof out.text - 2) == 0,
+              "just their bytes are written");
+        check(memcmp(&out.rows[2], &pattern.rows[2], sizeof out.rows[2]) == 0, "just their rows are written");
+        fill();
+        is("held", S(DONE), fibs_lines_held(&lines, &out.size), SIZE);
+        is("reset", S(DONE), fibs_lines_reset(&lines), NOTHING);
+        fibs_lines_free(&lines);
+        check(lines == NULL, "free makes the handle null");
+        fibs_lines_free(&lines);
+    }
+}
+
+static void check_readings(void) {
+    fill();
+    check(fibs_read(NULL, 0).kind == FIBS_KIND_TEXT, "the empty line");
+    fibs_read_board(T("hello"), &out.board);
+    is("no board", 0, 0, NOTHING);
+    fibs_read_board(NULL, 0, &out.board);
+    is("the empty line is no board", 0, 0, NOTHING);
+    fibs_read_board(T("board:You"), &out.board);
+    is("half a board", 0, 0, NOTHING);
+    fibs_read_board(T(board), &out.board);
+    is("a board", 0, 0, BOARD);
+    is("half a board is not printed", S(FIELD_MISSING),
+       fibs_print_board(T("board:You"), out.text, sizeof out.text, &out.size), NOTHING);
+    is("no board is not printed", S(FIELD_BAD_NAME), fibs_print_board(NULL, 0, out.text, sizeof out.text, &out.size),
+       NOTHING);
+    is("no room for a board", S(SHORT), fibs_print_board(T(board), NULL, 0, &out.size), SIZE);
+    is("a board is printed", S(DONE), fibs_print_board(T(board), out.text, sizeof out.text, &out.size), SIZE | TEXT);
+    is("no field", S(NO_FIELD), fibs_read_field(T("3"), 1, &out.field, out.text, sizeof out.text), NOTHING);
+    is("a field of no message", S(NO_FIELD), fibs_read_field(NULL, 0, 1, &out.field, out.text, sizeof out.text),
+       NOTHING);
+    is("no room for a field", S(SHORT), fibs_read_field(T(player), 1, &out.field, NULL, 0), FIELD);
+    is("a field", S(DONE), fibs_read_field(T(player), 1, &out.field, out.text, sizeof out.text), FIELD | TEXT);
+    is("a number", S(DONE), fibs_read_field(T(player), 7, &out.field, NULL, 0), FIELD);
+}
+
+static void check_rules(void) {
+    static const struct { const char *line; fibs_status status; } lines[] = {
+        { "board:You", S(FIELD_MISSING) }, { "hello", S(FIELD_BAD_NAME) }, { watched, S(NOT_YOU) },
+        { too_many, S(TOO_MANY_OWN) }, { too_many_theirs, S(TOO_MANY_OTHER) }
+    };
+    for (size_t i = 0; i < sizeof lines / sizeof lines[0]; i++) {
+        is("no phase", lines[i].status, fibs_phase(T(lines[i].line), &out.byte), NOTHING);
+        is("no plays", lines[i].status, fibs_plays(T(lines[i].line), out.plays, 32, &out.size), NOTHING);
+        is("nothing is allowed", lines[i].status, fibs_allows(T(lines[i].line), &roll), NOTHING);
+    }
+    is("a phase", S(DONE), fibs_phase(T(board), &out.byte), BYTE);
+    is("no room for plays", S(SHORT), fibs_plays(T(board), out.plays, 13, &out.size), SIZE);
+    is("no room for plays at all", S(SHORT), fibs_plays(T(board), NULL, 0, &out.size), SIZE);
+    is("no plays to make", S(DONE), fibs_plays(T(to_roll), NULL, 0, &out.size), SIZE);
+    fibs_plays(T(board), out.plays, 32, &out.size);
+    check(out.size == 14 && memcmp(&out.plays[14], &pattern.plays[14], sizeof out.plays[14]) == 0
+          && out.plays[13].kind == FIBS_DECISION_MOVE && out.plays[13].count == 2, "just the plays are written");
+    is("plays", 0, 0, PLAYS | SIZE);
+    is("no decision", S(NO_DECISION), fibs_allows(T(board), &none), NOTHING);
+    is("not yours", S(NOT_YOURS), fibs_allows(T(theirs), &roll), NOTHING);
+    is("of a wrong kind", S(WRONG_KIND), fibs_allows(T(board), &roll), NOTHING);
+    is("illegal", S(ILLEGAL_PLAY), fibs_allows(T(board), &illegal), NOTHING);
+    is("no decision's text", S(NO_DECISION), fibs_decision_text(&none, 1, out.text, sizeof out.text, &out.size),
+       NOTHING);
+    is("no room for a command", S(SHORT), fibs_decision_text(&roll, 1, NULL, 0, &out.size), SIZE);
+    is("a command", S(DONE), fibs_decision_text(&roll, 1, out.text, sizeof out.text, &out.size), SIZE | TEXT);
+    is("no command", S(NO_COMMAND), fibs_read_decision(T("rol"), 1, &out.decision), NOTHING);
+    is("an empty command", S(NO_COMMAND), fibs_read_decision(NULL, 0, 1, &out.decision), NOTHING);
+    fibs_read_decision(T("roll"), 1, &out.decision);
+    check(out.decision.kind == FIBS_DECISION_ROLL && out.decision.count == 0, "a decision without steps");
+    is("a decision", 0, 0, DECISION);
+}
+
+/* Gives the client a text, line by line. */
+static void hear(fibs_client *client, const char *lines) {
+    static char text[FIBS_MAX_LINE];
+    static fibs_wire wire;
+    fibs_heard heard = { 0 };
+    for (size_t at = 0, len = strlen(lines); at < len; at += heard.used) {
+        if (fibs_client_feed(client, lines + at, len - at, text, sizeof text, &heard, &wire) != S(DONE)) {
+            check(false, "the client hears");
+            return;
+        }
+    }
+}
+
+/* Each call is answered so. */
+static void all_refused(fibs_client *client, fibs_status status) {
+    sends("decide", status, fibs_client_decide(client, &roll, &out.wire), NOTHING);
+}
+
+static void check_client(void) {
+    fibs_client client = NULL;
+    for (int round = 0; round < 2; round++) {
+        is("a bad name", S(BAD_NAME), fibs_client_new(&client, NULL, 0, T("x")), NOTHING);
+        is("no password", S(BAD_TEXT), fibs_client_new(&client, T("ann"), NULL, 0), NOTHING);
+        check(client == NULL, "none was made");
+        sends("open of none", S(NO_HANDLE), fibs_client_open(&client, &out.wire), NOTHING);
+        sends("feed of none", S(NO_HANDLE),
+              fibs_client_feed(&client, T("a\n"), out.text, sizeof out.text, &out.heard, &out.wire), NOTHING);
+        all_refused(&client, S(NO_HANDLE));
+        sends("plain of none", S(NO_HANDLE), fibs_client_plain(&client, T("who"), &out.wire), NOTHING);
+        is("order of none", S(NO_HANDLE), fibs_client_order_roll(&client), NOTHING);
+        is("withdraw of none", S(NO_HANDLE), fibs_client_withdraw_roll(&client), NOTHING);
+        is("ordered of none", S(NO_HANDLE), fibs_client_ordered(&client, &out.byte), NOTHING);
+        is("lose of none", S(NO_HANDLE), fibs_client_lose(&client, &out.waited), NOTHING);
+        is("shown of none", S(NO_HANDLE), fibs_client_shown(&client, &out.board), NOTHING);
+        is("waiting of none", S(NO_HANDLE), fibs_client_waiting(&client, &out.waited), NOTHING);
+        is("new", S(DONE), fibs_client_new(&client, T("ann"), T("secret")), NOTHING);
+        is("new of one", S(HELD), fibs_client_new(&client, T("ann"), T("secret")), NOTHING);
+        all_refused(&client, S(OFFLINE));
+        sends("plain offline", S(OFFLINE), fibs_client_plain(&client, T("who"), &out.wire), NOTHING);
+        is("order offline", S(OFFLINE), fibs_client_order_roll(&client), NOTHING);
+        is("withdraw offline", S(OFFLINE), fibs_client_withdraw_roll(&client), NOTHING);
+        is("ordered offline", S(DONE), fibs_client_ordered(&client, &out.byte), BYTE);
+        sends("offline all is dropped", S(DONE),
+              fibs_client_feed(&client, T("a\n"), out.text, sizeof out.text, &out.heard, &out.wire), HEARD);
+        is("nothing shown", S(NO_BOARD), fibs_client_shown(&client, &out.board), NOTHING);
+        is("nothing waits", S(NOTHING_WAITS), fibs_client_waiting(&client, &out.waited), NOTHING);
+        sends("open", S(DONE), fibs_client_open(&client, &out.wire), NOTHING);
+        sends("open of an open one", S(ALREADY_OPEN), fibs_client_open(&client, &out.wire), NOTHING);
+        all_refused(&client, S(NOT_READY));
+        is("not ordered", S(NOT_ORDERED), fibs_client_withdraw_roll(&client), NOTHING);
+        hear(&client, ready_automove);
+        all_refused(&client, S(SERVER_PLAYS));
+        sends("toggle", S(DONE), fibs_client_plain(&client, T("toggle automove"), &out.wire), NOTHING);
+        sends("toggle again", S(NOT_ON), fibs_client_plain(&client, T("toggle automove"), &out.wire), NOTHING);
+        sends("no command", S(NO_COMMAND), fibs_client_plain(&client, NULL, 0, &out.wire), NOTHING);
+        sends("a bad name", S(BAD_NAME), fibs_client_plain(&client, T("invite a:b 3"), &out.wire), NOTHING);
+        hear(&client, ready);
+        all_refused(&client, S(NO_BOARD));
+        sends("no decision", S(NO_DECISION), fibs_client_decide(&client, &none, &out.wire), NOTHING);
+        hear(&client, theirs);
+        hear(&client, "\n");
+        all_refused(&client, S(NOT_YOURS));
+        hear(&client, board);
+        hear(&client, "\n");
+        all_refused(&client, S(WRONG_KIND));
+        sends("illegal", S(ILLEGAL_PLAY), fibs_client_decide(&client, &illegal, &out.wire), NOTHING);
+        sends("no room for a line", S(SHORT),
+              fibs_client_feed(&client, T("a\n"), out.text, FIBS_MAX_LINE - 1, &out.heard, &out.wire), NOTHING);
+        sends("half a line", S(DONE),
+              fibs_client_feed(&client, T("a"), out.text, sizeof out.text, &out.heard, &out.wire), HEARD);
+        sends("no piece", S(DONE),
+              fibs_client_feed(&client, NULL, 0, out.text, sizeof out.text, &out.heard, &out.wire), HEARD);
+        fibs_client_feed(&client, T("b\n"), out.text, sizeof out.text, &out.heard, &out.wire);
+        check(out.heard.used == 2 && out.heard.len == 2 && out.heard.ended == 1 && out.heard.cut == 0
+              && out.heard.kind.kind == FIBS_KIND_TEXT && out.heard.confirmed.kind == FIBS_DECISION_NONE
+              && out.heard.confirmed.count == 0 && out.heard.rolled == 0 && out.wire.len == 0, "a line is told");
+        check(memcmp(out.text, "ab", 2) == 0 && memcmp(out.text + 2, pattern.text + 2, sizeof out.text - 2) == 0,
+              "just its bytes are written");
+        fill();
+        is("shown", S(DONE), fibs_client_shown(&client, &out.board), BOARD);
+        fibs_client_lose(&client, &out.waited);
+        check(out.waited.decision.kind == FIBS_DECISION_NONE && out.waited.decision.count == 0
+              && memcmp(&out.waited.board, &pattern.waited.board, sizeof out.waited.board) == 0,
+              "nothing waited, and no board is written");
+        fill();
+        sends("open again", S(DONE), fibs_client_open(&client, &out.wire), NOTHING);
+        hear(&client, ready);
+        hear(&client, to_roll);
+        hear(&client, "\n");
+        all_refused(&client, S(DONE));
+        all_refused(&client, S(WAITING));
+        is("it waits", S(DONE), fibs_client_waiting(&client, &out.waited), WAITED);
+        is("order", S(DONE), fibs_client_order_roll(&client), NOTHING);
+        is("order again", S(ALREADY_ORDERED), fibs_client_order_roll(&client), NOTHING);
+        is("ordered", S(DONE), fibs_client_ordered(&client, &out.byte), BYTE);
+        is("withdraw", S(DONE), fibs_client_withdraw_roll(&client), NOTHING);
+        is("lose", S(DONE), fibs_client_lose(&client, &out.waited), WAITED);
+        fibs_client_free(&client);
+        check(client == NULL, "free makes the handle null");
+        fibs_client_free(&client);
+    }
+}
+
+static void check_directory(void) {
+    fibs_directory directory = NULL;
+    for (int round = 0; round < 2; round++) {
+        is("note of none", S(NO_HANDLE), fibs_directory_note(&directory, T(player)), NOTHING);
+        is("len of none", S(NO_HANDLE), fibs_directory_len(&directory, &out.size), NOTHING);
+        is("clear of none", S(NO_HANDLE), fibs_directory_clear(&directory), NOTHING);
+        is("field of none", S(NO_HANDLE),
+           fibs_directory_field(&directory, 0, 1, &out.field, out.text, sizeof out.text), NOTHING);
+        is("field of none", S(NO_HANDLE),
+           fibs_directory_field_of(&directory, T("bob"), 1, &out.field, out.text, sizeof out.text), NOTHING);
+        is("new", S(DONE), fibs_directory_new(&directory), NOTHING);
+        is("new of one", S(HELD), fibs_directory_new(&directory), NOTHING);
+        is("no line", S(DONE), fibs_directory_note(&directory, NULL, 0), NOTHING);
+        is("note", S(DONE), fibs_directory_note(&directory, T(player)), NOTHING);
+        is("len", S(DONE), fibs_directory_len(&directory, &out.size), SIZE);
+        is("no player at a place", S(NO_PLAYER),
+           fibs_directory_field(&directory, 1, 1, &out.field, out.text, sizeof out.text), NOTHING);
+        is("no player of a name", S(NO_PLAYER),
+           fibs_directory_field_of(&directory, NULL, 0, 1, &out.field, out.text, sizeof out.text), NOTHING);
+        is("no field", S(NO_FIELD),
+           fibs_directory_field(&directory, 0, 13, &out.field, out.text, sizeof out.text), NOTHING);
+        is("no field", S(NO_FIELD),
+           fibs_directory_field_of(&directory, T("someplayer"), 0, &out.field, out.text, sizeof out.text), NOTHING);
+        is("no room", S(SHORT), fibs_directory_field(&directory, 0, 1, &out.field, NULL, 0), FIELD);
+        is("no room", S(SHORT), fibs_directory_field_of(&directory, T("someplayer"), 1, &out.field, NULL, 0), FIELD);
+        is("a field", S(DONE),
+           fibs_directory_field(&directory, 0, 1, &out.field, out.text, sizeof out.text), FIELD | TEXT);
+        is("a field", S(DONE),
+           fibs_directory_field_of(&directory, T("someplayer"), 6, &out.field, out.text, sizeof out.text), FIELD);
+        is("clear", S(DONE), fibs_directory_clear(&directory), NOTHING);
+        fibs_directory_free(&directory);
+        check(directory == NULL, "free makes the handle null");
+        fibs_directory_free(&directory);
+    }
+}
+
+int main(void) {
+    fill();
+    check_names();
+    check_lines();
+    check_readings();
+    check_rules();
+    check_client();
+    check_directory();
+    printf("%d passed, %d failed\n", passed, failed);
+    return failed > 0;
+}
