@@ -13,8 +13,9 @@ BUILT := crates/fibs/out/fibs
 CRATES := $(shell sed -nE 's/^([a-z0-9_]+)( [^:]*)?:.*/\1/p' crates.txt)
 
 # The library for C. A change after which a caller has to be built again makes the second number of its soname one more.
-VERSION := 0.1.0
-SONAME := libfibs.so.0.1
+VERSION := $(shell sed -n 's/^.define FIBS_VERSION "\(.*\)"$$/\1/p' include/fibs.h)
+SONAME := libfibs.so.$(basename $(VERSION))
+OBJCOPY ?= objcopy
 C_ARCHIVE := crates/fibs_c/out/libfibs_c.a
 # the heap of the toolchain's library, over malloc, realloc and free
 KIT_ARCHIVE = $(dir $(shell rt doc))c/liblibc_c.a
@@ -56,11 +57,14 @@ dist: ## makes dist/: packages of the program and of the library, for machines w
 dist-files:
 	@VERSION=$(VERSION) SONAME=$(SONAME) scripts/dist
 
-# one archive, which needs the C library alone
-lib/libfibs.a: $(C_ARCHIVE)
+# one archive, which needs the C library alone and shows only fibs_*
+lib/libfibs.a: $(C_ARCHIVE) lib/texts.c include/fibs.h
 	rm -rf lib/objects $@ && mkdir -p lib/objects
 	cd lib/objects && ar x ../../$(C_ARCHIVE) && ar x $(KIT_ARCHIVE) heap.pic.o
-	ar rcsD $@ lib/objects/*.o
+	$(CC) -O2 -fPIC -Iinclude -c -o lib/objects/texts.o lib/texts.c
+	$(LD) -r -o lib/objects/all lib/objects/*.o
+	$(OBJCOPY) --wildcard --keep-global-symbol='fibs_*' lib/objects/all lib/objects/fibs.o
+	ar rcsD $@ lib/objects/fibs.o
 	rm -rf lib/objects
 
 lib/libfibs.so: lib/libfibs.a lib/fibs.map
@@ -95,12 +99,18 @@ install-lib: lib install-lib-files ## the library for C alone, with its header
 
 # the library as it stands
 install-lib-files:
-	install -d $(DESTDIR)$(PREFIX)/include $(DESTDIR)$(PREFIX)/lib/pkgconfig
+	install -d $(DESTDIR)$(PREFIX)/include $(DESTDIR)$(PREFIX)/lib/pkgconfig $(DESTDIR)$(PREFIX)/lib/cmake/fibs \
+		$(DESTDIR)$(SHARE)/doc/fibs
 	install -m 644 include/fibs.h $(DESTDIR)$(PREFIX)/include/fibs.h
 	install -m 644 lib/libfibs.a $(DESTDIR)$(PREFIX)/lib/libfibs.a
 	install -m 755 lib/$(SONAME) $(DESTDIR)$(PREFIX)/lib/$(SONAME)
 	ln -sf $(SONAME) $(DESTDIR)$(PREFIX)/lib/libfibs.so
 	sed -e 's|@PREFIX@|$(PREFIX)|; s|@VERSION@|$(VERSION)|' lib/fibs.pc.in > $(DESTDIR)$(PREFIX)/lib/pkgconfig/fibs.pc
+	sed -e 's|@VERSION@|$(VERSION)|; s|@SONAME@|$(SONAME)|' lib/fibs-config.cmake.in \
+		> $(DESTDIR)$(PREFIX)/lib/cmake/fibs/fibs-config.cmake
+	sed -e 's|@VERSION@|$(VERSION)|' lib/fibs-config-version.cmake.in \
+		> $(DESTDIR)$(PREFIX)/lib/cmake/fibs/fibs-config-version.cmake
+	install -m 644 docs/C.md docs/FORMATS.md CHANGELOG.md examples/bot.c $(DESTDIR)$(SHARE)/doc/fibs
 
 bin/plain_show: bench/plain_show.rs
 	mkdir -p bin
