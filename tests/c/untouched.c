@@ -1,47 +1,12 @@
 /* What a call writes: each out-parameter is filled with a pattern, each status of each function is got, and then just
  * those are other than the pattern that the header names. Texts and rooms of NULL and 0 are used where they serve.
  */
-#include "fibs.h"
+#include "outs.h"
 
 #include <stdbool.h>
 #include <stdio.h>
-#include <string.h>
-
-/* All that a call may write. */
-static struct outs {
-    fibs_fed fed;
-    fibs_told told;
-    fibs_line rows[3];
-    fibs_heard heard;
-    fibs_wire wire;
-    fibs_board board;
-    fibs_field field;
-    fibs_decision decision, plays[32];
-    fibs_outstanding waited;
-    uint8_t byte;
-    size_t size;
-    char text[FIBS_MAX_LINE + 9];
-} out, pattern;
-
-enum {
-    NOTHING = 0, FED = 1, TOLD = 2, ROWS = 4, HEARD = 8, WIRE = 16, BOARD = 32, FIELD = 64, DECISION = 128, PLAYS = 256,
-    WAITED = 512, BYTE = 1024, SIZE = 2048, TEXT = 4096
-};
 
 static int passed, failed;
-
-static void fill(void) {
-    memset(&pattern, 0xa5, sizeof pattern);
-    memcpy(&out, &pattern, sizeof out);
-}
-
-/* Which of them are no longer the pattern. */
-static unsigned written(void) {
-#define AT(member, bit) (memcmp(&out.member, &pattern.member, sizeof out.member) != 0 ? (unsigned)(bit) : 0u)
-    return AT(fed, FED) | AT(told, TOLD) | AT(rows, ROWS) | AT(heard, HEARD) | AT(wire, WIRE) | AT(board, BOARD)
-           | AT(field, FIELD) | AT(decision, DECISION) | AT(plays, PLAYS) | AT(waited, WAITED) | AT(byte, BYTE)
-           | AT(size, SIZE) | AT(text, TEXT);
-}
 
 static void check(bool holds, const char *what) {
     if (holds) {

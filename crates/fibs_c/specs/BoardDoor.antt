@@ -8,12 +8,12 @@ use Rattle.fibs_records.specs.BoardOf.{IsBoardAs}
 use Rattle.fibs_records.specs.Texts.{HandsOut}
 use Rattle.fibs_records.specs.declared.boards.BoardRecord.{BoardRecord}
 
--- where the line is a board, its fields
-abbrev pub IsToldBoard : ReadingValue → BoardRecord → Type 0
-IsToldBoard (board_line b) r = IsBoardAs r b
-IsToldBoard (numbered_line m) r = Unit {0}
-IsToldBoard (text_line text) r = Unit {0}
-IsToldBoard (malformed_line n k f) r = Unit {0}
+-- if the line is a board, its fields; else nothing is written
+abbrev pub IsToldBoard : ReadingValue → BoardRecord → BoardRecord → Type 0
+IsToldBoard (board_line b) old new = IsBoardAs new b
+IsToldBoard (numbered_line m) old new = new ≡ old
+IsToldBoard (text_line text) old new = new ≡ old
+IsToldBoard (malformed_line n k f) old new = new ≡ old
 
 -- the line says no board: it has a first wrong field, of which this is the fault
 pub record IsWrongBoard (line : List ℕ) (status : ℕ) : Type 0 where
@@ -29,6 +29,6 @@ pub record PrintsBoard (line old new : List ℕ) (len status : ℕ) : Type 0 whe
   pub prints : HandsOut (spelling board) old new len status
 
 -- or the line says no board, and nothing is written
-abbrev pub IsPrintedBoard : List ℕ → List ℕ → List ℕ → ℕ → ℕ → Type 0
-IsPrintedBoard line old new len status =
-    (IsWrongBoard line status × (new ≡ old)) ⊎ PrintsBoard line old new len status
+abbrev pub IsPrintedBoard : List ℕ → List ℕ → List ℕ → ℕ → ℕ → ℕ → Type 0
+IsPrintedBoard line old new len len' status =
+    (IsWrongBoard line status × (new ≡ old) × (len' ≡ len)) ⊎ PrintsBoard line old new len' status

@@ -13,8 +13,10 @@ use Rattle.fibs_session.specs.History.Machine.{open_refusal, unconfirmed_now, an
 use Rattle.fibs_records.specs.Asks.{IsAskAs, IsMaybeAsk}
 use Rattle.fibs_records.specs.BoardOf.{IsBoardAs}
 use Rattle.fibs_records.specs.Statuses.{refusal_status, plain_status}
+use Rattle.fibs_records.specs.Wires.{Holds, IsEmptied}
 use Rattle.fibs_records.specs.declared.boards.BoardRecord.{BoardRecord}
 use Rattle.fibs_records.specs.declared.outstanding.OutstandingRecord.{OutstandingRecord}
+use Rattle.fibs_records.specs.declared.wire.Wire.{Wire}
 
 -- a client of that login was made; or the first of these reasons against it: one is held, the name or the password is
 -- wrong, memory ran out
@@ -27,75 +29,81 @@ abbrev pub IsNewClient : Option ClientValue → Option ClientValue → List ℕ 
 IsNewClient (Some c) new name password status = (status ≡ 502) × (new ≡ Some c)
 IsNewClient None new name password status = IsNewFor (login_fault name password) new name password status
 
--- after each history that it stood after, the client stands after that history with the input, and these are the bytes
--- that are to be sent: those of the commands that the machine hands out
-pub record DoesOnWire (old new : ClientValue) (i : InputValue) (wire : List ℕ) : Type 0 where
+-- after each history that it stood after, the client stands after that history with the input, and the wire holds just
+-- the bytes of the commands that the machine hands out
+pub record DoesOnWire (old new : ClientValue) (i : InputValue) (wire : Wire) : Type 0 where
   pub stands : (t : Talk) → StandsAfter old t → StandsAfter new (step t i).talk
-  pub hands : (t : Talk) → StandsAfter old t → wire ≡ wire_of (step t i).send
+  pub hands : (t : Talk) → StandsAfter old t → Holds wire (wire_of (step t i).send)
+
+-- the same of an input at which the machine hands out nothing
+pub record DoesUnsaid (old new : ClientValue) (i : InputValue) : Type 0 where
+  pub stands : (t : Talk) → StandsAfter old t → StandsAfter new (step t i).talk
+  pub hands_none : (t : Talk) → StandsAfter old t → [] ≡ wire_of (step t i).send
 
 -- what `Client::open` does, and its refusal
-pub record Opens (old new : ClientValue) (wire : List ℕ) (status : ℕ) : Type 0 where
-  pub does : DoesOnWire old new Open wire
+pub record Opens (old new : ClientValue) (wire wire' : Wire) (status : ℕ) : Type 0 where
+  pub does : DoesOnWire old new Open wire'
   pub refusal : (t : Talk) → StandsAfter old t → status ≡ refusal_status (open_refusal t)
-  pub kept : status ≢ 0 → new ≡ old
+  pub kept : status ≢ 0 → (new ≡ old) × IsEmptied wire wire'
 
-abbrev pub IsOpened : Option ClientValue → Option ClientValue → List ℕ → ℕ → Type 0
-IsOpened None new wire status = (status ≡ 501) × (new ≡ None) × (wire ≡ [])
-IsOpened (Some c) None wire status = ⊥
-IsOpened (Some c) (Some d) wire status = Opens c d wire status
+abbrev pub IsOpened : Option ClientValue → Option ClientValue → Wire → Wire → ℕ → Type 0
+IsOpened None new wire wire' status = (status ≡ 501) × (new ≡ None) × IsEmptied wire wire'
+IsOpened (Some c) None wire wire' status = ⊥
+IsOpened (Some c) (Some d) wire wire' status = Opens c d wire wire' status
 
 -- what `Client::decide` does, and its refusal
-pub record Decides (old new : ClientValue) (d : DecisionValue) (wire : List ℕ) (status : ℕ) : Type 0 where
-  pub does : DoesOnWire old new (Click d) wire
+pub record Decides (old new : ClientValue) (d : DecisionValue) (wire wire' : Wire) (status : ℕ) : Type 0 where
+  pub does : DoesOnWire old new (Click d) wire'
   pub refusal : (t : Talk) → StandsAfter old t → status ≡ refusal_status (answer_now t d)
-  pub kept : status ≢ 0 → new ≡ old
+  pub kept : status ≢ 0 → (new ≡ old) × IsEmptied wire wire'
 
-abbrev pub IsDecided : Option DecisionValue → Option ClientValue → Option ClientValue → List ℕ → ℕ → Type 0
-IsDecided None old new wire status = (status ≡ 504) × (new ≡ old) × (wire ≡ [])
-IsDecided (Some d) None new wire status = (status ≡ 501) × (new ≡ None) × (wire ≡ [])
-IsDecided (Some d) (Some c) None wire status = ⊥
-IsDecided (Some d) (Some c) (Some c') wire status = Decides c c' d wire status
+abbrev pub IsDecided : Option DecisionValue → Option ClientValue → Option ClientValue → Wire → Wire → ℕ → Type 0
+IsDecided None old new wire wire' status = (status ≡ 504) × (new ≡ old) × IsEmptied wire wire'
+IsDecided (Some d) None new wire wire' status = (status ≡ 501) × (new ≡ None) × IsEmptied wire wire'
+IsDecided (Some d) (Some c) None wire wire' status = ⊥
+IsDecided (Some d) (Some c) (Some c') wire wire' status = Decides c c' d wire wire' status
 
 -- what `Client::plain` does, and its refusal
-pub record SendsPlain (old new : ClientValue) (p : PlainValue) (wire : List ℕ) (status : ℕ) : Type 0 where
-  pub does : DoesOnWire old new (PlainInput p) wire
+pub record SendsPlain (old new : ClientValue) (p : PlainValue) (wire wire' : Wire) (status : ℕ) : Type 0 where
+  pub does : DoesOnWire old new (PlainInput p) wire'
   pub refusal : (t : Talk) → StandsAfter old t → status ≡ plain_status (plain_refusal t p)
-  pub kept : status ≢ 0 → new ≡ old
+  pub kept : status ≢ 0 → (new ≡ old) × IsEmptied wire wire'
 
-abbrev pub IsPlainSent : Option PlainValue → Option ClientValue → Option ClientValue → List ℕ → ℕ → Type 0
-IsPlainSent None old new wire status = (status ≡ 505) × (new ≡ old) × (wire ≡ [])
-IsPlainSent (Some p) None new wire status = (status ≡ 501) × (new ≡ None) × (wire ≡ [])
-IsPlainSent (Some p) (Some c) None wire status = ⊥
-IsPlainSent (Some p) (Some c) (Some d) wire status = SendsPlain c d p wire status
+abbrev pub IsPlainSent : Option PlainValue → Option ClientValue → Option ClientValue → Wire → Wire → ℕ → Type 0
+IsPlainSent None old new wire wire' status = (status ≡ 505) × (new ≡ old) × IsEmptied wire wire'
+IsPlainSent (Some p) None new wire wire' status = (status ≡ 501) × (new ≡ None) × IsEmptied wire wire'
+IsPlainSent (Some p) (Some c) None wire wire' status = ⊥
+IsPlainSent (Some p) (Some c) (Some d) wire wire' status = SendsPlain c d p wire wire' status
 
 -- what `Client::lose` does, and which decision waited
-pub record Loses (old new : ClientValue) (waited : OutstandingRecord) (status : ℕ) : Type 0 where
+pub record Loses (old new : ClientValue) (waited waited' : OutstandingRecord) (status : ℕ) : Type 0 where
   pub done : status ≡ 0
-  pub does : DoesOnWire old new Lose []
-  pub waited_is : (t : Talk) → StandsAfter old t → IsMaybeAsk waited (unconfirmed_now t)
+  pub does : DoesUnsaid old new Lose
+  pub waited_is : (t : Talk) → StandsAfter old t → IsMaybeAsk waited waited' (unconfirmed_now t)
 
-abbrev pub IsLost : Option ClientValue → Option ClientValue → OutstandingRecord → ℕ → Type 0
-IsLost None new waited status = (status ≡ 501) × (new ≡ None)
-IsLost (Some c) None waited status = ⊥
-IsLost (Some c) (Some d) waited status = Loses c d waited status
+abbrev pub IsLost : Option ClientValue → Option ClientValue → OutstandingRecord → OutstandingRecord → ℕ → Type 0
+IsLost None new waited waited' status = (status ≡ 501) × (new ≡ None) × (waited' ≡ waited)
+IsLost (Some c) None waited waited' status = ⊥
+IsLost (Some c) (Some d) waited waited' status = Loses c d waited waited' status
 
--- the board that is shown, or that none is
-abbrev pub IsShownBoard : Option BoardFields → BoardRecord → ℕ → Type 0
-IsShownBoard None r status = status ≡ 5
-IsShownBoard (Some b) r status = (status ≡ 0) × IsBoardAs r b
-
--- and the client is as it was
-abbrev pub IsShown : Option ClientValue → Option ClientValue → BoardRecord → ℕ → Type 0
-IsShown None new r status = (status ≡ 501) × (new ≡ None)
-IsShown (Some c) new r status = (new ≡ Some c) × ((t : Talk) → StandsAfter c t → IsShownBoard (shown_now t) r status)
-
--- the decision that waits, or that none does
-abbrev pub IsWaitingAsk : Option Ask → OutstandingRecord → ℕ → Type 0
-IsWaitingAsk None out status = status ≡ 507
-IsWaitingAsk (Some a) out status = (status ≡ 0) × IsAskAs out a
+-- the board that is shown; or none is, and nothing is written
+abbrev pub IsShownBoard : Option BoardFields → BoardRecord → BoardRecord → ℕ → Type 0
+IsShownBoard None r r' status = (status ≡ 5) × (r' ≡ r)
+IsShownBoard (Some b) r r' status = (status ≡ 0) × IsBoardAs r' b
 
 -- and the client is as it was
-abbrev pub IsWaiting : Option ClientValue → Option ClientValue → OutstandingRecord → ℕ → Type 0
-IsWaiting None new out status = (status ≡ 501) × (new ≡ None)
-IsWaiting (Some c) new out status =
-    (new ≡ Some c) × ((t : Talk) → StandsAfter c t → IsWaitingAsk (unconfirmed_now t) out status)
+abbrev pub IsShown : Option ClientValue → Option ClientValue → BoardRecord → BoardRecord → ℕ → Type 0
+IsShown None new r r' status = (status ≡ 501) × (new ≡ None) × (r' ≡ r)
+IsShown (Some c) new r r' status =
+    (new ≡ Some c) × ((t : Talk) → StandsAfter c t → IsShownBoard (shown_now t) r r' status)
+
+-- the decision that waits; or none does, and nothing is written
+abbrev pub IsWaitingAsk : Option Ask → OutstandingRecord → OutstandingRecord → ℕ → Type 0
+IsWaitingAsk None out out' status = (status ≡ 507) × (out' ≡ out)
+IsWaitingAsk (Some a) out out' status = (status ≡ 0) × IsAskAs out' a
+
+-- and the client is as it was
+abbrev pub IsWaiting : Option ClientValue → Option ClientValue → OutstandingRecord → OutstandingRecord → ℕ → Type 0
+IsWaiting None new out out' status = (status ≡ 501) × (new ≡ None) × (out' ≡ out)
+IsWaiting (Some c) new out out' status =
+    (new ≡ Some c) × ((t : Talk) → StandsAfter c t → IsWaitingAsk (unconfirmed_now t) out out' status)

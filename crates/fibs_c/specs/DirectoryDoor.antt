@@ -1,5 +1,5 @@
 -- What the functions for C do with a directory.
-use Rattle.std.specs.Prelude.{◌≡◌, ◌≢◌, ℕ, ◌++◌, List, [], ◌∷◌, length, slice_get, Option, None, Some}
+use Rattle.std.specs.Prelude.{◌≡◌, ◌≢◌, ◌⊎◌, ℕ, ◌++◌, List, [], ◌∷◌, length, slice_get, Option, None, Some}
 use Rattle.fibs_directory.specs.Directory.{IsDirectory, directory_limit, entry_of, name_of}
 use Rattle.fibs_fields.specs.Field.{FieldValue}
 use Rattle.fibs_messages.specs.FieldOf.{field_at}
@@ -28,6 +28,7 @@ pub record NotesMessage (old new : List MessageValue) (m : MessageValue) (status
   pub full : status ≡ 402 → IsFull old m
   pub is_full : IsFull old m → status ≡ 402
   pub others : m.number ≢ 5 → status ≡ 0
+  pub statuses : (status ≡ 0) ⊎ ((status ≡ 401) ⊎ (status ≡ 402))
 
 -- a line that is no message changes nothing
 abbrev pub Notes : List MessageValue → List MessageValue → ReadingValue → ℕ → Type 0
@@ -42,9 +43,9 @@ IsNoted (Some d) None r status = ⊥
 IsNoted (Some d) (Some e) r status = Notes d e r status
 
 -- how many players there are, and the directory is as it was
-abbrev pub IsCounted : Option (List MessageValue) → Option (List MessageValue) → ℕ → ℕ → Type 0
-IsCounted None new len status = (status ≡ 501) × (new ≡ None)
-IsCounted (Some d) new len status = (status ≡ 0) × (new ≡ Some d) × (len ≡ length d)
+abbrev pub IsCounted : Option (List MessageValue) → Option (List MessageValue) → ℕ → ℕ → ℕ → Type 0
+IsCounted None new len len' status = (status ≡ 501) × (new ≡ None) × (len' ≡ len)
+IsCounted (Some d) new len len' status = (status ≡ 0) × (new ≡ Some d) × (len' ≡ length d)
 
 -- no player is left
 abbrev pub IsCleared : Option (List MessageValue) → Option (List MessageValue) → ℕ → Type 0
@@ -52,26 +53,29 @@ IsCleared None new status = (status ≡ 501) × (new ≡ None)
 IsCleared (Some d) None status = ⊥
 IsCleared (Some d) (Some e) status = (status ≡ 0) × IsDirectory [] e
 
--- a field is told, or there is none of this number
-abbrev pub IsMaybeField : Option FieldValue → FieldRecord → List ℕ → List ℕ → ℕ → Type 0
-IsMaybeField None field old new status = (status ≡ 506) × (new ≡ old)
-IsMaybeField (Some v) field old new status = IsToldField (told_field v) field old new status
+-- a field is told, or there is none of this number, and nothing is written
+abbrev pub IsMaybeField : Option FieldValue → FieldRecord → FieldRecord → List ℕ → List ℕ → ℕ → Type 0
+IsMaybeField None field field' old new status = (status ≡ 506) × (new ≡ old) × (field' ≡ field)
+IsMaybeField (Some v) field field' old new status = IsToldField (told_field v) field' old new status
 
--- a field of a player, of whom message 5 told, or there is no player
-abbrev pub IsPlayerField : Option MessageValue → ℕ → FieldRecord → List ℕ → List ℕ → ℕ → Type 0
-IsPlayerField None number field old new status = (status ≡ 508) × (new ≡ old)
-IsPlayerField (Some m) number field old new status = IsMaybeField (field_at number m.fields) field old new status
+-- a field of a player whom a message 5 listed; or there is no player, and nothing is written
+abbrev pub IsPlayerField : Option MessageValue → ℕ → FieldRecord → FieldRecord → List ℕ → List ℕ → ℕ → Type 0
+IsPlayerField None number field field' old new status = (status ≡ 508) × (new ≡ old) × (field' ≡ field)
+IsPlayerField (Some m) number field field' old new status =
+    IsMaybeField (field_at number m.fields) field field' old new status
 
 -- of the player at a place, and the directory is as it was
-abbrev pub IsPlayerAt : Option (List MessageValue) → Option (List MessageValue) → ℕ → ℕ → FieldRecord → List ℕ
-    → List ℕ → ℕ → Type 0
-IsPlayerAt None d place number field old new status = (status ≡ 501) × (d ≡ None) × (new ≡ old)
-IsPlayerAt (Some d) d' place number field old new status =
-    (d' ≡ Some d) × IsPlayerField (slice_get d place) number field old new status
+abbrev pub IsPlayerAt : Option (List MessageValue) → Option (List MessageValue) → ℕ → ℕ → FieldRecord → FieldRecord
+    → List ℕ → List ℕ → ℕ → Type 0
+IsPlayerAt None d place number field field' old new status =
+    (status ≡ 501) × (d ≡ None) × (new ≡ old) × (field' ≡ field)
+IsPlayerAt (Some d) d' place number field field' old new status =
+    (d' ≡ Some d) × IsPlayerField (slice_get d place) number field field' old new status
 
 -- of the player of a name, and the directory is as it was
-abbrev pub IsPlayerOf : Option (List MessageValue) → Option (List MessageValue) → List ℕ → ℕ → FieldRecord → List ℕ
-    → List ℕ → ℕ → Type 0
-IsPlayerOf None d name number field old new status = (status ≡ 501) × (d ≡ None) × (new ≡ old)
-IsPlayerOf (Some d) d' name number field old new status =
-    (d' ≡ Some d) × IsPlayerField (entry_of name d) number field old new status
+abbrev pub IsPlayerOf : Option (List MessageValue) → Option (List MessageValue) → List ℕ → ℕ → FieldRecord
+    → FieldRecord → List ℕ → List ℕ → ℕ → Type 0
+IsPlayerOf None d name number field field' old new status =
+    (status ≡ 501) × (d ≡ None) × (new ≡ old) × (field' ≡ field)
+IsPlayerOf (Some d) d' name number field field' old new status =
+    (d' ≡ Some d) × IsPlayerField (entry_of name d) number field field' old new status

@@ -1,6 +1,7 @@
 -- What `fibs_client_feed` does.
-use Rattle.std.specs.Prelude.{◌≡◌, ℕ, ◌<◌, ◌≤◌, ◌⊎◌, List, [], length, take, Option, None, Some}
+use Rattle.std.specs.Prelude.{◌≡◌, ℕ, ◌<◌, ◌≤◌, ◌⊎◌, List, [], length, take, drop, Option, None, Some}
 use Rattle.fibs_lines.specs.Lines.{kept_limit}
+use Rattle.fibs_messages.specs.Line.{text_line}
 use Rattle.fibs_position.specs.DecisionValue.{DecisionValue}
 use Rattle.fibs_session.specs.Calls.Feeding.{FeedAnswers}
 use Rattle.fibs_session.specs.Calls.SessionOf.{TakenValue}
@@ -11,7 +12,7 @@ use Rattle.fibs_c.specs.ClientDoor.{DoesOnWire}
 use Rattle.fibs_records.specs.Decisions.{IsMaybeDecision}
 use Rattle.fibs_records.specs.Kinds.{told_kind}
 use Rattle.fibs_records.specs.Texts.{flag_of}
-use Rattle.fibs_records.specs.Wires.{wire_in}
+use Rattle.fibs_records.specs.Wires.{IsEmptied}
 use Rattle.fibs_c.specs.declared.feeding.Heard.{Heard}
 use Rattle.fibs_records.specs.declared.wire.Wire.{Wire}
 
@@ -21,36 +22,60 @@ decision_of_ask None = None
 decision_of_ask (Some a) = Some a.1
 
 -- what is told of a line: its bytes, whether it had more, what it is, the decision that it confirms, and whether a
--- standing order rolls
-pub record TellsLine (v : TakenValue) (h : Heard) (text : List ℕ) : Type 0 where
+-- standing order rolls; behind its bytes the text is as it was
+pub record TellsLine (v : TakenValue) (h : Heard) (text text' : List ℕ) : Type 0 where
   pub ended : h.ended ≡ 1
-  pub bytes : take h.len text ≡ take kept_limit v.line.bytes
+  pub few : h.len ≤ kept_limit
+  pub len_is : h.len ≡ length (take kept_limit v.line.bytes)
+  pub bytes : take h.len text' ≡ take kept_limit v.line.bytes
+  pub rest : drop h.len text' ≡ drop h.len text
   pub cut : h.cut ≡ flag_of v.line.cut
   pub kind : h.kind ≡ told_kind v.reading
   pub confirmed : IsMaybeDecision h.confirmed (decision_of_ask v.confirmed)
   pub rolled : h.rolled ≡ flag_of v.rolled
 
--- or that none ended
-abbrev pub IsTold : Option TakenValue → Heard → List ℕ → Type 0
-IsTold None h text = h.ended ≡ 0
-IsTold (Some v) h text = TellsLine v h text
+-- no line ended, and nothing is told of one
+pub record TellsNone (h : Heard) (text text' : List ℕ) : Type 0 where
+  pub ended : h.ended ≡ 0
+  pub len : h.len ≡ 0
+  pub cut : h.cut ≡ 0
+  pub kind : h.kind ≡ told_kind (text_line [])
+  pub confirmed : IsMaybeDecision h.confirmed None
+  pub rolled : h.rolled ≡ 0
+  pub unwritten : text' ≡ text
+
+-- the one or the other
+abbrev pub IsTold : Option TakenValue → Heard → List ℕ → List ℕ → Type 0
+IsTold None h text text' = TellsNone h text text'
+IsTold (Some v) h text text' = TellsLine v h text text'
 
 -- what `Client::feed` does, and that its answer is told
-pub record Feeds (old new : ClientValue) (piece : List ℕ) (h : Heard) (text : List ℕ) (wire : Wire) : Type 0 where
+pub record Feeds (old new : ClientValue) (piece : List ℕ) (h : Heard) (text text' : List ℕ) (wire : Wire)
+    : Type 0 where
   pub in_range : h.used ≤ length piece
   pub progress : 0 < length piece → 0 < h.used
-  pub does : DoesOnWire old new (Piece (take h.used piece)) (wire_in wire)
+  pub does : DoesOnWire old new (Piece (take h.used piece)) wire
   pub taken : Option TakenValue
   pub answers : FeedAnswers old piece h.used taken
-  pub told : IsTold taken h text
+  pub told : IsTold taken h text text'
 
-abbrev pub IsFedWhere : Option ClientValue → Option ClientValue → List ℕ → Heard → List ℕ → Wire → ℕ → Type 0
-IsFedWhere None new piece h text wire status = (status ≡ 501) × (new ≡ None) × (wire_in wire ≡ [])
-IsFedWhere (Some c) None piece h text wire status = ⊥
-IsFedWhere (Some c) (Some d) piece h text wire status = (status ≡ 0) × Feeds c d piece h text wire
+-- or nothing is written, and the wire is empty
+pub record FeedsNothing (h h' : Heard) (text text' : List ℕ) (wire wire' : Wire) : Type 0 where
+  pub heard : h' ≡ h
+  pub text_is : text' ≡ text
+  pub emptied : IsEmptied wire wire'
 
--- the same where there is room for a line, and else nothing was done
-abbrev pub IsFed : Option ClientValue → Option ClientValue → List ℕ → ℕ → Heard → List ℕ → Wire → ℕ → Type 0
-IsFed old new piece room h text wire status =
-    ((room < kept_limit) × (status ≡ 503) × (new ≡ old) × (wire_in wire ≡ []))
-    ⊎ ((kept_limit ≤ room) × IsFedWhere old new piece h text wire status)
+abbrev pub IsFedInRoom : Option ClientValue → Option ClientValue → List ℕ → Heard → Heard → List ℕ → List ℕ → Wire
+    → Wire → ℕ → Type 0
+IsFedInRoom None new piece h h' text text' wire wire' status =
+    (status ≡ 501) × (new ≡ None) × FeedsNothing h h' text text' wire wire'
+IsFedInRoom (Some c) None piece h h' text text' wire wire' status = ⊥
+IsFedInRoom (Some c) (Some d) piece h h' text text' wire wire' status =
+    (status ≡ 0) × Feeds c d piece h' text text' wire'
+
+-- the same if there is room for a line, and else nothing was done
+abbrev pub IsFed : Option ClientValue → Option ClientValue → List ℕ → Heard → Heard → List ℕ → List ℕ → Wire → Wire
+    → ℕ → Type 0
+IsFed old new piece h h' text text' wire wire' status =
+    ((length text < kept_limit) × (status ≡ 503) × (new ≡ old) × FeedsNothing h h' text text' wire wire')
+    ⊎ ((kept_limit ≤ length text) × IsFedInRoom old new piece h h' text text' wire wire' status)

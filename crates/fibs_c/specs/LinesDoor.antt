@@ -1,5 +1,5 @@
 -- What the functions for C do with a reader of lines.
-use Rattle.std.specs.Prelude.{◌≡◌, ℕ, ◌<◌, ◌≤◌, ◌++◌, ◌⊎◌, List, [], ◌∷◌, length, take, min, Option, None, Some}
+use Rattle.std.specs.Prelude.{◌≡◌, ℕ, ◌<◌, ◌≤◌, ◌++◌, ◌⊎◌, List, [], ◌∷◌, length, take, drop, min, false, Option, None, Some}
 use Rattle.std.specs.Prelude.{if◌then◌else◌}
 use Rattle.fibs_lines.specs.Lines.{ReadLine, lines_of, rest_of, kept_limit}
 use Rattle.fibs_lines.specs.LinesValue.{LinesValue, StandsAfter}
@@ -18,6 +18,15 @@ pub record FeedsLine (old new : LinesValue) (piece : List ℕ) (fed : FedLine) (
   pub stands : (s : List ℕ) → StandsAfter old s → StandsAfter new (s ++ take fed.used piece)
   pub gains : (s : List ℕ) → StandsAfter old s → lines_of (s ++ take fed.used piece) ≡ lines_of s ++ copied fed text
   pub shortest : (s : List ℕ) → StandsAfter old s → (n : ℕ) → n < fed.used → lines_of (s ++ take n piece) ≡ lines_of s
+  pub whole : (s : List ℕ) → StandsAfter old s → is_set fed.ended ≡ false → fed.used ≡ length piece
+
+-- what is written of a line: flags, its length, and its bytes alone
+pub record WritesLine (fed : FedLine) (text text' : List ℕ) : Type 0 where
+  pub few : fed.len ≤ kept_limit
+  pub ended_flag : fed.ended ≤ 1
+  pub cut_flag : fed.cut ≤ 1
+  pub none : fed.ended ≡ 0 → (fed.len ≡ 0) × (fed.cut ≡ 0)
+  pub rest : drop fed.len text' ≡ drop fed.len text
 
 -- a reader was made, or it was refused: one is held already, or memory ran out
 abbrev pub IsNewLines : Option LinesValue → Option LinesValue → ℕ → Type 0
@@ -25,17 +34,20 @@ IsNewLines (Some v) new status = (status ≡ 502) × (new ≡ Some v)
 IsNewLines None None status = status ≡ 401
 IsNewLines None (Some w) status = (status ≡ 0) × StandsAfter w []
 
--- the reader was fed, or none is held
-abbrev pub IsFedWhere : Option LinesValue → Option LinesValue → List ℕ → FedLine → List ℕ → ℕ → Type 0
-IsFedWhere None new piece fed text status = (status ≡ 501) × (new ≡ None)
-IsFedWhere (Some v) None piece fed text status = ⊥
-IsFedWhere (Some v) (Some w) piece fed text status = (status ≡ 0) × FeedsLine v w piece fed text
+-- the reader was fed; or none is held, and nothing is written
+abbrev pub IsFedInRoom : Option LinesValue → Option LinesValue → List ℕ → FedLine → FedLine → List ℕ → List ℕ → ℕ
+    → Type 0
+IsFedInRoom None new piece fed fed' text text' status =
+    (status ≡ 501) × (new ≡ None) × (fed' ≡ fed) × (text' ≡ text)
+IsFedInRoom (Some v) None piece fed fed' text text' status = ⊥
+IsFedInRoom (Some v) (Some w) piece fed fed' text text' status =
+    (status ≡ 0) × FeedsLine v w piece fed' text' × WritesLine fed' text text'
 
--- the same where there is room for a line, and else nothing was done
-abbrev pub IsFed : Option LinesValue → Option LinesValue → List ℕ → ℕ → FedLine → List ℕ → ℕ → Type 0
-IsFed old new piece room fed text status =
-    ((room < kept_limit) × (status ≡ 503) × (new ≡ old))
-    ⊎ ((kept_limit ≤ room) × IsFedWhere old new piece fed text status)
+-- the same if there is room for a line, and else nothing was done
+abbrev pub IsFed : Option LinesValue → Option LinesValue → List ℕ → FedLine → FedLine → List ℕ → List ℕ → ℕ → Type 0
+IsFed old new piece fed fed' text text' status =
+    ((length text < kept_limit) × (status ≡ 503) × (new ≡ old) × (fed' ≡ fed) × (text' ≡ text))
+    ⊎ ((kept_limit ≤ length text) × IsFedInRoom old new piece fed fed' text text' status)
 
 -- nothing has come, or none is held
 abbrev pub IsReset : Option LinesValue → Option LinesValue → ℕ → Type 0
@@ -44,7 +56,7 @@ IsReset (Some v) None status = ⊥
 IsReset (Some v) (Some w) status = (status ≡ 0) × StandsAfter w []
 
 -- how many bytes stand after the last line end, and the reader is as it was
-abbrev pub IsHeld : Option LinesValue → Option LinesValue → ℕ → ℕ → Type 0
-IsHeld None new len status = (status ≡ 501) × (new ≡ None)
-IsHeld (Some v) new len status =
-    (status ≡ 0) × (new ≡ Some v) × ((s : List ℕ) → StandsAfter v s → len ≡ min kept_limit (length (rest_of s)))
+abbrev pub IsHeld : Option LinesValue → Option LinesValue → ℕ → ℕ → ℕ → Type 0
+IsHeld None new len len' status = (status ≡ 501) × (new ≡ None) × (len' ≡ len)
+IsHeld (Some v) new len len' status =
+    (status ≡ 0) × (new ≡ Some v) × ((s : List ℕ) → StandsAfter v s → len' ≡ min kept_limit (length (rest_of s)))

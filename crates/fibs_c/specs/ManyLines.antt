@@ -1,5 +1,6 @@
 -- What is told of many lines in one call.
 use Rattle.std.specs.Prelude.{◌≡◌, ℕ, ◌+◌, ◌<◌, ◌≤◌, ◌++◌, ◌⊎◌, List, length, map, take, drop, Option, None, Some}
+use Rattle.std.specs.List.{AllByRecursion}
 use Rattle.fibs_lines.specs.Lines.{ReadLine, lines_of, kept_limit}
 use Rattle.fibs_lines.specs.LinesValue.{LinesValue, StandsAfter}
 use Rattle.fibs_session.specs.History.Hearing.{line_reading}
@@ -21,16 +22,27 @@ kind_in row = row.kind
 abbrev pub kind_of_line : ReadLine → LineKind
 kind_of_line line = told_kind (line_reading line)
 
+-- a row's bytes lie in a front of the text, and its flag is one
+pub record LiesWithin (bytes : ℕ) (row : ToldLine) : Type 0 where
+  pub place : row.start + row.len ≤ bytes
+  pub flag : row.cut ≤ 1
+
 -- wherever the reader stood, it now stands after the bytes read too, and the rows have the lines that these ended, with
--- what each is. It went on until the piece ended, the rows were full, or the room was too short for another line
-pub record ReadsLines (old new : LinesValue) (piece : List ℕ) (told : Told) (rows : List ToldLine) (text : List ℕ)
-    : Type 0 where
+-- what each is. It went on until the piece ended, the rows were full, or the room was too short for another line. Behind
+-- what is told, rows and text are as they were
+pub record ReadsLines (old new : LinesValue) (piece : List ℕ) (told : Told) (rows rows' : List ToldLine)
+    (text text' : List ℕ) : Type 0 where
   pub in_range : told.used ≤ length piece
+  pub progress : 0 < length piece → 0 < told.used
   pub few : told.lines ≤ length rows
+  pub short : told.bytes ≤ length text
   pub stands : (s : List ℕ) → StandsAfter old s → StandsAfter new (s ++ take told.used piece)
   pub gains : (s : List ℕ) → StandsAfter old s
-      → lines_of (s ++ take told.used piece) ≡ lines_of s ++ map (line_in text) (take told.lines rows)
-  pub kinds : map kind_in (take told.lines rows) ≡ map kind_of_line (map (line_in text) (take told.lines rows))
+      → lines_of (s ++ take told.used piece) ≡ lines_of s ++ map (line_in text') (take told.lines rows')
+  pub kinds : map kind_in (take told.lines rows') ≡ map kind_of_line (map (line_in text') (take told.lines rows'))
+  pub within : AllByRecursion (LiesWithin told.bytes) (take told.lines rows')
+  pub rest_of_rows : drop told.lines rows' ≡ drop told.lines rows
+  pub rest_of_text : drop told.bytes text' ≡ drop told.bytes text
   pub ends : (length piece ≤ told.used) ⊎ ((length rows ≤ told.lines) ⊎ (length text < told.bytes + kept_limit))
 
 -- or no reader is held, and nothing is written
@@ -40,7 +52,7 @@ AreLinesReadInRoom None new piece told told' rows rows' text text' status =
     (status ≡ 501) × (new ≡ None) × (told' ≡ told) × (rows' ≡ rows) × (text' ≡ text)
 AreLinesReadInRoom (Some v) None piece told told' rows rows' text text' status = ⊥
 AreLinesReadInRoom (Some v) (Some w) piece told told' rows rows' text text' status =
-    (status ≡ 0) × ReadsLines v w piece told' rows' text'
+    (status ≡ 0) × ReadsLines v w piece told' rows rows' text text'
 
 -- there is no room for one line: the room and the rows that are wanted are told, and nothing else is written
 pub record WantsRoom (old new : Option LinesValue) (told : Told) (status : ℕ) : Type 0 where

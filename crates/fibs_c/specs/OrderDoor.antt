@@ -1,9 +1,9 @@
 -- What the functions for C do with a standing order to roll.
-use Rattle.std.specs.Prelude.{◌≡◌, ◌≢◌, ℕ, [], Option, None, Some}
+use Rattle.std.specs.Prelude.{◌≡◌, ◌≢◌, ℕ, ◌≤◌, Option, None, Some}
 use Rattle.fibs_session.specs.Calls.Standing.{ClientValue, StandsAfter}
 use Rattle.fibs_session.specs.History.Machine.{Talk, InputValue, order_refusal, withdraw_refusal, ordered_now}
 use Rattle.fibs_history.specs.declared.refusal.Refusal.{Refusal}
-use Rattle.fibs_c.specs.ClientDoor.{DoesOnWire}
+use Rattle.fibs_c.specs.ClientDoor.{DoesUnsaid}
 use Rattle.fibs_records.specs.Statuses.{refusal_status}
 use Rattle.fibs_records.specs.Texts.{flag_of}
 
@@ -16,7 +16,7 @@ withdraw_refusal_now t = withdraw_refusal t.log
 -- what a call does that hands out nothing, and its refusal
 pub record DoesSilently (i : InputValue) (refusal : Talk → Option Refusal) (old new : ClientValue) (status : ℕ)
     : Type 0 where
-  pub does : DoesOnWire old new i []
+  pub does : DoesUnsaid old new i
   pub refused : (t : Talk) → StandsAfter old t → status ≡ refusal_status (refusal t)
   pub kept : status ≢ 0 → new ≡ old
 
@@ -26,7 +26,7 @@ IsDone i refusal (Some c) None status = ⊥
 IsDone i refusal (Some c) (Some d) status = DoesSilently i refusal c d status
 
 -- whether a standing order stands, and the client is as it was
-abbrev pub IsOrderTold : Option ClientValue → Option ClientValue → ℕ → ℕ → Type 0
-IsOrderTold None new ordered status = (status ≡ 501) × (new ≡ None)
-IsOrderTold (Some c) new ordered status =
-    (new ≡ Some c) × (status ≡ 0) × ((t : Talk) → StandsAfter c t → ordered ≡ flag_of (ordered_now t))
+abbrev pub IsOrderTold : Option ClientValue → Option ClientValue → ℕ → ℕ → ℕ → Type 0
+IsOrderTold None new ordered ordered' status = (status ≡ 501) × (new ≡ None) × (ordered' ≡ ordered)
+IsOrderTold (Some c) new ordered ordered' status =
+    (new ≡ Some c) × (status ≡ 0) × (ordered' ≤ 1) × ((t : Talk) → StandsAfter c t → ordered' ≡ flag_of (ordered_now t))

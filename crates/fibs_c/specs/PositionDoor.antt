@@ -1,5 +1,5 @@
 -- What is told of a position.
-use Rattle.std.specs.Prelude.{◌≡◌, ℕ, ℤ, ◌+◌, ◌<◌, ◌≤◌, ◌⊎◌, negsuc, List, length, map, take, Option, None, Some}
+use Rattle.std.specs.Prelude.{◌≡◌, ℕ, ℤ, ◌+◌, ◌<◌, ◌≤◌, ◌⊎◌, negsuc, List, length, map, take, drop, Option, None, Some}
 use Rattle.std.specs.Prelude.{if◌then◌else◌}
 use Rattle.std.specs.Ordering.{int_eq}
 use Rattle.fibs_boards.specs.Board.{BoardFields, BoardText}
@@ -20,7 +20,7 @@ use Rattle.fibs_position.specs.declared.phase.Phase.TheVariants.{Passing}
 use Rattle.fibs_position.specs.declared.position_fault.PositionFault.{PositionFault}
 use Rattle.fibs_rules.specs.Hop.{Hop}
 use Rattle.fibs_c.specs.BoardDoor.{IsWrongBoard}
-use Rattle.fibs_records.specs.Decisions.{IsDecisionAs, hops_in}
+use Rattle.fibs_records.specs.Decisions.{IsDecisionAs, move_in, as_move}
 use Rattle.fibs_records.specs.Statuses.{allowed_status}
 use Rattle.fibs_records.specs.Texts.{HandsOut}
 use Rattle.fibs_records.specs.declared.decisions.DecisionRecord.{DecisionRecord}
@@ -61,8 +61,9 @@ pub record TellsPhase (line : List ℕ) (n status : ℕ) : Type 0 where
   pub number : n ≡ phase_number phase
   pub done : status ≡ 0
 
-abbrev pub IsPhaseTold : List ℕ → ℕ → ℕ → Type 0
-IsPhaseTold line n status = IsNoPosition line status ⊎ TellsPhase line n status
+-- or the line has none, and nothing is written
+abbrev pub IsPhaseTold : List ℕ → ℕ → ℕ → ℕ → Type 0
+IsPhaseTold line n n' status = (IsNoPosition line status × (n' ≡ n)) ⊎ TellsPhase line n' status
 
 -- what is said of a decision in the line's position
 pub record TellsAllowed (line : List ℕ) (d : DecisionValue) (status : ℕ) : Type 0 where
@@ -74,17 +75,11 @@ abbrev pub IsAllowedTold : List ℕ → Option DecisionValue → ℕ → Type 0
 IsAllowedTold line None status = status ≡ 504
 IsAllowedTold line (Some d) status = IsNoPosition line status ⊎ TellsAllowed line d status
 
--- a move as it is told, and as it is meant
-abbrev pub move_in : DecisionRecord → ℕ × List Hop
-move_in r = (r.kind, hops_in r)
-
-abbrev pub as_move : List Hop → ℕ × List Hop
-as_move steps = (5, steps)
-
--- the plays are at the room's start, where they fit; else nothing is written
+-- the plays are at the room's start, if they fit, and the rest of the room is as it was; else nothing is written
 pub record HandsOutPlays (plays : List (List Hop)) (old new : List DecisionRecord) (status : ℕ) : Type 0 where
   pub fits : length plays ≤ length old
       → (status ≡ 0) × (map move_in (take (length plays) new) ≡ map as_move plays)
+      × (drop (length plays) new ≡ drop (length plays) old)
   pub short : length old < length plays → (status ≡ 503) × (new ≡ old)
 
 -- the plays of the line's position, and how many they are
@@ -97,20 +92,21 @@ pub record TellsPlays (line : List ℕ) (old new : List DecisionRecord) (count s
   pub handed : HandsOutPlays plays old new status
 
 -- or there is no position, or memory ran out, and nothing is written
-abbrev pub ArePlaysTold : List ℕ → List DecisionRecord → List DecisionRecord → ℕ → ℕ → Type 0
-ArePlaysTold line old new count status =
-    ((IsNoPosition line status ⊎ (status ≡ 401)) × (new ≡ old)) ⊎ TellsPlays line old new count status
+abbrev pub ArePlaysTold : List ℕ → List DecisionRecord → List DecisionRecord → ℕ → ℕ → ℕ → Type 0
+ArePlaysTold line old new count count' status =
+    ((IsNoPosition line status ⊎ (status ≡ 401)) × (new ≡ old) × (count' ≡ count))
+    ⊎ TellsPlays line old new count' status
 
 -- the direction by its number in field 43 (FIBS board style 3)
 abbrev pub direction_in : ℤ → Direction
 direction_in direction = if int_eq direction (negsuc 0) then Down else Up
 
 -- the command of a decision is handed out; or there is no decision, and nothing is written
-abbrev pub IsTextTold : Option DecisionValue → Direction → List ℕ → List ℕ → ℕ → ℕ → Type 0
-IsTextTold None direction old new len status = (status ≡ 504) × (new ≡ old)
-IsTextTold (Some d) direction old new len status = HandsOut (command_of direction d) old new len status
+abbrev pub IsTextTold : Option DecisionValue → Direction → List ℕ → List ℕ → ℕ → ℕ → ℕ → Type 0
+IsTextTold None direction old new len len' status = (status ≡ 504) × (new ≡ old) × (len' ≡ len)
+IsTextTold (Some d) direction old new len len' status = HandsOut (command_of direction d) old new len' status
 
--- the decision that was read, or that the text is none's command
-abbrev pub IsDecisionRead : Option DecisionValue → DecisionRecord → ℕ → Type 0
-IsDecisionRead None r status = status ≡ 505
-IsDecisionRead (Some d) r status = (status ≡ 0) × IsDecisionAs r d
+-- the decision that was read; or the text is no command, and nothing is written
+abbrev pub IsDecisionRead : Option DecisionValue → DecisionRecord → DecisionRecord → ℕ → Type 0
+IsDecisionRead None r r' status = (status ≡ 505) × (r' ≡ r)
+IsDecisionRead (Some d) r r' status = (status ≡ 0) × IsDecisionAs r' d

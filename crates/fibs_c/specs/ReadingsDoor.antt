@@ -14,6 +14,6 @@ field_in (text_line text) number = None
 field_in (malformed_line n k f) number = None
 
 -- the field is told; or there is none, and nothing is written
-abbrev pub IsFieldTold : Option FieldValue → FieldRecord → List ℕ → List ℕ → ℕ → Type 0
-IsFieldTold None field old new status = (status ≡ 506) × (new ≡ old)
-IsFieldTold (Some v) field old new status = IsToldField (told_field v) field old new status
+abbrev pub IsFieldTold : Option FieldValue → FieldRecord → FieldRecord → List ℕ → List ℕ → ℕ → Type 0
+IsFieldTold None field field' old new status = (status ≡ 506) × (new ≡ old) × (field' ≡ field)
+IsFieldTold (Some v) field field' old new status = IsToldField (told_field v) field' old new status

@@ -15,7 +15,7 @@ use fibs_records::text::hand_out;
 #[unsafe(no_mangle)]
 pub extern "C" fn fibs_read_board(line: &[u8], board: &mut BoardRecord) -> LineKind
     ensures kind { result ≡ told_kind (reading_value line.now) }
-    ensures board { IsToldBoard (reading_value line.now) board.new }
+    ensures board { IsToldBoard (reading_value line.now) board.old board.new }
 {
     let reading = read(line);
     if let Reading::Board(found) = &reading {
@@ -27,7 +27,7 @@ pub extern "C" fn fibs_read_board(line: &[u8], board: &mut BoardRecord) -> LineK
 /// The one line that says the board of a line, without a line end: at most 329 bytes.
 #[unsafe(no_mangle)]
 pub extern "C" fn fibs_print_board(line: &[u8], text: &mut [u8], len: &mut usize) -> u32
-    ensures { IsPrintedBoard line.now text.old text.new len.new result }
+    ensures { IsPrintedBoard line.now text.old text.new len.old len.new result }
 {
     match Board::read(line) {
         Err(wrong) => field_fault_status(wrong.fault),

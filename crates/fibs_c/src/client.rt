@@ -1,13 +1,13 @@
 //! The client.
 
-ghost use Rattle.std.specs.Prelude.{◌≡◌, None};
+ghost use Rattle.std.specs.Prelude.{◌≡◌, ◌≢◌, None};
 ghost use Rattle.fibs_commands.specs.PlainReading.{read_plain};
 ghost use Rattle.fibs_session.specs.Calls.SessionOf.{handed, refusal_in};
 ghost use Rattle.fibs_session.specs.History.Machine.{wire_of};
 ghost use Rattle.fibs_c.specs.ClientDoor.{IsNewClient, IsOpened, IsDecided, IsPlainSent, IsLost, IsShown, IsWaiting};
 ghost use Rattle.fibs_records.specs.Decisions.{decision_in};
 ghost use Rattle.fibs_records.specs.Statuses.{refusal_status, plain_status};
-ghost use Rattle.fibs_records.specs.Wires.{wire_in};
+ghost use Rattle.fibs_records.specs.Wires.{Holds, IsEmptied};
 
 use fibs_commands::read_plain;
 use fibs_records::ClientHandle;
@@ -58,7 +58,8 @@ pub extern "C" fn fibs_client_free(alloc: Global, client: &mut ClientHandle)
 
 /// Hands out a command, or says why there is none.
 fn hand_out_command(wire: &mut Wire, answer: &Result<CommandText, Refusal>) -> u32
-    ensures wire { wire_in wire.new ≡ wire_of (handed answer.now) }
+    ensures wire { Holds wire.new (wire_of (handed answer.now)) }
+    ensures refused { result ≢ 0 → IsEmptied wire.old wire.new }
     ensures status { result ≡ refusal_status (refusal_in answer.now) }
 {
     match answer {
@@ -75,7 +76,8 @@ fn hand_out_command(wire: &mut Wire, answer: &Result<CommandText, Refusal>) -> u
 
 /// The same of a plain command.
 fn hand_out_plain(wire: &mut Wire, answer: &Result<CommandText, PlainRefusal>) -> u32
-    ensures wire { wire_in wire.new ≡ wire_of (handed answer.now) }
+    ensures wire { Holds wire.new (wire_of (handed answer.now)) }
+    ensures refused { result ≢ 0 → IsEmptied wire.old wire.new }
     ensures status { result ≡ plain_status (refusal_in answer.now) }
 {
     match answer {
@@ -93,7 +95,7 @@ fn hand_out_plain(wire: &mut Wire, answer: &Result<CommandText, PlainRefusal>) -
 /// Opens a connection, and hands out the login command.
 #[unsafe(no_mangle)]
 pub extern "C" fn fibs_client_open(alloc: Global, client: &mut ClientHandle, wire: &mut Wire) -> u32
-    ensures { IsOpened client.old.value client.new.value (wire_in wire.new) result }
+    ensures { IsOpened client.old.value client.new.value wire.old wire.new result }
 {
     clear(wire);
     match client.take(alloc) {
@@ -114,7 +116,7 @@ pub extern "C" fn fibs_client_decide(
     decision: &DecisionRecord,
     wire: &mut Wire,
 ) -> u32
-    ensures { IsDecided (decision_in decision.now) client.old.value client.new.value (wire_in wire.new) result }
+    ensures { IsDecided (decision_in decision.now) client.old.value client.new.value wire.old wire.new result }
 {
     clear(wire);
     let Some(decision) = decision_of(decision) else {
@@ -138,7 +140,7 @@ pub extern "C" fn fibs_client_plain(
     text: &[u8],
     wire: &mut Wire,
 ) -> u32
-    ensures { IsPlainSent (read_plain text.now) client.old.value client.new.value (wire_in wire.new) result }
+    ensures { IsPlainSent (read_plain text.now) client.old.value client.new.value wire.old wire.new result }
 {
     clear(wire);
     let Some(plain) = read_plain(text) else {
@@ -162,7 +164,7 @@ pub extern "C" fn fibs_client_lose(
     client: &mut ClientHandle,
     waited: &mut OutstandingRecord,
 ) -> u32
-    ensures { IsLost client.old.value client.new.value waited.new result }
+    ensures { IsLost client.old.value client.new.value waited.old waited.new result }
 {
     match client.take(alloc) {
         None => NO_HANDLE,
@@ -182,7 +184,7 @@ pub extern "C" fn fibs_client_shown(
     client: &mut ClientHandle,
     board: &mut BoardRecord,
 ) -> u32
-    ensures { IsShown client.old.value client.new.value board.new result }
+    ensures { IsShown client.old.value client.new.value board.old board.new result }
 {
     match client.take(alloc) {
         None => NO_HANDLE,
@@ -207,7 +209,7 @@ pub extern "C" fn fibs_client_waiting(
     client: &mut ClientHandle,
     waiting: &mut OutstandingRecord,
 ) -> u32
-    ensures { IsWaiting client.old.value client.new.value waiting.new result }
+    ensures { IsWaiting client.old.value client.new.value waiting.old waiting.new result }
 {
     match client.take(alloc) {
         None => NO_HANDLE,

@@ -84,7 +84,7 @@ pub extern "C" fn fibs_directory_len(
     directory: &mut DirectoryHandle,
     len: &mut usize,
 ) -> u32
-    ensures { IsCounted directory.old.value directory.new.value len.new result }
+    ensures { IsCounted directory.old.value directory.new.value len.old len.new result }
 {
     match directory.take(alloc) {
         None => NO_HANDLE,
@@ -139,8 +139,8 @@ fn put_player_field(
     field: &mut FieldRecord,
     text: &mut [u8],
 ) -> u32
-    ensures { IsPlayerField (option_map (λ p. player_value p.now) player.entry) number field.new text.old text.new
-        result }
+    ensures { IsPlayerField (option_map (λ p. player_value p.now) player.entry) number field.old field.new text.old
+        text.new result }
 {
     match player {
         None => NO_PLAYER,
@@ -162,7 +162,8 @@ pub extern "C" fn fibs_directory_field(
     field: &mut FieldRecord,
     text: &mut [u8],
 ) -> u32
-    ensures { IsPlayerAt directory.old.value directory.new.value place number field.new text.old text.new result }
+    ensures { IsPlayerAt directory.old.value directory.new.value place number field.old field.new text.old text.new
+        result }
 {
     match directory.take(alloc) {
         None => NO_HANDLE,
@@ -184,7 +185,8 @@ pub extern "C" fn fibs_directory_field_of(
     field: &mut FieldRecord,
     text: &mut [u8],
 ) -> u32
-    ensures { IsPlayerOf directory.old.value directory.new.value name.now number field.new text.old text.new result }
+    ensures { IsPlayerOf directory.old.value directory.new.value name.now number field.old field.new text.old text.new
+        result }
 {
     match directory.take(alloc) {
         None => NO_HANDLE,

@@ -4,7 +4,7 @@ ghost use Rattle.std.specs.Prelude.{◌≡◌, ◌≤◌, length, option_map};
 ghost use Rattle.fibs_lines.specs.Lines.{kept_limit};
 ghost use Rattle.fibs_session.specs.Calls.SessionOf.{ask_of, taken_of};
 ghost use Rattle.fibs_session.specs.History.Machine.{wire_of};
-ghost use Rattle.fibs_records.specs.Wires.{wire_in};
+ghost use Rattle.fibs_records.specs.Wires.{Holds};
 ghost use Rattle.fibs_position.specs.DecisionValue.{decision_of as value_of};
 ghost use Rattle.fibs_records.specs.Decisions.{IsMaybeDecision};
 ghost use Rattle.fibs_c.specs.FeedDoor.{IsFed, Feeds, TellsLine, decision_of_ask};
@@ -69,8 +69,8 @@ fn maybe_record(decision: &Option<Decision>) -> DecisionRecord
 fn tell(used: usize, taken: Taken<'_>, text: &mut [u8], wire: &mut Wire) -> Heard
     requires { kept_limit ≤ length text.old }
     ensures used { result.used ≡ used }
-    ensures sends { wire_in wire.new ≡ wire_of (taken_of taken.entry).send }
-    ensures tells { TellsLine (taken_of taken.entry) result text.new }
+    ensures sends { Holds wire.new (wire_of (taken_of taken.entry).send) }
+    ensures tells { TellsLine (taken_of taken.entry) result text.old text.new }
 {
     let Taken {
         line,
@@ -95,7 +95,7 @@ fn tell(used: usize, taken: Taken<'_>, text: &mut [u8], wire: &mut Wire) -> Hear
 /// Hears a piece up to and with the next line end, and copies the line.
 fn hear(client: &mut Client, piece: &[u8], text: &mut [u8], wire: &mut Wire) -> Heard
     requires { kept_limit ≤ length text.old }
-    ensures { Feeds client.old client.new piece.now result text.new wire.new }
+    ensures { Feeds client.old client.new piece.now result text.old text.new wire.new }
 {
     let heard = client.read(piece);
     let Got { used, taken } = client.got(heard);
@@ -128,7 +128,8 @@ pub extern "C" fn fibs_client_feed(
     heard: &mut Heard,
     wire: &mut Wire,
 ) -> u32
-    ensures { IsFed client.old.value client.new.value piece.now (length text.old) heard.new text.new wire.new result }
+    ensures { IsFed client.old.value client.new.value piece.now heard.old heard.new text.old text.new wire.old wire.new
+        result }
 {
     if text.len() < LIMIT {
         clear(wire);

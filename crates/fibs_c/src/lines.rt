@@ -2,7 +2,7 @@
 
 ghost use Rattle.std.specs.Prelude.{◌≡◌, ◌≤◌, None, length};
 ghost use Rattle.fibs_lines.specs.Lines.{kept_limit};
-ghost use Rattle.fibs_c.specs.LinesDoor.{FeedsLine, IsFed, IsNewLines, IsReset, IsHeld};
+ghost use Rattle.fibs_c.specs.LinesDoor.{FeedsLine, WritesLine, IsFed, IsNewLines, IsReset, IsHeld};
 
 use fibs_lines::{LIMIT, Lines, laws};
 use fibs_records::LinesHandle;
@@ -63,7 +63,7 @@ pub extern "C" fn fibs_lines_free(alloc: Global, lines: &mut LinesHandle)
 pub(crate) fn feed(lines: &mut Lines, piece: &[u8], text: &mut [u8]) -> FedLine
     requires { kept_limit ≤ length text.old }
     ensures told { FeedsLine lines.old lines.new piece.now result text.new }
-    ensures within { result.len ≤ kept_limit }
+    ensures writes { WritesLine result text.old text.new }
 {
     laws::lines_fit();
     laws::limit_is_that_of_the_definitions();
@@ -94,7 +94,7 @@ pub extern "C" fn fibs_lines_feed(
     text: &mut [u8],
     fed: &mut FedLine,
 ) -> u32
-    ensures { IsFed lines.old.value lines.new.value piece.now (length text.old) fed.new text.new result }
+    ensures { IsFed lines.old.value lines.new.value piece.now fed.old fed.new text.old text.new result }
 {
     if text.len() < LIMIT {
         return SHORT;
@@ -127,7 +127,7 @@ pub extern "C" fn fibs_lines_reset(alloc: Global, lines: &mut LinesHandle) -> u3
 /// How many bytes stand after the last line end, at most as many as are kept of a line.
 #[unsafe(no_mangle)]
 pub extern "C" fn fibs_lines_held(alloc: Global, lines: &mut LinesHandle, len: &mut usize) -> u32
-    ensures { IsHeld lines.old.value lines.new.value len.new result }
+    ensures { IsHeld lines.old.value lines.new.value len.old len.new result }
 {
     match lines.take(alloc) {
         None => NO_HANDLE,

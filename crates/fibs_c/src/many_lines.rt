@@ -1,6 +1,7 @@
 //! Many lines of a stream in one call.
 
-ghost use Rattle.std.specs.Prelude.{◌≡◌, ◌<◌, ◌≤◌, true, false, length};
+ghost use Rattle.std.specs.Prelude.{◌≡◌, ◌<◌, ◌≤◌, ℕ, List, true, false, length};
+ghost use Rattle.fibs_lines.specs.Lines.{kept_limit};
 ghost use Rattle.fibs_lines.specs.LinesValue.{LinesValue};
 ghost use Rattle.fibs_session.specs.History.Hearing.{line_reading};
 ghost use Rattle.fibs_c.specs.ManyLines.{AreLinesRead, ReadsLines};
@@ -90,9 +91,9 @@ fn read_next(
 ) -> Told
     requires { HasMore piece.now rows.old text.old told }
     ensures progress { told.used < result.used }
-    ensures reads { (old : LinesValue)
-        → ReadSoFar old lines.old piece.now told.used told.lines told.bytes rows.old text.old
-        → ReadSoFar old lines.new piece.now result.used result.lines result.bytes rows.new text.new }
+    ensures reads { (old : LinesValue) (rows₀ : List ToldLine) (text₀ : List ℕ)
+        → ReadSoFar old lines.old piece.now told.used told.lines told.bytes rows₀ rows.old text₀ text.old
+        → ReadSoFar old lines.new piece.now result.used result.lines result.bytes rows₀ rows.new text₀ text.new }
 {
     let fed = feed(lines, &piece[told.used..], &mut text[told.bytes..]);
     let used = told.used + fed.used;
@@ -115,7 +116,9 @@ fn read_next(
 /// Reads lines until the piece ends, the rows are full, or the room is too short for another one.
 #[tactic(auto, using(crate::proofs::ManyLinesLemmas::none_read))]
 fn read_all(lines: &mut Lines, piece: &[u8], text: &mut [u8], rows: &mut [ToldLine]) -> Told
-    ensures { ReadsLines lines.old lines.new piece.now result rows.new text.new }
+    requires room { kept_limit ≤ length text.old }
+    requires rows { 0 < length rows.old }
+    ensures { ReadsLines lines.old lines.new piece.now result rows.old rows.new text.old text.new }
 {
     let mut told = Told {
         used: 0,

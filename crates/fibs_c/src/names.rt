@@ -10,7 +10,7 @@ use fibs_records::text::hand_out;
 /// The name of a status, as the program prints it.
 #[unsafe(no_mangle)]
 pub extern "C" fn fibs_status_text(status: u32, text: &mut [u8], len: &mut usize) -> u32
-    ensures { IsNamed (status_name status) text.old text.new len.new result }
+    ensures { IsNamed (status_name status) text.old text.new len.old len.new result }
 {
     let name = status_name(status);
     if name.is_empty() {

@@ -59,7 +59,7 @@ pub extern "C" fn fibs_client_ordered(
     client: &mut ClientHandle,
     ordered: &mut u8,
 ) -> u32
-    ensures { IsOrderTold client.old.value client.new.value ordered.new result }
+    ensures { IsOrderTold client.old.value client.new.value ordered.old ordered.new result }
 {
     match client.take(alloc) {
         None => NO_HANDLE,

@@ -1,12 +1,12 @@
 //! Positions, and what the rules allow there.
 
-ghost use Rattle.std.specs.Prelude.{◌≡◌, ◌≤◌, IfOk, IfErr, length, map, take};
+ghost use Rattle.std.specs.Prelude.{◌≡◌, ◌≤◌, IfOk, IfErr, length, map, take, drop};
 ghost use Rattle.fibs_commands.specs.CommandReading.{read_command};
 ghost use Rattle.fibs_position.specs.PositionValue.{position_value};
 ghost use Rattle.fibs_rules.specs.PlayValue.{hops_of};
-ghost use Rattle.fibs_records.specs.Decisions.{decision_in};
+ghost use Rattle.fibs_records.specs.Decisions.{decision_in, as_move, move_in};
 ghost use Rattle.fibs_c.specs.PositionDoor.{IsPositionIn, IsNoPosition, IsPhaseTold, IsAllowedTold, phase_number};
-ghost use Rattle.fibs_c.specs.PositionDoor.{ArePlaysTold, HandsOutPlays, as_move, move_in, direction_in, IsTextTold};
+ghost use Rattle.fibs_c.specs.PositionDoor.{ArePlaysTold, HandsOutPlays, direction_in, IsTextTold};
 ghost use Rattle.fibs_c.specs.PositionDoor.{IsDecisionRead};
 
 use fibs_commands::{decision_text, read_command};
@@ -52,7 +52,7 @@ fn number_of(phase: Phase) -> u8
 /// rolls or doubles, 5 he moves, 6 he passes.
 #[unsafe(no_mangle)]
 pub extern "C" fn fibs_phase(line: &[u8], phase: &mut u8) -> u32
-    ensures { IsPhaseTold line.now phase.new result }
+    ensures { IsPhaseTold line.now phase.old phase.new result }
 {
     match position_in(line) {
         Err(status) => status,
@@ -83,7 +83,8 @@ pub extern "C" fn fibs_allows(line: &[u8], decision: &DecisionRecord) -> u32
 /// Writes the plays at the start of a room.
 fn put_plays(plays: &[Play], room: &mut [DecisionRecord])
     requires { length plays.now ≤ length room.old }
-    ensures { map move_in (take (length plays.now) room.new) ≡ map as_move (map hops_of plays.now) }
+    ensures plays { map move_in (take (length plays.now) room.new) ≡ map as_move (map hops_of plays.now) }
+    ensures rest { drop (length plays.now) room.new ≡ drop (length plays.now) room.old }
 {
     for i in 0..plays.len() {
         room[i] = play_record(&plays[i]);
@@ -110,7 +111,7 @@ pub extern "C" fn fibs_plays(
     plays: &mut [DecisionRecord],
     count: &mut usize,
 ) -> u32
-    ensures { ArePlaysTold line.now plays.old plays.new count.new result }
+    ensures { ArePlaysTold line.now plays.old plays.new count.old count.new result }
 {
     match position_in(line) {
         Err(status) => status,
@@ -144,7 +145,7 @@ pub extern "C" fn fibs_decision_text(
     text: &mut [u8],
     len: &mut usize,
 ) -> u32
-    ensures { IsTextTold (decision_in decision.now) (direction_in direction) text.old text.new len.new result }
+    ensures { IsTextTold (decision_in decision.now) (direction_in direction) text.old text.new len.old len.new result }
 {
     match decision_of(decision) {
         None => NO_DECISION,
@@ -162,7 +163,7 @@ pub extern "C" fn fibs_read_decision(
     direction: i32,
     decision: &mut DecisionRecord,
 ) -> u32
-    ensures { IsDecisionRead (read_command (direction_in direction) text.now) decision.new result }
+    ensures { IsDecisionRead (read_command (direction_in direction) text.now) decision.old decision.new result }
 {
     match read_command(text, direction_in(direction)) {
         None => NO_COMMAND,

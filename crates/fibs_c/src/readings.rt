@@ -37,7 +37,7 @@ pub extern "C" fn fibs_read_field(
     field: &mut FieldRecord,
     text: &mut [u8],
 ) -> u32
-    ensures { IsFieldTold (field_in (reading_value line.now) number) field.new text.old text.new result }
+    ensures { IsFieldTold (field_in (reading_value line.now) number) field.old field.new text.old text.new result }
 {
     match field_in(&read(line), number) {
         None => NO_FIELD,

@@ -2,7 +2,7 @@
 use Rattle.std.specs.Prelude.{◌≡◌, Option, None, Some}
 use Rattle.fibs_session.specs.History.Words.{Ask}
 use Rattle.fibs_records.specs.BoardOf.{IsBoardAs}
-use Rattle.fibs_records.specs.Decisions.{IsDecisionAs}
+use Rattle.fibs_records.specs.Decisions.{IsDecisionAs, IsKind}
 use Rattle.fibs_records.specs.declared.outstanding.OutstandingRecord.{OutstandingRecord}
 
 -- a decision with its board is told
@@ -10,7 +10,7 @@ pub record IsAskAs (out : OutstandingRecord) (a : Ask) : Type 0 where
   pub board : IsBoardAs out.board a.0
   pub decision : IsDecisionAs out.decision a.1
 
--- this one, or none
-abbrev pub IsMaybeAsk : OutstandingRecord → Option Ask → Type 0
-IsMaybeAsk out None = out.decision.kind ≡ 0
-IsMaybeAsk out (Some a) = IsAskAs out a
+-- this one, or none, and then no board is written
+abbrev pub IsMaybeAsk : OutstandingRecord → OutstandingRecord → Option Ask → Type 0
+IsMaybeAsk old new None = IsKind new.decision 0 × (new.board ≡ old.board)
+IsMaybeAsk old new (Some a) = IsAskAs new a

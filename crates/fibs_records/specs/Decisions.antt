@@ -1,6 +1,6 @@
 -- Decisions as C has them.
-use Rattle.std.specs.Prelude.{◌≡◌, ℕ, Bool, ◌&&◌, List, take, map, cond, Option, None, Some, option_map, nat_eq, nat_le}
-use Rattle.std.specs.Prelude.{if◌then◌else◌}
+use Rattle.std.specs.Prelude.{◌≡◌, ℕ, ◌≤◌, Bool, ◌&&◌, List, length, take, map, cond, Option, None, Some, option_map, nat_eq, nat_le}
+use Rattle.std.specs.Prelude.{true, if◌then◌else◌}
 use Rattle.std.specs.List.{list_all}
 use Rattle.fibs_position.specs.DecisionValue.{DecisionValue, roll, double, accept, reject, move, resign}
 use Rattle.fibs_position.specs.declared.stake.Stake.{Stake}
@@ -41,16 +41,34 @@ resigning Normal = 6
 resigning Gammon = 7
 resigning Backgammon = 8
 
+-- a kind that has no steps is told
+abbrev pub IsKind : DecisionRecord → ℕ → Type 0
+IsKind r kind = (r.kind ≡ kind) × (r.count ≡ 0)
+
+-- a move is told, with its steps, at most four
+pub record IsMove (r : DecisionRecord) (steps : List Hop) : Type 0 where
+  pub kind : r.kind ≡ 5
+  pub few : r.count ≤ 4
+  pub count : r.count ≡ length steps
+  pub hops : hops_in r ≡ steps
+
+-- all that is told of a move, and what is told of these steps
+abbrev pub move_in : DecisionRecord → ℕ × ℕ × Bool × List Hop
+move_in r = (r.kind, r.count, nat_le r.count 4, hops_in r)
+
+abbrev pub as_move : List Hop → ℕ × ℕ × Bool × List Hop
+as_move steps = (5, length steps, true, steps)
+
 -- this decision is told
 abbrev pub IsDecisionAs : DecisionRecord → DecisionValue → Type 0
-IsDecisionAs r roll = r.kind ≡ 1
-IsDecisionAs r double = r.kind ≡ 2
-IsDecisionAs r accept = r.kind ≡ 3
-IsDecisionAs r reject = r.kind ≡ 4
-IsDecisionAs r (move steps) = (r.kind ≡ 5) × (hops_in r ≡ steps)
-IsDecisionAs r (resign stake) = r.kind ≡ resigning stake
+IsDecisionAs r roll = IsKind r 1
+IsDecisionAs r double = IsKind r 2
+IsDecisionAs r accept = IsKind r 3
+IsDecisionAs r reject = IsKind r 4
+IsDecisionAs r (move steps) = IsMove r steps
+IsDecisionAs r (resign stake) = IsKind r (resigning stake)
 
 -- this one, or none
 abbrev pub IsMaybeDecision : DecisionRecord → Option DecisionValue → Type 0
-IsMaybeDecision r None = r.kind ≡ 0
+IsMaybeDecision r None = IsKind r 0
 IsMaybeDecision r (Some d) = IsDecisionAs r d

@@ -1,11 +1,11 @@
 //! Boards as C has them.
 
-ghost use Rattle.std.specs.Prelude.{◌≡◌, ◌+◌, ◌<◌, ℕ, pos, true, take, slice_index_or};
+ghost use Rattle.std.specs.Prelude.{◌≡◌, ◌+◌, ◌<◌, ℕ, pos, true, slice_index_or};
 ghost use Rattle.fibs_boards.specs.Board.{field_of};
 ghost use Rattle.fibs_boards.specs.StoredBoard.{fields_of};
 ghost use Rattle.fibs_fields.specs.Bytes.{name_bytes};
 ghost use Rattle.fibs_fields.specs.Name.{is_name};
-ghost use Rattle.fibs_records.specs.BoardOf.{IsBoardAs};
+ghost use Rattle.fibs_records.specs.BoardOf.{IsBoardAs, IsNameAs};
 
 use crate::text::put;
 use fibs_messages::{Board, Name};
@@ -26,7 +26,7 @@ pub struct BoardRecord {
 /// Writes a name, and says how many bytes it has.
 fn put_name(room: &mut [u8; 64], name: &Name<'_>) -> usize
     requires { is_name (name_bytes name.now) ≡ true }
-    ensures { take result room.new ≡ name_bytes name.now }
+    ensures { IsNameAs result room.new (name_bytes name.now) }
 {
     put(room, name.bytes())
 }

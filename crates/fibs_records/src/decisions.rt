@@ -5,7 +5,7 @@ ghost use Rattle.std.specs.List.{list_all};
 ghost use Rattle.fibs_position.specs.DecisionValue.{decision_of as value_of};
 ghost use Rattle.fibs_rules.specs.Hop.{hop_of};
 ghost use Rattle.fibs_rules.specs.PlayValue.{hops_of};
-ghost use Rattle.fibs_records.specs.Decisions.{hop_in, is_step, play_in, decision_in, hops_in, IsDecisionAs, resigning};
+ghost use Rattle.fibs_records.specs.Decisions.{hop_in, is_step, play_in, decision_in, move_in, as_move, IsKind, IsMove, IsDecisionAs, resigning};
 
 use fibs_position::{Decision, Play, Stake, Step};
 
@@ -102,7 +102,7 @@ fn step_record(step: &Step) -> PlayStep
 
 /// The decision of a kind that has no steps; 0 is none.
 pub fn of_kind(kind: u8) -> DecisionRecord
-    ensures { result.kind ≡ kind }
+    ensures { IsKind result kind }
 {
     let nowhere = PlayStep {
         source: 0,
@@ -117,8 +117,8 @@ pub fn of_kind(kind: u8) -> DecisionRecord
 
 /// A play as C has it.
 pub fn play_record(play: &Play) -> DecisionRecord
-    ensures kind { result.kind ≡ 5 }
-    ensures steps { hops_in result ≡ hops_of play.now }
+    ensures play { IsMove result (hops_of play.now) }
+    ensures told { move_in result ≡ as_move (hops_of play.now) }
 {
     let steps = play.steps();
     let mut told = of_kind(5);

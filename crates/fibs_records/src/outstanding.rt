@@ -27,7 +27,7 @@ pub fn put_outstanding(out: &mut OutstandingRecord, told: &Outstanding)
 
 /// Tells a decision with its board, or that there is none.
 pub fn put_maybe(out: &mut OutstandingRecord, told: &Option<Outstanding>)
-    ensures { IsMaybeAsk out.new (option_map ask_of told.now) }
+    ensures { IsMaybeAsk out.old out.new (option_map ask_of told.now) }
 {
     match told {
         None => out.decision = of_kind(0),

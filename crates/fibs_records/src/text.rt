@@ -1,6 +1,6 @@
 //! Bytes that are handed out, and flags.
 
-ghost use Rattle.std.specs.Prelude.{◌≡◌, ◌≤◌, length, take};
+ghost use Rattle.std.specs.Prelude.{◌≡◌, ◌≤◌, length, take, drop};
 ghost use Rattle.fibs_records.specs.Texts.{HandsOut, flag_of};
 
 use crate::status::{DONE, SHORT};
@@ -10,6 +10,7 @@ pub fn put(room: &mut [u8], bytes: &[u8]) -> usize
     requires { length bytes.now ≤ length room.old }
     ensures size { result ≡ length bytes.now }
     ensures bytes { take result room.new ≡ bytes.now }
+    ensures rest { drop result room.new ≡ drop result room.old }
     ensures length { length room.new ≡ length room.old }
 {
     let n = bytes.len();

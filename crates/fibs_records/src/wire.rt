@@ -4,7 +4,7 @@ ghost use Rattle.std.specs.Prelude.{◌≡◌, ◌+◌, ◌≤◌, ◌++◌, [],
 ghost use Rattle.fibs_commands.specs.TextOf.{text_of};
 ghost use Rattle.fibs_session.specs.Calls.SessionOf.{texts_of};
 ghost use Rattle.fibs_session.specs.History.Machine.{on_wire, wire_of};
-ghost use Rattle.fibs_records.specs.Wires.{wire_in};
+ghost use Rattle.fibs_records.specs.Wires.{wire_in, Holds, IsEmptied};
 
 use crate::text::put;
 use arrayvec::ArrayString;
@@ -22,8 +22,7 @@ pub struct Wire {
 
 /// Makes it hold nothing.
 pub fn clear(wire: &mut Wire)
-    ensures nothing { wire_in wire.new ≡ [] }
-    ensures len { wire.new.len ≡ 0 }
+    ensures { IsEmptied wire.old wire.new }
 {
     wire.len = 0;
 }
@@ -44,6 +43,7 @@ fn append_command<const N: usize>(wire: &mut Wire, command: &ArrayString<N>)
     requires room { wire.old.len + 514 ≤ 1542 }
     requires short { N ≤ 512 }
     ensures appended { wire_in wire.new ≡ wire_in wire.old ++ on_wire (text_of command.now) }
+    ensures len { wire.new.len ≡ wire.old.len + length (on_wire (text_of command.now)) }
     ensures short { wire.new.len ≤ wire.old.len + 514 }
 {
     append(wire, command.as_bytes());
@@ -53,7 +53,7 @@ fn append_command<const N: usize>(wire: &mut Wire, command: &ArrayString<N>)
 /// Makes it hold these commands.
 pub fn put_commands(wire: &mut Wire, commands: &[AnswerText])
     requires { length commands.now ≤ 3 }
-    ensures { wire_in wire.new ≡ wire_of (texts_of commands.now) }
+    ensures { Holds wire.new (wire_of (texts_of commands.now)) }
 {
     clear(wire);
     for command in commands {
@@ -63,7 +63,7 @@ pub fn put_commands(wire: &mut Wire, commands: &[AnswerText])
 
 /// Makes it hold this command.
 pub fn put_command(wire: &mut Wire, command: &CommandText)
-    ensures { wire_in wire.new ≡ wire_of (text_of command.now ∷ []) }
+    ensures { Holds wire.new (wire_of (text_of command.now ∷ [])) }
 {
     clear(wire);
     append_command(wire, command);

@@ -12,6 +12,7 @@ returns-in-Err c = inl (
     status_is = c.field_fault_status.ensures;
   },
   refl,
+  refl,
 )
 
 pub returns-in-Ok : goal.returns-in-Ok
