@@ -3,15 +3,16 @@
 lines a call, each in the same run; each counts the boards, messages, texts, cut and malformed lines, and they have to agree.
 """
 
+import ctypes
 import pathlib
 import sys
 import time
 from collections import Counter
 
-ROOT = pathlib.Path(__file__).resolve().parent.parent
-sys.path.insert(0, str(ROOT / 'examples'))
+sys.path.insert(0, str(pathlib.Path(__file__).resolve().parent.parent / 'tests'))
 
-import fibs  # noqa: E402
+from package import fibs  # noqa: E402
+from fibs import _library  # noqa: E402
 
 NAMES = {fibs.BOARD: 'board', fibs.MESSAGE: 'message', fibs.MALFORMED: 'malformed'}
 
@@ -49,44 +50,36 @@ def plain(data):
 def single(data):
     """One call that cuts a line, and one that reads it."""
     counts = Counter()
-    handle, fed = fibs._Handle(), _Fed()
-    room = fibs.ctypes.create_string_buffer(fibs.LIMIT)
-    fibs._check(fibs._lib.fibs_lines_new(fibs.byref(handle)))
-    start, size, at = fibs.ctypes.cast(data, fibs.c_void_p).value, len(data), 0
+    lib, fed, lines = _library.lib, _library.Fed(), _library.Owned('fibs_lines_new', 'fibs_lines_free')
+    room = ctypes.create_string_buffer(fibs.MAX_LINE)
+    start, size, at = _library.address_of(data), len(data), 0
     while at < size:
-        fibs._lib.fibs_lines_feed(fibs.byref(handle), start + at, size - at, room, fibs.LIMIT, fibs.byref(fed))
+        lib.fibs_lines_feed(lines.at, start + at, size - at, room, fibs.MAX_LINE, ctypes.byref(fed))
         at += fed.used
         if fed.ended:
-            kind = fibs._lib.fibs_read(room, fed.len).kind
+            kind = lib.fibs_read(room, fed.len).kind
             counts['cut' if fed.cut else NAMES.get(kind, 'text')] += 1
-    fibs._lib.fibs_lines_free(fibs.byref(handle))
     return counts
-
-
-class _Fed(fibs.Structure):
-    _fields_ = [('used', fibs.c_size_t), ('len', fibs.c_size_t), ('ended', fibs.c_uint8), ('cut', fibs.c_uint8)]
 
 
 def many(data):
     """The iterator of the module: each line as a tuple, with its bytes."""
     counts = Counter()
-    for line in fibs.lines(data):
+    for line in fibs.Lines(data):
         counts['cut' if line.cut else NAMES.get(line.kind, 'text')] += 1
     return counts
 
 
 def counted(data):
     """The counts alone."""
-    with fibs.Reader() as reader:
-        texts, messages, boards, malformed, cut = reader.count(data)
+    with fibs.Lines() as lines:
+        texts, messages, boards, malformed, cut = lines.count(data)
     return Counter({name: n for name, n in (('text', texts - cut), ('message', messages), ('board', boards),
                                             ('malformed', malformed), ('cut', cut)) if n})
 
 
 def main():
     data = open(sys.argv[1], 'rb').read()
-    fibs._lib.fibs_lines_feed.restype = fibs.c_uint32
-    fibs._lib.fibs_lines_feed.argtypes = [fibs._HANDLE, *fibs._PIECE, *fibs._ROOM, fibs.POINTER(_Fed)]
     counts = None
     for name, read in (('plain Python', plain), ('one call a line', single), ('many lines a call', many),
                        ('counts alone', counted)):

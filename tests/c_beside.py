@@ -1,16 +1,11 @@
 """The library for C beside the reference: what it says of lines, and what a script makes a client hand out.
 
 `show` prints what the library says of lines as `fibs show` prints it. `Beside` is the reference's client, which also gives
-all that comes to it to a client of the library (examples/fibs.py), and holds what that answers to its own.
+all that comes to it to a client of the library (the package for Python), and holds what that answers to its own.
 """
 
-import pathlib
-import sys
-
-sys.path.insert(0, str(pathlib.Path(__file__).resolve().parent.parent / 'examples'))
-
-import fibs  # noqa: E402
-import reference  # noqa: E402
+import reference
+from package import fibs
 
 KINDS = {b'roll': fibs.ROLL, b'double': fibs.DOUBLE, b'accept': fibs.ACCEPT, b'reject': fibs.REJECT,
          b'resign n': fibs.RESIGN_NORMAL, b'resign g': fibs.RESIGN_GAMMON, b'resign b': fibs.RESIGN_BACKGAMMON}
@@ -29,7 +24,7 @@ def answer(call, *words):
     """The bytes that a call hands out, or the name of its refusal."""
     try:
         return call(*words)
-    except fibs.Refused as why:
+    except fibs.Error as why:
         return why.name
 
 
@@ -64,12 +59,12 @@ class Beside(reference.Client):
             confirmed = [told.confirmed for told in heard if told.confirmed]
             same('confirmed', bool(waited and not self.waiting), bool(confirmed))
         same('waiting', self.waiting and self.told(*self.waiting), told_of(self.other.waiting))
-        same('shown', self.board and self.board.printed, self.other.shown and board_line(self.other.shown))
+        same('shown', self.board and self.board.printed, self.other.shown and self.other.shown.line)
 
     def click(self, decision):
         why = self.refusal(decision)
         wanted = self.sent(super().click, decision)
-        given = fibs.Decision(fibs.MOVE, decision) if isinstance(decision, tuple) else fibs.Decision(KINDS[decision])
+        given = fibs.Decision.move(decision) if isinstance(decision, tuple) else KINDS[decision]
         same('click', why or wanted, answer(self.other.decide, given))
 
     def order(self, ordered):
@@ -88,13 +83,8 @@ class Beside(reference.Client):
 
 def told_of(outstanding):
     """A decision with its board, as the reference tells it."""
-    return outstanding and (board_line(outstanding.board),
-                            outstanding.decision.command(outstanding.board.field(43)).encode())
-
-
-def board_line(board):
-    """The line of a board's record."""
-    return b':'.join([b'board', board.player, board.opponent, *(b'%d' % number for number in board.numbers)])
+    return outstanding and (outstanding.board.line,
+                            outstanding.decision.command(outstanding.board.direction).encode())
 
 
 def replay(script):
@@ -121,7 +111,7 @@ def printed(line):
     if line.kind == fibs.BOARD:
         return fibs.print_board(line.text)
     if line.kind == fibs.MALFORMED:
-        return b'malformed %d %d %s' % (line.number, line.field, fibs.FAULTS[line.fault].encode())
+        return b'malformed %d %d %s' % (line.number, line.field, str(line.fault).encode())
     if line.kind == fibs.TEXT:
         return b'text ' + reference.escaped(line.text)
     kinds = reference.MESSAGES[line.number]
@@ -141,7 +131,7 @@ def text_of(kind, value):
 def show(data):
     """What `fibs show` prints of the bytes, by the library alone; they are read in uneven pieces."""
     out = []
-    with fibs.Reader(rows=5, room=3 * fibs.LIMIT) as reader:
+    with fibs.Lines(rows=5, room=3 * fibs.MAX_LINE) as reader:
         for at in range(0, len(data), 777):
             out += map(printed, reader.feed(data[at:at + 777]))
         if reader.held:

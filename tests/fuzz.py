@@ -19,7 +19,7 @@ import reference
 
 try:
     import c_beside
-except OSError:
+except ImportError:
     c_beside = None
 
 # ---- Values at and beside the limits of the document -----------------------------------------------------------------

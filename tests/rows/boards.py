@@ -15,12 +15,12 @@ def line_with(field, text):
 def wrong(line):
     """The first wrong field of a line that begins as a board, and what is wrong with it."""
     told = fibs.read(line)
-    return (told.kind, told.number, told.field, fibs.FAULTS[told.fault])
+    return (told.kind, told.number, told.field, str(told.fault))
 
 
 @test
 def reads_and_prints_a_real_line(check):
-    board = fibs.board(LINE)
+    board = fibs.Board(LINE)
     check(answer(fibs.print_board, LINE), LINE, 'printed')
     check(board.player, b'You', 'the player')
     check(board.opponent, b'someplayer', 'the opponent')
@@ -44,7 +44,7 @@ def reads_and_prints_a_real_line(check):
 
 @test
 def reads_what_the_fields_may_be(check):
-    check(fibs.board(LINE + b'  '), fibs.board(LINE), 'two spaces at the end')
+    check(fibs.Board(LINE + b'  '), fibs.Board(LINE), 'two spaces at the end')
     for field, text in [
         (2, b'a' * 64),
         (3, b'-'),
@@ -123,5 +123,5 @@ def names_what_is_absent_or_surplus(check):
         (b'board  ', 'Missing'),
     ]:
         check(answer(fibs.print_board, line), fault, line)
-        check(fibs.read(line), fibs.Line(line, fibs.TEXT, 0, 0, 0, False), '%r is text' % line)
-        check(list(fibs.lines(line + b'\n')), [fibs.Line(line, fibs.TEXT, 0, 0, 0, False)], '%r is text' % line)
+        check(fibs.read(line), fibs.Line(line, fibs.TEXT, 0, 0, None, False), '%r is text' % line)
+        check(list(fibs.Lines(line + b'\n')), [fibs.Line(line, fibs.TEXT, 0, 0, None, False)], '%r is text' % line)

@@ -3,10 +3,9 @@
 import pathlib
 import sys
 
-ROOT = pathlib.Path(__file__).resolve().parent.parent.parent
-sys.path.insert(0, str(ROOT / 'examples'))
+sys.path.insert(0, str(pathlib.Path(__file__).resolve().parent.parent))
 
-import fibs  # noqa: E402
+from package import ROOT, fibs  # noqa: E402, F401
 
 # Each test, in the order in which it stands.
 TESTS = []
@@ -45,5 +44,27 @@ def answer(call, *words):
     """What a call answers, or the name of the status by which it is refused."""
     try:
         return call(*words)
-    except fibs.Refused as why:
+    except fibs.Error as why:
         return why.name
+
+
+def allowed(board, decision):
+    """0 if a decision may be made on a board, or the status that says why not."""
+    try:
+        why = fibs.refusal(board, decision)
+    except fibs.Error as error:
+        why = error
+    return why.status if why else 0
+
+
+def phase_of(board):
+    """The phase of a board by its printed name, or the name of the status by which it is refused."""
+    return answer(lambda: str(fibs.phase(board)))
+
+
+def read_decision(text, direction=-1):
+    """The decision whose command a text is, or None."""
+    try:
+        return fibs.Decision.parse(text, direction)
+    except fibs.NoCommand:
+        return None

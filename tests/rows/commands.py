@@ -1,6 +1,6 @@
 """Commands by their printed texts, and all kinds of lines read as commands."""
 
-from checks import answer, fibs, test
+from checks import answer, fibs, read_decision, test
 
 DOWN, UP = -1, 1
 
@@ -150,17 +150,17 @@ def a_decimal_up_to_a_limit_is_read(check):
 
 
 def play(*steps):
-    return fibs.Decision(fibs.MOVE, steps)
+    return fibs.Decision.move(steps)
 
 
 WORDS = [
-    (fibs.Decision(fibs.ROLL), 'roll'),
-    (fibs.Decision(fibs.DOUBLE), 'double'),
-    (fibs.Decision(fibs.ACCEPT), 'accept'),
-    (fibs.Decision(fibs.REJECT), 'reject'),
-    (fibs.Decision(fibs.RESIGN_NORMAL), 'resign n'),
-    (fibs.Decision(fibs.RESIGN_GAMMON), 'resign g'),
-    (fibs.Decision(fibs.RESIGN_BACKGAMMON), 'resign b'),
+    (fibs.ROLL, 'roll'),
+    (fibs.DOUBLE, 'double'),
+    (fibs.ACCEPT, 'accept'),
+    (fibs.REJECT, 'reject'),
+    (fibs.RESIGN_NORMAL, 'resign n'),
+    (fibs.RESIGN_GAMMON, 'resign g'),
+    (fibs.RESIGN_BACKGAMMON, 'resign b'),
 ]
 
 
@@ -175,10 +175,10 @@ def commands_are_read_as_the_decisions_that_print_them(check):
         ([(18, 24)], DOWN, 'move 18-24'),
         ([(25, 0), (25, 0), (25, 0), (25, 0)], UP, 'move bar-off bar-off bar-off bar-off'),
     ]:
-        check(fibs.read_decision(text, direction), play(*steps), text)
+        check(read_decision(text, direction), play(*steps), text)
     for decision, text in WORDS:
-        check(fibs.read_decision(text, DOWN), decision, text)
-        check(fibs.read_decision(text, UP), decision, '%s, going up' % text)
+        check(read_decision(text, DOWN), decision, text)
+        check(read_decision(text, UP), decision, '%s, going up' % text)
         check(answer(decision.command, UP), text, text)
 
 
@@ -231,8 +231,8 @@ def every_other_line_is_no_decision(check):
         b'move 24-18 18-12 12-6 6-off 5-off',
         b'move 24-18,18-12',
     ]:
-        check(fibs.read_decision(line, DOWN), None, line)
-        check(fibs.read_decision(line, UP), None, '%r, going up' % line)
+        check(read_decision(line, DOWN), None, line)
+        check(read_decision(line, UP), None, '%r, going up' % line)
 
 
 def login(name, password):

@@ -1,14 +1,14 @@
 """Directories by lines of the server, and beside a plain list."""
 
-from ctypes import byref
-
 from checks import answer, fibs, test
 
 
 def at(directory, place):
     """The twelve values of the player at a place, or NoPlayer."""
-    handle = byref(directory._handle)
-    return answer(lambda: [fibs._field(fibs._lib.fibs_directory_field, handle, place, n) for n in range(1, 13)])
+    try:
+        return directory[place]
+    except IndexError:
+        return 'NoPlayer'
 
 
 def name_and_rating(player):

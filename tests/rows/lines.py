@@ -1,33 +1,22 @@
 """Lines: worked streams, and what is read of them."""
 
-from ctypes import POINTER, Structure, byref, c_char_p, c_size_t, c_uint8, c_uint32, c_void_p, create_string_buffer
+from ctypes import byref, create_string_buffer
 
 from checks import fibs, test
+from fibs import _library
 
 LIMIT = 16384
 
 
-class Fed(Structure):
-    _fields_ = [('used', c_size_t), ('len', c_size_t), ('ended', c_uint8), ('cut', c_uint8)]
-
-
-HANDLE = POINTER(c_void_p)
-FEED, RESET = fibs._lib.fibs_lines_feed, fibs._lib.fibs_lines_reset
-FEED.restype, FEED.argtypes = c_uint32, [HANDLE, c_char_p, c_size_t, c_char_p, c_size_t, POINTER(Fed)]
-RESET.restype, RESET.argtypes = c_uint32, [HANDLE]
-
-
-class Lines(fibs.Reader):
+class Lines(fibs.Lines):
     """A reader that is asked for one line a call."""
 
     def one(self, piece):
         """How many bytes of the piece were read, and the line that ended with them and whether it is cut, or None."""
-        text, fed = create_string_buffer(LIMIT), Fed()
-        fibs._check(FEED(byref(self._handle), piece, len(piece), text, LIMIT, byref(fed)))
+        text, fed = create_string_buffer(LIMIT), _library.Fed()
+        fibs.errors.check(_library.lib.fibs_lines_feed(self._lines.at, _library.address_of(piece), len(piece), text, LIMIT,
+                                                       byref(fed)))
         return fed.used, (text.raw[:fed.len], fed.cut == 1) if fed.ended else None
-
-    def reset(self):
-        fibs._check(RESET(byref(self._handle)))
 
 
 @test
@@ -70,7 +59,7 @@ SHORT = [
 def short_lines(check):
     for name, stream, read in SHORT:
         check(Lines().one(stream), (len(stream), (read, False)), name)
-        told = [(line.text, line.cut) for line in fibs.lines(stream)]
+        told = [(line.text, line.cut) for line in fibs.Lines(stream)]
         check(told, [(read, False)], '%s, among many' % name)
 
 
@@ -109,7 +98,7 @@ LONG = [
 
 @test
 def lines_about_the_limit(check):
-    check(fibs.LIMIT, LIMIT, 'the limit')
+    check(fibs.MAX_LINE, LIMIT, 'the limit')
     for name, stream, read, cut in LONG:
         lines = Lines()
         check(lines.one(stream[:1000]), (1000, None), '%s: its first bytes' % name)

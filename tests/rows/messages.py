@@ -4,14 +4,15 @@ import ctypes
 from ctypes import byref
 
 from checks import fibs, test
+from fibs import _library
 
 FLAG, NUMBER, RATING, KIND_OF_TEXT = 4, 5, 6, 7
 
 
 def spelling(line, place):
     """A field of a message as it is written behind what stands before it, or None where there is none."""
-    field, room = fibs._Field(), ctypes.create_string_buffer(512)
-    if fibs._lib.fibs_read_field(line, len(line), place, byref(field), room, len(room)) != fibs.DONE:
+    field, room = _library.Field(), ctypes.create_string_buffer(512)
+    if _library.lib.fibs_read_field(line, len(line), place, byref(field), room, len(room)) != _library.DONE:
         return None
     if field.kind in (FLAG, NUMBER):
         return b' %d' % field.number
@@ -121,7 +122,7 @@ WRONG = [
 def names_the_leftmost_wrong_field(check):
     for line, number, field, fault in WRONG:
         told = fibs.read(line)
-        found = (told.kind, told.number, told.field, fibs.FAULTS[told.fault])
+        found = (told.kind, told.number, told.field, str(told.fault))
         check(found, (fibs.MALFORMED, number, field, fault), line)
 
 
@@ -144,6 +145,6 @@ TEXTS = [
 def other_lines_are_text(check):
     """The line is text, all of it, also in a stream."""
     for line in TEXTS:
-        wanted = fibs.Line(line, fibs.TEXT, 0, 0, 0, False)
+        wanted = fibs.Line(line, fibs.TEXT, 0, 0, None, False)
         check(fibs.read(line), wanted, line)
-        check(list(fibs.lines(line + b'\n')), [wanted], line)
+        check(list(fibs.Lines(line + b'\n')), [wanted], line)

@@ -2,7 +2,7 @@
 
 from collections import namedtuple
 
-from checks import answer, fibs, test
+from checks import allowed, answer, phase_of, read_decision, test
 from positions import DONE, ILLEGAL_PLAY, NOT_YOURS, WRONG_KIND, listed, move_of, reference, steps_of
 
 # A turn: the player's checkers by place and count, and those of the other side, the rest of both being off; the dice
@@ -80,12 +80,12 @@ def plays_by_the_rules(check):
         phase = 'RollOrDouble' if turn.dice == (0, 0) else 'Move' if wanted else 'Passing'
         for side, down in SIDES:
             board = board_with(counts(turn.own), counts(turn.other), turn.dice, side, down)
-            check(answer(fibs.phase, board), phase, '%s: the phase' % turn.name)
+            check(phase_of(board), phase, '%s: the phase' % turn.name)
             check(answer(listed, board), wanted, '%s: the list' % turn.name)
             for play in wanted:
-                check(fibs.allows(board, move_of(play)), DONE, '%s: each is legal' % turn.name)
+                check(allowed(board, move_of(play)), DONE, '%s: each is legal' % turn.name)
             for play in turn.refused:
-                status = fibs.allows(board, move_of(steps_of(play)))
+                status = allowed(board, move_of(steps_of(play)))
                 check(status, REFUSED[phase], '%s: refused: %s' % (turn.name, play))
 
 
@@ -107,8 +107,8 @@ def a_play_has_four_steps(check):
     four = move_of([step] * 4)
     check(answer(four.command), 'move 24-18 24-18 24-18 24-18', 'there is room')
     check(answer(move_of([step] * 5).command), 'NoDecision', 'there are four')
-    check(fibs.read_decision('move 24-18 24-18 24-18 24-18'), four, 'four are read')
-    check(fibs.read_decision('move 24-18 24-18 24-18 24-18 24-18'), None, 'five are not')
+    check(read_decision('move 24-18 24-18 24-18 24-18'), four, 'four are read')
+    check(read_decision('move 24-18 24-18 24-18 24-18 24-18'), None, 'five are not')
 
 
 TWO_CHECKERS_BY_FOUR_ONES = (b'board:You:bob:5:0:0:0:0:0:0:1:0:0:0:1:0:0:0:0:0:0:0:0:0:0:0:0:0:0:0:-2:0:'
@@ -194,9 +194,9 @@ def finds_what_a_slow_program_finds(check):
             board, case = reference.Board(line), 'board %d aimed at %s' % (i, aim)
             legal = reference.legal_plays(board.position(), board.dice())
             can_move = legal != {()}
-            check(answer(fibs.phase, line), 'Move' if can_move else 'Passing', case)
+            check(phase_of(line), 'Move' if can_move else 'Passing', case)
             wanted = reference.greatest_plays(board.position(), board.dice()) if can_move else []
             check(answer(listed, line), wanted, case)
             for play in fronts([*legal, *in_order(board.position(), sorted(dice))]):
                 status = NOT_YOURS if not can_move else DONE if play in legal else ILLEGAL_PLAY
-                check(fibs.allows(line, move_of(play)), status, '%s: %s' % (case, play))
+                check(allowed(line, move_of(play)), status, '%s: %s' % (case, play))

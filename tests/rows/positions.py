@@ -3,7 +3,8 @@
 import sys
 from collections import namedtuple
 
-from checks import ROOT, answer, fibs, test
+from checks import ROOT, allowed, answer, fibs, phase_of, test
+from fibs import _library
 
 sys.path.insert(0, str(ROOT / 'tests'))
 
@@ -23,13 +24,13 @@ def steps_of(play):
 
 
 def move_of(play):
-    return fibs.Decision(fibs.MOVE, play)
+    return fibs.Decision.move(play)
 
 
 def decision_of(text):
     """The decision that is written so, a move in the player's own numbers."""
     if text in WORDS:
-        return fibs.Decision(WORDS[text])
+        return WORDS[text]
     return move_of(steps_of(text.removeprefix('move')))
 
 
@@ -139,13 +140,13 @@ ANSWERS = [
 def check_rows(check, rows):
     for row in rows:
         wanted = [steps_of(play) for play in row.plays]
-        check(answer(fibs.phase, row.board), row.phase, '%s: the phase' % row.name)
+        check(phase_of(row.board), row.phase, '%s: the phase' % row.name)
         check(answer(listed, row.board), wanted, '%s: the plays' % row.name)
         check(max(map(len, listed(row.board)), default=0), row.most, '%s: the longest run' % row.name)
         for play in wanted:
-            check(fibs.allows(row.board, move_of(play)), DONE, '%s: a play that is listed' % row.name)
+            check(allowed(row.board, move_of(play)), DONE, '%s: a play that is listed' % row.name)
         for text, status in row.answers:
-            check(fibs.allows(row.board, decision_of(text)), status, '%s: %s' % (row.name, text))
+            check(allowed(row.board, decision_of(text)), status, '%s: %s' % (row.name, text))
 
 
 @test
@@ -173,10 +174,10 @@ BAD = [
 @test
 def refuses_boards(check):
     for name, board, status in BAD:
-        why = fibs.status_name(status)
-        check(answer(fibs.phase, board), why, '%s: the phase' % name)
+        why = _library.status_name(status)
+        check(phase_of(board), why, '%s: the phase' % name)
         check(answer(fibs.plays, board), why, '%s: the plays' % name)
-        check(fibs.allows(board, fibs.Decision(fibs.ROLL)), status, '%s: a roll' % name)
+        check(allowed(board, fibs.ROLL), status, '%s: a roll' % name)
 
 
 # A checker of each side stands on the bar, so that one more on a place or off leaves fifteen at most.
@@ -209,9 +210,9 @@ def goes_on(first, second):
     with fibs.Client(b'ann', b'secret') as client:
         client.open()
         list(client.feed(GREETING + first + b'\r\n'))
-        client.decide(fibs.Decision(fibs.ROLL))
+        client.decide(fibs.ROLL)
         told, = client.feed(second + b'\r\n')
-        return told.confirmed == fibs.Decision(fibs.ROLL) and client.waiting is None
+        return told.confirmed == fibs.ROLL and client.waiting is None
 
 
 def can_be_told(first, second):

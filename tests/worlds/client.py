@@ -1,8 +1,8 @@
-"""Clients over worked histories, by Client of examples/fibs.py."""
+"""Clients over worked histories, by Client of the package for Python."""
 
-import fibs
 import histories
 from boards import NAMED
+from package import fibs
 
 LOGIN = (b'ann', b'secret')
 
@@ -18,8 +18,8 @@ def decision_of(text):
     """The decision that a step names: a move has one step of a checker."""
     word, *steps = text.split()
     if word == 'move':
-        return fibs.Decision(fibs.MOVE, [tuple(map(int, step.split('-'))) for step in steps])
-    return fibs.Decision(DECISIONS[word])
+        return fibs.Decision.move([tuple(map(int, step.split('-'))) for step in steps])
+    return DECISIONS[word]
 
 
 def commands(sent):
@@ -65,7 +65,7 @@ def says(client, step, cut):
     """What the client says to a step, or the name of its refusal."""
     try:
         return '; '.join(answer(client, step, cut))
-    except fibs.Refused as why:
+    except fibs.Error as why:
         return why.name
 
 
@@ -141,16 +141,16 @@ def refusal(call, *words):
     """The name of what a call answers that is refused, or None."""
     try:
         call(*words)
-    except fibs.Refused as why:
+    except fibs.Error as why:
         return why.name
     return None
 
 
 def board(name):
-    return fibs.board(NAMED[name].encode())
+    return fibs.Board(NAMED[name].encode())
 
 
-ROLL = fibs.Decision(fibs.ROLL)
+ROLL = fibs.ROLL
 
 
 def a_roll_of_an_order_is_told_as_one(counts):
@@ -173,7 +173,7 @@ def a_roll_of_an_order_is_told_as_one(counts):
 
 def a_line_is_shown_with_its_reading(counts):
     taken, = ready().feed(b'[board]\r\nrest')
-    counts.same(taken.line, fibs.Line(b'[board]', fibs.TEXT, 0, 0, 0, False), 'a text')
+    counts.same(taken.line, fibs.Line(b'[board]', fibs.TEXT, 0, 0, None, False), 'a text')
     counts.check(taken.send == b'' and taken.confirmed is None, 'nothing answers it')
 
 

@@ -1,0 +1,46 @@
+"""FIBS, the First Internet Backgammon Server, from Python: its lines, boards, rules, a client, and the players.
+
+    import fibs
+    for line in fibs.Lines(open('session.log', 'rb')):
+        if line.kind == fibs.BOARD:
+            print(line.board.phase.name, [str(play) for play in fibs.plays(line.text)])
+
+It stands on the library for C of Liftplum, whose functions are proved, and on the standard library alone. What a
+server sends is bytes; a text of one's own may be a str too. A call that is not done raises an Error, one for each
+reason. It has no thread and no socket of its own. A Client, a Lines and a Directory are each used by one thread at a
+time.
+"""
+
+from . import _library
+from ._boards import Board, Phase, allows, phase, plays, print_board, refusal
+from ._client import Client, Heard, Outstanding
+from ._decisions import (ACCEPT, DOUBLE, REJECT, RESIGN_BACKGAMMON, RESIGN_GAMMON, RESIGN_NORMAL, ROLL, Decision,
+                         DecisionKind, Step)
+from ._directory import Directory, Player
+from ._lines import Counts, Fault, Kind, Line, Lines, fields, read
+from .errors import (AlreadyOpen, AlreadyOrdered, BadCommand, BadName, BadText, Closed, Error, FieldBadName, FieldExtra,
+                     FieldMissing, FieldNotANumber, FieldOutOfRange, Full, IllegalPlay, NoBoard, NoCommand, NoDecision,
+                     NoField, NoPlayer, NoPosition, NotABoard, NotOn, NotOrdered, NotReady, NotYou, NotYours, Offline,
+                     Refused, ServerPlays, TooLong, TooManyOther, TooManyOwn, Waiting, WrongKind)
+
+TEXT, MESSAGE, BOARD, MALFORMED = Kind.TEXT, Kind.MESSAGE, Kind.BOARD, Kind.MALFORMED
+
+# The length of a match without an end.
+UNLIMITED = 9999
+
+# How many bytes of a line are kept.
+MAX_LINE = _library.MAX_LINE
+
+# The version of the package and of the library that it is for.
+__version__ = '0.2.0'
+
+__all__ = [
+    'ACCEPT', 'AlreadyOpen', 'AlreadyOrdered', 'BOARD', 'BadCommand', 'BadName', 'BadText', 'Board', 'Client', 'Closed',
+    'Counts', 'DOUBLE', 'Decision', 'DecisionKind', 'Directory', 'Error', 'Fault', 'FieldBadName', 'FieldExtra',
+    'FieldMissing', 'FieldNotANumber', 'FieldOutOfRange', 'Full', 'Heard', 'IllegalPlay', 'Kind', 'MAX_LINE', 'Line',
+    'Lines', 'MALFORMED', 'MESSAGE', 'NoBoard', 'NoCommand', 'NoDecision', 'NoField', 'NoPlayer', 'NoPosition',
+    'NotABoard', 'NotOn', 'NotOrdered', 'NotReady', 'NotYou', 'NotYours', 'Offline', 'Outstanding', 'Phase', 'Player',
+    'REJECT', 'RESIGN_BACKGAMMON', 'RESIGN_GAMMON', 'RESIGN_NORMAL', 'ROLL', 'Refused', 'ServerPlays', 'Step', 'TEXT',
+    'TooLong', 'TooManyOther', 'TooManyOwn', 'UNLIMITED', 'Waiting', 'WrongKind', 'allows', 'fields', 'phase', 'plays',
+    'print_board', 'read', 'refusal',
+]

@@ -1,0 +1,195 @@
+"""Boards, and what the rules say of them."""
+
+from __future__ import annotations
+
+from ctypes import byref, c_size_t, c_uint8
+from typing import Any, List, Optional, Tuple, Union
+
+from . import _library
+from ._decisions import Decision, decision_of, record_of
+from ._texts import Text, Word, bytes_of, told_text
+from .errors import Refused, TooManyOther, TooManyOwn, check
+
+class Phase(Word):
+    """What a player does on a board."""
+
+    OVER = 1
+    ANSWER_DOUBLE = 2
+    OPPONENT_ACTS = 3
+    ROLL_OR_DOUBLE = 4
+    MOVE = 5
+    PASSING = 6
+
+
+def _number(field: int, what: str) -> Any:
+    return property(lambda board: board.numbers[field - _library.FIRST_FIELD], doc=what)
+
+
+def _flag(field: int, what: str) -> Any:
+    return property(lambda board: board.numbers[field - _library.FIRST_FIELD] == 1, doc=what)
+
+
+def _dice(field: int, what: str) -> Any:
+    first = field - _library.FIRST_FIELD
+    return property(lambda board: board.numbers[first:first + 2], doc=what)
+
+
+class Board:
+    """A board: two names, and the numbers of fields 4 to 53 of its line. It does not change.
+
+    Board(line) reads it, and raises one of NotABoard if the line says none.
+    """
+
+    __slots__ = ('player', 'opponent', 'numbers')
+
+    player: bytes
+    opponent: bytes
+    numbers: Tuple[int, ...]
+
+    def __init__(self, line: Text) -> None:
+        record, data = _library.Board(), bytes_of(line)
+        if _library.lib.fibs_read_board(data, len(data), byref(record)).kind != _library.BOARD:
+            # which says why not
+            print_board(data)
+        self._take(record)
+
+    @classmethod
+    def _of(cls, record: Any) -> Board:
+        """The library's board."""
+        board = cls.__new__(cls)
+        board._take(record)
+        return board
+
+    def _take(self, record: Any) -> None:
+        object.__setattr__(self, 'player', bytes(record.player[:record.player_len]))
+        object.__setattr__(self, 'opponent', bytes(record.opponent[:record.opponent_len]))
+        object.__setattr__(self, 'numbers', tuple(record.number))
+
+    def __setattr__(self, name: str, value: object) -> None:
+        raise AttributeError('a board does not change')
+
+    def __delattr__(self, name: str) -> None:
+        raise AttributeError('a board does not change')
+
+    def __reduce__(self) -> Tuple[type, Tuple[bytes]]:
+        return Board, (self.line,)
+
+    def _key(self) -> Tuple[bytes, bytes, Tuple[int, ...]]:
+        return self.player, self.opponent, self.numbers
+
+    def __eq__(self, other: object) -> bool:
+        return isinstance(other, Board) and self._key() == other._key()
+
+    def __hash__(self) -> int:
+        return hash(self._key())
+
+    def __repr__(self) -> str:
+        return 'Board(%r)' % self.line
+
+    def field(self, n: int) -> int:
+        """The number of a field, 4 to 53."""
+        if not _library.FIRST_FIELD <= n < _library.FIRST_FIELD + len(self.numbers):
+            raise IndexError('a board has the numbers of fields 4 to 53')
+        return self.numbers[n - _library.FIRST_FIELD]
+
+    @property
+    def line(self) -> bytes:
+        """The one line that says this board: canonical decimals, and no spaces at its end."""
+        return b':'.join([b'board', self.player, self.opponent, *(b'%d' % number for number in self.numbers)])
+
+    length: int = _number(4, 'How many points the match is to; 9999 if it is unlimited.')
+    score: int = _number(5, "The player's points.")
+    opponent_score: int = _number(6, "The opponent's points.")
+    turn: int = _number(33, 'The colour of the side whose turn it is; 0 if the game is over.')
+    dice: Tuple[int, int] = _dice(34, "The player's dice; zeros if there are none.")
+    opponent_dice: Tuple[int, int] = _dice(36, "The opponent's dice; zeros if there are none.")
+    cube: int = _number(38, 'What the cube shows.')
+    may_double: bool = _flag(39, 'True if the player may double.')
+    opponent_may_double: bool = _flag(40, 'True if the opponent may double.')
+    was_doubled: bool = _flag(41, 'True if the opponent has just doubled.')
+    colour: int = _number(42, "The player's colour: 1 is O, whose checkers are positive, and -1 is X.")
+    direction: int = _number(43, 'Where the player goes: -1 from 24 to 1, 1 from 1 to 24.')
+    off: int = _number(46, 'How many checkers the player bore off.')
+    opponent_off: int = _number(47, 'How many checkers the opponent bore off.')
+
+    @property
+    def checkers(self) -> Tuple[int, ...]:
+        """The player's checkers by place, in the own numbering: off at 0, the bar at 25. TooManyOwn."""
+        return self._side(self.colour, self.direction == 1, self.off, TooManyOwn)
+
+    @property
+    def opponent_checkers(self) -> Tuple[int, ...]:
+        """The opponent's checkers by place, in the opponent's own numbering: off at 0, the bar at 25. TooManyOther."""
+        return self._side(-self.colour, self.direction == -1, self.opponent_off, TooManyOther)
+
+    def _side(self, colour: int, is_up: bool, off: int, fault: type) -> Tuple[int, ...]:
+        first = 8 - _library.FIRST_FIELD
+        found = [max(colour * number, 0) for number in self.numbers[first:first + 24]]
+        if is_up:
+            found.reverse()
+        bar = 15 - off - sum(found)
+        if bar < 0:
+            raise fault()
+        return off, *found, bar
+
+    @property
+    def phase(self) -> Phase:
+        """What the player does. One of NoPosition."""
+        return phase(self)
+
+    def plays(self) -> List[Decision]:
+        """The legal plays, as of `plays`."""
+        return plays(self)
+
+    def allows(self, decision: Decision) -> bool:
+        """True if the player may decide so on this board. One of NoPosition; NoDecision."""
+        return allows(self, decision)
+
+
+# A board, or a line that says one.
+BoardLine = Union[Board, Text]
+
+
+def _line_of(board: BoardLine) -> bytes:
+    return board.line if isinstance(board, Board) else bytes_of(board)
+
+
+def print_board(board: BoardLine) -> bytes:
+    """The one line that says the board of a line, as the library prints it. One of NotABoard."""
+    line = _line_of(board)
+    return told_text(_library.lib.fibs_print_board, line, len(line))
+
+
+def phase(board: BoardLine) -> Phase:
+    """What the player does on a board. One of NoPosition or NotABoard."""
+    line, number = _line_of(board), c_uint8()
+    check(_library.lib.fibs_phase(line, len(line), byref(number)))
+    return Phase(number.value)
+
+
+def refusal(board: BoardLine, decision: Decision) -> Optional[Refused]:
+    """Why the player may not decide so on a board: a NotYours, a WrongKind or an IllegalPlay, which is not raised;
+    None if he may. One of NoPosition or NotABoard; NoDecision."""
+    line = _line_of(board)
+    try:
+        check(_library.lib.fibs_allows(line, len(line), byref(record_of(decision))))
+    except Refused as why:
+        return why
+    return None
+
+
+def allows(board: BoardLine, decision: Decision) -> bool:
+    """True if the player may decide so on a board. One of NoPosition or NotABoard; NoDecision."""
+    return refusal(board, decision) is None
+
+
+def plays(board: BoardLine) -> List[Decision]:
+    """The plays of a board: for each arrangement of checkers that a legal play reaches the greatest such play, the
+    greatest first; none if the player does not move. One of NoPosition or NotABoard."""
+    line, room, count = _line_of(board), (_library.Decision * 64)(), c_size_t()
+    status = _library.lib.fibs_plays(line, len(line), room, len(room), byref(count))
+    if status == _library.SHORT:
+        room = (_library.Decision * count.value)()
+        status = _library.lib.fibs_plays(line, len(line), room, len(room), byref(count))
+    check(status)
+    return [decision_of(play) for play in room[:count.value]]

@@ -1,0 +1,361 @@
+"""Each call of the package: what it answers, and what it raises."""
+
+import io
+import os
+import pickle
+import re
+import socket
+import subprocess
+import sys
+
+from package import ROOT, fibs
+from fibs import _library, errors
+
+HEADER = (ROOT / 'include' / 'fibs.h').read_text()
+
+BOARD = b'board:You:bob:1:0:0:0:0:0:1:0:1' + b':0' * 16 + b':-1:-1:0:0:1:0:0:0:0:1:0:0:0:1:-1:0:25:13:13:0:0:0:0:0:0'
+MOVES = BOARD.replace(b':1:0:0:0:0:1:0:0', b':1:2:1:0:0:1:0:0')
+
+REAL = (b'board:You:someplayer:3:0:1:0:-2:0:0:0:0:5:0:3:0:0:0:-5:5:0:0:0:-3:0:-5:0:0:0:0:2:0:1:6:2:0:0:1:1:1:0:1:-1:0:'
+        b'25:0:0:0:0:2:0:0:0')
+
+GREETING = (b'1 ann 1041253132 localhost\r\n'
+            b'2 ann 1 0 0 0 0 0 1 1 10 0 0 0 1 1500.00 0 0 0 0 0 UTC\r\n')
+
+WHO = [b'5 ann bob - 1 0 1500.00 10 0 1041253132 localhost fibs_client -',
+       b'5 bob ann - 1 0 1623.5 100 3 1041253132 host - -']
+
+KINDS = [fibs.MESSAGE, fibs.MALFORMED, fibs.TEXT, fibs.BOARD]
+
+
+def lines_have_their_kinds(counts):
+    told = list(fibs.Lines(b'> 3\r\n5 bob\nhello\n' + BOARD + b'  \r\nhalf'))
+    counts.same([line.kind for line in told], KINDS, 'kinds')
+    counts.same(told[0], fibs.Line(b'3', fibs.MESSAGE, 3, 0, None, False), 'a message')
+    counts.same(told[1], fibs.Line(b'5 bob', fibs.MALFORMED, 5, 2, fibs.Fault.MISSING, False), 'a malformed line')
+    counts.same([str(told[1].fault), str(told[1].kind)], ['Missing', 'Malformed'], 'names as the program prints them')
+    counts.same(told[3].board.line, BOARD, 'a board')
+    counts.same((told[0].fields, told[2].fields), ((), ()), 'no fields')
+    counts.raises(fibs.FieldBadName, lambda: told[2].board)
+
+
+def a_stream_may_be_anything_that_is_read(counts):
+    data = b'a\nb\n' * 40000
+    for what, stream in [('bytes', data), ('a bytearray', bytearray(data)), ('a memoryview', memoryview(data)),
+                         ('a file', io.BytesIO(data)), ('a raw file', io.BufferedReader(io.BytesIO(data)))]:
+        lines = fibs.Lines(stream)
+        counts.same([next(lines).text, next(lines).text], [b'a', b'b'], what)
+        counts.same(sum(1 for line in lines), 79998, '%s, to its end' % what)
+        counts.same(list(lines), [], '%s, behind its end' % what)
+    ours, theirs = socket.socketpair()
+    with ours, theirs, theirs.makefile('rb') as file:
+        lines = fibs.Lines(file)
+        for text in b'one', b'two':
+            ours.sendall(text + b'\n')
+            counts.same(next(lines).text, text, 'a line of a socket comes as soon as it is there')
+    counts.raises(AttributeError, lambda: next(fibs.Lines(5)))
+    counts.raises(TypeError, lambda: next(fibs.Lines(io.StringIO('a\n'))))
+
+
+def who_stops_goes_on_where_he_stopped(counts):
+    lines = fibs.Lines(b'a\nb\nc\n')
+    for line in lines:
+        break
+    counts.same([line.text for line in lines], [b'b', b'c'], 'the lines that are left')
+
+
+def pieces_are_fed_by_hand(counts):
+    with fibs.Lines(rows=2) as lines:
+        counts.same(lines.feed(b'a\nb\nc\nd\ne'), [fibs.read(bytes([c])) for c in b'abcd'], 'few rows')
+        counts.same(lines.held, 1, 'what is held')
+        counts.same(lines.feed(b'\xff\xfb\x01f\r\n'), [fibs.read(b'ef')], 'the rest of a line')
+        counts.same(lines.feed(b''), [], 'an empty piece')
+        counts.same(lines.count(b'x' * (fibs.MAX_LINE + 1) + b'\n3\n'), (1, 1, 0, 0, 1), 'counts')
+        lines.feed(b'half')
+        lines.reset()
+        counts.same(lines.feed(b'new\n'), [fibs.read(b'new')], 'another stream')
+    for call, words in [(lines.feed, (b'a\n',)), (lines.count, (b'a\n',)), (lines.reset, ()), (lambda: lines.held, ())]:
+        counts.raises(fibs.Closed, call, *words)
+    lines.close()
+    for piece in 'text', 5, None, [1, 2]:
+        counts.raises(TypeError, fibs.Lines().feed, piece)
+        counts.raises(TypeError, fibs.Lines().count, piece)
+    counts.raises(ValueError, fibs.Lines, rows=0)
+    counts.raises(ValueError, fibs.Lines, room=fibs.MAX_LINE - 1)
+
+
+def boards_have_names_for_their_numbers(counts):
+    board = fibs.Board(REAL)
+    counts.same((board.player, board.opponent, board.length, board.score, board.opponent_score),
+                (b'You', b'someplayer', 3, 0, 1), 'names and scores')
+    counts.same((board.turn, board.dice, board.opponent_dice, board.cube, board.colour, board.direction),
+                (1, (6, 2), (0, 0), 1, 1, -1), 'the turn')
+    counts.same((board.may_double, board.opponent_may_double, board.was_doubled), (True, True, False), 'doubling')
+    start = tuple({6: 5, 8: 3, 13: 5, 24: 2}.get(place, 0) for place in range(26))
+    counts.same((board.checkers, board.opponent_checkers), (start, start), 'checkers')
+    counts.same([board.field(4), board.field(53)], [3, 0], 'fields')
+    counts.same((board.phase, len(board.plays()), board.allows(fibs.ROLL)), (fibs.Phase.MOVE, 14, False), 'the rules')
+    counts.same((board.line, fibs.print_board(REAL + b' ')), (REAL, REAL), 'its line')
+    counts.check(board == fibs.Board(REAL + b' ') and board != fibs.Board(BOARD) and board != REAL, 'equal boards')
+    counts.same(len({board, fibs.Board(REAL)}), 1, 'they have one hash')
+    counts.same(eval(repr(board), {'Board': fibs.Board}), board, 'its repr makes it')
+    counts.same(pickle.loads(pickle.dumps(board)), board, 'it can be kept')
+    for name in 'cube', 'player', 'numbers', 'other_thing':
+        counts.raises(AttributeError, setattr, board, name, 2)
+    for n in 3, 54, -1:
+        counts.raises(IndexError, board.field, n)
+
+
+def both_colours_and_directions_count_from_their_own_side(counts):
+    """The same game as its four kinds of player see it."""
+    own, other = fibs.Board(BOARD).checkers, fibs.Board(BOARD).opponent_checkers
+    counts.same((own[5], own[3], own[0], sum(own)), (1, 1, 13, 15), 'own checkers')
+    counts.same((other[3], other[2], other[0], sum(other)), (1, 1, 13, 15), 'the checkers of the opponent')
+    words = BOARD.split(b':')
+    for colour in 1, -1:
+        for direction in -1, 1:
+            places = [int(word) * colour for word in words[6:32]]
+            if direction == 1:
+                places.reverse()
+            turned = words[:6] + [b'%d' % place for place in places] + words[32:]
+            turned[41], turned[42], turned[32] = b'%d' % colour, b'%d' % direction, b'%d' % colour
+            board = fibs.Board(b':'.join(turned))
+            counts.same((board.checkers, board.opponent_checkers), (own, other), 'colour %d, direction %d' % (
+                colour, direction))
+
+
+def lines_that_are_no_board_say_why(counts):
+    for line, kind in [(b'hello', fibs.FieldBadName), (b'', fibs.FieldBadName), (b'board', fibs.FieldMissing),
+                       (b'board:You', fibs.FieldMissing), (REAL + b':1', fibs.FieldExtra),
+                       (REAL.replace(b':6:2:', b':06:2:'), fibs.FieldNotANumber),
+                       (REAL.replace(b':6:2:', b':7:2:'), fibs.FieldOutOfRange), (b'5 bob', fibs.FieldBadName),
+                       (REAL.replace(b':someplayer:', b'::'), fibs.FieldBadName)]:
+        for call in fibs.Board, fibs.phase, fibs.plays, fibs.print_board:
+            counts.raises(kind, call, line)
+        counts.raises(kind, fibs.allows, line, fibs.ROLL)
+    for call in fibs.phase, fibs.plays:
+        counts.raises(fibs.NotYou, call, REAL.replace(b':You:', b':ann:'))
+        counts.raises(fibs.TooManyOwn, call, REAL.replace(b':2:0:1:6:2:', b':3:0:1:6:2:'))
+        counts.raises(fibs.TooManyOther, call, REAL.replace(b':-5:0:0:0:0:2:', b':-6:0:0:0:0:2:'))
+        for line in 5, None, [REAL]:
+            counts.raises(TypeError, call, line)
+    many = fibs.Board(REAL.replace(b':2:0:1:6:2:', b':3:0:1:6:2:').replace(b':-5:0:0:0:0:3:', b':-6:0:0:0:0:3:'))
+    counts.raises(fibs.TooManyOwn, lambda: many.checkers)
+    counts.raises(fibs.TooManyOther, lambda: many.opponent_checkers)
+
+
+def the_rules_are_those_of_the_program(counts):
+    counts.same((fibs.phase(BOARD), str(fibs.phase(MOVES))), (fibs.Phase.ROLL_OR_DOUBLE, 'Move'), 'phases')
+    found = [play.command() for play in fibs.plays(MOVES)]
+    counts.check(found and all(fibs.allows(MOVES, fibs.Decision.parse(play)) for play in found), 'plays are allowed')
+    counts.same([type(fibs.refusal(MOVES, decision)) for decision in (fibs.ROLL, fibs.Decision.move([(5, 4)]))],
+                [fibs.WrongKind, fibs.IllegalPlay], 'why not')
+    counts.same(fibs.refusal(MOVES.replace(b':1:2:1:', b':-1:2:1:'), fibs.ROLL).name, 'NotYours', 'not the turn')
+    many = MOVES.replace(b':2:1:0:0:', b':1:1:0:0:').replace(b':0:0:0:1:0:1:', b':0:0:4:4:0:1:')
+    many = many.replace(b':13:13:', b':6:13:')
+    counts.check(len(fibs.plays(many)) > 0, 'plays of a pair')
+    if not os.path.exists(counts.program):
+        counts.leave_out('there is no %s' % counts.program)
+        return
+    for line in MOVES, REAL, many:
+        listed = subprocess.run([counts.program, 'plays', line], capture_output=True, text=True, check=True).stdout
+        counts.same([play.command() for play in fibs.plays(line)], listed.splitlines()[1:], 'the plays of the program')
+
+
+def decisions_are_spelled_and_read(counts):
+    for decision, down, up in [(fibs.ROLL, 'roll', 'roll'), (fibs.RESIGN_GAMMON, 'resign g', 'resign g'),
+                               (fibs.Decision.move([(25, 20), (6, 0)]), 'move bar-20 6-off', 'move bar-5 19-off'),
+                               (fibs.Decision.move(()), 'move', 'move')]:
+        counts.same((str(decision), decision.command(1)), (down, up), 'commands')
+        counts.same((fibs.Decision.parse(down), fibs.Decision.parse(up.encode(), 1)), (decision, decision), 'read')
+    for text in 'Roll', '', 'roll ', 'move 0-1', 'caf\xe9', '\ud800', b'\xff':
+        counts.raises(fibs.NoCommand, fibs.Decision.parse, text)
+    for steps in [[(24, 23)] * 5, [(0, 1)], [(26, 1)]]:
+        counts.raises(fibs.NoDecision, fibs.Decision.move(steps).command)
+        counts.raises(fibs.NoDecision, fibs.allows, MOVES, fibs.Decision.move(steps))
+    counts.raises(fibs.NoDecision, fibs.allows, MOVES, fibs.Decision(9))
+    for decision in [fibs.Decision(256), fibs.Decision(-1), fibs.Decision.move([(256, 1)]),
+                     fibs.Decision.move([(1, -1)])]:
+        counts.raises(ValueError, fibs.allows, MOVES, decision)
+    for decision in 'roll', None, 1, (1, ()), fibs.Decision('roll'), fibs.Decision.move([('24', 23)]):
+        counts.raises(TypeError, fibs.allows, MOVES, decision)
+    for text in 5, None:
+        counts.raises(TypeError, fibs.Decision.parse, text)
+    counts.raises(TypeError, fibs.ROLL.command, 'down')
+    counts.raises(ValueError, fibs.ROLL.command, 1 << 40)
+
+
+def messages_have_fields(counts):
+    counts.same(fibs.fields('5 bob - ann 1 0 1500.5 3 2 1 host pro a b'),
+                (b'bob', b'-', b'ann', True, False, 150050, 3, 2, 1, b'host', b'pro', b'a b'), 'of a player')
+    long = b'12 bob ' + b'x' * 9000
+    counts.same(fibs.read(long).fields, (b'bob', b'x' * 9000), 'a long text')
+    for line in b'', b'hello', b'5 bob', BOARD:
+        counts.same(fibs.fields(line), (), 'no fields')
+    counts.raises(TypeError, fibs.fields, 5)
+    counts.raises(TypeError, fibs.read, None)
+    counts.same(fibs.read('caf\xe9').text, 'caf\xe9'.encode(), 'a str is its UTF-8')
+
+
+def ready():
+    client = fibs.Client('ann', b'secret')
+    client.open()
+    list(client.feed(GREETING))
+    return client
+
+
+def a_client_sends_and_waits(counts):
+    with fibs.Client('ann', 'secret') as client:
+        counts.same(client.open(), b'login fibs_client 1008 ann secret\r\n', 'the login')
+        counts.raises(fibs.AlreadyOpen, client.open)
+        counts.same([heard.send for heard in client.feed(GREETING)], [
+            b'set boardstyle 3\r\n', b'toggle autoboard\r\ntoggle moreboards\r\nboard\r\n'], 'the first commands')
+        counts.same((client.shown, client.waiting), (None, None), 'nothing is shown')
+        counts.raises(fibs.NoBoard, client.decide, fibs.ROLL)
+        counts.same([heard.line.kind for heard in client.feed(bytearray(BOARD + b'\r\n'))], [fibs.BOARD], 'a board')
+        counts.same(client.shown, fibs.Board(BOARD), 'it is shown')
+        counts.same(client.decide(fibs.ROLL), b'roll\r\n', 'a roll')
+        counts.same(client.waiting, (fibs.ROLL, fibs.Board(BOARD)), 'it waits')
+        counts.raises(fibs.Waiting, client.decide, fibs.ROLL)
+        heard, = client.feed(MOVES + b'\n')
+        counts.same((heard.confirmed, heard.rolled, client.waiting), (fibs.ROLL, False, None), 'it is confirmed')
+        counts.raises(fibs.WrongKind, client.decide, fibs.ROLL)
+        counts.raises(fibs.IllegalPlay, client.decide, fibs.Decision.move([(5, 4)]))
+        counts.raises(fibs.NoDecision, client.decide, fibs.Decision.move([(0, 4)]))
+        counts.same(client.decide(fibs.Decision.move([(5, 3), (3, 2)])), b'move 5-3 3-2\r\n', 'a move')
+        counts.same((client.plain('say hi'), client.plain(b'who')), (b'say hi\r\n', b'who\r\n'), 'plain commands')
+        client.order_roll()
+        counts.check(client.ordered, 'a standing order')
+        counts.raises(fibs.AlreadyOrdered, client.order_roll)
+        lost = client.lose()
+        counts.check(not client.ordered, 'it ends with the connection')
+        counts.same((str(lost.decision), lost.board), ('move 5-3 3-2', fibs.Board(MOVES)), 'what a loss left open')
+        counts.same(client.lose(), None, 'a second loss')
+        for call, words in [(client.decide, (fibs.ROLL,)), (client.plain, ('who',)), (client.withdraw_roll, ()),
+                            (client.order_roll, ())]:
+            counts.raises(fibs.Offline, call, *words)
+        counts.same((list(client.feed(BOARD + b'\n')), client.shown), ([], None), 'offline nothing is heard')
+
+
+def what_is_not_taken_is_heard_later(counts):
+    client = ready()
+    for heard in client.feed(b'a\nb\nc\nd'):
+        break
+    first, rest = client.feed(b'e\nf\n'), []
+    rest.append(next(first).line.text)
+    rest += [heard.line.text for heard in client.feed(b'g\n')]
+    counts.same((heard.line.text, rest), (b'a', [b'b', b'c', b'de', b'f', b'g']), 'no line is lost')
+    counts.same(list(first), [], 'the first iterator has nothing left')
+    client.feed(b'never taken\n')
+    client.lose()
+    client.open()
+    counts.same([heard.line.text for heard in client.feed(b'new\n')], [b'new'], 'nothing of the last connection')
+
+
+def a_client_says_why_not(counts):
+    for name, password, kind in [('', 'x', fibs.BadName), ('a b', 'x', fibs.BadName), ('a:b', 'x', fibs.BadName),
+                                 ('a' * 65, 'x', fibs.BadName), ('ann', '', fibs.BadText), ('ann', 'a b', fibs.BadText),
+                                 ('ann', 'x' * 65, fibs.TooLong), ('\xe4nn', 'x', fibs.BadName), (5, 'x', TypeError),
+                                 ('ann', None, TypeError)]:
+        counts.raises(kind, fibs.Client, name, password)
+    client = ready()
+    for text, kind in [('say ' + 'x' * 401, fibs.TooLong), ('say caf\xe9', fibs.BadText), ('say \ud800', fibs.BadText),
+                       ('say a\nroll', fibs.BadText), ('dance', fibs.NoCommand), ('roll', fibs.NoCommand),
+                       ('', fibs.NoCommand), ('tell  hi', fibs.BadName), ('toggle greedy', fibs.NotOn),
+                       (b'\0', fibs.NoCommand), (5, TypeError), (None, TypeError)]:
+        counts.raises(kind, client.plain, text)
+    for piece in 'text', 5, None:
+        counts.raises(TypeError, client.feed, piece)
+    counts.raises(TypeError, client.decide, 'roll')
+    counts.same(len(list(client.feed(memoryview(b'x' * 20000 + b'\n' + BOARD + b'\n')))), 2, 'it still hears')
+    client.close()
+    client.close()
+    for call, words in [(client.open, ()), (client.decide, (fibs.ROLL,)), (client.plain, ('who',)), (client.lose, ()),
+                        (client.order_roll, ()), (client.withdraw_roll, ()), (lambda: client.shown, ()),
+                        (lambda: client.waiting, ()), (lambda: client.ordered, ()),
+                        (lambda: list(client.feed(b'a')), ())]:
+        counts.raises(fibs.Closed, call, *words)
+    counts.raises(fibs.NotReady, unready)
+
+
+def unready():
+    with fibs.Client('ann', 'secret') as client:
+        client.open()
+        list(client.feed(BOARD + b'\n'))
+        client.decide(fibs.ROLL)
+
+
+def players_come_and_go(counts):
+    players = fibs.Directory()
+    for line in WHO:
+        players.note(line)
+    counts.same(([player.name for player in players], len(players)), ([b'ann', b'bob'], 2), 'two players')
+    bob = players.get('bob')
+    counts.same((bob, bob.rating, bob.opponent, bob.ready), (players[1], 162350, b'ann', True), 'their fields')
+    counts.same(players.get(b'carl'), None, 'nobody')
+    players.note(b'8 ann ann logs out.')
+    counts.same([player.name for player in players], [b'bob'], 'one is left')
+    for place in 1, -1, 1 << 62:
+        counts.raises(IndexError, players.__getitem__, place)
+    for place in 'bob', None, 1.0:
+        counts.raises(TypeError, players.__getitem__, place)
+    counts.raises(TypeError, players.note, 5)
+    players.clear()
+    counts.same((len(players), list(players)), (0, []), 'nobody is left')
+    for number in range(4096):
+        players.note(b'5 p%d - - 1 0 1500 0 0 0 h - -' % number)
+    counts.raises(fibs.Full, players.note, WHO[0])
+    players.close()
+    for call, words in [(players.note, (WHO[0],)), (players.clear, ()), (players.get, ('bob',)), (players.__len__, ())]:
+        counts.raises(fibs.Closed, call, *words)
+
+
+def each_status_has_its_exception(counts):
+    """By the header: each status but DONE and that of memory, its name, and whether Python knows it as bad input."""
+    statuses = {int(number) for number in re.findall(r'\bFIBS_STATUS_\w+ = (\d+)', HEADER)}
+    known = set(errors.BY_STATUS)
+    counts.same(known - statuses, set(), 'no exception is made up')
+    missing = {_library.status_name(number) for number in statuses - known}
+    counts.same(missing - {'Done', 'Memory'}, set(), 'none is missing')
+    for status, kind in errors.BY_STATUS.items():
+        why = kind()
+        name = kind.__name__.removeprefix('Field' if 300 < status < 400 else '').replace('Closed', 'NoHandle')
+        counts.same((why.status, why.name, bool(str(why))), (status, name, True), kind.__name__)
+    for kind in fibs.BadName, fibs.NotYou, fibs.FieldMissing, fibs.Closed, fibs.NoDecision, fibs.NoCommand:
+        counts.check(issubclass(kind, ValueError) and issubclass(kind, fibs.Error), kind.__name__)
+    for name in fibs.__all__:
+        counts.check(hasattr(fibs, name), '%s is there' % name)
+
+
+def records_lie_as_in_c(counts):
+    """The rows that are unpacked at once are those of the library."""
+    from ctypes import sizeof
+    counts.same(_library.ROW.size, sizeof(_library.Row), 'the size of a row')
+    row = _library.Row(1, 2, _library.Kind(3, 4, 5, 6), 1)
+    counts.same(_library.ROW.unpack(bytes(row)), (1, 2, 3, 4, 5, 6, 1), 'a row')
+    counts.same((bytes(row)[_library.KIND_AT], bytes(row)[_library.CUT_AT]), (4, 1), 'where the kind and the cut are')
+
+
+def the_library_is_found_or_named(counts):
+    """As $FIBS_LIBRARY says; what is no library of this version is an ImportError that tells what to do."""
+    for path, wanted in [('/nowhere/libfibs.so', 'make lib'), ('libc.so.6', 'make lib')]:
+        told = subprocess.run([sys.executable, '-c', 'import fibs'], capture_output=True, text=True,
+                              env={**os.environ, 'FIBS_LIBRARY': path, 'PYTHONPATH': str(ROOT / 'python')})
+        counts.check(told.returncode == 1 and 'ImportError' in told.stderr and wanted in told.stderr, told.stderr)
+
+
+def the_version_is_that_of_the_library(counts):
+    header = re.search(r'#define FIBS_VERSION "(\S+)"', HEADER)[1]
+    project = re.search(r'(?m)^version = "(\S+)"', (ROOT / 'python' / 'pyproject.toml').read_text())[1]
+    counts.same({header, project, fibs.__version__, _library.VERSION}, {header}, 'one version')
+    counts.same(_library.SONAME, 'libfibs.so.' + '.'.join(header.split('.')[:2]), 'one soname')
+    counts.check((ROOT / 'lib' / _library.SONAME).exists(), 'the library has it')
+
+
+TESTS = [lines_have_their_kinds, a_stream_may_be_anything_that_is_read, who_stops_goes_on_where_he_stopped,
+         pieces_are_fed_by_hand, boards_have_names_for_their_numbers,
+         both_colours_and_directions_count_from_their_own_side,
+         lines_that_are_no_board_say_why, the_rules_are_those_of_the_program, decisions_are_spelled_and_read,
+         messages_have_fields, a_client_sends_and_waits, what_is_not_taken_is_heard_later, a_client_says_why_not,
+         players_come_and_go, each_status_has_its_exception, records_lie_as_in_c, the_library_is_found_or_named,
+         the_version_is_that_of_the_library]

@@ -1,0 +1,66 @@
+"""docs/PYTHON.md as it stands: its sessions, its example of asyncio, and the types of the package."""
+
+import asyncio
+import doctest
+import re
+import shutil
+import subprocess
+import threading
+
+import prop_server
+from package import ROOT, fibs
+
+PAGE = (ROOT / 'docs' / 'PYTHON.md').read_text()
+
+
+def blocks(language):
+    """The blocks of a language in the page."""
+    return re.findall(r'(?ms)^```%s\n(.*?)^```$' % language, PAGE)
+
+
+def the_sessions_of_the_page_are_as_they_stand(counts):
+    text = '\n'.join(blocks('pycon'))
+    tests = doctest.DocTestParser().get_doctest(text, {}, 'docs/PYTHON.md', None, 0)
+    found = doctest.DocTestRunner(verbose=False).run(tests)
+    counts.check(found.attempted > 10, 'there are sessions')
+    counts.same(found.failed, 0, 'of %d lines fail' % found.attempted)
+
+
+def the_example_of_asyncio_plays_a_game(counts):
+    names = {}
+    for block in blocks('python'):
+        exec(block, names)
+    server = prop_server.Server()
+
+    def serve():
+        server.accept()
+        server.log_in()
+        server.serve(prop_server.Game([5, 3], [22, 23], [[2, 1], [6, 5], [6, 5]]))
+
+    thread = threading.Thread(target=serve, daemon=True)
+    thread.start()
+    score = asyncio.run(asyncio.wait_for(names['play']('127.0.0.1', server.port, 'ann', 'secret'), 30))
+    counts.check(15 in score, 'the game is played out: %s' % (score,))
+    thread.join(5)
+    server.close()
+
+
+def names_of_the_page_are_in_the_package(counts):
+    """What stands in the table of calls, and each exception that is named."""
+    words = set(re.findall(r'\b[A-Z][A-Za-z]+\b|\b[A-Z][A-Z_]+\b', ' '.join(re.findall(r'`([^`\n]+)`', PAGE))))
+    builtin = {'ImportError', 'TypeError', 'ValueError', 'MemoryError', 'FIBS_LIBRARY', 'LD_LIBRARY_PATH'}
+    counts.same({word for word in words - builtin if not hasattr(fibs, word)}, set(), 'names that are nowhere')
+
+
+def the_types_hold(counts):
+    mypy = shutil.which('mypy')
+    if not mypy:
+        counts.leave_out('there is no mypy')
+        return
+    told = subprocess.run([mypy, '--strict', '--cache-dir', '/dev/null', '--config-file', 'pyproject.toml', 'fibs'],
+                          capture_output=True, text=True, cwd=ROOT / 'python')
+    counts.check(told.returncode == 0, told.stdout + told.stderr)
+
+
+TESTS = [the_sessions_of_the_page_are_as_they_stand, the_example_of_asyncio_plays_a_game,
+         names_of_the_page_are_in_the_package, the_types_hold]
