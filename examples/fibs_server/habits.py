@@ -1,0 +1,62 @@
+"""What a server may do in one way or another: what is not known for sure of FIBS, and what a test asks for."""
+
+import random
+from dataclasses import dataclass, field
+
+# How the server rolls by itself when a turn begins: never, where the player may not double, or where he also has
+# turned `double` off.
+AUTOROLLS = 'never', 'no-double', 'always'
+
+
+@dataclass
+class Habits:
+    """Each habit at what FIBS is believed to do."""
+    seed: int = 0
+    # pairs of dice that come first, in turn for openings and rolls
+    dice: list = field(default_factory=list)
+    autoroll: str = 'never'
+    # an open double, an open offer to resign, is shown by a board on which the turn is given away
+    shows_doubles: bool = True
+    shows_resignations: bool = False
+    # the board says that a player may double where the rules of the match forbid it
+    loose_flags: bool = False
+    # commands that are refused so many times, by a text alone, though they are right
+    refuses: dict = field(default_factory=dict)
+    # a game goes on where its player's connection breaks
+    keeps_games: bool = False
+    # who plays O, and who goes from 24 to 1, is by chance
+    mixed_sides: bool = False
+    # each change of a player is told by a line 5 and a line 6
+    tells_changes: bool = True
+    prompts: bool = False
+
+    def __post_init__(self):
+        self.chance = random.Random(self.seed)
+        self.rolls_to_come = list(self.dice)
+
+    def roll(self):
+        """The next pair of dice."""
+        if self.rolls_to_come:
+            return self.rolls_to_come.pop(0)
+        return self.chance.randint(1, 6), self.chance.randint(1, 6)
+
+    def opening(self):
+        """The next pair of dice that are not alike."""
+        dice = self.roll()
+        while dice[0] == dice[1]:
+            dice = self.roll()
+        return dice
+
+    def sides(self):
+        """The colours of the two sides, and their directions."""
+        if not self.mixed_sides:
+            return (1, -1), (-1, 1)
+        colour, direction = self.chance.choice((1, -1)), self.chance.choice((1, -1))
+        return (colour, -colour), (direction, -direction)
+
+    def refuses_now(self, command):
+        """True if the server refuses this right command, this time."""
+        if not self.refuses.get(command):
+            return False
+        self.refuses[command] -= 1
+        return True
