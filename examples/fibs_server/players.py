@@ -31,8 +31,8 @@ TOGGLED = {
     'report': ('** You will be informed about starting and ending matches.',
                "** You won't be informed about starting and ending matches."),
     'silent': ("** You won't hear what other players shout.", '** You will hear what other players shout.'),
-    'telnet': ("** You use telnet and don't need extra 'newlines'.", '** You use a client program and will receive extra '
-               "'newlines'."),
+    'telnet': ("** You use telnet and don't need extra 'newlines'.",
+               "** You use a client program and will receive extra 'newlines'."),
     'wrap': ('** The server will wrap long lines.', "** The server won't wrap long lines."),
 }
 

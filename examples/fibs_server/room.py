@@ -11,7 +11,7 @@ TRIES = 3
 
 
 class Room:
-    """Everything that the server knows. `accounts` are players by their names; where `is_open`, a new name makes one."""
+    """Everything that the server knows. Where it `is_open`, a login with a new name makes an account."""
 
     def __init__(self, habits, accounts=(), is_open=True, motd=('Good luck.',), settings=None, log=None):
         self.habits, self.is_open, self.motd = habits, is_open, list(motd)

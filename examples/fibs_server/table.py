@@ -38,7 +38,7 @@ class Table:
         return [(one, one.watching) for one in self.room.present() if one.watching in self.players]
 
     def tell(self, side, own, others):
-        """The one line to the player of this side, if there is one, the other to the opponent and to those who watch."""
+        """One line for the player of this side, if there is one; another for the opponent and those who watch."""
         self.tell_all(side, own, others, others)
 
     def tell_all(self, side, own, opponents, watchers):
@@ -251,7 +251,8 @@ class Table:
         if match.doubler == 1 - side:
             points = points_word(match.cube)
             self.tell_all(side, 'You give up. %s wins %s.' % (other, points),
-                          '%s gives up. You win %s.' % (name, points), '%s gives up. %s wins %s.' % (name, other, points))
+                          '%s gives up. You win %s.' % (name, points),
+                          '%s gives up. %s wins %s.' % (name, other, points))
             self.end_game(1 - side, match.cube)
         elif match.resigner == 1 - side:
             match.declines()
@@ -286,7 +287,8 @@ class Table:
         name, word = match.names[winner], points_word(points)
         self.show_boards()
         self.tell_all(winner, 'You win the game and get %s. Congratulations!' % word,
-                      '%s wins the game and gets %s. Sorry.' % (name, word), '%s wins the game and gets %s.' % (name, word))
+                      '%s wins the game and gets %s. Sorry.' % (name, word),
+                      '%s wins the game and gets %s.' % (name, word))
         if match.is_won():
             self.end_match(winner)
         else:

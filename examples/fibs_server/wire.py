@@ -86,7 +86,7 @@ class Link(asyncio.Protocol):
 
     def write(self, data):
         """Sends bytes, as the connection's manners are."""
-        if self.is_over:
+        if self.is_over or self.transport.is_closing():
             return
         if self.manners.telnet:
             data = self.noisy(data)
@@ -121,6 +121,8 @@ class Link(asyncio.Protocol):
         """Writes the pieces whose time has come."""
         loop = asyncio.get_running_loop()
         self.timer = None
+        if self.transport.is_closing():
+            self.pieces.clear()
         while self.pieces and self.pieces[0][0] <= loop.time():
             self.transport.write(self.pieces.popleft()[1])
         if self.pieces:

@@ -117,6 +117,15 @@ class Client:
                     raise Failed('the connection of %s ended before %r, after %r' % (self.name, text, passed[-8:]))
         return line
 
+    def shown(self, *wanted):
+        """Reads on to texts anywhere in what comes, as one sees them who has no client."""
+        end, at = time.monotonic() + PATIENCE, 0
+        for text in wanted:
+            while (found := self.raw.find(text.encode(), at)) < 0:
+                if self.is_over or not self.take(max(0, end - time.monotonic())):
+                    raise Failed('%r does not come after %r' % (text, self.raw[-200:]))
+            at = found + len(text)
+
     def answers(self, line, *wanted):
         """A line is sent, and the lines that come are just these; `..` stands for what comes behind."""
         self.send(line)

@@ -38,7 +38,8 @@ def check_games(client, length):
     same('the match is won', max(score) >= length, True)
     winner = 0 if score[0] > score[1] else 1
     text = 'You win' if winner == 0 else client.opponent() + ' wins'
-    same('the result', client.result, '%s the %d point match %d-%d .' % (text, length, score[winner], score[1 - winner]))
+    wanted = '%s the %d point match %d-%d .' % (text, length, score[winner], score[1 - winner])
+    same('the result', client.result, wanted)
 
 
 def check_beside(one, other):
@@ -88,7 +89,8 @@ def matches_by_habits():
 
 def a_match_over_bad_connections():
     """In portions, with telnet commands between the bytes, and late: the same match."""
-    for options in (['--portions', '7'], ['--telnet'], ['--delay', '3'], ['--portions', '3', '--telnet', '--delay', '2']):
+    for options in (['--portions', '7'], ['--telnet'], ['--delay', '3'],
+                    ['--portions', '3', '--telnet', '--delay', '2']):
         with_server(options, lambda server: match_between(server, 1, 5))
 
 
