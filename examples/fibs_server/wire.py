@@ -121,10 +121,10 @@ class Link(asyncio.Protocol):
         """Writes the pieces whose time has come."""
         loop = asyncio.get_running_loop()
         self.timer = None
-        if self.transport.is_closing():
-            self.pieces.clear()
         while self.pieces and self.pieces[0][0] <= loop.time():
-            self.transport.write(self.pieces.popleft()[1])
+            piece = self.pieces.popleft()[1]
+            if not self.transport.is_closing():
+                self.transport.write(piece)
         if self.pieces:
             self.timer = loop.call_at(self.pieces[0][0], self.pump)
         elif self.is_over:

@@ -10,6 +10,7 @@ import subprocess
 import sys
 
 import matches
+import rules_beside
 import sayings
 from clients import Failed, reference
 
@@ -19,7 +20,7 @@ BESIDE = 4
 
 def main():
     failed = 0
-    cases = matches.TESTS + sayings.TESTS
+    cases = rules_beside.TESTS + matches.TESTS + sayings.TESTS
     with concurrent.futures.ThreadPoolExecutor(BESIDE) as pool:
         for case, why in zip(cases, pool.map(tried, cases)):
             name = 'server: ' + case.__name__.replace('_', ' ')

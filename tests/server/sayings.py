@@ -302,6 +302,7 @@ def other_habits(server):
     ann.send('resign n')
     bob.sees('ann wants to resign. ..')
     bob.send('accept', 'join')
+    ann.sees("Type 'join' if you want to play the next game, ..")
     ann.send('join')
     ann.sees('Please move 2 pieces.')
     same('the flags of the Crawford game', fields(ann, 39, 40), [1, 1])
