@@ -42,11 +42,13 @@ _fibs() {
 }
 
 _fibs_play() {
-    local word=${COMP_WORDS[COMP_CWORD]}
+    local word=${COMP_WORDS[COMP_CWORD]} last=${COMP_WORDS[COMP_CWORD - 1]} place=$COMP_CWORD
     COMPREPLY=()
-    case $word in
-        -*) COMPREPLY=($(compgen -W '-h --help' -- "$word")) ;;
-        *) _fibs_place "$COMP_CWORD" ;;
+    [[ ${COMP_WORDS[1]} != --log ]] || place=$((place - 2))
+    case $last,$word in
+        --log,*) COMPREPLY=($(compgen -f -- "$word")) ;;
+        *,-*) COMPREPLY=($(compgen -W '--log -h --help' -- "$word")) ;;
+        *) _fibs_place "$place" ;;
     esac
 }
 

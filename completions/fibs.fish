@@ -15,4 +15,5 @@ complete -c fibs -n '__fish_seen_subcommand_from connect' -a 'fibs.com localhost
 
 complete -c fibs-play -f
 complete -c fibs-play -s h -l help -d 'Print help'
+complete -c fibs-play -l log -r -F -d 'A file to which the game is appended'
 complete -c fibs-play -a 'fibs.com localhost (__fish_print_hostnames)'

@@ -120,7 +120,7 @@ def bash_completes(_program):
         ('fibs', 'connect', '--password-file', 'secret', 'localhost', ''): ['4321'],
         ('fibs', 'connect', '--password-file', 'typ'): ['typed'], ('fibs', 'connect', 'localhost', '4321', ''): [],
         ('fibs-play', 'fibs'): ['fibs.com'], ('fibs-play', 'localhost', ''): ['4321'],
-        ('fibs-play', '-'): ['--help', '-h'],
+        ('fibs-play', '-'): ['--help', '--log', '-h'], ('fibs-play', '--log', 'game', 'localhost', ''): ['4321'],
         **{('fibs', name, '-'): ['--help', '-h'] for name in SUBCOMMANDS if name not in ('connect', 'help')},
     }
     script = ('source ./fibs.bash; COMP_WORDS=("$@"); COMP_CWORD=$(($# - 1)); "_${1/-/_}"; '
@@ -247,13 +247,14 @@ def fibs_play_tells_its_use(_program):
         done = run([ROOT / 'scripts' / 'fibs-play', *words], stdin=subprocess.DEVNULL)
         said, other = (done.stderr, done.stdout) if status else (done.stdout, done.stderr)
         same(repr(words), (done.returncode, said.splitlines()[:1], other),
-             (status, ['usage: fibs-play HOST PORT NAME'], ''))
+             (status, ['usage: fibs-play [--log FILE] HOST PORT NAME'], ''))
 
 
 def make_installs_them(_program):
     wanted = {
         'bin/fibs-play': 'scripts/fibs-play', 'share/man/man1/fibs.1': 'docs/fibs.1',
         'share/man/man1/fibs-play.1': 'docs/fibs.1', 'share/fibs/typed': 'completions/typed',
+        'share/fibs/keys.pl': 'scripts/keys.pl', 'share/fibs/inputrc': 'scripts/inputrc',
         'share/bash-completion/completions/fibs': 'completions/fibs.bash',
         'share/bash-completion/completions/fibs-play': 'completions/fibs.bash',
         'share/zsh/site-functions/_fibs': 'completions/_fibs',
