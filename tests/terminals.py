@@ -43,14 +43,17 @@ class Terminal:
     # Those that were begun.
     running = []
 
-    def __init__(self, words, columns=80, **more):
+    def __init__(self, words, columns=80, rows=24, **more):
+        # what is None is not in the environment
+        environment = {**os.environ, 'TERM': 'dumb', **more}
+        environment = {name: value for name, value in environment.items() if value is not None}
         self.fd, tty = os.openpty()
-        fcntl.ioctl(self.fd, termios.TIOCSWINSZ, struct.pack('HHHH', 24, columns, 0, 0))
+        fcntl.ioctl(self.fd, termios.TIOCSWINSZ, struct.pack('HHHH', rows, columns, 0, 0))
         orders, self.orders = os.pipe()
         self.reports, reports = os.pipe()
         self.shell = subprocess.Popen(
             [sys.executable, '-B', __file__, str(orders), str(reports), *words], stdin=tty, stdout=tty, stderr=tty,
-            pass_fds=(orders, reports), start_new_session=True, env={**os.environ, 'TERM': 'dumb', **more})
+            pass_fds=(orders, reports), start_new_session=True, env=environment)
         for fd in (tty, orders, reports):
             os.close(fd)
         self.running.append(self)

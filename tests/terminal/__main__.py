@@ -1,0 +1,54 @@
+#!/usr/bin/env python3
+"""Scenes at a terminal, with the built program: python3 -B tests/terminal PROGRAM [WORD..]
+
+Ann sits at a real pseudo-terminal and types what the screen names; the server is examples/fibs_server with whatever
+habit a scene is about, or a prop that sends what no server should. With WORDs only the scenes are played that have one
+in their name. Prints a line for each scene, and what was measured; the last line is 'N passed, M failed'.
+"""
+
+import concurrent.futures
+import subprocess
+import sys
+
+import people
+import costs
+import hostile
+import logs
+import play
+import stuck
+import whole
+
+# How many scenes are played at the same time: they wait most of the time. Those that measure are played alone.
+BESIDE = 4
+
+
+def tried(scene):
+    """Plays a scene, and says why it failed."""
+    try:
+        scene()
+        return ''
+    except (people.Failed, people.Crashed, OSError, subprocess.SubprocessError, ValueError, LookupError) as error:
+        return str(error)[:600] or repr(error)
+
+
+def main():
+    words = sys.argv[2:]
+    beside = stuck.SCENES + whole.SCENES + play.SCENES + logs.SCENES
+    alone = hostile.SCENES + costs.SCENES
+    chosen = [[scene for scene in scenes if not words or any(word in scene.__name__ for word in words)]
+              for scenes in (beside, alone)]
+    failed = 0
+    with concurrent.futures.ThreadPoolExecutor(BESIDE) as pool:
+        for scene, why in [*zip(chosen[0], pool.map(tried, chosen[0])), *((scene, None) for scene in chosen[1])]:
+            why = tried(scene) if why is None else why
+            name = 'terminal: ' + scene.__name__.replace('_', ' ')
+            print('FAILED  %s: %s' % (name, why) if why else 'ok      ' + name, flush=True)
+            failed += bool(why)
+    for terminal in list(people.Terminal.running):
+        terminal.close()
+    print('%d passed, %d failed' % (sum(map(len, chosen)) - failed, failed))
+    return 1 if failed else 0
+
+
+if __name__ == '__main__':
+    sys.exit(main())

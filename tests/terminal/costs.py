@@ -1,0 +1,87 @@
+"""What a terminal costs: no wakes at rest, milliseconds, memory, and a router that is seen to be dead."""
+
+import os
+import re
+import statistics
+import time
+
+from hostile import BOARD, greeted, with_server
+from people import Failed, same
+
+# Kilobytes of memory that a game may take at most.
+MEMORY = 3072
+
+ROUNDS = 200
+
+
+def switches(job):
+    """How often the threads of a job have gone to sleep by themselves."""
+    count = 0
+    for thread in os.listdir('/proc/%d/task' % job):
+        with open('/proc/%d/task/%s/status' % (job, thread)) as status:
+            count += int(re.search(r'^voluntary_ctxt_switches:\s+(\d+)', status.read(), re.M)[1])
+    return count
+
+
+@with_server
+def no_wakes_at_rest(server):
+    ann = greeted(server)
+    server.send(BOARD)
+    ann.hint()
+    time.sleep(1)
+    before, ticks = switches(ann.job), ann.ticks()
+    time.sleep(4)
+    same('wakes, and ticks of the processor', (switches(ann.job) - before, ann.ticks() - ticks), (0, 0))
+    ann.close()
+
+
+@with_server
+def milliseconds(server):
+    """Measured, and not judged: a machine may do much else."""
+    ann = greeted(server)
+    time.sleep(0.3)
+    out, shown = [], []
+    for number in range(ROUNDS):
+        began = time.monotonic()
+        ann.type('say number %d' % number)
+        server.line()
+        out.append(1000 * (time.monotonic() - began))
+        time.sleep(0.01)
+        began = time.monotonic()
+        server.send('12 bob number %d' % number)
+        ann.sees('bob says: number %d' % number)
+        shown.append(1000 * (time.monotonic() - began))
+    for what, taken in (('a typed line is at the server', out), ('a line of the server is on the screen', shown)):
+        print('        measured: %s after %.2f ms, of 100 lines 99 within %.2f ms' % (
+            what, statistics.median(taken), statistics.quantiles(taken, n=100)[98]), flush=True)
+    ann.close()
+
+
+@with_server
+def memory(server):
+    ann = greeted(server)
+    server.send(*(['13 eve a line of talk that is heard and shown'] * 50000), BOARD)
+    ann.hint()
+    with open('/proc/%d/status' % ann.job) as status:
+        peak = int(re.search(r'^VmHWM:\s+(\d+) kB', status.read(), re.M)[1])
+    print('        measured: %d kB of memory at most' % peak, flush=True)
+    same('at most %d kB' % MEMORY, peak <= MEMORY, True)
+    ann.close()
+
+
+@with_server
+def a_dead_router_is_seen(server):
+    """The system asks after the other end when the connection is idle, within two minutes."""
+    ann = greeted(server)
+    port = ':%04X' % server.port
+    with open('/proc/net/tcp') as table:
+        rows = [row.split() for row in table if row.split()[2].endswith(port)]
+    if not rows:
+        raise Failed('no connection to port %d' % server.port)
+    kind, when = rows[0][5].split(':')
+    same('the timer is that of keepalive, and runs within two minutes',
+         (kind, int(when, 16) / os.sysconf('SC_CLK_TCK') <= 120), ('02', True))
+    ann.close()
+
+
+SCENES = [no_wakes_at_rest, milliseconds, memory, a_dead_router_is_seen]

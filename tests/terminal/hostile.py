@@ -1,0 +1,180 @@
+"""Servers that flood, and that send what a terminal would obey."""
+
+import random
+import threading
+import time
+
+import people  # noqa: F401
+from people import Failed, PATIENCE, PROGRAM, Person, same
+from prop_server import OWN_INFO, Server
+
+WELCOME = '1 ann 1041253132 localhost'
+# What a terminal does not obey.
+HARMLESS = {chr(code) for code in [10, *range(32, 127)]}
+MILLION = 1000000
+
+
+def greeted(server, **more):
+    """Ann at a terminal, greeted by a server that does what a test says."""
+    ann = Person(server.port, **more)
+    server.accept()
+    same('the login', server.line().split(' ')[:4], ['login', 'fibs_client', '1008', 'ann'])
+    server.send(WELCOME, OWN_INFO % 'ann')
+    same('the first commands', [server.line(), server.line()], ['set boardstyle 3', 'board'])
+    ann.reads('Welcome, ann')
+    return ann
+
+
+def with_server(scene):
+    """A decorator: the scene is given a server of its own."""
+    def run():
+        server = Server()
+        try:
+            scene(server)
+        finally:
+            server.close()
+    run.__name__ = scene.__name__
+    return run
+
+
+BOARD = ('board:You:bob:3:0:0:0:-2:0:0:0:0:5:0:3:0:0:0:-5:5:0:0:0:-3:0:-5:0:0:0:0:2:0:'
+         '1:0:0:0:0:1:1:1:0:1:-1:0:25:0:0:0:0:0:0:0:0')
+
+# Beginnings of lines, in which anything may stand behind.
+FRONTS = [b'', b'12 bob ', b'13 bob ', b'7 bob ', b'5 bob - - 1 0 1500.00 1 1 1 h - ', b'9 bob 1041253132 ', b'1 ann 1 ',
+          b'board:', BOARD.encode()[:-3], b'2 ann ', b'bob wants to resign. ', b'> login: ']
+
+# What a terminal would obey: CSI, OSC, DCS, C1 controls, a bell, a backspace, a direction mark in UTF-8, ..
+COMMANDS = [b'\x1b[2J', b'\x1b]0;title\x07', b'\x1bP1$q\x1b\\', b'\x9b31m', b'\x90', b'\x08', b'\x0c', b'\x07',
+            b'\x0e', b'\x7f', '‮'.encode(), b'\xc2\x9b2J', b'\x1b[6n', b'\r', b'\x00', b'\\x1b']
+
+
+def hostile_lines(chance, count):
+    """So many random lines, as bytes."""
+    lines = []
+    for _ in range(count):
+        line = chance.choice(FRONTS)
+        for _ in range(chance.randrange(4)):
+            line += chance.choice(COMMANDS) + bytes(chance.randrange(256) for _ in range(chance.randrange(6)))
+        # byte 255 begins a command of telnet, which goes
+        lines.append(line.replace(b'\n', b' '))
+    return b''.join(line + b'\r\n' for line in lines)
+
+
+def a_million_lines_never_act_on_the_terminal(server, **more):
+    """And nothing of them is written to the server."""
+    ann = greeted(server, **more)
+    chance = random.Random(46)
+    portion = [hostile_lines(chance, 5000) for _ in range(10)]
+
+    def sends():
+        for at in range(MILLION // 5000):
+            server.send_bytes(portion[at % 10])
+        server.send('12 bob done at last')
+
+    sender = threading.Thread(target=sends, daemon=True)
+    sender.start()
+    found, seen = set(), 0
+    end = time.monotonic() + 10 * PATIENCE
+    last = b''
+    while b'done at last\r\n' not in last:
+        with ann.news:
+            ann.news.wait(1)
+            piece, ann.seen = bytes(ann.seen), bytearray()
+        found |= set(piece)
+        seen += piece.count(b'\n')
+        last = last[-100:] + piece
+        if time.monotonic() > end:
+            raise Failed('it takes too long: %d lines' % seen)
+    sender.join(PATIENCE)
+    same('bytes that a terminal obeys', sorted(found - set(map(ord, HARMLESS)) - {13}), [])
+    same('lines are shown', seen > MILLION // 4, True)
+    ann.type('quit')
+    ann.ends(0)
+    while server.line() is not None:
+        pass
+    same('what the server got', server.received[3:], [])
+
+
+@with_server
+def a_million_lines(server):
+    a_million_lines_never_act_on_the_terminal(server)
+
+
+@with_server
+def letters_of_other_scripts(server):
+    """Printable letters are themselves where the terminal has them; no control and no direction mark is."""
+    ann = greeted(server, LC_ALL='C.UTF-8')
+    server.send_bytes('12 bob Grüße, Ödön: \u202e\u2066\u0085 \\ ok\r\n'.encode())
+    line = ann.reads('bob says: ').encode('latin-1').decode()
+    same('letters', 'Grüße, Ödön: ' in line, True)
+    same('marks', [mark for mark in '\u202e\u2066\u0085' if mark in line], [])
+    same('a backslash is itself', line.endswith(' \\ ok'), True)
+    ann.close()
+
+
+@with_server
+def what_is_malformed_is_shown(server):
+    """What is wrong in English, with the number and the name behind it; and the line itself."""
+    ann = greeted(server)
+    server.send('12', '5 bob - - 1 0 15x0 1 1 1 h - -', 'board:You:bob:3', '12 bob end')
+    ann.reads('bob says: end')
+    shown = '\n'.join(ann.lines())
+    for wanted in 'Missing', 'NotANumber', '5 bob - - 1 0 15x0 1 1 1 h - -', 'board:You:bob:3':
+        same('%s is shown' % wanted, wanted in shown, True)
+    ann.close()
+
+
+@with_server
+def a_flood_does_not_hold_a_typed_line(server):
+    """Of a server that sends a million lines with no pause: what is typed goes out within a second."""
+    ann = greeted(server)
+    over = threading.Event()
+    lines = b''.join(b'13 eve line %d of many, without a pause\r\n' % number for number in range(1000))
+
+    def floods():
+        for _ in range(MILLION // 1000):
+            if over.is_set():
+                return
+            server.send_bytes(lines)
+
+    def forgets():
+        """A screen of so many lines is not kept."""
+        while not over.is_set():
+            time.sleep(0.1)
+            with ann.news:
+                ann.seen = bytearray(ann.seen[-100:])
+
+    threads = [threading.Thread(target=work, daemon=True) for work in (floods, forgets)]
+    for thread in threads:
+        thread.start()
+    time.sleep(1)
+    taken = []
+    for number in range(5):
+        began = time.monotonic()
+        ann.type('say number %d' % number)
+        same('received', server.line(), 'say number %d' % number)
+        taken.append(time.monotonic() - began)
+        time.sleep(0.2)
+    over.set()
+    print('        measured: a typed line went out of a flood after %s ms'
+          % ', '.join('%.0f' % (1000 * each) for each in taken), flush=True)
+    # the machine may do much else meanwhile: so the one in the middle
+    same('within a second', sorted(taken)[2] < 1, True)
+    ann.close()
+
+
+@with_server
+def nothing_typed_is_lost_when_a_line_comes(server):
+    ann = greeted(server)
+    for number in range(20):
+        ann.type_bytes(b'say h')
+        server.send('12 bob amid %d' % number)
+        ann.reads('amid %d' % number)
+        ann.type_bytes(b'ello %d\n' % number)
+        same('received', server.line(), 'say hello %d' % number)
+    ann.close()
+
+
+SCENES = [a_million_lines, letters_of_other_scripts, what_is_malformed_is_shown, a_flood_does_not_hold_a_typed_line,
+          nothing_typed_is_lost_when_a_line_comes]

@@ -1,0 +1,86 @@
+"""`fibs connect --log FILE`: each line as it came, and what was sent, never the password."""
+
+import os
+import pathlib
+import subprocess
+import time
+
+from hostile import BOARD, WELCOME, with_server
+from people import PASSWORD, PASSWORD_FILE, PATIENCE, PROGRAM, ROOM, Failed, Person, same
+from prop_server import OWN_INFO
+
+OWN = OWN_INFO % 'ann'
+
+
+def holds(path, *texts):
+    """Waits until a file holds these, in their order, while the program still runs. What it holds."""
+    end = time.monotonic() + PATIENCE
+    while True:
+        held = pathlib.Path(path).read_bytes() if os.path.exists(path) else b''
+        at = 0
+        for text in texts:
+            found = held.find(text, at)
+            if found < 0:
+                break
+            at = found + len(text)
+        else:
+            return held
+        if time.monotonic() > end:
+            raise Failed('%r is not in the log: %r' % (text, held[-400:]))
+        time.sleep(0.02)
+
+
+@with_server
+def each_line_as_it_came_and_what_was_sent(server):
+    path = os.path.join(ROOM.name, 'log of a game')
+    pathlib.Path(path).write_bytes(b'what was there before\n')
+    ann = Person(server.port, words=('--log', path))
+    server.accept()
+    server.line()
+    odd = b'12 bob \x1b[2J \xff\xff caf\xe9'
+    for line in WELCOME.encode(), OWN.encode(), b'> ' + BOARD.encode(), odd, b'5 bob - - 1 0 15x0 1 1 1 h - -':
+        server.send_bytes(line + b'\r\n')
+    ann.reads('caf')
+    ann.type('roll')
+    ann.type('send pip')
+    ann.type('dance')
+    for wanted in 'set boardstyle 3', 'board', 'roll', 'pip':
+        same('received', server.line(), wanted)
+    # it is there before the game is over, and behind what was there
+    held = holds(path, b'what was there before\n', WELCOME.encode(), OWN.encode(), BOARD.encode(), b'12 bob \x1b[2J ',
+                 b'5 bob - - 1 0 15x0', b'roll', b'pip')
+    same('the password', PASSWORD.encode() in held, False)
+    same('what was not sent', b'dance' in held, False)
+    ann.type('quit')
+    ann.ends(0)
+    ann.close()
+    done = subprocess.run([PROGRAM, 'show'], input=held, capture_output=True, check=False)
+    shown = done.stdout.split(b'\n')
+    for line in b'message ' + WELCOME.encode(), b'message ' + OWN.encode(), BOARD.encode(), b'malformed 5 6 NotANumber':
+        same('fibs show has %r' % line[:40], line in shown, True)
+    same('the status', done.returncode, 0)
+
+
+@with_server
+def the_login_is_kept_without_its_password(server):
+    """By a pipe too: neither the log nor the account has the password; a log that can't be written is said."""
+    path = os.path.join(ROOM.name, 'log of a pipe')
+    program = subprocess.Popen([PROGRAM, 'connect', '--log', path, '127.0.0.1', str(server.port), 'ann'],
+                               stdin=subprocess.PIPE, stdout=subprocess.PIPE, stderr=subprocess.PIPE)
+    program.stdin.write(PASSWORD.encode() + b'\n')
+    program.stdin.flush()
+    server.accept()
+    same('the login', server.line(), 'login fibs_client 1008 ann ' + PASSWORD)
+    server.send(WELCOME)
+    same('the first command', server.line(), 'set boardstyle 3')
+    holds(path, WELCOME.encode(), b'set boardstyle 3')
+    printed, said = program.communicate(b'quit\n', timeout=PATIENCE)
+    same('the end', (program.returncode, said), (0, b''))
+    held = pathlib.Path(path).read_bytes()
+    same('the password is in none of them', PASSWORD.encode() in held + printed, False)
+    done = subprocess.run([PROGRAM, 'connect', '--log', ROOM.name, '--password-file', PASSWORD_FILE, '127.0.0.1', '1',
+                           'ann'], input=b'quit\n', capture_output=True, timeout=PATIENCE, check=False)
+    same('a log that is a folder', (done.returncode, len(done.stderr.splitlines())), (4, 1))
+
+
+SCENES = [each_line_as_it_came_and_what_was_sent, the_login_is_kept_without_its_password]

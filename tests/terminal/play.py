@@ -1,0 +1,198 @@
+"""fibs-play on real terminals: its keys, its prompt, what it refuses, and what it hands through."""
+
+import os
+import pathlib
+import re
+import shutil
+import subprocess
+import tempfile
+import time
+
+from people import BOLD, PASSWORD, PATIENCE, PROGRAM, ROOM, ROOT, Failed, Served, Terminal, same
+
+PLAY = str(ROOT / 'scripts' / 'fibs-play')
+RLWRAP = shutil.which('rlwrap')
+# What rlwrap draws is its own: this is all that is no text.
+DRAWN = re.compile(r'\x1b\[[0-9;?]*[a-zA-Z@]|\r|\x07')
+SHELLS = [words for words in ([], ['dash'], ['bash', '--posix'], ['bash']) if not words or shutil.which(words[0])]
+REFUSED = 2
+
+
+class Typist(Terminal):
+    """One who has begun fibs-play."""
+
+    def __init__(self, words, kind='xterm', shell=(), play=PLAY, password=True, **more):
+        home = tempfile.mkdtemp(dir=ROOM.name)
+        super().__init__([*shell, play, *words], **{
+            'TERM': kind, 'FIBS': PROGRAM, 'HOME': home, 'RLWRAP_HOME': home, 'LC_ALL': 'C', 'FIBS_QUIET': '1', **more})
+        if password:
+            self.sees('password: ')
+            self.type(PASSWORD)
+
+    def plain(self):
+        return DRAWN.sub('', self.screen())
+
+    def is_shown(self, text, count=1, seconds=PATIENCE):
+        """Waits until a text stands on the screen so often, whatever is drawn between its letters."""
+        end = time.monotonic() + seconds
+        while self.plain().count(text) < count:
+            if time.monotonic() > end:
+                raise Failed('%r is not shown: %r' % (text, self.plain()[-300:]))
+            with self.news:
+                self.news.wait(0.2)
+
+
+def with_server(scene):
+    """A decorator: the scene is given a server with a bot. Where rlwrap is not installed it is left out."""
+    def run():
+        if not RLWRAP:
+            print('        without rlwrap: not tried', flush=True)
+            return
+        server = Served('--bot', 'eve:says=hello', '--no-changes')
+        try:
+            scene(server)
+        finally:
+            server.close()
+    run.__name__ = scene.__name__
+    return run
+
+
+def in_play(server, **more):
+    """One who is logged in, and whose lines are edited."""
+    player = Typist(['127.0.0.1', str(server.port), 'ann'], **more)
+    player.is_shown('Welcome, ann')
+    player.shown(0.3)
+    return player
+
+
+@with_server
+def ctrl_c_cancels_the_line_and_not_the_game(server):
+    """By each shell: a half-typed line goes; pressed once at an empty line it says so; twice, it leaves."""
+    for shell in SHELLS:
+        player = in_play(server, shell=shell)
+        player.type_bytes(b'tell eve never')
+        player.is_shown('tell eve never')
+        player.type_bytes(b'\x03')
+        player.is_shown('cancelled')
+        player.type('tell eve hi')
+        player.is_shown('hello')
+        same('what was cancelled did not go out', 'You say to eve: never' in player.plain(), False)
+        player.type_bytes(b'\x03')
+        player.is_shown('Ctrl-C again leaves')
+        player.type('tell eve still here')
+        player.is_shown('hello', 2)
+        player.type_bytes(b'\x03')
+        player.is_shown('Ctrl-C again leaves', 2)
+        player.type_bytes(b'\x03')
+        player.ends(0)
+        same('the terminal is as it was', (player.echoes(), interrupts(player)), (True, b'\x03'))
+        player.close()
+
+
+def interrupts(player):
+    """The key that interrupts on a terminal."""
+    import termios
+    return termios.tcgetattr(player.fd)[6][termios.VINTR]
+
+
+@with_server
+def ctrl_c_after_a_stop(server):
+    """Ctrl-Z and fg: the key cancels as before."""
+    player = in_play(server)
+    player.type_bytes(b'\x1a')
+    player.is_stopped()
+    player.to_the_foreground()
+    player.shown(0.5)
+    player.type_bytes(b'tell eve never')
+    player.is_shown('tell eve never')
+    player.type_bytes(b'\x03')
+    player.is_shown('cancelled')
+    player.type('tell eve hi')
+    player.is_shown('hello')
+    player.type('quit')
+    player.ends(0)
+    player.close()
+
+
+@with_server
+def tab_completes_the_players_names(server):
+    player = in_play(server)
+    player.type('players')
+    player.is_shown('eve')
+    player.shown(0.3)
+    player.type_bytes(b'tell ev\t hi\n')
+    player.is_shown('hello')
+    player.type('quit')
+    player.ends(0)
+    player.close()
+
+
+@with_server
+def a_prompt(server):
+    player = in_play(server)
+    same('the prompt', player.plain().endswith('> '), True)
+    player.type('quit')
+    player.ends(0)
+    player.close()
+
+
+def a_word_where_rlwrap_is_missing():
+    """Lines are not edited then, and it says so before it asks for the password."""
+    server = Served()
+    try:
+        with tempfile.TemporaryDirectory() as room:
+            for name in 'sh', 'stty', 'dirname', 'cat':
+                os.symlink(shutil.which(name), os.path.join(room, name))
+            player = Typist(['127.0.0.1', str(server.port), 'ann'], PATH=room)
+            player.is_shown('Welcome, ann')
+            same('the first line', player.plain().split('\n')[0],
+                 'fibs-play: without rlwrap lines are not edited, and Ctrl-C ends the program.')
+            player.type_bytes(b'\x03')
+            player.ends(130)
+            player.close()
+    finally:
+        server.close()
+
+
+def what_can_not_be_is_refused_before_a_password_is_typed():
+    rows = [
+        (['', '4321', 'ann'], 'HOST'), (['-x', '4321', 'ann'], 'HOST'), (['a b', '4321', 'ann'], 'HOST'),
+        (['localhost', 'http', 'ann'], 'PORT'), (['localhost', '0', 'ann'], 'PORT'),
+        (['localhost', '65536', 'ann'], 'PORT'), (['localhost', '4321', ''], 'NAME'),
+        (['localhost', '4321', 'a:b'], 'NAME'), (['localhost', '4321', 'a b'], 'NAME'),
+        (['localhost', '4321', 'a' * 65], 'NAME'), (['--log', '/', 'localhost', '4321', 'ann'], 'log'),
+        (['--log'], '--log'), (['localhost', '4321'], 'usage'),
+    ]
+    for shell in SHELLS:
+        for words, wanted in rows:
+            player = Typist(words, shell=shell, password=False)
+            player.ends(REFUSED)
+            same('%s is named for %r' % (wanted, words), wanted in player.plain(), True)
+            same('a password is asked for', 'password' in player.plain().replace('the password', ''), False)
+            player.close()
+
+
+@with_server
+def a_log(server):
+    """It is handed through, the password does not stand in it, and so it is where nothing is edited."""
+    for kind in 'xterm', 'dumb':
+        log = os.path.join(ROOM.name, 'log of ' + kind)
+        player = Typist(['--log', log, '127.0.0.1', str(server.port), 'ann'], kind=kind)
+        player.is_shown('Welcome, ann')
+        player.type('tell eve hi')
+        player.is_shown('hello')
+        player.type('quit')
+        player.ends(0)
+        player.close()
+        held = pathlib.Path(log).read_bytes()
+        same('the password is not in it', PASSWORD.encode() in held, False)
+        for text in b'1 ann ', b'12 eve hello', b'tell eve hi':
+            same('%r is in it' % text, text in held, True)
+        done = subprocess.run([PROGRAM, 'show'], input=held, capture_output=True, check=False)
+        same('fibs show', (done.returncode, b'message 12 eve hello\n' in done.stdout, b'unfinished' in done.stdout),
+             (0, True, False))
+        time.sleep(0.3)
+
+
+SCENES = [ctrl_c_cancels_the_line_and_not_the_game, ctrl_c_after_a_stop, tab_completes_the_players_names, a_prompt,
+          a_word_where_rlwrap_is_missing, what_can_not_be_is_refused_before_a_password_is_typed, a_log]
