@@ -357,6 +357,10 @@ def a_game_ends(server):
             if kind != 'dumb' and given == signal.SIGHUP:
                 continue  # which tells rlwrap that the terminal is gone
             player = played_at(server, kind)
+            if given == b'\x03' and kind != 'dumb':
+                # where lines are edited the first one cancels the line
+                player.type_bytes(given)
+                player.sees('Ctrl-C again leaves')
             if isinstance(given, bytes):
                 player.type_bytes(given)
             else:

@@ -1,6 +1,11 @@
 """Whole matches between two clients, or against a bot, each checked by the rules as another program has them."""
 
-from clients import Failed, Gambler, Served, play, same
+import random
+import re
+import select
+import time
+
+from clients import PATIENCE, Client, Failed, Gambler, Served, play, same
 
 
 def worth_of(board, winner):
@@ -124,5 +129,116 @@ def the_same_seed_gives_the_same_match():
     same('the boards', seen[0], seen[1])
 
 
-TESTS = [matches_of_many_lengths, matches_by_habits, a_match_over_bad_connections, matches_against_a_bot,
+class Stubborn(Gambler):
+    """One who connects again when the connection is cut, and plays on: at the game as it is kept, or as it was saved."""
+
+    def __init__(self, port, name, seed, other, **more):
+        self.other, self.cuts, self.heard = other, 0, 0
+        super().__init__(port, name, seed, **more)
+
+    def log_in(self):
+        """Not to the end: the connection may be cut before."""
+        self.send('login tests 1008 %s %s' % (self.name, self.password), 'set boardstyle 3', 'board')
+
+    def forget(self, seconds=0.1):
+        pass
+
+    def hear(self, line):
+        self.heard += 1
+        # where a connection was cut a play may have been lost, or have been made: the next board says so
+        found = re.match(r"Type '(join \S+)' to accept", line)
+        if found:
+            self.send(found[1])
+        elif line == "** You're not playing.":
+            self.invite()
+        else:
+            super().hear(line)
+
+    def invite(self):
+        """The one of the two asks for the match again, and for a new one if none was saved."""
+        if self.name < self.other and not self.result:
+            self.send('invite %s' % self.other)
+            if not self.board:
+                self.send('invite %s 1' % self.other)
+
+    def goes_on(self):
+        """Connects again if the connection was cut, and asks how things stand if nothing is heard."""
+        if self.is_over:
+            self.cuts += 1
+            self.connect()
+            self.decided = self.expected = None
+            self.log_in()
+        elif self.heard == 0:
+            self.decided = None
+            self.send('board')
+        self.heard = 0
+
+
+def play_on(*clients, seconds=PATIENCE * 2):
+    """Lets clients play over connections that are cut, until one of them has heard the result."""
+    end, asked = time.monotonic() + seconds, time.monotonic()
+    while all(client.result is None for client in clients):
+        if time.monotonic() > end:
+            raise Failed('the match does not end; the last lines are %r' % [client.read[-4:] for client in clients])
+        ready = select.select([client.socket for client in clients if not client.is_over], [], [], 0.1)[0]
+        for client in clients:
+            if client.socket in ready:
+                client.take(0)
+            while client.at < len(client.read):
+                client.hear(client.next())
+            if client.is_over:
+                client.goes_on()
+        if time.monotonic() - asked > 0.5:
+            asked = time.monotonic()
+            for client in clients:
+                client.goes_on()
+
+
+def matches_over_connections_that_are_cut():
+    """The game is kept, or it was saved and is resumed; no board of it is wrong."""
+    for options in ['--keep-games'], []:
+        server = Served('--cut', '50', '--no-changes', '--seed', '2', *options)
+        try:
+            ann, bob = Stubborn(server.port, 'ann', 6, 'bob'), Stubborn(server.port, 'bob', 6, 'ann')
+            play_on(ann, bob)
+            same('connections were cut', ann.cuts + bob.cuts > 3, True)
+            ann.close()
+            bob.close()
+        finally:
+            server.close()
+
+
+WORDS = ('roll double accept reject resign move leave board pip invite join show watch unwatch look say tell shout '
+         'kibitz whisper message gag who rawwho whois away back set toggle motd time version wave help bye m 8-5 6-5 '
+         'bar-20 3-off off-3 25-1 0-0 99-1 n g b ann bob eve joe 1 3 9999 unlimited 0 -1 saved savedcount ready '
+         'boardstyle 2 double greedy automove telnet').split()
+
+
+def random_commands_never_upset_it():
+    """Three at random, who also leave without a word. The server goes on, and says nothing of itself."""
+    server = Served('--bot', 'bot:plays=random', '--bot-pause', '0', '--mixed-sides', '--seed', '5')
+    chance = random.Random(46)
+    try:
+        clients = {name: Client(server.port, name) for name in ('ann', 'bob', 'eve')}
+        for number in range(3000):
+            name = chance.choice(sorted(clients))
+            client = clients[name]
+            words = [chance.choice(WORDS) for _ in range(chance.choice([1, 1, 2, 3]))]
+            client.send('join' if number % 7 == 0 else 'roll' if number % 5 == 0 else ' '.join(words))
+            if number % 50 == 0:
+                client.forget(0)
+            if client.is_over or chance.random() < 0.002:
+                client.close()
+                clients[name] = Client(server.port, name)
+        for name, client in clients.items():
+            client.close()
+            again = Client(server.port, name)
+            again.forget(0.3)
+            again.answers('version', 'fibs_server of Liftplum 0.1.0')
+            again.close()
+    finally:
+        server.close()
+
+
+TESTS = [random_commands_never_upset_it, matches_over_connections_that_are_cut, matches_of_many_lengths, matches_by_habits, a_match_over_bad_connections, matches_against_a_bot,
          the_same_seed_gives_the_same_match]

@@ -133,10 +133,14 @@ def a_flood_does_not_hold_a_typed_line(server):
     lines = b''.join(b'13 eve line %d of many, without a pause\r\n' % number for number in range(1000))
 
     def floods():
-        for _ in range(MILLION // 1000):
-            if over.is_set():
-                return
-            server.send_bytes(lines)
+        try:
+            for _ in range(MILLION // 1000):
+                if over.is_set():
+                    return
+                server.send_bytes(lines)
+        except OSError:
+            # ann has gone
+            pass
 
     def forgets():
         """A screen of so many lines is not kept."""
