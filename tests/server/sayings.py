@@ -276,6 +276,10 @@ def watchers(server):
     eve.answers('unwatch', 'You stop watching bob.')
     eve.answers('board', "** You're not playing.")
     eve.answers('look ann', 'board:ann:bob:3:0:0:..')
+    eve.answers('set boardstyle 1', "Value of 'boardstyle' set to 1.")
+    eve.answers('look ann', '   +  13  14  15  16  17  18+---+  19  20  21  22  23  24+',
+                '   |   O               X    |   |   X                   O|')
+    eve.sees('   O ann: score 0, bar 0, off 0', '   turn: bob, cube: 1')
 
 
 @served('--refuse', 'double=1', '--refuse', 'roll=2', '--dice', '31,42')
