@@ -2,7 +2,8 @@
 """Holds what a player sees of the program to one list: tests/surface.py [PROGRAM]
 
 The man page, the help (the texts of tests/help, to which tests/program holds the program), the completions and
-docs/PLAYING.md have the same subcommands, options, typed lines, refusals and statuses. With a PROGRAM it is asked too
+docs/PLAYING.md have the same subcommands, options, typed lines, refusals and statuses, and say the same of each: what
+that is stands in tests/meanings.py. With a PROGRAM it is asked too
 whether it takes each typed line. A shell, or a reader of man pages, that is not installed is left out. Prints a line
 for each case, and then `N passed, M failed`.
 """
@@ -13,6 +14,8 @@ import shutil
 import subprocess
 import sys
 import tempfile
+
+import meanings
 
 ROOT = pathlib.Path(__file__).resolve().parent.parent
 
@@ -211,6 +214,74 @@ def the_statuses_are_the_same(_program):
     same('signals', [one for one in SIGNALS if not re.search(r'\b%s\b' % one, page('EXIT STATUS'))], [])
 
 
+def bare(text):
+    """A part of the man page without its macros."""
+    return ' '.join(re.sub(r'^\.\w+ ', '', line) for line in text.splitlines())
+
+
+def described_by_the_page(section):
+    """What a section of the man page says of the lines, refusals or statuses that it lists."""
+    for item in re.split(r'^\.It ', page(section), flags=re.M)[1:]:
+        head, _, said = item.partition('\n')
+        said = bare(re.split(r'^\.El', said, flags=re.M)[0])
+        yield [re.sub(r'^(?:Li|Cm) | Ar .*', '', one) for one in head.split(' , ')], head + ' ' + said
+
+
+def described_by_table(path, head):
+    """What a table of a page says: the spans of the first cell of each row, and the whole row."""
+    for row in re.findall(r'^\| `.*\|$', part(text_of(path) + '\n## ', head, '\n## '), re.M):
+        yield re.findall(r'`([^`]*)`', row.split(' | ')[0]), row
+
+
+def described_by_help():
+    """What the help of connect says of each typed line."""
+    listed = part(text_of('tests/help/connect.txt'), 'each line that is typed is one of\n', '\nand is answered by')
+    for item in re.split(r'\n(?=  \S)', '\n' + listed.strip('\n'))[1:]:
+        said = ' '.join(line[26:].strip() for line in item.splitlines())
+        yield item[2:26].strip().split(', '), item[2:26] + said
+
+
+def held(where, rows, known):
+    """Each row has the meaning of each line that it is about."""
+    for spans, said in rows:
+        for span in spans:
+            for line, meaning in known.items():
+                if span == line or span.startswith(line + ' '):
+                    if not re.search(meaning, ' '.join(said.split()), re.I):
+                        raise Failed('%s says of %r: %r' % (where, span, said))
+
+
+def each_typed_line_means_the_same(_program):
+    known = {**meanings.TYPED, **meanings.TERMINAL}
+    same('lines without a meaning', [line for line in TYPED if line not in known], [])
+    held('the page', described_by_the_page('TYPED LINES'), known)
+    held('docs/PLAYING.md', described_by_table('docs/PLAYING.md', '## What you can type'), known)
+    held('help', described_by_help(), known)
+
+
+def each_refusal_means_the_same(_program):
+    known = {'%d %s' % (number, name): meaning for number, name, meaning in meanings.REFUSALS}
+    formats = re.search(r'`refused NUMBER NAME` \| the client refuses: (.*?) \|', text_of('docs/FORMATS.md'))[1]
+    same('docs/FORMATS.md', formats.split(', '), list(known))
+    held('the page', described_by_the_page('REFUSALS'), known)
+    rows = described_by_table('docs/PLAYING.md', '## What is refused')
+    held('docs/PLAYING.md', [([span.replace('refused ', '') for span in spans], said) for spans, said in rows], known)
+    header = text_of('include/fibs.h').upper()
+    for number, name, _meaning in meanings.REFUSALS:
+        same('the header has %s' % name, re.sub(r'(?<=[a-z])(?=[A-Z])', '_', name).upper() in header, True)
+
+
+def each_status_means_the_same(_program):
+    known = {str(status): meaning for status, meaning in meanings.STATUSES.items()}
+    formats = part(text_of('docs/FORMATS.md') + '\n## ', '## Statuses of `fibs`', '\n## ')
+    rows = re.findall(r'^\| (\d+) \| (.*) \|$', formats, re.M)
+    same('docs/FORMATS.md', [status for status, _said in rows], list(known))
+    held('docs/FORMATS.md', [([status], said) for status, said in rows], known)
+    held('the page', described_by_the_page('EXIT STATUS'), known)
+    said = ' '.join(text_of('tests/help/fibs.txt').split('Exit status:')[1].split())
+    held('help', [([item.split()[0]], item) for item in re.split(r', (?=\d)', said)], known)
+
+
 def the_picture_of_the_page_is_the_players(_program):
     drawn = part(page('THE PICTURE'), '.Bd -literal\n', '.Ed')
     same('its lines', len(drawn.splitlines()), 14)
@@ -274,7 +345,8 @@ CASES = [
     help_has_the_subcommands, the_page_has_the_subcommands, help_has_the_options, the_page_has_the_options,
     bash_completes, zsh_completes, fish_completes, help_has_the_typed_lines, the_page_has_the_typed_lines,
     the_players_page_has_the_typed_lines, the_page_has_the_printed_lines, the_refusals_are_the_same,
-    the_statuses_are_the_same, the_picture_of_the_page_is_the_players, the_game_of_the_readme_is_played,
+    the_statuses_are_the_same, each_typed_line_means_the_same, each_refusal_means_the_same, each_status_means_the_same,
+    the_picture_of_the_page_is_the_players, the_game_of_the_readme_is_played,
     the_page_is_clean, fibs_play_is_plain_shell, fibs_play_tells_its_use, make_installs_them,
 ]
 
