@@ -35,23 +35,32 @@ def no_wakes_at_rest(server):
     ann.close()
 
 
+def until_at_the_server(server, ann, line):
+    """The milliseconds that a typed line takes to the server."""
+    began = time.monotonic()
+    ann.type(line)
+    same('received', server.line(), line)
+    return 1000 * (time.monotonic() - began)
+
+
 @with_server
 def milliseconds(server):
     """Measured, and not judged: a machine may do much else."""
     ann = greeted(server)
-    time.sleep(0.3)
-    out, shown = [], []
+    at_rest, shown, at_once = [], [], []
     for number in range(ROUNDS):
-        began = time.monotonic()
-        ann.type('say number %d' % number)
-        server.line()
-        out.append(1000 * (time.monotonic() - began))
-        time.sleep(0.01)
+        # it rests when the server has said nothing for a while
+        time.sleep(0.04)
+        at_rest.append(until_at_the_server(server, ann, 'say number %d' % number))
+        time.sleep(0.04)
         began = time.monotonic()
         server.send('12 bob number %d' % number)
         ann.sees('bob says: number %d' % number)
         shown.append(1000 * (time.monotonic() - began))
-    for what, taken in (('a typed line is at the server', out), ('a line of the server is on the screen', shown)):
+        at_once.append(until_at_the_server(server, ann, 'say and again %d' % number))
+    for what, taken in (('a line that is typed at rest is at the server', at_rest),
+                        ('one that is typed directly behind a line of the server', at_once),
+                        ('a line of the server is on the screen', shown)):
         print('        measured: %s after %.2f ms, of 100 lines 99 within %.2f ms' % (
             what, statistics.median(taken), statistics.quantiles(taken, n=100)[98]), flush=True)
     ann.close()

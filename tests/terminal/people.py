@@ -64,7 +64,8 @@ class Person(Terminal):
         command = [PROGRAM, 'connect', '--password-file', PASSWORD_FILE, *words, '127.0.0.1', str(port), name]
         more = {'FIBS_QUIET': '1', 'LC_ALL': 'C', 'TZ': 'UTC', **more}
         super().__init__(command, columns, rows, **more)
-        self.read_to = 0
+        # the lines that were taken from the screen, up to which byte of it, and how many of them were read
+        self.taken, self.taken_to, self.read_to = [], 0, 0
 
     def lines(self):
         """The whole lines of the screen, without what makes letters bold."""
@@ -73,12 +74,18 @@ class Person(Terminal):
     def next_line(self, seconds=PATIENCE):
         """The next line of the screen."""
         end = time.monotonic() + seconds
-        while len(lines := self.lines()) <= self.read_to:
+        while self.read_to == len(self.taken):
             with self.news:
-                if not self.news.wait(min(1, max(0, end - time.monotonic()))) and time.monotonic() >= end:
-                    raise Failed('nothing more is shown behind %r' % lines[-6:])
+                whole = self.seen.rfind(b'\n') + 1
+                if whole <= self.taken_to:
+                    if not self.news.wait(min(1, max(0, end - time.monotonic()))) and time.monotonic() >= end:
+                        raise Failed('nothing more is shown behind %r' % self.taken[-6:])
+                    continue
+                piece = bytes(self.seen[self.taken_to:whole])
+            self.taken_to = whole
+            self.taken += BOLD.sub('', piece.decode('latin-1').replace('\r\n', '\n')).split('\n')[:-1]
         self.read_to += 1
-        return lines[self.read_to - 1]
+        return self.taken[self.read_to - 1]
 
     def reads(self, text, seconds=PATIENCE):
         """Reads on to a line in which a text stands; the line."""
