@@ -29,7 +29,7 @@ fn main() -> io::Result<()> {
     output.flush()
 }
 
-/// Where a stream stands between two bytes: within plain bytes, after 255, or after 255 and one of 251 to 254.
+/// The state of a stream between two bytes: within plain bytes, after 255, or after 255 and one of 251 to 254.
 #[derive(Clone, Copy, Default)]
 enum Telnet {
     #[default]
@@ -38,7 +38,7 @@ enum Telnet {
     Option,
 }
 
-/// The unfinished line of a stream: its first bytes, one more than `LINE_LIMIT` where there are more, how many it has in
+/// The unfinished line of a stream: its first bytes, one more than `LINE_LIMIT` if there are more, how many it has in
 /// all, and whether the last is a CR.
 #[derive(Default)]
 struct Lines {

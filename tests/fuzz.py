@@ -326,7 +326,7 @@ def plays_word(rng):
 
 
 def a_word(line):
-    """Made to be an argument: text without NUL that is no option, and has no place where a test would cut it."""
+    """Made to be an argument: text without NUL that is no option, and has nothing at which a test would cut it."""
     text = line.decode('latin-1').encode('ascii', 'ignore').translate(None, b'\x00\n')
     return text if text and not text.startswith(b'-') else b'board:' + text
 
@@ -461,7 +461,7 @@ def wishes(model):
     client, ready = model.client, any(b'\r\n' in c.up and c.number >= model.logged_in for c in model.connections)
     common = {told: 3, 'plain': 3, click: 2, 'repeat': 1, 'own': 1 if model.board.phase() in reference.DECIDED else 30}
     if not client.connection:
-        # The last two may not be, and end the script; so does serving where no line arrived.
+        # The last two may not be, and end the script; so does serving if no line arrived.
         return {'open': 60, serve: 25 if ready else 1, **common, deliver: 0.5, lose: 0.5}
     common.update({lose: 4, serve: 50 if ready else 0, deliver: 20 if client.connection.down else 2})
     if client.connection.number == model.logged_in or not ready:
@@ -470,7 +470,7 @@ def wishes(model):
         common.update({'settings': 10})
     if client.board and not client.waiting:
         common[click] = 40
-    # An order is given early and stands for long; now and then it is given twice, or withdrawn where none stands.
+    # An order is given early and kept for long; now and then it is given twice, or withdrawn without one.
     common.update({'order roll': 1 if client.ordered else 4, 'withdraw roll': 1 if client.ordered else 0.2})
     return common
 
@@ -575,7 +575,7 @@ class Program:
         return self.beside(mode, data, getattr(reference, mode)(data))
 
     def beside(self, mode, data, expected):
-        """The input, what is expected of it (nothing is said where only two are given), and what the program does."""
+        """The input, what is expected of it (nothing, if only two are given), and what the program does."""
         return [data, (*expected, b'')[:3], self.run(mode, data)]
 
 

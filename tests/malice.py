@@ -1,5 +1,5 @@
 #!/usr/bin/env python3
-"""Tests the built program's `connect` against servers that mean it ill: tests/malice.py PROGRAM
+"""Tests the built program's `connect` against hostile servers: tests/malice.py PROGRAM
 
 Whatever the server does, the program holds little memory, answers each typed line, sends nothing twice and nothing that
 was not called for, and ends as its documents say. As in talks.py, each step waits for a line or for the end of a
@@ -20,7 +20,7 @@ from talks import LOGIN, PATIENCE, PROGRAM, STYLE, WELCOME, Failed, Player, gree
 # The most memory that the program may hold, in kilobytes.
 MOST_MEMORY = 10000
 
-# The most that it may hold with 4096 players of whom the longest lines were told, which are 67 MB.
+# The most that it may hold with 4096 players whose lines were the longest, 67 MB in all.
 MOST_MEMORY_OF_PLAYERS = 76000
 
 # How many players a directory has room for.
@@ -100,7 +100,7 @@ def leaves(player, server, *received, most=MOST_MEMORY):
 
 
 def leaves_offline(player, server, *received):
-    """The same where the connection is over."""
+    """The same after the connection is over."""
     player.type('roll')
     player.sees('refused 2 Offline')
     holds_little(player.program)
@@ -470,7 +470,7 @@ def telnet_commands_across_every_cut(_server):
     at_once(cut, range(1, len(TELNET)))
 
 
-# How many bytes of prompts stand before a line end.
+# How many bytes of prompts come before a line end.
 PROMPT_BYTES = 10000000
 
 
@@ -630,7 +630,7 @@ def every_pattern_of_the_flags_of_message_2(_server):
 # -- players ---------------------------------------------------------------------------------------------------------
 
 def more_players_than_there_is_room_for(server, most, length):
-    """A server that tells of more and more players, in lines of this length."""
+    """A server that lists more and more players, in lines of this length."""
     def line(number):
         told = '5 player%d - - 1 0 1500.00 10 0 1041253132 host fibs_client ' % number
         return told + 'a' * max(1, length - len(told))

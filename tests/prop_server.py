@@ -160,7 +160,7 @@ class Server:
         self.listener.close()
 
     def log_in(self):
-        """Reads a login, and greets the player. None where no login comes."""
+        """Reads a login, and greets the player. None if no login comes."""
         words = (self.line() or '').split(' ')
         if words[:3] != ['login', 'fibs_client', '1008'] or len(words) != 5:
             return None

@@ -21,7 +21,7 @@ def without_cr(line):
     return line[:-1] if line.endswith(b'\r') else line
 
 def lines_of(stream):
-    """The whole lines, each with whether it was cut, and how many bytes stand after the last of them."""
+    """The whole lines, each with whether it was cut, and how many bytes follow the last of them."""
     *whole, rest = without_telnet(stream).split(b'\n')
     whole = [without_cr(line) for line in whole]
     return [(PROMPTS.sub(b'', line[:KEPT]), len(line) > KEPT) for line in whole], min(len(rest), KEPT)
@@ -200,7 +200,7 @@ class Board:
         return self.fault() is None
 
     def dice(self):
-        """The dice still to play: a double is played four times; one die may stand alone."""
+        """The dice still to play: a double is played four times; there may be one die alone."""
         dice = tuple(die for die in self.fields[34:36] if die)
         return dice * 2 if len(set(dice)) < len(dice) else dice
 
@@ -230,7 +230,7 @@ class Board:
         return Board(b':'.join(value if isinstance(value, bytes) else b'%d' % value for value in fields))
 
 def target_of(position, source, die):
-    """Where a checker of `source` comes to with a die, or None where it may not go."""
+    """The place that a checker of `source` reaches with a die, or None if it may not go."""
     own, other = position
     if not own[source] or (own[BAR] and source != BAR):
         return None
@@ -266,7 +266,7 @@ def sequences(position, dice):
 
 @functools.lru_cache(maxsize=100)
 def legal_plays(position, dice):
-    """The step sequences that use the dice most fully; where one of two dice can be used, the larger if it can be."""
+    """The step sequences that use the dice most fully; if only one of two dice can be used, the larger if it can be."""
     found = sequences(position, dice)
     fullest = max(len(steps) for steps, _ in found)
     found = {(steps, used) for steps, used in found if len(steps) == fullest}
@@ -328,7 +328,7 @@ PRINTED = re.compile(rb'[ -~]{1,400}')
 WORDS = {b'bar': BAR, b'off': OFF}
 
 def read_decision(text):
-    """A text, or a tuple of steps in own numbers; None where it is no decision."""
+    """A text, or a tuple of steps in own numbers; None if it is no decision."""
     if text in (b'roll', b'double', b'accept', b'reject') + RESIGNATIONS:
         return text
     if not MOVE.fullmatch(text):
@@ -343,7 +343,7 @@ def print_decision(decision, board):
     return b' '.join([b'move'] + [ends[source] + b'-' + ends[target] for source, target in decision])
 
 def read_plain(line):
-    """A plain command as its word, its name and its text (None: it has none); None where the line is none."""
+    """A plain command as its word, its name and its text (None if it has none); None if it is not a command."""
     first, space, rest = line.partition(b' ')
     if first in (b'say', b'shout', b'whisper', b'kibitz'):
         return first, None, rest
@@ -365,7 +365,7 @@ def read_invitation(rest):
     return b'invite', who, None
 
 def has_text(command):
-    """Whether a plain command can be written to the server; where not, the client names a fault and sends nothing."""
+    """Whether a plain command can be written to the server; if not, the client names a fault and sends nothing."""
     _, who, text = command
     return (who is None or bool(NAME.fullmatch(who))) and (text is None or bool(PRINTED.fullmatch(text)))
 
@@ -476,7 +476,7 @@ class Client:
         self.connection.send(print_decision(decision, self.board))
 
     def order(self, ordered):
-        """A standing order to roll is given, or withdrawn; one that stands is not given again."""
+        """A standing order to roll is given, or withdrawn; one that is in force is not given again."""
         if self.connection is not None and self.ordered != ordered:
             self.ordered = ordered
             self.note('ordered' if ordered else 'withdrawn', self.connection.number)
@@ -531,7 +531,7 @@ class Replay:
         self.log.append(b' '.join(texts))
 
     def send(self, line):
-        """To the connection logged in; where that is lost, the line goes with it."""
+        """To the connection logged in; if that is lost, the line goes with it."""
         if self.logged_in and self.connections[self.logged_in - 1].is_open:
             self.connections[self.logged_in - 1].down += line + b'\r\n'
 
@@ -659,7 +659,7 @@ def script_board(line):
     return Board(read_board(line))
 
 def read_event(line):
-    """The word of an event and what its method takes; ValueError or Malformed where the line is unreadable."""
+    """The word of an event and what its method takes; ValueError or Malformed if the line is unreadable."""
     what, space, rest = line.partition(b' ')
     if what in (b'open', b'repeat'):
         values = None if space else ()

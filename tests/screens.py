@@ -47,14 +47,14 @@ TO_ROLL, TO_MOVE, CONFIRMED = 'Type roll, or double where you may', 'Type your m
 
 RLWRAP = shutil.which('rlwrap')
 
-# Terminals on which fibs-play edits no lines, and, where rlwrap is installed, one on which it does.
+# Terminals on which fibs-play edits no lines, and, if rlwrap is installed, one on which it does.
 KINDS = ['dumb'] + (['xterm'] if RLWRAP else [])
 
 SHELLS = [words for words in ([], ['dash'], ['bash', '--posix'], ['bash']) if not words or shutil.which(words[0])]
 
 HOME = tempfile.TemporaryDirectory()
 
-# fibs-play calls this program, and rlwrap keeps its lines where nobody else reads them.
+# fibs-play calls this program, and rlwrap keeps its lines in a folder that nobody else reads.
 os.environ.update(FIBS=PROGRAM, HOME=HOME.name, RLWRAP_HOME=HOME.name, LC_ALL='C')
 
 
@@ -85,7 +85,7 @@ class Pipe:
         self.program.stdin.flush()
 
     def sees(self, text):
-        """Reads up to this text. Where it is slow to come, an empty line hears the server once more."""
+        """Reads up to this text. If it is slow to come, an empty line hears the server once more."""
         end = time.monotonic() + PATIENCE
         while (found := self.seen.find(text.encode(), self.at)) < 0:
             if not select.select([self.program.stdout], [], [], 2)[0]:
@@ -231,7 +231,7 @@ def plays_the_game(server, player, to_roll, to_move, confirmed):
 
 
 def same_text(what, found, name):
-    """It is the text of a file; the first line that differs is told first."""
+    """It is the text of a file; the first line that differs is reported first."""
     wanted = (SCREENS / (name + '.txt')).read_text()
     for number, pair in enumerate(zip(found.splitlines(), wanted.splitlines()), 1):
         same('line %d of %s' % (number, what), *pair)
@@ -311,7 +311,7 @@ def no_login(server):
 
 
 def the_question_ends(server):
-    """At the question for the password: what is typed or sent, the status, and what stands on the screen."""
+    """At the question for the password: what is typed or sent, the status, and what is on the screen."""
     rows = [
         (b'\x03', 130, 'password: \n'), (b'\x1c', 131, 'password: \n'), (b'\x04', 0, 'password: \n'),
         (signal.SIGTERM, 143, 'password: \n'), (signal.SIGHUP, 129, 'password: \n'),
@@ -355,7 +355,7 @@ def a_game_ends(server):
     for kind in KINDS:
         for given, status in rows:
             if kind != 'dumb' and given == signal.SIGHUP:
-                continue  # which tells rlwrap that the terminal is gone
+                continue  # which shows rlwrap that the terminal is gone
             player = played_at(server, kind)
             if given == b'\x03' and kind != 'dumb':
                 # where lines are edited the first one cancels the line
@@ -643,7 +643,7 @@ def nothing_is_done_while_nothing_happens(server):
 
 
 def escape_sequences(server):
-    """What a terminal would obey never reaches it raw, whatever line it stands in."""
+    """What a terminal would obey never reaches it raw, whatever line it is in."""
     player = greeted(server)
     ill = '\x1b[2J\x1b]0;title\x07\x9b31m\x08\x0c\x7f\x80\xfe'
     server.send(ill, '12 bob ' + ill, '7 bob ' + ill, '5 bob%s - - 0 0 1 1 1 1 h - -' % ill,

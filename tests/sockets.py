@@ -78,7 +78,7 @@ def both_ends_closed_at_each_loss():
     same('loop', run('loop', opens, STREAMS + LISTENER + ENDS), (0, wanted, ''))
 
 
-# -- where it listens ------------------------------------------------------------------------------------------------
+# -- how it listens -------------------------------------------------------------------------------------------------
 
 def own_sockets(pid):
     """The numbers of the sockets that a program has open."""

@@ -3,7 +3,7 @@
 
 The man page, the help (the texts of tests/help, to which tests/program holds the program), the completions and
 docs/PLAYING.md have the same subcommands, options, typed lines, refusals and statuses, and say the same of each: what
-that is stands in tests/meanings.py. With a PROGRAM it is asked too
+that is, is in tests/meanings.py. With a PROGRAM it is asked too
 whether it takes each typed line. A shell, or a reader of man pages, that is not installed is left out. Prints a line
 for each case, and then `N passed, M failed`.
 """
@@ -54,7 +54,7 @@ def text_of(path):
 
 
 def part(text, begin, end):
-    """What stands between two texts."""
+    """What is between two texts."""
     return text.split(begin, 1)[1].split(end, 1)[0]
 
 
@@ -64,7 +64,7 @@ def page(section):
 
 
 def heads(text):
-    """What the lists of a part of the man page tell of, without arguments."""
+    """What the lists of a part of the man page name, without arguments."""
     found = re.findall(r'^\.It (?:Li|Cm) (.*)$', text, re.M)
     return [re.sub(r'^Li | Ar .*', '', one) for line in found for one in line.split(' , ')]
 
@@ -289,11 +289,11 @@ def the_picture_of_the_page_is_the_players(_program):
 
 
 def the_game_of_the_readme_is_played(_program):
-    """Each of its lines stands on the screen of the game that tests/screens.py plays, in its order."""
+    """Each of its lines is on the screen of the game that tests/screens.py plays, in its order."""
     shown = iter(text_of('tests/screens/game.txt').splitlines())
-    told = part(text_of('README.md'), '\n## A game', '\n## ').split('```')[1].splitlines()
-    same('its begin', told[1:3], ['$ bin/fibs-play localhost 4321 ann', 'password:'])
-    same('lines that are not shown', [line for line in told[3:] if line != '..' and line not in shown], [])
+    lines = part(text_of('README.md'), '\n## A game', '\n## ').split('```')[1].splitlines()
+    same('its begin', lines[1:3], ['$ bin/fibs-play localhost 4321 ann', 'password:'])
+    same('lines that are not shown', [line for line in lines[3:] if line != '..' and line not in shown], [])
 
 
 # -- files -----------------------------------------------------------------------------------------------------------

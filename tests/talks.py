@@ -79,7 +79,7 @@ class Player:
         return line
 
     def next_line(self):
-        """The next line that is printed. Where it is slow to come, an empty line hears the server once more."""
+        """The next line that is printed. If it is slow to come, an empty line hears the server once more."""
         end = time.monotonic() + PATIENCE
         while time.monotonic() < end:
             try:
