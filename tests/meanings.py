@@ -1,7 +1,7 @@
 """What the typed lines, refusals and statuses of `fibs` mean: the one table to which tests/surface.py holds every page.
 
-Each meaning is a pattern that the description has to have, wherever the line, refusal or status is described: in the man
-page, the help, docs/PLAYING.md and docs/FORMATS.md.
+Each meaning is a pattern that a description has to have: in the man page, the help, docs/PLAYING.md and
+docs/FORMATS.md.
 """
 
 # What a typed line does. The words of a terminal alone are below.
