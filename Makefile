@@ -42,7 +42,7 @@ test: ## passes all tests: the proofs, the edits that must fail, the tests of wh
 quick: ## what needs no proof, on what make and make lib built, in three minutes at most
 	@tests/quick
 
-$(CRATES): ## (the name of a crate) proves it, and what it stands on
+$(CRATES): ## (the name of a crate) proves it, and what it uses
 	@scripts/prove $@
 
 fmt: ## lays out the files of each crate
@@ -53,7 +53,7 @@ dist: ## makes dist/: packages of the program and of the library, for machines w
 	@$(MAKE) --no-print-directory all lib
 	@$(MAKE) --no-print-directory dist-files
 
-# packs what is built as it stands
+# packs what is built as it is
 dist-files:
 	@VERSION=$(VERSION) SONAME=$(SONAME) scripts/dist
 
@@ -99,7 +99,7 @@ install-surface:
 
 install-lib: lib install-lib-files ## the library for C alone, with its header
 
-# the library as it stands
+# the library as it is
 install-lib-files:
 	install -d $(DESTDIR)$(PREFIX)/include $(DESTDIR)$(PREFIX)/lib/pkgconfig $(DESTDIR)$(PREFIX)/lib/cmake/fibs \
 		$(DESTDIR)$(SHARE)/doc/fibs

@@ -1,6 +1,6 @@
 # Completion of fibs and fibs-play for bash.
 
-# _fibs_place N: what stands at place N of HOST PORT NAME.
+# _fibs_place N: what belongs at place N of HOST PORT NAME.
 _fibs_place() {
     case $1 in
         1) COMPREPLY=($(compgen -W 'fibs.com localhost' -A hostname -- "$word")) ;;

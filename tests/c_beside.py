@@ -54,7 +54,7 @@ class Beside(reference.Client):
         heard = list(self.other.feed(data))
         same('feed', wanted, b''.join(told.send for told in heard))
         same('rolled', wanted.split(b'\r\n').count(b'roll'), sum(told.rolled for told in heard))
-        # Where an order rolls at the same line, what waits is not what waited.
+        # If an order rolls at the same line, what waits is not what waited.
         if not self.ordered:
             confirmed = [told.confirmed for told in heard if told.confirmed]
             same('confirmed', bool(waited and not self.waiting), bool(confirmed))
@@ -82,7 +82,7 @@ class Beside(reference.Client):
 
 
 def told_of(outstanding):
-    """A decision with its board, as the reference tells it."""
+    """A decision with its board, as the reference gives it."""
     return outstanding and (outstanding.board.line,
                             outstanding.decision.command(outstanding.board.direction).encode())
 
@@ -140,7 +140,7 @@ def show(data):
 
 
 def outcome(kind, data, expected):
-    """The input, what is expected and what the library gives, where they differ."""
+    """The input, what is expected and what the library gives, if they differ."""
     if kind == 'lines':
         found = show(data)
         return found != expected[0] and [data, (expected[0], 0, b''), (found, 0, b'')]

@@ -36,7 +36,7 @@ def without_comments(text):
 
 
 def c_type(rust):
-    """The type in C of a number or a record, with [N] behind it where it is an array."""
+    """The type in C of a number or a record, with [N] after it if it is an array."""
     rust = rust.strip()
     array = re.fullmatch(r'\[(.+); (\d+)\]', rust)
     if array:
@@ -177,7 +177,7 @@ def enumerators():
 
 
 def limits_of():
-    """The macros, from where the library has them."""
+    """The macros, from the place that the library has them in."""
     def read(path, pattern):
         return int(re.search(pattern, (ROOT / path).read_text())[1].replace('_', ''))
     version = re.search(r'#define FIBS_VERSION "(.*)"', (ROOT / 'include/fibs.h').read_text())[1].split('.')

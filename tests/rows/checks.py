@@ -7,7 +7,7 @@ sys.path.insert(0, str(pathlib.Path(__file__).resolve().parent.parent))
 
 from package import ROOT, fibs  # noqa: E402, F401
 
-# Each test, in the order in which it stands.
+# Each test, in its order.
 TESTS = []
 
 

@@ -81,7 +81,7 @@ def long_values_are_kept(check):
 
 BOB = b'5 bob - - 1 0 1500 0 3 1040515752 host - -'
 
-# What a full directory, of the names p0 to p4095, is told; what it answers, how many names are in it then, and whether
+# What a full directory, of the names p0 to p4095, is given; what it answers, how many names are in it then, and whether
 # bob is: new names, known ones, and those that go.
 AT_THE_LIMIT = [
     (BOB, 'Full', 4096, False),
@@ -109,7 +109,7 @@ def a_full_directory_takes_no_new_name(check):
 
 
 def keep(players, name, points):
-    """Keeps the points of a name in a list, found by a search from its front, or takes it out where there are none."""
+    """Keeps the points of a name in a list, found by a search from its front, or takes it out if there are none."""
     place = next((i for i, player in enumerate(players) if player[0] == name), None)
     if place is not None and points is not None:
         players[place] = (name, points)
@@ -120,7 +120,7 @@ def keep(players, name, points):
 
 
 def line_of(name, points):
-    """The message that tells the points of a name, or its logout where there are none."""
+    """The message with the points of a name, or its logout if there are none."""
     if points is None:
         return b'8 p%d logs out' % name
     return b'5 p%d - - 1 0 %d 0 3 1040515752 host - -' % (name, points)

@@ -10,7 +10,7 @@ FLAG, NUMBER, RATING, KIND_OF_TEXT = 4, 5, 6, 7
 
 
 def spelling(line, place):
-    """A field of a message as it is written behind what stands before it, or None where there is none."""
+    """A field of a message as it is written after what comes before it, or None if there is none."""
     field, room = _library.Field(), ctypes.create_string_buffer(512)
     if _library.lib.fibs_read_field(line, len(line), place, byref(field), room, len(room)) != _library.DONE:
         return None
@@ -23,7 +23,7 @@ def spelling(line, place):
 
 
 def printed(line):
-    """The line that the number and the fields of a message make, or None where the line is none."""
+    """The line that the number and the fields of a message make, or None if they make no line."""
     told = fibs.read(line)
     if told.kind != fibs.MESSAGE:
         return None
@@ -33,7 +33,7 @@ def printed(line):
     return made
 
 
-# Lines of messages, and the line that their fields make where that is another one.
+# Lines of messages, and the line that their fields make if that is another one.
 PRINTED = [
     # Lines of the CLIP specification.
     (b'1 myself 1041253132 192.168.1.308', b''),

@@ -49,7 +49,7 @@ TURNS = [
 
 
 def counts(checkers):
-    """How many checkers stand on each place, as `24:2 18:1` says."""
+    """How many checkers are on each place, as `24:2 18:1` says."""
     found = [0] * 26
     for pair in checkers.split():
         place, count = pair.split(':')
@@ -75,7 +75,7 @@ REFUSED = {'Move': ILLEGAL_PLAY, 'Passing': NOT_YOURS, 'RollOrDouble': WRONG_KIN
 @test
 def plays_by_the_rules(check):
     for turn in TURNS:
-        # Where no checker can move, the one play by the rules has no step, and a board has none.
+        # If no checker can move, the one play by the rules has no step, and a board has none.
         wanted = [steps_of(play) for play in turn.plays if play]
         phase = 'RollOrDouble' if turn.dice == (0, 0) else 'Move' if wanted else 'Passing'
         for side, down in SIDES:
@@ -156,7 +156,7 @@ def aimed(numbers, aim):
     if aim == 'the bar':
         own[25] = 1 + numbers.between(0, 2)
     for _ in range(4):
-        # Against the bar mostly where checkers enter.
+        # Against the bar mostly on the places at which checkers enter.
         place = numbers.between(17, 8) if aim == 'the bar' else numbers.between(1, 24)
         if not own[place] and not other[place]:
             other[place] = numbers.between(1, 2)

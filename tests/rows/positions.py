@@ -180,7 +180,7 @@ def refuses_boards(check):
         check(allowed(board, fibs.ROLL), status, '%s: a roll' % name)
 
 
-# A checker of each side stands on the bar, so that one more on a place or off leaves fifteen at most.
+# A checker of each side is on the bar, so that one more on a place or off leaves fifteen at most.
 TWO_ON_THE_BAR = (b'board:You:bob:3:0:1:0:-1:0:0:0:0:5:0:3:0:0:0:-5:5:0:0:0:-3:0:-5:0:0:0:0:1:0:'
                   b'1:0:0:0:0:1:1:1:0:1:-1:0:25:0:0:0:0:0:0:0:0')
 

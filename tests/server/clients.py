@@ -127,7 +127,7 @@ class Client:
             at = found + len(text)
 
     def answers(self, line, *wanted):
-        """A line is sent, and the lines that come are just these; `..` stands for what comes behind."""
+        """A line is sent, and the lines that come are just these; `..` means whatever follows."""
         self.send(line)
         for text in wanted:
             found = self.next()

@@ -145,7 +145,7 @@ class Stubborn(Gambler):
 
     def hear(self, line):
         self.heard += 1
-        # where a connection was cut a play may have been lost, or have been made: the next board says so
+        # if a connection was cut a play may have been lost, or have been made: the next board says so
         found = re.match(r"Type '(join \S+)' to accept", line)
         if found:
             self.send(found[1])
@@ -162,7 +162,7 @@ class Stubborn(Gambler):
                 self.send('invite %s 1' % self.other)
 
     def goes_on(self):
-        """Connects again if the connection was cut, and asks how things stand if nothing is heard."""
+        """Connects again if the connection was cut, and asks for the board if nothing is heard."""
         if self.is_over:
             self.cuts += 1
             self.connect()

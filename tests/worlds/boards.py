@@ -10,7 +10,7 @@ TO_ROLL = START + '1:0:0:0:0:1:1:1:0:1:-1:0:25:0:0:0:0:0:0:0:0'
 # The same game: field 50 alone is another.
 TO_ROLL_AGAIN = START + '1:0:0:0:0:1:1:1:0:1:-1:0:25:0:0:0:0:1:0:0:0'
 
-# The same where he may not double.
+# The same, but he may not double.
 MUST_ROLL = START + '1:0:0:0:0:1:0:1:0:1:-1:0:25:0:0:0:0:0:0:0:0'
 
 # The same game: field 50 alone is another.
@@ -20,7 +20,7 @@ MUST_ROLL_AGAIN = START + '1:0:0:0:0:1:0:1:0:1:-1:0:25:0:0:0:0:1:0:0:0'
 MUST_ROLL_SCORED = ('board:You:bob:3:1:1:0:-2:0:0:0:0:5:0:3:0:0:0:-5:5:0:0:0:-3:0:-5:0:0:0:0:2:0:'
                     '1:0:0:0:0:1:0:1:0:1:-1:0:25:0:0:0:0:0:0:0:0')
 
-# He has rolled 6 and 2 where he might not double.
+# He has rolled 6 and 2, and might not double.
 ROLLED = START + '1:6:2:0:0:1:0:1:0:1:-1:0:25:0:0:0:0:0:0:0:0'
 
 # He has moved 24-18 13-11 there.

@@ -82,7 +82,7 @@ def after(place):
 
 
 def tell(counts, name, steps, cut, how):
-    """The client says what stands beside each step, up to the first where it does not."""
+    """The client says what is beside each step, up to the first at which it does not."""
     with fibs.Client(*LOGIN) as client:
         for number, (step, wanted) in enumerate(steps, 1):
             said = says(client, step, cut)
@@ -154,7 +154,7 @@ ROLL = fibs.ROLL
 
 
 def a_roll_of_an_order_is_told_as_one(counts):
-    """A client tells whether an order stands, and what it has sent."""
+    """A client says whether an order is in force, and what it has sent."""
     client = ready()
     counts.check(not client.ordered, 'no order stands')
     counts.same(refusal(client.order_roll), None, 'an order')

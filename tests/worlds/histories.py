@@ -170,7 +170,7 @@ MESSAGES = [
     ]),
 ]
 
-# Where the server plays.
+# If the server plays.
 FLAGS = [
     ('where the server plays, the user does not decide', [
         ('open', 'login fibs_client 1008 ann secret'),

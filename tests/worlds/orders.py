@@ -60,7 +60,7 @@ ORDER_AFTER_THE_BOARD = [
     ('deliver 10000', 'shown 1 {MUST_ROLL}', 'sent 1 {MUST_ROLL} roll'),
 ]
 
-# Where the user may double, nothing rolls.
+# If the user may double, nothing rolls.
 MAY_DOUBLE = [
     ('order roll', 'ordered 1'),
     ('deliver 10000', 'shown 1 {TO_ROLL}', 'shown 1 {TO_ROLL}'),
@@ -128,7 +128,7 @@ SERVED_AFTER_THE_LOSS = [
     ('serve 1 6 2', 'took 1 {MUST_ROLL} roll'),
 ]
 
-# No order is due where the user has rolled.
+# No order is due if the user has rolled.
 NOT_DUE_TO_MOVE = [
     ('order roll', 'ordered 2'),
     ('deliver 10000', 'shown 2 {ROLLED}', 'shown 2 {ROLLED}'),
@@ -162,7 +162,7 @@ SERVER_PLAYS = [
      'sent 1 {MUST_ROLL} roll'),
 ]
 
-# An order that is given between the halves of a board line is there where the line ends.
+# An order that is given between the halves of a board line is there when the line ends.
 BETWEEN_HALVES = [
     ('deliver 40',),
     ('order roll', 'ordered 1'),
@@ -175,7 +175,7 @@ AT_THE_LIMIT = [
     ('deliver 10000', 'shown 1 {CUBE_AT_LIMIT}', 'sent 1 {CUBE_AT_LIMIT} roll', 'shown 1 {CUBE_AT_LIMIT}'),
 ]
 
-# What may be doubled by the board is not, even where no double is allowed.
+# What may be doubled by the board is not, even if no double is allowed.
 MAY_DOUBLE_BY_THE_BOARD = [
     ('order roll', 'ordered 1'),
     ('deliver 10000', 'shown 1 {MAY_DOUBLE_AT_LIMIT}', 'shown 1 {MAY_DOUBLE_AT_LIMIT}'),

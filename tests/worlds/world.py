@@ -74,7 +74,7 @@ CUT = [
     ('serve 1 1 1', 'refused 5 NothingToServe'),
 ]
 
-# What may not be, in the order in which it is told.
+# What may not be, in the order in which it is named.
 REFUSED = [
     ('own {ONE_STEP}', 'refused 6 UserDecides'),
     ('own {OF_OTHERS}', 'refused 8 BadBoard'),
@@ -116,7 +116,7 @@ CUT_UP = [
     ('lose 10000', 'lost 2'),
 ]
 
-# The server's board becomes another one where the user does not decide.
+# The server's board becomes another one if the user does not decide.
 OWN_BOARDS = [
     ('open', 'opened 1'),
     ('serve 1 1 1', 'loggedin 1'),
