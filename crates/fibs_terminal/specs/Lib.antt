@@ -1,5 +1,3 @@
-pub mod Memories
+pub mod Asking
 pub mod Drawings
-pub mod Hints
-pub mod Shown
-pub mod Spelling
+pub mod Grown

@@ -1,13 +1,20 @@
-//! A terminal: a front end that draws, and remembers what waits.
+//! A terminal: a front end for a person. It draws boards, words what happens, says once what may be typed, and takes
+//! words as players type them.
 #![tactic(auto)]
 
-mod asking;
-mod drawing;
-mod hints;
+mod boards;
+mod commands;
 pub mod laws;
+mod listening;
 mod memory;
-mod spelling;
+mod picture;
+mod resting;
+mod screen;
+mod telling;
 mod terminal;
+mod terminal_front;
+mod terminal_words;
 
-pub use memory::Memory;
+pub use fibs_wording::settings::Settings;
+pub use picture::append_picture;
 pub use terminal::Terminal;

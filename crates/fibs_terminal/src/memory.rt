@@ -1,34 +1,91 @@
-//! What a terminal remembers of what it was told.
-ghost use Rattle.std.specs.Prelude.{◌≡◌};
-ghost use Rattle.fibs_exchange.specs.Turns.SaidOf.{said_of};
-ghost use Rattle.fibs_terminal.specs.Memories.{remembers};
+//! What a terminal remembers: what is the screen's alone.
 
-use fibs_exchange::exchange::said::Said;
+use fibs_boards::board::Board;
+use fibs_fields::name::Name;
+use fibs_position::Phase;
+use std::alloc::{AllocError, Global};
 
 /// What is remembered.
-#[derive(Clone, Copy)]
+#[derive(Drop)]
 pub struct Memory {
-    /// Whether it is to be said what may be typed: something has changed since it was.
+    /// Whether it is to be said what may be typed: a board has come since it was.
     pub owes: bool,
+    /// Whether the server has answered by a text, or by the same board, since a decision was sent.
+    pub answered: bool,
+    /// Whether the next board is to be drawn whole, since the user has asked for it.
+    pub asked: bool,
+    /// Whether shouts are kept from the screen, and who comes and goes.
+    pub quiet: bool,
+    /// The board that was drawn last.
+    pub drawn: Option<Board>,
+    /// The board that came last, and its phase.
+    pub heard: Option<(Board, Phase)>,
+    /// How many players were listed since the last list ended.
+    pub listed: usize,
+    /// The row of the last of them.
+    pub change: Vec<u8>,
+    /// Who offers to resign, if that is to be said.
+    pub resigner: Vec<u8>,
+    /// Which rule the move breaks that was typed last, if it breaks one.
+    pub rule: Vec<u8>,
+    /// Whose words are kept from the screen.
+    pub gagged: Vec<Vec<u8>>,
 }
 
-/// What is remembered after one thing more.
-pub fn remembers(memory: Memory, said: &Said<'_>) -> Memory
-    ensures { result ≡ remembers memory (said_of said.now) }
-{
-    match said {
-        Said::Phase(_) | Said::Confirmed(_) => Memory { owes: true },
-        Said::Heard(_, _)
-        | Said::Sent(_)
-        | Said::Rolled
-        | Said::Ordered
-        | Said::Withdrawn
-        | Said::Refused(_)
-        | Said::NotSent(_)
-        | Said::Unknown
-        | Said::Lost(_)
-        | Said::Unnoted(_)
-        | Said::NoConnection
-        | Said::Player(_) => memory,
+impl Memory {
+    /// Nothing was shown.
+    pub fn new(alloc: Global) -> Memory {
+        Memory {
+            owes: false,
+            answered: false,
+            asked: false,
+            quiet: false,
+            drawn: None,
+            heard: None,
+            listed: 0,
+            change: Vec::new(alloc),
+            resigner: Vec::new(alloc),
+            rule: Vec::new(alloc),
+            gagged: Vec::new(alloc),
+        }
+    }
+
+    /// A connection begins: no board of another one counts.
+    pub fn forget_boards(&mut self) {
+        self.owes = false;
+        self.answered = false;
+        self.asked = false;
+        self.drawn = None;
+        self.heard = None;
+        self.listed = 0;
+        self.resigner.clear();
+    }
+
+    /// Whether the words of a player are kept from the screen.
+    pub fn is_gagged(&self, name: &[u8]) -> bool {
+        for gagged in &self.gagged {
+            if gagged.as_slice() == name {
+                return true;
+            }
+        }
+        false
+    }
+
+    /// Keeps the words of a player from the screen. False if it is no name.
+    pub fn gag(&mut self, alloc: Global, name: &[u8]) -> Result<bool, AllocError> {
+        if Name::new(name).is_none() {
+            return Ok(false);
+        }
+        if !self.is_gagged(name) {
+            self.gagged.push(Vec::from_slice(alloc, name)?)?;
+        }
+        Ok(true)
+    }
+
+    /// Shows the words of a player again. False if they were shown.
+    pub fn ungag(&mut self, name: &[u8]) -> bool {
+        let before = self.gagged.len();
+        self.gagged.retain(|gagged| gagged.as_slice() != name);
+        self.gagged.len() < before
     }
 }

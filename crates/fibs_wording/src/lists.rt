@@ -13,8 +13,8 @@ const NAME_COLUMNS: usize = 26;
 /// The columns of a name and a rating.
 const RATED_COLUMNS: usize = 36;
 
-/// Appends the row of a player.
-fn append_row(player: &Player, text: &mut Vec<u8>) -> Result<(), AllocError> {
+/// Appends the row of a player: his name, his rating, and what he does.
+pub fn append_row(player: &Player, text: &mut Vec<u8>) -> Result<(), AllocError> {
     let start = text.len();
     text.extend_from_slice(front(player.name.as_slice()))?;
     pad_from(start, NAME_COLUMNS, text)?;

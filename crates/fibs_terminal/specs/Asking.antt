@@ -1,0 +1,17 @@
+-- What a typed line asks for (the project's own).
+use Rattle.std.specs.Prelude.{◌≡◌, true, false, ℕ, List, Result, OnOk, IfOk}
+use Rattle.fibs_session.specs.History.Machine.{Talk}
+use Rattle.fibs_session.specs.Calls.Standing.{ClientValue, StandsAfter}
+use Rattle.fibs_front.specs.Typing.{typed_now, is_command, would_take}
+use Rattle.fibs_front.specs.declared.wish.Wish.{Wish}
+use Rattle.fibs_front.specs.declared.wish.Wish.TheVariants.{Send}
+
+-- what the client knows is never respelled: a decision, a line to people, an order
+abbrev pub KnownStays : {E : Type 0} → ClientValue → List ℕ → List ℕ → Result Wish E → Type 0
+KnownStays client before after result = OnOk result ((t : Talk) → StandsAfter client t
+    → is_command (typed_now t before) ≡ true → after ≡ before)
+
+-- a line goes as it is only if the client would not take it
+abbrev pub SendsUntaken : {E : Type 0} → ClientValue → List ℕ → Result Wish E → Type 0
+SendsUntaken client line result = IfOk result (λ wish. wish ≡ Send → (t : Talk) → StandsAfter client t
+    → would_take t (typed_now t line) ≡ false)

@@ -1,0 +1,161 @@
+//! What a terminal shows of a board.
+ghost use Rattle.std.specs.Prelude.{◌≡◌, ◌≤◌};
+ghost use Rattle.fibs_boards.specs.StoredBoard.{fields_of};
+ghost use Rattle.fibs_position.specs.PositionValue.{position_of, position_value};
+
+use crate::picture::append_picture;
+use crate::screen::Screen;
+use fibs_boards::board::Board;
+use fibs_position::{Phase, Position};
+use fibs_wording::messages::front;
+use fibs_wording::outcomes::append_outcome;
+use itoa::Buffer;
+use std::alloc::AllocError;
+use std::time::Clock;
+
+/// The first and the last field of the places.
+const PLACES: (usize, usize) = (7, 32);
+
+/// The fields of the checkers borne off.
+const OFF: [usize; 2] = [46, 47];
+
+/// Whether two boards differ in a field.
+fn differs(a: &Board, b: &Board, number: usize) -> bool {
+    number >= 4 && number <= 53 && a.field(number) != b.field(number)
+}
+
+/// Whether a checker stands elsewhere on another board, or the other board is of another opponent.
+fn is_moved(a: &Board, b: &Board) -> bool {
+    for number in PLACES.0..PLACES.1 + 1 {
+        if differs(a, b, number) {
+            return true;
+        }
+    }
+    differs(a, b, OFF[0]) || differs(a, b, OFF[1]) || a.opponent().bytes() != b.opponent().bytes()
+}
+
+/// Whether the player decides in a phase.
+fn is_deciding(phase: Phase) -> bool {
+    matches!(
+        phase,
+        Phase::AnswerDouble | Phase::RollOrDouble | Phase::Move
+    )
+}
+
+/// A die of a board, 0 if there is none.
+fn die(board: &Board, number: usize) -> i32
+    requires low { 34 ≤ number }
+    requires high { number ≤ 37 }
+{
+    board.field(number)
+}
+
+impl<'a, C: Clock + Drop> Screen<'a, C> {
+    /// Hears a board. One on which the user does not play is shown as the server sent it.
+    pub(crate) fn hear_board(&mut self, bytes: &[u8], board: &Board) -> Result<(), AllocError> {
+        match Position::of(board) {
+            Ok(position) => self.show_board(board, &position),
+            Err(_) => self.show_row(bytes),
+        }
+    }
+
+    /// Whether a checker stands elsewhere than on the board that was drawn last.
+    fn is_moved_since_drawn(&self, board: &Board) -> bool {
+        match &self.memory.drawn {
+            None => true,
+            Some(drawn) => is_moved(drawn, board),
+        }
+    }
+
+    /// Whether a board is drawn whole: the user has asked for it, or a checker has moved and there is something to
+    /// decide, or the game is over.
+    fn is_drawn_whole(&self, board: &Board, phase: Phase) -> bool {
+        if self.memory.asked || self.memory.drawn.is_none() {
+            return true;
+        }
+        (is_deciding(phase) || phase == Phase::Over) && self.is_moved_since_drawn(board)
+    }
+
+    /// Whether the board before this one said that the opponent had the turn.
+    fn waited_for_opponent(&self) -> bool {
+        match &self.memory.heard {
+            None => false,
+            Some((_, phase)) => *phase == Phase::OpponentActs,
+        }
+    }
+
+    /// Whether the board before this one was of the same game, which was not over.
+    fn board_before(&self) -> Option<Board> {
+        match &self.memory.heard {
+            Some((board, _)) => Some(*board),
+            None => None,
+        }
+    }
+
+    /// Whether this is the very board that came last.
+    fn is_heard_again(&self, board: &Board) -> bool {
+        match &self.memory.heard {
+            None => false,
+            Some((heard, _)) => heard == board,
+        }
+    }
+
+    /// Shows a board that has a position.
+    fn show_board(&mut self, board: &Board, position: &Position) -> Result<(), AllocError>
+        requires { position_value position.now ≡ position_of (fields_of board.now) }
+    {
+        let phase = position.phase();
+        let before = self.board_before();
+        let again = self.is_heard_again(board);
+        if is_deciding(phase) && self.waited_for_opponent() {
+            self.ring()?;
+        }
+        if again {
+            self.memory.answered = true;
+        }
+        if self.is_drawn_whole(board, phase) {
+            self.memory.asked = false;
+            self.memory.drawn = Some(*board);
+            append_picture(self.alloc, board, position, &self.settings, &mut self.text)?;
+        } else if !again {
+            self.say_board(board, phase)?;
+        }
+        if phase == Phase::Over && !again {
+            append_outcome(before.as_ref(), board, &mut self.text)?;
+            self.say(b"\n")?;
+        }
+        self.memory.heard = Some((*board, phase));
+        Ok(())
+    }
+
+    /// Says in a row what a board is that is not drawn.
+    fn say_board(&mut self, board: &Board, phase: Phase) -> Result<(), AllocError> {
+        match phase {
+            Phase::Move => {
+                self.say(b"You roll ")?;
+                self.say_dice(die(board, 34), die(board, 35))
+            }
+            Phase::Passing => self.say(b"You can't move: the server passes for you.\n"),
+            Phase::OpponentActs => self.say_opponents_turn(board),
+            Phase::RollOrDouble | Phase::AnswerDouble | Phase::Over => Ok(()),
+        }
+    }
+
+    /// Says that the opponent has the turn, and his dice, if they are shown.
+    fn say_opponents_turn(&mut self, board: &Board) -> Result<(), AllocError> {
+        self.say(front(board.opponent().bytes()))?;
+        if die(board, 36) == 0 {
+            return self.say(b"'s turn.\n");
+        }
+        self.say(b" rolls ")?;
+        self.say_dice(die(board, 36), die(board, 37))
+    }
+
+    /// Says two dice.
+    fn say_dice(&mut self, first: i32, second: i32) -> Result<(), AllocError> {
+        self.say(Buffer::new().format(first).as_bytes())?;
+        self.say(b" and ")?;
+        self.say(Buffer::new().format(second).as_bytes())?;
+        self.say(b".\n")
+    }
+}

@@ -1,0 +1,256 @@
+//! What a line asks for that is typed at a terminal.
+ghost use Rattle.fibs_terminal.specs.Asking.{KnownStays, SendsUntaken};
+
+use crate::screen::Screen;
+use fibs_advice::offers::{append_offers, offered};
+use fibs_advice::plays::append_plays;
+use fibs_advice::rules::append_rule;
+use fibs_advice::spelling::words::append_spelled;
+use fibs_fields::split::split;
+use fibs_front::taking::would_take;
+use fibs_front::typed_line::{TYPED_LIMIT, TypedLine};
+use fibs_front::typing::{Typed, is_command, read_typed};
+use fibs_front::wish::Wish;
+use fibs_position::Decision;
+use fibs_session::{Client, Directory, Refusal};
+use fibs_wording::help;
+use fibs_wording::lists::append_players;
+use fibs_wording::shown::append_shown;
+use std::alloc::AllocError;
+use std::time::Clock;
+
+/// A word of the terminal, which the client does not know.
+#[derive(Clone, Copy, PartialEq, Eq)]
+enum Own {
+    Help,
+    Plays,
+    Players,
+    Gag,
+    Ungag,
+    Quiet,
+    Loud,
+    Send,
+}
+
+/// The word of the terminal that a word is, if it is one.
+fn own_word(word: &[u8]) -> Option<Own> {
+    if word == b"help".as_slice() {
+        Some(Own::Help)
+    } else if word == b"plays".as_slice() {
+        Some(Own::Plays)
+    } else if word == b"players".as_slice() {
+        Some(Own::Players)
+    } else if word == b"gag".as_slice() {
+        Some(Own::Gag)
+    } else if word == b"ungag".as_slice() {
+        Some(Own::Ungag)
+    } else if word == b"quiet".as_slice() {
+        Some(Own::Quiet)
+    } else if word == b"loud".as_slice() {
+        Some(Own::Loud)
+    } else if word == b"send".as_slice() {
+        Some(Own::Send)
+    } else {
+        None
+    }
+}
+
+/// Whether a line is a word of the conversation, or begins with a word of the terminal.
+fn is_own(line: &[u8]) -> bool {
+    line == b"open".as_slice()
+        || line == b"quit".as_slice()
+        || own_word(split(line, b' ').0).is_some()
+}
+
+/// What follows a word.
+fn after_word(line: &[u8]) -> &[u8] {
+    match split(line, b' ').1 {
+        Some(rest) => rest,
+        None => b"",
+    }
+}
+
+/// Makes a line of bytes for which there is room.
+fn set_line(line: &mut TypedLine, bytes: &[u8]) {
+    line.clear();
+    let _fits = line.try_extend_from_slice(bytes);
+}
+
+impl<'a, C: Clock + Drop> Screen<'a, C> {
+    /// What a line asks for. It is spelled out, if the client does not know it as it is.
+    pub(crate) fn wish(
+        &mut self,
+        client: &Client,
+        directory: &Directory,
+        line: &mut TypedLine,
+    ) -> Result<Wish, AllocError>
+        ensures known { KnownStays client.now line.old.items line.new.items result }
+        ensures sent { SendsUntaken client.now line.new.items result }
+    {
+        if line.is_empty() {
+            return Ok(Wish::Listen);
+        }
+        if line.len() > TYPED_LIMIT {
+            return Ok(Wish::TooLong);
+        }
+        if is_command(client, line.as_slice()) {
+            self.note_rule(client, line.as_slice())?;
+            return Ok(Wish::Say);
+        }
+        self.wish_unknown(client, directory, line)
+    }
+
+    /// What a line asks for that the client does not know.
+    fn wish_unknown(
+        &mut self,
+        client: &Client,
+        directory: &Directory,
+        line: &mut TypedLine,
+    ) -> Result<Wish, AllocError>
+        ensures { SendsUntaken client.now line.new.items result }
+    {
+        self.spell(client, line)?;
+        if line.as_slice() == b"open".as_slice() {
+            return Ok(Wish::Open);
+        }
+        if line.as_slice() == b"quit".as_slice() {
+            return Ok(Wish::Quit);
+        }
+        self.note_rule(client, line.as_slice())?;
+        let typed = line.as_slice().to_vec(self.alloc)?;
+        let rest = after_word(typed.as_slice());
+        match own_word(split(typed.as_slice(), b' ').0) {
+            None => Ok(Wish::Say),
+            Some(Own::Send) => self.send(client, rest, line),
+            Some(own) => {
+                self.answer_own(client, directory, own, rest)?;
+                Ok(Wish::Answered)
+            }
+        }
+    }
+
+    /// Spells a line out, if the client then knows it, or if it then begins with a word of the terminal.
+    fn spell(&mut self, client: &Client, line: &mut TypedLine) -> Result<(), AllocError> {
+        if is_own(line.as_slice()) {
+            return Ok(());
+        }
+        let mut spelled = Vec::new(self.alloc);
+        append_spelled(self.alloc, client, line.as_slice(), &mut spelled)?;
+        if is_command(client, spelled.as_slice()) || is_own(spelled.as_slice()) {
+            set_line(line, spelled.as_slice());
+        }
+        Ok(())
+    }
+
+    /// Keeps which rule a move breaks, if the line is a move against the rules.
+    fn note_rule(&mut self, client: &Client, line: &[u8]) -> Result<(), AllocError> {
+        self.memory.rule.clear();
+        let Typed::Decision(decision) = read_typed(client, line) else {
+            return Ok(());
+        };
+        let Decision::Move(play) = decision else {
+            return Ok(());
+        };
+        if client.refusal(&decision) != Some(Refusal::IllegalPlay) {
+            return Ok(());
+        }
+        match client.shown() {
+            None => Ok(()),
+            Some(board) => append_rule(self.alloc, board, &play, &mut self.memory.rule),
+        }
+    }
+
+    /// Answers a word of the terminal, with what follows it.
+    fn answer_own(
+        &mut self,
+        client: &Client,
+        directory: &Directory,
+        own: Own,
+        rest: &[u8],
+    ) -> Result<(), AllocError> {
+        match own {
+            Own::Help => self.say_help(client, rest),
+            Own::Plays => self.say_plays(client),
+            Own::Players => append_players(self.alloc, directory, &mut self.text),
+            Own::Gag => self.gag(rest),
+            Own::Ungag => self.ungag(rest),
+            Own::Quiet => self.set_quiet(true),
+            Own::Loud => self.set_quiet(false),
+            Own::Send => self.say(b"send LINE: LINE goes to the server as it is, unchecked.\n"),
+        }
+    }
+
+    /// Says what may be typed: what can be decided now first.
+    fn say_help(&mut self, client: &Client, word: &[u8]) -> Result<(), AllocError> {
+        if word.is_empty() {
+            let offers = offered(self.alloc, client)?;
+            append_offers(&offers, &mut self.text)?;
+            return self.say(help::SCREEN);
+        }
+        match help::word_help(word) {
+            Some(words) => self.say(words),
+            None => self.say(b"No such word: help lists the words.\n"),
+        }
+    }
+
+    /// Lists the legal moves of the board that is shown.
+    fn say_plays(&mut self, client: &Client) -> Result<(), AllocError> {
+        match client.shown() {
+            None => self.say(b"No board was shown yet: type board.\n"),
+            Some(board) => append_plays(self.alloc, board, &mut self.text),
+        }
+    }
+
+    /// Keeps the words of a player from the screen.
+    fn gag(&mut self, name: &[u8]) -> Result<(), AllocError> {
+        if self.memory.gag(self.alloc, name)? {
+            self.say(name)?;
+            self.say(b" is gagged on this screen: ungag ends it.\n")
+        } else {
+            self.say(b"gag NAME: whose words are kept from the screen.\n")
+        }
+    }
+
+    /// Shows the words of a player again.
+    fn ungag(&mut self, name: &[u8]) -> Result<(), AllocError> {
+        if self.memory.ungag(name) {
+            append_shown(name, self.settings.utf8, &mut self.text)?;
+            self.say(b" is heard again.\n")
+        } else {
+            self.say(b"Nobody of that name is gagged.\n")
+        }
+    }
+
+    /// Keeps shouts from the screen, and who comes and goes, or shows them again.
+    fn set_quiet(&mut self, quiet: bool) -> Result<(), AllocError> {
+        self.memory.quiet = quiet;
+        if quiet {
+            self.say(b"quiet: no shouts, and not who comes and goes; loud shows them.\n")
+        } else {
+            self.say(b"loud: shouts, and who comes and goes.\n")
+        }
+    }
+
+    /// Sends a line as it is, unless the client would take it.
+    fn send(
+        &mut self,
+        client: &Client,
+        rest: &[u8],
+        line: &mut TypedLine,
+    ) -> Result<Wish, AllocError>
+        ensures { SendsUntaken client.now line.new.items result }
+    {
+        if rest.is_empty() {
+            self.say(b"send LINE: LINE goes to the server as it is, unchecked.\n")?;
+            return Ok(Wish::Answered);
+        }
+        set_line(line, rest);
+        if would_take(client, line.as_slice()) {
+            self.say(b"Type it without send: ")?;
+            append_shown(rest, self.settings.utf8, &mut self.text)?;
+            self.say(b"\n")?;
+            return Ok(Wish::Answered);
+        }
+        Ok(Wish::Send)
+    }
+}

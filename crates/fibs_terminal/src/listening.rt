@@ -1,0 +1,153 @@
+//! What a terminal says of what the server sends.
+
+use crate::screen::Screen;
+use fibs_fields::name::Name;
+use fibs_fields::split::split;
+use fibs_lines::Line;
+use fibs_messages::{Fault, Message, Reading};
+use fibs_wording::lists::append_count;
+use fibs_wording::messages::{append_message, append_player};
+use fibs_wording::reasons::append_malformed;
+use fibs_wording::shown::append_shown;
+use std::alloc::AllocError;
+use std::time::Clock;
+
+/// What the server says of who offers to resign, behind his name.
+const OFFERS_TO_RESIGN: &[u8] = b"wants to resign";
+
+/// Who offers to resign, if a text says that.
+fn resigner(said: &[u8]) -> Option<&[u8]> {
+    let (name, rest) = split(said, b' ');
+    if Name::new(name).is_some() && rest?.starts_with(OFFERS_TO_RESIGN) {
+        Some(name)
+    } else {
+        None
+    }
+}
+
+/// Whether a text of the server says no more than the hint does.
+fn is_said_by_hint(said: &[u8]) -> bool {
+    said.starts_with(b"Please move ")
+}
+
+impl<'a, C: Clock + Drop> Screen<'a, C> {
+    /// Hears a line of the server.
+    pub(crate) fn hear_line(
+        &mut self,
+        line: &Line<'_>,
+        reading: &Reading<'_>,
+    ) -> Result<(), AllocError> {
+        match reading {
+            Reading::Board(board) => self.hear_board(line.bytes, board),
+            Reading::Numbered(message) => self.hear_message(message),
+            Reading::Text(_) => self.hear_text(line.bytes),
+            Reading::Malformed {
+                number,
+                field,
+                fault,
+            } => self.hear_malformed(line.bytes, *number, *field, *fault),
+        }
+    }
+
+    /// Shows bytes of the server in a row.
+    pub(crate) fn show_row(&mut self, bytes: &[u8]) -> Result<(), AllocError> {
+        append_shown(bytes, self.settings.utf8, &mut self.text)?;
+        self.say(b"\n")
+    }
+
+    /// Hears a line without a number.
+    fn hear_text(&mut self, said: &[u8]) -> Result<(), AllocError> {
+        self.memory.answered = true;
+        if is_said_by_hint(said) {
+            return Ok(());
+        }
+        if let Some(name) = resigner(said) {
+            self.memory.resigner.clear();
+            self.memory.resigner.extend_from_slice(name)?;
+            self.ring()?;
+        }
+        self.show_row(said)
+    }
+
+    /// Hears a line that can't be read: it is shown too.
+    fn hear_malformed(
+        &mut self,
+        bytes: &[u8],
+        number: u8,
+        field: usize,
+        fault: Fault,
+    ) -> Result<(), AllocError> {
+        append_malformed(number, field, fault, &mut self.text)?;
+        self.say(b"\n")?;
+        self.show_row(bytes)
+    }
+
+    /// Whether a message is kept from the screen: its player is gagged, or it is a shout or a coming while it is quiet.
+    fn is_kept(&self, message: &Message<'_>) -> bool {
+        match message {
+            Message::Shouts { name, .. }
+            | Message::Login { name, .. }
+            | Message::Logout { name, .. } => {
+                self.memory.quiet || self.memory.is_gagged(name.bytes())
+            }
+            Message::Says { name, .. }
+            | Message::Whispers { name, .. }
+            | Message::Kibitzes { name, .. } => self.memory.is_gagged(name.bytes()),
+            Message::MessageReceived { sender, .. } => self.memory.is_gagged(sender.bytes()),
+            Message::MotdEnd => true,
+            Message::Welcome { .. }
+            | Message::OwnInfo(_)
+            | Message::MotdBegin
+            | Message::WhoInfo(_)
+            | Message::WhoInfoEnd
+            | Message::MessageDelivered { .. }
+            | Message::MessageSaved { .. }
+            | Message::YouSay { .. }
+            | Message::YouShout { .. }
+            | Message::YouWhisper { .. }
+            | Message::YouKibitz { .. } => false,
+        }
+    }
+
+    /// Hears a message.
+    fn hear_message(&mut self, message: &Message<'_>) -> Result<(), AllocError> {
+        if self.is_kept(message) {
+            return Ok(());
+        }
+        match message {
+            Message::WhoInfo(info) => {
+                self.memory.listed = self.memory.listed.saturating_add(1);
+                self.memory.change.clear();
+                append_player(info, &mut self.memory.change)
+            }
+            Message::WhoInfoEnd => self.hear_list_end(),
+            Message::Says { .. } | Message::MessageReceived { .. } => {
+                self.ring()?;
+                self.say_message(message)
+            }
+            _ => self.say_message(message),
+        }
+    }
+
+    /// Says a message in words.
+    fn say_message(&mut self, message: &Message<'_>) -> Result<(), AllocError> {
+        let now = self.now();
+        append_message(message, now, &self.settings, &mut self.text)?;
+        self.say(b"\n")
+    }
+
+    /// A list of players has ended: one row for a list, and one for a player.
+    fn hear_list_end(&mut self) -> Result<(), AllocError> {
+        let listed = self.memory.listed;
+        self.memory.listed = 0;
+        if listed > 1 {
+            append_count(listed, &mut self.text)?;
+            self.say(b": type players\n")
+        } else if listed == 1 && !self.memory.quiet {
+            self.text.extend_from_slice(self.memory.change.as_slice())?;
+            self.say(b"\n")
+        } else {
+            Ok(())
+        }
+    }
+}

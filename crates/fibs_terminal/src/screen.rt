@@ -1,0 +1,54 @@
+//! A screen: all that a terminal has but its writer.
+
+use crate::memory::Memory;
+use fibs_wording::settings::Settings;
+use std::alloc::{AllocError, Global};
+use std::time::Clock;
+
+/// The byte that rings the bell.
+const BELL: u8 = 7;
+
+/// What is remembered, and the text that is to be written next.
+#[derive(Drop)]
+pub struct Screen<'a, C: Clock + Drop> {
+    pub alloc: Global,
+    pub clock: C,
+    pub settings: Settings<'a>,
+    pub memory: Memory,
+    /// What is written next.
+    pub text: Vec<u8>,
+}
+
+impl<'a, C: Clock + Drop> Screen<'a, C> {
+    /// A screen on which nothing was shown.
+    pub fn new(alloc: Global, clock: C, settings: Settings<'a>) -> Screen<'a, C> {
+        Screen {
+            alloc,
+            clock,
+            settings,
+            memory: Memory::new(alloc),
+            text: Vec::new(alloc),
+        }
+    }
+
+    /// The time, in seconds since 1970; 0 if there is no clock.
+    pub fn now(&self) -> u64 {
+        match self.clock.since_1970() {
+            Ok(time) => time.as_secs(),
+            Err(_) => 0,
+        }
+    }
+
+    /// Appends words to what is written next.
+    pub fn say(&mut self, words: &[u8]) -> Result<(), AllocError> {
+        self.text.extend_from_slice(words)
+    }
+
+    /// Rings the bell.
+    pub fn ring(&mut self) -> Result<(), AllocError> {
+        if self.settings.bell {
+            self.text.extend_from_slice(&[BELL])?;
+        }
+        Ok(())
+    }
+}

@@ -1,0 +1,113 @@
+//! What a terminal says of what it is told.
+
+use crate::screen::Screen;
+use fibs_front::said::Said;
+use fibs_session::{CommandText, Outstanding, Refusal};
+use fibs_wording::lists::append_row;
+use fibs_wording::reasons::{append_not_sent, append_refusal, append_unnoted};
+use fibs_wording::shown::append_shown;
+use itoa::Buffer;
+use std::alloc::AllocError;
+use std::io::ErrorKind;
+use std::time::Clock;
+
+impl<'a, C: Clock + Drop> Screen<'a, C> {
+    /// Hears one thing, and makes the text that is written for it.
+    pub fn hear(&mut self, said: &Said<'_>) -> Result<(), AllocError> {
+        match said {
+            Said::Opened => self.hear_opened(),
+            Said::NoConnection(why) => self.say_no_connection(*why),
+            Said::Heard(line, reading) => self.hear_line(line, reading),
+            Said::Phase(_) => {
+                self.memory.owes = true;
+                Ok(())
+            }
+            Said::Confirmed(_) => {
+                self.memory.owes = true;
+                self.memory.answered = false;
+                Ok(())
+            }
+            Said::Sent(command) => self.hear_sent(command),
+            Said::Rolled => self.say(b"sent roll, as ordered\n"),
+            Said::Passed(line) => self.say_passed(line),
+            Said::Ordered => self.say(b"ordered: the client rolls if you may not double\n"),
+            Said::Withdrawn => self.say(b"withdrawn: you roll yourself\n"),
+            Said::Refused(why) => self.say_refused(*why),
+            Said::NotSent(why) => {
+                append_not_sent(*why, &mut self.text)?;
+                self.say(b"\n")
+            }
+            Said::Unknown => self.say(b"unknown: help lists the words\n"),
+            Said::Lost(waited) => self.hear_lost(waited),
+            Said::Unnoted(why) => {
+                append_unnoted(*why, &mut self.text)?;
+                self.say(b"\n")
+            }
+            Said::Player(player) => append_row(player, &mut self.text),
+        }
+    }
+
+    /// A connection was made.
+    fn hear_opened(&mut self) -> Result<(), AllocError> {
+        self.memory.forget_boards();
+        self.say(b"connected to ")?;
+        self.say_place()
+    }
+
+    /// Says where the server is.
+    fn say_place(&mut self) -> Result<(), AllocError> {
+        self.say(self.settings.host)?;
+        self.say(b":")?;
+        self.say(Buffer::new().format(self.settings.port).as_bytes())?;
+        self.say(b"\n")
+    }
+
+    /// Says that no connection can be made, and why.
+    fn say_no_connection(&mut self, why: ErrorKind) -> Result<(), AllocError> {
+        self.say(b"no connection to ")?;
+        self.say(self.settings.host)?;
+        self.say(b":")?;
+        self.say(Buffer::new().format(self.settings.port).as_bytes())?;
+        self.say(b": ")?;
+        let reason = why.to_string(self.alloc)?;
+        self.say(reason.as_bytes())?;
+        self.say(b"; open tries again\n")
+    }
+
+    /// A command was sent: it is shown in full.
+    fn hear_sent(&mut self, command: &CommandText) -> Result<(), AllocError> {
+        self.memory.answered = false;
+        self.memory.asked = command.as_bytes() == b"board".as_slice();
+        self.say(b"sent ")?;
+        self.say(command.as_bytes())?;
+        self.say(b"\n")
+    }
+
+    /// Says that a line was sent as it is.
+    fn say_passed(&mut self, line: &[u8]) -> Result<(), AllocError> {
+        self.say(b"sent as it is: ")?;
+        append_shown(line, self.settings.utf8, &mut self.text)?;
+        self.say(b"\n")
+    }
+
+    /// Says why a decision was refused: of a move against the rules which rule it is.
+    fn say_refused(&mut self, why: Refusal) -> Result<(), AllocError> {
+        if why == Refusal::IllegalPlay && !self.memory.rule.is_empty() {
+            self.text.extend_from_slice(self.memory.rule.as_slice())?;
+            return self.say(b" [9 IllegalPlay]\n");
+        }
+        append_refusal(why, &mut self.text)?;
+        self.say(b"\n")
+    }
+
+    /// The connection is over.
+    fn hear_lost(&mut self, waited: &Option<Outstanding>) -> Result<(), AllocError> {
+        self.memory.forget_boards();
+        self.ring()?;
+        if let Some(asked) = waited {
+            self.say(asked.command().as_bytes())?;
+            self.say(b" may have reached the server or not\n")?;
+        }
+        self.say(b"lost: open connects again, quit ends\n")
+    }
+}

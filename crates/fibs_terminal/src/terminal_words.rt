@@ -1,0 +1,48 @@
+//! A terminal is typed at.
+ghost use Rattle.std.specs.Prelude.{OnOk, IfOk};
+ghost use Rattle.fibs_terminal.specs.Asking.{KnownStays, SendsUntaken};
+ghost use Rattle.fibs_terminal.specs.Grown.{Grown};
+
+use crate::terminal::Terminal;
+use crate::terminal_front::write_text;
+use fibs_front::fault::FrontFault;
+use fibs_front::front::Front;
+use fibs_front::typed_line::TypedLine;
+use fibs_front::wish::Wish;
+use fibs_front::words::Words;
+use fibs_session::{Client, Directory};
+use std::io::Write;
+use std::time::Clock;
+
+impl<W: Write + Drop, C: Clock + Drop> Words for Terminal<'_, W, C> {
+    ghost asks = { λ _ line wish. Unit {0} };
+
+    fn rest(&mut self, client: &Client, _directory: &Directory) -> Result<(), FrontFault> {
+        self.screen.text.clear();
+        self.screen.rest(client).map_err(|_| FrontFault::Output)?;
+        write_text(self.screen.text.as_slice(), &mut self.out)?;
+        self.flush()
+    }
+
+    fn wish(
+        &mut self,
+        client: &Client,
+        directory: &Directory,
+        line: &mut TypedLine,
+    ) -> Result<Wish, FrontFault>
+        ensures told { OnOk result (Grown (W.contents self.old.out) (W.contents self.new.out)) }
+        ensures asks { IfOk result (λ wish. Unit {0}) }
+        // What the client knows is never respelled: a decision, an order, a line to people.
+        ensures known { KnownStays client.now line.old.items line.new.items result }
+        // What goes to the server as it is, the client would not take.
+        ensures sent { SendsUntaken client.now line.new.items result }
+    {
+        self.screen.text.clear();
+        let wish = self
+            .screen
+            .wish(client, directory, line)
+            .map_err(|_| FrontFault::Output)?;
+        write_text(self.screen.text.as_slice(), &mut self.out)?;
+        Ok(wish)
+    }
+}
