@@ -5,10 +5,10 @@
 pub mod arguments;
 pub mod program;
 
-pub use fibs_connect::connect::dial::{Place, READ_MILLIS};
-pub use fibs_connect::connect::{converse, converse_at};
-pub use fibs_exchange::exchange::link::Link;
-pub use fibs_exchange::exchange::{Ending, ExchangeFault, exchange};
+pub use fibs_connect::dial::{Place, READ_MILLIS};
+pub use fibs_connect::{converse, converse_at};
+pub use fibs_exchange::link::Link;
+pub use fibs_exchange::{Ending, ExchangeFault, exchange};
 pub use fibs_loop::play_loop::play_loop;
 pub use fibs_replay::replay::replay;
 pub use fibs_engine::fault::EngineFault;

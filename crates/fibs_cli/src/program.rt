@@ -5,8 +5,8 @@ ghost use Rattle.fibs_engine.specs.Printing.{Printed};
 ghost use Rattle.fibs_engine.specs.Status.{code_of};
 
 use crate::arguments::{Answer, Request};
-use fibs_connect::connect::converse_at;
-use fibs_connect::connect::dial::Place;
+use fibs_connect::converse_at;
+use fibs_connect::dial::Place;
 use fibs_loop::play_loop::play_loop;
 use fibs_replay::replay::replay;
 use fibs_engine::fault::EngineFault;

@@ -1,7 +1,7 @@
 //! Conversations, with streams in memory and on real sockets.
 
-use fibs_connect::connect::dial::Dial;
-use fibs_connect::connect::{converse, converse_with};
+use fibs_connect::dial::Dial;
+use fibs_connect::{converse, converse_with};
 use fibs_engine::fault::EngineFault;
 use fibs_test_tools::devices::Endless;
 use fibs_test_tools::outcome::Outcome;
@@ -9,7 +9,7 @@ use fibs_test_tools::pipe::{After, FAULT, Pipe, QUIET};
 use fibs_test_tools::text::{Text, text_of};
 use std::alloc::Global;
 use std::io;
-use std::io::Read;
+use std::io::{ErrorKind, Read};
 use std::net::{Net, OpenListener, TcpListener, TcpStream};
 use std::test::Fail;
 
@@ -24,12 +24,12 @@ pub struct Door<'a> {
 impl<'a> Dial for Door<'a> {
     type Stream = Pipe<'a>;
 
-    fn dial(&mut self) -> Option<Pipe<'a>> {
+    fn dial(&mut self) -> Result<Pipe<'a>, ErrorKind> {
         if self.connections == 0 {
-            return None;
+            return Err(ErrorKind::ConnectionRefused);
         }
         self.connections -= 1;
-        Some(Pipe::new(self.input, 7, QUIET, self.room))
+        Ok(Pipe::new(self.input, 7, QUIET, self.room))
     }
 }
 

@@ -1,8 +1,8 @@
 //! What was printed is shown before the program waits: for the server, for a typed line, for a connection.
 
-use fibs_connect::connect::converse_with;
-use fibs_connect::connect::dial::Dial;
-use fibs_exchange::exchange::link::Link;
+use fibs_connect::converse_with;
+use fibs_connect::dial::Dial;
+use fibs_exchange::link::Link;
 use fibs_engine::fault::EngineFault;
 use fibs_test_tools::pipe::{After, Pipe};
 use std::alloc::Global;
@@ -108,11 +108,11 @@ struct WatchedDoor<'a> {
 impl<'a> Dial for WatchedDoor<'a> {
     type Stream = Watched<'a>;
 
-    fn dial(&mut self) -> Option<Watched<'a>> {
+    fn dial(&mut self) -> Result<Watched<'a>, ErrorKind> {
         self.seen.wait();
         let heard =
             b"1 ann 1041253132 localhost\r\n5 bob - - 1 0 1500.5 0 3 1040515752 host - -\r\nhello\r\n";
-        Some(Watched {
+        Ok(Watched {
             stream: Pipe::new(heard, 40, After::End, 512),
             seen: self.seen,
         })

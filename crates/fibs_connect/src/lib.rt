@@ -1,4 +1,148 @@
-//! A conversation with a server: typed lines, connections, and the seat of a player.
+//! `fibs connect`: a player's conversation with the server. Typed lines, connections, and the seat of a player.
 #![tactic(auto)]
 
-pub mod connect;
+ghost use Rattle.std.specs.Prelude.{◌≡◌, ◌*◌, IfOk, IfErr};
+ghost use Rattle.std.specs.Io.KnownBytes.{Appends, Keeps};
+ghost use Rattle.fibs_connect.specs.Converse.Ending.{Conversed, login_fault_line};
+ghost use Rattle.fibs_connect.specs.Converse.Reading.{SpendsReads};
+ghost use Rattle.fibs_front.specs.Lines.{line_bytes};
+ghost use Rattle.fibs_engine.specs.Reads.{LostAtMost};
+
+pub mod dial;
+mod players;
+mod seat;
+pub mod typed_lines;
+
+use dial::{Dial, Place, READ_MILLIS, Server};
+use fibs_engine::fault::EngineFault;
+use fibs_engine::limits::{MOST_INPUT_READS, READ_PORTION};
+use fibs_engine::status::Status;
+use fibs_front::plain::Plain;
+use fibs_front::printing::print_reason;
+use fibs_front::typed_line::TypedLine;
+use fibs_front::words::Words;
+use fibs_session::{Login, PlainFault};
+use seat::{Going, Seat};
+use std::alloc::Global;
+use std::io::{Read, Write};
+use std::net::{Net, TcpStream};
+use std::time::Duration;
+use typed_lines::TypedLines;
+
+/// Talks with a server for a player.
+///
+/// The first line of `typed` is the password. Where it or the name has a fault, `err` is given `fault NUMBER NAME`, and
+/// the status is 3. Else it connects to the host, a name or an address, logs in, and answers each line that is typed:
+/// `open` connects again, `players` lists the players that are known, `quit` ends, and all others are turns of the
+/// client (`exchange`), which an empty line takes without a word. Where no connection can be made it says so, and goes
+/// on. At the end of the lines, and after `quit`, the status is 0. A read of the server waits for half a second.
+///
+/// It reads at most 1,000,000,000 times, and at most 1024 bytes at once.
+///
+/// Errors: `Device` where a line can't be read, or what is printed can't be written. Never `Memory`: what the directory
+/// refuses is printed.
+pub fn converse<N: Net<Stream = TcpStream>, R: Read, W: Write, E: Write>(
+    rt: &N,
+    alloc: Global,
+    host: &str,
+    port: u16,
+    name: &[u8],
+    typed: &mut R,
+    out: &mut W,
+    err: &mut E,
+) -> Result<u8, EngineFault>
+    ensures conversed { Conversed name.now result (R.remaining typed.old)
+        (W.contents out.old) (W.contents out.new) (E.contents err.old) (E.contents err.new) }
+    ensures few { LostAtMost (MOST_INPUT_READS * READ_PORTION) (R.remaining typed.old) (R.remaining typed.new) }
+{
+    let place = Place {
+        host,
+        port,
+        quiet: Duration::from_millis(READ_MILLIS),
+    };
+    converse_at(rt, alloc, place, name, typed, out, err)
+}
+
+/// The same with a server at a place, which says how long a read waits.
+pub fn converse_at<N: Net<Stream = TcpStream>, R: Read, W: Write, E: Write>(
+    rt: &N,
+    alloc: Global,
+    place: Place<'_>,
+    name: &[u8],
+    typed: &mut R,
+    out: &mut W,
+    err: &mut E,
+) -> Result<u8, EngineFault>
+    ensures conversed { Conversed name.now result (R.remaining typed.old)
+        (W.contents out.old) (W.contents out.new) (E.contents err.old) (E.contents err.new) }
+    ensures few { LostAtMost (MOST_INPUT_READS * READ_PORTION) (R.remaining typed.old) (R.remaining typed.new) }
+{
+    let mut server = Server::new(rt, place);
+    converse_with(&mut server, alloc, name, MOST_INPUT_READS, typed, out, err)
+}
+
+/// The same with any maker of connections, and with at most so many reads of what is typed.
+pub fn converse_with<D: Dial, R: Read, W: Write, E: Write>(
+    server: &mut D,
+    alloc: Global,
+    name: &[u8],
+    reads: u32,
+    typed: &mut R,
+    out: &mut W,
+    err: &mut E,
+) -> Result<u8, EngineFault>
+    ensures conversed { Conversed name.now result (R.remaining typed.old)
+        (W.contents out.old) (W.contents out.new) (E.contents err.old) (E.contents err.new) }
+    ensures few { LostAtMost (reads * READ_PORTION) (R.remaining typed.old) (R.remaining typed.new) }
+{
+    let mut lines = TypedLines::new(reads);
+    let mut line = TypedLine::new();
+    lines.read_line(typed, &mut line)?;
+    match Login::new(name, line.as_slice()) {
+        Err(fault) => print_fault(fault, err),
+        Ok(login) => answer_lines(server, alloc, login, &mut lines, typed, &mut Plain { out }),
+    }
+}
+
+/// Prints what is wrong with a name or a password.
+fn print_fault<E: Write>(fault: PlainFault, err: &mut E) -> Result<u8, EngineFault>
+    ensures printed { IfOk result (λ status. (status ≡ 3)
+        × Appends (E.contents err.old) (E.contents err.new) (line_bytes (login_fault_line fault))) }
+    ensures device { IfErr result (λ why. why ≡ EngineFault.Device) }
+{
+    print_reason(b"fault ", fault.number(), fault, err)?;
+    Ok(Status::Refused.code())
+}
+
+/// Connects, and does what each line asks for, to the end of the lines or until one asks to end.
+pub fn answer_lines<D: Dial, R: Read, F: Words>(
+    server: &mut D,
+    alloc: Global,
+    login: Login,
+    lines: &mut TypedLines,
+    typed: &mut R,
+    front: &mut F,
+) -> Result<u8, EngineFault>
+    ensures done { IfOk result (λ status. status ≡ 0) }
+    ensures device { IfErr result (λ why. why ≡ EngineFault.Device) }
+    ensures spends { SpendsReads lines.old lines.new (R.remaining typed.old) (R.remaining typed.new) }
+{
+    let mut seat = Seat::new(alloc, login);
+    seat.open(server, front)?;
+    let mut line = TypedLine::new();
+    for _ in 0..u64::MAX {
+        front.rest(&seat.client, &seat.directory)?;
+        if !lines.read_line(typed, &mut line)? {
+            return Ok(Status::Done.code());
+        }
+        let wish = front.wish(&seat.client, &seat.directory, &mut line)?;
+        match seat.answer(wish, line.as_slice(), server, front)? {
+            Going::On => {}
+            Going::Away => {
+                front.rest(&seat.client, &seat.directory)?;
+                return Ok(Status::Done.code());
+            }
+        }
+    }
+    Err(EngineFault::Device)
+}

@@ -1,7 +1,7 @@
 //! Turns of a client with a stream in memory.
 use super::seat::{Kind, Seat, is_made_of, kind_of, opened};
-use fibs_exchange::exchange::link::Link;
-use fibs_exchange::exchange::{Ending, ExchangeFault, exchange};
+use fibs_exchange::link::Link;
+use fibs_exchange::{Ending, ExchangeFault, exchange};
 use fibs_messages::{Reading, read as read_line};
 use fibs_session::{Client, Directory, Login};
 use fibs_test_tools::devices::FailsOnce;

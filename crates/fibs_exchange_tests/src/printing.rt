@@ -1,6 +1,6 @@
 //! How the lines of a turn are printed.
 use super::seat::Seat;
-use fibs_exchange::exchange::{Ending, exchange};
+use fibs_exchange::{Ending, exchange};
 use fibs_test_tools::pipe::{After, Pipe, QUIET};
 use fibs_test_tools::text::{Text, joined};
 use std::io;

@@ -2,7 +2,7 @@
 ghost use Rattle.std.specs.Prelude.{true};
 ghost use Rattle.fibs_exchange.specs.Turns.Turn.{FitsStream, still_given};
 
-use fibs_exchange::exchange::{Ending, exchange};
+use fibs_exchange::{Ending, exchange};
 use fibs_session::{Client, Directory, Login};
 use fibs_test_tools::pipe::{After, Pipe, QUIET};
 use fibs_test_tools::text::{TEXT_ROOM, Text, joined};

@@ -3,7 +3,7 @@ use Rattle.std.proofs.Common.{◌≡◌, ℕ, suc, true, false, not, cond, nat_e
 use Rattle.std.proofs.Common.{◌⊎◌, inl, refl, sym, ap, subst, ◌∙◌, arith}
 use Rattle.std.specs.Borrow.{MutBor}
 use Rattle.fibs_messages.specs.Message.{MessageValue}
-use Rattle.fibs_exchange.specs.Turns.Told.{SaidValue}
+use Rattle.fibs_front.specs.Told.{SaidValue, opened_said}
 use Rattle.fibs_session.specs.declared.session.taken.Outstanding.{Outstanding}
 use Rattle.fibs_exchange.specs.Turns.Script.{known_before, known_after, outside}
 use Rattle.fibs_connect.specs.Converse.Seats.{SeatValue, TakesTurn, Connects, seat_of}
@@ -15,8 +15,8 @@ use Rattle.fibs_session.specs.History.Words.{connections}
 use Rattle.fibs_session.specs.History.Machine.{Talk, Open, Lose, step, stays, opened, is_online}
 use Rattle.fibs_session.specs.Calls.Standing.{ClientValue, StandsAfter}
 use Rattle.fibs_session.specs.Calls.Doing.{Does}
-use Rattle.fibs_exchange.specs.declared.exchange.Ending.{Ending}
-use Rattle.fibs_exchange.specs.declared.exchange.Ending.TheVariants.{Quiet, Lost}
+use Rattle.fibs_exchange.specs.declared.Ending.{Ending}
+use Rattle.fibs_exchange.specs.declared.Ending.TheVariants.{Quiet, Lost}
 use Rattle.fibs_engine.specs.Writing.{Broken}
 use Rattle.fibs_exchange.specs.Turns.Turn.{FitsStream, LeavesAs, TurnedBy, is_there, still_given}
 use Rattle.fibs_exchange.proofs.TurnLemmas.Turns.{loses_offline}
@@ -53,11 +53,11 @@ on_ok_both (Err e) f p q = tt
 -- a new connection was made, or its login was not written whole
 pub seat_connects : {S F : Type 0} (Tells : F → List SaidValue → F → Type 0) (remaining contents : S → Option (List ℕ))
     (a : SeatValue) (client : ClientValue) (players : List MessageValue) (stream : Option S) (held now : F)
-    → IsDirectory [] players → (IsSome stream → Tells held [] now)
+    → IsDirectory [] players → (IsSome stream → Tells held (opened_said ∷ []) now)
     → Connects Tells a (seat_of remaining contents client players stream) held now
-seat_connects Tells remaining contents a client players None held now none silent = (λ e. absurd cc, λ e. inl none)
-seat_connects Tells remaining contents a client players (Some s) held now none silent =
-    (λ e. (silent refl, none), λ e. absurd cc)
+seat_connects Tells remaining contents a client players None held now none told = (λ e. absurd cc, λ e. inl none)
+seat_connects Tells remaining contents a client players (Some s) held now none told =
+    (λ e. (told refl, none), λ e. absurd cc)
 
 -- ---- turns
 

@@ -1,18 +1,22 @@
 -- What a player's seat does for a typed line.
-use Rattle.std.specs.Prelude.{◌≡◌, ◌⊎◌, ℕ, Bool, true, false, List, [], ◌∷◌, Option, Some, None}
+use Rattle.std.specs.Prelude.{◌≡◌, ◌⊎◌, ◌<◌, ◌≤◌, ℕ, Bool, true, false, List, [], ◌∷◌, length, Option, Some, None}
+use Rattle.std.specs.Io.KnownBytes.{Appends, Keeps}
+use Rattle.std.specs.declared.io.ErrorKind.{ErrorKind}
 use Rattle.fibs_messages.specs.Message.{MessageValue}
 use Rattle.fibs_directory.specs.Directory.{IsDirectory}
-use Rattle.fibs_session.specs.History.Machine.{Talk, is_online}
+use Rattle.fibs_session.specs.History.Machine.{Talk, is_online, on_wire}
 use Rattle.fibs_session.specs.Calls.Standing.{ClientValue, StandsAfter}
-use Rattle.fibs_exchange.specs.declared.exchange.Ending.{Ending}
-use Rattle.fibs_exchange.specs.Turns.Told.{SaidValue, refused_said, unknown_said, no_connection_said}
-use Rattle.fibs_history.specs.declared.refusal.Refusal.TheVariants.{AlreadyOpen}
+use Rattle.fibs_exchange.specs.declared.Ending.{Ending}
+use Rattle.fibs_front.specs.Told.{SaidValue, refused_said, unknown_said, opened_said, no_connection_said, passed_said}
+use Rattle.fibs_history.specs.declared.refusal.Refusal.TheVariants.{AlreadyOpen, Offline}
+use Rattle.fibs_engine.specs.Writing.{Wrote, Broken}
 use Rattle.fibs_exchange.specs.Turns.Script.{outside}
-use Rattle.fibs_exchange.specs.Turns.Turn.{TurnedBy, still_given}
+use Rattle.fibs_exchange.specs.Turns.Turn.{TurnedBy, Ended, still_given}
 use Rattle.fibs_connect.specs.Converse.Players.{players_told}
-use Rattle.fibs_connect.specs.Converse.Wishes.{WishValue, connects, lists_players, ends, is_too_long, takes_turn, is_answered}
-use Rattle.fibs_connect.specs.declared.connect.seat.Going.{Going}
-use Rattle.fibs_connect.specs.declared.connect.seat.Going.TheVariants.{On, Away}
+use Rattle.fibs_front.specs.Wishes.{WishValue, connects, lists_players, ends, is_too_long, takes_turn, passes}
+use Rattle.fibs_front.specs.Wishes.{is_answered, typed_limit}
+use Rattle.fibs_connect.specs.declared.seat.Going.{Going}
+use Rattle.fibs_connect.specs.declared.seat.Going.TheVariants.{On, Away}
 
 -- a seat: the client, the players that it knows, and the connection, with what it has left to read and what was written
 -- there, where it tells it
@@ -52,12 +56,49 @@ pub record TakesTurn {F : Type 0} (Tells : F → List SaidValue → F → Type 0
 abbrev pub Refuses : {F : Type 0} → (F → List SaidValue → F → Type 0) → SeatValue → SeatValue → F → F → Type 0
 Refuses Tells a b held now = (b ≡ a) × Tells held (refused_said AlreadyOpen ∷ []) now
 
--- a new connection begins in silence and knows no player; where none can be made that is said, and nothing else comes
--- of it; where its login was not written whole it is over
+-- a new connection is told and knows no player; where none can be made that is said, and nothing else comes of it;
+-- where its login was not written whole it is over
 abbrev pub Connects : {F : Type 0} → (F → List SaidValue → F → Type 0) → SeatValue → SeatValue → F → F → Type 0
 Connects Tells a b held now =
-    (b.connected ≡ true → Tells held [] now × IsDirectory [] b.players)
-    × (b.connected ≡ false → IsDirectory [] b.players ⊎ ((b ≡ a) × Tells held (no_connection_said ∷ []) now))
+    (b.connected ≡ true → Tells held (opened_said ∷ []) now × IsDirectory [] b.players)
+    × (b.connected ≡ false → IsDirectory [] b.players
+    ⊎ ((b ≡ a) × ((why : ErrorKind) × Tells held (no_connection_said why ∷ []) now)))
+
+-- a seat on whose connection something was written
+abbrev pub written : SeatValue → Option (List ℕ) → Option (List ℕ) → SeatValue
+written a left wrote =
+    record { client = a.client; players = a.players; connected = a.connected; left = left; wrote = wrote }
+
+-- a line was written as it is and that is told, and then the client takes a turn without it, as if nothing had been
+-- written
+pub record Passed {F : Type 0} (Tells : F → List SaidValue → F → Type 0) (line : List ℕ) (a b : SeatValue)
+    (held now : F) : Type 0 where
+  pub left : Option (List ℕ)
+  pub wrote : Option (List ℕ)
+  pub mid : F
+  pub apart : Keeps a.left left
+  pub writes : Appends a.wrote wrote (on_wire line)
+  pub told : Tells held (passed_said line ∷ []) mid
+  pub turn : TakesTurn Tells None (written a left wrote) b mid now
+
+-- it was not written whole, and that ends the connection
+pub record Unpassed {F : Type 0} (Tells : F → List SaidValue → F → Type 0) (line : List ℕ) (a b : SeatValue)
+    (held now : F) : Type 0 where
+  pub wrote : Option (List ℕ)
+  pub writes : Wrote Broken a.wrote wrote (on_wire line)
+  pub ending : Ending
+  pub ended : (t : Talk) → StandsAfter a.client t →
+      Ended Tells Broken t b.client (outside wrote held a.players) (outside wrote now b.players) ending
+  pub over : b.connected ≡ false
+
+abbrev pub PassesOn : {F : Type 0} → (F → List SaidValue → F → Type 0) → List ℕ → SeatValue → SeatValue → F → F → Type 0
+PassesOn Tells line a b held now = Passed Tells line a b held now ⊎ Unpassed Tells line a b held now
+
+-- a line is sent to the server as it is, if it is not too long and there is a connection
+abbrev pub Passes : {F : Type 0} → (F → List SaidValue → F → Type 0) → List ℕ → SeatValue → SeatValue → F → F → Type 0
+Passes Tells line a b held now = (typed_limit < length line → (b ≡ a) × Tells held (unknown_said ∷ []) now)
+    × (length line ≤ typed_limit → a.connected ≡ false → (b ≡ a) × Tells held (refused_said Offline ∷ []) now)
+    × (length line ≤ typed_limit → a.connected ≡ true → PassesOn Tells line a b held now)
 
 -- a wish was answered: what the seat was and is, what the front end was before and is, and whether more is answered
 abbrev pub Answered : {F : Type 0} → (F → List SaidValue → F → Type 0) → WishValue → SeatValue → SeatValue → F → F
@@ -68,4 +109,5 @@ Answered Tells lists_players a b held now going = (b ≡ a) × Tells held (playe
 Answered Tells ends a b held now going = (b ≡ a) × (now ≡ held) × (going ≡ Away)
 Answered Tells is_too_long a b held now going = (b ≡ a) × Tells held (unknown_said ∷ []) now × (going ≡ On)
 Answered Tells (takes_turn said) a b held now going = TakesTurn Tells said a b held now × (going ≡ On)
+Answered Tells (passes line) a b held now going = Passes Tells line a b held now × (going ≡ On)
 Answered Tells is_answered a b held now going = (b ≡ a) × (now ≡ held) × (going ≡ On)

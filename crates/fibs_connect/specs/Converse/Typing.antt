@@ -3,10 +3,6 @@ use Rattle.std.specs.Prelude.{ℕ, List, [], Option, Some, None, take}
 use Rattle.std.specs.Str.Lines.{strip_carriage_return}
 use Rattle.fibs_fields.specs.Split.{before, after}
 
--- how many bytes a line may have, without its end
-abbrev pub typed_limit : ℕ
-typed_limit = 4096
-
 -- of a line that a byte 10 ends, one byte 13 before that goes; the last line may lack its end, and is as it stands
 abbrev pub without_end : List ℕ → Option (List ℕ) → List ℕ
 without_end part None = part

@@ -1,10 +1,10 @@
 -- What an answer of a part of a turn says, where a fault is handed on.
 use Rattle.std.proofs.Common.{◌≡◌, Result, Ok, Err}
 use Rattle.std.specs.Prelude.{⊤, IsErrAnd}
-use Rattle.fibs_engine.specs.Writing.{Progress, Whole, Broken, progress_of}
+use Rattle.fibs_engine.specs.Writing.{Progress, Broken, progress_of}
 use Rattle.fibs_engine.specs.declared.writing.Broken as declared
-use Rattle.fibs_exchange.specs.declared.exchange.turn_fault.TurnFault.{TurnFault}
-use Rattle.fibs_exchange.specs.declared.exchange.turn_fault.TurnFault.TheVariants.{Stream, Output}
+use Rattle.fibs_exchange.specs.declared.turn_fault.TurnFault.{TurnFault}
+use Rattle.fibs_exchange.specs.declared.turn_fault.TurnFault.TheVariants.{Stream, Output}
 use Rattle.fibs_exchange.specs.Turns.Answering.{IfPrinted, IfUnprinted}
 
 -- a write that failed is said to have failed

@@ -1,23 +1,22 @@
 -- What pieces of the stream call for.
-use Rattle.std.proofs.Common.{◌≡◌, ◌≢◌, ◌<◌, ◌≤◌, ◌+◌, ◌-◌, ℕ, Bool, true, false, not, if◌then◌else◌, nat_eq, List, []}
-use Rattle.std.proofs.Common.{◌∷◌, ◌++◌, length, take, drop, Option, None, Some, refl, sym, ap, subst, ◌∙◌}
+use Rattle.std.proofs.Common.{◌≡◌, ◌<◌, ◌≤◌, ◌+◌, ◌-◌, ℕ, Bool, true, false, not, if◌then◌else◌, nat_eq, List, []}
+use Rattle.std.proofs.Common.{◌∷◌, ◌++◌, length, take, drop, Option, None, Some, refl, sym, ap, ◌∙◌}
 use Rattle.std.proofs.Common.{append_assoc, append-nil, take-append-drop, arith, length-append, length-take}
 use Rattle.std.proofs.Math.Seq.{take-append-add, take-add, drop-append_seam, drop-length}
 use Rattle.std.proofs.lemmas.List.{nil_from_length}
 use Rattle.fibs_lines.specs.Lines.{ReadLine, lines_of}
 use Rattle.fibs_lines.specs.StreamLaws.{LinesOnlyGrow}
 use Rattle.fibs_boards.specs.Board.{BoardFields}
-use Rattle.fibs_messages.specs.Message.{MessageValue}
 use Rattle.fibs_messages.specs.Line.{ReadingValue, numbered_line, board_line, text_line, malformed_line}
 use Rattle.fibs_position.specs.GoodBoard.{good}
 use Rattle.fibs_session.specs.History.Log.{Entry, Opened, Lost, Shown}
-use Rattle.fibs_session.specs.History.Words.{Ask, open_from, open_now}
+use Rattle.fibs_session.specs.History.Words.{open_from, open_now}
 use Rattle.fibs_session.specs.History.Hearing.{Heard, heard, nothing_heard, line_reading, shown_entries}
 use Rattle.fibs_session.specs.History.Orders.{is_due}
-use Rattle.fibs_session.specs.History.Machine.{Talk, Step, Piece, step, stays, is_online, reads, hears, hears_all}
-use Rattle.fibs_session.specs.History.Machine.{heard_by, line_heard, with_bytes, gained}
+use Rattle.fibs_session.specs.History.Machine.{Talk, Step, Piece, step, stays, is_online, hears, hears_all}
+use Rattle.fibs_session.specs.History.Machine.{heard_by, with_bytes, gained}
 use Rattle.fibs_session.specs.Calls.Standing.{ClientValue, StandsAfter}
-use Rattle.fibs_session.specs.Calls.Feeding.{FeedAnswers, Gains, in_list, line_of_taken}
+use Rattle.fibs_session.specs.Calls.Feeding.{FeedAnswers, Gains, in_list}
 use Rattle.fibs_session.specs.Calls.SessionOf.{TakenValue}
 use Rattle.fibs_exchange.specs.Turns.Acts.{Act}
 use Rattle.fibs_exchange.specs.Turns.Lines.{heard_act, taken_act, line_act, line_acts, piece_acts}

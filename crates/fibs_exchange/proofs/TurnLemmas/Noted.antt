@@ -13,8 +13,9 @@ use Rattle.fibs_session.specs.History.Hearing.{Heard, heard, nothing_heard, line
 use Rattle.fibs_session.specs.History.Machine.{Talk, is_online, gained, wire_of}
 use Rattle.fibs_engine.specs.Writing.{Progress, Whole, Broken}
 use Rattle.fibs_exchange.specs.Turns.Acts.{Act}
-use Rattle.fibs_exchange.specs.Turns.Lines.{line_act, line_acts, piece_acts, messages_in}
-use Rattle.fibs_exchange.specs.Turns.Typing.{talk_after, typed_acts, typed_act, typed_now}
+use Rattle.fibs_exchange.specs.Turns.Lines.{line_acts, piece_acts, messages_in}
+use Rattle.fibs_exchange.specs.Turns.Typing.{talk_after, typed_acts}
+use Rattle.fibs_front.specs.Typing.{typed_now}
 use Rattle.fibs_exchange.specs.Turns.Script.{InHand, acts_of}
 use Rattle.fibs_exchange.specs.Turns.NoteLaw.{TellsNothing, TurnsLeaveNoPlayer}
 use Rattle.fibs_exchange.proofs.TurnLemmas.Typed.{typed_notes}

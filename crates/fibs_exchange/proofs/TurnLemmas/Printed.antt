@@ -20,20 +20,25 @@ use Rattle.fibs_session.specs.History.Hearing.{Heard, heard, line_reading}
 use Rattle.fibs_session.specs.History.Machine.{Talk, Click, PlainInput, step, answer_now, plain_refusal}
 use Rattle.fibs_session.specs.History.Machine.{is_online, gained, order_refusal, withdraw_refusal}
 use Rattle.fibs_directory.specs.declared.fault.DirectoryFault.{DirectoryFault}
-use Rattle.fibs_exchange.specs.declared.exchange.Ending.{Ending}
-use Rattle.fibs_exchange.specs.declared.exchange.Ending.TheVariants.{Quiet, Lost}
+use Rattle.fibs_exchange.specs.declared.Ending.{Ending}
+use Rattle.fibs_exchange.specs.declared.Ending.TheVariants.{Quiet, Lost}
 use Rattle.fibs_engine.specs.Escape.{escaped}
 use Rattle.fibs_position.specs.Phases.{phase_of}
-use Rattle.fibs_exchange.specs.Turns.Told.{SaidValue, heard_said, phase_said, confirmed_said, sent_said, ordered_said}
-use Rattle.fibs_exchange.specs.Turns.Told.{withdrawn_said, refused_said, not_sent_said, unknown_said, lost_said}
-use Rattle.fibs_exchange.specs.Turns.Told.{unnoted_said, rolled_said, no_connection_said, player_said}
-use Rattle.fibs_exchange.specs.Turns.Account.{line_of, account_of}
-use Rattle.fibs_exchange.specs.Turns.Acts.{Act, text_of_lines, line_bytes, answer_act, lost_line}
-use Rattle.fibs_exchange.specs.Turns.Lines.{said_text, phase_told, confirmed_told, rolled_told, line_act, line_acts}
+use Rattle.fibs_front.specs.Told.{SaidValue, heard_said, phase_said, confirmed_said, sent_said, ordered_said}
+use Rattle.fibs_front.specs.Told.{withdrawn_said, refused_said, not_sent_said, unknown_said, lost_said}
+use Rattle.fibs_front.specs.Told.{unnoted_said, rolled_said, no_connection_said, player_said, opened_said, passed_said}
+use Rattle.fibs_front.specs.Account.{lines_of, printed_of, account_of}
+use Rattle.fibs_exchange.specs.Turns.Acts.{Act, answer_act}
+use Rattle.fibs_front.specs.Lines.{text_of_lines, line_bytes, lost_line}
+use Rattle.fibs_exchange.specs.Turns.Lines.{phase_told, confirmed_told, rolled_told, line_act, line_acts}
+use Rattle.fibs_front.specs.Lines.{said_text, heard_text}
 use Rattle.fibs_exchange.specs.Turns.Lines.{piece_acts}
-use Rattle.fibs_exchange.specs.Turns.Typing.{TypedValue, typed_decision, typed_plain, typed_order, typed_withdrawal}
-use Rattle.fibs_exchange.specs.Turns.Typing.{typed_none, plain_line, order_told, typed_act, typed_acts}
-use Rattle.fibs_exchange.specs.Turns.Typing.{typed_now, talk_after}
+use Rattle.fibs_front.specs.Typing.{TypedValue, typed_decision, typed_plain, typed_order, typed_withdrawal}
+use Rattle.fibs_exchange.specs.Turns.Typing.{order_told, typed_act, typed_acts}
+use Rattle.fibs_front.specs.Typing.{typed_none}
+use Rattle.fibs_front.specs.Lines.{plain_line}
+use Rattle.fibs_exchange.specs.Turns.Typing.{talk_after}
+use Rattle.fibs_front.specs.Typing.{typed_now}
 use Rattle.fibs_exchange.specs.Turns.Script.{Done, directory_told, done_told, acts_of, tells_of}
 use Rattle.fibs_exchange.specs.Turns.Turn.{end_acts}
 use Rattle.fibs_exchange.specs.Turns.PrintLaw.{is_directory_line, without_directory, lines_of_acts, TurnsPrintTheirActs}
@@ -52,7 +57,9 @@ is_unnoted (not_sent_said why) = false
 is_unnoted unknown_said = false
 is_unnoted (lost_said waited) = false
 is_unnoted (unnoted_said why) = true
-is_unnoted no_connection_said = false
+is_unnoted opened_said = false
+is_unnoted (no_connection_said why) = false
+is_unnoted (passed_said line) = false
 is_unnoted (player_said told) = false
 
 -- none of these does
@@ -89,55 +96,67 @@ lost_is_plain (Some ask) = refl
 never_unnoted : {P : Type 0} → true ≡ false → P
 never_unnoted {P} e = absurd cc
 
-line_is_plain : (s : SaidValue) → is_unnoted s ≡ false → is_directory_line (line_of s) ≡ false
-line_is_plain (heard_said line r) h = kept_is_plain line.cut line.bytes r
-line_is_plain (phase_said phase) h = refl
-line_is_plain (confirmed_said ask) h = refl
-line_is_plain (sent_said text) h = refl
-line_is_plain rolled_said h = refl
-line_is_plain ordered_said h = refl
-line_is_plain withdrawn_said h = refl
-line_is_plain (refused_said why) h = refl
-line_is_plain (not_sent_said why) h = not_sent_is_plain why
-line_is_plain unknown_said h = refl
-line_is_plain (lost_said waited) h = lost_is_plain waited
-line_is_plain (unnoted_said why) h = never_unnoted h
-line_is_plain no_connection_said h = refl
-line_is_plain (player_said told) h = refl
+-- a line stays that is none of the directory's
+line_stays : (line : List ℕ) (ms : List (List ℕ)) → is_directory_line line ≡ false
+    → without_directory (line ∷ ms) ≡ line ∷ without_directory ms
+line_stays line ms e = ap (λ b. cond b (without_directory ms) (line ∷ without_directory ms)) e
+
+-- none of the lines of what is told so is a line of the directory
+lines_stay : (s : SaidValue) (ms : List (List ℕ)) → is_unnoted s ≡ false
+    → without_directory (lines_of s ++ ms) ≡ lines_of s ++ without_directory ms
+lines_stay opened_said ms h = refl
+lines_stay (no_connection_said why) ms h = refl
+lines_stay (heard_said line r) ms h = line_stays (heard_text line r) ms (kept_is_plain line.cut line.bytes r)
+lines_stay (phase_said phase) ms h = refl
+lines_stay (confirmed_said ask) ms h = refl
+lines_stay (sent_said text) ms h = refl
+lines_stay rolled_said ms h = refl
+lines_stay (passed_said line) ms h = refl
+lines_stay ordered_said ms h = refl
+lines_stay withdrawn_said ms h = refl
+lines_stay (refused_said why) ms h = refl
+lines_stay (not_sent_said why) ms h = line_stays (plain_line why) ms (not_sent_is_plain why)
+lines_stay unknown_said ms h = refl
+lines_stay (lost_said waited) ms h = line_stays (lost_line waited) ms (lost_is_plain waited)
+lines_stay (unnoted_said why) ms h = never_unnoted h
+lines_stay (player_said told) ms h = refl
 
 without_plain : (ss : List SaidValue) (ms : List (List ℕ)) → Plain ss
-    → without_directory (map line_of ss ++ ms) ≡ map line_of ss ++ without_directory ms
+    → without_directory (flat_map lines_of ss ++ ms) ≡ flat_map lines_of ss ++ without_directory ms
 without_plain [] ms h = refl
 without_plain (s ∷ ss) ms h =
-    ap (λ b. cond b (without_directory (map line_of ss ++ ms)) (line_of s ∷ without_directory (map line_of ss ++ ms)))
-    (line_is_plain s h.0) ∙ ap (λ k. line_of s ∷ k) (without_plain ss ms h.1)
+    ap without_directory (append_assoc (lines_of s) (flat_map lines_of ss) ms)
+    ∙ lines_stay s (flat_map lines_of ss ++ ms) h.0 ∙ ap (λ k. lines_of s ++ k) (without_plain ss ms h.1)
+    ∙ sym (append_assoc (lines_of s) (flat_map lines_of ss) (without_directory ms))
 
 directory_gone : (r : Option DirectoryFault) (ms : List (List ℕ))
-    → without_directory (map line_of (directory_told r) ++ ms) ≡ without_directory ms
+    → without_directory (flat_map lines_of (directory_told r) ++ ms) ≡ without_directory ms
 directory_gone None ms = refl
 directory_gone (Some why) ms = refl
 
 abbrev lines_of_done : Done → List (List ℕ)
-lines_of_done d = map line_of (done_told d)
+lines_of_done d = flat_map lines_of (done_told d)
 
 done_without : (ds : List Done) → PlainActs (acts_of ds)
     → without_directory (flat_map lines_of_done ds) ≡ lines_of_acts (acts_of ds)
 done_without [] h = refl
 done_without (d ∷ ds) h =
     let more = flat_map lines_of_done ds in
-    ap (λ l. without_directory (l ++ more)) (map-append line_of d.act.tells (directory_told d.refused))
-    ∙ ap without_directory (append_assoc (map line_of d.act.tells) (map line_of (directory_told d.refused)) more)
-    ∙ without_plain d.act.tells (map line_of (directory_told d.refused) ++ more) h.0
-    ∙ ap (λ l. map line_of d.act.tells ++ l) (directory_gone d.refused more ∙ done_without ds h.1)
+    ap (λ l. without_directory (l ++ more)) (flat_map-append lines_of d.act.tells (directory_told d.refused))
+    ∙ ap without_directory
+    (append_assoc (flat_map lines_of d.act.tells) (flat_map lines_of (directory_told d.refused)) more)
+    ∙ without_plain d.act.tells (flat_map lines_of (directory_told d.refused) ++ more) h.0
+    ∙ ap (λ l. flat_map lines_of d.act.tells ++ l) (directory_gone d.refused more ∙ done_without ds h.1)
 
-account_is_lines : (ss : List SaidValue) → account_of ss ≡ text_of_lines (map line_of ss)
+account_is_lines : (ss : List SaidValue) → account_of ss ≡ text_of_lines (flat_map lines_of ss)
 account_is_lines [] = refl
-account_is_lines (s ∷ ss) = ap (λ l. line_bytes (line_of s) ++ l) (account_is_lines ss)
+account_is_lines (s ∷ ss) = ap (λ l. printed_of s ++ l) (account_is_lines ss)
+    ∙ sym (flat_map-append line_bytes (lines_of s) (flat_map lines_of ss))
 
 tells_are_lines : (ds : List Done) → account_of (tells_of ds) ≡ text_of_lines (flat_map lines_of_done ds)
 tells_are_lines [] = refl
 tells_are_lines (d ∷ ds) =
-    flat_map-append (λ said. line_bytes (line_of said)) (done_told d) (tells_of ds)
+    flat_map-append printed_of (done_told d) (tells_of ds)
     ∙ ap (λ l. l ++ account_of (tells_of ds)) (account_is_lines (done_told d))
     ∙ ap (λ l. text_of_lines (lines_of_done d) ++ l) (tells_are_lines ds)
     ∙ sym (flat_map-append line_bytes (lines_of_done d) (flat_map lines_of_done ds))
@@ -255,7 +274,7 @@ turns_print_their_acts t new typed left still a b e turned =
     let plain = subst PlainActs (sym split) (plain_joined (acts_of d.done) (end_acts e) front (end_is_plain e)) in (
       flat_map lines_of_done both,
       subst (Appends a.front b.front) (sym
-          (flat_map-append (λ said. line_bytes (line_of said)) (tells_of d.done) (tells_of k.done))
+          (flat_map-append printed_of (tells_of d.done) (tells_of k.done))
           ∙ ap account_of (sym (flat_map-append done_told d.done k.done)) ∙ tells_are_lines both)
           (Appends-trans a.front turned.mid.front b.front (account_of (tells_of d.done))
           (account_of (tells_of k.done)) d.told k.told),

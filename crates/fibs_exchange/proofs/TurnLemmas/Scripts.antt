@@ -10,7 +10,7 @@ use Rattle.fibs_directory.specs.Directory.{IsDirectory}
 use Rattle.fibs_directory.specs.declared.fault.DirectoryFault.{DirectoryFault}
 use Rattle.fibs_engine.specs.Writing.{Wrote}
 use Rattle.fibs_engine.specs.Writing.{Progress, Whole, Broken}
-use Rattle.fibs_exchange.specs.Turns.Told.{SaidValue, Joins}
+use Rattle.fibs_front.specs.Told.{SaidValue, Joins}
 use Rattle.fibs_exchange.specs.Turns.Acts.{Act}
 use Rattle.fibs_exchange.specs.Turns.Script.{Outside, Done, directory_told, done_told, noted_unless}
 use Rattle.fibs_exchange.specs.Turns.Script.{calls_of}

@@ -5,9 +5,9 @@ use Rattle.fibs_messages.specs.Message.{MessageValue}
 use Rattle.fibs_session.specs.History.Machine.{Talk}
 use Rattle.fibs_session.specs.Calls.Standing.{ClientValue}
 use Rattle.fibs_engine.specs.Writing.{Progress, Whole}
-use Rattle.fibs_exchange.specs.declared.exchange.Ending.{Ending}
-use Rattle.fibs_exchange.specs.Turns.Told.{SaidValue}
-use Rattle.fibs_exchange.specs.Turns.Account.{Accounts}
+use Rattle.fibs_exchange.specs.declared.Ending.{Ending}
+use Rattle.fibs_front.specs.Told.{SaidValue}
+use Rattle.fibs_front.specs.Account.{Accounts}
 use Rattle.fibs_exchange.specs.Turns.Acts.{Act}
 use Rattle.fibs_exchange.specs.Turns.Script.{Outside, outside, Did, tells_of}
 use Rattle.fibs_exchange.specs.Turns.Turn.{Ended, TurnedBy, Turned}

@@ -10,12 +10,13 @@ use Rattle.fibs_session.specs.History.Machine.{Talk, Piece, Lose, step, is_onlin
 use Rattle.fibs_session.specs.History.MachineLaws.{PiecesJoin, EmptyPieceIsNothing}
 use Rattle.fibs_session.specs.Calls.Standing.{ClientValue, StandsAfter}
 use Rattle.fibs_engine.specs.Writing.{Progress, Whole, Broken}
-use Rattle.fibs_exchange.specs.Turns.Told.{SaidValue}
+use Rattle.fibs_front.specs.Told.{SaidValue}
 use Rattle.fibs_exchange.specs.Turns.Acts.{Act}
 use Rattle.fibs_exchange.specs.Turns.Lines.{piece_acts}
 use Rattle.fibs_exchange.specs.Turns.Script.{Outside, Did, Called, calls_of}
 use Rattle.fibs_exchange.specs.Turns.Turn.{EndsALine, Talked, FedToALine, StopsAt, all_fed, line_fed, lost, Stopped}
-use Rattle.fibs_exchange.specs.Turns.Typing.{typed_now, typed_step, typed_act}
+use Rattle.fibs_exchange.specs.Turns.Typing.{typed_step, typed_act}
+use Rattle.fibs_front.specs.Typing.{typed_now}
 use Rattle.fibs_exchange.proofs.TurnLemmas.Hearing.{piece_stream, ends_joined, acts_join, no_acts}
 use Rattle.fibs_exchange.proofs.TurnLemmas.Scripts.{did_wrote, did_called, all_called, called_after}
 use Rattle.fibs_exchange.proofs.TurnLemmas.Typed.{typed_stays}

@@ -11,16 +11,17 @@ use Rattle.fibs_session.specs.History.Machine.{Talk, Piece, Lose, step, stays, d
 use Rattle.fibs_session.specs.History.Machine.{unconfirmed_now}
 use Rattle.fibs_session.specs.History.MachineLaws.{PiecesJoin, EmptyPieceIsNothing}
 use Rattle.fibs_session.specs.Calls.Standing.{ClientValue, StandsAfter}
-use Rattle.fibs_exchange.specs.declared.exchange.Ending.{Ending}
-use Rattle.fibs_exchange.specs.declared.exchange.Ending.TheVariants.{Quiet, Lost}
+use Rattle.fibs_exchange.specs.declared.Ending.{Ending}
+use Rattle.fibs_exchange.specs.declared.Ending.TheVariants.{Quiet, Lost}
 use Rattle.fibs_engine.specs.Writing.{Progress, Whole, Broken}
-use Rattle.fibs_exchange.specs.Turns.Told.{SaidValue, Joins}
+use Rattle.fibs_front.specs.Told.{SaidValue, Joins}
 use Rattle.fibs_exchange.specs.Turns.Acts.{Act}
 use Rattle.fibs_exchange.specs.Turns.Lines.{piece_acts}
 use Rattle.fibs_exchange.specs.Turns.Script.{Outside, Did}
 use Rattle.fibs_exchange.specs.Turns.Turn.{EndsALine, Extent, IntakeExtent, Talked, Ended, TurnedBy, FitsStream}
 use Rattle.fibs_exchange.specs.Turns.Turn.{still_given}
-use Rattle.fibs_exchange.specs.Turns.Typing.{talk_after, typed_now, typed_step, typed_act}
+use Rattle.fibs_exchange.specs.Turns.Typing.{talk_after, typed_step, typed_act}
+use Rattle.fibs_front.specs.Typing.{typed_now}
 use Rattle.fibs_exchange.proofs.TurnLemmas.Scripts.{did_nothing, did_joined, did_kept, did_same}
 use Rattle.fibs_exchange.proofs.TurnLemmas.Hearing.{open_append, piece_online, piece_stream, no_acts, acts_join}
 use Rattle.fibs_exchange.proofs.TurnLemmas.Hearing.{ends_joined}

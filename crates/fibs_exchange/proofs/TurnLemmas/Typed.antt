@@ -18,11 +18,12 @@ use Rattle.fibs_session.specs.History.Machine.{order_refusal, withdraw_refusal}
 use Rattle.fibs_messages.specs.Message.{MessageValue}
 use Rattle.fibs_engine.specs.Writing.{Wrote}
 use Rattle.fibs_engine.specs.Writing.{Whole, Broken}
-use Rattle.fibs_exchange.specs.Turns.Told.{SaidValue, Joins, sent_said}
+use Rattle.fibs_front.specs.Told.{SaidValue, Joins, sent_said}
 use Rattle.fibs_exchange.specs.Turns.Acts.{Act, answer_act}
 use Rattle.fibs_exchange.specs.Turns.Script.{Did, Notes, outside}
-use Rattle.fibs_exchange.specs.Turns.Typing.{TypedValue, typed_decision, typed_plain, typed_order, typed_withdrawal}
-use Rattle.fibs_exchange.specs.Turns.Typing.{typed_none, typed_step, typed_act}
+use Rattle.fibs_front.specs.Typing.{TypedValue, typed_decision, typed_plain, typed_order, typed_withdrawal}
+use Rattle.fibs_exchange.specs.Turns.Typing.{typed_step, typed_act}
+use Rattle.fibs_front.specs.Typing.{typed_none}
 use Rattle.fibs_exchange.proofs.TurnLemmas.Hearing.{open_append}
 use Rattle.fibs_exchange.proofs.TurnLemmas.Scripts.{did_alone, did_part, notes_nothing}
 

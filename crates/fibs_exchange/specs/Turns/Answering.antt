@@ -2,26 +2,13 @@
 -- rests on it.
 use Rattle.std.specs.Prelude.{None, Some, ◌∷◌, [], ⊤, Result, Ok, Err}
 use Rattle.fibs_commands.specs.TextOf.{text_of}
-use Rattle.fibs_commands.specs.PlainOf.{plain_value}
-use Rattle.fibs_position.specs.DecisionValue.{decision_of}
-use Rattle.fibs_exchange.specs.declared.exchange.typing.Typed.{Typed}
-use Rattle.fibs_exchange.specs.declared.exchange.typing.Typed.TheVariants as T
-use Rattle.fibs_exchange.specs.declared.exchange.typing.Answer.{Answer}
-use Rattle.fibs_exchange.specs.declared.exchange.typing.Answer.TheVariants as A
-use Rattle.fibs_exchange.specs.declared.exchange.turn_fault.TurnFault.{TurnFault}
-use Rattle.fibs_exchange.specs.declared.exchange.turn_fault.TurnFault.TheVariants as F
+use Rattle.fibs_exchange.specs.declared.typing.Answer.{Answer}
+use Rattle.fibs_exchange.specs.declared.typing.Answer.TheVariants as A
+use Rattle.fibs_exchange.specs.declared.turn_fault.TurnFault.{TurnFault}
+use Rattle.fibs_exchange.specs.declared.turn_fault.TurnFault.TheVariants as F
 use Rattle.fibs_engine.specs.Writing.{Progress, Whole, Broken}
-use Rattle.fibs_exchange.specs.Turns.SaidOf.{said_of}
+use Rattle.fibs_front.specs.SaidOf.{said_of}
 use Rattle.fibs_exchange.specs.Turns.Acts.{Act, answer_act}
-use Rattle.fibs_exchange.specs.Turns.Typing.{TypedValue, typed_decision, typed_plain, typed_order, typed_withdrawal}
-use Rattle.fibs_exchange.specs.Turns.Typing.{typed_none}
-
-abbrev pub typed_value : Typed → TypedValue
-typed_value (T.Decision d) = typed_decision (decision_of d)
-typed_value (T.Plain p) = typed_plain (plain_value p)
-typed_value T.Order = typed_order
-typed_value T.Withdrawal = typed_withdrawal
-typed_value T.Unknown = typed_none
 
 abbrev pub answered_act : Answer → Act
 answered_act (A.Sent command) = answer_act None (text_of command ∷ [])

@@ -1,5 +1,5 @@
 -- What is done for a line of the server.
-use Rattle.std.specs.Prelude.{◌++◌, ℕ, Bool, List, [], ◌∷◌, codes, Option, Some, None, if◌then◌else◌}
+use Rattle.std.specs.Prelude.{◌++◌, ℕ, Bool, List, [], ◌∷◌, Option, Some, None, if◌then◌else◌}
 use Rattle.fibs_lines.specs.Lines.{ReadLine}
 use Rattle.fibs_messages.specs.Message.{MessageValue}
 use Rattle.fibs_messages.specs.Line.{ReadingValue, numbered_line, board_line, text_line, malformed_line}
@@ -10,21 +10,8 @@ use Rattle.fibs_session.specs.History.Words.{Ask, open_now}
 use Rattle.fibs_session.specs.History.Hearing.{heard, line_reading}
 use Rattle.fibs_session.specs.History.Machine.{Talk, is_online, gained, wire_of}
 use Rattle.fibs_session.specs.Calls.SessionOf.{TakenValue}
-use Rattle.fibs_engine.specs.Escape.{escaped}
-use Rattle.fibs_engine.specs.Readings.{reading_text}
-use Rattle.fibs_exchange.specs.Turns.Told.{SaidValue, heard_said, phase_said, confirmed_said, rolled_said}
+use Rattle.fibs_front.specs.Told.{SaidValue, heard_said, phase_said, confirmed_said, rolled_said}
 use Rattle.fibs_exchange.specs.Turns.Acts.{Act}
-
--- how a whole line is printed: as by `show`, but that a message is printed as it was spelled
-abbrev pub said_text : List ℕ → ReadingValue → List ℕ
-said_text bytes (numbered_line m) = codes "message " ++ escaped bytes
-said_text bytes (board_line b) = reading_text (board_line b)
-said_text bytes (text_line text) = reading_text (text_line text)
-said_text bytes (malformed_line number k f) = reading_text (malformed_line number k f)
-
--- how a line is printed: of one that was cut the kept bytes
-abbrev pub heard_text : ReadLine → ReadingValue → List ℕ
-heard_text line r = if line.cut then codes "cut " ++ escaped line.bytes else said_text line.bytes r
 
 -- after a good board its phase is told
 abbrev pub phase_told : ReadingValue → List SaidValue

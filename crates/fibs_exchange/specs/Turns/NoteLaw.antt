@@ -4,7 +4,7 @@ use Rattle.std.specs.List.{AllByRecursion}
 use Rattle.fibs_messages.specs.Message.{MessageValue}
 use Rattle.fibs_session.specs.Calls.Standing.{ClientValue}
 use Rattle.fibs_session.specs.History.Machine.{Talk}
-use Rattle.fibs_exchange.specs.declared.exchange.Ending.{Ending}
+use Rattle.fibs_exchange.specs.declared.Ending.{Ending}
 use Rattle.fibs_exchange.specs.Turns.Script.{Outside}
 use Rattle.fibs_exchange.specs.Turns.Turn.{Turned}
 

@@ -1,12 +1,13 @@
 -- The lines that a turn prints, the directory's left aside.
-use Rattle.std.specs.Prelude.{◌≡◌, ℕ, Bool, cond, nat_eq, List, [], ◌∷◌, ◌++◌, codes, map, Option}
+use Rattle.std.specs.Prelude.{◌≡◌, ℕ, Bool, cond, nat_eq, List, [], ◌∷◌, ◌++◌, codes, Option}
 use Rattle.std.specs.List.{flat_map, starts_with}
 use Rattle.std.specs.Io.KnownBytes.{Appends}
 use Rattle.fibs_session.specs.History.Machine.{Talk}
 use Rattle.fibs_session.specs.Calls.Standing.{ClientValue}
-use Rattle.fibs_exchange.specs.declared.exchange.Ending.{Ending}
-use Rattle.fibs_exchange.specs.Turns.Acts.{Act, text_of_lines}
-use Rattle.fibs_exchange.specs.Turns.Account.{line_of}
+use Rattle.fibs_exchange.specs.declared.Ending.{Ending}
+use Rattle.fibs_exchange.specs.Turns.Acts.{Act}
+use Rattle.fibs_front.specs.Lines.{text_of_lines}
+use Rattle.fibs_front.specs.Account.{lines_of}
 use Rattle.fibs_exchange.specs.Turns.Script.{Outside, acts_of}
 use Rattle.fibs_exchange.specs.Turns.Turn.{Turned, end_acts}
 
@@ -19,7 +20,7 @@ without_directory (line ∷ lines) =
     cond (is_directory_line line) (without_directory lines) (line ∷ without_directory lines)
 
 abbrev pub lines_of_acts : List Act → List (List ℕ)
-lines_of_acts = flat_map (λ act. map line_of act.tells)
+lines_of_acts = flat_map (λ act. flat_map lines_of act.tells)
 
 -- what was printed is these lines, and lines of the directory
 abbrev pub PrintsBesides : Outside (Option (List ℕ)) → Outside (Option (List ℕ)) → List (List ℕ) → Type 0

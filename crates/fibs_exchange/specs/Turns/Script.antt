@@ -8,7 +8,7 @@ use Rattle.fibs_messages.specs.Message.{MessageValue}
 use Rattle.fibs_directory.specs.declared.fault.DirectoryFault.{DirectoryFault}
 use Rattle.fibs_directory.specs.Directory.{IsDirectory}
 use Rattle.fibs_engine.specs.Writing.{Progress, Whole, Broken}
-use Rattle.fibs_exchange.specs.Turns.Told.{SaidValue, unnoted_said}
+use Rattle.fibs_front.specs.Told.{SaidValue, unnoted_said}
 use Rattle.fibs_exchange.specs.Turns.Acts.{Act}
 
 -- what is outside of the client: what the stream holds, where it tells it, the front end, and the directory's entries

@@ -7,11 +7,11 @@ use Rattle.fibs_lines.specs.Lines.{lines_of}
 use Rattle.fibs_session.specs.History.Machine.{Talk, Lose, Piece, step, is_online, unconfirmed_now}
 use Rattle.fibs_session.specs.Calls.SessionOf.{ask_of}
 use Rattle.fibs_session.specs.Calls.Standing.{ClientValue, StandsAfter}
-use Rattle.fibs_exchange.specs.declared.exchange.Ending.{Ending}
-use Rattle.fibs_exchange.specs.declared.exchange.Ending.TheVariants.{Quiet, Lost}
+use Rattle.fibs_exchange.specs.declared.Ending.{Ending}
+use Rattle.fibs_exchange.specs.declared.Ending.TheVariants.{Quiet, Lost}
 use Rattle.fibs_engine.specs.Writing.{Progress, Whole, Broken}
-use Rattle.fibs_exchange.specs.Turns.Told.{SaidValue, lost_said}
-use Rattle.fibs_exchange.specs.Turns.Account.{Accounts}
+use Rattle.fibs_front.specs.Told.{SaidValue, lost_said}
+use Rattle.fibs_front.specs.Account.{Accounts}
 use Rattle.fibs_exchange.specs.Turns.Acts.{Act, only_tell}
 use Rattle.fibs_exchange.specs.Turns.Lines.{piece_acts}
 use Rattle.fibs_exchange.specs.Turns.Typing.{talk_after, typed_acts}

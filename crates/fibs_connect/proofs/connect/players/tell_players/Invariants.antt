@@ -1,6 +1,0 @@
-use Rattle.fibs_connect.proofs.ConverseLemmas.PlayerLines.{listed}
-use Rattle.fibs_connect.proofs.connect.players.tell_players.Given as goal
-
--- the first players are told
-abbrev pub invariant-loop-place : goal.invariant-loop-place
-invariant-loop-place g l = g.F.Front.tells l.initial.front (listed l.place l.directory) l.front

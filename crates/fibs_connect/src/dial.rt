@@ -1,0 +1,81 @@
+//! Connections to a server.
+
+use fibs_exchange::link::Link;
+use std::io;
+use std::io::ErrorKind;
+use std::net::{Net, SocketAddr, TcpStream, ToSocketAddrs};
+use std::time::Duration;
+
+/// How many seconds each address of a server may take to answer.
+const CONNECT_SECONDS: u64 = 10;
+
+/// How many milliseconds a read waits where nothing else is said: a pipe or a file has no other pace.
+pub const READ_MILLIS: u64 = 500;
+
+/// What makes connections to one server.
+pub trait Dial {
+    /// A connection.
+    type Stream: Link + Drop;
+
+    /// A new connection, or why none can be made.
+    fn dial(&mut self) -> Result<Self::Stream, ErrorKind>;
+}
+
+/// Where a server is, and how long it is listened to.
+#[derive(Clone, Copy)]
+pub struct Place<'a> {
+    /// Its name or address.
+    pub host: &'a str,
+    /// Its port.
+    pub port: u16,
+    /// How long a read waits for it.
+    pub quiet: Duration,
+}
+
+/// A server at a place.
+#[derive(Drop)]
+pub struct Server<'a, N: Net<Stream = TcpStream>> {
+    net: &'a N,
+    place: Place<'a>,
+}
+
+impl<'a, N: Net<Stream = TcpStream>> Server<'a, N> {
+    /// The server at this place.
+    pub fn new(net: &'a N, place: Place<'a>) -> Server<'a, N> {
+        Server { net, place }
+    }
+}
+
+impl<N: Net<Stream = TcpStream>> Dial for Server<'_, N> {
+    type Stream = TcpStream;
+
+    /// A socket to the first of the host's addresses that answers. If none does, why the last does not.
+    fn dial(&mut self) -> Result<TcpStream, ErrorKind> {
+        let Place { host, port, quiet } = self.place;
+        let addresses = match (host, port).to_socket_addrs(self.net) {
+            Ok(addresses) => addresses,
+            Err(error) => return Err(error.kind()),
+        };
+        let mut why = ErrorKind::NotFound;
+        for address in addresses {
+            match connected(self.net, address, quiet) {
+                Ok(stream) => return Ok(stream),
+                Err(error) => why = error.kind(),
+            }
+        }
+        Err(why)
+    }
+}
+
+/// A socket of which each read waits this long alone, and each command leaves at once.
+fn connected<N: Net<Stream = TcpStream>>(
+    net: &N,
+    address: SocketAddr,
+    quiet: Duration,
+) -> io::Result<TcpStream> {
+    let wait = Duration::from_secs(CONNECT_SECONDS);
+    let stream = TcpStream::connect_timeout(net, &address, wait)?;
+    stream.set_read_timeout(Some(quiet))?;
+    stream.set_nodelay(true)?;
+    Ok(stream)
+}

@@ -1,0 +1,21 @@
+//! The players that are known are told.
+ghost use Rattle.std.specs.Prelude.{◌≡◌, OnOk};
+ghost use Rattle.fibs_connect.specs.Converse.Players.{players_told};
+
+use fibs_exchange::ExchangeFault;
+use fibs_front::front::Front;
+use fibs_front::said::Said;
+use fibs_session::Directory;
+
+/// Tells each player of the directory, in its order.
+pub fn tell_players<F: Front>(directory: &Directory, front: &mut F) -> Result<(), ExchangeFault>
+    ensures { OnOk result (F.tells front.old (players_told directory.now) front.new) }
+{
+    for place in 0..directory.len() {
+        match directory.at(place) {
+            Some(player) => front.tell(&Said::Player(player))?,
+            None => return Ok(()),
+        }
+    }
+    Ok(())
+}

@@ -1,0 +1,20 @@
+use Rattle.std.proofs.Common.{None}
+use Rattle.fibs_exchange.proofs.TurnLemmas.Turns.{turned_nothing, turned_offline}
+use Rattle.fibs_exchange.proofs.TurnLemmas.Stops.{on_any_err, stopped_unprinted}
+use Rattle.fibs_exchange.proofs.talk_offline.Goals as goal
+
+pub returns-in-None-clause-turned : goal.returns-in-None-clause-turned
+returns-in-None-clause-turned g c = λ t at off players. rw c.in-None.is
+    (turned_nothing g.met.F.Front.joins t _ _ c.empty_piece_is_nothing.ensures at)
+
+pub returns-in_ok-type_offline-in-Some-clause-turned : goal.returns-in_ok-type_offline-in-Some-clause-turned
+returns-in_ok-type_offline-in-Some-clause-turned g c = λ t at off players.
+    rw c.in-Some.is (turned_offline g.met.F.Front.joins t _ c.in-Some.text.now _ _ c.empty_piece_is_nothing.ensures
+    (c.type_offline.ensures.stands t at)
+    (c.in_ok-type_offline-in-Some.ensures.did t at None players))
+
+pub returns-in_err-type_offline-in-Some-clause-stopped : goal.returns-in_err-type_offline-in-Some-clause-stopped
+returns-in_err-type_offline-in-Some-clause-stopped g c =
+    on_any_err c.from_residual.result
+    (λ t at off. rw c.in-Some.is (stopped_unprinted t _ c.in-Some.text.now None None None None
+    c.empty_piece_is_nothing.ensures tt tt (c.type_offline.ensures.stands t at)))

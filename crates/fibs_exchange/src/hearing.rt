@@ -1,0 +1,138 @@
+//! Lines of the server are heard.
+ghost use Rattle.std.specs.Prelude.{◌≡◌, ◌∷◌, [], Option, option_map};
+ghost use Rattle.std.specs.Prelude.{OnOk};
+ghost use Rattle.fibs_exchange.specs.Turns.Answering.{IfPrinted, IfUnprinted};
+ghost use Rattle.std.specs.Io.KnownBytes.{Appends, Keeps};
+ghost use Rattle.fibs_messages.specs.Line.{reading_of};
+ghost use Rattle.fibs_session.specs.History.Machine.{Talk};
+ghost use Rattle.fibs_session.specs.Calls.SessionOf.{ask_of, taken_of};
+ghost use Rattle.fibs_session.specs.Calls.Standing.{StandsAfter};
+ghost use Rattle.fibs_exchange.specs.Turns.Lines.{phase_told, confirmed_told, rolled_told, messages_in, taken_act};
+ghost use Rattle.fibs_exchange.specs.Turns.Script.{Did, Notes, outside, directory_told, noted_unless};
+ghost use Rattle.fibs_exchange.specs.Turns.Turn.{Talked, FedToALine};
+ghost use Rattle.fibs_directory.specs.declared.fault.DirectoryFault.{DirectoryFault};
+
+use crate::ExchangeFault;
+use crate::link::Link;
+use crate::sending::send_commands;
+use crate::turn_fault::TurnFault;
+use fibs_front::front::Front;
+use fibs_front::said::Said;
+use fibs_messages::Reading;
+use fibs_position::phase_of;
+use fibs_session::{Client, Directory, Outstanding, Taken};
+
+/// Tells the phase of a good board.
+fn tell_phase<F: Front>(reading: &Reading<'_>, front: &mut F) -> Result<(), ExchangeFault>
+    ensures { OnOk result (F.tells front.old (phase_told (reading_of reading.now)) front.new) }
+{
+    match reading {
+        Reading::Board(board) => match phase_of(board) {
+            Some(phase) => front.tell(&Said::Phase(phase)),
+            None => Ok(()),
+        },
+        Reading::Numbered(_) | Reading::Text(_) | Reading::Malformed { .. } => Ok(()),
+    }
+}
+
+/// Tells the decision that is confirmed.
+fn tell_confirmed<F: Front>(
+    confirmed: &Option<Outstanding>,
+    front: &mut F,
+) -> Result<(), ExchangeFault>
+    ensures { OnOk result (F.tells front.old (confirmed_told (option_map ask_of confirmed.now)) front.new) }
+{
+    match confirmed {
+        None => Ok(()),
+        Some(asked) => front.tell(&Said::Confirmed(asked)),
+    }
+}
+
+/// Tells that a standing order sent its `roll`.
+fn tell_rolled<F: Front>(rolled: bool, front: &mut F) -> Result<(), ExchangeFault>
+    ensures { OnOk result (F.tells front.old (rolled_told rolled) front.new) }
+{
+    if rolled {
+        return front.tell(&Said::Rolled);
+    }
+    Ok(())
+}
+
+/// Tells a line, and what it calls for.
+fn tell_taken<F: Front>(taken: &Taken<'_>, front: &mut F) -> Result<(), ExchangeFault>
+    ensures { OnOk result (F.tells front.old (taken_act (taken_of taken.now)).tells front.new) }
+{
+    front.tell(&Said::Heard(&taken.line, &taken.reading))?;
+    tell_phase(&taken.reading, front)?;
+    tell_confirmed(&taken.confirmed, front)?;
+    tell_rolled(taken.rolled, front)
+}
+
+/// Tells the directory a message, and the front end why where it takes no note.
+fn note_taken<F: Front>(
+    reading: &Reading<'_>,
+    directory: &mut Directory,
+    front: &mut F,
+) -> Result<(), ExchangeFault>
+    ensures { OnOk result ((refused : Option DirectoryFault)
+        × F.tells front.old (directory_told refused) front.new
+        × Notes directory.old directory.new (noted_unless refused (messages_in (reading_of reading.now)))) }
+{
+    match reading {
+        Reading::Numbered(message) => match directory.note(message) {
+            Ok(()) => Ok(()),
+            Err(fault) => front.tell(&Said::Unnoted(fault)),
+        },
+        Reading::Board(_) | Reading::Text(_) | Reading::Malformed { .. } => Ok(()),
+    }
+}
+
+/// Writes the commands that a line calls for, then tells it to the front end, then to the directory.
+fn hear_line<S: Link, F: Front>(
+    taken: &Taken<'_>,
+    directory: &mut Directory,
+    stream: &mut S,
+    front: &mut F,
+) -> Result<(), TurnFault>
+    ensures did { IfPrinted result (λ p. Did F.tells (outside (S.contents stream.old) front.old directory.old)
+        (outside (S.contents stream.new) front.new directory.new) (taken_act (taken_of taken.now) ∷ []) p) }
+    ensures stopped { IfUnprinted result (Appends (S.contents stream.old) (S.contents stream.new)
+        (taken_act (taken_of taken.now)).writes) }
+    ensures apart { Keeps (S.remaining stream.old) (S.remaining stream.new) }
+{
+    send_commands(taken.send.as_slice(), stream)?;
+    tell_taken(taken, front)?;
+    note_taken(&taken.reading, directory, front)?;
+    Ok(())
+}
+
+/// Feeds the client what was read, and does what its lines call for. It stops at a write that fails.
+pub(crate) fn hear_portion<S: Link, F: Front>(
+    client: &mut Client,
+    directory: &mut Directory,
+    portion: &[u8],
+    stream: &mut S,
+    front: &mut F,
+) -> Result<(), TurnFault>
+    ensures talked { IfPrinted result (λ p. (t : Talk) → StandsAfter client.old t → Talked F.tells t client.new portion.now
+        (outside (S.contents stream.old) front.old directory.old)
+        (outside (S.contents stream.new) front.new directory.new) p) }
+    ensures stopped { IfUnprinted result ((t : Talk) → StandsAfter client.old t →
+        FedToALine t client.new portion.now (S.contents stream.old) (S.contents stream.new)) }
+    ensures apart { Keeps (S.remaining stream.old) (S.remaining stream.new) }
+{
+    fibs_session::client::laws::pieces_join();
+    fibs_session::client::laws::empty_piece_is_nothing();
+    fibs_lines::laws::lines_only_grow();
+    let mut rest = portion;
+    while !rest.is_empty() {
+        let heard = client.read(rest);
+        let got = client.got(heard);
+        match &got.taken {
+            Some(taken) => hear_line(taken, directory, stream, front)?,
+            None => {}
+        }
+        rest = &rest[got.used..];
+    }
+    Ok(())
+}
