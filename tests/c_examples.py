@@ -1,8 +1,8 @@
 #!/usr/bin/env python3
 """Compiles and runs the examples of include/fibs.h and of docs/C.md, after `make lib`.
 
-The example at the head of the header plays with a server that says what is wanted here; the program of docs/C.md is built
-over an installed library, as the page says: by pkg-config, over the archive, and by CMake. The last line is
+The example at the head of the header plays with a server that says what is wanted here; the program of docs/C.md is
+built over an installed library, as the page says: by pkg-config, over the archive, and by CMake. The last line is
 `N passed, M failed`.
 """
 
@@ -96,7 +96,7 @@ def header_example(counts, work):
     said = run(work / 'head', 'ann')
     counts.check(said is not None and said.startswith('Done\nlogin ') and said.endswith('board\nroll\n')
                  and 'ann secret' in said, "the header's example plays: %r" % said)
-    counts.check(run(work / 'head', 'a:b', timeout=10) == 'BadName\n', "the header's example ends where the name is wrong")
+    counts.check(run(work / 'head', 'a:b', timeout=10) == 'BadName\n', "the header's example ends at a wrong name")
 
 
 def page_program(counts, work):

@@ -1,8 +1,8 @@
 /* A target for libFuzzer that drives every function of the library: the input is a list of calls with their arguments.
  *
  * Rooms have the lengths that they are said to have and not a byte more; lines come from the input, or are worked ones,
- * so that a client gets as far as a game. After each call its status is one that the header has, nothing is written that
- * it does not name, and each length is within its bound. At the end it says how many calls there were.
+ * so that a client gets as far as a game. After each call its status is one that the header has, nothing is written
+ * that it does not name, and each length is within its bound. At the end it says how many calls there were.
  *
  *     clang -g -O1 -fsanitize=fuzzer,address,undefined -Iinclude -o fuzzed tests/c/fuzzed.c lib/libfibs.a
  *     ./fuzzed -max_total_time=60
@@ -297,8 +297,9 @@ static void call_client(uint8_t which) {
     fibs_decision decision;
     switch (which) {
     case 0:
-        answered(one_byte() % 2 ? fibs_client_new(&held.client, "ann", 3, "secret", 6)
-                                : fibs_client_new(&held.client, piece.bytes, piece.len, other.bytes, other.len), NOTHING);
+        status = one_byte() % 2 ? fibs_client_new(&held.client, "ann", 3, "secret", 6)
+                                : fibs_client_new(&held.client, piece.bytes, piece.len, other.bytes, other.len);
+        answered(status, NOTHING);
         break;
     case 1:
         if (one_byte() < 16) {

@@ -28,8 +28,8 @@ pub record LiesWithin (bytes : ℕ) (row : ToldLine) : Type 0 where
   pub flag : row.cut ≤ 1
 
 -- wherever the reader stood, it now stands after the bytes read too, and the rows have the lines that these ended, with
--- what each is. It went on until the piece ended, the rows were full, or the room was too short for another line. Behind
--- what is told, rows and text are as they were
+-- what each is. It went on until the piece ended, the rows were full, or the room was too short for another line.
+-- Behind what is told, rows and text are as they were
 pub record ReadsLines (old new : LinesValue) (piece : List ℕ) (told : Told) (rows rows' : List ToldLine)
     (text text' : List ℕ) : Type 0 where
   pub in_range : told.used ≤ length piece
@@ -65,6 +65,7 @@ pub record WantsRoom (old new : Option LinesValue) (told : Told) (status : ℕ) 
 abbrev pub AreLinesRead : Option LinesValue → Option LinesValue → List ℕ → Told → Told → List ToldLine
     → List ToldLine → List ℕ → List ℕ → ℕ → Type 0
 AreLinesRead old new piece told told' rows rows' text text' status =
-    (((length text < kept_limit) ⊎ (length rows ≡ 0)) × WantsRoom old new told' status × (rows' ≡ rows) × (text' ≡ text))
+    (((length text < kept_limit) ⊎ (length rows ≡ 0)) × WantsRoom old new told' status × (rows' ≡ rows)
+    × (text' ≡ text))
     ⊎ ((kept_limit ≤ length text) × (0 < length rows)
     × AreLinesReadInRoom old new piece told told' rows rows' text text' status)

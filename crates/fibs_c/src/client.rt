@@ -98,14 +98,9 @@ pub extern "C" fn fibs_client_open(alloc: Global, client: &mut ClientHandle, wir
     ensures { IsOpened client.old.value client.new.value wire.old wire.new result }
 {
     clear(wire);
-    match client.take(alloc) {
-        None => NO_HANDLE,
-        Some(mut held) => {
-            let opened = held.open();
-            *client = ClientHandle::of(held);
-            hand_out_command(wire, &opened)
-        }
-    }
+    with!(ClientHandle, client, alloc, |held| {
+        hand_out_command(wire, &held.open())
+    })
 }
 
 /// The user decides; hands out the command.
@@ -122,14 +117,9 @@ pub extern "C" fn fibs_client_decide(
     let Some(decision) = decision_of(decision) else {
         return NO_DECISION;
     };
-    match client.take(alloc) {
-        None => NO_HANDLE,
-        Some(mut held) => {
-            let decided = held.decide(&decision);
-            *client = ClientHandle::of(held);
-            hand_out_command(wire, &decided)
-        }
-    }
+    with!(ClientHandle, client, alloc, |held| {
+        hand_out_command(wire, &held.decide(&decision))
+    })
 }
 
 /// Hands out a command that decides nothing in the game, by its text.
@@ -146,17 +136,12 @@ pub extern "C" fn fibs_client_plain(
     let Some(plain) = read_plain(text) else {
         return NO_COMMAND;
     };
-    match client.take(alloc) {
-        None => NO_HANDLE,
-        Some(mut held) => {
-            let sent = held.plain(&plain);
-            *client = ClientHandle::of(held);
-            hand_out_plain(wire, &sent)
-        }
-    }
+    with!(ClientHandle, client, alloc, |held| {
+        hand_out_plain(wire, &held.plain(&plain))
+    })
 }
 
-/// The connection is lost: nothing of it is kept. Tells the decision that waited, with its board, or one of kind 0 where
+/// The connection is lost: nothing of it is kept. Tells the decision that waited, with its board, or one of kind 0 if
 /// none did. It is never sent again by itself.
 #[unsafe(no_mangle)]
 pub extern "C" fn fibs_client_lose(
@@ -166,15 +151,10 @@ pub extern "C" fn fibs_client_lose(
 ) -> u32
     ensures { IsLost client.old.value client.new.value waited.old waited.new result }
 {
-    match client.take(alloc) {
-        None => NO_HANDLE,
-        Some(mut held) => {
-            let lost = held.lose();
-            *client = ClientHandle::of(held);
-            put_maybe(waited, &lost);
-            DONE
-        }
-    }
+    with!(ClientHandle, client, alloc, |held| {
+        put_maybe(waited, &held.lose());
+        DONE
+    })
 }
 
 /// The board that was shown last on this connection.
@@ -186,20 +166,15 @@ pub extern "C" fn fibs_client_shown(
 ) -> u32
     ensures { IsShown client.old.value client.new.value board.old board.new result }
 {
-    match client.take(alloc) {
-        None => NO_HANDLE,
-        Some(held) => {
-            let shown = held.shown().copied();
-            *client = ClientHandle::of(held);
-            match shown {
-                None => NO_BOARD,
-                Some(found) => {
-                    put_board(board, &found);
-                    DONE
-                }
+    with!(ClientHandle, client, alloc, |held| {
+        match held.shown() {
+            None => NO_BOARD,
+            Some(shown) => {
+                put_board(board, shown);
+                DONE
             }
         }
-    }
+    })
 }
 
 /// The decision that waits, with the board on which it was made.
@@ -211,18 +186,13 @@ pub extern "C" fn fibs_client_waiting(
 ) -> u32
     ensures { IsWaiting client.old.value client.new.value waiting.old waiting.new result }
 {
-    match client.take(alloc) {
-        None => NO_HANDLE,
-        Some(held) => {
-            let waits = held.waiting().copied();
-            *client = ClientHandle::of(held);
-            match waits {
-                None => NOTHING_WAITS,
-                Some(found) => {
-                    put_outstanding(waiting, &found);
-                    DONE
-                }
+    with!(ClientHandle, client, alloc, |held| {
+        match held.waiting() {
+            None => NOTHING_WAITS,
+            Some(waits) => {
+                put_outstanding(waiting, waits);
+                DONE
             }
         }
-    }
+    })
 }

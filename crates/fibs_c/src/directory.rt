@@ -67,14 +67,9 @@ pub extern "C" fn fibs_directory_note(
 ) -> u32
     ensures { IsNoted directory.old.value directory.new.value (reading_value line.now) result }
 {
-    match directory.take(alloc) {
-        None => NO_HANDLE,
-        Some(mut held) => {
-            let status = note(&mut held, &read(line));
-            *directory = DirectoryHandle::of(held);
-            status
-        }
-    }
+    with!(DirectoryHandle, directory, alloc, |held| {
+        note(&mut held, &read(line))
+    })
 }
 
 /// How many players there are.
@@ -86,14 +81,10 @@ pub extern "C" fn fibs_directory_len(
 ) -> u32
     ensures { IsCounted directory.old.value directory.new.value len.old len.new result }
 {
-    match directory.take(alloc) {
-        None => NO_HANDLE,
-        Some(held) => {
-            *len = held.len();
-            *directory = DirectoryHandle::of(held);
-            DONE
-        }
-    }
+    with!(DirectoryHandle, directory, alloc, |held| {
+        *len = held.len();
+        DONE
+    })
 }
 
 /// Forgets all players.
@@ -101,14 +92,10 @@ pub extern "C" fn fibs_directory_len(
 pub extern "C" fn fibs_directory_clear(alloc: Global, directory: &mut DirectoryHandle) -> u32
     ensures { IsCleared directory.old.value directory.new.value result }
 {
-    match directory.take(alloc) {
-        None => NO_HANDLE,
-        Some(mut held) => {
-            held.clear();
-            *directory = DirectoryHandle::of(held);
-            DONE
-        }
-    }
+    with!(DirectoryHandle, directory, alloc, |held| {
+        held.clear();
+        DONE
+    })
 }
 
 /// The field of this number of what was told of a player.
@@ -165,14 +152,9 @@ pub extern "C" fn fibs_directory_field(
     ensures { IsPlayerAt directory.old.value directory.new.value place number field.old field.new text.old text.new
         result }
 {
-    match directory.take(alloc) {
-        None => NO_HANDLE,
-        Some(held) => {
-            let status = put_player_field(held.at(place), number, field, text);
-            *directory = DirectoryHandle::of(held);
-            status
-        }
-    }
+    with!(DirectoryHandle, directory, alloc, |held| {
+        put_player_field(held.at(place), number, field, text)
+    })
 }
 
 /// The same of the player of a name.
@@ -188,12 +170,7 @@ pub extern "C" fn fibs_directory_field_of(
     ensures { IsPlayerOf directory.old.value directory.new.value name.now number field.old field.new text.old text.new
         result }
 {
-    match directory.take(alloc) {
-        None => NO_HANDLE,
-        Some(held) => {
-            let status = put_player_field(held.get(name), number, field, text);
-            *directory = DirectoryHandle::of(held);
-            status
-        }
-    }
+    with!(DirectoryHandle, directory, alloc, |held| {
+        put_player_field(held.get(name), number, field, text)
+    })
 }

@@ -131,19 +131,12 @@ pub extern "C" fn fibs_client_feed(
     ensures { IsFed client.old.value client.new.value piece.now heard.old heard.new text.old text.new wire.old wire.new
         result }
 {
+    clear(wire);
     if text.len() < LIMIT {
-        clear(wire);
         return SHORT;
     }
-    match client.take(alloc) {
-        None => {
-            clear(wire);
-            NO_HANDLE
-        }
-        Some(mut held) => {
-            *heard = hear(&mut held, piece, text, wire);
-            *client = ClientHandle::of(held);
-            DONE
-        }
-    }
+    with!(ClientHandle, client, alloc, |held| {
+        *heard = hear(&mut held, piece, text, wire);
+        DONE
+    })
 }

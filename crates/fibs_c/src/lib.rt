@@ -2,6 +2,21 @@
 //! of the one that it calls; include/fibs.h says what a caller owes.
 #![tactic(auto)]
 
+/// Does something with what a handle holds, which is taken out for it and then put back, and answers what that answers;
+/// a handle that holds nothing is answered by `NO_HANDLE`.
+macro_rules! with {
+    ($kind:ident, $handle:ident, $alloc:ident, |$held:ident| $done:block) => {
+        match $handle.take($alloc) {
+            None => NO_HANDLE,
+            Some(mut $held) => {
+                let status = $done;
+                *$handle = $kind::of($held);
+                status
+            }
+        }
+    };
+}
+
 mod boards;
 mod client;
 mod directory;

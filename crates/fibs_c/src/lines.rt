@@ -99,14 +99,10 @@ pub extern "C" fn fibs_lines_feed(
     if text.len() < LIMIT {
         return SHORT;
     }
-    match lines.take(alloc) {
-        None => NO_HANDLE,
-        Some(mut held) => {
-            *fed = feed(&mut held, piece, text);
-            *lines = LinesHandle::of(held);
-            DONE
-        }
-    }
+    with!(LinesHandle, lines, alloc, |held| {
+        *fed = feed(&mut held, piece, text);
+        DONE
+    })
 }
 
 /// Forgets what has come: the next byte is the first of a new stream.
@@ -114,14 +110,10 @@ pub extern "C" fn fibs_lines_feed(
 pub extern "C" fn fibs_lines_reset(alloc: Global, lines: &mut LinesHandle) -> u32
     ensures { IsReset lines.old.value lines.new.value result }
 {
-    match lines.take(alloc) {
-        None => NO_HANDLE,
-        Some(mut held) => {
-            held.reset();
-            *lines = LinesHandle::of(held);
-            DONE
-        }
-    }
+    with!(LinesHandle, lines, alloc, |held| {
+        held.reset();
+        DONE
+    })
 }
 
 /// How many bytes stand after the last line end, at most as many as are kept of a line.
@@ -129,12 +121,8 @@ pub extern "C" fn fibs_lines_reset(alloc: Global, lines: &mut LinesHandle) -> u3
 pub extern "C" fn fibs_lines_held(alloc: Global, lines: &mut LinesHandle, len: &mut usize) -> u32
     ensures { IsHeld lines.old.value lines.new.value len.old len.new result }
 {
-    match lines.take(alloc) {
-        None => NO_HANDLE,
-        Some(held) => {
-            *len = held.held();
-            *lines = LinesHandle::of(held);
-            DONE
-        }
-    }
+    with!(LinesHandle, lines, alloc, |held| {
+        *len = held.held();
+        DONE
+    })
 }

@@ -132,9 +132,9 @@ fn read_all(lines: &mut Lines, piece: &[u8], text: &mut [u8], rows: &mut [ToldLi
 }
 
 /// Reads the lines of a piece: the text of each stands behind that of the one before, and what each is in `rows`. It
-/// stops at the end of the piece, when `rows` are full, or when less than `fibs_max_line()` bytes of `text` are left. To
-/// be called again with what is left of the piece, until nothing is. If there is no room for one line, the room that is
-/// wanted is told.
+/// stops at the end of the piece, when `rows` are full, or when less than `fibs_max_line()` bytes of `text` are left.
+/// To be called again with what is left of the piece, until nothing is. If there is no room for one line, the room that
+/// is wanted is told.
 #[unsafe(no_mangle)]
 pub extern "C" fn fibs_read_lines(
     alloc: Global,
@@ -144,8 +144,8 @@ pub extern "C" fn fibs_read_lines(
     rows: &mut [ToldLine],
     told: &mut Told,
 ) -> u32
-    ensures { AreLinesRead lines.old.value lines.new.value piece.now told.old told.new rows.old rows.new text.old text.new
-        result }
+    ensures { AreLinesRead lines.old.value lines.new.value piece.now told.old told.new rows.old rows.new text.old
+        text.new result }
 {
     if text.len() < LIMIT || rows.is_empty() {
         *told = Told {
@@ -155,12 +155,8 @@ pub extern "C" fn fibs_read_lines(
         };
         return SHORT;
     }
-    match lines.take(alloc) {
-        None => NO_HANDLE,
-        Some(mut held) => {
-            *told = read_all(&mut held, piece, text, rows);
-            *lines = LinesHandle::of(held);
-            DONE
-        }
-    }
+    with!(LinesHandle, lines, alloc, |held| {
+        *told = read_all(&mut held, piece, text, rows);
+        DONE
+    })
 }

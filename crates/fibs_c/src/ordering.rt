@@ -27,14 +27,9 @@ fn status_of(answer: Result<(), Refusal>) -> u32
 pub extern "C" fn fibs_client_order_roll(alloc: Global, client: &mut ClientHandle) -> u32
     ensures { IsDone Order order_refusal_now client.old.value client.new.value result }
 {
-    match client.take(alloc) {
-        None => NO_HANDLE,
-        Some(mut held) => {
-            let answer = held.order_roll();
-            *client = ClientHandle::of(held);
-            status_of(answer)
-        }
-    }
+    with!(ClientHandle, client, alloc, |held| {
+        status_of(held.order_roll())
+    })
 }
 
 /// Withdraws the standing order to roll. A roll that it sent goes on waiting.
@@ -42,14 +37,9 @@ pub extern "C" fn fibs_client_order_roll(alloc: Global, client: &mut ClientHandl
 pub extern "C" fn fibs_client_withdraw_roll(alloc: Global, client: &mut ClientHandle) -> u32
     ensures { IsDone Withdraw withdraw_refusal_now client.old.value client.new.value result }
 {
-    match client.take(alloc) {
-        None => NO_HANDLE,
-        Some(mut held) => {
-            let answer = held.withdraw_roll();
-            *client = ClientHandle::of(held);
-            status_of(answer)
-        }
-    }
+    with!(ClientHandle, client, alloc, |held| {
+        status_of(held.withdraw_roll())
+    })
 }
 
 /// Whether a standing order to roll stands on the open connection.
@@ -61,12 +51,8 @@ pub extern "C" fn fibs_client_ordered(
 ) -> u32
     ensures { IsOrderTold client.old.value client.new.value ordered.old ordered.new result }
 {
-    match client.take(alloc) {
-        None => NO_HANDLE,
-        Some(held) => {
-            *ordered = flag(held.ordered());
-            *client = ClientHandle::of(held);
-            DONE
-        }
-    }
+    with!(ClientHandle, client, alloc, |held| {
+        *ordered = flag(held.ordered());
+        DONE
+    })
 }
