@@ -31,7 +31,8 @@
  *     fibs_client_lose(&client, &waited);                 // waited.decision: what the loss left open, never sent again
  *     fibs_client_free(&client);                          // client is NULL again
  *
- * examples/bot.c is such a client as a whole. docs/C.md says what is proved, and what a new version may change.
+ * examples/bot.c is such a client as a whole. docs/C.md says what is proved, and what a new version may change. Both are
+ * installed in share/doc/fibs.
  *
  * Handles
  * - fibs_lines, fibs_client and fibs_directory are pointers to what only the library knows. A handle begins as NULL,

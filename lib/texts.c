@@ -1,5 +1,5 @@
 /* The texts of the library that end with a zero. A function of Rattle can't return a pointer, so these stand in C. They
- * are tables and nothing else; tests/c/names.c holds them to the library's own names. */
+ * are tables and nothing else; tests/c/rooms.c and tests/c_header.py hold them to the library's own names. */
 #include "fibs.h"
 
 static const char *const refusals[] = {

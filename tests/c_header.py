@@ -176,6 +176,22 @@ def enumerators():
     return found
 
 
+def names_in_c():
+    """The tables of names in lib/texts.c, and what they should be."""
+    text = without_comments((ROOT / 'lib/texts.c').read_text())
+    tables = {name: re.findall(r'"(\w*)"', body) for name, body in
+              re.findall(r'static const char \*const (\w+)\[\] = \{(.*?)\};', text, re.S)}
+    phases = dict(re.findall(r'Phase::(\w+) => "(\w+)"', (ROOT / 'crates/fibs_position/src/phase.rt').read_text()))
+    numbers = numbers_of('fibs_c/src/positions.rt', r'Phase::(\w+) => (\d),')
+    by_number = {numbers[screaming(variant)]: name for variant, name in phases.items()}
+    decisions = (ROOT / 'crates/fibs_records/src/decisions.rt').read_text()
+    kinds = {0: 'None'}
+    kinds.update((int(n), name) for n, name in re.findall(r'(\d) => Some\(Decision::(\w+)[,()]', decisions))
+    kinds.update((int(n), 'Resign' + name) for name, n in re.findall(r'Stake::(\w+) => (\d)', decisions))
+    return tables, {'phases': [by_number.get(n, '') for n in range(7)], 'decisions': [kinds[n] for n in range(9)],
+                    'kinds': ['text', 'message', 'board', 'malformed']}
+
+
 def limits_of():
     """The macros, from the place that the library has them in."""
     def read(path, pattern):
@@ -222,6 +238,9 @@ def main():
     macros = limits_of()
     for name in sorted(set(macros) | set(limits)):
         counts.same(name, macros.get(name), limits.get(name))
+    tables, names = names_in_c()
+    for name, table in names.items():
+        counts.same('the names of ' + name, table, tables.get(name))
     nm = subprocess.run(['nm', '-g', '--defined-only', sys.argv[1]], capture_output=True, text=True)
     shown = sorted(line.split()[-1] for line in nm.stdout.splitlines() if re.search(r' [A-Z] ', line))
     counts.same('the archive', sorted([*functions, *texts]), shown)

@@ -224,9 +224,17 @@ static void check_names(void) {
         check(fibs_status_text(names[i].status, text, sizeof text, &len) == S(DONE) && len == strlen(names[i].name)
               && memcmp(text, names[i].name, len) == 0, names[i].name);
     }
-    for (fibs_status status = 0; status < 700; status++) {
-        known += fibs_status_text(status, text, sizeof text, &len) == S(DONE);
+    for (fibs_status status = 0; status < 70000; status++) {
+        bool is_known = fibs_status_text(status, text, sizeof text, &len) == S(DONE);
+        const char *name = fibs_status_name(status);
+        known += is_known;
+        if (is_known ? strlen(name) != len || memcmp(name, text, len) != 0 : name[0] != '\0') {
+            check(false, name);
+        }
     }
+    check(fibs_status_name(UINT32_MAX)[0] == '\0' && fibs_kind_name(4)[0] == '\0' && fibs_phase_name(0)[0] == '\0'
+          && fibs_phase_name(7)[0] == '\0' && fibs_decision_name(9)[0] == '\0', "no names");
+    check(strcmp(fibs_version(), FIBS_VERSION) == 0, "the version");
     check(known == 35, "as many statuses as the header has");
     check(fibs_status_text(UINT32_MAX, text, sizeof text, &len) == S(NO_STATUS), "no such status");
     check(fibs_status_text(S(DONE), text, 3, &len) == S(SHORT) && len == 4, "room for a name");
