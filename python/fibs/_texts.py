@@ -26,6 +26,9 @@ class Word(enum.IntEnum):
     def __str__(self) -> str:
         return ''.join(word.capitalize() for word in self.name.split('_'))
 
+    def __format__(self, form: str) -> str:
+        return format(str(self), form)
+
 
 def bytes_of(text: Text) -> bytes:
     """The bytes of a text."""

@@ -33,7 +33,8 @@ def lines_have_their_kinds(counts):
     counts.same([line.kind for line in told], KINDS, 'kinds')
     counts.same(told[0], fibs.Line(b'3', fibs.MESSAGE, 3, 0, None, False), 'a message')
     counts.same(told[1], fibs.Line(b'5 bob', fibs.MALFORMED, 5, 2, fibs.Fault.MISSING, False), 'a malformed line')
-    counts.same([str(told[1].fault), str(told[1].kind)], ['Missing', 'Malformed'], 'names as the program prints them')
+    counts.same((str(told[1].fault), '%s' % told[1].kind, f'{told[1].kind:>10}'),
+                ('Missing', 'Malformed', ' Malformed'), 'names as the program prints them')
     counts.same(told[3].board.line, BOARD, 'a board')
     counts.same((told[0].fields, told[2].fields), ((), ()), 'no fields')
     counts.raises(fibs.FieldBadName, lambda: told[2].board)
