@@ -24,6 +24,8 @@ SERVER = ['--seed', '3', '--mixed-sides', '--portions', '200', '--prompts', '--r
 # Each bot's connection is cut so often, and no more once so many games are over: the end of the match is seen by both.
 MOST_CUTS, MOST_GAMES = 8, 2
 
+DECISIONS = {'roll', 'double', 'accept', 'reject', 'move', 'resign'}
+
 
 class Cutter:
     """Takes connections on a port of its own and leads them to a server, until it cuts them: within what goes one
@@ -32,6 +34,8 @@ class Cutter:
     def __init__(self, port, seed):
         self.port_of_server, self.chance = port, random.Random(seed)
         self.cuts, self.games = 0, 0
+        # the decisions that the player has sent, over all connections
+        self.decisions = []
         self.listener = socket.create_server(('127.0.0.1', 0))
         self.port = self.listener.getsockname()[1]
         threading.Thread(target=self.listen, daemon=True).start()
@@ -43,10 +47,13 @@ class Cutter:
             except OSError:
                 return
             with player, socket.create_connection(('127.0.0.1', self.port_of_server)) as server:
-                self.lead(player, server)
+                sent = []
+                self.lead(player, server, sent)
+                *lines, _ = b''.join(sent).decode('latin-1').split('\r\n')
+                self.decisions += [line for line in lines if line.split(' ')[0] in DECISIONS]
 
-    def lead(self, player, server):
-        """Leads bytes both ways, up to the end of the connection."""
+    def lead(self, player, server, sent):
+        """Leads bytes both ways, up to the end of the connection. Those of the player are also put in a list."""
         other = {player: server, server: player}
         while True:
             for source in select.select(list(other), [], [])[0]:
@@ -56,7 +63,9 @@ class Cutter:
                     piece = b''
                 if not piece:
                     return
-                if source is server:
+                if source is player:
+                    sent.append(piece)
+                else:
                     self.games += len(re.findall(rb'wins? the game and gets? ', piece))
                 is_cut = self.cuts < MOST_CUTS and self.games < MOST_GAMES and self.chance.random() < 1 / 15
                 try:
@@ -102,6 +111,11 @@ class Player:
         self.cutter.close()
         self.said = [line.rstrip('\n') for line in self.said]
         return self.process.returncode
+
+    def sends_each_once(self):
+        """True if it sent its decisions in their order, each at most once, and nothing else that decides."""
+        decided = iter(line.removeprefix('decided ') for line in self.said if line.startswith('decided '))
+        return all(sent in decided for sent in self.cutter.decisions)
 
     def effective(self):
         """How many decisions of each kind took effect, by what the server showed."""
@@ -180,6 +194,8 @@ def a_match_is_played_once_over_connections_that_are_cut(counts):
         counts.same(statuses, [0, 0], 'both play to the end\n%s' % told)
         counts.check(all(player.cutter.cuts > 3 for player in players), 'connections are cut: %s' % [
             player.cutter.cuts for player in players])
+        counts.check(all(player.cutter.decisions and player.sends_each_once() for player in players),
+                     'each decision is sent once')
         result = result_of(ann)
         counts.check(result and max(result) >= POINTS, 'the match is over: %s' % (result,))
         counts.same(result_of(bob), result and result[::-1], 'both are told so')
@@ -269,7 +285,7 @@ def gnu_backgammon_understands_each_board(counts):
 FIRST = 'move 24-23 24-21'
 
 # A board, and what is decided by each answer.
-DECISIONS = [
+DECIDED = [
     (board(dice=(3, 1)), {'8/5 6/5': 'move 8-5 6-5', '24/23 24/21': FIRST, '8/5*/4': FIRST, '': FIRST, 'roll': FIRST,
                           '99/3 -1/2': FIRST, 'bar/21': FIRST, 'Error: badly formed board': FIRST}),
     (board(dice=(3, 3)), {'8/5(2) 6/3(2)': 'move 8-5 8-5 6-3 6-3', '24/15': 'move 24-21 24-21 21-18 21-18'}),
@@ -284,7 +300,7 @@ def an_answer_that_is_none_is_not_taken(counts):
     words = ['localhost', '1', 'ann', '--join', 'bob', '--gnubg', 'none']
     bot = gnubg_bot.Bot(gnubg_bot.options_of(words), b'secret')
     gnubg_bot.say = lambda _: None
-    for one, answers in DECISIONS:
+    for one, answers in DECIDED:
         for answer, wanted in answers.items():
             bot.ask = lambda _, answer=answer: answer
             decision = bot.decision(one)

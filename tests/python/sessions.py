@@ -147,6 +147,11 @@ def what_a_lost_connection_hid_is_filled_in(counts):
     counts.same(told, MATCH, 'the own opening is told by the text')
     told, said, status = run('session_to_mat.py', whole[:4] + whole[10:])
     counts.same((told, said, status), (MATCH, '', 0), 'two plays are hidden')
+    redoubled = line(OWN2, OTHER1, -1, (3, 1), cube=4)
+    told, said, status = run('session_to_mat.py', whole[:19] + [redoubled])
+    counts.same((told.splitlines()[6:8], said, status), (
+        ['  3) 66: 24/18 15/9 13/7 13/7     Doubles => 4', '  4)  Takes                      '], '', 0),
+        'the one who took the cube doubles, and that is hidden')
 
 
 def what_can_not_be_told_is_said(counts):
