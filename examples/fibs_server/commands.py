@@ -375,13 +375,24 @@ class Commands:
                 one.tell('%s waves goodbye.' % player.name)
 
     def do_help(self, player, _rest):
-        words = sorted(name[3:] for name in dir(self) if name.startswith('do_'))
-        player.tell('The commands of this server:', *(' '.join(words[at:at + 10]) for at in range(0, len(words), 10)))
+        player.tell(*HELP)
 
     def do_bye(self, player, _rest):
         player.tell('', '                    Goodbye.')
         self.room.leaves(player, 'logs out.')
 
+
+# What `help` says.
+HELP = [
+    'a match    invite NAME POINTS  invite NAME  join NAME  join  leave  show saved',
+    'a game     roll  double  accept  reject  move 8-5 6-5  resign n  board  pip',
+    'players    who  who NAME  rawwho  whois NAME  away TEXT  back  toggle ready',
+    'talk       say TEXT  tell NAME TEXT  shout TEXT  message NAME TEXT  gag NAME',
+    '           kibitz TEXT  whisper TEXT  wave',
+    'watching   watch NAME  unwatch  look NAME',
+    'settings   set boardstyle 3  toggle NAME',
+    'the rest   motd  time  version  help  bye',
+]
 
 # Words whose text keeps its spaces.
 SAYINGS = 'say', 'shout', 'kibitz', 'whisper', 'tell', 'message'

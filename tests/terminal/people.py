@@ -41,8 +41,8 @@ HINTS = [
     (re.compile(r'You are offered a double: (reject)\.'), ()),
     (re.compile(r'Your move, as in: (move(?: (?:bar|\d+)-(?:off|\d+))+)'), ()),
     (re.compile(r'\S+ offers to resign: (send accept), or (send reject)\.'), ()),
-    (re.compile(r'.* was sent and nothing has changed: if \S+ declined or the server refused, (send .*); '
-                r'or (bye) and open\.'), ()),
+    # the end of two lines: `roll was sent and nothing has changed: if bob declined`
+    (re.compile(r'(?:.* )?or the server refused, (send .*); or (bye) and open\.'), ()),
     (re.compile(r'lost.*: (open) connects again, (quit) ends'), ()),
     (re.compile(r'no connection to .*'), ('open', 'quit')),
     (re.compile(r'Not logged in: wrong name or password\? (quit), and begin again\.'), ()),

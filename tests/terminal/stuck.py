@@ -281,9 +281,9 @@ def no_server():
     server.close()
     ann = Person(port)
     wanted = 'no connection to 127.0.0.1:%d: connection refused' % port
-    same('the first time', ann.reads('no connection'), wanted)
+    same('the first time', ann.reads('no connection').startswith(wanted), True)
     ann.type('open')
-    same('the second time', ann.reads('no connection'), wanted)
+    same('the second time', ann.reads('no connection').startswith(wanted), True)
     ann.type('quit')
     ann.ends(0)
     ann.was_not_refused()
