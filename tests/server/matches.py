@@ -130,7 +130,7 @@ def the_same_seed_gives_the_same_match():
 
 
 class Stubborn(Gambler):
-    """One who connects again when the connection is cut, and plays on: at the game as it is kept, or as it was saved."""
+    """One who connects again when the connection is cut, and plays on: the game as it is kept, or as it was saved."""
 
     def __init__(self, port, name, seed, other, **more):
         self.other, self.cuts, self.heard = other, 0, 0
@@ -240,5 +240,7 @@ def random_commands_never_upset_it():
         server.close()
 
 
-TESTS = [random_commands_never_upset_it, matches_over_connections_that_are_cut, matches_of_many_lengths, matches_by_habits, a_match_over_bad_connections, matches_against_a_bot,
-         the_same_seed_gives_the_same_match]
+TESTS = [
+    random_commands_never_upset_it, matches_over_connections_that_are_cut, matches_of_many_lengths, matches_by_habits,
+    a_match_over_bad_connections, matches_against_a_bot, the_same_seed_gives_the_same_match,
+]

@@ -41,12 +41,12 @@ BOARD = ('board:You:bob:3:0:0:0:-2:0:0:0:0:5:0:3:0:0:0:-5:5:0:0:0:-3:0:-5:0:0:0:
          '1:0:0:0:0:1:1:1:0:1:-1:0:25:0:0:0:0:0:0:0:0')
 
 # Beginnings of lines, in which anything may stand behind.
-FRONTS = [b'', b'12 bob ', b'13 bob ', b'7 bob ', b'5 bob - - 1 0 1500.00 1 1 1 h - ', b'9 bob 1041253132 ', b'1 ann 1 ',
-          b'board:', BOARD.encode()[:-3], b'2 ann ', b'bob wants to resign. ', b'> login: ']
+FRONTS = [b'', b'12 bob ', b'13 bob ', b'7 bob ', b'5 bob - - 1 0 1500.00 1 1 1 h - ', b'9 bob 1041253132 ',
+          b'1 ann 1 ', b'board:', BOARD.encode()[:-3], b'2 ann ', b'bob wants to resign. ', b'> login: ']
 
 # What a terminal would obey: CSI, OSC, DCS, C1 controls, a bell, a backspace, a direction mark in UTF-8, ..
 COMMANDS = [b'\x1b[2J', b'\x1b]0;title\x07', b'\x1bP1$q\x1b\\', b'\x9b31m', b'\x90', b'\x08', b'\x0c', b'\x07',
-            b'\x0e', b'\x7f', '‮'.encode(), b'\xc2\x9b2J', b'\x1b[6n', b'\r', b'\x00', b'\\x1b']
+            b'\x0e', b'\x7f', '\u202e'.encode(), b'\xc2\x9b2J', b'\x1b[6n', b'\r', b'\x00', b'\\x1b']
 
 
 def hostile_lines(chance, count):
