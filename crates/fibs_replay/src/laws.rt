@@ -1,5 +1,5 @@
 //! The law of a script's lines. The function does nothing: its contract is the law.
-ghost use Rattle.fibs_replay.specs.Replay.EventReading.{EventsAreExact};
+ghost use Rattle.fibs_replay.specs.EventReading.{EventsAreExact};
 
 /// Which event a line of a script says, by the function, is what the relation says.
 pub fn events_are_exact()

@@ -1,7 +1,7 @@
 //! Scripts that are played over real sockets.
 
 use super::replay::{is_log_so_far, replayed};
-use fibs_loop::play_loop::play_loop;
+use fibs_loop::play_loop;
 use fibs_engine::fault::EngineFault;
 use fibs_test_tools::outcome::Outcome;
 use fibs_test_tools::pipe::{After, Pipe};
@@ -185,6 +185,14 @@ static CASES: [Case; 17] = [
     },
 ];
 
+/// The case of that name, which there is.
+fn case_of<N: Abort>(rt: &N, name: &str) -> &'static Case {
+    match CASES.iter().find(|case| case.name == name) {
+        Some(case) => case,
+        None => panic!(rt; "no case is named {name}"),
+    }
+}
+
 fn script_of(case: &Case) -> Text {
     joined(&[case.board, case.log_in, case.events])
 }
@@ -236,7 +244,7 @@ fn scripts_are_played_as_they_are_replayed(rt: HostRuntime) -> Result<(), Fail> 
 fn bytes_cross_the_connection_that_is_accepted(rt: HostRuntime) -> Result<(), Fail> {
     let listener = TcpListener::bind(&rt, "127.0.0.1:0")?;
     drop(TcpStream::connect(&rt, listener.local_addr()?)?);
-    let outcome = played(&rt, &listener, script_of(&CASES[0]).as_slice());
+    let outcome = played(&rt, &listener, script_of(case_of(&rt, "a second click, and a line too few")).as_slice());
     let ending = Err(EngineFault::Device);
     assert!(rt;
         outcome.is(ending, b"opened 1\n", b""),
@@ -250,8 +258,9 @@ fn bytes_cross_the_connection_that_is_accepted(rt: HostRuntime) -> Result<(), Fa
 /// Where memory runs out, the log after the events done so far is printed, and the script can be played as before.
 fn assert_played_again<N: Net<Listener = TcpListener, Stream = TcpStream> + AllocGlobal + Abort>(
     rt: &N,
-    case: &Case,
+    name: &str,
 ) -> Result<(), Fail> {
+    let case = case_of(rt, name);
     let listener = TcpListener::bind(rt, "127.0.0.1:0")?;
     let script = script_of(case);
     let mut outcome = played(rt, &listener, script.as_slice());
@@ -269,17 +278,17 @@ fn assert_played_again<N: Net<Listener = TcpListener, Stream = TcpStream> + Allo
 
 #[test]
 fn a_second_click_is_played_under_refused_memory(rt: HostRuntime) -> Result<(), Fail> {
-    assert_played_again(&rt, &CASES[0])
+    assert_played_again(&rt, "a second click, and a line too few")
 }
 
 #[test]
 fn a_lost_play_is_played_under_refused_memory(rt: HostRuntime) -> Result<(), Fail> {
-    assert_played_again(&rt, &CASES[1])
+    assert_played_again(&rt, "a loss that keeps all")
 }
 
 #[test]
 fn a_standing_order_is_played_under_refused_memory(rt: HostRuntime) -> Result<(), Fail> {
-    assert_played_again(&rt, &CASES[13])
+    assert_played_again(&rt, "a standing order")
 }
 
 /// The log grows between the two entries of one event, of which then none is printed.
@@ -287,5 +296,5 @@ fn a_standing_order_is_played_under_refused_memory(rt: HostRuntime) -> Result<()
 fn a_click_before_the_connection_is_played_under_refused_memory(
     rt: HostRuntime,
 ) -> Result<(), Fail> {
-    assert_played_again(&rt, &CASES[12])
+    assert_played_again(&rt, "a click before the connection")
 }

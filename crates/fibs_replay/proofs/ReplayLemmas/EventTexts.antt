@@ -15,8 +15,8 @@ use Rattle.fibs_boards.specs.declared.board.Board.{Board}
 use Rattle.fibs_fields.specs.declared.fault.FieldFault.{FieldFault}
 use Rattle.fibs_messages.specs.Line.{ReadingValue, numbered_line, board_line, text_line, malformed_line, IsReading}
 use Rattle.fibs_messages.specs.Line.{IsBoardLine, ReadingIsExact, reading_value}
-use Rattle.fibs_replay.specs.Replay.EventReading.{said_board, board_in}
-use Rattle.fibs_replay.specs.Replay.Scripts.{IsNoBoard}
+use Rattle.fibs_replay.specs.EventReading.{said_board, board_in}
+use Rattle.fibs_replay.specs.Scripts.{IsNoBoard}
 use Rattle.fibs_replay.proofs.ReplayLemmas.Splits.{Without}
 
 -- a text is read as a number exactly where it is written so

@@ -10,11 +10,11 @@ use Rattle.fibs_commands.specs.CommandReading.{read_command}
 use Rattle.fibs_commands.specs.CommandLaws.{ReadCommandIsExact, ReadPlainIsExact}
 use Rattle.fibs_commands.specs.PlainReading.{TextField, no_text, rest_of_line, read_plain}
 use Rattle.fibs_model.specs.Events.{Event, Open, Click, Plain, Deliver, Lose, Serve, Own, Repeat, Text, Order, Withdraw}
-use Rattle.fibs_replay.specs.Replay.EventLines.{SaysEvent, says_open, says_click, says_plain, says_deliver, says_lose}
-use Rattle.fibs_replay.specs.Replay.EventLines.{says_serve, says_own, says_repeat, says_text, says_order}
-use Rattle.fibs_replay.specs.Replay.EventLines.{says_withdraw, count_limit, die_limit}
-use Rattle.fibs_replay.specs.Replay.EventReading.{◌>>=◌, alone_in, board_in, serving_in, joined_in, event_of_word}
-use Rattle.fibs_replay.specs.Replay.EventReading.{of_roll, event_in, EventsAreExact}
+use Rattle.fibs_replay.specs.EventLines.{SaysEvent, says_open, says_click, says_plain, says_deliver, says_lose}
+use Rattle.fibs_replay.specs.EventLines.{says_serve, says_own, says_repeat, says_text, says_order}
+use Rattle.fibs_replay.specs.EventLines.{says_withdraw, count_limit, die_limit}
+use Rattle.fibs_replay.specs.EventReading.{◌>>=◌, alone_in, board_in, serving_in, joined_in, event_of_word}
+use Rattle.fibs_replay.specs.EventReading.{of_roll, event_in, EventsAreExact}
 use Rattle.fibs_replay.proofs.ReplayLemmas.Splits.{from, before_and_from, split_there}
 use Rattle.fibs_replay.proofs.ReplayLemmas.EventTexts.{DecimalsAreExact, BoardsAreExact, number_apart}
 

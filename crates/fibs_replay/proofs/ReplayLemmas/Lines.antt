@@ -11,7 +11,7 @@ use lib.Seq.{take-append_seam}
 use Rattle.bstr.specs.Text.{line_len, lines_of, no_cr, without_terminator}
 use Rattle.bstr.proofs.lemmas.LineLemmas.{lines-nil, lines-step}
 use Rattle.fibs_fields.specs.Split.{before, after}
-use Rattle.fibs_replay.specs.Replay.Scripts.{script_lines}
+use Rattle.fibs_replay.specs.Scripts.{script_lines}
 use Rattle.fibs_replay.proofs.ReplayLemmas.Splits.{Without, from, before_and_from, before_without}
 
 -- the parts behind the first line end

@@ -10,10 +10,10 @@ use Rattle.std.proofs.KnownBytes.{Appends-nil, Appends-trans}
 use Rattle.fibs_session.specs.History.Log as L
 use Rattle.fibs_model.specs.EntryOf.{entry_of}
 use Rattle.fibs_model.specs.declared.entry.Entry.{Entry}
-use Rattle.fibs_replay.specs.Replay.LogLines.{entry_line, line_bytes, log_text}
+use Rattle.fibs_replay.specs.LogLines.{entry_line, line_bytes, log_text}
 use Rattle.fibs_engine.specs.Writing.{GainedFront, Wrote, progress_of}
 use Rattle.fibs_engine.specs.declared.writing.Broken as declared
-use Rattle.fibs_replay.specs.Replay.Passing.{Passed}
+use Rattle.fibs_replay.specs.Passing.{Passed}
 use Rattle.fibs_engine.specs.Writing.{Progress, Whole, Broken}
 
 -- a write that failed is said to have failed

@@ -22,14 +22,14 @@ use Rattle.fibs_machine.specs.declared.refusal.WorldRefusal.TheVariants as W
 use Rattle.fibs_engine.specs.declared.fault.EngineFault.{EngineFault}
 use Rattle.fibs_engine.specs.declared.fault.EngineFault.TheVariants as fault
 use Rattle.fibs_engine.specs.Printing.{Printed}
-use Rattle.fibs_replay.specs.Replay.LogLines.{log_text}
-use Rattle.fibs_replay.specs.Replay.Output.{script_login, unread_text, end_text, refused_text, log_after, ReplayText}
-use Rattle.fibs_replay.specs.Replay.Output.{too_long, unreadable, refused, to_the_end, LogOf, Replayed}
-use Rattle.fibs_replay.specs.Replay.Output.{LoggedInPart, ReplayFailed, ReplayedInPart, ReadWhole, ReadLines}
-use Rattle.fibs_replay.specs.Replay.Running.{StandsFrom, RanTo, Broke, RunPrinted, PrintedFor}
-use Rattle.fibs_replay.specs.Replay.Scripts.{script_limit, script_lines, SayEvents, SayScript, IsNoEvent}
-use Rattle.fibs_replay.specs.Replay.Scripts.{FirstUnreadable}
-use Rattle.fibs_replay.specs.declared.replay.script.Script.TheVariants.{Unreadable}
+use Rattle.fibs_replay.specs.LogLines.{log_text}
+use Rattle.fibs_replay.specs.Output.{script_login, unread_text, end_text, refused_text, log_after, ReplayText}
+use Rattle.fibs_replay.specs.Output.{too_long, unreadable, refused, to_the_end, LogOf, Replayed}
+use Rattle.fibs_replay.specs.Output.{LoggedInPart, ReplayFailed, ReplayedInPart, ReadWhole, ReadLines}
+use Rattle.fibs_replay.specs.Running.{StandsFrom, RanTo, Broke, RunPrinted, PrintedFor}
+use Rattle.fibs_replay.specs.Scripts.{script_limit, script_lines, SayEvents, SayScript, IsNoEvent}
+use Rattle.fibs_replay.specs.Scripts.{FirstUnreadable}
+use Rattle.fibs_replay.specs.declared.script.Script.TheVariants.{Unreadable}
 use Rattle.fibs_replay.proofs.ReplayLemmas.Scripts.{ReadsLine}
 
 -- events that may be

@@ -6,9 +6,9 @@ use Rattle.fibs_boards.specs.Board.{BoardFields, BoardText}
 use Rattle.fibs_model.specs.EventOf.{event_of}
 use Rattle.fibs_model.specs.Events.{Event}
 use Rattle.fibs_model.specs.declared.event.Event.{Event as ProgramEvent}
-use Rattle.fibs_replay.specs.Replay.EventLines.{SaysEvent}
-use Rattle.fibs_replay.specs.Replay.Scripts.{SayEvents, IsNoBoard, FirstUnreadable, no_line, no_board, no_event}
-use Rattle.fibs_replay.specs.Replay.Scripts.{ReadsScript, ReadsEvents}
+use Rattle.fibs_replay.specs.EventLines.{SaysEvent}
+use Rattle.fibs_replay.specs.Scripts.{SayEvents, IsNoBoard, FirstUnreadable, no_line, no_board, no_event}
+use Rattle.fibs_replay.specs.Scripts.{ReadsScript, ReadsEvents}
 
 -- what `read_event` says of a line
 abbrev pub ReadsLine : Option ProgramEvent → List ℕ → Type 0
