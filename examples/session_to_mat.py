@@ -2,7 +2,8 @@
 """Makes a match file of saved sessions: session_to_mat.py [--match N] [FILE..] > match.mat, standard input if none is
 named.
 
-A session is what the server sent to one player, connection after connection. The file is in the format of Jellyfish,
+A session is what the server sent to one player, connection after connection, as --log of fibs connect and --save of
+gnubg_bot.py write it. The file is in the format of Jellyfish,
 which GNU Backgammon imports (`import mat match.mat`): players, scores, dice, moves, and what was done with the cube.
 If a session has several matches the last one is written, or the Nth. The status is 1 if there is none.
 

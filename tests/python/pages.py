@@ -2,6 +2,7 @@
 
 import asyncio
 import doctest
+import os
 import re
 import shutil
 import subprocess
@@ -53,13 +54,16 @@ def names_of_the_page_are_in_the_package(counts):
 
 
 def the_types_hold(counts):
+    """Of the package strictly; of the programs as far as they have types."""
     mypy = shutil.which('mypy')
     if not mypy:
         counts.leave_out('there is no mypy')
         return
-    told = subprocess.run([mypy, '--strict', '--cache-dir', '/dev/null', '--config-file', 'pyproject.toml', 'fibs'],
-                          capture_output=True, text=True, cwd=ROOT / 'python')
-    counts.check(told.returncode == 0, told.stdout + told.stderr)
+    programs = ['read_session.py', 'session_to_mat.py', 'gnubg_bot.py']
+    for words, folder in [(['--strict', '--config-file', 'pyproject.toml', 'fibs'], 'python'), (programs, 'examples')]:
+        told = subprocess.run([mypy, '--cache-dir', '/dev/null', *words], capture_output=True, text=True,
+                              cwd=ROOT / folder, env={**os.environ, 'MYPYPATH': str(ROOT / 'python')})
+        counts.check(told.returncode == 0, told.stdout + told.stderr)
 
 
 TESTS = [the_sessions_of_the_page_are_as_they_stand, the_example_of_asyncio_plays_a_game,
