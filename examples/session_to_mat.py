@@ -3,9 +3,9 @@
 named.
 
 A session is what the server sent to one player, connection after connection, as --log of fibs connect and --save of
-gnubg_bot.py write it. The file is in the format of Jellyfish,
-which GNU Backgammon imports (`import mat match.mat`): players, scores, dice, moves, and what was done with the cube.
-If a session has several matches the last one is written, or the Nth. The status is 1 if there is none.
+gnubg_bot.py write it. The file is in the format of Jellyfish, which GNU Backgammon imports (`import mat match.mat`):
+players, scores, dice, moves, and what was done with the cube. If a session has several matches the last one is
+written, or the Nth. The status is 1 if there is none.
 
 The boards say what was played: between two of them lies the shortest run of rolls, plays and doubles that leads from
 one to the other, with the dice that the server's texts tell. So what a lost connection hid is filled in, if the rules

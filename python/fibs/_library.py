@@ -217,8 +217,8 @@ def status_name(status: int) -> str:
 class Owned:
     """A handle of the library, and what it owns up to release()."""
 
-    # The function by which what is owned is given back.
-    _free: str
+    # The function by which what is owned is given back, once there is something.
+    _free = ''
 
     def __init__(self, made_by: str, freed_by: str, *words: Any) -> None:
         self._handle = c_void_p()
@@ -232,4 +232,5 @@ class Owned:
         getattr(lib, self._free)(self.at)
 
     def __del__(self) -> None:
-        self.release()
+        if self._free:
+            self.release()

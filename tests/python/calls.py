@@ -286,6 +286,34 @@ def unready():
         client.decide(fibs.ROLL)
 
 
+def handles_are_given_back_once(counts):
+    """Whatever becomes of a value, in a Python that says all it has against it."""
+    script = """import copy, gc, fibs
+for make in (lambda: fibs.Client('ann', 'secret'), fibs.Lines, fibs.Directory):
+    try:
+        copy.deepcopy(make())
+    except ValueError:
+        pass
+    one = make()
+    other = copy.copy(one)
+    one.close()
+    del one, other
+    ring = [make()]
+    ring.append(ring)
+    del ring
+try:
+    fibs.Client('', '')
+except fibs.BadName:
+    pass
+gc.collect()
+left_open = fibs.Client('ann', 'secret')
+hears = left_open.feed(b'half')
+"""
+    told = subprocess.run([sys.executable, '-X', 'dev', '-B', '-c', script], capture_output=True, text=True,
+                          env={**os.environ, 'PYTHONPATH': str(ROOT / 'python')})
+    counts.same((told.returncode, told.stdout, told.stderr), (0, '', ''), 'nothing is said')
+
+
 def players_come_and_go(counts):
     players = fibs.Directory()
     for line in WHO:
@@ -358,5 +386,6 @@ TESTS = [lines_have_their_kinds, a_stream_may_be_anything_that_is_read, who_stop
          both_colours_and_directions_count_from_their_own_side,
          lines_that_are_no_board_say_why, the_rules_are_those_of_the_program, decisions_are_spelled_and_read,
          messages_have_fields, a_client_sends_and_waits, what_is_not_taken_is_heard_later, a_client_says_why_not,
-         players_come_and_go, each_status_has_its_exception, records_lie_as_in_c, the_library_is_found_or_named,
+         handles_are_given_back_once, players_come_and_go, each_status_has_its_exception, records_lie_as_in_c,
+         the_library_is_found_or_named,
          the_version_is_that_of_the_library]
