@@ -91,14 +91,15 @@ class Client:
         return self._hear()
 
     def _hear(self) -> Iterator[Heard]:
+        feed, at, text, most = _library.lib.fibs_client_feed, self._client.at, self._text, _library.MAX_LINE
         heard, wire = self._heard, self._wire
+        heard_at, wire_at = byref(heard), byref(wire)
         while self._place < len(self._data):
-            sent = self._sent(_library.lib.fibs_client_feed(
-                self._client.at, self._start + self._place, len(self._data) - self._place, self._text,
-                _library.MAX_LINE, byref(heard), byref(wire)))
+            check(feed(at, self._start + self._place, len(self._data) - self._place, text, most, heard_at, wire_at))
             self._place += heard.used
             if heard.ended:
-                line = line_of(ctypes.string_at(self._text, heard.len), heard.kind, heard.cut == 1)
+                line = line_of(ctypes.string_at(text, heard.len), heard.kind, heard.cut == 1)
+                sent = bytes(memoryview(wire.bytes)[:wire.len]) if wire.len else b''
                 yield Heard(line, _decision_of(heard.confirmed), sent, heard.rolled == 1)
 
     def decide(self, decision: Decision) -> bytes:
