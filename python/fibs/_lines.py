@@ -122,7 +122,7 @@ class Lines:
         return next(self._iterator)
 
     def _through(self, stream: Any) -> Iterator[Line]:
-        """The lines of the stream. Who stops and comes back goes on where he stopped."""
+        """The lines of the stream. After a break the iteration goes on with the next line."""
         for piece in _pieces(stream):
             yield from self.feed(piece)
 

@@ -2,7 +2,7 @@
 """The package for Python and the programs that use it: tests/python [PROGRAM [PART..]], after `make lib`.
 
 PROGRAM is bin/fibs if none is named; PART is one of PARTS below. What wants mypy,
-pip or GNU Backgammon is left out where that is not there, and a line says so. The last line is `N passed, M failed`.
+pip or GNU Backgammon is left out if that is not there, and a line says so. The last line is `N passed, M failed`.
 """
 
 import importlib

@@ -58,7 +58,7 @@ def a_stream_may_be_anything_that_is_read(counts):
     counts.raises(TypeError, lambda: next(fibs.Lines(io.StringIO('a\n'))))
 
 
-def who_stops_goes_on_where_he_stopped(counts):
+def after_a_break_the_iteration_goes_on(counts):
     lines = fibs.Lines(b'a\nb\nc\n')
     for line in lines:
         break
@@ -381,7 +381,7 @@ def the_version_is_that_of_the_library(counts):
     counts.check((ROOT / 'lib' / _library.SONAME).exists(), 'the library has it')
 
 
-TESTS = [lines_have_their_kinds, a_stream_may_be_anything_that_is_read, who_stops_goes_on_where_he_stopped,
+TESTS = [lines_have_their_kinds, a_stream_may_be_anything_that_is_read, after_a_break_the_iteration_goes_on,
          pieces_are_fed_by_hand, boards_have_names_for_their_numbers,
          both_colours_and_directions_count_from_their_own_side,
          lines_that_are_no_board_say_why, the_rules_are_those_of_the_program, decisions_are_spelled_and_read,

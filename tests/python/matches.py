@@ -295,7 +295,7 @@ DECIDED = [
 ]
 
 
-def an_answer_that_is_none_is_not_taken(counts):
+def an_answer_that_is_not_valid_is_not_taken(counts):
     gnubg_bot = bot_module()
     words = ['localhost', '1', 'ann', '--join', 'bob', '--gnubg', 'none']
     bot = gnubg_bot.Bot(gnubg_bot.options_of(words), b'secret')
@@ -313,5 +313,5 @@ def an_answer_that_is_none_is_not_taken(counts):
     counts.same(told.returncode, 4, 'without GNU Backgammon: %s' % told.stdout)
 
 
-TESTS = [an_answer_that_is_none_is_not_taken, gnu_backgammon_understands_each_board,
+TESTS = [an_answer_that_is_not_valid_is_not_taken, gnu_backgammon_understands_each_board,
          a_match_is_played_once_over_connections_that_are_cut]
