@@ -1,9 +1,12 @@
 -- What a terminal has written is kept.
-use Rattle.std.proofs.Common.{[], List, ℕ, Option, Result, Ok, Err}
+use Rattle.std.proofs.Common.{◌≡◌, ◌∙◌, [], List, ℕ, Option, Result, Ok, Err, subst}
 use Rattle.std.specs.Prelude.{OnOk}
 use Rattle.std.specs.Io.KnownBytes.{Appends, Keeps}
 use Rattle.std.proofs.KnownBytes.{Appends-kept, Appends-nil}
-use Rattle.fibs_terminal.specs.Grown.{Grown, grown_joined}
+use Rattle.fibs_session.specs.Calls.Standing.{ClientValue}
+use Rattle.fibs_terminal.specs.declared.memory.Memory.{Memory}
+use Rattle.fibs_terminal.specs.Grown.{Grown}
+use Rattle.fibs_terminal.specs.Resting.{SaysOffers, ShowsOffers}
 
 pub on_any_ok : {T E P : Type 0} (r : Result T E) → P → OnOk r P
 on_any_ok (Ok x) p = p
@@ -13,8 +16,13 @@ on_any_ok (Err e) p = tt
 pub grown_kept : (held now : Option (List ℕ)) → Keeps held now → Grown held now
 grown_kept held now k = ([], Appends-kept held held now [] (Appends-nil held) k)
 
--- what is added after that is added too
-pub on_ok_joined : {T E : Type 0} (r : Result T E) (a b c : Option (List ℕ)) → Grown a b → OnOk r (Grown b c)
-    → OnOk r (Grown a c)
-on_ok_joined (Ok x) a b c p q = grown_joined a b c p q
-on_ok_joined (Err e) a b c p q = tt
+-- a text was added, and then nothing
+pub grown_then_kept : (a b c : Option (List ℕ)) (text : List ℕ) → Appends a b text → Keeps b c → Grown a c
+grown_then_kept a b c text p k = (text, Appends-kept a b c text p k)
+
+-- what is said is shown
+pub offers_shown : (client : ClientValue) (m : Memory) (a b c : Option (List ℕ)) (text written : List ℕ)
+    → SaysOffers client m [] text → written ≡ text → Appends a b written → Keeps b c → ShowsOffers client m a c
+offers_shown client m a b c text written said same p k = λ t at none quiet owes.
+    let h = said t at none quiet owes in
+    (h.0, h.1, subst (Appends a c) (same ∙ h.2) (Appends-kept a b c written p k))

@@ -1,3 +1,4 @@
 pub mod Asking
 pub mod Drawings
 pub mod Grown
+pub mod Resting

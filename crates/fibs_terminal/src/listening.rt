@@ -25,9 +25,14 @@ fn resigner(said: &[u8]) -> Option<&[u8]> {
     }
 }
 
-/// Whether a text of the server says no more than the hint does.
+/// Whether a text of the server says no more than the hint does, or nothing.
 fn is_said_by_hint(said: &[u8]) -> bool {
-    said.starts_with(b"Please move ")
+    said.is_empty() || said.starts_with(b"Please move ")
+}
+
+/// Whether a text of the server may be all that it answers to a decision: not if it tells the user what he does.
+fn is_answer(said: &[u8]) -> bool {
+    !said.starts_with(b"You ")
 }
 
 impl<'a, C: Clock + Drop> Screen<'a, C> {
@@ -57,9 +62,11 @@ impl<'a, C: Clock + Drop> Screen<'a, C> {
 
     /// Hears a line without a number.
     fn hear_text(&mut self, said: &[u8]) -> Result<(), AllocError> {
-        self.memory.answered = true;
         if is_said_by_hint(said) {
             return Ok(());
+        }
+        if is_answer(said) {
+            self.memory.answered = true;
         }
         if let Some(name) = resigner(said) {
             self.memory.resigner.clear();

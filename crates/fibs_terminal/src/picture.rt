@@ -8,6 +8,7 @@ use bstr::ByteSlice;
 use fibs_boards::board::Board;
 use fibs_picture::draw;
 use fibs_position::Position;
+use fibs_wording::messages::front;
 use fibs_wording::settings::Settings;
 use std::alloc::{AllocError, Global};
 
@@ -64,16 +65,38 @@ fn append_row(
     text.extend_from_slice(b"\n")
 }
 
+/// Appends a row in fewer columns: the opponent has his name, and a cube few words.
+fn append_short(row: &[u8], opponent: &[u8], short: &mut Vec<u8>) -> Result<(), AllocError> {
+    if let Some(before) = row.strip_suffix(b"the opponent's turn") {
+        short.extend_from_slice(before)?;
+        short.extend_from_slice(opponent)?;
+        short.extend_from_slice(b"'s turn")
+    } else if let Some(before) = row.strip_suffix(b"the opponent's") {
+        short.extend_from_slice(before)?;
+        short.extend_from_slice(opponent)?;
+        short.extend_from_slice(b"'s")
+    } else if let Some(before) = row.strip_suffix(b"in the middle") {
+        short.extend_from_slice(before)?;
+        short.extend_from_slice(b"centred")
+    } else {
+        short.extend_from_slice(row)
+    }
+}
+
 /// Appends the rows of a picture.
 fn append_rows(
+    alloc: Global,
     picture: &[u8],
+    opponent: &[u8],
     settings: &Settings<'_>,
     text: &mut Vec<u8>,
 ) -> Result<(), AllocError> {
     let mut lower = false;
     for row in picture.split_str(b"\n") {
         if !row.is_empty() {
-            append_row(row, lower, settings, text)?;
+            let mut short = Vec::new(alloc);
+            append_short(row, opponent, &mut short)?;
+            append_row(short.as_slice(), lower, settings, text)?;
         }
         if row.contains_str(b"|BAR|") {
             lower = true;
@@ -108,5 +131,11 @@ pub fn append_picture(
     }
     let mut picture = Vec::new(alloc);
     append_plain(board, position, &mut picture)?;
-    append_rows(picture.as_slice(), settings, text)
+    append_rows(
+        alloc,
+        picture.as_slice(),
+        front(board.opponent().bytes()),
+        settings,
+        text,
+    )
 }

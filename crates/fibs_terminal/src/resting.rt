@@ -1,7 +1,14 @@
 //! What a terminal says before it lets the user type.
+ghost use Rattle.std.specs.Prelude.{◌≡◌, ◌++◌, [], OnOk, true};
+ghost use Rattle.fibs_advice.specs.Offers.{OffersNow, hint_text};
+ghost use Rattle.fibs_advice.specs.declared.offers.Offers.{Offers};
+ghost use Rattle.fibs_session.specs.History.Machine.{Talk};
+ghost use Rattle.fibs_session.specs.Calls.Standing.{StandsAfter};
+ghost use Rattle.fibs_terminal.specs.Resting.{SaysOffers};
 
 use crate::screen::Screen;
 use fibs_advice::offers::{append_offers, offered};
+use fibs_front::fault::FrontFault;
 use fibs_session::{Client, Outstanding};
 use fibs_wording::messages::front;
 use std::alloc::AllocError;
@@ -10,7 +17,9 @@ use std::time::Clock;
 impl<'a, C: Clock + Drop> Screen<'a, C> {
     /// Says once what may be typed now, if a board has come; or why nothing goes on, if the server has answered a
     /// decision by words alone.
-    pub(crate) fn rest(&mut self, client: &Client) -> Result<(), AllocError> {
+    fn rest(&mut self, client: &Client) -> Result<(), AllocError>
+        ensures { OnOk result (SaysOffers client.now self.old.memory self.old.text.items self.new.text.items) }
+    {
         self.say_resigner()?;
         match client.waiting() {
             Some(asked) => self.say_waiting(asked),
@@ -18,15 +27,30 @@ impl<'a, C: Clock + Drop> Screen<'a, C> {
         }
     }
 
+    /// Makes the text that is said before the user types.
+    pub(crate) fn rest_anew(&mut self, client: &Client) -> Result<(), FrontFault>
+        ensures { OnOk result (SaysOffers client.now self.old.memory [] self.new.text.items) }
+    {
+        self.text.clear();
+        match self.rest(client) {
+            Ok(()) => Ok(()),
+            Err(_) => Err(FrontFault::Output),
+        }
+    }
+
     /// Says how an offer to resign is answered.
-    fn say_resigner(&mut self) -> Result<(), AllocError> {
+    fn say_resigner(&mut self) -> Result<(), AllocError>
+        ensures text { self.old.memory.resigner.items ≡ [] → self.new.text.items ≡ self.old.text.items }
+        ensures owes { self.new.memory.owes ≡ self.old.memory.owes }
+    {
         if self.memory.resigner.is_empty() {
             return Ok(());
         }
         self.text
             .extend_from_slice(front(self.memory.resigner.as_slice()))?;
         self.memory.resigner.clear();
-        self.say(b" offers to resign: send accept, or send reject.\n")
+        self.text
+            .extend_from_slice(b" offers to resign: send accept, or send reject.\n")
     }
 
     /// Says what to do where a decision waits and the server has answered by words alone.
@@ -45,7 +69,11 @@ impl<'a, C: Clock + Drop> Screen<'a, C> {
     }
 
     /// Says what may be decided, if a board has come since that was said.
-    fn say_offers(&mut self, client: &Client) -> Result<(), AllocError> {
+    fn say_offers(&mut self, client: &Client) -> Result<(), AllocError>
+        ensures { OnOk result (self.old.memory.owes ≡ true → (o : Offers)
+            × ((t : Talk) → StandsAfter client.now t → OffersNow t o)
+            × (self.new.text.items ≡ self.old.text.items ++ hint_text o)) }
+    {
         if !self.memory.owes {
             return Ok(());
         }

@@ -1,5 +1,6 @@
 //! A terminal is told what happens.
 ghost use Rattle.std.specs.Prelude.{OnOk};
+ghost use Rattle.std.specs.Io.KnownBytes.{Appends};
 ghost use Rattle.fibs_terminal.specs.Grown.{Grown};
 
 use crate::terminal::Terminal;
@@ -12,7 +13,8 @@ use std::time::Clock;
 
 /// Writes a text.
 pub(crate) fn write_text<W: Write>(text: &[u8], out: &mut W) -> Result<(), FrontFault>
-    ensures { OnOk result (Grown (W.contents out.old) (W.contents out.new)) }
+    ensures bytes { OnOk result (Appends (W.contents out.old) (W.contents out.new) text.now) }
+    ensures grown { OnOk result (Grown (W.contents out.old) (W.contents out.new)) }
 {
     write_bytes(text, out)?;
     Ok(())

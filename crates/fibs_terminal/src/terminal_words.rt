@@ -2,11 +2,11 @@
 ghost use Rattle.std.specs.Prelude.{OnOk, IfOk};
 ghost use Rattle.fibs_terminal.specs.Asking.{KnownStays, SendsUntaken};
 ghost use Rattle.fibs_terminal.specs.Grown.{Grown};
+ghost use Rattle.fibs_terminal.specs.Resting.{ShowsOffers};
 
 use crate::terminal::Terminal;
 use crate::terminal_front::write_text;
 use fibs_front::fault::FrontFault;
-use fibs_front::front::Front;
 use fibs_front::typed_line::TypedLine;
 use fibs_front::wish::Wish;
 use fibs_front::words::Words;
@@ -17,11 +17,15 @@ use std::time::Clock;
 impl<W: Write + Drop, C: Clock + Drop> Words for Terminal<'_, W, C> {
     ghost asks = { λ _ line wish. Unit {0} };
 
-    fn rest(&mut self, client: &Client, _directory: &Directory) -> Result<(), FrontFault> {
-        self.screen.text.clear();
-        self.screen.rest(client).map_err(|_| FrontFault::Output)?;
+    fn rest(&mut self, client: &Client, _directory: &Directory) -> Result<(), FrontFault>
+        ensures told { OnOk result (Grown (W.contents self.old.out) (W.contents self.new.out)) }
+        // What it says may be typed is so, by the history.
+        ensures hint { OnOk result (ShowsOffers client.now self.old.screen.memory
+            (W.contents self.old.out) (W.contents self.new.out)) }
+    {
+        self.screen.rest_anew(client)?;
         write_text(self.screen.text.as_slice(), &mut self.out)?;
-        self.flush()
+        self.out.flush().map_err(|_| FrontFault::Output)
     }
 
     fn wish(

@@ -11,7 +11,7 @@ Matches     invite NAME POINTS   invite NAME (to resume)   join NAME   join
 Talk        say TEXT   tell NAME TEXT   kibitz TEXT   whisper TEXT   shout TEXT
             message NAME TEXT (for later)   also: t NAME TEXT, k TEXT
             gag NAME, ungag NAME: one player; quiet, loud: shouts and comings
-Server      send LINE: LINE to the server as it is, unchecked (watch, rawwho ..)
+Server      send LINE: LINE to the server as it is, unchecked (watch bob ..)
             bye: leave   open: connect again   quit: end
             toggle automove, toggle greedy: off, if they are on
 help WORD says more of a word.
@@ -52,7 +52,7 @@ To decline an offer to resign: send reject.\n",
     } else if word == b"resign".as_slice() {
         Some(
             b"resign n, resign g, resign b: offers to give up a game, a gammon, a backgammon.\n\
-The client then waits for another board; if the offer is declined: bye and open.\n",
+The client then waits for a new board; if the offer is declined: bye and open.\n",
         )
     } else if word == b"order".as_slice() || word == b"withdraw".as_slice() {
         Some(
@@ -80,7 +80,7 @@ fn match_help(word: &[u8]) -> Option<&'static [u8]> {
     if word == b"invite".as_slice() {
         Some(b"invite NAME POINTS: to a match of so many points. invite NAME: to resume one.\n")
     } else if word == b"join".as_slice() {
-        Some(b"join NAME: plays with NAME, who has invited you. join: goes on to the next game.\n")
+        Some(b"join NAME: plays with NAME, who has invited you. join: on to the next game.\n")
     } else if word == b"toggle".as_slice() {
         Some(
             b"toggle ready: whether you are ready to play.\n\

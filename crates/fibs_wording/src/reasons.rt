@@ -10,7 +10,7 @@ pub fn refusal_words(why: Refusal) -> &'static [u8] {
     match why {
         Refusal::AlreadyOpen => b"You are connected already.",
         Refusal::Offline => b"There is no connection: type open.",
-        Refusal::NotReady => b"The server has not let you in yet.",
+        Refusal::NotReady => b"Not logged in: wrong name or password? quit, and begin again.",
         Refusal::ServerPlays => b"The server plays for you: toggle automove, or toggle greedy.",
         Refusal::NoBoard => b"No board was shown yet: type board.",
         Refusal::Waiting => b"You have decided, and no new board has come yet.",
