@@ -9,7 +9,7 @@ use Rattle.fibs_history.specs.declared.refusal.Refusal.{Refusal}
 use Rattle.fibs_history.specs.Log.{Entry, Opened, LoggedIn, Welcomed, Informed, Shown, Took, Lost, Ordered}
 use Rattle.fibs_history.specs.Log.{Withdrawn}
 use Rattle.fibs_history.specs.Orders.{is_due}
-use Rattle.fibs_history.specs.Words.{Ask, is_empty, open_now, sent, took, unconfirmed, answer}
+use Rattle.fibs_history.specs.Words.{Ask, is_empty, open_now, shown, sent, took, unconfirmed, answer}
 use Rattle.std.specs.Prelude.{nat_lt}
 use Rattle.std.proofs.Common.{append-nil}
 use Rattle.fibs_messages.specs.Line.{ReadingValue, numbered_line, board_line, text_line, malformed_line}
@@ -17,7 +17,8 @@ use Rattle.fibs_history.specs.declared.refusal.PlainRefusal.{PlainRefusal}
 use Rattle.fibs_history.specs.Hearing.{nothing_heard, flags_of, shows_board}
 use Rattle.fibs_history.specs.Machine.{plain_refusal, order_refusal, withdraw_refusal}
 use Rattle.fibs_machine.specs.Wires.{delivered, taken, next_line}
-use Rattle.fibs_machine.specs.Server.{is_die, decision_in, command, effect, carried, obeyed}
+use Rattle.fibs_position.specs.BoardEffect.{is_die}
+use Rattle.fibs_machine.specs.Server.{decision_in, command, effect, carried, obeyed}
 use Rattle.fibs_machine.specs.Server.{Stale, LoggedIn as LoggedInNow}
 use Rattle.fibs_machine.specs.Events.{Event, Open, Click, Plain, Deliver, Lose, Serve, Own, Repeat, Text, Order, Withdraw}
 use Rattle.fibs_machine.specs.World.{does_heard, does_served, sends_plain, notes_unless, talk_of, World, noted, linked}
@@ -27,7 +28,7 @@ use Rattle.fibs_machine.proofs.Answering.{answered_at as answered_now, takes_lin
 use Rattle.fibs_machine.proofs.Answering.{obeys, carries_out}
 use Rattle.fibs_machine.specs.World.{serves, after, start}
 use Rattle.fibs_machine.specs.Refusals.{refusal}
-use Rattle.fibs_machine.specs.Headline.{Headline, IsAtRest, AllLegal}
+use Rattle.fibs_machine.specs.Headline.{Headline, IsAtRest, AllLegal, AllGood}
 use Rattle.fibs_machine.specs.Stale.{NoneStale}
 use Rattle.fibs_machine.specs.Runs.{AllAccepted, after_all}
 use Rattle.fibs_machine.proofs.Lawful.{Lawful, IsQuiet}
@@ -45,7 +46,7 @@ use Rattle.fibs_machine.proofs.log.Called.{own_of, clicks_sent_of, orders_sent_o
 use Rattle.fibs_machine.proofs.log.Due.{due_rolls}
 use Rattle.fibs_machine.proofs.joint.Carrying.{alike_hears}
 use Rattle.fibs_machine.proofs.log.Fitting.{answered, on_shown, shown_here}
-use Rattle.fibs_machine.proofs.log.Told.{Told, AllAllowed, IsPlain, told_plain, told_shown, told_rolled, told_no}
+use Rattle.fibs_machine.proofs.log.Told.{Told, AllAllowed, AllPass, IsPlain, told_plain, told_shown, told_rolled, told_no}
 use Rattle.fibs_machine.proofs.log.Told.{told_yes}
 use Rattle.fibs_machine.proofs.log.Told.{told_took}
 use Rattle.fibs_commands.specs.PlainCommands.{PlainValue}
@@ -252,6 +253,11 @@ module _ (law : Lawful) where
   all_legal [] h = tt
   all_legal (a ∷ rest) h = let m = law.allowed_means a.0 a.1 h.0 h.1 in (m.0, m.1, all_legal rest h.2)
 
+  -- what passes the test of boards is good
+  all_good : (boards : List Board) → AllPass boards → AllGood boards
+  all_good [] h = tt
+  all_good (b ∷ rest) h = (law.good_means b h.0, all_good rest h.1)
+
   -- the headline, after a list of events that were all accepted
   pub headline_holds : (login : List ℕ) → IsQuiet login → (b : Board) (es : List Event) → is_good b ≡ true
       → AllAccepted login (start b) es → Headline (after_all login (start b) es)
@@ -277,6 +283,7 @@ module _ (law : Lawful) where
             at_most_one = λ c. few (j.settled c).p _ _ (j.settled c).owed;
             moved_on = all_moved_on law w.log (λ c. ((j.settled c).p, (j.settled c).owed)) j.moved;
             none_undone = t.undone;
+            shown_good = λ c. all_good (shown c w.log) (t.seen c);
             answered = answered w.log t.fit;
             at_rest = rests w j;
           }

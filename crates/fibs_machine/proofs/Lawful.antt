@@ -18,7 +18,8 @@ use Rattle.fibs_history.specs.Words.{IsLikeness, answer}
 use Rattle.fibs_history.specs.Hearing.{line_reading}
 use Rattle.fibs_history.specs.Allows.{allows}
 use Rattle.fibs_history.specs.Machine.{on_wire}
-use Rattle.fibs_machine.specs.Server.{is_die, user_decides, effect, decision_in, command}
+use Rattle.fibs_position.specs.BoardEffect.{is_die}
+use Rattle.fibs_machine.specs.Server.{user_decides, effect, decision_in, command}
 
 -- the bytes hold no CR
 abbrev pub NoReturn : List ℕ → Type 0
@@ -45,6 +46,8 @@ pub record Lawful : Type 0 where
   pub likeness : IsLikeness same_game
   -- and boards of two game parts differ
   pub differ : (a b : BoardFields) → Differ a b → same_game a b ≡ false
+  -- a board is good where its test says so
+  pub good_means : (b : BoardFields) → good b ≡ true → IsGood b
   -- what is allowed on a good board is allowed by the rules
   pub allowed_means : (b : BoardFields) (d : DecisionValue) → good b ≡ true → allows b d ≡ None
       → IsGood b × IsAllowed b d

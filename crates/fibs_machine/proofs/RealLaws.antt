@@ -1,5 +1,6 @@
 -- The layers below keep what the headline asks.
-use Rattle.std.proofs.Common.{◌≡◌, ◌≢◌, ℕ, ◌<◌, ◌≤◌, Bool, true, false, List, [], ◌∷◌, ◌++◌, Option, Some, None, nat_lt}
+use Rattle.std.proofs.Common.{◌≡◌, ◌≢◌, ℕ, ◌<◌, ◌≤◌, Bool, true, false, List, [], ◌∷◌, ◌++◌, Option, Some, None}
+use Rattle.std.proofs.Common.{nat_lt, nat_le}
 use Rattle.std.proofs.Common.{refl, sym, ap, ◌∙◌, append-nil, arith, if◌then◌else◌}
 use Rattle.std.specs.Prelude.{All, option_map}
 use Rattle.std.proofs.lemmas.Bool.{and_parts}
@@ -24,7 +25,7 @@ use Rattle.fibs_commands.specs.Logins.{IsLogin, login_text}
 use Rattle.fibs_machine.specs.Events.{Event}
 use Rattle.fibs_machine.specs.Headline.{Headline}
 use Rattle.fibs_machine.specs.Runs.{MayBe, world_after}
-use Rattle.fibs_machine.specs.Server.{is_die}
+use Rattle.fibs_position.specs.BoardEffect.{is_die}
 use Rattle.fibs_machine.specs.Owed.{Owed}
 use Rattle.fibs_machine.specs.Stale.{NoneStale}
 use Rattle.fibs_machine.specs.Acts.{acts_after}
@@ -47,11 +48,11 @@ no_return (b ∷ text) h =
 
 -- a number of a die is above 0
 die_low : (n : ℕ) → is_die n ≡ true → 0 < n
-die_low n h = let p = and_parts (nat_lt 0 n) (nat_lt n 7) h in let q = p.0 in grind (arith, nat_tests)
+die_low n h = let p = and_parts (nat_lt 0 n) (nat_le n 6) h in let q = p.0 in grind (arith, nat_tests)
 
 -- and at most 6
 die_high : (n : ℕ) → is_die n ≡ true → n ≤ 6
-die_high n h = let p = and_parts (nat_lt 0 n) (nat_lt n 7) h in let q = p.1 in grind (arith, nat_tests)
+die_high n h = let p = and_parts (nat_lt 0 n) (nat_le n 6) h in let q = p.1 in grind (arith, nat_tests)
 
 module _ (owed : Owed) where
   -- a command that is no decision in any direction is quiet
@@ -107,6 +108,7 @@ module _ (owed : Owed) where
     likeness =
         record { like_itself = owed.likeness.itself; like_back = owed.likeness.back; like_on = owed.likeness.on };
     differ = λ a b h. (owed.game a b).1 h;
+    good_means = λ b g. (owed.good_exact b).0 g;
     allowed_means =
         λ b d g h. let is = (owed.good_exact b).0 g in (is, (owed.allowed b d is).0.0 (none_left (allowed_of b d) h));
     empty = owed.empty;

@@ -50,6 +50,11 @@ abbrev pub AllLegal : List Ask → Type 0
 AllLegal [] = Unit {0}
 AllLegal (a ∷ rest) = IsGood a.0 × IsAllowed a.0 a.1 × AllLegal rest
 
+-- each of the boards is good
+abbrev pub AllGood : List BoardFields → Type 0
+AllGood [] = Unit {0}
+AllGood (b ∷ rest) = IsGood b × AllGood rest
+
 -- what a Sent answers, behind the log before it: a click there of this decision that was answered by yes, or, where it
 -- is a roll, a board shown there, this one, at which a standing order of that connection was due
 pub data Answers (c : ℕ) (b : BoardFields) : List Entry → DecisionValue → Type 0 where
@@ -135,6 +140,8 @@ pub record Headline (w : World) : Type 0 where
   pub moved_on : AllMovedOn w.log
   -- Beside it: no served decision changed nothing;
   pub none_undone : NoneUndone w.log
+  -- each board shown is good;
+  pub shown_good : (c : ℕ) → AllGood (shown c w.log)
   -- each click carries the answer of the log before it;
   pub answered : AllAnswered w.log
   -- and at rest nothing waits.

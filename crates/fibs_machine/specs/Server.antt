@@ -1,5 +1,5 @@
 -- The model server: what it answers to a line, by its board and by the number of the connection that is logged in.
-use Rattle.std.specs.Prelude.{ℕ, Bool, not, ◌&&◌, List, [], ◌∷◌, Option, Some, None, if◌then◌else◌, nat_eq}
+use Rattle.std.specs.Prelude.{ℕ, Bool, not, List, [], ◌∷◌, Option, Some, None, if◌then◌else◌, nat_eq}
 use Rattle.std.specs.Prelude.{nat_lt}
 use Rattle.fibs_boards.specs.Board.{BoardFields}
 use Rattle.fibs_position.specs.DecisionValue.{DecisionValue}
@@ -19,10 +19,6 @@ user_decides b = decides (phase_of b)
 -- why the board `now` may not become the board b by itself, the first that fits
 abbrev pub own_refusal : BoardFields → BoardFields → Option WorldRefusal
 own_refusal now b = if not (good b) then Some BadBoard else (if user_decides now then Some UserDecides else None)
-
--- a number of a die
-abbrev pub is_die : ℕ → Bool
-is_die n = nat_lt 0 n && nat_lt n 7
 
 -- the board to which a decision leads with two dice, where it is carried out
 abbrev pub effect : BoardFields → DecisionValue → ℕ → ℕ → Option BoardFields

@@ -8,7 +8,8 @@ use Rattle.fibs_history.specs.Log as L
 use Rattle.fibs_history.specs.Machine.{on_wire, wire_of}
 use Rattle.fibs_model.specs.LinksOf.{LinkValue, link_at, set_link}
 use Rattle.fibs_machine.specs.Server as V
-use Rattle.fibs_machine.specs.Server.{ServerValue, is_die}
+use Rattle.fibs_position.specs.BoardEffect.{is_die}
+use Rattle.fibs_machine.specs.Server.{ServerValue}
 use Rattle.fibs_model.specs.WireLinks.{more_asked, more_coming, taken}
 use Rattle.fibs_machine.specs.Wires.{next_line}
 use Rattle.fibs_model.specs.ServerOf.{after_line}

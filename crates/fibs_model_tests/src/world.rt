@@ -35,6 +35,20 @@ fn a_text_of_two_lines_may_not_be(rt: HostRuntime) -> Result<(), Fail> {
     Ok(())
 }
 
+/// With ample memory a run ends where its events end, however many they are.
+#[test]
+fn a_long_run_is_whole(rt: HostRuntime) -> Result<(), Fail> {
+    let mut world = world(rt.alloc(), TO_ROLL)?;
+    let events = [Event::Repeat; 100];
+    let end = world.run(&events);
+    assert_eq!(rt; (end.done, end.refusal), (100, None));
+    let events = [Event::Click(Decision::Roll); 1000];
+    let end = world.run(&events);
+    assert_eq!(rt; (end.done, end.refusal), (1000, None));
+    assert_eq!(rt; world.log().len(), 1000);
+    Ok(())
+}
+
 /// A run that meets a refused growth says how many events were done, and a run of the others does them.
 #[test]
 fn a_run_goes_on_under_refused_memory(rt: HostRuntime) -> Result<(), Fail> {

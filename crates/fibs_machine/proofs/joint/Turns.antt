@@ -10,7 +10,8 @@ use Rattle.fibs_history.specs.Log.{Opened, LoggedIn, Took, Lost}
 use Rattle.fibs_history.specs.Words.{Ask, is_empty, last, each, open_now, shown, sent, took, sent_by, took_by}
 use Rattle.fibs_history.specs.Words.{is_spent}
 use Rattle.fibs_machine.specs.Wires.{next_line, Link, more_asked, taken, cut_off}
-use Rattle.fibs_machine.specs.Server.{is_die, Stale, LoggedIn as LoggedInNow, decision_in, command}
+use Rattle.fibs_position.specs.BoardEffect.{is_die}
+use Rattle.fibs_machine.specs.Server.{Stale, LoggedIn as LoggedInNow, decision_in, command}
 use Rattle.fibs_machine.specs.World.{World, noted, linked, asks, sends, is_talking, does_served}
 use Rattle.fibs_machine.proofs.Answering.{takes_line, obeys, carries_out}
 use Rattle.fibs_machine.proofs.Lawful.{Lawful, IsQuiet}

@@ -29,14 +29,14 @@ abbrev pub AllAllowed : List Ask → Type 0
 AllAllowed [] = Unit {0}
 AllAllowed (a ∷ rest) = (is_good a.0 ≡ true) × (allows a.0 a.1 ≡ None) × AllAllowed rest
 
--- each of the boards is good
-abbrev pub AllGood : List Board → Type 0
-AllGood [] = Unit {0}
-AllGood (b ∷ rest) = (is_good b ≡ true) × AllGood rest
+-- each of the boards is good, by the test
+abbrev pub AllPass : List Board → Type 0
+AllPass [] = Unit {0}
+AllPass (b ∷ rest) = (is_good b ≡ true) × AllPass rest
 
 -- what is told of a log
 pub record Told (log : List Entry) : Type 0 where
-  pub seen : (c : ℕ) → AllGood (shown c log)
+  pub seen : (c : ℕ) → AllPass (shown c log)
   pub legal : (c : ℕ) → AllAllowed (sent c log)
   pub called : Called None [] log
   pub undone : NoneUndone log
@@ -55,12 +55,12 @@ legal_append [] ys h k = k
 legal_append (a ∷ xs) ys h k = (h.0, h.1, legal_append xs ys h.2 k)
 
 -- all are good, in two lists
-good_append : (xs ys : List Board) → AllGood xs → AllGood ys → AllGood (xs ++ ys)
+good_append : (xs ys : List Board) → AllPass xs → AllPass ys → AllPass (xs ++ ys)
 good_append [] ys h k = k
 good_append (b ∷ xs) ys h k = (h.0, good_append xs ys h.1 k)
 
 -- so is the last of them
-last_good : (xs : List Board) (b : Board) → AllGood xs → last xs ≡ Some b → is_good b ≡ true
+last_good : (xs : List Board) (b : Board) → AllPass xs → last xs ≡ Some b → is_good b ≡ true
 last_good [] b h e = cc
 last_good (x ∷ []) b h e = let s : x ≡ b = cc in subst (λ z. is_good z ≡ true) s h.0
 last_good (x ∷ y ∷ xs) b h e = last_good (y ∷ xs) b h.1 e
@@ -196,14 +196,14 @@ shown_one log c b =
     (ap (λ l. l ++ []) (one_of_true (nat_eq c c) b (same_number c)))
 
 -- a good board, or none
-one_good : (b : Board) (z : Bool) → is_good b ≡ true → AllGood (one_if z b ++ [])
+one_good : (b : Board) (z : Bool) → is_good b ≡ true → AllPass (one_if z b ++ [])
 one_good b true h = (h, tt)
 one_good b false h = tt
 
 -- what is told of a plain entry alone
 plain_told : (log : List Entry) (e : Entry) → IsPlain e
     → Called None log (e ∷ []) × NoneUndone (e ∷ []) × AllFit log (e ∷ [])
-    × ((c : ℕ) → (sent c (e ∷ []) ≡ []) × (took c (e ∷ []) ≡ []) × AllGood (shown c (e ∷ [])))
+    × ((c : ℕ) → (sent c (e ∷ []) ≡ []) × (took c (e ∷ []) ≡ []) × AllPass (shown c (e ∷ [])))
 plain_told log (Opened c) h = ((refl, refl), tt, (tt, tt), λ c. (refl, refl, tt))
 plain_told log (LoggedIn c) h = ((refl, refl), tt, (tt, tt), λ c. (refl, refl, tt))
 plain_told log (Welcomed c) h = ((refl, refl), tt, (tt, tt), λ c. (refl, refl, tt))
@@ -219,11 +219,11 @@ plain_told log (Undone c b d) h = absurd h
 
 -- what is told of a log and of more entries is told of both
 grown : (log es : List Entry) → Told log → Called None log es → NoneUndone es → AllFit log es
-    → ((c : ℕ) → AllGood (shown c es)) → ((c : ℕ) → AllAllowed (sent c es)) → ((c : ℕ) → InOrder c (log ++ es))
+    → ((c : ℕ) → AllPass (shown c es)) → ((c : ℕ) → AllAllowed (sent c es)) → ((c : ℕ) → InOrder c (log ++ es))
     → Told (log ++ es)
 grown log es t p u f g l o = record {
   seen =
-      λ c. subst (AllGood) (sym (map_more (shown_by c) log es (shown c es) refl))
+      λ c. subst (AllPass) (sym (map_more (shown_by c) log es (shown c es) refl))
       (good_append (shown c log) (shown c es) (t.seen c) (g c));
   legal =
       λ c. subst (AllAllowed) (sym (map_more (sent_by c) log es (sent c es) refl))

@@ -12,7 +12,8 @@ use Rattle.fibs_machine.specs.Events.{Event, Open, Click, Plain, Deliver, Lose, 
 use Rattle.fibs_model.specs.LinksOf.{LinkValue, link_at}
 use Rattle.fibs_machine.specs.Refusals.{refusal, is_board_text}
 use Rattle.fibs_machine.specs.Runs.{AllAccepted, MayBe, after_all, world_after}
-use Rattle.fibs_machine.specs.Server.{is_die, user_decides}
+use Rattle.fibs_position.specs.BoardEffect.{is_die}
+use Rattle.fibs_machine.specs.Server.{user_decides}
 use Rattle.fibs_machine.specs.Wires.{next_line}
 use Rattle.fibs_machine.specs.World.{World, after, start}
 use Rattle.fibs_model.specs.WorldCalls.{WorldStandsAfter, machine_after, Agrees}
