@@ -103,8 +103,8 @@ def page_program(counts, work):
     page = (ROOT / 'docs/C.md').read_text()
     source, home = work / 'kinds.c', work / 'local'
     source.write_text(re.search(r'```c\n(.*?)```', page, re.S)[1])
-    installed = run('make', '-C', ROOT, '-o', 'lib', 'install-lib', 'PREFIX=%s' % home)
-    counts.check(installed is not None, 'install-lib')
+    installed = run('make', '-C', ROOT, 'install-lib-files', 'PREFIX=%s' % home)
+    counts.check(installed is not None, 'it is installed')
     pointed = ['include/fibs.h', 'share/doc/fibs/C.md', 'share/doc/fibs/FORMATS.md', 'share/doc/fibs/bot.c']
     counts.check(all((home / path).exists() for path in pointed), 'what the header points to is installed')
     where = dict(os.environ, PKG_CONFIG_PATH='%s/lib/pkgconfig' % home, LD_LIBRARY_PATH='%s/lib' % home)
@@ -122,7 +122,8 @@ def page_program(counts, work):
     refused = subprocess.run(['cmake', '-S', work, '-B', work / 'other', '-DCMAKE_PREFIX_PATH=%s' % home],
                              capture_output=True, check=False)
     counts.check(refused.returncode != 0, 'CMake refuses another version')
-    wanted = run(sys.executable, '-B', ROOT / 'examples/read_session.py', '-c', ROOT / 'examples/capture.txt')
+    python = dict(os.environ, PYTHONPATH=str(ROOT / 'python'), FIBS_LIBRARY=str(ROOT / 'lib/libfibs.so'))
+    wanted = run(sys.executable, '-B', ROOT / 'examples/read_session.py', '-c', ROOT / 'examples/capture.txt', env=python)
     boards, messages, texts, _, malformed = (int(n) for n in re.findall(r'\d+', wanted))
     lines = 'text %d\nmessage %d\nboard %d\nmalformed %d\n' % (texts, messages, boards, malformed)
     for program in (work / 'kinds', work / 'kinds_static', build / 'kinds', build / 'kinds_static'):
