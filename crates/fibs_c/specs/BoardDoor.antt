@@ -1,5 +1,5 @@
 -- What is told of a board.
-use Rattle.std.specs.Prelude.{◌≡◌, ℕ, ◌+◌, ◌⊎◌, List}
+use Rattle.std.specs.Prelude.{◌≡◌, ℕ, ◌+◌, ◌≤◌, ◌⊎◌, List}
 use Rattle.fibs_boards.specs.Board.{BoardFields, BoardText, Wrong, spelling}
 use Rattle.fibs_fields.specs.Faults.{fault_number}
 use Rattle.fibs_fields.specs.declared.fault.Fault.{Fault}
@@ -27,6 +27,7 @@ pub record PrintsBoard (line old new : List ℕ) (len status : ℕ) : Type 0 whe
   pub board : BoardFields
   pub says : BoardText board line
   pub prints : HandsOut (spelling board) old new len status
+  pub few : len ≤ 329
 
 -- or the line says no board, and nothing is written
 abbrev pub IsPrintedBoard : List ℕ → List ℕ → List ℕ → ℕ → ℕ → ℕ → Type 0

@@ -1,5 +1,5 @@
 -- What the functions for C do with a directory.
-use Rattle.std.specs.Prelude.{◌≡◌, ◌≢◌, ◌⊎◌, ℕ, ◌++◌, List, [], ◌∷◌, length, slice_get, Option, None, Some}
+use Rattle.std.specs.Prelude.{◌≡◌, ◌≢◌, ◌≤◌, ◌⊎◌, ℕ, ◌++◌, List, [], ◌∷◌, length, slice_get, Option, None, Some}
 use Rattle.fibs_directory.specs.Directory.{IsDirectory, directory_limit, entry_of, name_of}
 use Rattle.fibs_fields.specs.Field.{FieldValue}
 use Rattle.fibs_messages.specs.FieldOf.{field_at}
@@ -45,7 +45,8 @@ IsNoted (Some d) (Some e) r status = Notes d e r status
 -- how many players there are, and the directory is as it was
 abbrev pub IsCounted : Option (List MessageValue) → Option (List MessageValue) → ℕ → ℕ → ℕ → Type 0
 IsCounted None new len len' status = (status ≡ 501) × (new ≡ None) × (len' ≡ len)
-IsCounted (Some d) new len len' status = (status ≡ 0) × (new ≡ Some d) × (len' ≡ length d)
+IsCounted (Some d) new len len' status =
+    (status ≡ 0) × (new ≡ Some d) × (len' ≡ length d) × (len' ≤ directory_limit)
 
 -- no player is left
 abbrev pub IsCleared : Option (List MessageValue) → Option (List MessageValue) → ℕ → Type 0

@@ -104,7 +104,8 @@ direction_in direction = if int_eq direction (negsuc 0) then Down else Up
 -- the command of a decision is handed out; or there is no decision, and nothing is written
 abbrev pub IsTextTold : Option DecisionValue → Direction → List ℕ → List ℕ → ℕ → ℕ → ℕ → Type 0
 IsTextTold None direction old new len len' status = (status ≡ 504) × (new ≡ old) × (len' ≡ len)
-IsTextTold (Some d) direction old new len len' status = HandsOut (command_of direction d) old new len' status
+IsTextTold (Some d) direction old new len len' status =
+    HandsOut (command_of direction d) old new len' status × (len' ≤ 512)
 
 -- the decision that was read; or the text is no command, and nothing is written
 abbrev pub IsDecisionRead : Option DecisionValue → DecisionRecord → DecisionRecord → ℕ → Type 0

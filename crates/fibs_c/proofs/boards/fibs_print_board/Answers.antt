@@ -1,4 +1,4 @@
-use Rattle.std.proofs.Common.{ℕ, List, refl, inl, inr, subst, ◌∙◌}
+use Rattle.std.proofs.Common.{◌≤◌, ℕ, List, length, refl, sym, ap, inl, inr, subst, ◌∙◌}
 use Rattle.fibs_boards.specs.StoredBoard.{fields_of}
 use Rattle.fibs_records.specs.Texts.{HandsOut}
 use Rattle.fibs_c.proofs.boards.fibs_print_board.Goals as goal
@@ -21,4 +21,5 @@ returns-in-Ok c = inr (record {
   says = c.in-Ok.ensures.found;
   prints = subst (λ (bytes : List ℕ). HandsOut bytes c.args.text.now c.hand_out.new.room c.hand_out.new.len c.hand_out.result)
       (c.as_slice.ensures.value ∙ c.print.ensures.text) c.hand_out.ensures;
+  few = subst (λ (n : ℕ). n ≤ 329) (sym (c.hand_out.ensures.len_is ∙ ap length c.as_slice.ensures.value)) c.print.ensures.short;
 })
