@@ -14,8 +14,8 @@ only if it is a legal one: it hangs up at some cubes, and misreads some boards. 
 opponent's offer to resign is not answered, since the client has no decision for it.
 
 Printed are the decisions, what became of those that a lost connection left open, and the end. The status is 0 if the
-match was played out, 1 if the other player did not come back, 2 if the command line is wrong, 4 if there is no server
-or no GNU Backgammon.
+match was played out, 1 if the other player did not come, 2 if a name or a number is not valid, 4 if there is no server,
+no login or no GNU Backgammon.
 
 It takes the package for Python (pip install ./python) and GNU Backgammon (Debian: apt-get install gnubg).
 """
@@ -166,10 +166,10 @@ class Bot:
         # whether a match was begun, and whether it is over; whether the settings were made, the last decision was
         # refused
         self.has_begun = self.is_over = self.is_set_up = self.is_refused = False
-        # the last board of this connection
-        self.board = None
-        # when the other player was seen last, when he was looked for, and when the last decision was sent
-        self.seen = self.sought = self.sent = time.monotonic()
+        # whether the server has taken the login, and its last board, on this connection
+        self.is_in, self.board = False, None
+        # when the last board was seen, the other player was looked for, a decision was sent, a connection was made
+        self.seen = self.sought = self.sent = self.opened = time.monotonic()
         # the decision that a lost connection left open
         self.lost = None
 
@@ -202,14 +202,20 @@ class Bot:
             tries = 0
             with self.server:
                 self.server.setsockopt(socket.IPPROTO_TCP, socket.TCP_NODELAY, 1)
-                if not self.talk():
-                    return 1
+                self.talk()
+            if not self.is_in and not self.is_over and self.has_waited(self.opened):
+                say('not logged in: the name or the password may be wrong')
+                return 4
+            if not self.is_over and self.has_waited(self.seen):
+                say('%s does not come' % self.other)
+                return 1
         return 0
 
     def talk(self):
-        """One connection, up to its end. False if the other player does not come."""
+        """One connection, up to its end."""
         self.players.clear()
-        self.board, self.sought, tail = None, 0, b''
+        self.is_in, self.board, self.sought, tail = False, None, 0, b''
+        self.opened = time.monotonic()
         try:
             self.server.sendall(self.client.open())
             while piece := self.piece():
@@ -220,19 +226,20 @@ class Bot:
         if self.save:
             # half a line is not to be read with the first one of the next connection
             self.save.write(b'' if tail.endswith(b'\n') else b'\n')
+        if self.board:
+            self.seen = time.monotonic()
         self.lost = self.client.lose() or self.lost
-        if self.is_over:
-            return True
-        say('lost %s' % (self.lost.decision.command(self.lost.board.direction) if self.lost else '-'))
-        return self.is_patient()
+        if not self.is_over:
+            say('lost %s' % (self.lost.decision.command(self.lost.board.direction) if self.lost else '-'))
 
-    def is_patient(self):
-        return time.monotonic() - self.seen < self.options.patience
+    def has_waited(self, since):
+        """True if it has waited long enough."""
+        return time.monotonic() - since > self.options.patience
 
     def is_stuck(self):
         """True if the decision that waits is not carried out any more, by what the server says or after a long time.
         The client refuses each other one, until a new connection shows how the game stands."""
-        return time.monotonic() - self.sent > (2 if self.is_refused else self.options.patience)
+        return self.has_waited(self.sent) or self.is_refused and time.monotonic() - self.sent > 2
 
     def piece(self):
         """The next piece of what the server sends; nothing at the end, or if it is better to begin anew."""
@@ -242,8 +249,11 @@ class Bot:
                 return self.server.recv(4096)
             if self.is_over:
                 return b''
-            if not self.board:
-                if not self.is_patient():
+            if not self.is_in:
+                if self.has_waited(self.opened):
+                    return b''
+            elif not self.board:
+                if self.has_waited(self.seen):
                     return b''
                 self.seek()
             elif self.client.waiting and self.is_stuck():
@@ -275,6 +285,7 @@ class Bot:
                     say('confirmed %s' % heard.confirmed.command(line.board.direction))
                 self.see(line.board)
             elif line.kind == fibs.MESSAGE:
+                self.is_in = True
                 self.players.note(line.text)
                 if line.number == 2:
                     self.set_up(line.fields)
@@ -305,7 +316,7 @@ class Bot:
             elif self.points:
                 self.command('invite %s %d' % (self.other, self.points))
         elif re.match(r'\*\* Player %s has left the game' % re.escape(self.other), text):
-            self.board = None
+            self.board, self.seen = None, time.monotonic()
         elif text.startswith('** ') and self.client.waiting:
             self.is_refused = True
         elif re.match(r'(You win|%s wins) the \d+ point match' % re.escape(self.other), text):
@@ -422,6 +433,9 @@ def main():
     except OSError as why:
         say(str(why))
         return 4
+    except (fibs.BadCommand, fibs.NoCommand) as why:
+        say('%s: %s' % (why.name, why))
+        return 2
     except KeyboardInterrupt:
         return 130
     finally:

@@ -313,5 +313,31 @@ def an_answer_that_is_not_valid_is_not_taken(counts):
     counts.same(told.returncode, 4, 'without GNU Backgammon: %s' % told.stdout)
 
 
-TESTS = [an_answer_that_is_not_valid_is_not_taken, gnu_backgammon_understands_each_board,
+def what_goes_wrong_is_said(counts):
+    if not matchfiles.gnubg():
+        counts.leave_out('there is no gnubg')
+        return
+    server = subprocess.Popen([sys.executable, '-B', str(ROOT / 'examples' / 'fibs_server'), '0', '--account',
+                               'ann:secret'], stdout=subprocess.PIPE, text=True)
+    try:
+        port = server.stdout.readline().strip()
+        for words, password, status, said in [
+                ((port, 'ann', '--join', 'bob'), 'wrong', 4, 'not logged in'),
+                ((port, 'ann', '--join', 'bob'), 'secret', 1, 'bob does not come'),
+                ((port, 'ann', '--invite', 'bob', '3'), 'secret', 1, 'bob does not come'),
+                ((port, 'a:b', '--join', 'bob'), 'secret', 2, 'BadName'),
+                ((port, 'ann', '--join', 'bob'), '', 2, 'BadText'),
+                ((port, 'ann', '--invite', 'bob', 'many'), '', 2, 'POINTS is a number'),
+                (('1', 'ann', '--join', 'bob', '--tries', '0'), 'secret', 4, 'no server')]:
+            told = subprocess.run([sys.executable, '-B', bot_module().__file__, '127.0.0.1', *words, '--patience', '1'],
+                                  input=password + '\n', capture_output=True, text=True, timeout=60,
+                                  env={**os.environ, 'PYTHONPATH': str(ROOT / 'python')})
+            counts.check((told.returncode, 'Traceback' in told.stderr) == (status, False) and
+                         said in told.stdout + told.stderr, '%s: status %d, %s' % (words, told.returncode, told))
+    finally:
+        server.terminate()
+        server.wait()
+
+
+TESTS = [an_answer_that_is_not_valid_is_not_taken, what_goes_wrong_is_said, gnu_backgammon_understands_each_board,
          a_match_is_played_once_over_connections_that_are_cut]
