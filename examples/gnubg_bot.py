@@ -163,9 +163,8 @@ class Bot:
         self.players = fibs.Directory()
         self.server = None
         self.save = open(options.save, 'ab', buffering=0) if options.save else None
-        # whether a match was begun, and whether it is over; whether the settings were made, the last decision was
-        # refused
-        self.has_begun = self.is_over = self.is_set_up = self.is_refused = False
+        # whether a match was begun, whether it is over, and whether the last decision was refused
+        self.has_begun = self.is_over = self.is_refused = False
         # whether the server has taken the login, and its last board, on this connection
         self.is_in, self.board = False, None
         # when the last board was seen, the other player was looked for, a decision was sent, a connection was made
@@ -295,9 +294,6 @@ class Bot:
     def set_up(self, info):
         """Turns off what the server would play by itself, and is ready. That it is off is told at a new login."""
         automove, greedy, ready = info[4], info[10], info[16]
-        if self.is_set_up:
-            return
-        self.is_set_up = True
         for is_wrong, command in ((not ready, 'ready'), (automove, 'automove'), (greedy, 'greedy')):
             if is_wrong:
                 self.command('toggle ' + command)

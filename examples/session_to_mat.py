@@ -258,11 +258,10 @@ class Reader:
 
     def hear_double(self, side):
         """A side doubles; a player who comes back is told so once more."""
-        if side is not None and self.state and self.state.doubler is None:
-            doubled = replace(self.state, turn=side, doubler=side)
-            if self.state.turn == side and not self.state.dice:
-                self.game.actions.append(Action(DOUBLE, side))
-                self.state = doubled
+        state = self.state
+        if side is not None and state and state.turn == side and not state.dice and state.doubler is None:
+            self.game.actions.append(Action(DOUBLE, side))
+            self.state = replace(state, doubler=side)
 
     def see(self, board):
         """Takes note of a board of the own game."""
