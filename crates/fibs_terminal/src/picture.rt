@@ -77,7 +77,7 @@ fn append_short(row: &[u8], opponent: &[u8], short: &mut Vec<u8>) -> Result<(), 
         short.extend_from_slice(b"'s")
     } else if let Some(before) = row.strip_suffix(b"in the middle") {
         short.extend_from_slice(before)?;
-        short.extend_from_slice(b"centred")
+        short.extend_from_slice(b"free")
     } else {
         short.extend_from_slice(row)
     }
