@@ -28,7 +28,7 @@ use Rattle.fibs_machine.proofs.Answering.{answered_at as answered_now, takes_lin
 use Rattle.fibs_machine.proofs.Answering.{obeys, carries_out}
 use Rattle.fibs_machine.specs.World.{serves, after, start}
 use Rattle.fibs_machine.specs.Refusals.{refusal}
-use Rattle.fibs_machine.specs.Headline.{Headline, IsAtRest, AllLegal, AllGood}
+use Rattle.fibs_machine.specs.Headline.{Headline, IsAtRest, AllLegal, AllGood, AllAtMost}
 use Rattle.fibs_machine.specs.Stale.{NoneStale}
 use Rattle.fibs_machine.specs.Runs.{AllAccepted, after_all}
 use Rattle.fibs_machine.proofs.Lawful.{Lawful, IsQuiet}
@@ -46,6 +46,8 @@ use Rattle.fibs_machine.proofs.log.Called.{own_of, clicks_sent_of, orders_sent_o
 use Rattle.fibs_machine.proofs.log.Due.{due_rolls}
 use Rattle.fibs_machine.proofs.joint.Carrying.{alike_hears}
 use Rattle.fibs_machine.proofs.log.Fitting.{answered, on_shown, shown_here}
+use Rattle.fibs_machine.proofs.Numbered.{all_numbers}
+use Rattle.fibs_machine.proofs.Projection.{talk_is_projected}
 use Rattle.fibs_machine.proofs.log.Told.{Told, AllAllowed, AllPass, IsPlain, told_plain, told_shown, told_rolled, told_no}
 use Rattle.fibs_machine.proofs.log.Told.{told_yes}
 use Rattle.fibs_machine.proofs.log.Told.{told_took}
@@ -263,13 +265,14 @@ module _ (law : Lawful) where
       → AllAccepted login (start b) es → Headline (after_all login (start b) es)
   headline_holds login quiet b es g a =
       of (after_all login (start b) es) (kept login quiet es (start b) a (joint_start law b g) (told_start b))
+      (all_numbers login (start b) es (talk_is_projected.starts b) a tt)
     where
       few : (p : Option Ask) (s t : List Ask) → s ≡ t ++ to_list p → length s ≤ length t + 1
       few None s t h = let k : length s ≡ length t + 0 = ap length h ∙ length-append t [] in omega arith
       few (Some a) s t h = let k : length s ≡ length t + 1 = ap length h ∙ length-append t (a ∷ []) in omega arith
 
-      of : (w : World) → Joint [] w × Told w.log → Headline w
-      of w h =
+      of : (w : World) → Joint [] w × Told w.log → AllAtMost (length w.log) w.log → Headline w
+      of w h n =
           let j = h.0 in
           let t = h.1 in
           record {
@@ -284,6 +287,7 @@ module _ (law : Lawful) where
             moved_on = all_moved_on law w.log (λ c. ((j.settled c).p, (j.settled c).owed)) j.moved;
             none_undone = t.undone;
             shown_good = λ c. all_good (shown c w.log) (t.seen c);
+            numbers = n;
             answered = answered w.log t.fit;
             at_rest = rests w j;
           }

@@ -3,6 +3,7 @@ pub mod Answering
 pub mod log
 pub mod wires
 pub mod joint
+pub mod Numbered
 pub mod Final
 pub mod Steps
 pub mod OnceLemmas

@@ -4,3 +4,4 @@ pub mod Due
 pub mod Fitting
 pub mod Moved
 pub mod Told
+pub mod Numbers

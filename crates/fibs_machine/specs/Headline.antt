@@ -13,7 +13,8 @@ use Rattle.fibs_position.specs.DecisionValue.{DecisionValue, roll}
 use Rattle.fibs_position.specs.GamePart.{Differ, same_game}
 use Rattle.fibs_position.specs.GoodBoard.{IsGood}
 use Rattle.fibs_history.specs.declared.refusal.Refusal.{Refusal}
-use Rattle.fibs_history.specs.Log.{Entry, Shown, Clicked, Sent, Took, Undone}
+use Rattle.fibs_history.specs.Log.{Entry, Opened, LoggedIn, Welcomed, Informed, Shown, Clicked, Sent, Took, Undone}
+use Rattle.fibs_history.specs.Log.{Lost, Ordered, Withdrawn}
 use Rattle.fibs_history.specs.Orders.{is_due}
 use Rattle.fibs_history.specs.Words.{Ask, last, open_now, shown, sent, took, unconfirmed, answer}
 use Rattle.fibs_history.specs.Allows.{allows}
@@ -110,6 +111,26 @@ AllAnswered log =
     (before later : List Entry) (c : ℕ) (d : DecisionValue) (a : Option Refusal) → log ≡ before ++ Clicked c d a ∷ later
     → (c ≡ open_now before) × (a ≡ answer same_game allows before d)
 
+-- the number of an entry's connection
+abbrev pub conn_of : Entry → ℕ
+conn_of (Opened c) = c
+conn_of (LoggedIn c) = c
+conn_of (Welcomed c) = c
+conn_of (Informed c f) = c
+conn_of (Shown c b) = c
+conn_of (Clicked c d a) = c
+conn_of (Sent c b d) = c
+conn_of (Took c b d) = c
+conn_of (Undone c b d) = c
+conn_of (Lost c u) = c
+conn_of (Ordered c) = c
+conn_of (Withdrawn c) = c
+
+-- none of them is above n
+abbrev pub AllAtMost : ℕ → List Entry → Type 0
+AllAtMost n [] = Unit {0}
+AllAtMost n (e ∷ later) = (conn_of e ≤ n) × AllAtMost n later
+
 -- a connection is open and logged in, all lines that it sent were served, and all bytes sent to it were delivered
 pub record IsAtRest (w : World) : Type 0 where
   pub some : 0 < w.logged_in
@@ -142,6 +163,8 @@ pub record Headline (w : World) : Type 0 where
   pub none_undone : NoneUndone w.log
   -- each board shown is good;
   pub shown_good : (c : ℕ) → AllGood (shown c w.log)
+  -- no connection's number is above the number of entries;
+  pub numbers : AllAtMost (length w.log) w.log
   -- each click carries the answer of the log before it;
   pub answered : AllAnswered w.log
   -- and at rest nothing waits.
