@@ -128,7 +128,7 @@ def page_program(counts, work):
     lines = 'text %d\nmessage %d\nboard %d\nmalformed %d\n' % (texts, messages, boards, malformed)
     for program in (work / 'kinds', work / 'kinds_static', build / 'kinds', build / 'kinds_static'):
         with open(ROOT / 'examples/capture.txt', 'rb') as session:
-            said = run(program, stdin=session, env=where)
+            said = run(program, stdin=session, env=where) if program.exists() else None
         counts.check(said == lines, '%s prints %r' % (program, said))
 
 
