@@ -4,8 +4,8 @@ named.
 
 A session is what the server sent to one player, connection after connection, as --log of fibs connect and --save of
 gnubg_bot.py write it. The file is in the format of Jellyfish, which GNU Backgammon imports (`import mat match.mat`):
-players, scores, dice, moves, and what was done with the cube. If a session has several matches the last one is
-written, or the Nth. The status is 1 if there is none.
+players, scores, dice, moves, and what was done with the cube. If a session has several matches the one that was
+played last is written, or the Nth. The status is 1 if there is none.
 
 The boards say what was played: between two of them lies the shortest run of rolls, plays and doubles that leads from
 one to the other, with the dice that the server's texts tell. So what a lost connection hid is filled in, if the rules
@@ -188,11 +188,25 @@ class Game:
 
 @dataclass
 class Match:
-    """A match: the names of both sides, its length, and the games of which a session tells."""
+    """A match: the names of both sides, its length, and the games of which a session tells; the game that is played,
+    with its state at the last board, or None if it can't be followed."""
 
     names: tuple
     length: int
     games: list = field(default_factory=list)
+    game: Optional[Game] = None
+    state: Optional[State] = None
+
+    def begin_game(self, scores):
+        self.game, self.state = Game(scores), State()
+        self.games.append(self.game)
+
+    def goes_on_with(self, board):
+        """True if the board can be one of this match: a point that was won stays, and a match that is won is over."""
+        scores = board.score, board.opponent_score
+        return (self.names[OTHER] == board.opponent.decode('latin-1') and self.length == board.length
+                and not (self.is_won() and board.turn != 0)
+                and all(new >= old for new, old in zip(scores, self.game.scores)))
 
     def is_won(self):
         return bool(self.games) and self.length < fibs.UNLIMITED and max(self.games[-1].scores_after()) >= self.length
@@ -208,14 +222,18 @@ WINS = re.compile(r'(\S+) wins? the game and gets? (\d+) points?\..*')
 
 
 class Reader:
-    """Reads a session, line by line, and keeps its matches. Of the game that is played it has the state at the last
-    board, or None if the game can't be followed, and the rolls that the server told since."""
+    """Reads a session, line by line, and keeps its matches, and the rolls that the server told since the last board."""
 
     def __init__(self, complain):
         self.complain = complain
-        self.name, self.number, self.matches = 'You', 0, []
-        self.match = self.game = self.state = None
+        self.name, self.number = 'You', 0
+        self.matches, self.match = [], None
         self.told, self.is_resigning = [], False
+
+    @property
+    def game(self):
+        """The game that is played."""
+        return self.match and self.match.game
 
     def read(self, file):
         """Reads a session to its end."""
@@ -258,42 +276,45 @@ class Reader:
 
     def hear_double(self, side):
         """A side doubles; a player who comes back is told so once more."""
-        state = self.state
+        state = self.match.state
         if side is not None and state and state.turn == side and not state.dice and state.doubler is None:
             self.game.actions.append(Action(DOUBLE, side))
-            self.state = replace(state, doubler=side)
+            self.match.state = replace(state, doubler=side)
 
     def see(self, board):
         """Takes note of a board of the own game."""
         scores = board.score, board.opponent_score
-        if self.is_new_match(board, scores):
-            self.begin_match(board)
+        if not self.match or not self.goes_on(self.match, board):
+            self.change_match(board)
         if self.game.winner is None and scores != self.game.scores:
             self.see_result(board, scores)
         if self.game.winner is not None and board.turn != 0:
-            self.begin_game(scores)
+            self.match.begin_game(scores)
+            self.is_resigning = False
         if self.game.winner is None and board.turn != 0 and not self.is_resigning:
             self.follow(board)
 
-    def is_new_match(self, board, scores):
-        match = self.match
-        return (not match or match.names != (self.name, board.opponent.decode('latin-1'))
-                or match.length != board.length or match.is_won() and board.turn != 0
-                or any(new < old for new, old in zip(scores, self.game.scores)))
+    def goes_on(self, match, board):
+        return match.names[OWN] == self.name and match.goes_on_with(board)
+
+    def change_match(self, board):
+        """Another match is played: the latest one of these players that can go on with this board, or a new one."""
+        self.is_resigning = False
+        for match in reversed(self.matches):
+            if self.goes_on(match, board):
+                self.match = match
+                return
+        self.begin_match(board)
 
     def begin_match(self, board):
         self.match = Match((self.name, board.opponent.decode('latin-1')), board.length)
+        self.match.begin_game((board.score, board.opponent_score))
         self.matches.append(self.match)
-        self.begin_game((board.score, board.opponent_score))
-
-    def begin_game(self, scores):
-        self.game, self.state, self.is_resigning = Game(scores), State(), False
-        self.match.games.append(self.game)
 
     def see_result(self, board, scores):
         """The scores have changed: the game is over, by the last checkers that the board shows off, or otherwise."""
         won = [new - old for new, old in zip(scores, self.game.scores)]
-        if self.state and board.turn == 0 and 15 in (board.off, board.opponent_off):
+        if self.match.state and board.turn == 0 and 15 in (board.off, board.opponent_off):
             self.follow(board)
         self.end_game(OWN if won[OWN] > 0 else OTHER, max(won))
 
@@ -301,9 +322,9 @@ class Reader:
         """The game is over. A double that was not answered otherwise was given up."""
         if winner is None:
             return
-        game = self.game
+        game, state = self.game, self.match.state
         game.winner, game.points = winner, points
-        game.is_dropped = bool(self.state) and self.state.doubler == winner and points == self.state.cube
+        game.is_dropped = bool(state) and state.doubler == winner and points == state.cube
         self.told = []
         if not game.actions:
             self.match.games.remove(game)
@@ -311,18 +332,18 @@ class Reader:
     def follow(self, board):
         """Adds to the game what was done since the last board."""
         told, self.told = tuple(self.told), []
-        if not self.state:
+        if not self.match.state:
             return
-        found = shortest_way(self.state, told, board)
-        if not found and self.game.actions and shortest_way(State(), (), board):
+        found = shortest_way(self.match.state, told, board)
+        if not found and self.game.actions and way(State(), (), board, 0):
             # another match has begun between the same players
             self.begin_match(board)
-            found = shortest_way(self.state, told, board)
+            found = shortest_way(self.match.state, told, board)
         if found:
             self.game.actions += found[0]
-            self.state = found[1]
+            self.match.state = found[1]
             return
-        self.state = None
+        self.match.state = None
         self.complain('line %d: the plays before this board are not known; %s' % (
             self.number, 'of the game the result is kept' if self.game.actions else 'the game is left out'))
 
@@ -387,14 +408,15 @@ def match_lines(match):
 def main():
     options = argparse.ArgumentParser(description='Makes a match file of saved sessions.')
     options.add_argument('files', nargs='*', metavar='FILE', help='a session; none: standard input')
-    options.add_argument('--match', type=int, metavar='N', help='the Nth match of the sessions; else the last one')
+    options.add_argument('--match', type=int, metavar='N', help='the Nth match; else the one that was played last')
     options = options.parse_args()
     reader = Reader(lambda what: print('session_to_mat: ' + what, file=sys.stderr))
     for name in options.files or [None]:
         with open(name, 'rb') if name else sys.stdin.buffer as file:
             reader.read(file)
     matches = [match for match in reader.matches if match.games]
-    wanted = len(matches) if options.match is None else options.match
+    last = matches.index(reader.match) + 1 if reader.match in matches else len(matches)
+    wanted = last if options.match is None else options.match
     if not 1 <= wanted <= len(matches):
         reader.complain('%d matches can be told' % len(matches))
         return 1

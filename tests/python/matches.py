@@ -18,8 +18,8 @@ import matchfiles
 from package import ROOT, fibs
 
 POINTS = 7
-# Who plays which side is by chance, lines come in pieces and with prompts, some commands that are right are refused, and
-# new players are not ready and are played for by the server.
+# Who plays which side is by chance, lines come in pieces and with prompts, some commands that are right are refused;
+# new players are not ready, and are played for by the server.
 SERVER = ['--seed', '3', '--mixed-sides', '--portions', '200', '--prompts', '--refuse', 'roll', '--refuse', 'move',
           '--set', 'automove=1', '--set', 'greedy=1', '--set', 'ready=0']
 # Each bot's connection is cut so often, and no more once so many games are over: the end of the match is seen by both.

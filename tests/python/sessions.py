@@ -177,7 +177,13 @@ def each_match_of_a_session_can_be_had(counts):
     for words, wanted in [(('--match', '1'), MATCH), (('--match', '2'), MATCH.replace('bob', 'eve')),
                           ((), MATCH.replace('bob', 'eve'))]:
         counts.same(run('session_to_mat.py', lines, *words), (wanted, '', 0), 'match %s' % (words,))
-    counts.same(run('session_to_mat.py', lines, '--match', '3')[2], 1, 'there is no third one')
+    for number in '3', '0', '-1':
+        counts.same(run('session_to_mat.py', lines, '--match', number)[2], 1, 'there is no match %s' % number)
+    # one that is broken off, and goes on when another one was played: then the board is shown once more
+    for at in 5, 11, 16, 18, 24, 27, 32:
+        shown = [one for one in session()[:at] if one.startswith('board')][-1:]
+        lines = session()[:at] + again + shown + session()[at:]
+        counts.same(run('session_to_mat.py', lines), (MATCH, '', 0), 'broken off at line %d' % at)
     # a new match with the same player, after one that was not played to its end
     told, said, status = run('session_to_mat.py', session()[:12] + session()[1:])
     counts.same((told, said, status), (MATCH, '', 0), 'the same player once more')
