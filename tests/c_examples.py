@@ -99,6 +99,20 @@ def header_example(counts, work):
     counts.check(run(work / 'head', 'a:b', timeout=10) == 'BadName\n', "the header's example ends at a wrong name")
 
 
+def cmake_programs(counts, work, home, lines):
+    """What CMake builds by these lines of the page, and that it refuses another version."""
+    build = work / 'build'
+    build.mkdir()
+    (work / 'CMakeLists.txt').write_text(CMAKE % lines)
+    made = run('cmake', '-S', work, '-B', build, '-DCMAKE_PREFIX_PATH=%s' % home) and run('cmake', '--build', build)
+    counts.check(made is not None, 'CMake builds it')
+    (work / 'CMakeLists.txt').write_text(CMAKE % 'find_package(fibs 0.1 REQUIRED)')
+    refused = subprocess.run(['cmake', '-S', work, '-B', work / 'other', '-DCMAKE_PREFIX_PATH=%s' % home],
+                             capture_output=True, check=False)
+    counts.check(refused.returncode != 0, 'CMake refuses another version')
+    return [build / 'kinds', build / 'kinds_static']
+
+
 def page_program(counts, work):
     page = (ROOT / 'docs/C.md').read_text()
     source, home = work / 'kinds.c', work / 'local'
@@ -108,25 +122,25 @@ def page_program(counts, work):
     pointed = ['include/fibs.h', 'share/doc/fibs/C.md', 'share/doc/fibs/FORMATS.md', 'share/doc/fibs/bot.c']
     counts.check(all((home / path).exists() for path in pointed), 'what the header points to is installed')
     where = dict(os.environ, PKG_CONFIG_PATH='%s/lib/pkgconfig' % home, LD_LIBRARY_PATH='%s/lib' % home)
-    flags = run('pkg-config', '--cflags', '--libs', 'fibs', env=where)
-    version = re.search(r'FIBS_VERSION "(.*)"', (ROOT / 'include/fibs.h').read_text())[1]
-    counts.check((run('pkg-config', '--modversion', 'fibs', env=where) or '').strip() == version, 'the version')
-    run('cc', *STRICT, '-o', work / 'kinds', source, *(flags or '').split())
+    programs = [work / 'kinds_static']
     run('cc', *STRICT, '-I', home / 'include', '-o', work / 'kinds_static', source, home / 'lib/libfibs.a')
-    build = work / 'build'
-    build.mkdir()
-    (work / 'CMakeLists.txt').write_text(CMAKE % re.search(r'```cmake\n(.*?)```', page, re.S)[1])
-    made = run('cmake', '-S', work, '-B', build, '-DCMAKE_PREFIX_PATH=%s' % home) and run('cmake', '--build', build)
-    counts.check(made is not None, 'CMake builds it')
-    (work / 'CMakeLists.txt').write_text(CMAKE % 'find_package(fibs 0.1 REQUIRED)')
-    refused = subprocess.run(['cmake', '-S', work, '-B', work / 'other', '-DCMAKE_PREFIX_PATH=%s' % home],
-                             capture_output=True, check=False)
-    counts.check(refused.returncode != 0, 'CMake refuses another version')
+    if shutil.which('pkg-config'):
+        programs.append(work / 'kinds')
+        flags = run('pkg-config', '--cflags', '--libs', 'fibs', env=where)
+        version = re.search(r'FIBS_VERSION "(.*)"', (ROOT / 'include/fibs.h').read_text())[1]
+        counts.check((run('pkg-config', '--modversion', 'fibs', env=where) or '').strip() == version, 'the version')
+        run('cc', *STRICT, '-o', work / 'kinds', source, *(flags or '').split())
+    else:
+        print('left out: pkg-config, which is not installed')
+    if shutil.which('cmake'):
+        programs += cmake_programs(counts, work, home, re.search(r'```cmake\n(.*?)```', page, re.S)[1])
+    else:
+        print('left out: CMake, which is not installed')
     python = dict(os.environ, PYTHONPATH=str(ROOT / 'python'), FIBS_LIBRARY=str(ROOT / 'lib/libfibs.so'))
     wanted = run(sys.executable, '-B', ROOT / 'examples/read_session.py', '-c', ROOT / 'examples/capture.txt', env=python)
     boards, messages, texts, _, malformed = (int(n) for n in re.findall(r'\d+', wanted))
     lines = 'text %d\nmessage %d\nboard %d\nmalformed %d\n' % (texts, messages, boards, malformed)
-    for program in (work / 'kinds', work / 'kinds_static', build / 'kinds', build / 'kinds_static'):
+    for program in programs:
         with open(ROOT / 'examples/capture.txt', 'rb') as session:
             said = run(program, stdin=session, env=where) if program.exists() else None
         counts.check(said == lines, '%s prints %r' % (program, said))
