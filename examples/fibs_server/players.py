@@ -44,7 +44,7 @@ class Player:
         self.name, self.password, self.rating, self.experience = name, password, rating, experience
         self.settings = {**SETTINGS, **settings}
         self.boardstyle, self.redoubles, self.timezone, self.email = '1', 'none', 'UTC', '-'
-        self.last_login, self.last_host = 0, 'localhost'
+        self.last_login, self.last_host = int(time.time()), 'localhost'
         # messages left for him: sender, time, text
         self.mail = []
         self.gagged = set()

@@ -72,6 +72,9 @@ def the_login_is_kept_without_its_password(server):
     server.accept()
     same('the login', server.line(), 'login fibs_client 1008 ann ' + PASSWORD)
     server.send(WELCOME)
+    # an empty line hears the server
+    program.stdin.write(b'\n')
+    program.stdin.flush()
     same('the first command', server.line(), 'set boardstyle 3')
     holds(path, WELCOME.encode(), b'set boardstyle 3')
     printed, said = program.communicate(b'quit\n', timeout=PATIENCE)

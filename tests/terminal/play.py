@@ -21,9 +21,9 @@ REFUSED = 2
 class Typist(Terminal):
     """One who has begun fibs-play."""
 
-    def __init__(self, words, kind='xterm', shell=(), play=PLAY, password=True, **more):
+    def __init__(self, words, kind='xterm', shell=(), play=PLAY, password=True, columns=80, **more):
         home = tempfile.mkdtemp(dir=ROOM.name)
-        super().__init__([*shell, play, *words], **{
+        super().__init__([*shell, play, *words], columns, **{
             'TERM': kind, 'FIBS': PROGRAM, 'HOME': home, 'RLWRAP_HOME': home, 'LC_ALL': 'C', 'FIBS_QUIET': '1', **more})
         if password:
             self.sees('password: ')
@@ -136,6 +136,22 @@ def a_prompt(server):
     player.close()
 
 
+@with_server
+def a_small_terminal(server):
+    """The program is told how many columns there are: no row of a picture is wider."""
+    for kind in 'xterm', 'dumb':
+        player = Typist(['127.0.0.1', str(server.port), 'ann'], kind=kind, columns=60)
+        player.is_shown('Welcome, ann')
+        player.type('invite eve 3')
+        player.is_shown('-+   O You')
+        rows = [line for line in player.plain().split('\n') if re.fullmatch(r' [|+].*', line)]
+        same('rows of pictures that are wider', [row for row in rows if len(row) > 60], [])
+        player.type('quit')
+        player.ends(0)
+        player.close()
+        time.sleep(0.3)
+
+
 def a_word_where_rlwrap_is_missing():
     """Lines are not edited then, and it says so before it asks for the password."""
     server = Served()
@@ -195,4 +211,5 @@ def a_log(server):
 
 
 SCENES = [ctrl_c_cancels_the_line_and_not_the_game, ctrl_c_after_a_stop, tab_completes_the_players_names, a_prompt,
-          a_word_where_rlwrap_is_missing, what_can_not_be_is_refused_before_a_password_is_typed, a_log]
+          a_small_terminal, a_word_where_rlwrap_is_missing, what_can_not_be_is_refused_before_a_password_is_typed,
+          a_log]

@@ -116,8 +116,8 @@ def at_most_79_columns():
 
 
 def on_a_small_terminal():
-    """60 by 15: the picture and its hint fit."""
-    follower = match_by_hints(seed=5, columns=60, rows=15)
+    """60 by 15, as the environment has it: the picture and its hint fit."""
+    follower = match_by_hints(seed=5, columns=60, rows=15, COLUMNS='60', LINES='15')
     lines = follower.ann.lines()
     drawn = [line for line in lines if PICTURE.fullmatch(line)]
     same('boards were drawn', len(drawn) > 50, True)
@@ -144,8 +144,8 @@ def letters_in_bold():
 
 
 def the_bell():
-    """It rings at her turn, at what is said to her, at a loss; never where FIBS_QUIET is set."""
-    server = Served('--bot', 'eve:invites=1,says=hello', '--dice', '13,42,65,21')
+    """It rings at her turn after the other's, at what is said to her, at a loss; never where FIBS_QUIET is set."""
+    server = Served('--bot', 'eve:invites=1,says=hello', '--dice', '31,31,31,31')
     try:
         for quiet in None, '1':
             ann = Person(server.port, FIBS_QUIET=quiet)
