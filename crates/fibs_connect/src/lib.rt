@@ -3,7 +3,7 @@
 
 ghost use Rattle.std.specs.Prelude.{◌≡◌, ◌*◌, IfOk, IfErr};
 ghost use Rattle.std.specs.Io.KnownBytes.{Appends, Keeps};
-ghost use Rattle.fibs_connect.specs.Converse.Ending.{Conversed, login_fault_line};
+ghost use Rattle.fibs_connect.specs.Converse.Ending.{Conversed, EndsWell, login_fault_line};
 ghost use Rattle.fibs_connect.specs.Converse.Reading.{SpendsReads};
 ghost use Rattle.fibs_front.specs.Lines.{line_bytes};
 ghost use Rattle.fibs_engine.specs.Reads.{LostAtMost};
@@ -101,6 +101,27 @@ pub fn converse_with<D: Dial, R: Read, W: Write, E: Write>(
     match Login::new(name, line.as_slice()) {
         Err(fault) => print_fault(fault, err),
         Ok(login) => answer_lines(server, alloc, login, &mut lines, typed, &mut Plain { out }),
+    }
+}
+
+/// The same over any front end. What is wrong with a name or a password is printed on `err`.
+pub fn converse_on<D: Dial, R: Read, F: Words, E: Write>(
+    server: &mut D,
+    alloc: Global,
+    name: &[u8],
+    reads: u32,
+    typed: &mut R,
+    front: &mut F,
+    err: &mut E,
+) -> Result<u8, EngineFault>
+    ensures ends { EndsWell result }
+{
+    let mut lines = TypedLines::new(reads);
+    let mut line = TypedLine::new();
+    lines.read_line(typed, &mut line)?;
+    match Login::new(name, line.as_slice()) {
+        Err(fault) => print_fault(fault, err),
+        Ok(login) => answer_lines(server, alloc, login, &mut lines, typed, front),
     }
 }
 

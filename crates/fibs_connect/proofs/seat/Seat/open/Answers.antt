@@ -8,10 +8,13 @@ pub returns-in-Err-clause-connects : goal.returns-in-Err-clause-connects
 returns-in-Err-clause-connects g c = λ off. rw c.in-None.is (on_ok_weaker c.tell-in-Err.result
     (λ told. (
       λ e. absurd cc,
-      λ e. inr (refl, (
-        c.in-Err.why,
-        g.met.F.Front.joins.joined _ _ _ [] (no_connection_said c.in-Err.why ∷ []) c.in_ok-flush-in-None.ensures told,
-      )),
+      λ e. inr (
+        refl,
+        (
+          c.in-Err.why,
+          g.met.F.Front.joins.joined _ _ _ [] (no_connection_said c.in-Err.why ∷ []) c.in_ok-flush-in-None.ensures told,
+        ),
+      ),
     )) c.tell-in-Err.ensures)
 
 pub returns-in-Ok-clause-connects : goal.returns-in-Ok-clause-connects
