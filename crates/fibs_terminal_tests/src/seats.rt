@@ -1,0 +1,161 @@
+//! A client and a terminal, to which a server's lines and typed lines are given.
+
+use fibs_front::front::Front;
+use fibs_front::said::Said;
+use fibs_front::typed_line::TypedLine;
+use fibs_front::typing::{Typed, read_typed};
+use fibs_front::wish::Wish;
+use fibs_front::words::Words;
+use fibs_messages::Reading;
+use fibs_position::phase_of;
+use fibs_session::{Client, CommandText, Directory, Login};
+use fibs_terminal::{Settings, Terminal};
+use std::alloc::Global;
+use std::io;
+use std::io::ErrorKind;
+use std::test::Fail;
+use std::time::{Clock, Duration};
+
+/// A clock that stands still, at 13:07 on 5 January 2003.
+#[derive(Clone, Copy)]
+pub struct Stopped;
+
+impl Clock for Stopped {
+    fn monotonic(&self) -> io::Result<Duration> {
+        Ok(Duration::from_secs(0))
+    }
+
+    fn since_1970(&self) -> io::Result<Duration> {
+        Ok(Duration::from_secs(1_041_772_020))
+    }
+}
+
+/// What happens at a seat.
+#[derive(Clone, Copy)]
+pub enum Step<'a> {
+    /// The server sends a line.
+    Hears(&'a [u8]),
+    /// The user types a line.
+    Types(&'a [u8]),
+    /// The terminal lets the user type.
+    Rests,
+    /// No connection can be made.
+    Fails,
+    /// The connection is over.
+    Loses,
+}
+
+/// The settings of a plain terminal of 80 columns.
+pub fn plain_settings() -> Settings<'static> {
+    Settings {
+        columns: 80,
+        rows: 24,
+        colour: false,
+        bell: false,
+        utf8: false,
+        offset: 0,
+        host: b"fibs.com",
+        port: 4321,
+    }
+}
+
+/// Tells what the server says by a line.
+fn hear<F: Front>(
+    client: &mut Client,
+    directory: &mut Directory,
+    line: &[u8],
+    front: &mut F,
+) -> Result<(), Fail> {
+    let heard = client.read(line);
+    let got = client.got(heard);
+    let Some(taken) = got.taken else {
+        return Ok(());
+    };
+    front.tell(&Said::Heard(&taken.line, &taken.reading))?;
+    if let Reading::Board(board) = &taken.reading {
+        if let Some(phase) = phase_of(board) {
+            front.tell(&Said::Phase(phase))?;
+        }
+    }
+    if let Reading::Numbered(message) = &taken.reading {
+        directory.note(message)?;
+    }
+    if let Some(asked) = &taken.confirmed {
+        front.tell(&Said::Confirmed(asked))?;
+    }
+    Ok(())
+}
+
+/// Tells that a command was sent.
+fn tell_sent<F: Front>(command: &CommandText, front: &mut F) -> Result<(), Fail> {
+    front.tell(&Said::Sent(command))?;
+    Ok(())
+}
+
+/// Gives a line to the client, and tells what it answers.
+fn say<F: Front>(client: &mut Client, line: &[u8], front: &mut F) -> Result<(), Fail> {
+    match read_typed(client, line) {
+        Typed::Decision(decision) => match client.decide(&decision) {
+            Ok(command) => tell_sent(&command, front),
+            Err(why) => Ok(front.tell(&Said::Refused(why))?),
+        },
+        Typed::Plain(plain) => match client.plain(&plain) {
+            Ok(command) => tell_sent(&command, front),
+            Err(why) => Ok(front.tell(&Said::NotSent(why))?),
+        },
+        Typed::Order | Typed::Withdrawal => Ok(()),
+        Typed::Unknown => Ok(front.tell(&Said::Unknown)?),
+    }
+}
+
+/// Takes a line that is typed.
+fn take_line<F: Words>(
+    client: &mut Client,
+    directory: &Directory,
+    line: &[u8],
+    front: &mut F,
+) -> Result<(), Fail> {
+    let mut typed = TypedLine::new();
+    let _fits = typed.try_extend_from_slice(line);
+    match front.wish(client, directory, &mut typed)? {
+        Wish::Say => say(client, typed.as_slice(), front),
+        Wish::Send => Ok(front.tell(&Said::Passed(typed.as_slice()))?),
+        Wish::Open | Wish::Players | Wish::Quit | Wish::TooLong | Wish::Listen | Wish::Answered =>
+            Ok(()),
+    }
+}
+
+/// Takes a step.
+fn take_step<F: Words>(
+    client: &mut Client,
+    directory: &mut Directory,
+    step: Step<'_>,
+    front: &mut F,
+) -> Result<(), Fail> {
+    match step {
+        Step::Hears(line) => hear(client, directory, line, front),
+        Step::Types(line) => take_line(client, directory, line, front),
+        Step::Rests => Ok(front.rest(client, directory)?),
+        Step::Fails => Ok(front.tell(&Said::NoConnection(ErrorKind::ConnectionRefused))?),
+        Step::Loses => {
+            let waited = client.lose();
+            Ok(front.tell(&Said::Lost(&waited))?)
+        }
+    }
+}
+
+/// What the screen shows after steps, of a user who is connected.
+pub fn shown(alloc: Global, settings: Settings<'_>, steps: &[Step<'_>]) -> Result<Vec<u8>, Fail> {
+    let mut shown = Vec::new(alloc);
+    let login = Login::new(b"ann", b"secret").map_err(|_| Fail::from("login"))?;
+    let mut client = Client::new(login);
+    let _login = client.open();
+    let mut directory = Directory::new(alloc);
+    {
+        let mut terminal = Terminal::new(alloc, &mut shown, Stopped, settings);
+        for step in steps {
+            take_step(&mut client, &mut directory, *step, &mut terminal)?;
+        }
+    }
+    Ok(shown)
+}
