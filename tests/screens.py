@@ -42,8 +42,15 @@ STYLE = 'set boardstyle 3'
 
 WELCOME = '1 ann 1041253132 localhost'
 
-# What a terminal shows of phases, and of a decision that waits no more.
-TO_ROLL, TO_MOVE, CONFIRMED = 'Type roll, or double where you may', 'Type your move', 'since %s was sent.'
+# What is shown where it is the player's turn, and of what was typed: at a terminal, and to a program.
+TO_ROLL, TO_MOVE = 'Your turn: roll', 'Your move, as in: '
+AT_A_TERMINAL = {'roll': TO_ROLL, 'move': TO_MOVE, 'rolled': TO_MOVE, 'won': 'You win', 'wrong': '[8 WrongKind]',
+                 'illegal': '[9 IllegalPlay]', 'lost': 'roll may have reached the server or not',
+                 'offline': '[2 Offline]', 'bob': '1623.50'}
+TO_A_PROGRAM = {'roll': 'phase RollOrDouble\n', 'move': 'phase Move\n', 'rolled': 'confirmed roll\n',
+                'won': 'confirmed move 3-off 2-off\n', 'wrong': 'refused 8 WrongKind',
+                'illegal': 'refused 9 IllegalPlay', 'lost': 'lost roll', 'offline': 'refused 2 Offline',
+                'bob': 'bob 1623.50'}
 
 RLWRAP = shutil.which('rlwrap')
 
@@ -55,7 +62,7 @@ SHELLS = [words for words in ([], ['dash'], ['bash', '--posix'], ['bash']) if no
 HOME = tempfile.TemporaryDirectory()
 
 # fibs-play calls this program, and rlwrap keeps its lines in a folder that nobody else reads.
-os.environ.update(FIBS=PROGRAM, HOME=HOME.name, RLWRAP_HOME=HOME.name, LC_ALL='C')
+os.environ.update(FIBS=PROGRAM, HOME=HOME.name, RLWRAP_HOME=HOME.name, LC_ALL='C', FIBS_QUIET='1', TZ='UTC')
 
 
 def board_of(opponent='bob', length=1, places=None, dice=(0, 0), cube=1, doublers=(0, 0)):
@@ -145,7 +152,7 @@ def greeted(server, player=None):
     """A player who is greeted; nothing waits to be shown."""
     player = player or at_a_terminal(server)
     server.send(WELCOME, OWN_INFO % 'ann')
-    player.sees('Settings of ann', '\n')
+    player.sees('You are ann', '\n')
     same('received', [server.line(), server.line()], [STYLE, 'board'])
     player.shown(0.2)
     return player
@@ -176,28 +183,28 @@ def server_has(server, *received):
 
 # -- a game ----------------------------------------------------------------------------------------------------------
 
-def plays_the_game(server, player, to_roll, to_move, confirmed):
+def plays_the_game(server, player, shown):
     """A game from login to its end, with a line that comes while nothing is typed, and a lost connection."""
     game = Game([5, 3], [22, 23], [[2, 1], [1, 1], [6, 5]])
     server.accept()
     same('the player', server.log_in(), 'ann')
     player.listens()
     server.serve(game, 2)
-    player.sees(to_roll)
+    player.sees(shown['roll'])
     server.send('12 bob Good evening.')
     player.listens()
     player.sees('Good evening.')
-    for typed, answer in ('players', 'bob 1623.50'), ('dance', 'unknown'), ('double', 'refused 8 WrongKind'):
+    for typed, answer in ('players', shown['bob']), ('dance', 'unknown'), ('double', shown['wrong']):
         player.type(typed)
         player.sees(answer)
     player.type('roll')
     server.serve(game, 1)
-    player.sees(confirmed % 'roll')
+    player.sees(shown['rolled'])
     player.type('move 5-1 3-2')
-    player.sees('refused 9 IllegalPlay')
+    player.sees(shown['illegal'])
     player.type('move 5-3 3-2')
     server.serve(game, 1)
-    player.sees(to_roll)
+    player.sees(shown['roll'])
     player.type('say good luck')
     server.serve(game, 1)
     player.sees('And to you.')
@@ -209,18 +216,18 @@ def plays_the_game(server, player, to_roll, to_move, confirmed):
     player.sees('You roll 6 and 5.')
     server.drop()
     player.listens()
-    player.sees('lost roll')
+    player.sees(shown['lost'])
     player.type('roll')
-    player.sees('refused 2 Offline')
+    player.sees(shown['offline'])
     player.type('open')
     server.accept()
     same('the player', server.log_in(), 'ann')
     player.listens()
     server.serve(game, 2)
-    player.sees(to_move)
+    player.sees(shown['move'])
     player.type('move 3-off 2-off')
     server.serve(game, 1)
-    player.sees(confirmed % 'move 3-off 2-off')
+    player.sees(shown['won'])
     player.type('bye')
     server.serve(game)
     player.sees('lost')
@@ -230,9 +237,16 @@ def plays_the_game(server, player, to_roll, to_move, confirmed):
         LOGIN, STYLE, 'board', 'move 3-off 2-off', 'bye'])
 
 
+def at_a_time(shown):
+    """The same with a time before each line of talk, and a port, that are always the same."""
+    shown = re.sub(r'^\d\d:\d\d (?=\S+ )', '20:15 ', shown, flags=re.M)
+    return re.sub(r'^connected to 127\.0\.0\.1:\d+$', 'connected to localhost:4321', shown, flags=re.M)
+
+
 def same_text(what, found, name):
     """It is the text of a file; the first line that differs is reported first."""
     wanted = (SCREENS / (name + '.txt')).read_text()
+    found = at_a_time(found)
     for number, pair in enumerate(zip(found.splitlines(), wanted.splitlines()), 1):
         same('line %d of %s' % (number, what), *pair)
     same(what, found, wanted)
@@ -245,7 +259,7 @@ def without_the_password(text):
 def a_game_from_login_to_its_end_with_fibs_play(server):
     player = Person(server)
     player.tells_the_password()
-    plays_the_game(server, player, TO_ROLL, TO_MOVE, CONFIRMED)
+    plays_the_game(server, player, AT_A_TERMINAL)
     without_the_password(player.screen())
     same('echo', player.echoes(), True)
     same_text('the whole screen', player.screen(), 'game')
@@ -253,7 +267,7 @@ def a_game_from_login_to_its_end_with_fibs_play(server):
 
 def the_same_game_through_a_pipe(server):
     player = Pipe(server)
-    plays_the_game(server, player, 'phase RollOrDouble\n', 'phase Move\n', 'confirmed %s\n')
+    plays_the_game(server, player, TO_A_PROGRAM)
     same_text('the whole account', player.seen.decode(), 'account')
 
 
@@ -264,12 +278,14 @@ def the_same_game_where_lines_are_edited(server):
     with tempfile.TemporaryDirectory() as home:
         player = Person(server, kind='xterm', RLWRAP_HOME=home, HOME=home)
         player.tells_the_password()
-        plays_the_game(server, player, TO_ROLL, TO_MOVE, CONFIRMED)
+        plays_the_game(server, player, AT_A_TERMINAL)
         kept = ''.join(path.read_text() for path in pathlib.Path(home).iterdir() if path.is_file())
     plain = re.sub(r'\x1b\[[0-9;?]*[a-zA-Z]|\r', '', player.screen())
     without_the_password(plain + kept)
     at = 0
     for line in (SCREENS / 'game.txt').read_text().splitlines():
+        # the port and the time are others each time
+        line = line.removesuffix('localhost:4321').removeprefix('20:15 ')
         found = plain.find(line, at)
         if found < 0:
             raise Failed('%r is not shown after %r' % (line, plain[:at][-200:]))
@@ -294,7 +310,7 @@ def words_are_completed(server):
         player.type_bytes(b' ro\t')
         player.sees(' roll')
         player.type('')
-        player.sees('refused 12 NotOrdered')
+        player.sees('[12 NotOrdered]')
         leaves(player, server)
 
 
@@ -411,7 +427,7 @@ def a_password_from_a_file(server):
         for held in (PASSWORD, PASSWORD + '\n', PASSWORD + '\r\n', PASSWORD + '\nroll\nsay hi\n'):
             pathlib.Path(path).write_text(held)
             terminal = at_a_terminal(server, '--password-file', path)
-            same('the screen', terminal.shown(), '')
+            same('the screen', at_a_time(terminal.shown()), 'connected to localhost:4321\n')
             leaves(greeted(server, terminal), server)
             server.received.clear()
             terminal.close()
@@ -450,7 +466,7 @@ def a_wrong_password(server):
     server.send('login: ', '** User not known or wrong password.')
     player.sees('** User not known or wrong password.')
     player.type('roll')
-    player.sees('refused 3 NotReady')
+    player.sees('[3 NotReady]')
     server.drop()
     player.sees('lost')
     player.type('quit')
@@ -513,16 +529,20 @@ def boards_of_every_malformed_kind(server):
         other = list(wrong)
         other[field - 1] = 'x y' if field < 4 else 'x'
         if field > 2:
-            rows.append((':'.join(wrong[:field - 1]), 'malformed 0 %d Missing' % field))
-        rows.append((':'.join(other), 'malformed 0 %d %s' % (field, 'BadName' if field < 4 else 'NotANumber')))
-    rows.append((BOARD + ':0', 'malformed 0 54 Extra'))
+            rows.append((':'.join(wrong[:field - 1]), 'field %d is missing [0 Missing]' % field))
+        fault = 'is no name or word [0 BadName]' if field < 4 else 'is no number [0 NotANumber]'
+        rows.append((':'.join(other), 'field %d %s' % (field, fault)))
+    rows.append((BOARD + ':0', 'field 54 is one too many [0 Extra]'))
     for field, name in (2, 'bob'), (46, '15'), (47, '15'):
         other = list(wrong)
         other[field - 1] = name
-        rows.append((':'.join(other), ':'.join(other)))
+        rows.append((':'.join(other), None))
     server.send(*(line for line, _ in rows), '12 bob done')
     player.sees('bob says: done')
-    same('the screen', player.screen().split('\n')[-len(rows) - 2:-2], [shown for _, shown in rows])
+    # each line is shown as it came, behind what is wrong with it
+    wanted = [shown for line, fault in rows
+              for shown in (*(["A board that can't be read: " + fault] if fault else []), line)]
+    same('the screen', player.screen().split('\n')[-len(wanted) - 2:-2], wanted)
     leaves(player, server)
 
 
@@ -620,7 +640,7 @@ def a_server_that_closes(server):
     for end in server.drop, server.reset, server.end_sending:
         player = greeted(server)
         end()
-        player.sees('lost\r\n')
+        player.sees('lost: open connects again, quit ends\r\n')
         same('no processor time after %s' % end.__name__, player.busy(2) < 0.05, True)
         player.type('open')
         server.accept()
@@ -741,8 +761,9 @@ def a_terminal_on_one_side_alone(server):
             typed.write('dance\n')
             player.sees('unknown')
         player.ends(0)
-        same('the screen', player.screen(),
-             'Welcome, ann. Last login: 1041253132 from localhost\nbob says: hi\nunknown\n')
+        same('the screen', at_a_time(player.screen()),
+             'connected to localhost:4321\nWelcome, ann. Last login: 30 December 2002, 12:58, from localhost.\n'
+             '20:15 bob says: hi\nunknown: help lists the words\n')
 
 
 CASES = [
