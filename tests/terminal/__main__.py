@@ -35,6 +35,8 @@ def main():
     words = sys.argv[2:]
     beside = stuck.SCENES + whole.SCENES + play.SCENES + logs.SCENES
     alone = hostile.SCENES + costs.SCENES
+    if words:
+        beside, alone = beside + stuck.WANTED, alone + costs.WANTED
     chosen = [[scene for scene in scenes if not words or any(word in scene.__name__ for word in words)]
               for scenes in (beside, alone)]
     failed = 0

@@ -76,10 +76,10 @@ def the_login_is_kept_without_its_password(server):
     program.stdin.write(b'\n')
     program.stdin.flush()
     same('the first command', server.line(), 'set boardstyle 3')
-    holds(path, WELCOME.encode(), b'set boardstyle 3')
-    printed, said = program.communicate(b'quit\n', timeout=PATIENCE)
+    holds(path, WELCOME.encode())
+    printed, said = program.communicate(b'say hi\nquit\n', timeout=PATIENCE)
     same('the end', (program.returncode, said), (0, b''))
-    held = pathlib.Path(path).read_bytes()
+    held = holds(path, WELCOME.encode(), b'say hi')
     same('the password is in none of them', PASSWORD.encode() in held + printed, False)
     done = subprocess.run([PROGRAM, 'connect', '--log', ROOM.name, '--password-file', PASSWORD_FILE, '127.0.0.1', '1',
                            'ann'], input=b'quit\n', capture_output=True, timeout=PATIENCE, check=False)

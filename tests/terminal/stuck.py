@@ -245,18 +245,37 @@ def a_double_of_the_opponent(table):
     ann.was_not_refused()
 
 
-def a_wrong_password():
-    """The server asks for the login again, and says nothing else."""
-    server = Served('--account', 'ann:' + PASSWORD[::-1])
-    try:
-        ann = Person(server.port)
-        ann.reads('Not logged in: wrong name or password? quit, and begin again.')
-        ann.type('quit')
-        ann.ends(0)
-        ann.was_not_refused()
-        ann.close()
-    finally:
-        server.close()
+NOT_IN = 'Not logged in: wrong name or password? quit, and begin again.'
+
+
+def with_a_wrong_password(does):
+    """A decorator: ann has given a wrong password; the server asks for the login again, and says nothing else."""
+    def scene():
+        server = Served('--account', 'ann:' + PASSWORD[::-1])
+        try:
+            ann = Person(server.port)
+            ann.reads('Welcome to a server')
+            does(ann)
+            ann.type('quit')
+            ann.ends(0)
+            ann.close()
+        finally:
+            server.close()
+    scene.__name__ = does.__name__
+    return scene
+
+
+@with_a_wrong_password
+def a_wrong_password(ann):
+    """What she types then is answered by what is wrong."""
+    ann.type('roll')
+    ann.reads(NOT_IN)
+
+
+@with_a_wrong_password
+def a_wrong_password_at_rest(ann):
+    """It is said without a line being typed."""
+    ann.reads(NOT_IN, seconds=10)
 
 
 @at_a_table(*BEGINS)
@@ -298,3 +317,6 @@ SCENES = [
     the_opponents_resignation_is_rejected, what_the_client_takes_is_not_sent_as_it_is, a_double_of_the_opponent,
     a_wrong_password, a_connection_that_ends, no_server,
 ]
+
+# What the program does not do yet: played where it is named.
+WANTED = [a_wrong_password_at_rest]
