@@ -51,9 +51,9 @@ field_values =
     ++ replicate 2 (Between (pos 0) (pos 99999999))
     -- 7 to 32: places 0 to 25, O's checkers positive and X's negative
     ++ replicate 26 place
-    -- 33: turn, -1 for X, 1 for O, 0 where the game is over
+    -- 33: turn, -1 for X, 1 for O, 0 if the game is over
     ++ (Between (negsuc 0) (pos 1) ∷ [])
-    -- 34 to 37: the player's dice, the opponent's, 0 where there are none
+    -- 34 to 37: the player's dice, the opponent's, 0 if there are none
     ++ replicate 4 (Between (pos 0) (pos 6))
     -- 38: the doubling cube
     ++ (Between (pos 1) (pos 1048576) ∷ [])
@@ -99,7 +99,7 @@ is_board b = is_name b.player && (is_name b.opponent && fit field_values b.numbe
 abbrev pub field_of : BoardFields → ℕ → ℤ
 field_of b n = slice_index_or b.numbers (n - 4) (pos 0)
 
--- an entry of the table allows the number, where there is one
+-- an entry of the table allows the number, if there is one
 abbrev pub allowed_by : Option Values → ℤ → Bool
 allowed_by None z = false
 allowed_by (Some values) z = allows values z
@@ -108,7 +108,7 @@ allowed_by (Some values) z = allows values z
 abbrev pub can_have : ℕ → ℤ → Bool
 can_have n z = nat_le 4 n && allowed_by (slice_get field_values (n - 4)) z
 
--- the board with the number of field n changed, where the field may have it
+-- the board with the number of field n changed, if the field may have it
 abbrev pub with_field : BoardFields → ℕ → ℤ → Option BoardFields
 with_field b n z = cond (can_have n z) (Some (record b { numbers = slice_set b.numbers (n - 4) z })) None
 

@@ -7,7 +7,7 @@ use Rattle.fibs_fields.specs.declared.fault.Fault.{Fault}
 use Rattle.fibs_fields.specs.declared.fault.Fault.TheVariants.{Extra}
 use Rattle.fibs_fields.specs.declared.fault.FieldFault.{FieldFault}
 
--- the pieces that are left, where none is left after the last
+-- the pieces that are left, of which none is left after the last
 abbrev pub pieces_of : Option (List ℕ) → List (List ℕ)
 pieces_of None = []
 pieces_of (Some rest) = pieces rest
@@ -16,12 +16,12 @@ pieces_of (Some rest) = pieces rest
 abbrev pub pieces_left : Left → List (List ℕ)
 pieces_left l = pieces_of l.rest
 
--- the fault of field n, where it has one, else a later one
+-- the fault of field n, if it has one, else a later one
 abbrev pub fault_or : ℕ → Option Fault → Option FieldFault → Option FieldFault
 fault_or n None later = later
 fault_or n (Some f) later = Some (record { field = n; fault = f })
 
--- the first fault of the pieces against their kinds, where the first of them is field n
+-- the first fault of the pieces against their kinds, if the first of them is field n
 abbrev pub first_fault : ℕ → List Kind → List (List ℕ) → Option FieldFault
 first_fault n [] [] = None
 first_fault n [] (p ∷ ps) = Some (record { field = n; fault = Extra })

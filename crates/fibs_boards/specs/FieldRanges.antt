@@ -2,7 +2,7 @@
 use Rattle.std.specs.Prelude.{◌≡◌, ◌↔◌, ◌⊎◌, ◌≤◌, ◌≤ℤ◌, ◌-◌, ℕ, ℤ, pos, negsuc, true, length, slice_set}
 use Rattle.fibs_boards.specs.Board.{BoardFields, IsBoard, can_have, field_of}
 
--- field n may have z exactly where P holds
+-- field n may have z exactly if P holds
 abbrev pub Exactly : ℕ → ℤ → Type 0 → Type 0
 Exactly n z P = (can_have n z ≡ true) ↔ P
 

@@ -60,9 +60,9 @@ impl Board {
 
     /// The board that the line says, or its leftmost wrong field.
     ///
-    /// Spaces at the line's end are dropped, and the fields are parted by colons. Field 1 is `BadName` where it is not
-    /// `board`, fields 2 and 3 where they are no names. A number is `NotANumber` where it is no canonical decimal (`0`,
-    /// or digits that begin with no 0, with a `-` or without), and `OutOfRange` where it is one, of any length, that
+    /// Spaces at the line's end are dropped, and the fields are parted by colons. Field 1 is `BadName` if it is not
+    /// `board`, fields 2 and 3 if they are not names. A number is `NotANumber` if it is not a canonical decimal (`0`,
+    /// or digits that begin with no 0, with a `-` or without), and `OutOfRange` if it is one, of any length, that
     /// the field may not have. The first absent field is `Missing`, a 54th is `Extra`.
     pub fn read(line: &[u8]) -> Result<Board, FieldFault>
         // What is read is what the line says.
@@ -90,7 +90,7 @@ impl Board {
         out
     }
 
-    /// Appends the line that says the board, without a line end. Where `print` gives a text by value, this makes no
+    /// Appends the line that says the board, without a line end. `print` gives a text by value; this makes no
     /// copy of one.
     ///
     /// A refusal of memory leaves `out` as it was.
@@ -116,7 +116,7 @@ impl Board {
         )
     }
 
-    /// The player's name, `You` where one plays oneself.
+    /// The player's name, `You` if one plays oneself.
     pub fn player(&self) -> Name<'_>
         ensures value { name_bytes result ≡ (fields_of self.now).player }
         ensures valid { is_name (fields_of self.now).player ≡ true }
@@ -150,7 +150,7 @@ impl Board {
         self.numbers[n - 4]
     }
 
-    /// The board with the number of field `n` changed. None where `n` is not 4 to 53, or the field can't have the
+    /// The board with the number of field `n` changed. None if `n` is not 4 to 53, or the field can't have the
     /// number.
     pub fn with(&self, n: usize, value: i32) -> Option<Board>
         ensures value { option_map fields_of result ≡ with_field (fields_of self.now) n value }
@@ -159,7 +159,7 @@ impl Board {
             field_of (fields_of b) m ≡ field_of (fields_of self.now) m) }
         ensures names { IfSome result (λ b. ((fields_of b).player ≡ (fields_of self.now).player)
             × ((fields_of b).opponent ≡ (fields_of self.now).opponent)) }
-        // It is Some exactly where the table of the fields allows the number; group by group:
+        // It is Some exactly if the table of the fields allows the number; group by group:
         ensures exact { IsSome result ↔ ((4 ≤ n) × (n ≤ 53) × (can_have n value ≡ true)) }
         ensures places { 7 ≤ n → n ≤ 32 → (IsSome result ↔ ((negsuc 14 ≤ℤ value) × (value ≤ℤ pos 15))) }
         ensures turn { n ≡ 33 → (IsSome result ↔ ((negsuc 0 ≤ℤ value) × (value ≤ℤ pos 1))) }

@@ -25,7 +25,7 @@ fn check_numbers(fields: &mut Fields<'_>) -> Result<(), FieldFault>
     fields.end(54)
 }
 
-/// The line without the spaces at its end, where its fields are those of a board, or the leftmost wrong field.
+/// The line without the spaces at its end, if its fields are those of a board, or the leftmost wrong field.
 fn check_fields(line: &[u8]) -> Result<&[u8], FieldFault>
     ensures kept { IfOk (line_checked result) (λ text. text ≡ without_spaces line.now) }
     ensures fault { first_fault 1 kinds (pieces (without_spaces line.now)) ≡ result_err (line_checked result) }

@@ -28,7 +28,7 @@ fn write_magnitude(text: &mut [u8; LINE_LEN], end: usize, magnitude: u32) -> usi
 
 /// Writes a colon and the number so that they end before `end`, and gives where they start.
 ///
-/// The minus sign is always written: where the number has none, the colon takes its place.
+/// The minus sign is always written: if the number has none, the colon takes its place.
 #[inline(always)]
 fn write_number(text: &mut [u8; LINE_LEN], end: usize, number: i32) -> usize
     requires room { 1 + length (signed_decimal number) ≤ end }

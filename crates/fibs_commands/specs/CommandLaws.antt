@@ -94,7 +94,7 @@ PlainIsOther = (plain : PlainValue) → plain_fault_of plain ≡ None → IsOthe
 abbrev pub LoginIsOther : Type 0
 LoginIsOther = (name password : List ℕ) → IsLogin name password → IsOther (login_text name password)
 
--- the command that asks for board style 3 is none
+-- the command that asks for board style 3 is not a decision's
 abbrev pub StyleIsOther : Type 0
 StyleIsOther = IsOther style_text
 

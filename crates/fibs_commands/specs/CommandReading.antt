@@ -49,7 +49,7 @@ abbrev pub step_then : Option Hop → Option (List Hop) → Option (List Hop)
 step_then None steps = None
 step_then (Some step) steps = option_map (λ later. step ∷ later) steps
 
--- the steps of some words, where each word is one
+-- the steps of some words, if each word is one
 abbrev pub steps_in : Direction → List (List ℕ) → Option (List Hop)
 steps_in direction [] = Some []
 steps_in direction (word ∷ words) = step_then (step_in direction word) (steps_in direction words)
@@ -59,7 +59,7 @@ unfoldable pub play_from : Direction → List Hop → List (List ℕ) → Option
 play_from direction steps words =
     cond (nat_le (length steps + length words) 4) (option_map (λ later. steps ++ later) (steps_in direction words)) None
 
--- the words between the spaces of what follows a space, where there is one
+-- the words between the spaces of what follows a space, if there is one
 abbrev pub words_after : Option (List ℕ) → List (List ℕ)
 words_after None = []
 words_after (Some rest) = slice_split (λ b. b == 32) rest
@@ -71,7 +71,7 @@ stake_in letter =
     (cond (bytes_eq letter (codes "g")) (Some Gammon)
     (cond (bytes_eq letter (codes "b")) (Some Backgammon) None))
 
--- the stake of what follows a space, where there is one
+-- the stake of what follows a space, if there is one
 abbrev pub stake_after : Option (List ℕ) → Option Stake
 stake_after None = None
 stake_after (Some rest) = stake_in rest
@@ -84,7 +84,7 @@ turn_in word =
     (cond (bytes_eq word (codes "accept")) (Some accept)
     (cond (bytes_eq word (codes "reject")) (Some reject) None)))
 
--- the decision of a word behind which nothing stands
+-- the decision of a word that nothing follows
 abbrev pub turn_alone : List ℕ → Option (List ℕ) → Option DecisionValue
 turn_alone word None = turn_in word
 turn_alone word (Some rest) = None

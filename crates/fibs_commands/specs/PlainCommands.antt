@@ -62,7 +62,7 @@ first_of (Some fault) later = Some fault
 abbrev pub name_fault : List ℕ → Option PlainFault
 name_fault name = cond (is_name name) None (Some BadName)
 
--- what is wrong with a text: it has more than 400 bytes, or is none of printed bytes
+-- what is wrong with a text: it has more than 400 bytes, or does not consist of printed bytes
 abbrev pub text_fault : List ℕ → Option PlainFault
 text_fault text = cond (nat_le (length text) 400) (cond (is_printed text) None (Some BadText)) (Some TooLong)
 
@@ -70,7 +70,7 @@ text_fault text = cond (nat_le (length text) 400) (cond (is_printed text) None (
 abbrev pub points_fault : ℕ → Option PlainFault
 points_fault points = cond (nat_le points 65535) None (Some TooLong)
 
--- what is wrong with a plain command, where it has no text: its name goes before its text
+-- what is wrong with a plain command, if it has no text: its name goes before its text
 unfoldable pub plain_fault_of : PlainValue → Option PlainFault
 plain_fault_of (say text) = text_fault text
 plain_fault_of (tell name text) = first_of (name_fault name) (text_fault text)

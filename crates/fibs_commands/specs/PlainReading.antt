@@ -13,7 +13,7 @@ use Rattle.fibs_commands.specs.PlainCommands.{automove_off, greedy_off, bye}
 abbrev pub NoSpace : List ℕ → Type 0
 NoSpace name = All (λ byte. byte ≢ 32) name
 
--- a text, and how it stands behind what comes before it: not at all, which is the empty text, or as all that follows a
+-- a text, and how it follows what comes before it: not at all, which is the empty text, or as all that follows a
 -- space
 pub data TextField : List ℕ → List ℕ → Type 0 where
   no_text : TextField [] []
@@ -25,7 +25,7 @@ pub data NameAndText : List ℕ → List ℕ → List ℕ → Type 0 where
   name_then : {name text rest : List ℕ} → NoSpace name → TextField text rest
       → NameAndText name text (32 ∷ (name ++ rest))
 
--- the text is read as this command: its first word tells which, a space begins a next field, and no field is left over
+-- the text is read as this command: its first word says which, a space begins a next field, and no field is left over
 pub data ReadsAs : List ℕ → PlainValue → Type 0 where
   reads_board : ReadsAs (codes "board") board_again
   reads_who : ReadsAs (codes "who") who
@@ -65,7 +65,7 @@ abbrev pub after_name : Option (List ℕ) → Option (List ℕ)
 after_name None = None
 after_name (Some rest) = after 32 rest
 
--- a word that stands alone
+-- a word alone
 unfoldable pub alone_in : List ℕ → Option (List ℕ) → Option PlainValue
 alone_in word (Some rest) = None
 alone_in word None =

@@ -54,7 +54,7 @@ fn read_step(word: &[u8], direction: Direction) -> Option<Step>
     Step::new(source, target)
 }
 
-/// The play of the words in what follows the word `move` and a space, where there is something.
+/// The play of the words in what follows the word `move` and a space, if there is something.
 fn read_play(words: Option<&[u8]>, direction: Direction) -> Option<Play>
     ensures { option_map hops_of result ≡ play_from direction [] (words_after (seen words.entry)) }
 {
@@ -123,7 +123,7 @@ fn read_words(text: &[u8], direction: Direction) -> Option<Decision>
     }
 }
 
-/// The decision whose command the text is, without its line end, where it is one. The places are in the server's
+/// The decision whose command the text is, without its line end, if it is one. The places are in the server's
 /// numbers, for a player who goes in this direction.
 pub fn read_command(text: &[u8], direction: Direction) -> Option<Decision>
     ensures exact { (d : DecisionValue) → (option_map decision_of result ≡ Some d) ↔ ReadCommand text.now direction d }

@@ -37,7 +37,7 @@ pub fn plain_in_both_directions()
 {}
 
 /// Which decision a command is, said by the function, is what the relation says: a text is read as a decision exactly
-/// where it is the command of that one.
+/// if it is the command of that one.
 pub fn read_command_is_exact()
     ensures { ReadCommandIsExact }
 {
@@ -108,7 +108,7 @@ pub fn login_is_other()
     logins_are_sent();
 }
 
-/// The command that follows the welcome is none.
+/// The command that follows the welcome is not a decision's.
 pub fn style_is_other()
     ensures { StyleIsOther }
 {
@@ -116,7 +116,7 @@ pub fn style_is_other()
     first_are_sent();
 }
 
-/// The commands that follow the first settings are none.
+/// The commands that follow the first settings are not a decision's.
 pub fn initial_are_other()
     ensures { InitialAreOther }
 {
@@ -129,21 +129,21 @@ pub fn logins_are_valid()
     ensures { (login : Login) → IsLogin (name_of login) (password_of login) }
 {}
 
-/// Texts are equal exactly where their bytes are.
+/// Texts are equal exactly if their bytes are.
 pub fn texts_are_their_bytes(a: &CommandText, b: &CommandText) -> bool
     ensures { IsTrue result ↔ (text_of a.now ≡ text_of b.now) }
 {
     *a == *b
 }
 
-/// Plain commands are equal exactly where they say the same.
+/// Plain commands are equal exactly if they say the same.
 pub fn plain_commands_are_what_they_say(a: &Plain<'_>, b: &Plain<'_>) -> bool
     ensures { IsTrue result ↔ (plain_value a.now ≡ plain_value b.now) }
 {
     *a == *b
 }
 
-/// Faults are equal exactly where they are one.
+/// Faults are equal exactly if they are one.
 pub fn plain_faults_are_told(a: PlainFault, b: PlainFault) -> bool
     ensures { IsTrue result ↔ (a ≡ b) }
 {

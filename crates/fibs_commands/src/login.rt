@@ -73,8 +73,8 @@ impl Login {
 
     /// The login of a name and a password.
     ///
-    /// The first fault of: `BadName`, where the name is none; `TooLong`, where the password has more than 64 bytes;
-    /// `BadText`, where it has none, or one outside 33 to 126.
+    /// The first fault of: `BadName`, if the name is not valid; `TooLong`, if the password has more than 64 bytes;
+    /// `BadText`, if it has no byte, or one outside 33 to 126.
     #[tactic(auto, unfolding(crate::specs::Logins::login_fault))]
     pub fn new(name: &[u8], password: &[u8]) -> Result<Login, PlainFault>
         ensures name { IfOk result (λ login. name_of login ≡ name.now) }

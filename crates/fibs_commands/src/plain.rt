@@ -39,9 +39,9 @@ pub enum Plain<'a> {
     Join(Option<&'a [u8]>),
     /// `toggle ready`: whether the user is ready to play.
     ToggleReady,
-    /// `toggle automove`: sent where it is on.
+    /// `toggle automove`: sent if it is on.
     AutomoveOff,
-    /// `toggle greedy`: sent where it is on.
+    /// `toggle greedy`: sent if it is on.
     GreedyOff,
     /// `bye`: the user leaves.
     Bye,
@@ -50,9 +50,9 @@ pub enum Plain<'a> {
 /// What is wrong with a plain command or a login.
 #[derive(Clone, Copy, Debug, PartialEq, Eq)]
 pub enum PlainFault {
-    /// The name is none.
+    /// The name is not valid.
     BadName,
-    /// The text is empty, or has a byte that may not stand in it.
+    /// The text is empty, or has a byte that may not be in it.
     BadText,
     /// The text has too many bytes.
     TooLong,
@@ -175,8 +175,8 @@ fn with_points(name: &[u8], points: u16) -> Result<CommandText, PlainFault>
 /// The text of a plain command: the word in small letters, then the name, the points and the text, each after one
 /// space.
 ///
-/// The first fault of: `BadName`, where a name is none; `TooLong`, where a text has more than 400 bytes; `BadText`,
-/// where it has none, or one outside 32 to 126.
+/// The first fault of: `BadName`, if a name is not valid; `TooLong`, if a text has more than 400 bytes; `BadText`,
+/// if it has no byte, or one outside 32 to 126.
 #[tactic(auto, unfolding(crate::specs::PlainCommands::plain_of, crate::specs::PlainCommands::plain_fault_of))]
 pub fn plain_text(plain: &Plain<'_>) -> Result<CommandText, PlainFault>
     ensures text { IfOk result (λ command. text_of command ≡ plain_of (plain_value plain.now)) }

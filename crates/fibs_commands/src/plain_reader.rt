@@ -13,14 +13,14 @@ use crate::laws::read_plain_is_exact;
 use fibs_fields::decimal::read_decimal;
 use fibs_fields::split::split;
 
-/// The text behind a word or a name: the empty one where there is none.
+/// The text after a word or a name: the empty one if there is no text.
 fn text_in(rest: Option<&[u8]>) -> &[u8]
     ensures { result.now ≡ text_in (seen rest.entry) }
 {
     rest.unwrap_or(b"")
 }
 
-/// The name behind a word, which ends at the next space, and what follows that. The name is empty where there is none.
+/// The name after a word, which ends at the next space, and what follows that. The name is empty if there is none.
 fn name_in(rest: Option<&[u8]>) -> (&[u8], Option<&[u8]>)
     ensures name { result.0.now ≡ name_in (seen rest.entry) }
     ensures after { seen result.1 ≡ after_name (seen rest.entry) }
@@ -31,7 +31,7 @@ fn name_in(rest: Option<&[u8]>) -> (&[u8], Option<&[u8]>)
     }
 }
 
-/// A word that stands alone.
+/// A word alone.
 #[tactic(auto, unfolding(crate::specs::PlainReading::alone_in))]
 fn read_alone<'a>(word: &[u8], rest: Option<&[u8]>) -> Option<Plain<'a>>
     ensures { option_map plain_value result ≡ alone_in word.now (seen rest.entry) }
@@ -158,13 +158,13 @@ fn read_fields<'a>(word: &[u8], rest: Option<&'a [u8]>) -> Option<Plain<'a>>
     }
 }
 
-/// The plain command that a text is, without its line end. None where it is none.
+/// The plain command that a text is, without its line end. None if it is not one.
 ///
-/// The first word tells which command it is. A space behind a word or a name begins a next field, which may be empty: a
+/// The first word says which command it is. A space after a word or a name begins a next field, which may be empty: a
 /// name ends at the next space, a text is the rest, and an absent name or text is the empty one, but for `join`, which
 /// needs none. The points of an invitation are a decimal from 0 to 65535 without leading zero. A text with another
-/// first word, a field too many, points that are none, or another word behind `toggle` is no plain command. What stands
-/// in names and texts is not looked at: `plain_text` tells.
+/// first word, a field too many, points that are not a number, or another word after `toggle` is no plain command. What
+/// is in names and texts is not checked here: `plain_text` does that.
 #[tactic(auto, unfolding(crate::specs::PlainReading::read_plain))]
 pub fn read_plain(text: &[u8]) -> Option<Plain<'_>>
     ensures exact { (plain : PlainValue) → (option_map plain_value result ≡ Some plain) ↔ ReadsAs text.now plain }

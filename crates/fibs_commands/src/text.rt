@@ -10,7 +10,7 @@ use std::str;
 
 /// A command to the server: a text of at most 512 bytes, without its line end. On the wire it is followed by CR LF.
 ///
-/// Texts are equal where their bytes are.
+/// Texts are equal if their bytes are.
 pub type CommandText = ArrayString<512>;
 
 /// A command by which a client answers a line of the server: a text of at most 24 bytes, without its line end.

@@ -1,4 +1,4 @@
--- The directory of a list of messages: what messages 5 and 8 (CLIP 1008) tell of players.
+-- The directory of a list of messages: what messages 5 and 8 (CLIP 1008) say of players.
 -- That these two keep a directory, and in which order, is the project's own choice.
 pub mod View
 pub mod Steps
@@ -14,12 +14,12 @@ use Rattle.fibs_messages.specs.Message.{MessageValue}
 abbrev pub directory_limit : ℕ
 directory_limit = 4096
 
--- the name that stands first in a list of fields
+-- the name that is first in a list of fields
 abbrev pub first_name : List FieldValue → List ℕ
 first_name (NameField name ∷ fields) = name
 first_name fields = []
 
--- the name that a message begins with: the player of whom messages 5 and 8 tell
+-- the name that a message begins with: the player that messages 5 and 8 are about
 abbrev pub name_of : MessageValue → List ℕ
 name_of message = first_name message.fields
 
@@ -35,7 +35,7 @@ tells name message = message.number == 5 && is_of name message
 abbrev pub logs_out : List ℕ → MessageValue → Bool
 logs_out name message = message.number == 8 && is_of name message
 
--- what came after the last message 8 of a name: all, where there is none
+-- what came after the last message 8 of a name: all, if there is none
 abbrev pub since_logout : List ℕ → List MessageValue → List MessageValue
 since_logout name messages = after_last (logs_out name) messages
 
@@ -43,7 +43,7 @@ since_logout name messages = after_last (logs_out name) messages
 abbrev pub last_told : List ℕ → List MessageValue → Option MessageValue
 last_told name messages = last_or None (filter (tells name) (since_logout name messages))
 
--- where the first message 5 of a name since then stands in the list
+-- the place in the list of the first message 5 of a name since then
 abbrev pub first_place : List ℕ → List MessageValue → ℕ
 first_place name messages =
     let since = since_logout name messages in
@@ -57,5 +57,5 @@ entry_of name entries = find (is_of name) entries
 pub record IsDirectory (messages entries : List MessageValue) : Type 0 where
   -- each name with a message 5 after its last message 8 has its last message 5 as entry, and no other name has one
   pub each : (name : List ℕ) → entry_of name entries ≡ last_told name messages
-  -- they stand in the order of each name's first message 5 since then, so that no name has two
+  -- they are in the order of each name's first message 5 since then, so that no name has two
   pub order : AllPairs (λ a b. first_place a messages < first_place b messages) (map name_of entries)

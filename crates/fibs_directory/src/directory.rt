@@ -1,4 +1,4 @@
-//! The players of whom the server told.
+//! The players that the server listed.
 
 ghost use Rattle.std.specs.Prelude.{◌≡◌, ◌≢◌, ◌≤◌, ◌↔◌, ◌++◌, ◌∷◌, [], List, None, false, length, slice_get, OnOk};
 ghost use Rattle.std.specs.Prelude.{OnErr, IsOk, IsErrOf, IsTrue};
@@ -19,9 +19,9 @@ use std::marker::Model;
 /// How many names a directory holds at most. The definitions have the same number once more.
 const MOST_PLAYERS: usize = 4096;
 
-/// The players of whom the server told in messages 5, until it told of their logout in a message 8.
+/// The players that the server listed in messages 5, until it reported their logout in a message 8.
 ///
-/// They stand in the order in which each was first told of since the last logout of that name. What is kept of a player
+/// They are in the order in which each was first listed since the last logout of that name. What is kept of a player
 /// is the last message. The map hashes by a fixed seed, so that each run goes alike.
 #[derive(Drop)]
 pub struct Directory {
@@ -90,10 +90,10 @@ impl Directory {
         self.players.clear();
     }
 
-    /// Takes note of a message: message 5 sets the player of its name, who keeps the place, or goes last where the name
+    /// Takes note of a message: message 5 sets the player of its name, who keeps the place, or goes last if the name
     /// is new. Message 8 takes the player of its name out, and those after it move up. All others change nothing.
     ///
-    /// Errors, after which the directory is as before: `Full` for a new name where there are 4096, then `Memory`.
+    /// Errors, after which the directory is as before: `Full` for a new name if there are 4096, then `Memory`.
     pub fn note(&mut self, message: &Message<'_>) -> Result<(), DirectoryFault>
         ensures noted { OnOk result ((messages : List MessageValue) → IsDirectory messages self.old →
             IsDirectory (messages ++ message_of message.now ∷ []) self.new) }

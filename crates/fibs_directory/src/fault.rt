@@ -6,12 +6,12 @@ ghost use Rattle.fibs_directory.specs.declared.fault.DirectoryFault.TheVariants.
 use std::alloc::{AllocError, AllocFailed};
 use std::fmt;
 
-/// Why a directory took no note of a message. `Full` is told before `Memory`.
+/// Why a directory took no note of a message. `Full` is answered before `Memory`.
 #[derive(Clone, Copy, Debug, PartialEq, Eq)]
 pub enum DirectoryFault {
     /// Memory ran out.
     Memory,
-    /// The message tells of a new name, and there are 4096 already.
+    /// The message lists a new name, and there are 4096 already.
     Full,
 }
 

@@ -1,4 +1,4 @@
-//! The directory of the players of whom a server told.
+//! The directory of the players that a server listed.
 #![tactic(auto)]
 
 mod directory;

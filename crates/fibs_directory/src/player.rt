@@ -6,7 +6,7 @@ ghost use Rattle.fibs_messages.specs.Message.{message, who_info_fields};
 use fibs_messages::WhoInfo;
 use std::alloc::{AllocError, Global};
 
-/// What the server last told of a player, copied from its message.
+/// What the server last said of a player, copied from its message.
 #[derive(Debug, Drop)]
 pub struct Player {
     /// The player's name.
@@ -29,7 +29,7 @@ pub struct Player {
     pub login: u64,
     /// Where the player logged in from.
     pub hostname: Vec<u8>,
-    /// The program that the player uses, `-` where it is not known.
+    /// The program that the player uses, `-` if it is not known.
     pub client: Vec<u8>,
     /// The address of mail, `-` for none.
     pub email: Vec<u8>,
@@ -38,7 +38,7 @@ pub struct Player {
 impl Player {
     ghost use Rattle.fibs_directory.specs.Directory.View.{player_value};
 
-    /// A copy of what a message tells.
+    /// A copy of what a message says.
     pub fn copied(alloc: Global, info: &WhoInfo<'_>) -> Result<Player, AllocError>
         ensures { IfOk result (λ player. player_value player ≡ message 5 (who_info_fields info.now)) }
     {

@@ -12,7 +12,7 @@ abbrev pub progress_of : Result ⊤ declared.Broken → Progress
 progress_of (Ok done) = Whole
 progress_of (Err why) = Broken
 
--- What a writer holds is Some list where it tells its bytes, and None where it tells nothing: of the latter the next
+-- What a writer holds is Some list if the prover knows its bytes, and None if it knows nothing: of the latter the next
 -- two say nothing.
 
 -- a writer gained a front of the bytes, and at least one of them is missing
@@ -20,7 +20,7 @@ abbrev pub GainedFront : Option (List ℕ) → Option (List ℕ) → List ℕ �
 GainedFront held now bytes =
     (front rest : List ℕ) × (missing : ℕ) × (bytes ≡ front ++ (missing ∷ rest)) × Appends held now front
 
--- a writer gained all the bytes; or, where a write failed, a front of them
+-- a writer gained all the bytes; or, if a write failed, a front of them
 abbrev pub Wrote : Progress → Option (List ℕ) → Option (List ℕ) → List ℕ → Type 0
 Wrote Whole held now bytes = Appends held now bytes
 Wrote Broken held now bytes = GainedFront held now bytes

@@ -17,7 +17,7 @@ fn is_escaped(byte: u8) -> bool
     byte < 32 || 126 < byte || byte == b'\\'
 }
 
-/// Where the first byte stands that is not shown as it is.
+/// The place of the first byte that is not shown as it is.
 fn first_escaped(bytes: &[u8]) -> Option<usize>
     ensures { result ≡ position is_escaped bytes.now }
 {
@@ -93,7 +93,7 @@ fn append_runs(bytes: &[u8], text: &mut Vec<u8>) -> Result<(), AllocError>
     write_escaped(bytes, text).map_err(|_| AllocError)
 }
 
-/// Appends the bytes, each that is not shown as it is by its escape. Where none is, which is the rule, it appends all
+/// Appends the bytes, each that is not shown as it is by its escape. If none is, which is the rule, it appends all
 /// at once.
 pub fn append_escaped(bytes: &[u8], text: &mut Vec<u8>) -> Result<(), AllocError>
     ensures { OnOk result (text.new.items ≡ text.old.items ++ escaped bytes.now) }
@@ -105,7 +105,7 @@ pub fn append_escaped(bytes: &[u8], text: &mut Vec<u8>) -> Result<(), AllocError
     }
 }
 
-/// Escapes the bytes of the text from `start` on. Where none needs it, which is the rule, the text stays as it is.
+/// Escapes the bytes of the text from `start` on. If none needs it, which is the rule, the text stays as it is.
 pub fn escape_from(alloc: Global, start: usize, text: &mut Vec<u8>) -> Result<(), AllocError>
     requires { start ≤ length text.old.items }
     ensures { OnOk result (text.new.items ≡ take start text.old.items ++ escaped (drop start text.old.items)) }

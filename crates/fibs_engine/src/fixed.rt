@@ -13,7 +13,7 @@ pub fn append<const N: usize>(text: &mut ArrayVec<u8, N>, bytes: &[u8])
     let _fits = text.try_extend_from_slice(bytes);
 }
 
-/// Appends a number where there is room for the longest of its type.
+/// Appends a number if there is room for the longest of its type.
 pub fn append_number<I: Integer, const N: usize>(text: &mut ArrayVec<u8, N>, number: I)
     requires { array_vec_len text.old + I.MAX_STR_LEN ≤ N }
     ensures text { text.new.items ≡ text.old.items ++ I.text number }

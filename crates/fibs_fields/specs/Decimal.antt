@@ -38,7 +38,7 @@ decimal_value text =
     (cond (is_positive (drop 1 text)) (Some (neg_ℤ (pos (digits_value 10 (drop 1 text))))) None)
     (cond (is_zero text || is_positive text) (Some (pos (digits_value 10 text))) None)
 
--- the number of a canonical decimal without sign, where it is not above the limit
+-- the number of a canonical decimal without sign, if it is not above the limit
 unfoldable pub decimal_up_to : ℕ → List ℕ → Option ℕ
 decimal_up_to limit text =
     cond ((is_zero text || is_positive text) && nat_le (digits_value 10 text) limit) (Some (digits_value 10 text)) None

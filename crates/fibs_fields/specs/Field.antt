@@ -102,7 +102,7 @@ flag_values = Between (pos 0) (pos 1)
 abbrev pub number_values : Values
 number_values = Between (pos 0) (pos (numbers_of_64_bits - 1))
 
--- a text that is no name, or not the word that has to stand there
+-- a text that is not a name, or not the word that has to be there
 abbrev pub bad_name_unless : Bool → Option Fault
 bad_name_unless good = cond good None (Some BadName)
 
@@ -118,7 +118,7 @@ fault_in a_number text = result_err (number_in number_values text)
 fault_in a_rating text = result_err (rating_in text)
 fault_in a_text text = None
 
--- the texts that stand where the fields are, each up to the next separator; a tail and a text are all that is left,
+-- the texts at the places of the fields, each up to the next separator; a tail and a text are all that is left,
 -- and what is left after the last field is one text more
 abbrev pub texts_for : List Kind → ℕ → Option (List ℕ) → List (List ℕ)
 texts_for ks separator None = []

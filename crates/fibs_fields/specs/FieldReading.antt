@@ -28,13 +28,13 @@ left_of f = record { separator = f.separator; rest = seen f.rest }
 abbrev pub left : ℕ → Option (List ℕ) → Left
 left c rest = record { separator = c; rest = rest }
 
--- one step, and then another where the first did not fail
+-- one step, and then another if the first did not fail
 infixl 10 ◌>>=◌
 abbrev pub ◌>>=◌ : {A B E : Type 0} → Result A E → (A → Result B E) → Result B E
 (Ok x) >>= f = f x
 (Err e) >>= f = Err e
 
--- a value where a test passes, and else no name
+-- a value if a test passes, and else no name
 abbrev pub good : {A : Type 0} → Bool → A → Result A Fault
 good test value = cond test (Ok value) (Err BadName)
 
@@ -59,7 +59,7 @@ value_in a_text text = Ok (TextField text)
 abbrev pub fault_of_field : {A : Type 0} → ℕ → Fault → Result A FieldFault
 fault_of_field i f = Err (record { field = i; fault = f })
 
--- the same, where something is wrong
+-- the same, if something is wrong
 abbrev pub numbered : {A : Type 0} → ℕ → Result A Fault → Result A FieldFault
 numbered i (Ok x) = Ok x
 numbered i (Err f) = fault_of_field i f

@@ -23,7 +23,7 @@ pub record RatingText (rating : ℕ) (text : List ℕ) : Type 0 where
   pub text_is : text ≡ decimal whole ++ fraction
   pub rating_is : rating ≡ 100 * whole + hundreds
 
--- what stands after the point is one digit or two, or there is no point
+-- what comes after the point is one digit or two, or there is no point
 abbrev pub is_fraction : Option (List ℕ) → Bool
 is_fraction None = true
 is_fraction (Some []) = false

@@ -1,4 +1,4 @@
-//! The dash that stands for none.
+//! The dash that means that there is none.
 
 ghost use Rattle.std.specs.Prelude.{◌≡◌, IsTrue, ◌↔◌, codes};
 

@@ -21,7 +21,7 @@ fn are_digits(text: &[u8]) -> bool
     text.iter().all(u8::is_ascii_digit)
 }
 
-/// How many digits stand at the front of a text.
+/// How many digits are at the front of a text.
 #[inline(always)]
 pub fn digit_run(text: &[u8]) -> usize
     ensures { result ≡ prefix_len is_ascii_digit text.now }
@@ -118,7 +118,7 @@ pub fn unsigned_number(text: &[u8]) -> Result<u64, Fault>
     }
 }
 
-/// The number of a canonical decimal without sign, which is `0` or digits that begin with no 0, where it is at most
+/// The number of a canonical decimal without sign, which is `0` or digits that begin with no 0, if it is at most
 /// `limit`. None for every other text, also for one with a sign, and for a number of any length that is above it.
 pub fn read_decimal(text: &[u8], limit: u64) -> Option<u64>
     ensures value { result ≡ decimal_up_to limit text.now }
@@ -130,7 +130,7 @@ pub fn read_decimal(text: &[u8], limit: u64) -> Option<u64>
     }
 }
 
-/// The number that the digits write, or the greatest of 32 bits where that is greater.
+/// The number that the digits write, or the greatest of 32 bits if that is greater.
 fn capped(digits: &[u8]) -> u32
     requires { list_all is_ascii_digit digits.now ≡ true }
     ensures { result ≡ min (digits_value 10 digits.now) (numbers_of_32_bits - 1) }

@@ -17,7 +17,7 @@ pub enum Fault {
     NotANumber,
     /// It is spelled as a number, and not one that the field may have.
     OutOfRange,
-    /// It is no name, word or tail where one has to stand, or not the word `board`.
+    /// It has to be a name, a word or a tail, and is not one; or it is not the word `board`.
     BadName,
 }
 

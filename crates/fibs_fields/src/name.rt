@@ -44,7 +44,7 @@ fn are_name_bytes(bytes: &[u8]) -> bool
 impl<'a> Name<'a> {
     ghost use Rattle.fibs_fields.specs.Bytes.{name_bytes};
 
-    /// The bytes as a name. None where there is none of them, there are more than 64, or one is not 33 to 126, or is a
+    /// The bytes as a name. None if there is no byte, there are more than 64, or one is not 33 to 126, or is a
     /// colon.
     pub fn new(bytes: &'a [u8]) -> Option<Name<'a>>
         ensures test { IsSome result ↔ (is_name bytes.now ≡ true) }
@@ -65,7 +65,7 @@ impl<'a> Name<'a> {
         Name { bytes }
     }
 
-    /// The name at the front of a text and what follows the byte after it, where that is this one, which no name has.
+    /// The name at the front of a text and what follows the byte after it, if that is this one, which no name has.
     #[inline(always)]
     pub(crate) fn before(text: &'a [u8], byte: u8) -> Option<(Name<'a>, &'a [u8])>
         ensures name { IfSome result (λ x. name_bytes x.0 ≡ before byte text.now) }

@@ -20,7 +20,7 @@ fn is_digit(byte: u8) -> bool
     byte.is_ascii_digit()
 }
 
-/// The hundredths that stand after a point, or none where there is no point.
+/// The hundredths after a point, or none if there is no point.
 fn hundredths(fraction: Option<&[u8]>) -> Option<u64>
     ensures { MatchOption result (is_fraction (seen fraction.entry) ≡ false) (λ n.
         (is_fraction (seen fraction.entry) ≡ true) × (n ≡ hundredths_of (seen fraction.entry)) × (n < 100)) }

@@ -16,7 +16,7 @@ use crate::split::{one_before, split};
 use crate::values::Values;
 use crate::word::{Tail, Word};
 
-/// What is left of a line: what stands after the last separator, or nothing.
+/// What is left of a line: what comes after the last separator, or nothing.
 #[derive(Drop)]
 pub struct Fields<'a> {
     separator: u8,
@@ -98,7 +98,7 @@ impl<'a> Fields<'a> {
         self.any_number_of(values, field)
     }
 
-    /// The next field as a name, where it ends the line or is none.
+    /// The next field as a name, if it ends the line or is not a name.
     #[inline(never)]
     #[tactic(auto, unfolding(crate::specs::FieldReading::field_at, crate::specs::FieldReading::text_at, crate::specs::FieldReading::value_in))]
     fn any_name(&mut self, field: usize) -> Result<Name<'a>, FieldFault>
@@ -115,7 +115,7 @@ impl<'a> Fields<'a> {
         }
     }
 
-    /// The next field as a name. Where a separator follows it, it is found in one pass with it.
+    /// The next field as a name. If a separator follows it, it is found in one pass with it.
     #[inline(always)]
     #[tactic(auto, unfolding(crate::specs::FieldReading::field_at, crate::specs::FieldReading::text_at, crate::specs::FieldReading::value_in))]
     pub fn name(&mut self, field: usize) -> Result<Name<'a>, FieldFault>

@@ -5,7 +5,7 @@ ghost use Rattle.fibs_fields.specs.Split.{seen, before, after};
 
 use bstr::ByteSlice;
 
-/// The first byte of a text and what stands after the second, where that is `byte` and the first is not.
+/// The first byte of a text and what comes after the second, if that is `byte` and the first is not.
 #[inline(always)]
 pub fn one_before(text: &[u8], byte: u8) -> Option<(u8, &[u8])>
     ensures before { IfSome result (λ x. before byte text.now ≡ x.0 ∷ []) }
@@ -18,7 +18,7 @@ pub fn one_before(text: &[u8], byte: u8) -> Option<(u8, &[u8])>
     }
 }
 
-/// What stands before the first `byte`, and what stands after it, where there is one.
+/// What comes before the first `byte`, and what comes after it, if there is one.
 #[inline(always)]
 pub fn split(text: &[u8], byte: u8) -> (&[u8], Option<&[u8]>)
     ensures before { result.0.now ≡ before byte text.now }

@@ -29,7 +29,7 @@ fn has_no_space(bytes: &[u8]) -> bool
 impl<'a> Word<'a> {
     ghost use Rattle.fibs_fields.specs.Bytes.{word_bytes};
 
-    /// The bytes as a word, where they are one.
+    /// The bytes as a word, if they are one.
     pub fn new(bytes: &'a [u8]) -> Option<Word<'a>>
         ensures test { IsSome result ↔ (is_word bytes.now ≡ true) }
         ensures value { IfSome result (λ word. word_bytes word ≡ bytes.now) }
@@ -60,7 +60,7 @@ impl<'a> Word<'a> {
 impl<'a> Tail<'a> {
     ghost use Rattle.fibs_fields.specs.Bytes.{tail_bytes};
 
-    /// The bytes as a tail, where they are one.
+    /// The bytes as a tail, if they are one.
     pub fn new(bytes: &'a [u8]) -> Option<Tail<'a>>
         ensures test { IsSome result ↔ (is_tail bytes.now ≡ true) }
         ensures value { IfSome result (λ tail. tail_bytes tail ≡ bytes.now) }

@@ -18,7 +18,7 @@ pub record LinesValue : Type 0 where
   -- the line that the last call of `feed` lent, if that was the last call and it lent one
   pub line : Option ReadLine
 
--- the value stands after the stream: one byte more than a line's is kept, since that may be the CR before a line end.
+-- the value is what the stream leaves: one byte more than a line's is kept, since that may be the CR before a line end.
 -- Callers name streams by this word, and never open it
 unfoldable pub StandsAfter : LinesValue → List ℕ → Type 0
 StandsAfter v s =
@@ -28,12 +28,12 @@ StandsAfter v s =
 
 -- ---- the `Lines` of the program as this value
 
--- the line of these bytes, which goes on behind them where it is over
+-- the line of these bytes, which goes on after them if it is over
 abbrev pub limited : List ℕ → Bool → ReadLine
 limited line over =
     record { bytes = without_prompts (take kept_limit line); cut = over || nat_lt kept_limit (length line) }
 
--- the same where one CR at their end belongs to the line's end
+-- the same, but one CR at their end belongs to the line's end
 abbrev pub kept_line : List ℕ → Bool → ReadLine
 kept_line front over = limited (strip_carriage_return front) over
 

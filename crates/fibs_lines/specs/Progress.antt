@@ -24,7 +24,7 @@ pub record KeptAfter (v : Kept) (s : List ℕ) : Type 0 where
   pub front : v.front ≡ take (kept_limit + 1) (rest_of s)
   pub over : v.over ≡ nat_lt (kept_limit + 1) (length (rest_of s))
 
--- wherever old is kept, new is kept after t more, in which no line ends
+-- whenever old is kept, new is kept after t more, in which no line ends
 pub record Advances (old new : Kept) (t : List ℕ) : Type 0 where
   pub stands : (s : List ℕ) → KeptAfter old s → KeptAfter new (s ++ t)
   pub same_lines : (s : List ℕ) → KeptAfter old s → lines_of (s ++ t) ≡ lines_of s

@@ -9,7 +9,7 @@ use Rattle.fibs_lines.specs.Standing.{AtLineStart}
 abbrev pub PartsAreLinesAndRest : Type 0
 PartsAreLinesAndRest = (s : List ℕ) → slice_split is_line_end (plain s) ≡ finished_parts (plain s) ++ rest_of s ∷ []
 
--- the empty stream has no line, and stands at a line's start
+-- the empty stream has no line, and is at a line's start
 abbrev pub EmptyStreamHasNoLine : Type 0
 EmptyStreamHasNoLine = (lines_of [] ≡ []) × AtLineStart []
 
@@ -26,7 +26,7 @@ LinesAreAtMostTheLineEnds = (s t : List ℕ) → length (lines_of (s ++ t)) ≤ 
 abbrev pub with_line_end : List ℕ → List ℕ
 with_line_end text = text ++ 13 ∷ 10 ∷ []
 
--- after CR LF a stream stands at a line's start, whatever came before: whether CR is a byte of the line or the last
+-- after CR LF a stream is at a line's start, whatever came before: whether CR is a byte of the line or the last
 -- byte of a telnet command, the LF after it is neither
 abbrev pub LineEndIsALineStart : Type 0
 LineEndIsALineStart = (t : List ℕ) → AtLineStart (with_line_end t)
@@ -35,7 +35,7 @@ LineEndIsALineStart = (t : List ℕ) → AtLineStart (with_line_end t)
 abbrev pub LineEndEndsALine : Type 0
 LineEndEndsALine = (t : List ℕ) → (line : ReadLine) × (lines_of (with_line_end t) ≡ lines_of t ++ line ∷ [])
 
--- what follows a line's start is read as if it stood alone
+-- what follows a line's start is read as if it were alone
 pub record ReadsAlone (s t : List ℕ) : Type 0 where
   pub lines : lines_of (s ++ t) ≡ lines_of s ++ lines_of t
   pub rest : rest_of (s ++ t) ≡ rest_of t

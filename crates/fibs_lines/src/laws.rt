@@ -16,14 +16,14 @@ pub fn limit_is_that_of_the_definitions()
     ensures { LIMIT ≡ kept_limit }
 {}
 
-/// Two lines are equal exactly where their bytes are, and where both are cut or neither is.
+/// Two lines are equal exactly if their bytes are and both are cut or neither is.
 pub fn lines_are_their_bytes(a: &Line<'_>, b: &Line<'_>) -> bool
     ensures { IsTrue result ↔ (value_of a.now ≡ value_of b.now) }
 {
     *a == *b
 }
 
-/// Two answers of `Lines::feed` are equal exactly where as many bytes were read and the same line was lent, or none.
+/// Two answers of `Lines::feed` are equal exactly if as many bytes were read and the same line was lent, or none.
 pub fn answers_are_their_lines(a: &Fed<'_>, b: &Fed<'_>) -> bool
     ensures { IsTrue result ↔ ((a.now.used ≡ b.now.used) × (line_value a.now.line ≡ line_value b.now.line)) }
 {
@@ -35,7 +35,7 @@ pub fn parts_are_lines_and_rest()
     ensures { PartsAreLinesAndRest }
 {}
 
-/// The empty stream has no line, and stands at a line's start.
+/// The empty stream has no line, and is at a line's start.
 pub fn empty_stream_has_no_line()
     ensures { EmptyStreamHasNoLine }
 {}
@@ -50,7 +50,7 @@ pub fn lines_are_at_most_the_line_ends()
     ensures { LinesAreAtMostTheLineEnds }
 {}
 
-/// After CR LF a stream stands at a line's start, whatever came before.
+/// After CR LF a stream is at a line's start, whatever came before.
 pub fn line_end_is_a_line_start()
     ensures { LineEndIsALineStart }
 {}
@@ -60,7 +60,7 @@ pub fn line_end_ends_a_line()
     ensures { LineEndEndsALine }
 {}
 
-/// What follows a line's start is read as if it stood alone.
+/// What follows a line's start is read as if it were alone.
 pub fn line_start_reads_alone()
     ensures { LineStartReadsAlone }
 {}

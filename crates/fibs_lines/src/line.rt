@@ -30,7 +30,7 @@ impl<'a> Line<'a> {
     ghost use Rattle.fibs_lines.specs.Lines.{value_of};
     ghost use Rattle.fibs_lines.specs.LinesValue.{kept_line, limited};
 
-    /// The line of these bytes, which goes on behind them where it is `over`.
+    /// The line of these bytes, which goes on after them if it is `over`.
     pub(crate) fn limited(line: &'a [u8], over: bool) -> Line<'a>
         ensures { value_of result ≡ limited line.now over }
     {
@@ -41,7 +41,7 @@ impl<'a> Line<'a> {
         }
     }
 
-    /// The line that begins with `front`, and goes on behind it where it is `over`.
+    /// The line that begins with `front`, and goes on after it if it is `over`.
     pub(crate) fn from_front(front: &'a [u8], over: bool) -> Line<'a>
         ensures { value_of result ≡ kept_line front.now over }
     {

@@ -123,7 +123,7 @@ impl Lines {
         self.lent = false;
     }
 
-    /// How many bytes stand after the last line end, without telnet commands and up to `LIMIT`. It is 0 after a line
+    /// How many bytes follow the last line end, without telnet commands and up to `LIMIT`. It is 0 after a line
     /// was lent.
     ///
     /// Prompts are counted, and so is a CR at the end, since they are bytes of the line until it ends.

@@ -7,7 +7,7 @@ ghost use Rattle.fibs_lines.specs.StreamLaws.{IsUnbroken, with_line_end};
 use crate::line::Line;
 use crate::unfinished::run_len;
 
-/// The line that a text is when it is sent with CR LF, where no line ends and no telnet command begins in it: what
+/// The line that a text is when it is sent with CR LF, if no line ends and no telnet command begins in it: what
 /// `Lines::feed` then lends, with no buffer in which it is kept. A text in which there is LF or the byte 255 has none
 /// here.
 pub fn sent_line(text: &[u8]) -> Option<Line<'_>>

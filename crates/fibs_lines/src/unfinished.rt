@@ -35,7 +35,7 @@ fn ends_run(byte: u8) -> bool
     byte == b'\n' || byte == 255
 }
 
-/// How many bytes of `bytes` stand before the first line end or telnet command, where the first `start` have none.
+/// How many bytes of `bytes` come before the first line end or telnet command; the first `start` have none.
 fn run_from(bytes: &[u8], start: usize) -> usize
     requires in_range { start ≤ length bytes.now }
     requires run { IsRun (take start bytes.now) }
@@ -51,7 +51,7 @@ fn run_from(bytes: &[u8], start: usize) -> usize
     bytes.len()
 }
 
-/// How many bytes of `bytes` stand before the first line end or telnet command.
+/// How many bytes of `bytes` come before the first line end or telnet command.
 pub(crate) fn run_len(bytes: &[u8]) -> usize
     ensures in_range { result ≤ length bytes.now }
     ensures run { IsRun (take result bytes.now) }
@@ -152,7 +152,7 @@ impl Unfinished {
         }
     }
 
-    /// Takes `piece` up to its first line end, and answers where that stands.
+    /// Takes `piece` up to its first line end, and answers its place.
     pub(crate) fn take_up_to_end(&mut self, piece: &[u8]) -> Option<usize>
         ensures all { IfNone result (Advances (kept self.old) (kept self.new) piece.now) }
         ensures end { IfSome result (λ at. AdvancesToEnd (kept self.old) (kept self.new) piece.now at) }

@@ -18,11 +18,11 @@ flag_at place m = is_set (slice_get m.fields place)
 abbrev pub autoboard : MessageValue → Bool
 autoboard = flag_at 2
 
--- the server makes a move where there is but one
+-- the server makes a move if there is only one
 abbrev pub automove : MessageValue → Bool
 automove = flag_at 4
 
--- the server bears off where it can
+-- the server bears off if it can
 abbrev pub greedy : MessageValue → Bool
 greedy = flag_at 10
 

@@ -105,7 +105,7 @@ pub data FieldsText : List FieldValue → List ℕ → Type 0 where
   more_fields : {v : FieldValue} {vs : List FieldValue} {text texts : List ℕ} →
       FieldText v text → FieldsText vs texts → FieldsText (v ∷ vs) (text ++ texts)
 
--- the line says this message: its number, its fields as the table has them, and spaces where they are dropped
+-- the line says this message: its number, its fields as the table has them, and spaces if they are dropped
 pub record MessageText (m : MessageValue) (line : List ℕ) : Type 0 where
   pub number : IsNumber m.number
   pub kinds : map kind_of m.fields ≡ kinds_of m.number
@@ -139,7 +139,7 @@ abbrev pub WrongMessage : List ℕ → ℕ → ℕ → Fault → Type 0
 WrongMessage line n k f = HasNumber line n
     × IsFirstFault (fault_at (kinds_of n) (texts_for (kinds_of n) 32 (after 32 (kept n line)))) k f
 
--- a text and a space before it, where it is not empty
+-- a text and a space before it, if it is not empty
 abbrev pub space_before : List ℕ → List ℕ
 space_before [] = []
 space_before (b ∷ s) = 32 ∷ b ∷ s

@@ -1,4 +1,4 @@
--- Which fields stand in a line as they are printed. No public contract rests on it.
+-- Which fields are in a line as they are printed. No public contract rests on it.
 use Rattle.std.specs.Prelude.{◌≡◌, ℕ, ◌<◌, ◌≤◌, ◌^◌, List, [], ◌∷◌, ◌++◌, Option, Some, None, map, length, take}
 use Rattle.std.specs.Fmt.{decimal}
 use Rattle.std.specs.List.{flat_map, AllByRecursion}

@@ -1,4 +1,4 @@
-//! Laws of messages and their lines. Those of fields and of boards stand in fibs_fields and fibs_boards.
+//! Laws of messages and their lines. Those of fields and of boards are in fibs_fields and fibs_boards.
 
 ghost use Rattle.std.specs.Prelude.{◌<◌, ◌≤◌, ◌≡◌, ◌↔◌, ◌⊎◌, ℕ, List, IsTrue, All, length, map};
 ghost use Rattle.fibs_boards.specs.Board.{BoardFields, IsBoard, spelling};
@@ -28,28 +28,28 @@ pub use fibs_fields::laws::{
     tails_are_their_bytes, words_are_their_bytes,
 };
 
-/// Two settings of message 2 are equal exactly where their fields are.
+/// Two settings of message 2 are equal exactly if their fields are.
 pub fn own_infos_are_their_fields(a: &OwnInfo<'_>, b: &OwnInfo<'_>) -> bool
     ensures { IsTrue result ↔ (own_info_fields a.now ≡ own_info_fields b.now) }
 {
     *a == *b
 }
 
-/// Two players of message 5 are equal exactly where their fields are.
+/// Two players of message 5 are equal exactly if their fields are.
 pub fn who_infos_are_their_fields(a: &WhoInfo<'_>, b: &WhoInfo<'_>) -> bool
     ensures { IsTrue result ↔ (who_info_fields a.now ≡ who_info_fields b.now) }
 {
     *a == *b
 }
 
-/// Two messages are equal exactly where they have one number and the same fields.
+/// Two messages are equal exactly if they have one number and the same fields.
 pub fn messages_are_their_fields(a: &Message<'_>, b: &Message<'_>) -> bool
     ensures { IsTrue result ↔ (message_of a.now ≡ message_of b.now) }
 {
     *a == *b
 }
 
-/// Two readings are equal exactly where they say the same.
+/// Two readings are equal exactly if they say the same.
 pub fn readings_are_what_they_say(a: &Reading<'_>, b: &Reading<'_>) -> bool
     ensures { IsTrue result ↔ (reading_of a.now ≡ reading_of b.now) }
 {

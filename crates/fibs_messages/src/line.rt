@@ -113,7 +113,7 @@ pub fn message_number(line: &[u8]) -> Option<u8>
 ///
 /// A line that begins with `board:` is a board line (FIBS board style 3). A line that begins with a number from 1 to 19
 /// without leading zero, and then has a space or ends, is a numbered line (FIBS CLIP specification 1008). Such a line
-/// is `Board` or `Numbered` where its fields are right, else `Malformed` with the leftmost wrong one. Every other line
+/// is `Board` or `Numbered` if its fields are right, else `Malformed` with the leftmost wrong one. Every other line
 /// is `Text`, also `board` alone, `05 x` and the empty line.
 pub fn read(line: &[u8]) -> Reading<'_>
     // The answer is the line's reading, and a line has no other.
@@ -121,7 +121,7 @@ pub fn read(line: &[u8]) -> Reading<'_>
     ensures only { (value : ReadingValue) → IsReading line.now value → reading_of result ≡ value }
     // The reading is also a function of the line.
     ensures value { reading_of result ≡ reading_value line.now }
-    // Each answer is given exactly where the line is this.
+    // Each answer is given exactly if the line is this.
     ensures numbered { (m : MessageValue) → (reading_of result ≡ numbered_line m) ↔ MessageText m line.now }
     ensures board { (b : BoardFields) → (reading_of result ≡ board_line b) ↔ BoardText b line.now }
     ensures malformed { (number k : ℕ) → (f : Fault) →

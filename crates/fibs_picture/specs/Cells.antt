@@ -10,7 +10,7 @@ own_letter = 79
 abbrev pub other_letter : ℕ
 other_letter = 88
 
--- a number below 100 by two digits, the first of which is left out where it is 0: a filler stands there
+-- a number below 100 by two digits, the first of which is a filler if it is 0
 abbrev pub two_digits : ℕ → ℕ → List ℕ
 two_digits filler n = (if nat_lt n 10 then filler else 48 + n / 10) ∷ (48 + n % 10) ∷ []
 
@@ -21,7 +21,7 @@ level letter n height =
     if nat_lt n height then codes "   "
     else (if (height == 5) && nat_lt 5 n then two_digits 32 n ++ 32 ∷ [] else 32 ∷ letter ∷ 32 ∷ [])
 
--- what is seen at a height of a place where so many checkers of the player stand, or so many of the opponent
+-- what is seen at a height of a place with so many checkers of the player, or so many of the opponent
 abbrev pub stack : ℕ → ℕ → ℕ → List ℕ
 stack own other height = if own == 0 then level other_letter other height else level own_letter own height
 

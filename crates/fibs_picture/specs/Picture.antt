@@ -1,6 +1,6 @@
 -- The picture of a board, seen by its player (the project's own, after the boards that FIBS and gnubg draw): 14 lines
 -- of plain ASCII, of at most 79 columns. The player's checkers are O and go round to the lower right, the opponent's
--- are X. At the left of a line stands what is drawn, at its right what is said.
+-- are X. At the left of a line is what is drawn, at its right what is said.
 use Rattle.std.specs.Prelude.{◌+◌, ◌-◌, ◌*◌, ◌++◌, ◌&&◌, ◌==◌, ℕ, ℤ, pos, Bool, true, false, List, [], ◌∷◌, codes}
 use Rattle.std.specs.Prelude.{decimal, map, sum, take, slice_index, is_none, if◌then◌else◌}
 use Rattle.std.specs.Fmt.{signed_decimal}
@@ -54,7 +54,7 @@ stands c height place = stack (slice_index c.own place) (slice_index c.other pla
 unfoldable pub stacks : Checkers → ℕ → List ℕ → List ℕ
 stacks c height places = flat_map (stands c height) places
 
--- what is seen at a height of a bar: the player's above, where it enters, and the opponent's below
+-- what is seen at a height of a bar: the player's above, on the side of its entry, and the opponent's below
 abbrev pub bar : Checkers → Half → ℕ → List ℕ
 bar c half.Upper height = stack (slice_index c.own 25) 0 height
 bar c half.Lower height = stack 0 (slice_index c.other 0) height
@@ -65,7 +65,7 @@ edge p half =
     codes " +" ++ (labels p.direction (six half (left_first half)) ++ (codes "+---+"
     ++ (labels p.direction (six half (right_first half)) ++ codes "+   ")))
 
--- what stands at a height in a half
+-- what is at a height in a half
 unfoldable pub layer : PositionValue → Half → ℕ → List ℕ
 layer p half height =
     let c = p.standing.checkers in
@@ -112,7 +112,7 @@ two_dice first second = if (first == 0) && (second == 0) then codes "-" else (48
 abbrev pub dice : ℤ → ℤ → List ℕ
 dice first second = codes "  dice  " ++ two_dice (natural first) (natural second)
 
--- 9999 stands for a match without end
+-- 9999 means a match without end
 abbrev pub match_length : ℤ → List ℕ
 match_length n = if int_eq n (pos 9999) then codes "unlimited match" else codes "match to " ++ signed_decimal n
 
@@ -140,7 +140,7 @@ turn_words turn colour =
 abbrev pub may : PositionValue → DecisionValue → Bool
 may p decision = is_none (refusal_of p decision)
 
--- what can be done in a phase, where a double may be accepted or not, and offered or not
+-- what can be done in a phase, by whether a double may be accepted, and offered
 abbrev pub deed : Phase → Bool → Bool → List ℕ
 deed phase.Over accepts doubles = codes "The game is over."
 deed phase.AnswerDouble true doubles = codes "You are offered a double: accept, or reject."

@@ -1,4 +1,4 @@
--- What a picture tells of a board.
+-- What a picture says of a board.
 use Rattle.std.specs.Prelude.{◌≡◌, pos, [], ◌∷◌, map, take, if◌then◌else◌}
 use Rattle.std.specs.Ordering.{int_eq}
 use Rattle.fibs_boards.specs.Board.{BoardFields, field_of}

@@ -13,7 +13,7 @@ const OWN_LETTER: u8 = b'O';
 /// The letter of the opponent's checkers.
 const OTHER_LETTER: u8 = b'X';
 
-/// A number by two digits, the first of which is left out where it is 0: a filler stands there.
+/// A number by two digits, the first of which is a filler if it is 0.
 fn two_digits(filler: u8, n: u8) -> [u8; 2]
     requires { n < 100 }
     ensures { result ≡ two_digits filler n }
@@ -37,7 +37,7 @@ fn level(letter: u8, n: u8, height: u8) -> Cell
     [b' ', letter, b' ']
 }
 
-/// What is seen at a height of a place where so many checkers of the player stand, or so many of the opponent.
+/// What is seen at a height of a place with so many checkers of the player, or so many of the opponent.
 pub fn stack(own: u8, other: u8, height: u8) -> Cell
     requires own { own < 100 }
     requires other { other < 100 }

@@ -31,7 +31,7 @@ pub const OWN_OFF: usize = 46;
 
 pub const OTHER_OFF: usize = 47;
 
-/// A die, 0 where there is none.
+/// A die, 0 if there is none.
 pub fn die(board: &Board, field: usize) -> u8
     requires low { 34 ≤ field }
     requires high { field ≤ 37 }

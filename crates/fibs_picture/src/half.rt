@@ -1,4 +1,4 @@
-//! The halves of a picture, and where their places stand.
+//! The halves of a picture, and the columns of their places.
 ghost use Rattle.std.specs.Prelude.{◌≡◌, ◌<◌, ◌≤◌};
 ghost use Rattle.fibs_picture.specs.Picture.{along, left_first, right_first};
 

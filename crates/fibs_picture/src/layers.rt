@@ -58,7 +58,7 @@ fn draw_bar<W: Write>(position: &Position, half: Half, height: u8, out: &mut W) 
     }
 }
 
-/// What stands at a height in a half.
+/// What is at a height in a half.
 #[tactic(auto, unfolding(crate::specs::Picture::layer))]
 pub fn draw_layer<W: Write>(
     position: &Position,

@@ -129,7 +129,7 @@ fn write_match_length<W: Write>(length: i32, out: &mut W) -> io::Result<()>
     }
 }
 
-/// What stands between the halves, and the cube.
+/// What is between the halves, and the cube.
 #[tactic(auto, unfolding(crate::specs::Picture::line))]
 pub fn cube_line<W: Write>(board: &Board, out: &mut W) -> io::Result<()>
     ensures { OnOk result (Appends (W.contents out.old) (W.contents out.new)

@@ -72,7 +72,7 @@ pub fn turn_words(turn: i32, colour: i32) -> &'static [u8]
     }
 }
 
-/// What can be done in a phase, where a double may be accepted or not, and offered or not.
+/// What can be done in a phase, by whether a double may be accepted, and offered.
 fn deed(phase: Phase, accepts: bool, doubles: bool) -> &'static [u8]
     ensures { result.now ≡ deed phase accepts doubles }
 {

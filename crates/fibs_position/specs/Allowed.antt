@@ -25,7 +25,7 @@ IsForPhase p reject = InPhase p AnswerDouble
 IsForPhase p (move steps) = InPhase p Move
 IsForPhase p (resign stake) = InPhase p RollOrDouble ⊎ InPhase p Move
 
--- a player doubles only where he may, and no cube shows more than 1,048,576
+-- a player doubles only if he may, and no cube shows more than 1,048,576
 abbrev pub CubeAllows : PositionValue → DecisionValue → Type 0
 CubeAllows p roll = Unit {0}
 CubeAllows p double = (p.may_double ≢ pos 0) × (p.cube ≤ℤ pos 524288)
@@ -53,7 +53,7 @@ Forbids p decision NotYours = ¬ UserDecides p
 Forbids p decision WrongKind = ¬ IsRightKind p decision
 Forbids p decision IllegalPlay = ¬ IsLegal p decision
 
--- the reasons, in the order in which they are told
+-- the reasons, in the order in which they are named
 abbrev pub reasons : List Disallowed
 reasons = NotYours ∷ WrongKind ∷ IllegalPlay ∷ []
 
@@ -112,10 +112,10 @@ forbids p decision NotYours = not (decides (phase_in p))
 forbids p decision WrongKind = not (is_for decision (phase_in p) && cube_allows p decision)
 forbids p decision IllegalPlay = not (is_legal p decision)
 
--- why a decision is refused, and None where the player may decide so
+-- why a decision is refused, and None if the player may decide so
 unfoldable pub refusal_of : PositionValue → DecisionValue → Option Disallowed
 refusal_of p decision = find (forbids p decision) reasons
 
--- why a decision is not allowed on a board, and None where it is
+-- why a decision is not allowed on a board, and None if it is
 abbrev pub allowed_of : BoardFields → DecisionValue → Option Disallowed
 allowed_of b decision = refusal_of (position_of b) decision

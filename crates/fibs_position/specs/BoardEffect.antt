@@ -1,6 +1,6 @@
 -- What becomes of a board when a decision is carried out.
 --
--- The effect asks for less than the rules do: of a move it asks that at each step a checker stands at the source and
+-- The effect asks for less than the rules do: of a move it asks that at each step a checker is at the source and
 -- no two of the opponent's at the target, and nothing of dice lengths, of the bar, of bearing off or of the fullest use
 -- of the dice.
 use Rattle.std.specs.Prelude.{◌≡◌, ◌≢◌, ◌≤ℤ◌, ◌<◌, ◌≤◌, ◌==◌, ◌+ℤ◌, ◌-ℤ◌, ◌-◌, ◌++◌, ◌&&◌, not, int_le, nat_lt, nat_le}
@@ -78,8 +78,8 @@ accepted b =
 abbrev pub rejected : BoardFields → BoardFields
 rejected b = set_fields b ((41, pos 0) ∷ (33, pos 0) ∷ [])
 
--- the checkers stand so, those borne off are counted, and the turn goes to the opponent; with all fifteen off the game
--- is over
+-- the checkers are so placed, those borne off are counted, and the turn goes to the opponent; with all fifteen off the
+-- game is over
 abbrev pub after_move : BoardFields → Checkers → BoardFields
 after_move b q =
     let off = slice_index q.own 0 in
@@ -118,7 +118,7 @@ has_turn b = int_eq (turn b) (colour b) && int_eq (field_of b 41) (pos 0)
 abbrev pub is_doubled : BoardFields → Bool
 is_doubled b = not (int_eq (turn b) (pos 0)) && int_eq (field_of b 41) (pos 1)
 
--- the board afterwards, where the condition of the decision holds
+-- the board afterwards, if the condition of the decision holds
 abbrev pub carried : BoardFields → DecisionValue → List ℕ → Option BoardFields
 carried b roll dice = if (has_turn b && no_dice b) && are_thrown dice then Some (rolled b dice) else None
 carried b double dice = if has_turn b && no_dice b then Some (turn_given b) else None

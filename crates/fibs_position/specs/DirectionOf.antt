@@ -5,7 +5,7 @@ use Rattle.fibs_boards.specs.Board.{BoardFields, field_of}
 use Rattle.fibs_position.specs.declared.direction.Direction.{Direction}
 use Rattle.fibs_position.specs.declared.direction.Direction.TheVariants.{Down, Up}
 
--- the player goes from place 24 down to 1 where the field is -1, and else from 1 up to 24
+-- the player goes from place 24 down to 1 if the field is -1, and else from 1 up to 24
 abbrev pub direction_of : BoardFields → Direction
 direction_of b = if int_eq (field_of b 43) (negsuc 0) then Down else Up
 

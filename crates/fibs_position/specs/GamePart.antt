@@ -9,8 +9,8 @@ use Rattle.fibs_boards.specs.Board.{BoardFields, field_of}
 abbrev pub from_to : ℕ → ℕ → List ℕ
 from_to first last = range_with_len first (last + 1 - first)
 
--- the opponent's name (field 3), and the fields that say what is played and how it stands: match length and scores,
--- places 1 to 24, turn, dice, cube, who may double, colour, direction, and the checkers borne off
+-- the opponent's name (field 3), and the fields that say what is played and the state of the game: match length and
+-- scores, places 1 to 24, turn, dice, cube, who may double, colour, direction, and the checkers borne off
 unfoldable pub game_fields : List ℕ
 game_fields = from_to 4 6 ++ from_to 8 31 ++ from_to 33 43 ++ from_to 46 47
 
@@ -23,7 +23,7 @@ pub record GamePart : Type 0 where
 abbrev pub game_part : BoardFields → GamePart
 game_part b = record { opponent = b.opponent; numbers = map (field_of b) game_fields }
 
--- two boards differ where their game parts do
+-- two boards differ if their game parts do
 abbrev pub Differ : BoardFields → BoardFields → Type 0
 Differ a b = game_part a ≢ game_part b
 

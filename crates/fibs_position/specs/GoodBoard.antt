@@ -19,7 +19,7 @@ HasFault b NotYou = b.player ≢ codes "You"
 HasFault b TooManyOwn = 15 < own_placed b
 HasFault b TooManyOther = 15 < other_placed b
 
--- the faults, in the order in which they are told
+-- the faults, in the order in which they are named
 abbrev pub faults : List PositionFault
 faults = NotYou ∷ TooManyOwn ∷ TooManyOther ∷ []
 

@@ -11,18 +11,18 @@ use Rattle.fibs_position.specs.declared.decision.Decision.{Decision}
 use Rattle.fibs_position.specs.declared.phase.Phase.{Phase}
 use Rattle.fibs_position.specs.declared.disallowed.Disallowed.{Disallowed}
 
--- the function `phase_of` tells each phase, which is the first line of the table that fits
+-- the function `phase_of` gives each phase, which is the first line of the table that fits
 abbrev pub PhaseIsExact : Type 0
 PhaseIsExact = (b : BoardFields) (phase : Phase) → IsGood b → (phase_of b ≡ phase) ↔ IsPhase b phase
 
--- the function `allowed_of` tells exactly the decisions that are allowed, and the first reason against each other one
+-- the function `allowed_of` gives exactly the decisions that are allowed, and the first reason against each other one
 abbrev pub AllowedIsExact : Type 0
 AllowedIsExact =
     (b : BoardFields) (decision : DecisionValue) → IsGood b
     → ((allowed_of b decision ≡ None) ↔ IsAllowed b decision)
     × ((why : Disallowed) → (allowed_of b decision ≡ Some why) ↔ IsDisallowed b decision why)
 
--- the function `effect_of` tells exactly the boards that decisions lead to
+-- the function `effect_of` gives exactly the boards that decisions lead to
 abbrev pub EffectIsExact : Type 0
 EffectIsExact =
     (b : BoardFields) (decision : DecisionValue) (dice : List ℕ) (after : BoardFields)
@@ -52,7 +52,7 @@ NoThreeInARow =
     (a b c after : BoardFields) (d e f : DecisionValue) (dice dice' dice'' : List ℕ)
     → Effect a d dice b → Effect b e dice' c → Effect c f dice'' after → ⊥
 
--- the test `good` tells exactly the good boards, of all values of fields
+-- the test `good` is true of exactly the good boards, of all values of fields
 abbrev pub GoodIsExact : Type 0
 GoodIsExact = (b : BoardFields) → (good b ≡ true) ↔ IsGood b
 

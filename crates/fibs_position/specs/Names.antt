@@ -23,7 +23,7 @@ position_fault_name NotYou = codes "NotYou"
 position_fault_name TooManyOwn = codes "TooManyOwn"
 position_fault_name TooManyOther = codes "TooManyOther"
 
--- its number, in the order in which faults are told
+-- its number, in the order in which faults are named
 abbrev pub position_fault_number : PositionFault → ℕ
 position_fault_number NotYou = 1
 position_fault_number TooManyOwn = 2
@@ -35,7 +35,7 @@ disallowed_name NotYours = codes "NotYours"
 disallowed_name WrongKind = codes "WrongKind"
 disallowed_name IllegalPlay = codes "IllegalPlay"
 
--- its number, in the order in which reasons are told
+-- its number, in the order in which reasons are named
 abbrev pub disallowed_number : Disallowed → ℕ
 disallowed_number NotYours = 1
 disallowed_number WrongKind = 2

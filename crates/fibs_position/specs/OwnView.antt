@@ -8,7 +8,7 @@ use Rattle.fibs_rules.specs.Checkers.{Checkers}
 use Rattle.fibs_rules.specs.Runs.{Standing}
 use Rattle.fibs_position.specs.DirectionOf.{direction_of, line_place}
 
--- whose turn it is: 1 for O, -1 for X, 0 where the game is over
+-- whose turn it is: 1 for O, -1 for X, 0 if the game is over
 abbrev pub turn : BoardFields → ℤ
 turn b = field_of b 33
 
@@ -25,7 +25,7 @@ abbrev pub natural : ℤ → ℕ
 natural (pos n) = n
 natural (negsuc n) = 0
 
--- the checkers of a colour where a place has this value: O's are counted by positive numbers, X's by negative ones
+-- the checkers of a colour on a place with this value: O's are counted by positive numbers, X's by negative ones
 abbrev pub checkers_of : ℤ → ℤ → ℕ
 checkers_of side value = natural (if int_eq side (pos 1) then value else neg_ℤ value)
 

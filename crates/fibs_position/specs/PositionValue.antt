@@ -13,15 +13,15 @@ pub record PositionValue : Type 0 where
   pub standing : Standing
   -- which way the player goes
   pub direction : Direction
-  -- whose turn it is: 1 for O, -1 for X, 0 where the game is over
+  -- whose turn it is: 1 for O, -1 for X, 0 if the game is over
   pub turn : ℤ
   -- the player's colour: 1 for O, -1 for X
   pub colour : ℤ
-  -- 1 where the opponent has just doubled
+  -- 1 if the opponent has just doubled
   pub was_doubled : ℤ
   -- what the doubling cube shows
   pub cube : ℤ
-  -- not 0 where the player may double
+  -- not 0 if the player may double
   pub may_double : ℤ
 
 -- the position of a board

@@ -131,7 +131,7 @@ fn value_of(side: i32, own: u8, other: u8) -> i32
     if side == 1 { own - other } else { other - own }
 }
 
-/// The board on which the checkers of places 1 to 24 stand so.
+/// The board with these checkers on places 1 to 24.
 fn placed(board: &Board, reached: &Arrangement) -> Board
     ensures { fields_of result ≡ set_fields (fields_of board.now) (placed (fields_of board.now) reached.now) }
 {
@@ -154,8 +154,8 @@ fn turn_after(board: &Board, off: u8) -> i32
     if off == 15 { 0 } else { -colour(board) }
 }
 
-/// The checkers stand so, those borne off are counted, and the turn goes to the opponent; with all fifteen off the game
-/// is over.
+/// The checkers are so placed, those borne off are counted, and the turn goes to the opponent; with all fifteen off the
+/// game is over.
 fn after_move(board: &Board, reached: &Arrangement) -> Board
     ensures { fields_of result ≡ after_move (fields_of board.now) reached.now }
 {
@@ -252,19 +252,19 @@ fn by_table(board: &Board, decision: &Decision, dice: [u8; 2]) -> Option<Board>
     }
 }
 
-/// The board after the server carried a decision out, and None where it doesn't: where the board is not good, or the
+/// The board after the server carried a decision out, and None if it doesn't: if the board is not good, or the
 /// decision's condition doesn't hold.
 ///
-/// - Roll, where the player has the turn, no double to answer and no dice, and both given dice are 1 to 6: the dice are
+/// - Roll, if the player has the turn, no double to answer and no dice, and both given dice are 1 to 6: the dice are
 ///   his, the opponent's are taken away.
-/// - Double, where the player has the turn, no double to answer and no dice: the turn goes to the opponent.
-/// - Accept, where the game is not over, the opponent has doubled, and the cube is at most 524,288: the cube doubles,
+/// - Double, if the player has the turn, no double to answer and no dice: the turn goes to the opponent.
+/// - Accept, if the game is not over, the opponent has doubled, and the cube is at most 524,288: the cube doubles,
 ///   the player alone may double next, and the turn goes to the opponent.
-/// - Reject, where the game is not over, and the opponent has doubled: the game is over.
-/// - Move, where the player has the turn, no double to answer and a die, and at each step in order a checker at its
-///   source and no two opponents at its target: the checkers stand as moved and hit, those off are counted, the dice
+/// - Reject, if the game is not over, and the opponent has doubled: the game is over.
+/// - Move, if the player has the turn, no double to answer and a die, and at each step in order a checker at its
+///   source and no two opponents at its target: the checkers are as moved and hit, those off are counted, the dice
 ///   are taken away, and the turn goes to the opponent, or the game is over with all fifteen off.
-/// - Resign, where the player has the turn and no double to answer: the turn goes to the opponent, whatever the stake.
+/// - Resign, if the player has the turn and no double to answer: the turn goes to the opponent, whatever the stake.
 ///
 /// Fields that are not named stay. Of a move nothing else is asked: not the dice's lengths, the bar, bearing off, or
 /// the fullest use of the dice.

@@ -5,7 +5,7 @@ ghost use Rattle.std.specs.Prelude.{◌≡◌, Some};
 use std::error::Error;
 use std::fmt;
 
-/// Why a decision is not allowed. Of several reasons the first is told.
+/// Why a decision is not allowed. Of several reasons the first is named.
 #[derive(Clone, Copy, Debug, PartialEq, Eq)]
 pub enum Disallowed {
     /// The player does not decide in this phase.

@@ -28,5 +28,5 @@ pub const OWN_OFF: usize = 46;
 
 pub const OTHER_OFF: usize = 47;
 
-/// The most that the cube may show where a double is offered or accepted: twice as much is the most that it can show.
+/// The most that the cube may show if a double is offered or accepted: twice as much is the most that it can show.
 pub const MOST_DOUBLED: i32 = 524_288;

@@ -17,7 +17,7 @@ pub fn is_good(board: &Board) -> bool
     Position::of(board).is_ok()
 }
 
-/// The phase of a board's position; None where the board has none.
+/// The phase of a board's position; None if the board has none.
 pub fn phase_of(board: &Board) -> Option<Phase>
     ensures { result ≡ if good (fields_of board.now) then Some (phase_of (fields_of board.now)) else None }
 {

@@ -19,7 +19,7 @@ pub use fibs_rules::laws::{
     steps_swap,
 };
 
-/// Decisions are equal exactly where their values are.
+/// Decisions are equal exactly if their values are.
 pub fn decisions_are_their_values(a: &Decision, b: &Decision) -> bool
     ensures test { IsTrue result ↔ (decision_of a.now ≡ decision_of b.now) }
     ensures same { decision_of a.now ≡ decision_of b.now → a.now ≡ b.now }
@@ -27,35 +27,35 @@ pub fn decisions_are_their_values(a: &Decision, b: &Decision) -> bool
     a == b
 }
 
-/// Stakes are equal exactly where they are one.
+/// Stakes are equal exactly if they are one.
 pub fn stakes_are_themselves(a: &Stake, b: &Stake) -> bool
     ensures { IsTrue result ↔ (a.now ≡ b.now) }
 {
     a == b
 }
 
-/// Phases are equal exactly where they are one.
+/// Phases are equal exactly if they are one.
 pub fn phases_are_themselves(a: &Phase, b: &Phase) -> bool
     ensures { IsTrue result ↔ (a.now ≡ b.now) }
 {
     a == b
 }
 
-/// Directions are equal exactly where they are one.
+/// Directions are equal exactly if they are one.
 pub fn directions_are_themselves(a: &Direction, b: &Direction) -> bool
     ensures { IsTrue result ↔ (a.now ≡ b.now) }
 {
     a == b
 }
 
-/// Faults of boards are equal exactly where they are one.
+/// Faults of boards are equal exactly if they are one.
 pub fn position_faults_are_themselves(a: &PositionFault, b: &PositionFault) -> bool
     ensures { IsTrue result ↔ (a.now ≡ b.now) }
 {
     a == b
 }
 
-/// Refusals of decisions are equal exactly where they are one.
+/// Refusals of decisions are equal exactly if they are one.
 pub fn refusals_are_themselves(a: &Disallowed, b: &Disallowed) -> bool
     ensures { IsTrue result ↔ (a.now ≡ b.now) }
 {
@@ -111,7 +111,7 @@ pub fn no_three_in_a_row()
     fields_have_their_ranges();
 }
 
-/// The test `good` tells exactly the good boards, of all values of fields.
+/// The test `good` is true of exactly the good boards, of all values of fields.
 pub fn good_is_exact()
     ensures { GoodIsExact }
 {

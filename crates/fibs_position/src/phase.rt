@@ -4,7 +4,7 @@ ghost use Rattle.std.specs.Prelude.{◌≡◌, ◌≤◌, Some, length};
 
 use std::fmt;
 
-/// Where a game stands, for the player of a board.
+/// The phase of a game, for the player of a board.
 #[derive(Clone, Copy, Debug, PartialEq, Eq)]
 pub enum Phase {
     /// The game is over.

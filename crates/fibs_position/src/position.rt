@@ -26,15 +26,15 @@ pub struct Position {
     standing: Turn,
     /// Which way the player's checkers go by the numbers of the board line.
     direction: Direction,
-    /// Whose turn it is: 1 for O, -1 for X, 0 where the game is over.
+    /// Whose turn it is: 1 for O, -1 for X, 0 if the game is over.
     turn: i32,
     /// The player's colour: 1 for O, -1 for X.
     colour: i32,
-    /// 1 where the opponent has just doubled.
+    /// 1 if the opponent has just doubled.
     was_doubled: i32,
     /// What the doubling cube shows.
     cube: i32,
-    /// Not 0 where the player may double.
+    /// Not 0 if the player may double.
     may_double: i32,
     ghost own: { sum standing.checkers.own ≡ 15 },
     ghost other: { sum standing.checkers.other ≡ 15 },
@@ -83,7 +83,7 @@ impl Position {
         Ok(Position::with_checkers(board, arranged(&own, &other)))
     }
 
-    /// The position of a board whose checkers stand so.
+    /// The position of a board with these checkers.
     fn with_checkers(board: &Board, arrangement: Arrangement) -> Self
         requires view { arrangement ≡ own_view (fields_of board.now) }
         requires own { sum arrangement.own ≡ 15 }
@@ -173,7 +173,7 @@ impl Position {
         Phase::Passing
     }
 
-    /// Where the game stands, by the first line of this table that fits.
+    /// The phase of the game: the first line of this table that fits.
     ///
     /// | Phase | Condition | The player decides |
     /// |---|---|---|
@@ -197,8 +197,8 @@ impl Position {
         self.standing.most_dice()
     }
 
-    /// The play is legal: a run of steps by the dice held than which no run is longer, and by the larger die where only
-    /// one of two different dice can be played, and the larger can. The empty play is legal where nothing can be
+    /// The play is legal: a run of steps by the dice held than which no run is longer, and by the larger die if only
+    /// one of two different dice can be played, and the larger can. The empty play is legal if nothing can be
     /// played.
     pub fn is_legal(&self, play: &Play) -> bool
         ensures { IsTrue result ↔ LegalPlay (position_value self.now).standing (hops_of play.now) }
@@ -217,8 +217,8 @@ impl Position {
         }
     }
 
-    /// The cube allows the decision: a double is offered only where the player may, and neither offered nor accepted
-    /// where the cube shows more than 524,288.
+    /// The cube allows the decision: a double is offered only if the player may, and neither offered nor accepted
+    /// if the cube shows more than 524,288.
     fn cube_allows(&self, decision: &Decision) -> bool
         ensures { result ≡ cube_allows (position_value self.now) (decision_of decision.now) }
     {

@@ -5,7 +5,7 @@ ghost use Rattle.std.specs.Prelude.{◌≡◌, ◌≤◌, Some, length};
 use std::error::Error;
 use std::fmt;
 
-/// Why a board has no position. Of several the first is told.
+/// Why a board has no position. Of several the first is named.
 #[derive(Clone, Copy, Debug, PartialEq, Eq)]
 pub enum PositionFault {
     /// The player (field 2) is not `You`: the board is that of a watched game.

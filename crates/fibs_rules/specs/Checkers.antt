@@ -3,7 +3,7 @@ use Rattle.std.specs.Prelude.{◌≡◌, ℕ, ◌+◌, ◌-◌, ◌<◌, ◌&&�
 use Rattle.std.specs.Prelude.{if◌then◌else◌}
 use Rattle.std.specs.List.{list_all}
 
--- How many checkers stand on each place, in the player's own numbering. Of the player's own, place 25 is the bar and
+-- How many checkers are on each place, in the player's own numbering. Of the player's own, place 25 is the bar and
 -- place 0 is off. Of the other side, which goes the other way, place 0 is the bar and place 25 is off.
 pub record Checkers : Type 0 where
   pub own : List ℕ
@@ -22,7 +22,7 @@ hit other to = if nat_lt 0 to && (slice_index other to == 1) then shifted other 
 abbrev pub moved : Checkers → ℕ → ℕ → Checkers
 moved p from to = record { own = shifted p.own from to; other = hit p.other to }
 
--- a place where an own checker may come: off, or one that the other side does not hold with two or more
+-- a place to which an own checker may come: off, or one that the other side does not hold with two or more
 abbrev pub IsOpen : Checkers → ℕ → Type 0
 IsOpen p to = 0 < to → slice_index p.other to < 2
 
@@ -32,10 +32,10 @@ AllHome p = (place : ℕ) → 6 < place → slice_index p.own place ≡ 0
 
 -- ---- the same as functions
 
--- no own checker stands at this place or above it
+-- no own checker is at this place or above it
 abbrev pub is_empty_from : Checkers → ℕ → Bool
 is_empty_from p place = list_all (λ n. n == 0) (drop place p.own)
 
--- a place where an own checker may come
+-- a place to which an own checker may come
 abbrev pub is_open : Checkers → ℕ → Bool
 is_open p to = nat_lt (slice_index p.other to) 2 || (to == 0)

@@ -8,7 +8,7 @@ use Rattle.fibs_rules.specs.PlayValue.{IsPlay}
 use Rattle.fibs_rules.specs.Runs.{Standing}
 use Rattle.fibs_rules.specs.LegalPlays.{LegalPlay}
 
--- where two steps by one die, the second from a higher place than the first, lead from p to q, the same two in the
+-- if two steps by one die, the second from a higher place than the first, lead from p to q, the same two in the
 -- other order lead from p to q
 abbrev pub StepsSwap : Type 0
 StepsSwap =

@@ -23,7 +23,7 @@ lax_one p step =
     then Some (moved p step.source step.target)
     else None
 
--- what goes on from an arrangement, where there is one
+-- what goes on from an arrangement, if there is one
 abbrev pub lax_then : (Checkers → Option Checkers) → Option Checkers → Option Checkers
 lax_then more None = None
 lax_then more (Some q) = more q

@@ -14,7 +14,7 @@ use Rattle.fibs_rules.specs.Runs.{Run, RunOf, CanPlay, Standing, held, held_of, 
 abbrev pub IsLarger : Standing → ℕ → Type 0
 IsLarger p die = (0 < p.first) × (0 < p.second) × (p.first ≢ p.second) × (die ≡ max p.first p.second)
 
--- A run than which no run is longer. Where that is one step, and the larger of two different dice can be played,
+-- A run than which no run is longer. If that is one step, and the larger of two different dice can be played,
 -- a run of the larger.
 pub record LegalPlay (p : Standing) (steps : List Hop) : Type 0 where
   pub run : (q : Checkers) × RunOf p.checkers (held p) steps q

@@ -9,21 +9,21 @@ pub record Enters (p : Checkers) (from to die : ℕ) : Type 0 where
   pub from_bar : from ≡ 25
   pub onto : to + die ≡ 25
 
--- on the board, to the place that the die counts down, where no checker is on the bar
+-- on the board, to the place that the die counts down, if no checker is on the bar
 pub record Moves (p : Checkers) (from to die : ℕ) : Type 0 where
   pub bar_empty : slice_index p.own 25 ≡ 0
   pub occupied : 0 < slice_index p.own from
   pub onto : to + die ≡ from
   pub on_board : 0 < to
 
--- off, by the die that is the place, where all are home
+-- off, by the die that is the place, if all are home
 pub record BearsOff (p : Checkers) (from to die : ℕ) : Type 0 where
   pub home : AllHome p
   pub occupied : 0 < slice_index p.own from
   pub exact : from ≡ die
   pub off : to ≡ 0
 
--- off from the highest place, by a larger die, where all are home
+-- off from the highest place, by a larger die, if all are home
 pub record BearsOffHighest (p : Checkers) (from to die : ℕ) : Type 0 where
   pub home : AllHome p
   pub occupied : 0 < slice_index p.own from

@@ -71,7 +71,7 @@ longest p (die ∷ dice) = best_of (λ source q. suc (longest q dice)) p die 25
 abbrev pub most_of : Standing → ℕ
 most_of p = max (longest p.checkers (held_of p.first p.second)) (longest p.checkers (held_of p.second p.first))
 
--- a test of an arrangement, where there is one
+-- a test of an arrangement, if there is one
 abbrev pub passes : (Checkers → Bool) → Option Checkers → Bool
 passes test None = false
 passes test (Some q) = test q

@@ -23,7 +23,7 @@ pub record Reach : Type 0 where
   pub play : List Hop
   pub leads : Checkers
 
--- what goes on from an arrangement, and nothing where there is none
+-- what goes on from an arrangement, and nothing if there is none
 abbrev pub onward : (Checkers → List Reach) → Option Checkers → List Reach
 onward more None = []
 onward more (Some q) = more q
@@ -91,7 +91,7 @@ kept_in m q = option_map hops_of (get checkers_cmp m q)
 abbrev pub all_in_order : Standing → ℕ → ℕ → List Reach
 all_in_order p a b = reaches p.checkers (take (most_of p) (held_of a b)) 25 []
 
--- all runs that are tried: of the larger die alone where that is the rule, else in each order of the dice
+-- all runs that are tried: of the larger die alone if that is the rule, else in each order of the dice
 abbrev pub all_of : Standing → List Reach
 all_of p =
     if (most_of p == 1) && larger_first p

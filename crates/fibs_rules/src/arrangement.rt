@@ -47,7 +47,7 @@ fn all_zero(counts: &[u8]) -> bool
 }
 
 impl Arrangement {
-    /// The arrangement of these counts, where each side has fifteen.
+    /// The arrangement of these counts, if each side has fifteen.
     pub fn new(own: [u8; 26], other: [u8; 26]) -> Option<Self>
         ensures test { IsSome result ↔ ((sum own ≡ 15) × (sum other ≡ 15)) }
         ensures value { IfSome result (λ a. a ≡ record { own = own; other = other }) }
@@ -86,7 +86,7 @@ impl Arrangement {
         self.other[usize::from(place)]
     }
 
-    /// No own checker stands at this place or above it.
+    /// No own checker is at this place or above it.
     fn is_empty_from(&self, place: u8) -> bool
         requires { place ≤ 26 }
         ensures { result ≡ is_empty_from self.now place }
@@ -133,7 +133,7 @@ impl Arrangement {
                 || (self.is_empty_from(7) && (from == die || self.is_empty_from(from + 1))))
     }
 
-    /// The arrangement after one own checker went from a place by a die. None where the rules
+    /// The arrangement after one own checker went from a place by a die. None if the rules
     /// forbid it.
     pub(crate) fn one(&self, from: u8, die: u8) -> Option<Self>
         requires from { from ≤ 25 }
@@ -162,7 +162,7 @@ impl Arrangement {
         }
     }
 
-    /// The arrangement after these steps, as the server carries them out. None where it does not.
+    /// The arrangement after these steps, as the server carries them out. None if it does not.
     pub fn carried_out(&self, steps: &[Step]) -> Option<Self>
         ensures { result ≡ lax_of self.now (map hop_of steps.now) }
     {

@@ -8,7 +8,7 @@ ghost use Rattle.fibs_rules.specs.Laws.{StepsSwap, LegalIsCarriedOut, LegalPlays
 use crate::play::Play;
 use crate::step::Step;
 
-/// Steps are equal exactly where their places are.
+/// Steps are equal exactly if their places are.
 pub fn steps_are_their_places(a: &Step, b: &Step) -> bool
     ensures test { IsTrue result ↔ (hop_of a.now ≡ hop_of b.now) }
     ensures same { hop_of a.now ≡ hop_of b.now → a.now ≡ b.now }
@@ -16,7 +16,7 @@ pub fn steps_are_their_places(a: &Step, b: &Step) -> bool
     a == b
 }
 
-/// Plays are equal exactly where their steps are.
+/// Plays are equal exactly if their steps are.
 pub fn plays_are_their_steps(a: &Play, b: &Play) -> bool
     ensures test { IsTrue result ↔ (hops_of a.now ≡ hops_of b.now) }
     ensures same { hops_of a.now ≡ hops_of b.now → a.now ≡ b.now }
@@ -24,7 +24,7 @@ pub fn plays_are_their_steps(a: &Play, b: &Play) -> bool
     a == b
 }
 
-/// Where two steps by one die, the second from a higher place than the first, lead from one
+/// If two steps by one die, the second from a higher place than the first, lead from one
 /// arrangement to another, the same two in the other order lead there too.
 pub fn steps_swap()
     ensures { StepsSwap }

@@ -10,7 +10,7 @@ use std::fmt;
 
 /// A list of 0 to 4 steps, as many as one roll of the dice can give.
 ///
-/// Plays are equal where their steps are.
+/// Plays are equal if their steps are.
 #[derive(Clone, Copy, PartialEq, Eq)]
 pub struct Play {
     steps: [Step; 4],
@@ -42,7 +42,7 @@ impl Play {
         &self.steps[..self.len]
     }
 
-    /// Appends a step. False, and nothing is changed, where there are four already.
+    /// Appends a step. False, and nothing is changed, if there are four already.
     pub fn push(&mut self, step: Step) -> bool
         ensures room { IsTrue result ↔ (length (hops_of self.old) < 4) }
         ensures pushed { OnTrue result (hops_of self.new ≡ hops_of self.old ++ hop_of step ∷ []) }

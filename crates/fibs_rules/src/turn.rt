@@ -239,7 +239,7 @@ impl Turn {
     }
 
     /// For each arrangement that a legal play reaches, the greatest such play, the greatest
-    /// first. Where no checker can go that is the empty play alone.
+    /// first. If no checker can go that is the empty play alone.
     pub fn plays(&self, alloc: Global) -> Result<Vec<Play>, AllocError>
         ensures { IfOk result (λ plays. PlayList self.now (map hops_of plays.items)) }
     {

@@ -9,7 +9,7 @@ use Rattle.fibs_engine.specs.Escape.{escaped}
 use Rattle.fibs_engine.specs.Readings.{reading_text}
 use Rattle.fibs_engine.specs.Writing.{GainedFront}
 
--- what is printed for a line: `cut` and its kept bytes where it was cut, else what it reads as
+-- what is printed for a line: `cut` and its kept bytes if it was cut, else what it reads as
 abbrev pub ShownAs : Bool → List ℕ → List ℕ → Type 0
 ShownAs true bytes text = text ≡ codes "cut " ++ escaped bytes
 ShownAs false bytes text = (reading : ReadingValue) × IsReading bytes reading × (text ≡ reading_text reading)
@@ -23,7 +23,7 @@ ShownLines [] text = text ≡ []
 ShownLines (line ∷ lines) text =
     (first rest : List ℕ) × ShownLine line first × ShownLines lines rest × (text ≡ first ++ (10 ∷ rest))
 
--- what is printed at the end, where so many bytes stand after the last line end
+-- what is printed at the end, if so many bytes follow the last line end
 abbrev pub unfinished_text : ℕ → List ℕ
 unfinished_text held = if held == 0 then [] else codes "unfinished " ++ (decimal held ++ (10 ∷ []))
 
@@ -32,7 +32,7 @@ abbrev pub ShowText : List ℕ → List ℕ → Type 0
 ShowText s text = (shown : List ℕ) × ShownLines (lines_of s) shown
     × (text ≡ shown ++ unfinished_text (min kept_limit (length (rest_of s))))
 
--- What a reader has left, and what a writer holds, is Some list where it tells its bytes, and None where it tells
+-- What a reader has left, and what a writer holds, is Some list if the prover knows its bytes, and None if it knows
 -- nothing: of the latter the next five say nothing.
 
 -- a reader was read to its end, and a writer gained all that is printed for its bytes

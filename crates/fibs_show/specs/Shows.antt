@@ -4,8 +4,8 @@ use Rattle.fibs_lines.specs.Lines.{ReadLine, lines_of, rest_of, kept_limit}
 use Rattle.fibs_lines.specs.LinesValue.{LinesValue, StandsAfter}
 use Rattle.fibs_show.specs.Show.{ShownLines, unfinished_text}
 
--- wherever `old` stands, `now` stands after the bytes `piece` more, and `added` is what is printed for the lines that
--- they end
+-- from each stream that `old` is at, `now` is at the stream with the bytes `piece`, and `added` is what is printed for
+-- the lines that they end
 pub record Shows (old now : LinesValue) (piece added : List ℕ) : Type 0 where
   pub gained : List ReadLine
   pub shown : ShownLines gained added

@@ -94,7 +94,7 @@ fn append_canonical(canonical: &[u8], text: &mut Vec<u8>) -> Result<(), AllocErr
 /// Appends what is printed for a line that is read for it. It is not inlined, since room for what is read is cleared
 /// at each call.
 ///
-/// What `read` answers is matched where it stands: a name for it would be a copy of its hundreds of bytes.
+/// What `read` answers is matched at once: a name for it would be a copy of its hundreds of bytes.
 #[inline(never)]
 fn append_read(alloc: Global, line: &[u8], text: &mut Vec<u8>) -> Result<(), AllocError>
     ensures { OnOk result ((reading : ReadingValue) × IsReading line.now reading
@@ -112,7 +112,7 @@ fn append_read(alloc: Global, line: &[u8], text: &mut Vec<u8>) -> Result<(), All
     }
 }
 
-/// Appends what is printed for a line that was not cut. Nearly all lines of a server stand as they are printed.
+/// Appends what is printed for a line that was not cut. Nearly all lines of a server are spelled as they are printed.
 fn append_reading(alloc: Global, line: &[u8], text: &mut Vec<u8>) -> Result<(), AllocError>
     ensures { OnOk result ((reading : ReadingValue) × IsReading line.now reading
         × (text.new.items ≡ text.old.items ++ reading_text reading)) }

@@ -67,8 +67,8 @@ impl From<AllocError> for StreamFault {
 /// Prints what each line that is read says, to the reader's end. It reads at most 1,000,000,000 times, and at most 1024
 /// bytes at once.
 ///
-/// After a device's fault the writer has either all that is printed for the lines that were read, where the reader
-/// failed or did not end; or a front of what is printed for what was read, where the writer failed, and then nothing
+/// After a device's fault the writer has either all that is printed for the lines that were read, if the reader
+/// failed or did not end; or a front of what is printed for what was read, if the writer failed, and then nothing
 /// after it.
 pub fn show<R: Read, W: Write>(
     alloc: Global,
@@ -95,7 +95,7 @@ pub fn show<R: Read, W: Write>(
 
 /// The same with at most so many reads, each of at most as many bytes as `portion` has room for. It says what failed.
 ///
-/// It says `Endless` only where each of so many reads gave a byte.
+/// It says `Endless` only if each of so many reads gave a byte.
 pub fn show_portions<R: Read, W: Write>(
     alloc: Global,
     reads: u32,
@@ -152,7 +152,7 @@ fn finish<W: Write>(lines: &Lines, text: &mut Vec<u8>, writer: &mut W) -> Result
     Ok(())
 }
 
-/// Appends how many bytes stand after the last line end, if some do.
+/// Appends how many bytes follow the last line end, if some do.
 fn append_unfinished(held: usize, text: &mut Vec<u8>) -> Result<(), AllocError>
     ensures { OnOk result (text.new.items ≡ text.old.items ++ unfinished_text held) }
 {

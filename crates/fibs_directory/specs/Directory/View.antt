@@ -6,7 +6,7 @@ use Rattle.fibs_messages.specs.Message.{MessageValue}
 use Rattle.fibs_messages.specs.Message.{message}
 use Rattle.fibs_directory.specs.declared.player.Player.{Player}
 
--- a player as the message 5 that told of it
+-- a player as the message 5 that listed it
 abbrev pub player_value : Player → MessageValue
 player_value p = message 5
     (NameField p.name.items ∷ NameField p.opponent.items ∷ NameField p.watching.items
@@ -18,6 +18,6 @@ player_value p = message 5
 abbrev pub players_value : {Z : Type 0} → List (Vec ℕ Z × Player) → List MessageValue
 players_value es = map (λ e. player_value e.1) es
 
--- each player stands under its own name
+-- each player is under its own name
 abbrev pub IsKeyed : {Z : Type 0} → List (Vec ℕ Z × Player) → Type 0
 IsKeyed es = AllByRecursion (λ e. e.0.items ≡ e.1.name.items) es

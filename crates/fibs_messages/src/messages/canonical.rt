@@ -1,4 +1,4 @@
-//! Lines that stand as they are printed.
+//! Lines that are spelled as they are printed.
 
 ghost use Rattle.std.specs.Prelude.{◌≡◌, ◌≤◌, ◌++◌, length, take, true, IfSome, Some, None};
 ghost use Rattle.fibs_fields.specs.Field.{a_flag, a_name, a_number, a_rating, a_tail, a_text, a_word};
@@ -102,7 +102,7 @@ fn flag_len(text: &[u8]) -> Option<usize>
     Some(1)
 }
 
-/// How long the canonical decimal at the front of a text is, where it has so many digits at most.
+/// How long the canonical decimal at the front of a text is, if it has so many digits at most.
 #[inline(always)]
 fn decimal_len(text: &[u8], most: usize) -> Option<usize>
     requires some { 1 ≤ most }
@@ -119,14 +119,14 @@ fn decimal_len(text: &[u8], most: usize) -> Option<usize>
     Some(len)
 }
 
-/// How long the number at the front of a text is, where it has 19 digits at most. 64 bits hold each of these.
+/// How long the number at the front of a text is, if it has 19 digits at most. 64 bits hold each of these.
 fn number_len(text: &[u8]) -> Option<usize>
     ensures { IfSome result (λ len. Begins a_number text.now len) }
 {
     decimal_len(text, 19)
 }
 
-/// How long the rating at the front of a text is, where it has two digits after its point and 7 at most before it. 32
+/// How long the rating at the front of a text is, if it has two digits after its point and 7 at most before it. 32
 /// bits hold each of these.
 fn rating_len(text: &[u8]) -> Option<usize>
     ensures { IfSome result (λ len. Begins a_rating text.now len) }
@@ -141,7 +141,7 @@ fn rating_len(text: &[u8]) -> Option<usize>
     Some(whole + 3)
 }
 
-/// How long the field of this kind at the front of a text is, where it stands as it is printed and is seen to at once.
+/// How long the field of this kind at the front of a text is, if it is seen at once to be spelled as it is printed.
 #[inline(always)]
 fn field_len(kind: FieldKind, text: &[u8]) -> Option<usize>
     ensures { IfSome result (λ len. Begins (kind_seen kind) text.now len) }
@@ -157,7 +157,7 @@ fn field_len(kind: FieldKind, text: &[u8]) -> Option<usize>
     }
 }
 
-/// What stands after a field of this length and its space, or nothing where the text ends with it. None where neither
+/// What comes after a field of this length and its space, or nothing if the text ends with it. None if neither
 /// follows it.
 #[inline(always)]
 fn after_field(text: &[u8], len: usize) -> Option<Option<&[u8]>>
@@ -173,7 +173,7 @@ fn after_field(text: &[u8], len: usize) -> Option<Option<&[u8]>>
     }
 }
 
-/// What stands after the next field, where it is one of this kind that stands as it is printed.
+/// What comes after the next field, if it is one of this kind and spelled as it is printed.
 #[inline(always)]
 fn next_field(kind: FieldKind, text: &[u8]) -> Option<Option<&[u8]>>
     ensures { IfSome result (λ rest. Stands (kind_seen kind) (Some text.now) (seen rest)) }
@@ -182,7 +182,7 @@ fn next_field(kind: FieldKind, text: &[u8]) -> Option<Option<&[u8]>>
     after_field(text, len)
 }
 
-/// Whether the fields are of these kinds, and each stands as it is printed.
+/// Whether the fields are of these kinds, and each is spelled as it is printed.
 fn all_stand(kinds: &[FieldKind], fields: Option<&[u8]>) -> bool
     ensures { result ≡ true → AllStand (kinds_seen kinds.now) (seen fields.entry) None }
 {
@@ -199,7 +199,7 @@ fn all_stand(kinds: &[FieldKind], fields: Option<&[u8]>) -> bool
     rest.is_none()
 }
 
-/// The canonical line of the message that a line says, where that is the line itself, or the line without the spaces
+/// The canonical line of the message that a line says, if that is the line itself, or the line without the spaces
 /// at its end, and is seen to be so at once: no message is made of it.
 ///
 /// None promises nothing.

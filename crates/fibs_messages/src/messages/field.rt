@@ -11,7 +11,7 @@ use fibs_fields::word::{Tail, Word};
 /// A field of a message, with its value.
 #[derive(Clone, Copy, Debug)]
 pub enum Field<'a> {
-    /// A name, `-` where it stands for none.
+    /// A name, `-` if it means that there is none.
     Name(Name<'a>),
     /// Bytes without a space.
     Word(Word<'a>),
@@ -87,7 +87,7 @@ fn field_in<'a>(fields: &[Field<'a>], number: usize) -> Option<Field<'a>>
 }
 
 impl<'a> Message<'a> {
-    /// The field of this number, or None where the message has none. Fields are counted from 1 behind the message's
+    /// The field of this number, or None if the message has none. Fields are counted from 1 after the message's
     /// number, in the order of the line, as those of a malformed line are.
     pub fn field(&self, number: usize) -> Option<Field<'a>>
         ensures { option_map value_of result ≡ field_at number (message_of self.now).fields }

@@ -14,7 +14,7 @@ pub struct OwnInfo<'a> {
     pub autoboard: bool,
     /// Whether a doublet in the opening doubles the cube.
     pub autodouble: bool,
-    /// Whether the server makes a move where there is but one.
+    /// Whether the server makes a move if there is only one.
     pub automove: bool,
     /// Whether the user is away.
     pub away: bool,
@@ -26,23 +26,23 @@ pub struct OwnInfo<'a> {
     pub double: bool,
     /// Points of the matches played.
     pub experience: u64,
-    /// Whether the server bears off where it can.
+    /// Whether the server bears off if it can.
     pub greedy: bool,
     /// Whether a board is sent after every roll too.
     pub moreboards: bool,
     /// Whether the moves are listed after a game.
     pub moves: bool,
-    /// Whether the user is told who logs in and out.
+    /// Whether the server says who logs in and out.
     pub notify: bool,
     /// In hundredths.
     pub rating: u32,
-    /// Whether it is told how a rating was calculated.
+    /// Whether the server says how a rating was calculated.
     pub ratings: bool,
     /// Whether the user is ready to play.
     pub ready: bool,
     /// How many immediate redoubles: a number, `none` or `unlimited`.
     pub redoubles: Word<'a>,
-    /// Whether the start and the end of matches are told.
+    /// Whether the server reports the start and the end of matches.
     pub report: bool,
     /// Whether shouts are kept from the user.
     pub silent: bool,
@@ -50,7 +50,7 @@ pub struct OwnInfo<'a> {
     pub timezone: Word<'a>,
 }
 
-/// The contents of message 5: what the server tells of a player.
+/// The contents of message 5: what the server says of a player.
 #[derive(Clone, Copy, Debug, PartialEq, Eq)]
 pub struct WhoInfo<'a> {
     /// The player's name.
@@ -73,7 +73,7 @@ pub struct WhoInfo<'a> {
     pub login: u64,
     /// Where the player logged in from.
     pub hostname: Word<'a>,
-    /// The program that the player uses, `-` where it is not known.
+    /// The program that the player uses, `-` if it is not known.
     pub client: Word<'a>,
     /// The address of mail, `-` for none.
     pub email: Tail<'a>,

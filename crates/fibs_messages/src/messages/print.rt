@@ -54,7 +54,7 @@ fn append_count(out: &mut Vec<u8>, count: u64) -> Result<(), AllocError>
     append_piece(out, Buffer::new().format(count).as_bytes())
 }
 
-/// Appends a space and the text, or nothing where it is empty.
+/// Appends a space and the text, or nothing if it is empty.
 #[tactic(auto, unfolding(crate::specs::Message::canonical_field))]
 fn append_text(out: &mut Vec<u8>, text: &[u8]) -> Result<(), AllocError>
     ensures put { OnOk result (out.new.items ≡ out.old.items ++ canonical_field (TextField text.now)) }
@@ -186,7 +186,7 @@ fn append_message(out: &mut Vec<u8>, message: &Message<'_>) -> Result<(), AllocE
     }
 }
 
-/// Appends the line of a message, or nothing where memory is refused.
+/// Appends the line of a message, or nothing if memory is refused.
 fn append_whole(out: &mut Vec<u8>, message: &Message<'_>) -> Result<(), AllocError>
     ensures put { OnOk result (out.new.items ≡ out.old.items ++ canonical (message_of message.now)) }
     ensures refused { OnErr result (out.new.items ≡ out.old.items) }
