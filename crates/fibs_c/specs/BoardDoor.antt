@@ -1,4 +1,4 @@
--- What is told of a board.
+-- What C gets of a board.
 use Rattle.std.specs.Prelude.{◌≡◌, ℕ, ◌+◌, ◌≤◌, ◌⊎◌, List}
 use Rattle.fibs_boards.specs.Board.{BoardFields, BoardText, Wrong, spelling}
 use Rattle.fibs_fields.specs.Faults.{fault_number}

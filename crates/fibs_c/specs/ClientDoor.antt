@@ -29,7 +29,7 @@ abbrev pub IsNewClient : Option ClientValue → Option ClientValue → List ℕ 
 IsNewClient (Some c) new name password status = (status ≡ 502) × (new ≡ Some c)
 IsNewClient None new name password status = IsNewFor (login_fault name password) new name password status
 
--- after each history that it stood after, the client stands after that history with the input, and the wire holds just
+-- each history that the client was reached by, with the input, reaches it now, and the wire holds just
 -- the bytes of the commands that the machine hands out
 pub record DoesOnWire (old new : ClientValue) (i : InputValue) (wire : Wire) : Type 0 where
   pub stands : (t : Talk) → StandsAfter old t → StandsAfter new (step t i).talk

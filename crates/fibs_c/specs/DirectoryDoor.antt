@@ -54,7 +54,7 @@ IsCleared None new status = (status ≡ 501) × (new ≡ None)
 IsCleared (Some d) None status = ⊥
 IsCleared (Some d) (Some e) status = (status ≡ 0) × IsDirectory [] e
 
--- a field is told, or there is none of this number, and nothing is written
+-- a field is given, or there is none of this number, and nothing is written
 abbrev pub IsMaybeField : Option FieldValue → FieldRecord → FieldRecord → List ℕ → List ℕ → ℕ → Type 0
 IsMaybeField None field field' old new status = (status ≡ 506) × (new ≡ old) × (field' ≡ field)
 IsMaybeField (Some v) field field' old new status = IsToldField (told_field v) field' old new status

@@ -21,7 +21,7 @@ abbrev pub decision_of_ask : Option Ask → Option DecisionValue
 decision_of_ask None = None
 decision_of_ask (Some a) = Some a.1
 
--- what is told of a line: its bytes, whether it had more, what it is, the decision that it confirms, and whether a
+-- what C gets of a line: its bytes, whether it had more, what it is, the decision that it confirms, and whether a
 -- standing order rolls; behind its bytes the text is as it was
 pub record TellsLine (v : TakenValue) (h : Heard) (text text' : List ℕ) : Type 0 where
   pub ended : h.ended ≡ 1
@@ -34,7 +34,7 @@ pub record TellsLine (v : TakenValue) (h : Heard) (text text' : List ℕ) : Type
   pub confirmed : IsMaybeDecision h.confirmed (decision_of_ask v.confirmed)
   pub rolled : h.rolled ≡ flag_of v.rolled
 
--- no line ended, and nothing is told of one
+-- no line ended, and nothing is given of one
 pub record TellsNone (h : Heard) (text text' : List ℕ) : Type 0 where
   pub ended : h.ended ≡ 0
   pub len : h.len ≡ 0
@@ -49,7 +49,7 @@ abbrev pub IsTold : Option TakenValue → Heard → List ℕ → List ℕ → Ty
 IsTold None h text text' = TellsNone h text text'
 IsTold (Some v) h text text' = TellsLine v h text text'
 
--- what `Client::feed` does, and that its answer is told
+-- what `Client::feed` does, and that C gets its answer
 pub record Feeds (old new : ClientValue) (piece : List ℕ) (h : Heard) (text text' : List ℕ) (wire : Wire)
     : Type 0 where
   pub in_range : h.used ≤ length piece

@@ -1,4 +1,4 @@
--- What a function for C does, told by what C sees.
+-- What a function for C does, as C sees it.
 pub mod LinesDoor
 pub mod ManyLines
 pub mod ReadingsDoor

@@ -10,8 +10,8 @@ use Rattle.fibs_c.specs.declared.lines.FedLine.{FedLine}
 abbrev pub copied : FedLine → List ℕ → List ReadLine
 copied fed text = if is_set fed.ended then record { bytes = take fed.len text; cut = is_set fed.cut } ∷ [] else []
 
--- wherever the reader stood, it now stands after the bytes read too: the shortest front of the piece with which the
--- stream has one line more, and that line was copied; or the whole piece
+-- each stream that the reader was at, with the bytes read, is now its stream: the shortest front of the piece with
+-- which the stream has one line more, and that line was copied; or the whole piece
 pub record FeedsLine (old new : LinesValue) (piece : List ℕ) (fed : FedLine) (text : List ℕ) : Type 0 where
   pub in_range : fed.used ≤ length piece
   pub progress : 0 < length piece → 0 < fed.used
@@ -55,7 +55,7 @@ IsReset None new status = (status ≡ 501) × (new ≡ None)
 IsReset (Some v) None status = ⊥
 IsReset (Some v) (Some w) status = (status ≡ 0) × StandsAfter w []
 
--- how many bytes stand after the last line end, and the reader is as it was
+-- how many bytes follow the last line end, and the reader is as it was
 abbrev pub IsHeld : Option LinesValue → Option LinesValue → ℕ → ℕ → ℕ → Type 0
 IsHeld None new len len' status = (status ≡ 501) × (new ≡ None) × (len' ≡ len)
 IsHeld (Some v) new len len' status =

@@ -1,4 +1,4 @@
--- What is told of many lines in one call.
+-- What C gets of many lines in one call.
 use Rattle.std.specs.Prelude.{◌≡◌, ℕ, ◌+◌, ◌<◌, ◌≤◌, ◌++◌, ◌⊎◌, List, length, map, take, drop, Option, None, Some}
 use Rattle.std.specs.List.{AllByRecursion}
 use Rattle.fibs_lines.specs.Lines.{ReadLine, lines_of, kept_limit}
@@ -10,7 +10,7 @@ use Rattle.fibs_c.specs.declared.many_lines.Told.{Told}
 use Rattle.fibs_c.specs.declared.many_lines.ToldLine.{ToldLine}
 use Rattle.fibs_records.specs.declared.kinds.LineKind.{LineKind}
 
--- the line of a row, whose bytes stand in the text
+-- the line of a row, whose bytes are in the text
 abbrev pub line_in : List ℕ → ToldLine → ReadLine
 line_in text row = record { bytes = take row.len (drop row.start text); cut = is_set row.cut }
 
@@ -27,9 +27,9 @@ pub record LiesWithin (bytes : ℕ) (row : ToldLine) : Type 0 where
   pub place : row.start + row.len ≤ bytes
   pub flag : row.cut ≤ 1
 
--- wherever the reader stood, it now stands after the bytes read too, and the rows have the lines that these ended, with
--- what each is. It went on until the piece ended, the rows were full, or the room was too short for another line.
--- Behind what is told, rows and text are as they were
+-- each stream that the reader was at, with the bytes read, is now its stream, and the rows have the lines that these
+-- ended, with what each is. It went on until the piece ended, the rows were full, or the room was too short for another
+-- line. Behind what is given, rows and text are as they were
 pub record ReadsLines (old new : LinesValue) (piece : List ℕ) (told : Told) (rows rows' : List ToldLine)
     (text text' : List ℕ) : Type 0 where
   pub in_range : told.used ≤ length piece
@@ -54,7 +54,7 @@ AreLinesReadInRoom (Some v) None piece told told' rows rows' text text' status =
 AreLinesReadInRoom (Some v) (Some w) piece told told' rows rows' text text' status =
     (status ≡ 0) × ReadsLines v w piece told' rows rows' text text'
 
--- there is no room for one line: the room and the rows that are wanted are told, and nothing else is written
+-- there is no room for one line: the room and the rows that are wanted are given, and nothing else is written
 pub record WantsRoom (old new : Option LinesValue) (told : Told) (status : ℕ) : Type 0 where
   pub short : status ≡ 503
   pub unchanged : new ≡ old

@@ -25,7 +25,7 @@ IsDone i refusal None new status = (status ≡ 501) × (new ≡ None)
 IsDone i refusal (Some c) None status = ⊥
 IsDone i refusal (Some c) (Some d) status = DoesSilently i refusal c d status
 
--- whether a standing order stands, and the client is as it was
+-- whether a standing order is in force, and the client is as it was
 abbrev pub IsOrderTold : Option ClientValue → Option ClientValue → ℕ → ℕ → ℕ → Type 0
 IsOrderTold None new ordered ordered' status = (status ≡ 501) × (new ≡ None) × (ordered' ≡ ordered)
 IsOrderTold (Some c) new ordered ordered' status =

@@ -141,7 +141,7 @@ pub extern "C" fn fibs_client_plain(
     })
 }
 
-/// The connection is lost: nothing of it is kept. Tells the decision that waited, with its board, or one of kind 0 if
+/// The connection is lost: nothing of it is kept. Gives the decision that waited, with its board, or one of kind 0 if
 /// none did. It is never sent again by itself.
 #[unsafe(no_mangle)]
 pub extern "C" fn fibs_client_lose(

@@ -98,7 +98,7 @@ pub extern "C" fn fibs_directory_clear(alloc: Global, directory: &mut DirectoryH
     })
 }
 
-/// The field of this number of what was told of a player.
+/// The field of this number of what the server said of a player.
 fn player_part(player: &Player, number: usize) -> Option<FieldPart<'_>>
     ensures { option_map part_value result ≡ option_map told_field (field_at number (player_value player.now).fields) }
 {
@@ -119,7 +119,7 @@ fn player_part(player: &Player, number: usize) -> Option<FieldPart<'_>>
     }
 }
 
-/// Tells a field of a player, where there is one who has it.
+/// Gives a field of a player, if there is one who has it.
 fn put_player_field(
     player: Option<&Player>,
     number: usize,

@@ -34,7 +34,7 @@ pub struct Heard {
     pub ended: u8,
     /// Whether the line had more bytes than are kept.
     pub cut: u8,
-    /// The decision that waited, where the line confirms it; else of kind 0.
+    /// The decision that waited, if the line confirms it; else of kind 0.
     pub confirmed: DecisionRecord,
     /// Whether a standing order rolls at the line.
     pub rolled: u8,
@@ -61,10 +61,10 @@ fn maybe_record(decision: &Option<Decision>) -> DecisionRecord
     }
 }
 
-/// Tells what was heard where a line ended: copies the line, and hands out the commands that answer it.
+/// Gives what was heard if a line ended: copies the line, and hands out the commands that answer it.
 ///
 /// Each part is moved into a place of its own, and of a confirmed decision no board: while a part is lent from the
-/// answer, all of the answer stands in memory, which costs more than reading the line.
+/// answer, all of the answer is in memory, which costs more than reading the line.
 #[inline(always)]
 fn tell(used: usize, taken: Taken<'_>, text: &mut [u8], wire: &mut Wire) -> Heard
     requires { kept_limit ≤ length text.old }

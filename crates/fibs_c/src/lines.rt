@@ -116,7 +116,7 @@ pub extern "C" fn fibs_lines_reset(alloc: Global, lines: &mut LinesHandle) -> u3
     })
 }
 
-/// How many bytes stand after the last line end, at most as many as are kept of a line.
+/// How many bytes follow the last line end, at most as many as are kept of a line.
 #[unsafe(no_mangle)]
 pub extern "C" fn fibs_lines_held(alloc: Global, lines: &mut LinesHandle, len: &mut usize) -> u32
     ensures { IsHeld lines.old.value lines.new.value len.old len.new result }

@@ -81,7 +81,7 @@ fn goes_on(piece: &[u8], text: &[u8], rows: &[ToldLine], told: &Told) -> bool
     text.len() - told.bytes >= LIMIT
 }
 
-/// Reads on, up to and with the next line end, and tells the line that ends there, if one does.
+/// Reads on, up to and with the next line end, and gives the line that ends there, if one does.
 fn read_next(
     lines: &mut Lines,
     piece: &[u8],
@@ -131,10 +131,10 @@ fn read_all(lines: &mut Lines, piece: &[u8], text: &mut [u8], rows: &mut [ToldLi
     told
 }
 
-/// Reads the lines of a piece: the text of each stands behind that of the one before, and what each is in `rows`. It
+/// Reads the lines of a piece: the text of each follows that of the one before, and what each is in `rows`. It
 /// stops at the end of the piece, when `rows` are full, or when less than `fibs_max_line()` bytes of `text` are left.
 /// To be called again with what is left of the piece, until nothing is. If there is no room for one line, the room that
-/// is wanted is told.
+/// is wanted is given.
 #[unsafe(no_mangle)]
 pub extern "C" fn fibs_read_lines(
     alloc: Global,

@@ -22,7 +22,7 @@ fn status_of(answer: Result<(), Refusal>) -> u32
     }
 }
 
-/// Gives a standing order to roll: the client rolls by itself where it is due.
+/// Gives a standing order to roll: the client rolls by itself when it is due.
 #[unsafe(no_mangle)]
 pub extern "C" fn fibs_client_order_roll(alloc: Global, client: &mut ClientHandle) -> u32
     ensures { IsDone Order order_refusal_now client.old.value client.new.value result }
@@ -42,7 +42,7 @@ pub extern "C" fn fibs_client_withdraw_roll(alloc: Global, client: &mut ClientHa
     })
 }
 
-/// Whether a standing order to roll stands on the open connection.
+/// Whether a standing order to roll is in force on the open connection.
 #[unsafe(no_mangle)]
 pub extern "C" fn fibs_client_ordered(
     alloc: Global,

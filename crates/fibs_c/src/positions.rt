@@ -48,7 +48,7 @@ fn number_of(phase: Phase) -> u8
     }
 }
 
-/// Where the game stands on a board line: 1 over, 2 the player answers a double, 3 the opponent acts, 4 the player
+/// The phase of the game on a board line: 1 over, 2 the player answers a double, 3 the opponent acts, 4 the player
 /// rolls or doubles, 5 he moves, 6 he passes.
 #[unsafe(no_mangle)]
 pub extern "C" fn fibs_phase(line: &[u8], phase: &mut u8) -> u32
@@ -91,7 +91,7 @@ fn put_plays(plays: &[Play], room: &mut [DecisionRecord])
     }
 }
 
-/// Writes the plays where there is room for all of them.
+/// Writes the plays if there is room for all of them.
 fn hand_out_plays(plays: &[Play], room: &mut [DecisionRecord]) -> u32
     ensures { HandsOutPlays (map hops_of plays.now) room.old room.new result }
 {
@@ -103,7 +103,7 @@ fn hand_out_plays(plays: &[Play], room: &mut [DecisionRecord]) -> u32
 }
 
 /// The plays of a board line, one for each arrangement of checkers that a legal play reaches, the greatest first; none
-/// where the player does not move there.
+/// if the player does not move there.
 #[unsafe(no_mangle)]
 pub extern "C" fn fibs_plays(
     alloc: Global,

@@ -19,7 +19,7 @@ pub extern "C" fn fibs_read(line: &[u8]) -> LineKind
     LineKind::of(&read(line))
 }
 
-/// The field of this number, where the reading is a message that has one.
+/// The field of this number, if the reading is a message that has one.
 fn field_in<'a>(reading: &Reading<'a>, number: usize) -> Option<Field<'a>>
     ensures { option_map value_of result ≡ field_in (reading_of reading.now) number }
 {

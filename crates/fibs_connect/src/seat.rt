@@ -76,7 +76,7 @@ impl<S: Link + Drop> Seat<S> {
         Ok(Going::On)
     }
 
-    /// Connects, where there is no connection.
+    /// Connects, if there is no connection.
     pub fn open<D: Dial<Stream = S>, F: Front>(
         &mut self,
         server: &mut D,
@@ -148,7 +148,7 @@ impl<S: Link + Drop> Seat<S> {
         }
     }
 
-    /// The same where there is a connection.
+    /// The same if there is a connection.
     fn pass_on<F: Front>(
         &mut self,
         line: &[u8],

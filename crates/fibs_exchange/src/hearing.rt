@@ -68,7 +68,7 @@ fn tell_taken<F: Front>(taken: &Taken<'_>, front: &mut F) -> Result<(), Exchange
     tell_rolled(taken.rolled, front)
 }
 
-/// Tells the directory a message, and the front end why where it takes no note.
+/// Tells the directory a message, and the front end why if it takes no note.
 fn note_taken<F: Front>(
     reading: &Reading<'_>,
     directory: &mut Directory,

@@ -145,14 +145,14 @@ fn talk_offline<F: Front>(
 /// read would wait or timed out (`Quiet`), or the connection is over (`Lost`). It reads at most 4096 times, at most
 /// 1024 bytes at once.
 ///
-/// A stream is given exactly where the client is online; without one nothing is read. A typed line is a decision in the
+/// A stream is given exactly if the client is online; without one nothing is read. A typed line is a decision in the
 /// place numbers of the board shown, else a plain command, else a standing order to roll or its withdrawal. For each
 /// line the commands that it calls for are written first, the `roll` of a standing order that it makes due among them;
 /// then the front end is told it, then the directory. Only the directory takes memory: what it refuses is told.
 ///
-/// Errors: `Output` where the front end can't take what it is told. The client is then as after its last finished call:
+/// Errors: `Output` if the front end can't take what it is told. The client is then as after its last finished call:
 /// it made the typed call, then it was fed what was read, all of it or up to the end of the line that is not taken, and
-/// then it lost its connection, where that is what is not taken. The commands of these calls are written.
+/// then it lost its connection, if that is what is not taken. The commands of these calls are written.
 pub fn exchange_with<S: Link, F: Front>(
     client: &mut Client,
     directory: &mut Directory,
@@ -183,14 +183,14 @@ pub fn exchange_with<S: Link, F: Front>(
 /// read would wait or timed out (`Quiet`), or the connection is over (`Lost`). It reads at most 4096 times, at most
 /// 1024 bytes at once.
 ///
-/// A stream is given exactly where the client is online; without one nothing is read. A typed line is a decision in the
+/// A stream is given exactly if the client is online; without one nothing is read. A typed line is a decision in the
 /// place numbers of the board shown, else a plain command, else a standing order to roll or its withdrawal. For each
 /// line the commands that it calls for are written first, the `roll` of a standing order that it makes due among them;
 /// then it is printed, then the directory is told. Only the directory takes memory: what it refuses is printed.
 ///
-/// Errors: `Output` where what is printed can't be written. The client is then as after its last finished call: it made
+/// Errors: `Output` if what is printed can't be written. The client is then as after its last finished call: it made
 /// the typed call, then it was fed what was read, all of it or up to the end of the line that is not printed, and then
-/// it lost its connection, where that is what is not printed. The commands of these calls are written.
+/// it lost its connection, if that is what is not printed. The commands of these calls are written.
 pub fn exchange<S: Link, W: Write>(
     client: &mut Client,
     directory: &mut Directory,

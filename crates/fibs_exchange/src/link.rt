@@ -24,7 +24,7 @@ pub trait Link: Read + Write {
         ensures apart { Keeps (Self.remaining self.old) (Self.remaining self.new) };
 }
 
-/// A read that waits for the server is interrupted where the program was stopped and goes on. That ends no connection.
+/// A read that waits for the server is interrupted if the program was stopped and goes on. That ends no connection.
 impl Link for TcpStream {
     fn receive(&mut self, buf: &mut [u8]) -> io::Result<usize> {
         read_retrying(self, buf)

@@ -96,7 +96,7 @@ pub(crate) fn type_line<S: Link, F: Front>(
     }
 }
 
-/// The same offline, where the client sends nothing.
+/// The same offline: the client sends nothing.
 pub(crate) fn type_offline<F: Front>(
     client: &mut Client,
     text: &[u8],

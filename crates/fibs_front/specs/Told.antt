@@ -27,7 +27,7 @@ pub data SaidValue : Type 0 where
   unknown_said : SaidValue  -- what was typed is no command
   lost_said : Option Ask → SaidValue  -- the connection is over, with this decision unconfirmed
   unnoted_said : DirectoryFault → SaidValue  -- the directory took no note of a message
-  player_said : MessageValue → SaidValue  -- a player is known, by the message that told of him
+  player_said : MessageValue → SaidValue  -- a player is known, by the message that listed him
 
 -- how a front end comes from one state to another by being told things, one after another: told nothing it may stay,
 -- and what is told may be told in parts

@@ -22,7 +22,7 @@ use std::io::Write;
 type PlayerLine = ArrayVec<u8, 128>;
 
 /// A front end that prints a line for what it is told: none for a connection that is made, or a line that is sent as it
-/// is, and no reason where no connection can be made.
+/// is, and no reason if no connection can be made.
 #[derive(Drop)]
 pub struct Plain<'a, W: Write> {
     /// Where it prints.

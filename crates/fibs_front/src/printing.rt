@@ -1,4 +1,4 @@
-//! Lines are printed, each by one write where the writer takes all of it, with no memory taken.
+//! Lines are printed, each by one write if the writer takes all of it, with no memory taken.
 ghost use Rattle.std.specs.Prelude.{◌≡◌, ◌≤◌, ◌+◌, ◌++◌, length, OnOk, IfSome};
 ghost use Rattle.std.specs.Io.KnownBytes.{Appends};
 ghost use Rattle.fibs_commands.specs.TextOf.{text_of};

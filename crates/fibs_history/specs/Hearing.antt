@@ -1,4 +1,4 @@
--- What a line says to a client (FIBS CLIP specification 1008; FIBS board style 3): the one place where it stands.
+-- What a line says to a client (FIBS CLIP specification 1008; FIBS board style 3): the one place that says it.
 use Rattle.std.specs.Prelude.{ℕ, Bool, false, List, [], ◌∷◌, ◌++◌, Option, None, if◌then◌else◌, nat_eq}
 use Rattle.fibs_lines.specs.Lines.{ReadLine}
 use Rattle.fibs_boards.specs.Board.{BoardFields}
@@ -56,7 +56,7 @@ heard_message c log m =
     }
     else nothing_heard)
 
--- what a board confirms: what was unconfirmed before it, where the stretch after it is not spent
+-- what a board confirms: what was unconfirmed before it, if the stretch after it is not spent
 abbrev pub confirmed_by_board : ℕ → List Entry → BoardFields → Option Ask
 confirmed_by_board c log b = if is_spent same_game c (log ++ Shown c b ∷ []) then None else unconfirmed same_game c log
 
@@ -72,7 +72,7 @@ shows_board c log b rolls = record {
   rolled = rolls;
 }
 
--- a board that has a position is shown; where a standing order is then due, the roll is sent
+-- a board that has a position is shown; if a standing order is then due, the roll is sent
 abbrev pub heard_board : ℕ → List Entry → BoardFields → Heard
 heard_board c log b =
     if good b then shows_board c log b (is_due c (log ++ Shown c b ∷ []) b) else nothing_heard

@@ -68,7 +68,7 @@ stays t = record { talk = t; send = [] }
 
 -- Open
 
--- refused where a connection is open
+-- refused if a connection is open
 abbrev pub open_refusal : Talk → Option Refusal
 open_refusal t = if is_online t then Some R.AlreadyOpen else None
 
@@ -188,23 +188,23 @@ plains t p = sends_plain t p (plain_refusal t p)
 
 -- Order and Withdraw
 
--- a standing order stands on the open connection
+-- a standing order is in force on the open connection
 abbrev pub ordered_now : Talk → Bool
 ordered_now t = is_ordered (open_now t.log) t.log
 
--- refused offline, and where one stands already
+-- refused offline, and if one is in force already
 abbrev pub order_refusal : List Entry → Option Refusal
 order_refusal log =
     if nat_eq (open_now log) 0 then Some R.Offline
     else (if is_ordered (open_now log) log then Some R.AlreadyOrdered else None)
 
--- refused offline, and where none stands
+-- refused offline, and if none is in force
 abbrev pub withdraw_refusal : List Entry → Option Refusal
 withdraw_refusal log =
     if nat_eq (open_now log) 0 then Some R.Offline
     else (if is_ordered (open_now log) log then None else Some R.NotOrdered)
 
--- an entry is noted where nothing refuses it
+-- an entry is noted if nothing refuses it
 abbrev pub notes_if : Talk → Entry → Option Refusal → Step
 notes_if t e (Some why) = stays t
 notes_if t e None = does t (e ∷ []) []

@@ -16,7 +16,7 @@ abbrev pub is_to_roll : Phase → Bool
 is_to_roll RollOrDouble = true
 is_to_roll phase = false
 
--- An order is due at a board shown on a connection, of the history that ends with that Shown: it stands there, the
+-- An order is due at a board shown on a connection, of the history that ends with that Shown: it is in force there, the
 -- player may not double (field 39), it is the phase before the roll, and a click on Roll would be answered by yes.
 unfoldable pub is_due : ℕ → List Entry → BoardFields → Bool
 is_due c log b =

@@ -9,7 +9,7 @@ use Rattle.fibs_history.specs.Words.{is_empty, open_now, welcomed, informed}
 abbrev pub owed_on : ℕ → List Entry → ℕ
 owed_on c log = (if is_empty (welcomed c log) then 18 else 0) + (if is_empty (informed c log) then 44 else 0)
 
--- while a standing order stands, `roll` with its line end at each of the lines to come
+-- while a standing order is in force, `roll` with its line end at each of the lines to come
 abbrev pub rolls_owed : Talk → ℕ → ℕ
 rolls_owed t lines = if ordered_now t then 6 * lines else 0
 
@@ -17,7 +17,7 @@ rolls_owed t lines = if ordered_now t then 6 * lines else 0
 abbrev pub owed : Talk → ℕ → ℕ
 owed t lines = owed_on (open_now t.log) t.log + rolls_owed t lines
 
--- the entries: one at each line, and while a standing order stands one more
+-- the entries: one at each line, and while a standing order is in force one more
 abbrev pub entries_owed : Talk → ℕ → ℕ
 entries_owed t lines = if ordered_now t then 2 * lines else lines
 
@@ -25,7 +25,7 @@ entries_owed t lines = if ordered_now t then 2 * lines else lines
 abbrev pub lines_in : Talk → List ℕ → ℕ
 lines_in t bytes = if is_online t then length (gained t.stream bytes) else 0
 
--- what a piece makes the client hand out is taken from what is owed: on a connection 62 bytes at most where no standing
+-- what a piece makes the client hand out is taken from what is owed: on a connection 62 bytes at most if no standing
 -- order is given
 abbrev pub PiecesTakeFromWhatIsOwed : Type 0
 PiecesTakeFromWhatIsOwed =

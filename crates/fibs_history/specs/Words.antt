@@ -107,19 +107,19 @@ abbrev pub is_given : Option Bool → Bool
 is_given None = false
 is_given (Some given) = given
 
--- a standing order stands on the connection
+-- a standing order is in force on the connection
 abbrev pub is_ordered : ℕ → List Entry → Bool
 is_ordered c log = is_given (last (orders c log))
 
 -- A connection's stretch is its last block of boards shown one after another that are alike. Its first Shown is
--- the first after which only boards like it are shown. The stretch is spent where something was sent after that.
+-- the first after which only boards like it are shown. The stretch is spent if something was sent after that.
 abbrev pub is_spent : (Board → Board → Bool) → ℕ → List Entry → Bool
 is_spent like c [] = false
 is_spent like c (Shown d b ∷ later) =
     if nat_eq d c && each (like b) (shown c later) then not (is_empty (sent c later)) else is_spent like c later
 is_spent like c (e ∷ later) = is_spent like c later
 
--- what is unconfirmed: the last that was sent, where the stretch is spent
+-- what is unconfirmed: the last that was sent, if the stretch is spent
 abbrev pub unconfirmed : (Board → Board → Bool) → ℕ → List Entry → Option Ask
 unconfirmed like c log = if is_spent like c log then last (sent c log) else None
 

@@ -8,7 +8,7 @@ use fibs_commands::PlainFault;
 use std::fmt;
 
 /// Why a client refuses to open a connection, to send a decision or a plain command, or to take or end a standing
-/// order. Of several reasons the first is told.
+/// order. Of several reasons the first is named.
 #[derive(Clone, Copy, Debug, PartialEq, Eq)]
 pub enum Refusal {
     /// A connection is open.
@@ -31,9 +31,9 @@ pub enum Refusal {
     IllegalPlay,
     /// The server does not do by itself what the command turns off, or the command was already sent.
     NotOn,
-    /// A standing order to roll stands on this connection.
+    /// A standing order to roll is in force on this connection.
     AlreadyOrdered,
-    /// No standing order to roll stands on this connection.
+    /// No standing order to roll is in force on this connection.
     NotOrdered,
 }
 
@@ -88,7 +88,7 @@ impl fmt::Display for Refusal {
     }
 }
 
-/// Why a client refuses to send a plain command. Of several reasons the first is told.
+/// Why a client refuses to send a plain command. Of several reasons the first is named.
 #[derive(Clone, Copy, Debug, PartialEq, Eq)]
 pub enum PlainRefusal {
     /// No connection is open.

@@ -22,7 +22,7 @@ use std::net::{Net, TcpListener, TcpStream};
 /// What one end sends waits there until an event takes it; then it crosses the socket in portions of at most 1024
 /// bytes, each written and then read, so that no write waits for a reader.
 ///
-/// Errors: `Device` where the script can't be read, what is printed can't be written, or a socket fails; `Memory` where
+/// Errors: `Device` if the script can't be read, what is printed can't be written, or a socket fails; `Memory` if
 /// it runs out. After a socket's failure and without memory the log so far is printed.
 pub fn play_loop<N: Net<Stream = TcpStream>, R: Read, W: Write>(
     rt: &N,

@@ -59,7 +59,7 @@ fn connected<N: Net<Stream = TcpStream>>(
     Ok(Ends { client, server })
 }
 
-/// Moves a portion: it is written at one end, and as many bytes are read at the other. Broken where they are others:
+/// Moves a portion: it is written at one end, and as many bytes are read at the other. Broken if they are others:
 /// then the other end is a stranger's.
 fn carry<F: Write, T: Read>(
     bytes: &[u8],

@@ -27,7 +27,7 @@ bytes_of (Serves d) = []
 abbrev pub put_by : List Act → List ℕ
 put_by acts = flat_map bytes_of acts
 
--- a line goes out where the connection that is logged in is open
+-- a line goes out if the connection that is logged in is open
 abbrev pub sending : World → Act → List Act
 sending w a = if is_talking w then a ∷ [] else []
 

@@ -40,7 +40,7 @@ abbrev pub is_took : ℕ → Entry → Bool
 is_took c (Took d b m) = nat_eq d c
 is_took c e = false
 
--- the i-th Took of c stands after the i-th Sent of c, which is there
+-- the i-th Took of c comes after the i-th Sent of c, which is there
 abbrev pub InOrder : ℕ → List Entry → Type 0
 InOrder c log =
     (i : ℕ) → i < length (took c log)
@@ -56,14 +56,14 @@ abbrev pub AllGood : List BoardFields → Type 0
 AllGood [] = Unit {0}
 AllGood (b ∷ rest) = IsGood b × AllGood rest
 
--- what a Sent answers, behind the log before it: a click there of this decision that was answered by yes, or, where it
+-- what a Sent answers, after the log before it: a click there of this decision that was answered by yes, or, if it
 -- is a roll, a board shown there, this one, at which a standing order of that connection was due
 pub data Answers (c : ℕ) (b : BoardFields) : List Entry → DecisionValue → Type 0 where
   its_click : (before : List Entry) (d : DecisionValue) → Answers c b (before ++ Clicked c d None ∷ []) d
   its_order : (before : List Entry) → c ≡ open_now before → is_due c (before ++ Shown c b ∷ []) b ≡ true
       → Answers c b (before ++ Shown c b ∷ []) roll
 
--- each decision sent stands directly after what it answers
+-- each decision sent comes directly after what it answers
 abbrev pub AllAnswerTheirs : List Entry → Type 0
 AllAnswerTheirs log =
     (before later : List Entry) (c : ℕ) (b : BoardFields) (d : DecisionValue) → log ≡ before ++ Sent c b d ∷ later
@@ -91,7 +91,7 @@ AllOnShown log =
     (before later : List Entry) (c : ℕ) (b : BoardFields) (d : DecisionValue) → log ≡ before ++ Sent c b d ∷ later
     → last (shown c before) ≡ Some b
 
--- Where a board is shown that differs from the board of a decision that was sent before it on that connection, all that
+-- If a board is shown that differs from the board of a decision that was sent before it on that connection, all that
 -- was sent there up to that decision took effect.
 abbrev pub AllMovedOn : List Entry → Type 0
 AllMovedOn log =
@@ -105,7 +105,7 @@ NoneUndone [] = Unit {0}
 NoneUndone (Undone c b d ∷ later) = ⊥
 NoneUndone (e ∷ later) = NoneUndone later
 
--- each click is of the connection that is open before it (0 where none is), and carries the answer of the log before it
+-- each click is of the connection that is open before it (0 if none is), and carries the answer of the log before it
 abbrev pub AllAnswered : List Entry → Type 0
 AllAnswered log =
     (before later : List Entry) (c : ℕ) (d : DecisionValue) (a : Option Refusal) → log ≡ before ++ Clicked c d a ∷ later
@@ -148,7 +148,7 @@ pub record Headline (w : World) : Type 0 where
   pub on_shown : AllOnShown w.log
   -- each is legal;
   pub legal : (c : ℕ) → AllLegal (sent c w.log)
-  -- each answers its own click or a standing order given there: it stands directly after its click, or, a roll, after
+  -- each answers its own click or a standing order given there: it comes directly after its click, or, a roll, after
   -- the board at which the order is due;
   pub own : AllAnswerTheirs w.log
   -- each click answered by yes is directly followed by its decision,

@@ -99,7 +99,7 @@ pub record LastUnserved (c : ℕ) (acts : List Act) (w : World) : Type 0 where
   pub all : sent c w.log ≡ served c w.log ++ at_most_one unserved
   -- what the server's acts serve there is what the log says was served there
   pub serves : flat_map served_at acts ≡ decisions_of (served c w.log)
-  -- and where the connection may still be served, the one that was not is the only decision left on its wire
+  -- and if the connection may still be served, the one that was not is the only decision left on its wire
   pub left : 0 < c → w.logged_in ≤ c → Left c unserved w
 
 -- of the server's acts on each connection, and of the world after them

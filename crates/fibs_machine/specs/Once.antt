@@ -1,5 +1,5 @@
 -- A decision takes effect at most once: what one event makes of the server's board, and what a list of events does (the
--- project's own). Boards are one game where their game parts are.
+-- project's own). Boards are one game if their game parts are.
 use Rattle.std.specs.Prelude.{◌≡◌, ◌⊎◌, ℕ, true, List, [], ◌∷◌, ◌++◌, None, All, flat_map}
 use Rattle.fibs_boards.specs.Board.{BoardFields}
 use Rattle.fibs_position.specs.BoardEffect.{Effect}

@@ -1,12 +1,12 @@
 -- Lists of events. The world after a list is a function of the first board, the login and the events, in which all
--- choices stand.
+-- choices are.
 use Rattle.std.specs.Prelude.{◌≡◌, ℕ, List, [], ◌∷◌, None}
 use Rattle.fibs_boards.specs.Board.{BoardFields}
 use Rattle.fibs_machine.specs.Events.{Event}
 use Rattle.fibs_machine.specs.World.{World, start, after}
 use Rattle.fibs_machine.specs.Refusals.{refusal}
 
--- none of the events is refused where it comes
+-- no event is refused when it comes
 abbrev pub AllAccepted : List ℕ → World → List Event → Type 0
 AllAccepted login w [] = Unit {0}
 AllAccepted login w (e ∷ es) = (refusal w e ≡ None) × AllAccepted login (after login w e) es

@@ -20,7 +20,7 @@ user_decides b = decides (phase_of b)
 abbrev pub own_refusal : BoardFields → BoardFields → Option WorldRefusal
 own_refusal now b = if not (good b) then Some BadBoard else (if user_decides now then Some UserDecides else None)
 
--- the board to which a decision leads with two dice, where it is carried out
+-- the board to which a decision leads with two dice, if it is carried out
 abbrev pub effect : BoardFields → DecisionValue → ℕ → ℕ → Option BoardFields
 effect b d d1 d2 = effect_of b d (d1 ∷ d2 ∷ [])
 
@@ -58,7 +58,7 @@ pub data Served : Type 0 where
   -- it is no decision
   Answered : Served
 
--- a decision is carried out where it leads to a board
+-- a decision is carried out if it leads to a board
 abbrev pub carried : DecisionValue → Option BoardFields → Served
 carried d None = Undone d
 carried d (Some b) = Took d b

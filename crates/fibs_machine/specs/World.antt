@@ -66,7 +66,7 @@ asks w c texts = handed (linked w c (more_asked (w.links c) (wire_of texts))) c 
 abbrev pub is_talking : World → Bool
 is_talking w = nat_eq (open_now w.log) w.logged_in && not (nat_eq w.logged_in 0)
 
--- the server sends a line with CR LF to the connection logged in; it is dropped where there is none, or it is lost
+-- the server sends a line with CR LF to the connection logged in; it is dropped if there is none, or it is lost
 abbrev pub sends : World → List ℕ → World
 sends w line =
     if is_talking w then linked w w.logged_in (more_coming (w.links w.logged_in) (on_wire line)) else w
@@ -93,12 +93,12 @@ abbrev pub clicks : ℕ → World → DecisionValue → Option Refusal → World
 clicks c w d (Some x) = noted w (L.Clicked c d (Some x) ∷ [])
 clicks c w d None = sends_out c w d (last (shown c w.log))
 
--- the client sends a plain command, where it does not refuse
+-- the client sends a plain command, if it does not refuse
 abbrev pub sends_plain : World → PlainValue → Option PlainRefusal → World
 sends_plain w p (Some why) = w
 sends_plain w p None = asks w (open_now w.log) (plain_of p ∷ [])
 
--- an entry is noted, where the client does not refuse
+-- an entry is noted, if the client does not refuse
 abbrev pub notes_unless : World → Entry → Option Refusal → World
 notes_unless w e (Some why) = w
 notes_unless w e None = noted w (e ∷ [])
@@ -111,7 +111,7 @@ does_served c w (Took d b) = sends (noted (record w { board = b }) (L.Took c w.b
 does_served c w (Undone d) = sends (noted w (L.Undone c w.board d ∷ [])) (spelling w.board)
 does_served c w Answered = sends w (spelling w.board)
 
--- the server, and the line of c that it takes next: the first where none was taken before
+-- the server, and the line of c that it takes next: the first if none was taken before
 abbrev pub server_of : World → ServerValue
 server_of w = record { board = w.board; logged_in = w.logged_in }
 
@@ -119,7 +119,7 @@ abbrev pub line_of : World → ℕ → List ℕ → ℕ → ℕ → TakenLine
 line_of w c text d1 d2 =
     record { conn = c; first = is_empty (w.links c).served; text = text; die = d1; other_die = d2 }
 
--- the server takes the next line of c, where there is one
+-- the server takes the next line of c, if there is one
 abbrev pub serves : ℕ → World → ℕ → ℕ → Option (List ℕ × List ℕ) → World
 serves c w d1 d2 None = w
 serves c w d1 d2 (Some p) =

@@ -6,8 +6,8 @@ ghost use Rattle.fibs_machine.specs.declared.refusal.WorldRefusal.TheVariants.{M
 use std::alloc::AllocError;
 use std::fmt;
 
-/// Why an event may not be. Of several the first of the event's line is told, and `Memory` only
-/// where no other holds.
+/// Why an event may not be. Of several the first of the event's line is named, and `Memory` only
+/// if no other holds.
 #[derive(Clone, Copy, Debug, PartialEq, Eq)]
 pub enum WorldRefusal {
     /// No memory could be had for what the event adds.

@@ -22,7 +22,7 @@ abbrev pub ask_links : List LinkValue → ℕ → List (List ℕ) → List LinkV
 ask_links links c [] = links
 ask_links links c (t ∷ ts) = set_link links c (more_asked (link_at links c) (wire_of (t ∷ ts)))
 
--- a line goes to the connection logged in, where that is the open one
+-- a line goes to the connection logged in, if that is the open one
 abbrev pub send_links : ℕ → ℕ → List LinkValue → List ℕ → List LinkValue
 send_links logged_in c links line =
     if nat_eq c logged_in && not (nat_eq logged_in 0)
@@ -35,7 +35,7 @@ click_entries c d (Some why) b = L.Clicked c d (Some why) ∷ []
 click_entries c d None None = L.Clicked c d None ∷ []
 click_entries c d None (Some b) = L.Clicked c d None ∷ L.Sent c b d ∷ []
 
--- what is noted of an order, or of its end, where the client does not refuse it
+-- what is noted of an order, or of its end, if the client does not refuse it
 abbrev pub unless_refused : Option Refusal → L.Entry → List L.Entry
 unless_refused (Some why) e = []
 unless_refused None e = e ∷ []

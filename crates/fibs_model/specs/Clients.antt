@@ -8,8 +8,8 @@ use Rattle.fibs_machine.specs.World.{World, after, talk_of}
 use Rattle.fibs_machine.specs.Refusals.{refusal}
 use Rattle.fibs_machine.specs.Talks.{IsWorld, input_of, left_of}
 
--- A client that stands where the world's client does goes on so: by its own call where the event is its input, and by
--- itself where not.
+-- A client that is reached by what reaches the world's client goes on so: by its own call if the event is its input,
+-- and by itself if not.
 pub record ClientFollows : Type 0 where
   pub acts : (login : List ℕ) (w : World) (e : Event) (i : InputValue) (old new : ClientValue) (send : List (List ℕ))
       → IsWorld w → refusal w e ≡ None → input_of w e ≡ Some i

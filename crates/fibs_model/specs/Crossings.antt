@@ -17,7 +17,7 @@ abbrev pub line_crossed : Option (List ℕ × List ℕ) → List Crossing
 line_crossed None = []
 line_crossed (Some p) = crossed ToServer (on_wire p.0) ∷ []
 
--- the next line of a connection, where it is the open one; what is left of a lost one has crossed at the loss
+-- the next line of a connection, if it is the open one; what is left of a lost one has crossed at the loss
 abbrev pub line_crossings : (open_conn conn : ℕ) → List ℕ → List Crossing
 line_crossings open_conn conn asked = if nat_eq conn open_conn then line_crossed (next_line asked) else []
 

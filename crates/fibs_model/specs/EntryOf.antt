@@ -25,12 +25,12 @@ entry_of (E.Lost conn unconfirmed) = V.Lost conn (option_map ask_of unconfirmed)
 entry_of (E.Ordered conn) = V.Ordered conn
 entry_of (E.Withdrawn conn) = V.Withdrawn conn
 
--- what was noted where it was one entry or none
+-- what was noted, if it was one entry or none
 abbrev pub entries_of : Option Entry → List V.Entry
 entries_of None = []
 entries_of (Some e) = entry_of e ∷ []
 
--- the roll of a standing order, where one rolled at a line: it is sent on the line's board
+-- the roll of a standing order, if one rolled at a line: it is sent on the line's board
 abbrev pub roll_entries : ℕ → ReadingValue → Bool → List V.Entry
 roll_entries c (board_line b) rolled = one_if rolled (V.Sent c b roll)
 roll_entries c reading rolled = []

@@ -13,7 +13,7 @@ use Rattle.fibs_model.specs.LinksOf.{LinkValue, link_at, set_link, seen, RoomToS
 use Rattle.fibs_model.specs.WireLinks.{more_asked, delivered}
 use Rattle.fibs_model.specs.declared.world.link.Link as C
 
--- the client stands after what has happened, and this connection is open
+-- the client is reached by what has happened, and this connection is open
 pub record IsTalking (client : ClientValue) (conn : ℕ) (t : Talk) : Type 0 where
   pub stands : StandsAfter client t
   pub is_open : open_now t.log ≡ conn

@@ -1,4 +1,4 @@
--- The wires of the program's connections as values, and those of the machine for which they stand.
+-- The wires of the program's connections as values, and those of the machine to which they correspond.
 use Rattle.std.specs.Prelude.{◌≡◌, ◌≤◌, ◌-◌, ℕ, Bool, true, List, [], ◌∷◌, map, get_or, slice_set}
 use Rattle.fibs_history.specs.Words.{is_empty}
 use Rattle.fibs_machine.specs.Wires as W

@@ -23,28 +23,29 @@ pub record IsAfter (v : WorldValue) (name password : List ℕ) (first : BoardFie
   pub may_be : MayBe (login_text name password) first events
   pub stands : StandsFor v (login_text name password) (machine_after name password first events)
 
--- The world stands after the events: the name and the password are a login, the first board is good, the events may all
--- be, one after another, and the world is what they make of it. Callers name it by this word, and never open it.
+-- The world is reached by the events: the name and the password are a login, the first board is good, the events may
+-- all be, one after another, and the world is what they make of it. Callers name it by this word, and never open it.
 unfoldable pub WorldStandsAfter : WorldValue → List ℕ → List ℕ → BoardFields → List Event → Type 0
 WorldStandsAfter v name password first events = IsAfter v name password first events
 
--- why an event was refused, beside the table's answer: want of memory is told only where the table refuses nothing
+-- why an event was refused, beside the table's answer: that memory ran out is answered only if the table refuses
+-- nothing
 abbrev pub Tells : WorldRefusal → Option WorldRefusal → Type 0
 Tells Memory answer = answer ≡ None
 Tells why answer = answer ≡ Some why
 
--- no refusal exactly where the table has none, but for want of memory
+-- no refusal exactly if the table has none, except that memory ran out
 abbrev pub Agrees : Option WorldRefusal → Option WorldRefusal → Type 0
 Agrees None answer = answer ≡ None
 Agrees (Some why) answer = Tells why answer
 
--- the same of an event that goes over a carrier, which breaks only where the table refuses nothing
+-- the same of an event that goes over a carrier, which breaks only if the table refuses nothing
 abbrev pub Halts : Option Stop → Option WorldRefusal → Type 0
 Halts None answer = answer ≡ None
 Halts (Some (Refused why)) answer = Tells why answer
 Halts (Some Broken) answer = answer ≡ None
 
--- the event, where it was accepted
+-- the event, if it was accepted
 abbrev pub accepted : {E : Type 0} → Result (Unit {0}) E → Event → List Event
 accepted (Ok done) e = e ∷ []
 accepted (Err why) e = []

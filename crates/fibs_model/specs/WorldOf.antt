@@ -1,4 +1,4 @@
--- The world of the program, and the world of the machine for which it stands.
+-- The world of the program, and the world of the machine to which it corresponds.
 use Rattle.std.specs.Prelude.{◌≡◌, ◌≤◌, ℕ, List, length, map, vec_len, None}
 use Rattle.fibs_session.specs.Calls.Standing.{ClientValue, StandsAfter}
 use Rattle.fibs_history.specs.Log.{Entry}
@@ -31,8 +31,8 @@ world_of w = record {
   current = w.current;
 }
 
--- It stands for a world of the machine, for the command that logs the user in. Of each connection it has the bytes that
--- the machine has on their way, and whether the machine's server took a line. Of the bytes that were taken it says
+-- It corresponds to a world of the machine, for the command that logs the user in. Of each connection it has the bytes
+-- that the machine has on their way, and whether the machine's server took a line. Of the bytes that were taken it says
 -- nothing: a wire of the program may still hold some, at most as many as are on their way (`HoldsFewTaken`).
 pub record StandsFor (v : WorldValue) (login : List ℕ) (w : World) : Type 0 where
   pub board : v.server.board ≡ w.board
@@ -44,17 +44,17 @@ pub record StandsFor (v : WorldValue) (login : List ℕ) (w : World) : Type 0 wh
   pub client : StandsAfter v.client (talk_of login w)
   pub sound : IsWorld w
 
--- it stands for some world
+-- it corresponds to some world
 pub record IsKept (w : Inside) : Type 0 where
   pub known : w.current ≤ vec_len w.links
   pub login : List ℕ
   pub world : World
   pub stands : StandsFor (world_of w) login world
 
--- the event may be in each world for which it stands
+-- the event may be in each world to which it corresponds
 abbrev pub May : WorldValue → Event → Type 0
 May v e = (login : List ℕ) (w : World) → StandsFor v login w → refusal w e ≡ None
 
--- for each world for which it stood, it stands for the world after the event
+-- for each world to which it corresponded, it corresponds to the world after the event
 abbrev pub Goes : WorldValue → WorldValue → Event → Type 0
 Goes old new e = (login : List ℕ) (w : World) → StandsFor old login w → StandsFor new login (after login w e)

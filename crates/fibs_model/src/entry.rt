@@ -32,7 +32,7 @@ pub enum Entry {
     Informed {
         /// The connection.
         conn: usize,
-        /// The server moves by itself where there is one move only.
+        /// The server moves by itself if there is one move only.
         automove: bool,
         /// The server bears off by itself.
         greedy: bool,
@@ -46,7 +46,7 @@ pub enum Entry {
     },
     /// The user clicked.
     Clicked {
-        /// The open connection, 0 where none is.
+        /// The open connection, 0 if none is.
         conn: usize,
         /// What the user decided.
         decision: Decision,
@@ -119,7 +119,7 @@ impl Entry {
     }
 
     /// The entry of a line that the client heard. Whatever was noted before it, just this is noted of it, and behind
-    /// it, where a standing order rolls at it, the roll (`of_roll`).
+    /// it, if a standing order rolls at it, the roll (`of_roll`).
     pub fn of_reading(conn: usize, reading: &Reading<'_>) -> Option<Entry>
         ensures { (before : List L.Entry) → (heard conn before (reading_of reading.now)).entries
             ≡ entries_of result ++ roll_entries conn (reading_of reading.now)

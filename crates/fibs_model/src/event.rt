@@ -9,9 +9,9 @@ use fibs_session::Plain;
 pub enum Event<'a> {
     /// The client opens a connection; its login goes on the new connection's wire.
     Open,
-    /// The user clicks on a decision; where the client sends it, its command goes on the wire.
+    /// The user clicks on a decision; if the client sends it, its command goes on the wire.
     Click(Decision),
-    /// The user gives a plain command; where the client sends it, it goes on the wire.
+    /// The user gives a plain command; if the client sends it, it goes on the wire.
     Plain(Plain<'a>),
     /// The next so many bytes go to the client, or all if they are fewer.
     Deliver(usize),
@@ -31,8 +31,8 @@ pub enum Event<'a> {
     Repeat,
     /// The server sends a line, which is given without its line end.
     Text(&'a [u8]),
-    /// The user gives a standing order to roll; it is noted where the client takes it.
+    /// The user gives a standing order to roll; it is noted if the client takes it.
     Order,
-    /// The user withdraws the standing order; that is noted where the client takes it.
+    /// The user withdraws the standing order; that is noted if the client takes it.
     Withdraw,
 }

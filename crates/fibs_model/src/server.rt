@@ -80,10 +80,10 @@ pub fn is_die(number: u8) -> bool
 }
 
 /// A model of the server: a good board with its position, and the number of the connection that is logged in. The
-/// position is made once, where the board comes.
+/// position is made once, when the board comes.
 ///
 /// Connections are numbered from 1. The first line of a connection is its login; from then on nothing of an older
-/// connection is served. Every later line that is a decision in the numbers of the board is carried out where `effect`
+/// connection is served. Every later line that is a decision in the numbers of the board is carried out if `effect`
 /// carries it out. What is sent to the connections is not the server's: see `laws::headline`.
 #[derive(Drop)]
 pub struct Server {
@@ -184,8 +184,8 @@ impl Server {
     /// `dice` are those of a roll.
     ///
     /// `Stale` for a line of a connection below the one logged in, and for a later line of one that isn't logged in;
-    /// otherwise a first line makes its connection the one logged in, and a later one is `Took` where it is a decision
-    /// in the numbers of the board that `effect` carries out, `Undone` where it is another decision, and else
+    /// otherwise a first line makes its connection the one logged in, and a later one is `Took` if it is a decision
+    /// in the numbers of the board that `effect` carries out, `Undone` if it is another decision, and else
     /// `Answered`.
     pub fn serve(&mut self, conn: usize, first: bool, text: &[u8], dice: [u8; 2]) -> Served
         requires { 1 ≤ conn }
@@ -235,7 +235,7 @@ impl Server {
 
     /// The board becomes another one, by what the server does itself.
     ///
-    /// `BadBoard` where the board is not good; then `UserDecides` where the server's board is one on which the user
+    /// `BadBoard` if the board is not good; then `UserDecides` if the server's board is one on which the user
     /// decides: nothing but a decision changes it.
     pub fn own(&mut self, board: &Board) -> Result<(), WorldRefusal>
         ensures refusal { result_err result ≡ own_refusal self.old.board (fields_of board.now) }

@@ -144,7 +144,7 @@ impl Wire {
     }
 
     /// All but the first `kept` bytes are lost. A wire that has none left holds no memory; of that of any other the
-    /// part that it needs no longer is given back where a smaller piece can be had.
+    /// part that it needs no longer is given back if a smaller piece can be had.
     pub fn cut(&mut self, kept: usize)
         ensures items { self.new.items ≡ take kept self.old.items }
         ensures freed { self.new.items ≡ [] → self.new.room ≡ 0 }
@@ -169,7 +169,7 @@ fn reads_as_board(line: &Line<'_>) -> bool
     }
 }
 
-/// Whether a reader of lines finds a board text, also where lines end or telnet commands begin in it.
+/// Whether a reader of lines finds a board text, also if lines end or telnet commands begin in it.
 fn is_read_as_board_text(text: &[u8]) -> bool
     ensures { result ≡ is_board_text (lines_of (on_wire text.now)) }
 {

@@ -49,8 +49,8 @@ use std::marker::Model;
 
 /// A model of a server, a client, the wires of each of their connections, and the log of what happened.
 ///
-/// `new` makes one, `step` and `run` do events, and `log` tells what they led to: a function of the first board and of
-/// the events, in which all choices stand. Of every list of events the headline holds.
+/// `new` makes one, `step` and `run` do events, and `log` says what they led to: a function of the first board and of
+/// the events, in which all choices are. Of every list of events the headline holds.
 ///
 /// `carry_out` does an event over a carrier, which the bytes cross that pass from one side to the other; `step` and
 /// `run` have one that has nothing to carry.
@@ -80,7 +80,7 @@ impl World {
 
     /// A world in which nothing has happened, with a first board of the server and the login of the user.
     ///
-    /// `BadBoard` where the board is not good, and no other refusal.
+    /// `BadBoard` if the board is not good, and no other refusal.
     pub fn new(alloc: Global, board: Board, login: Login) -> Result<World, WorldRefusal>
         ensures refusal { result_err result ≡ (if good (fields_of board) then None else Some BadBoard) }
         ensures stands { IfOk result (λ world.
@@ -100,7 +100,7 @@ impl World {
         }
     }
 
-    /// Does one event, or says why it may not be: the first refusal of the event's line, and `Memory` only where no
+    /// Does one event, or says why it may not be: the first refusal of the event's line, and `Memory` only if no
     /// other holds. A refused event changes nothing.
     pub fn step(&mut self, event: &Event<'_>) -> Result<(), WorldRefusal>
         ensures refusal { (name password : List ℕ) (first : BoardFields) (events : List E.Event) →
@@ -125,7 +125,7 @@ impl World {
     }
 
     /// Does one event, whose bytes cross a carrier, or says why it is not done: the first refusal of the event's line;
-    /// `Memory` only where no other holds; `Broken` only where none holds and the carrier may break. An event that is
+    /// `Memory` only if no other holds; `Broken` only if none holds and the carrier may break. An event that is
     /// not done changes nothing: the memory that it needs is had first, then its bytes cross, and after that nothing
     /// can fail.
     ///
@@ -165,8 +165,8 @@ impl World {
 
     /// Does the events, one after another, up to the first that may not be; says how many it did, and why it stopped.
     ///
-    /// The world then stands after the events before and those done. Of this whole list the headline holds, and that no
-    /// two decisions took effect on one game unless a board of the server's own came between them.
+    /// The world is then reached by the events before and those done. Of this whole list the headline holds, and that
+    /// no two decisions took effect on one game unless a board of the server's own came between them.
     pub fn run(&mut self, events: &[Event<'_>]) -> RunEnd
         ensures within { result.done ≤ length events.now }
         ensures all { result.refusal ≡ None ↔ result.done ≡ length events.now }

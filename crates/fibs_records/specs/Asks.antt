@@ -1,11 +1,11 @@
--- Decisions with their boards, as they are told.
+-- Decisions with their boards, as C gets them.
 use Rattle.std.specs.Prelude.{◌≡◌, Option, None, Some}
 use Rattle.fibs_session.specs.History.Words.{Ask}
 use Rattle.fibs_records.specs.BoardOf.{IsBoardAs}
 use Rattle.fibs_records.specs.Decisions.{IsDecisionAs, IsKind}
 use Rattle.fibs_records.specs.declared.outstanding.OutstandingRecord.{OutstandingRecord}
 
--- a decision with its board is told
+-- a decision with its board is given
 pub record IsAskAs (out : OutstandingRecord) (a : Ask) : Type 0 where
   pub board : IsBoardAs out.board a.0
   pub decision : IsDecisionAs out.decision a.1

@@ -1,9 +1,9 @@
--- What is told of a board.
+-- What C gets of a board.
 use Rattle.std.specs.Prelude.{◌≡◌, ℕ, ◌+◌, ◌<◌, ◌≤◌, List, length, pos, take, slice_index_or}
 use Rattle.fibs_boards.specs.Board.{BoardFields, field_of}
 use Rattle.fibs_records.specs.declared.boards.BoardRecord.{BoardRecord}
 
--- a name stands at the start of its 64 bytes
+-- a name is at the start of its 64 bytes
 pub record IsNameAs (len : ℕ) (bytes name : List ℕ) : Type 0 where
   pub few : len ≤ 64
   pub len_is : len ≡ length name

@@ -31,7 +31,7 @@ decision_in r =
     else if nat_eq r.kind 6 then Some (resign Normal) else if nat_eq r.kind 7 then Some (resign Gammon)
     else if nat_eq r.kind 8 then Some (resign Backgammon) else None
 
--- the steps that are told
+-- the steps that are given
 abbrev pub hops_in : DecisionRecord → List Hop
 hops_in r = map hop_in (take r.count r.steps)
 
@@ -41,25 +41,25 @@ resigning Normal = 6
 resigning Gammon = 7
 resigning Backgammon = 8
 
--- a kind that has no steps is told
+-- a kind that has no steps is given
 abbrev pub IsKind : DecisionRecord → ℕ → Type 0
 IsKind r kind = (r.kind ≡ kind) × (r.count ≡ 0)
 
--- a move is told, with its steps, at most four
+-- a move is given, with its steps, at most four
 pub record IsMove (r : DecisionRecord) (steps : List Hop) : Type 0 where
   pub kind : r.kind ≡ 5
   pub few : r.count ≤ 4
   pub count : r.count ≡ length steps
   pub hops : hops_in r ≡ steps
 
--- all that is told of a move, and what is told of these steps
+-- all that is given of a move, and what is given of these steps
 abbrev pub move_in : DecisionRecord → ℕ × ℕ × Bool × List Hop
 move_in r = (r.kind, r.count, nat_le r.count 4, hops_in r)
 
 abbrev pub as_move : List Hop → ℕ × ℕ × Bool × List Hop
 as_move steps = (5, length steps, true, steps)
 
--- this decision is told
+-- this decision is given
 abbrev pub IsDecisionAs : DecisionRecord → DecisionValue → Type 0
 IsDecisionAs r roll = IsKind r 1
 IsDecisionAs r double = IsKind r 2

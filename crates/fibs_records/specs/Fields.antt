@@ -1,4 +1,4 @@
--- The fields of messages and of players, as they are told to C.
+-- The fields of messages and of players, as C gets them.
 use Rattle.std.specs.Prelude.{◌≡◌, ℕ, List, []}
 use Rattle.fibs_fields.specs.Field.{FieldValue, NameField, WordField, TailField, FlagField, NumberField, RatingField}
 use Rattle.fibs_fields.specs.Field.{TextField}
@@ -6,7 +6,7 @@ use Rattle.fibs_records.specs.Texts.{HandsOut, flag_of}
 use Rattle.fibs_records.specs.declared.fields.FieldPart.{FieldPart}
 use Rattle.fibs_records.specs.declared.fields.FieldRecord.{FieldRecord}
 
--- what is told of a field: the number of its kind, its number or 0, and its bytes or none
+-- what C gets of a field: the number of its kind, its number or 0, and its bytes or none
 pub record ToldField : Type 0 where
   pub kind : ℕ
   pub number : ℕ
@@ -21,7 +21,7 @@ told_field (NumberField n) = record { kind = 5; number = n; bytes = [] }
 told_field (RatingField r) = record { kind = 6; number = r; bytes = [] }
 told_field (TextField s) = record { kind = 7; number = 0; bytes = s }
 
--- a field is told, and its bytes are handed out
+-- a field is given, and its bytes are handed out
 pub record IsToldField (v : ToldField) (field : FieldRecord) (old new : List ℕ) (status : ℕ) : Type 0 where
   pub kind : field.kind ≡ v.kind
   pub number : field.number ≡ v.number

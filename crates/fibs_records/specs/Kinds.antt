@@ -1,4 +1,4 @@
--- What is told of a line.
+-- What C gets of a line.
 use Rattle.fibs_fields.specs.Faults.{fault_number}
 use Rattle.fibs_messages.specs.Line.{ReadingValue, numbered_line, board_line, text_line, malformed_line}
 use Rattle.fibs_records.specs.declared.kinds.LineKind.{LineKind}

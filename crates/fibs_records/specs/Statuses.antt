@@ -15,7 +15,7 @@ use Rattle.fibs_history.specs.declared.refusal.Refusal.TheVariants as R
 use Rattle.fibs_history.specs.declared.refusal.PlainRefusal.{PlainRefusal}
 use Rattle.fibs_history.specs.declared.refusal.PlainRefusal.TheVariants as P
 
--- the client's refusal, or 0 where it does not refuse
+-- the client's refusal, or 0 if it does not refuse
 abbrev pub refusal_status : Option Refusal → ℕ
 refusal_status None = 0
 refusal_status (Some why) = refusal_number why
@@ -36,7 +36,7 @@ abbrev pub allowed_status : Option Disallowed → ℕ
 allowed_status None = 0
 allowed_status (Some why) = 6 + disallowed_number why
 
--- the names, family by family; there is no status where the name is empty
+-- the names, family by family; there is no status if the name is empty
 
 abbrev pub refusal_named : ℕ → List ℕ
 refusal_named n =

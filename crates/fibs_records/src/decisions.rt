@@ -24,7 +24,7 @@ pub struct PlayStep {
 #[derive(Clone, Copy)]
 pub struct DecisionRecord {
     /// 1 to roll, 2 to double, 3 to accept and 4 to reject a double, 5 to move; 6 to 8 to resign a single game, a
-    /// gammon, a backgammon. 0 where there is none.
+    /// gammon, a backgammon. 0 if there is none.
     pub kind: u8,
     /// How many steps a move has: at most 4.
     pub count: u8,
@@ -60,7 +60,7 @@ fn play_of_steps(steps: &[PlayStep]) -> Play
     play
 }
 
-/// The play of the record. None where it has more than four steps, or one of them is no step.
+/// The play of the record. None if it has more than four steps, or one of them is no step.
 fn play_of(given: &DecisionRecord) -> Option<Play>
     ensures { option_map hops_of result ≡ play_in given.now.count given.now.steps }
 {
@@ -101,7 +101,7 @@ fn step_record(step: &Step) -> PlayStep
     }
 }
 
-/// The decision of a kind that has no steps; 0 is none.
+/// The decision of a kind that has no steps; 0 means no decision.
 pub fn of_kind(kind: u8) -> DecisionRecord
     ensures { IsKind result kind }
 {

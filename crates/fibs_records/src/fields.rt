@@ -8,7 +8,7 @@ ghost use Rattle.fibs_records.specs.Fields.{IsToldField, part_value, told_field}
 use crate::text::{flag, hand_out};
 use fibs_messages::Field;
 
-/// The value of a field. Bytes stand in the room that was given for them.
+/// The value of a field. Bytes are in the room that was given for them.
 #[repr(C)]
 #[derive(Clone, Copy)]
 pub struct FieldRecord {
@@ -109,7 +109,7 @@ impl<'a> FieldPart<'a> {
     }
 }
 
-/// Tells a field, and copies its bytes where there is room for them.
+/// Gives a field, and copies its bytes if there is room for them.
 pub fn put_field(part: &FieldPart<'_>, field: &mut FieldRecord, text: &mut [u8]) -> u32
     ensures { IsToldField (part_value part.now) field.new text.old text.new result }
 {

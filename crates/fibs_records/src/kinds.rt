@@ -11,13 +11,13 @@ use fibs_messages::{Message, Reading};
 #[repr(C)]
 #[derive(Clone, Copy)]
 pub struct LineKind {
-    /// The first wrong field; 0 where none is.
+    /// The first wrong field; 0 if none is.
     pub field: usize,
     /// 0 a text, 1 a message, 2 a board, 3 a message or a board with a wrong field.
     pub kind: u8,
     /// The number of a message, also of a malformed one; else 0.
     pub number: u8,
-    /// What is wrong with the first wrong field; 0 where nothing is.
+    /// What is wrong with the first wrong field; 0 if nothing is.
     pub fault: u8,
 }
 
@@ -50,7 +50,7 @@ fn number_of(message: &Message<'_>) -> u8
 }
 
 impl LineKind {
-    /// A text, and what is told where there is no line.
+    /// A text, and what is given if there is no line.
     #[inline(always)]
     pub fn text() -> LineKind
         ensures { result ≡ record { field = 0; kind = 0; number = 0; fault = 0 } }

@@ -46,7 +46,7 @@ impl LinesHandle {
         LinesHandle { at: at as *mut u8 }
     }
 
-    /// The pointer, where there is one.
+    /// The pointer, if there is one.
     fn into_loose(self, alloc: Global) -> Option<Loose<Lines, Global>>
         ensures { option_map (λ l. l.value) result ≡ self.value }
     {
@@ -67,7 +67,7 @@ impl LinesHandle {
         LinesHandle::of_loose(Loose::of(held))
     }
 
-    /// Takes it out, where there is one.
+    /// Takes it out, if there is one.
     pub fn take(&mut self, alloc: Global) -> Option<Box<Lines, Global>>
         ensures value { option_map box_value result ≡ self.old.value }
         ensures none { self.new.value ≡ None }

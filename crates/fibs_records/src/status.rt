@@ -1,7 +1,7 @@
 //! What a call answers: 0, or why it did not do it.
 //!
 //! A status is a family's hundred and the number of the refusal or fault in it. The family 0 are the client's refusals,
-//! so that these stand by their own numbers.
+//! so that these are by their own numbers.
 
 ghost use Rattle.std.specs.Prelude.{◌≡◌, ◌+◌, ◌/◌, ◌%◌};
 ghost use Rattle.fibs_commands.specs.PlainFaults.{plain_fault_number};
@@ -25,19 +25,19 @@ pub const DONE: u32 = 0;
 /// No board was shown, as a client refuses a decision then.
 pub const NO_BOARD: u32 = 5;
 
-/// What is not allowed on a board is told by the numbers of the client's refusals, which are this above its own.
+/// What is not allowed on a board is named by the numbers of the client's refusals, which are this above its own.
 const DISALLOWED: u32 = 6;
 
-/// The faults of a plain command and of a login stand above this.
+/// The faults of a plain command and of a login are above this.
 const PLAIN_FAULTS: u32 = 100;
 
-/// The faults of a board that has no position stand above this.
+/// The faults of a board that has no position are above this.
 const POSITION_FAULTS: u32 = 200;
 
-/// The faults of a field stand above this.
+/// The faults of a field are above this.
 const FIELD_FAULTS: u32 = 300;
 
-/// The faults of a directory stand above this.
+/// The faults of a directory are above this.
 const DIRECTORY_FAULTS: u32 = 400;
 
 /// Memory ran out, in whatever call.
@@ -227,7 +227,7 @@ fn name_in(family: u32, number: u32) -> &'static str
     }
 }
 
-/// The name of a status, or none where there is no such status.
+/// The name of a status, or none if there is no such status.
 #[tactic(auto, unfolding(crate::specs::Statuses::status_name))]
 pub fn status_name(status: u32) -> &'static str
     ensures { result.now ≡ status_name status }

@@ -18,7 +18,7 @@ pub fn put(room: &mut [u8], bytes: &[u8]) -> usize
     n
 }
 
-/// Writes the bytes at the start of a room, where there is room for all of them, and says how many they are.
+/// Writes the bytes at the start of a room, if there is room for all of them, and says how many they are.
 pub fn hand_out(bytes: &[u8], room: &mut [u8], len: &mut usize) -> u32
     ensures { HandsOut bytes.now room.old room.new len.new result }
 {

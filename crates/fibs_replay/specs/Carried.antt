@@ -10,7 +10,7 @@ use Rattle.fibs_machine.specs.declared.refusal.WorldRefusal.{WorldRefusal}
 use Rattle.fibs_replay.specs.Output.{script_login, log_after, unread_text, end_text, refused_text}
 use Rattle.fibs_replay.specs.Scripts.{script_lines, SayScript}
 
--- what may stand behind the log after so many events: nothing, where memory ran out; or the last line
+-- what may follow the log after so many events: nothing, if memory ran out; or the last line
 abbrev pub IsLast : ℕ → List ℕ → Type 0
 IsLast done rest = (rest ≡ []) ⊎ (rest ≡ end_text done) ⊎ ((why : WorldRefusal) × (rest ≡ refused_text done why))
 
@@ -24,7 +24,8 @@ CarriedFor Carries script held now a b = (first : BoardFields) × (before later 
     × Appends held now (log_after first before ++ rest)
     × Carries a (crossings script_login first before) b
 
--- nothing, and nothing was run: none was printed, or the line of a script that is unreadable; or a reader was read to its end, and it was that of the script that was read
+-- nothing, and nothing was run: none was printed, or the line of a script that is unreadable; or a reader was read to
+-- its end, and it was that of the script that was read
 abbrev pub Carried : {A : Type 0} → (A → List Crossing → A → Type 0) → Option (List ℕ) → Option (List ℕ)
     → Option (List ℕ) → Option (List ℕ) → A → A → Type 0
 Carried Carries left still held now a b =

@@ -33,5 +33,5 @@ pub data SaysEvent : List ℕ → Event → Type 0 where
       → SaysEvent (codes "serve " ++ (decimal c ++ 32 ∷ (decimal d1 ++ 32 ∷ decimal d2))) (Serve c d1 d2)
   says_own : {line : List ℕ} {b : BoardFields} → BoardText b line → SaysEvent (codes "own " ++ line) (Own b)
   says_repeat : SaysEvent (codes "repeat") Repeat
-  -- what follows `text` and a space, of any bytes; nothing where there is no space
+  -- what follows `text` and a space, of any bytes; nothing if there is no space
   says_text : {text rest : List ℕ} → TextField text rest → SaysEvent (codes "text" ++ rest) (Text text)

@@ -11,7 +11,7 @@ use Rattle.fibs_commands.specs.PlainReading.{read_plain}
 use Rattle.fibs_model.specs.Events.{Event, Open, Click, Plain, Deliver, Lose, Serve, Own, Repeat, Text, Order, Withdraw}
 use Rattle.fibs_replay.specs.EventLines.{count_limit, die_limit, SaysEvent}
 
--- a word that stands alone
+-- a word alone
 unfoldable pub alone_in : List ℕ → Option Event
 alone_in word =
     cond (bytes_eq word (codes "open")) (Some Open)
@@ -29,7 +29,7 @@ said_board (malformed_line number k f) = None
 unfoldable pub board_in : List ℕ → Option BoardFields
 board_in line = said_board (reading_value line)
 
--- one reading, and then another where the first gave something
+-- one reading, and then another if the first gave something
 infixl 10 ◌>>=◌
 abbrev pub ◌>>=◌ : {A B : Type 0} → Option A → (A → Option B) → Option B
 None >>= f = None

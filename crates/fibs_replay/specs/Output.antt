@@ -21,7 +21,7 @@ use Rattle.fibs_replay.specs.declared.script.Script.TheVariants.{Readable, Unrea
 abbrev pub script_login : List ℕ
 script_login = login_text (codes "ann") (codes "secret")
 
--- the line of a script that is not run, for its line of this number, or 0 where it is too long
+-- the line of a script that is not run, for its line of this number, or 0 if it is too long
 abbrev pub unread_text : ℕ → List ℕ
 unread_text number = line_bytes (codes "script " ++ decimal number)
 
@@ -59,7 +59,7 @@ pub data ReplayText : (script text : List ℕ) → (status : ℕ) → Type 0 whe
       → SayScript (script_lines script) first events → IsGood first → MayBe script_login first events
       → ReplayText script (log_after first events ++ end_text (length events)) 0
 
--- What a reader has left, and what a writer holds, is Some list where it tells its bytes, and None where it tells
+-- What a reader has left, and what a writer holds, is Some list if the prover knows its bytes, and None if it knows
 -- nothing: of the latter the next ones say nothing.
 
 -- a reader was read to its end, or past the limit of a script, and a writer gained all that is printed for its bytes

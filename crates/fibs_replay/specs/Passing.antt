@@ -9,7 +9,7 @@ use Rattle.fibs_engine.specs.Writing.{Progress, Whole, Broken}
 abbrev pub Passed : Option (List ℕ) → Option (List ℕ) → List ℕ → List ℕ → Type 0
 Passed held now text left = (front : List ℕ) × Appends held now front × (text ≡ front ++ left)
 
--- a portion with this text has become one with room for so many bytes more; or, where a write failed, the writer gained
+-- a portion with this text has become one with room for so many bytes more; or, if a write failed, the writer gained
 -- a front of the text, and at least one byte of it is missing
 abbrev pub MadeRoom : Progress → ℕ → Option (List ℕ) → Option (List ℕ) → List ℕ → List ℕ → Type 0
 MadeRoom Whole room held now text left = Passed held now text left × (length left + room ≤ write_len)

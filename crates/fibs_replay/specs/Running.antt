@@ -15,11 +15,11 @@ use Rattle.fibs_engine.specs.Printing.{Printed}
 use Rattle.fibs_engine.specs.Writing.{GainedFront}
 use Rattle.fibs_replay.specs.Output.{script_login, end_text, refused_text, ReplayText, LogOf, IsFor}
 
--- the world stands after these events of the user of scripts
+-- the world is reached by these events of the user of scripts
 abbrev pub StandsFrom : WorldValue → BoardFields → List Event → Type 0
 StandsFrom world first events = WorldStandsAfter world (codes "ann") (codes "secret") first events
 
--- so many of the events were done, and the next one was not for this reason; none is left where there is no reason
+-- so many of the events were done, and the next one was not for this reason; none is left if there is no reason
 pub record RanTo (first : BoardFields) (events : List Event) (world : WorldValue) (done : ℕ)
     (stop : Option Stop) : Type 0 where
   pub before : List Event
@@ -50,7 +50,7 @@ RunPrinted (Some (S.Refused W.Memory)) done log result held now = GaveUp log res
 RunPrinted (Some (S.Refused why)) done log result held now = Printed 3 (log ++ refused_text done why) result held now
 RunPrinted (Some S.Broken) done log result held now = Broke log result held now
 
--- what was printed for a script, with its status; or a front of it, where a write failed; or just the log so far, where
+-- what was printed for a script, with its status; or a front of it, if a write failed; or just the log so far, if
 -- memory ran out, or a carrier broke that may
 abbrev pub PrintedFor : Bool → List ℕ → Result ℕ EngineFault → Option (List ℕ) → Option (List ℕ) → Type 0
 PrintedFor may_break script (Ok status) held now =

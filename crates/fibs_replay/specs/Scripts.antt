@@ -11,7 +11,7 @@ abbrev pub script_limit : ℕ
 script_limit = 1048576
 
 -- The lines of a script are the parts between its bytes 10. One byte 13 directly before a byte 10 goes; behind the last
--- byte 10 stands a line only where bytes do, and it keeps all of them.
+-- byte 10 there is a line only if there are bytes, and it keeps all of them.
 unfoldable pub script_lines : List ℕ → List (List ℕ)
 script_lines script = lines script
 
@@ -32,7 +32,7 @@ IsNoBoard line = (b : BoardFields) → ¬ BoardText b line
 abbrev pub IsNoEvent : List ℕ → Type 0
 IsNoEvent line = (e : Event) → ¬ SaysEvent line e
 
--- the first line that is unreadable, counted from 1: the first, where there is none or where it says no board; else the
+-- the first line that is unreadable, counted from 1: the first, if there is none or if it says no board; else the
 -- line behind some that say events, which says none
 pub data FirstUnreadable : List (List ℕ) → ℕ → Type 0 where
   no_line : FirstUnreadable [] 1

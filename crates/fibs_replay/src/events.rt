@@ -32,7 +32,7 @@ fn read_die(text: &[u8]) -> Option<u8>
     Some(die as u8)
 }
 
-/// The board that a line says; None where it says none.
+/// The board that a line says; None if it says none.
 pub fn read_board(line: &[u8]) -> Option<Board>
     ensures some { IfSome result (λ board. BoardText (fields_of board) line.now) }
     ensures none { IfNone result (IsNoBoard line.now) }
@@ -60,7 +60,7 @@ fn read_serving<'a>(rest: &[u8]) -> Option<Event<'a>>
     })
 }
 
-/// A word that stands alone.
+/// A word alone.
 #[tactic(auto, unfolding(crate::specs::EventReading::alone_in))]
 fn read_alone<'a>(word: &[u8]) -> Option<Event<'a>>
     ensures { option_map event_of result ≡ alone_in word.now }
@@ -116,13 +116,13 @@ fn read_joined<'a>(word: &[u8], rest: &'a [u8]) -> Option<Event<'a>>
     }
 }
 
-/// The event that a line of a script says, without its line end; None where it says none.
+/// The event that a line of a script says, without its line end; None if it says none.
 ///
-/// The first word tells the event, and its parts follow, each after one space: `open`, `click COMMAND` in the place
+/// The first word says the event, and its parts follow, each after one space: `open`, `click COMMAND` in the place
 /// numbers of a player who goes from 24 down to 1, `plain COMMAND`, `order roll`, `withdraw roll`, `deliver N`,
-/// `lose K`, `serve C D1 D2`, `own BOARD`, `repeat`, `text BYTES`, where all that follows the space is the text, which
-/// is empty where there is no space. N, K and C are decimals without leading zero up to 4,294,967,295, D1 and D2 up to
-/// 255.
+/// `lose K`, `serve C D1 D2`, `own BOARD`, `repeat`, `text BYTES`, in which all that follows the space is the text,
+/// which is empty if there is no space. N, K and C are decimals without leading zero up to 4,294,967,295, D1 and D2 up
+/// to 255.
 #[tactic(auto, unfolding(crate::specs::EventReading::event_in))]
 pub fn read_event(line: &[u8]) -> Option<Event<'_>>
     ensures none { IfNone result (IsNoEvent line.now) }

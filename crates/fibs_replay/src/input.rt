@@ -11,7 +11,7 @@ use fibs_engine::fault::EngineFault;
 use std::alloc::Global;
 use std::io::Read;
 
-/// Reads a script to the reader's end, in reads of at most as many bytes as `portion` has room for. None where it has
+/// Reads a script to the reader's end, in reads of at most as many bytes as `portion` has room for. None if it has
 /// more than 1,048,576 bytes: of those it reads no more than it needs to know it.
 ///
 /// Each read but the last gives a byte, so there are at most 1,048,577.

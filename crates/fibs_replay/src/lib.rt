@@ -38,9 +38,9 @@ use std::io::{Read, Write};
 
 /// Reads a script, runs it, and prints the log of the world, and then how it ended: `end DONE` with status 0; or, with
 /// status 3, `refused DONE NUMBER NAME` at the first event that is refused, or `script N` of a script that is not run,
-/// N being its first line that is unreadable, or 0 where it has more than 1,048,576 bytes.
+/// N being its first line that is unreadable, or 0 if it has more than 1,048,576 bytes.
 ///
-/// Nothing is printed before the script is read whole, so nothing after a failed read. Where memory runs out it has
+/// Nothing is printed before the script is read whole, so nothing after a failed read. If memory runs out it has
 /// printed the log so far. After a failed write it makes no other.
 pub fn replay<R: Read, W: Write>(
     alloc: Global,
@@ -60,10 +60,10 @@ pub fn replay<R: Read, W: Write>(
     replay_over(&mut InMemory, alloc, reader, writer)
 }
 
-/// Does what `replay` does, over a carrier, to which no connection was made yet. Where that breaks it has printed the
+/// Does what `replay` does, over a carrier, to which no connection was made yet. If that breaks it has printed the
 /// log so far, and answers `Device`.
 ///
-/// Where it does not answer `Device`, the carrier was given what crosses at the events that were done, and nothing else.
+/// If it does not answer `Device`, the carrier was given what crosses at the events that were done, and nothing else.
 pub fn replay_over<C: Carrier, R: Read, W: Write>(
     carrier: &mut C,
     alloc: Global,

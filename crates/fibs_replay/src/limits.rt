@@ -1,4 +1,4 @@
-//! The limits of what is read and written, in bytes. Those that a clause names stand in specs/Replay/Limits too.
+//! The limits of what is read and written, in bytes. Those that a clause names are in specs/Replay/Limits too.
 
 /// How many bytes of a script are asked for at once.
 pub const READ_LEN: usize = 4096;

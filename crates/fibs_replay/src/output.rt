@@ -19,7 +19,7 @@ use std::io::Write;
 /// One line, long enough for each last line.
 pub type LastLine = ArrayVec<u8, LAST_LINE_LEN>;
 
-/// The line of a script that is not run: the number of its first line that is unreadable, 0 where it is too long.
+/// The line of a script that is not run: the number of its first line that is unreadable, 0 if it is too long.
 pub fn unread_line(number: usize) -> LastLine
     ensures { result.items ≡ unread_text number }
 {
@@ -56,7 +56,7 @@ pub fn refused_line(done: usize, why: WorldRefusal) -> LastLine
     line
 }
 
-/// Makes room for so many bytes more: where there is less, the text is written.
+/// Makes room for so many bytes more: if there is less, the text is written.
 fn make_room<W: Write>(text: &mut Portion, room: usize, writer: &mut W) -> Result<(), Broken>
     requires { room ≤ write_len }
     ensures { MadeRoom (progress_of result) room (W.contents writer.old) (W.contents writer.new)

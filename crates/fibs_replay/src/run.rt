@@ -27,7 +27,7 @@ use std::io::Write;
 pub struct ScriptEnd {
     /// The events that were done, all of them before the one that was not.
     pub done: usize,
-    /// Why the next event was not done; None where all were.
+    /// Why the next event was not done; None if all were.
     pub stop: Option<Stop>,
 }
 
@@ -44,7 +44,7 @@ pub fn script_login() -> Login
 
 /// Does the events that the lines say, one after another, up to the first that is not done.
 ///
-/// Where the carrier does not break, it is given what crosses at the events that are done, and nothing else.
+/// If the carrier does not break, it is given what crosses at the events that are done, and nothing else.
 pub fn run_lines<C: Carrier>(world: &mut World, carrier: &mut C, lines: &mut Lines<'_>) -> ScriptEnd
     requires few { length lines.old < 2 ^ 63 }
     requires readable { (events : List Event) × SayEvents lines.old events }
@@ -91,7 +91,7 @@ fn print_ending<W: Write>(
     Ok(status.code())
 }
 
-/// Prints the log of a run that stopped, and why it did. Where memory ran out it prints the log alone.
+/// Prints the log of a run that stopped, and why it did. If memory ran out it prints the log alone.
 fn print_stopped<W: Write>(
     log: &[Entry],
     done: usize,

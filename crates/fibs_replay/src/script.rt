@@ -10,7 +10,7 @@ use bstr::{ByteSlice, Lines};
 pub enum Script {
     /// Each of its lines is readable.
     Readable(Vec<u8>),
-    /// It is not run: the number of its first line that is unreadable, or 0 where it is too long.
+    /// It is not run: the number of its first line that is unreadable, or 0 if it is too long.
     Unreadable(usize),
 }
 
@@ -38,7 +38,7 @@ fn first_no_event(lines: &mut Lines<'_>) -> Option<usize>
     None
 }
 
-/// The number of the first line of a script that is unreadable, counted from 1; None where each is readable. The first
+/// The number of the first line of a script that is unreadable, counted from 1; None if each is readable. The first
 /// line has to be there and to say a board, and each other one an event.
 pub fn first_unreadable(script: &[u8]) -> Option<usize>
     requires { length script.now < 2 ^ 63 }

@@ -78,7 +78,7 @@ impl Client {
     }
 
     /// Opens a connection, and hands out the login command. Bytes of an earlier connection are forgotten. `AlreadyOpen`
-    /// where one is open.
+    /// if one is open.
     pub fn open(&mut self) -> Result<CommandText, Refusal>
         ensures does { Does self.old self.new Open (handed result) }
         ensures refusal { (t : Talk) → StandsAfter self.old t → refusal_in result ≡ open_refusal t }
@@ -94,7 +94,7 @@ impl Client {
     }
 
     /// The connection is lost: nothing of it is kept. Gives the decision that waited, with the board on which it was
-    /// made. None where none waited, or where no connection was open.
+    /// made. None if none waited, or if no connection was open.
     pub fn lose(&mut self) -> Option<Outstanding>
         ensures does { Does self.old self.new Lose [] }
         ensures unconfirmed { (t : Talk) → StandsAfter self.old t → option_map ask_of result ≡ unconfirmed_now t }
@@ -122,8 +122,8 @@ impl Client {
         self.session.plain(plain)
     }
 
-    /// Gives a standing order to roll, which stands until it is withdrawn or the connection ends. It hands out nothing
-    /// itself: `feed` then hands out `roll` at each board at which it is due. When it is due, and refused as by
+    /// Gives a standing order to roll, which is in force until it is withdrawn or the connection ends. It hands out
+    /// nothing itself: `feed` then hands out `roll` at each board at which it is due. When it is due, and refused as by
     /// `Session::order_roll`.
     pub fn order_roll(&mut self) -> Result<(), Refusal>
         ensures does { Does self.old self.new Order [] }
@@ -143,7 +143,7 @@ impl Client {
         self.session.withdraw_roll()
     }
 
-    /// Whether a standing order to roll stands on the open connection.
+    /// Whether a standing order to roll is in force on the open connection.
     pub fn ordered(&self) -> bool
         ensures { (t : Talk) → StandsAfter self.now t → result ≡ ordered_now t }
     {

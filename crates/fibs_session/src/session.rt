@@ -42,10 +42,10 @@ pub(crate) struct ServerFlags {
 
 /// A session with the server: one connection after another, each from `open` to `lose`.
 ///
-/// It is told the lines that come (`line`), the user's decisions (`decide`) and his other commands (`plain`), and hands
-/// out the commands that are to be sent. A decision waits until a board comes whose game part differs. A standing order
-/// (`order_roll`) rolls for the user where he may not double. Nothing is known of an earlier connection. No call takes
-/// memory.
+/// It is given the lines that come (`line`), the user's decisions (`decide`) and his other commands (`plain`), and
+/// hands out the commands that are to be sent. A decision waits until a board comes whose game part differs. A standing
+/// order (`order_roll`) rolls for the user if he may not double. Nothing is known of an earlier connection. No call
+/// takes memory.
 #[derive(Clone, Copy)]
 pub struct Session {
     login: Login,
@@ -58,7 +58,7 @@ pub struct Session {
     greedy_sent: bool,
     shown: Option<ShownBoard>,
     waiting: Option<Outstanding>,
-    /// A standing order to roll stands.
+    /// A standing order to roll is in force.
     ordered: bool,
 }
 
@@ -72,7 +72,7 @@ impl Session {
         Session::fresh(login, false)
     }
 
-    /// Opens a connection, and hands out the login command. `AlreadyOpen` where one is open.
+    /// Opens a connection, and hands out the login command. `AlreadyOpen` if one is open.
     pub fn open(&mut self) -> Result<CommandText, Refusal>
         ensures does { SessionDoes (session_of self.old) (session_of self.new) Open (handed result) }
         ensures refusal { (t : Talk) → SessionStandsAfter (session_of self.old) t → refusal_in result ≡ open_refusal t }
@@ -82,7 +82,7 @@ impl Session {
     }
 
     /// The connection is lost: nothing of it is kept. Gives the decision that waited, with the board on which it was
-    /// made. None where none waited, or where no connection was open.
+    /// made. None if none waited, or if no connection was open.
     pub fn lose(&mut self) -> Option<Outstanding>
         ensures does { SessionDoes (session_of self.old) (session_of self.new) Lose [] }
         ensures unconfirmed { (t : Talk) → SessionStandsAfter (session_of self.old) t →
@@ -94,9 +94,9 @@ impl Session {
     /// Takes a line of the server, without its line end. Offline it changes nothing, and nothing is to be sent.
     ///
     /// The first message 1 of a connection is answered by `set boardstyle 3`; the first message 2 by `toggle autoboard`
-    /// and `toggle moreboards`, each where that setting is 0, and then by `board`. A board that has a position is shown
-    /// from now on; where its game part differs from that of the board shown before, a decision that waits is
-    /// confirmed. Where a standing order is then due, it is answered by `roll`, which waits (`rolled`).
+    /// and `toggle moreboards`, each if that setting is 0, and then by `board`. A board that has a position is shown
+    /// from now on; if its game part differs from that of the board shown before, a decision that waits is
+    /// confirmed. If a standing order is then due, it is answered by `roll`, which waits (`rolled`).
     #[inline(always)]
     pub fn line<'a>(&mut self, line: &Line<'a>) -> Taken<'a>
         ensures line { value_of result.line ≡ value_of line.now }
@@ -133,8 +133,8 @@ impl Session {
 
     /// Decides on the board shown, and hands out the command. The decision then waits.
     ///
-    /// The first refusal of: `Offline`; `NotReady`, where message 1 or message 2 is still to come on this connection;
-    /// `ServerPlays`, where automove or greedy is 1 in the latest message 2; `NoBoard`; `Waiting`; and what the board's
+    /// The first refusal of: `Offline`; `NotReady`, if message 1 or message 2 is still to come on this connection;
+    /// `ServerPlays`, if automove or greedy is 1 in the latest message 2; `NoBoard`; `Waiting`; and what the board's
     /// position does not allow: `NotYours`, `WrongKind`, `IllegalPlay`. After a refusal the session is as before.
     pub fn decide(&mut self, decision: &Decision) -> Result<CommandText, Refusal>
         ensures does { SessionDoes (session_of self.old) (session_of self.new) (Click (decision_of decision.now))
@@ -148,7 +148,7 @@ impl Session {
 
     /// Hands out a command that decides nothing in the game.
     ///
-    /// The first refusal of: `Offline`; `NotOn`, where `AutomoveOff` or `GreedyOff` would turn off what is 0 in the
+    /// The first refusal of: `Offline`; `NotOn`, if `AutomoveOff` or `GreedyOff` would turn off what is 0 in the
     /// latest message 2 of this connection, or was sent on it before; the command's fault. After a refusal the session
     /// is as before.
     pub fn plain(&mut self, plain: &Plain<'_>) -> Result<CommandText, PlainRefusal>
@@ -161,12 +161,12 @@ impl Session {
         self.note_plain(plain)
     }
 
-    /// Gives a standing order to roll, which stands until it is withdrawn or the connection ends.
+    /// Gives a standing order to roll, which is in force until it is withdrawn or the connection ends.
     ///
-    /// It is due at a board that comes while it stands, where field 39 says that the player may not double, the phase
+    /// It is due at a board that comes while it is in force, if field 39 says that the player may not double, the phase
     /// is `RollOrDouble`, and `decide` would take `Roll`: then `line` hands out `roll`, which waits. So it rolls at
-    /// most once until a board comes whose game part differs. The order itself hands out nothing, also where such a
-    /// board is shown. `Offline`; `AlreadyOrdered` where one stands. After a refusal the session is as before.
+    /// most once until a board comes whose game part differs. The order itself hands out nothing, also if such a
+    /// board is shown. `Offline`; `AlreadyOrdered` if one is in force. After a refusal the session is as before.
     pub fn order_roll(&mut self) -> Result<(), Refusal>
         ensures does { SessionDoes (session_of self.old) (session_of self.new) Order [] }
         ensures refusal { (t : Talk) → SessionStandsAfter (session_of self.old) t →
@@ -176,7 +176,7 @@ impl Session {
         self.note_order()
     }
 
-    /// Withdraws the standing order to roll. A `roll` that it sent goes on waiting. `Offline`; `NotOrdered` where none
+    /// Withdraws the standing order to roll. A `roll` that it sent goes on waiting. `Offline`; `NotOrdered` if none
     /// stands. After a refusal the session is as before.
     pub fn withdraw_roll(&mut self) -> Result<(), Refusal>
         ensures does { SessionDoes (session_of self.old) (session_of self.new) Withdraw [] }
@@ -187,7 +187,7 @@ impl Session {
         self.note_withdrawal()
     }
 
-    /// Whether a standing order to roll stands on the open connection.
+    /// Whether a standing order to roll is in force on the open connection.
     pub fn ordered(&self) -> bool
         ensures { (t : Talk) → SessionStandsAfter (session_of self.now) t → result ≡ ordered_now t }
     {

@@ -26,7 +26,7 @@ EndsBy None result held now other then = IfOk result (λ status. status ≡ 0) �
 EndsBy (Some why) result held now other then =
     IfOk result (λ status. (status ≡ 3) × Appends other then (line_bytes (login_fault_line why))) × Keeps held now
 
--- where the reader tells its bytes: the first typed line is the password
+-- if the prover knows the reader's bytes: the first typed line is the password
 abbrev pub ConversedOver : List ℕ → Option (List ℕ) → Result ℕ EngineFault
     → Option (List ℕ) → Option (List ℕ) → Option (List ℕ) → Option (List ℕ) → Type 0
 ConversedOver name None result held now other then = Unit {0}

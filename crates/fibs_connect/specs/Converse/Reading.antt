@@ -9,11 +9,11 @@ pub record TypedValue : Type 0 where
   pub reads : ℕ
   pub ended : Bool
 
--- what is still to come, where the device tells what it has left
+-- what is still to come, if the prover knows what the device has left
 abbrev pub ahead : TypedValue → Option (List ℕ) → Option (List ℕ)
 ahead value left = prepend_known value.waiting left
 
--- it holds that nothing follows only where that is so
+-- it holds that nothing follows only if that is so
 abbrev pub FitsDevice : TypedValue → Option (List ℕ) → Type 0
 FitsDevice value left = value.ended ≡ true → IsAtEnd left
 

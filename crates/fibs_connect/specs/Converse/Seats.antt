@@ -19,7 +19,7 @@ use Rattle.fibs_connect.specs.declared.seat.Going.{Going}
 use Rattle.fibs_connect.specs.declared.seat.Going.TheVariants.{On, Away}
 
 -- a seat: the client, the players that it knows, and the connection, with what it has left to read and what was written
--- there, where it tells it
+-- there, if it tells it
 pub record SeatValue : Type 0 where
   pub client : ClientValue
   pub players : List MessageValue
@@ -52,12 +52,12 @@ pub record TakesTurn {F : Type 0} (Tells : F → List SaidValue → F → Type 0
   pub left_as : b.connected ≡ true → b.left ≡ left
   pub wrote_as : b.connected ≡ true → b.wrote ≡ wrote
 
--- where there is a connection the wish for another is refused
+-- if there is a connection the wish for another is refused
 abbrev pub Refuses : {F : Type 0} → (F → List SaidValue → F → Type 0) → SeatValue → SeatValue → F → F → Type 0
 Refuses Tells a b held now = (b ≡ a) × Tells held (refused_said AlreadyOpen ∷ []) now
 
--- a new connection is told and knows no player; where none can be made that is said, and nothing else comes of it;
--- where its login was not written whole it is over
+-- a new connection is told and knows no player; if none can be made that is said, and nothing else comes of it;
+-- if its login was not written whole it is over
 abbrev pub Connects : {F : Type 0} → (F → List SaidValue → F → Type 0) → SeatValue → SeatValue → F → F → Type 0
 Connects Tells a b held now =
     (b.connected ≡ true → Tells held (opened_said ∷ []) now × IsDirectory [] b.players)

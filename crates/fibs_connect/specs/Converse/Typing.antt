@@ -8,7 +8,7 @@ abbrev pub without_end : List ℕ → Option (List ℕ) → List ℕ
 without_end part None = part
 without_end part (Some more) = strip_carriage_return part
 
--- the first line of what is typed: the empty one where nothing is
+-- the first line of what is typed: the empty one if nothing is
 abbrev pub typed_line : List ℕ → List ℕ
 typed_line typed = without_end (before 10 typed) (after 10 typed)
 

@@ -14,13 +14,13 @@ abbrev pub answered_act : Answer → Act
 answered_act (A.Sent command) = answer_act None (text_of command ∷ [])
 answered_act (A.Told said) = answer_act (Some (said_of said)) []
 
--- what holds of how far the commands went, where all that went well was printed
+-- what holds of how far the commands went, if all that went well was printed
 abbrev pub IfPrinted : Result ⊤ TurnFault → (Progress → Type 0) → Type 0
 IfPrinted (Ok done) Holds = Holds Whole
 IfPrinted (Err F.Stream) Holds = Holds Broken
 IfPrinted (Err F.Output) Holds = ⊤
 
--- what holds where a line could not be printed
+-- what holds if a line could not be printed
 abbrev pub IfUnprinted : Result ⊤ TurnFault → Type 0 → Type 0
 IfUnprinted (Ok done) Holds = ⊤
 IfUnprinted (Err F.Stream) Holds = ⊤

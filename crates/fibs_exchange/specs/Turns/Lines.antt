@@ -20,12 +20,12 @@ phase_told (board_line b) = if good b then phase_said (phase_of b) ∷ [] else [
 phase_told (text_line text) = []
 phase_told (malformed_line number k f) = []
 
--- and where it confirms a decision, that
+-- and if it confirms a decision, that
 abbrev pub confirmed_told : Option Ask → List SaidValue
 confirmed_told None = []
 confirmed_told (Some ask) = confirmed_said ask ∷ []
 
--- and where it makes a standing order due, that `roll` was sent
+-- and if it makes a standing order due, that `roll` was sent
 abbrev pub rolled_told : Bool → List SaidValue
 rolled_told rolled = if rolled then rolled_said ∷ [] else []
 

@@ -12,7 +12,7 @@ use Rattle.fibs_exchange.specs.Turns.Turn.{Turned}
 abbrev pub TellsNothing : MessageValue → Type 0
 TellsNothing m = (m.number ≢ 5) × (m.number ≢ 8)
 
--- no line that calls for commands is a message that tells of players. So the directory after a turn is also that of all
+-- no line that calls for commands is a message that is about players. So the directory after a turn is also that of all
 -- messages heard but those that it refused
 abbrev pub TurnsLeaveNoPlayer : Type 0
 TurnsLeaveNoPlayer =

@@ -11,7 +11,8 @@ use Rattle.fibs_engine.specs.Writing.{Progress, Whole, Broken}
 use Rattle.fibs_front.specs.Told.{SaidValue, unnoted_said}
 use Rattle.fibs_exchange.specs.Turns.Acts.{Act}
 
--- what is outside of the client: what the stream holds, where it tells it, the front end, and the directory's entries
+-- what is outside of the client: what the stream holds, if the prover knows it, the front end, and the directory's
+-- entries
 pub record Outside (F : Type 0) : Type 0 where
   pub wrote : Option (List ℕ)
   pub front : F
@@ -20,7 +21,7 @@ pub record Outside (F : Type 0) : Type 0 where
 abbrev pub outside : {F : Type 0} → Option (List ℕ) → F → List MessageValue → Outside F
 outside wrote front players = record { wrote = wrote; front = front; players = players }
 
--- an act that was done whole; and, where the directory refused a message, why
+-- an act that was done whole; and, if the directory refused a message, why
 pub record Done : Type 0 where
   pub act : Act
   pub refused : Option DirectoryFault
@@ -59,7 +60,7 @@ notes_of = flat_map (λ d. noted_unless d.refused d.act.notes)
 abbrev pub Notes : List MessageValue → List MessageValue → List MessageValue → Type 0
 Notes old new messages = (before : List MessageValue) → IsDirectory before old → IsDirectory (before ++ messages) new
 
--- the act in hand where a write failed, and what was written of it: not all
+-- the act in hand when a write failed, and what was written of it: not all
 abbrev pub InHand : Progress → List Act → List ℕ → Type 0
 InHand Whole hand part = (hand ≡ []) × (part ≡ [])
 InHand Broken hand part =
@@ -78,8 +79,8 @@ pub record Did {F : Type 0} (Tells : F → List SaidValue → F → Type 0) (a b
   pub told : Tells a.front (tells_of done) b.front
   pub noted : Notes a.players b.players (notes_of done)
 
--- the commands of a script were written, each act's whole, up to the last act where a write failed: of its commands a
--- part was written
+-- the commands of a script were written, each act's whole, up to the last act, at which a write failed: of its commands
+-- a part was written
 pub record Called (wrote now : Option (List ℕ)) (script : List Act) (p : Progress) : Type 0 where
   pub done : List Act
   pub hand : List Act

@@ -26,7 +26,7 @@ abbrev pub is_there : {S : Type 0} → Option S → Bool
 is_there None = false
 is_there (Some s) = true
 
--- the caller's condition: a stream is given exactly where the client is online, by some history after which it stands
+-- the caller's condition: a stream is given exactly if the client is online, by some history that reaches it
 abbrev pub FitsStream : ClientValue → Bool → Type 0
 FitsStream client given = (t : Talk) × StandsAfter client t × (is_online t ≡ given)
 
@@ -46,7 +46,7 @@ abbrev pub Extent : Progress → List ℕ → List ℕ → List ℕ → Type 0
 Extent Whole stream fed rest = rest ≡ []
 Extent Broken stream fed rest = EndsALine stream fed × (0 < length fed)
 
--- of these bytes a front was fed to a client that stood after t, and what its lines call for was done
+-- of these bytes a front was fed to a client reached by t, and what its lines call for was done
 pub record Talked {F : Type 0} (Tells : F → List SaidValue → F → Type 0) (t : Talk) (new : ClientValue)
     (bytes : List ℕ) (a b : Outside F) (p : Progress) : Type 0 where
   pub fed : List ℕ
@@ -63,7 +63,7 @@ abbrev pub end_acts : Ending → List Act
 end_acts Quiet = []
 end_acts (Lost waited) = only_tell (lost_said (option_map ask_of waited)) ∷ []
 
--- how the client that stood after t stands at the end. Quiet comes only where every write went well; what is lost is
+-- how the client that t reaches is at the end. Quiet comes only if every write went well; what is lost is
 -- what the history says is unconfirmed
 abbrev pub LeavesAs : Ending → Progress → Talk → ClientValue → Type 0
 LeavesAs Quiet p t new = StandsAfter new t × (p ≡ Whole)
@@ -84,14 +84,14 @@ pub record Intake (left still : Option (List ℕ)) : Type 0 where
   pub rest : List ℕ
   pub cut : read ≡ fed ++ rest
 
--- all is fed; after a failed write just up to the end of the line whose command failed, and nothing where that of the
+-- all is fed; after a failed write just up to the end of the line whose command failed, and nothing if that of the
 -- typed line failed
 abbrev pub IntakeExtent : Progress → List ℕ → List ℕ → List ℕ → Type 0
 IntakeExtent Whole stream fed rest = rest ≡ []
 IntakeExtent Broken stream fed rest = EndsALine stream fed
 
--- a client that stood after t made the typed call, then it was fed the bytes that were read, and then it lost its
--- connection where it is lost; what that calls for was done, in this order
+-- a client reached by t made the typed call, then it was fed the bytes that were read, and then it lost its
+-- connection if it is lost; what that calls for was done, in this order
 pub record TurnedBy {F : Type 0} (Tells : F → List SaidValue → F → Type 0) (t : Talk) (new : ClientValue)
     (typed left still : Option (List ℕ)) (a b : Outside F) (e : Ending) : Type 0 where
   pub intake : Intake left still
@@ -103,14 +103,14 @@ pub record TurnedBy {F : Type 0} (Tells : F → List SaidValue → F → Type 0)
   pub offline : is_online t ≡ false → intake.read ≡ []
   pub quiet : is_online t ≡ false → e ≡ Quiet
 
--- the same of a writer, where what is told is printed
+-- the same of a writer, on which what is told is printed
 abbrev pub Turned : Talk → ClientValue → Option (List ℕ) → Option (List ℕ) → Option (List ℕ)
     → Outside (Option (List ℕ)) → Outside (Option (List ℕ)) → Ending → Type 0
 Turned = TurnedBy Accounts
 
 -- ---- a print that fails
 
--- of these bytes a front that ends a line was fed to a client that stood after t, and its commands were written
+-- of these bytes a front that ends a line was fed to a client reached by t, and its commands were written
 pub record FedToALine (t : Talk) (new : ClientValue) (bytes : List ℕ) (wrote now : Option (List ℕ)) : Type 0 where
   pub fed : List ℕ
   pub rest : List ℕ
@@ -126,9 +126,9 @@ pub data StopsAt (p : Progress) (stream fed rest : List ℕ) (t : Talk) (new : C
   line_fed : p ≡ Whole → EndsALine stream fed → 0 < length fed → StandsAfter new t → StopsAt p stream fed rest t new
   lost : IntakeExtent p stream fed rest → StandsAfter new (step t Lose).talk → StopsAt p stream fed rest t new
 
--- the client is as after its last finished call: one that stood after t made the typed call, then it was fed the bytes
+-- the client is as after its last finished call: one reached by t made the typed call, then it was fed the bytes
 -- that were read, all or up to the end of a line, and then it may have lost its connection. The commands of these calls
--- were written, where a write failed all but a part of the last
+-- were written, if a write failed all but a part of the last
 pub record Stopped (t : Talk) (new : ClientValue) (typed left still wrote now : Option (List ℕ)) : Type 0 where
   pub intake : Intake left still
   pub progress : Progress

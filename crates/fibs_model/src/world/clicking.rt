@@ -18,7 +18,7 @@ use fibs_position::Decision;
 use fibs_session::{CommandText, Plain, Refusal};
 use std::alloc::AllocError;
 
-/// Notes a click with its answer and, where that is yes, what was sent on the board shown.
+/// Notes a click with its answer and, if that is yes, what was sent on the board shown.
 fn note_click(
     log: &mut Vec<Entry>,
     conn: usize,
@@ -57,7 +57,7 @@ fn note_click(
 }
 
 impl World {
-    /// The user clicks on a decision; where the client sends it, the command goes on the wire.
+    /// The user clicks on a decision; if the client sends it, the command goes on the wire.
     pub(super) fn click(&mut self, decision: &Decision) -> Result<(), AllocError>
         ensures ok { OnOk result (Goes self.old self.new (E.Click (decision_of decision.now))) }
         ensures err { OnErr result (self.new ≡ self.old) }
@@ -72,7 +72,7 @@ impl World {
         Ok(())
     }
 
-    /// The user gives a plain command; where the client sends it, it goes on the wire.
+    /// The user gives a plain command; if the client sends it, it goes on the wire.
     pub(super) fn say(&mut self, plain: &Plain<'_>) -> Result<(), AllocError>
         ensures ok { OnOk result (Goes self.old self.new (E.Plain (plain_value plain.now))) }
         ensures err { OnErr result (self.new ≡ self.old) }

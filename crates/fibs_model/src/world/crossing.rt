@@ -27,7 +27,7 @@ pub(super) fn cross_to_client<C: Carrier>(
     carrier.cross(Way::ToClient, links[conn - 1].to_client.next(n))
 }
 
-/// The next line to the server crosses, where it is of the open connection; of any other it has crossed at the loss.
+/// The next line to the server crosses, if it is of the open connection; of any other it has crossed at the loss.
 pub(super) fn cross_line<C: Carrier>(
     carrier: &mut C,
     links: &[Link],

@@ -22,7 +22,7 @@ use crate::wire::line_ends;
 use fibs_session::Client;
 use std::alloc::AllocError;
 
-/// The most bytes of commands that the lines of a connection make the client hand out where no standing order is given.
+/// The most bytes of commands that the lines of a connection make the client hand out if no standing order is given.
 const OWED: usize = 62;
 
 /// The bytes of `roll` with its line end.
@@ -35,7 +35,7 @@ struct Growth {
     bytes: usize,
 }
 
-/// What so many lines may add; where a standing order is given it may roll at each of them. None where that is more
+/// What so many lines may add; if a standing order is given it may roll at each of them. None if that is more
 /// than can be counted.
 fn most_added(lines: usize, ordered: bool) -> Option<Growth>
     ensures entries { IfSome result (λ most. most.entries ≡ (if ordered then 2 * lines else lines)) }

@@ -99,7 +99,7 @@ pub(super) fn hand_out<E>(links: &mut Vec<Link>, conn: usize, answer: &Result<Co
     }
 }
 
-/// Puts a line on the wire to the client, where the open connection is the one logged in.
+/// Puts a line on the wire to the client, if the open connection is the one logged in.
 pub(super) fn send_line(links: &mut Vec<Link>, conn: usize, logged_in: usize, line: &[u8])
     requires known { conn ≤ vec_len links.old }
     requires room { 0 < conn → RoomToClient links.old.items conn (length line.now + 2) }

@@ -13,7 +13,7 @@ use crate::entry::Entry;
 use fibs_session::Refusal;
 use std::alloc::AllocError;
 
-/// The entry, where the client did not refuse.
+/// The entry, if the client did not refuse.
 fn unless_refused(answer: &Result<(), Refusal>, entry: Entry) -> Option<Entry>
     ensures { entries_of result ≡ unless_refused (result_err answer.now) (entry_of entry) }
 {
@@ -24,7 +24,7 @@ fn unless_refused(answer: &Result<(), Refusal>, entry: Entry) -> Option<Entry>
 }
 
 impl World {
-    /// The user gives a standing order to roll; it is noted where the client takes it.
+    /// The user gives a standing order to roll; it is noted if the client takes it.
     pub(super) fn order(&mut self) -> Result<(), AllocError>
         ensures ok { OnOk result (Goes self.old self.new E.Order) }
         ensures err { OnErr result (self.new ≡ self.old) }
@@ -37,7 +37,7 @@ impl World {
         Ok(())
     }
 
-    /// The user withdraws the standing order; that is noted where the client takes it.
+    /// The user withdraws the standing order; that is noted if the client takes it.
     pub(super) fn withdraw(&mut self) -> Result<(), AllocError>
         ensures ok { OnOk result (Goes self.old self.new E.Withdraw) }
         ensures err { OnErr result (self.new ≡ self.old) }

@@ -50,7 +50,7 @@ fn take_next(server: &mut Server, links: &mut Vec<Link>, conn: usize, dice: [u8;
     take_line(server, link, conn, len, dice)
 }
 
-/// Answers a line by the board, where it is answered.
+/// Answers a line by the board, if it is answered.
 fn answer_line(server: &Server, links: &mut Vec<Link>, conn: usize, served: Served)
     requires known { conn ≤ vec_len links.old }
     requires room { 0 < conn → RoomToClient links.old.items conn 331 }

@@ -113,8 +113,8 @@ abbrev pub ReadsItself : Option TakenValue → Type 0
 ReadsItself None = Unit {0}
 ReadsItself (Some t) = t.reading ≡ line_reading t.line
 
--- what `feed` answers after each history that the client stood after: the commands that the machine hands out; while a
--- connection is open, the shortest front with which the stream has one line more, and that line, its reading, what it
+-- what `feed` answers, for each history that the client was reached by: the commands that the machine hands out; while
+-- a connection is open, the shortest front with which the stream has one line more, and that line, its reading, what it
 -- confirms and whether a standing order rolls at it; else the whole piece, and no line
 pub record FeedAnswers (old : ClientValue) (piece : List ℕ) (used : ℕ) (taken : Option TakenValue) : Type 0 where
   pub hands : (t : Talk) → StandsAfter old t → commands_of taken ≡ (step t (Piece (take used piece))).send

@@ -77,7 +77,7 @@ message_fields v m =
     }
     else unheard v)
 
--- a decision that waits does so no longer where the board is unlike the one before
+-- a decision that waits does so no longer if the board is unlike the one before
 abbrev pub still_waiting : Option BoardFields → BoardFields → Option Ask → Option Ask
 still_waiting None b w = w
 still_waiting (Some a) b w = if same_game a b then w else None
@@ -181,6 +181,6 @@ order_refusal_of v = if not v.online then Some Offline else (if v.ordered then S
 abbrev pub withdraw_refusal_of : SessionValue → Option Refusal
 withdraw_refusal_of v = if not v.online then Some Offline else (if v.ordered then None else Some NotOrdered)
 
--- a standing order is given, or withdrawn, where nothing refuses it
+-- a standing order is given, or withdrawn, if nothing refuses it
 abbrev pub with_order : SessionValue → Bool → Option Refusal → SessionValue
 with_order v given refusal = if is_some refusal then v else record v { ordered = given }

@@ -46,7 +46,7 @@ session_of s = record {
   ordered = s.ordered;
 }
 
--- what a call hands out: a command, or nothing where it refuses
+-- what a call hands out: a command, or nothing if it refuses
 abbrev pub handed : {E : Type 0} → Result CommandText E → List (List ℕ)
 handed (Ok command) = text_of command ∷ []
 handed (Err why) = []

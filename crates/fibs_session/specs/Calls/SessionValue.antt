@@ -20,7 +20,7 @@ pub record SessionValue : Type 0 where
   pub greedy_sent : Bool
   pub shown : Option BoardFields
   pub waiting : Option Ask
-  pub ordered : Bool  -- a standing order stands
+  pub ordered : Bool  -- a standing order is in force
 
 -- a command that turns nothing off
 pub record IsNoToggle (text : List ℕ) : Type 0 where

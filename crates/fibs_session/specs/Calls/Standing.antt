@@ -1,10 +1,10 @@
--- A client stands after what has happened.
+-- A client is reached by what has happened.
 use Rattle.std.specs.Prelude.{ℕ, List}
 use Rattle.fibs_lines.specs.LinesValue.{LinesValue, StandsAfter as LinesStandAfter}
 use Rattle.fibs_history.specs.Machine.{Talk, InputValue, start, run}
 use Rattle.fibs_session.specs.Calls.SessionValue.{SessionValue, At}
 
--- a session stands after what has happened. Callers name what has happened by this word, and never open it
+-- a session is reached by what has happened. Callers name what has happened by this word, and never open it
 unfoldable pub SessionStandsAfter : SessionValue → Talk → Type 0
 SessionStandsAfter v t = At v t
 
@@ -13,7 +13,7 @@ pub record ClientValue : Type 0 where
   pub lines : LinesValue
   pub session : SessionValue
 
--- a client stands after what has happened: its lines after the bytes, its session after the rest. Never opened either
+-- a client is reached by what has happened: its lines by the bytes, its session by the rest. Never opened either
 unfoldable pub StandsAfter : ClientValue → Talk → Type 0
 StandsAfter v t = LinesStandAfter v.lines t.stream × At v.session t
 

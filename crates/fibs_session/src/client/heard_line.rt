@@ -18,7 +18,7 @@ pub(crate) struct Answer {
 }
 
 impl Answer {
-    /// The answer to a message that is answered by nothing. The message is read where it is lent.
+    /// The answer to a message that is answered by nothing. The message is read when it is lent.
     pub(super) fn nothing() -> Answer
         ensures reading { result.reading ≡ Numbered }
         ensures send { result.send.items ≡ [] }

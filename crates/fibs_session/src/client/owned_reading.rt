@@ -10,7 +10,7 @@ use crate::session::read_line;
 use fibs_lines::Line;
 use fibs_messages::{Board, Fault, Reading, laws};
 
-/// A reading that borrows nothing. A message borrows from its line: it is read where the line is lent, most messages
+/// A reading that borrows nothing. A message borrows from its line: it is read when the line is lent, most messages
 /// only there.
 #[derive(Clone, Copy)]
 pub(crate) enum OwnedReading {

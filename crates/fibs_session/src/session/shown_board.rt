@@ -8,7 +8,7 @@ ghost use Rattle.fibs_position.specs.PositionValue.{position_of, position_value}
 use fibs_messages::Board;
 use fibs_position::Position;
 
-/// A board that is shown. Its position is made once, where the board is heard: a click makes none.
+/// A board that is shown. Its position is made once, when the board is heard: a click makes none.
 #[derive(Clone, Copy)]
 pub(crate) struct ShownBoard {
     pub(super) board: Board,
@@ -18,7 +18,7 @@ pub(crate) struct ShownBoard {
 }
 
 impl ShownBoard {
-    /// A board with its position. None where it has none.
+    /// A board with its position. None if it has none.
     #[inline(always)]
     pub(super) fn of(board: &Board) -> Option<ShownBoard>
         ensures good { is_some result ≡ good (fields_of board.now) }

@@ -39,7 +39,7 @@ pub struct Taken<'a> {
     pub reading: Reading<'a>,
     /// The commands that are to be sent, each followed by CR LF.
     pub send: ArrayVec<AnswerText, 3>,
-    /// The decision that waited, where the line is a board that confirms it.
+    /// The decision that waited, if the line is a board that confirms it.
     pub confirmed: Option<Outstanding>,
     /// Whether the line is a board at which the standing order was due: `send` is then its `roll`, which waits.
     pub rolled: bool,
