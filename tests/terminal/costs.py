@@ -69,7 +69,7 @@ def milliseconds(server):
 @with_server
 def memory(server):
     ann = greeted(server)
-    server.send(*(['13 eve a line of talk that is heard and shown'] * 50000), BOARD)
+    server.send(*(['13 eve a line of talk that is heard and shown'] * 20000), BOARD)
     ann.hint()
     with open('/proc/%d/status' % ann.job) as status:
         peak = int(re.search(r'^VmHWM:\s+(\d+) kB', status.read(), re.M)[1])

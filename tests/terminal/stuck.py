@@ -219,7 +219,7 @@ def what_the_client_takes_is_not_sent_as_it_is(table):
     ann, bob = table.ann, table.bob
     table.begins()
     move = ann.hint()[0]
-    bob.forget()
+    bob.catches_up()
     ann.type('send ' + move)
     ann.type('send say hello')
     ann.type('send pip')
