@@ -12,7 +12,7 @@ _fibs_connect() {
     local at place=0
     for ((at = 2; at <= COMP_CWORD; at++)); do
         case ${COMP_WORDS[at - 1]} in
-            --password-file) ;;
+            --password-file | --log) ;;
             *)
                 case ${COMP_WORDS[at]} in
                     -?*) ;;
@@ -22,8 +22,8 @@ _fibs_connect() {
         esac
     done
     case $last,$word in
-        --password-file,*) COMPREPLY=($(compgen -f -- "$word")) ;;
-        *,-*) COMPREPLY=($(compgen -W '--password-file -h --help' -- "$word")) ;;
+        --password-file,* | --log,*) COMPREPLY=($(compgen -f -- "$word")) ;;
+        *,-*) COMPREPLY=($(compgen -W '--password-file --log -h --help' -- "$word")) ;;
         *) _fibs_place "$place" ;;
     esac
 }

@@ -24,7 +24,7 @@ SUBCOMMANDS = ['connect', 'help', 'loop', 'plays', 'replay', 'show']
 # The options of the program, and those of connect; each other subcommand has the help alone.
 OPTIONS = ['--help', '--version', '-V', '-h']
 
-CONNECT_OPTIONS = ['--help', '--password-file', '-h']
+CONNECT_OPTIONS = ['--help', '--log', '--password-file', '-h']
 
 # The typed lines, without their names and texts; rlwrap completes their words from this file.
 TYPED = (ROOT / 'completions' / 'typed').read_text().splitlines()
@@ -121,6 +121,7 @@ def bash_completes(_program):
         ('fibs', 'connect', '-'): CONNECT_OPTIONS, ('fibs', 'connect', 'fibs'): ['fibs.com'],
         ('fibs', 'connect', 'localhost', ''): ['4321'],
         ('fibs', 'connect', '--password-file', 'secret', 'localhost', ''): ['4321'],
+        ('fibs', 'connect', '--log', 'game', 'localhost', ''): ['4321'],
         ('fibs', 'connect', '--password-file', 'typ'): ['typed'], ('fibs', 'connect', 'localhost', '4321', ''): [],
         ('fibs-play', 'fibs'): ['fibs.com'], ('fibs-play', 'localhost', ''): ['4321'],
         ('fibs-play', '-'): ['--help', '--log', '-h'], ('fibs-play', '--log', 'game', 'localhost', ''): ['4321'],

@@ -1,8 +1,6 @@
 //! `fibs`: a client for the First Internet Backgammon Server. The command line, the devices and the exit status.
 #![tactic(auto)]
 
-mod terminal;
-
 use fibs_cli::arguments::Answer;
 use fibs_cli::{arguments, program};
 use fibs_engine::fault::EngineFault;
@@ -26,7 +24,7 @@ fn run(rt: &HostRuntime) -> Result<u8, EngineFault> {
         Some(words) => arguments::read(alloc, words.as_slice()),
         None => Answer::Refused(String::from_str(alloc, UNREADABLE)?),
     };
-    terminal::answer(rt, &answer)
+    fibs_player::answer(rt, &answer)
 }
 
 /// The words of the command line, where all of them are text.

@@ -69,7 +69,7 @@ abbrev pub Served : Request → Result ℕ EngineFault → Streams → Streams �
 Served Show result a b = Showed result a b × Keeps a.err b.err
 Served (Plays line) result a b = Played line.now result a b × Keeps a.input b.input
 Served Replay result a b = RanScript result a b × Keeps a.err b.err
-Served (Connect host port name password_file) result a b = Conversed name.now result a.input a.out b.out a.err b.err
+Served (Connect host port name password_file log) result a b = Conversed name.now result a.input a.out b.out a.err b.err
 Served Loop result a b = PlayedScript result a.input b.input a.out b.out × Keeps a.err b.err
 
 -- a command line is answered so: help is printed on standard output with status 0, and what is wrong with it on

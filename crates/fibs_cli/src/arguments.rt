@@ -132,6 +132,9 @@ this command:
 With `--password-file FILE` the password is the first line of a file, as of /dev/fd/3 or a pipe with a
 name, and each line of standard input is typed. Where FILE can't be read the status is 4.
 
+With `--log FILE` each line of the server is appended to FILE as it came, and behind `> ` what is sent,
+at once; the password never is. `fibs show` reads such a file. If it can't be written the status is 4.
+
 Then each line that is typed is one of
 
   roll                    roll the dice
@@ -180,6 +183,9 @@ A password or NAME that is none ends it with status 3, and `fault NUMBER WHY` on
 /// What `--password-file` says.
 const PASSWORD_FILE: &str = "A file whose first line is the password";
 
+/// What `--log` says.
+const LOG: &str = "A file to which each line that comes, and what is sent, is appended";
+
 const LOOP: &str = "Play a script over sockets of this machine";
 
 const LOOP_LONG: &str = "\
@@ -211,6 +217,8 @@ pub enum Request<'a> {
         name: &'a str,
         /// The file whose first line is the password, if it is not typed.
         password_file: Option<&'a str>,
+        /// The file to which the conversation is appended, if it is kept.
+        log: Option<&'a str>,
     },
     /// To play a script over sockets of this machine.
     Loop,
@@ -309,13 +317,18 @@ fn connect<'a>(alloc: Global) -> Result<Command<'a>, AllocError> {
         .long("password-file")
         .value_name("FILE")
         .help(PASSWORD_FILE);
+    let log = Arg::new(alloc, "log")
+        .long("log")
+        .value_name("FILE")
+        .help(LOG);
     Command::new(alloc, "connect")
         .about(CONNECT)
         .long_about(CONNECT_LONG)
         .arg(Arg::new(alloc, "HOST").required(true))?
         .arg(port.required(true))?
         .arg(Arg::new(alloc, "NAME").required(true))?
-        .arg(password)
+        .arg(password)?
+        .arg(log)
 }
 
 fn play_loop<'a>(alloc: Global) -> Command<'a> {
@@ -335,6 +348,7 @@ fn request_of<'a>(matches: &ArgMatches<'a>) -> Option<Request<'a>> {
             port: matches.get_one("PORT")?,
             name: matches.get_str("NAME")?,
             password_file: matches.get_str("password-file"),
+            log: matches.get_str("log"),
         }),
         "loop" => Some(Request::Loop),
         _ => None,

@@ -1,0 +1,221 @@
+//! The program on its devices: what a person types and sees. Where standard input or output is a pipe or a file, nothing
+//! of this is between them and the engines.
+
+use crate::environment::settings;
+use crate::playing::play;
+use crate::showing::show_on;
+use arrayvec::ArrayVec;
+use fibs_cli::arguments::{Answer, Request};
+use fibs_cli::{Place, READ_MILLIS, program};
+use fibs_engine::fault::EngineFault;
+use fibs_engine::fixed::{append, append_number};
+use fibs_engine::limits::MOST_INPUT_READS;
+use fibs_engine::status::Status;
+use fibs_engine::writing::write_bytes;
+use fibs_messages::Board;
+use fibs_position::Position;
+use fibs_seat::{Dialling, PollWatch, TypedOrHeard, first_line};
+use fibs_terminal::{Terminal, append_picture};
+use mio::Poll;
+use std::fs::File;
+use std::io;
+use std::io::{BufRead, BufReader, ErrorKind, IsTerminal, Read};
+use std::net::{Net, TcpListener, TcpStream};
+use std::os::fd::AsRawFd;
+use std::time::Duration;
+
+/// For how many milliseconds a server is to be quiet before the next line is read at a terminal, where the wait for
+/// what comes next hears the server too.
+const TERMINAL_MILLIS: u64 = 20;
+
+/// How many bytes of a password's line are read: more than any has that is taken.
+const MOST_PASSWORD: u64 = 4098;
+
+/// What is said of a password file that can't be read.
+const UNREADABLE: &[u8] = b"fibs: the password file can't be read\n";
+
+/// What `connect` is asked for.
+#[derive(Clone, Copy)]
+struct Call<'a> {
+    host: &'a str,
+    port: u16,
+    name: &'a str,
+    log: Option<&'a str>,
+}
+
+/// Does what a command line calls for on the standard streams.
+pub fn answer(rt: &HostRuntime, answer: &Answer<'_>) -> Result<u8, EngineFault> {
+    match answer {
+        Answer::Engine(Request::Show) => {
+            if rt.stdout().is_terminal() {
+                return show(rt);
+            }
+            plainly(rt, rt, answer, READ_MILLIS, &mut rt.stdin())
+        }
+        Answer::Engine(Request::Plays(line)) => plays(rt, line, answer),
+        Answer::Engine(
+            Request::Connect {
+                host,
+                port,
+                name,
+                password_file,
+                log,
+            },
+        ) => {
+            let call = Call {
+                host,
+                port: *port,
+                name,
+                log: *log,
+            };
+            connect(rt, *password_file, call, answer)
+        }
+        _ => plainly(rt, rt, answer, READ_MILLIS, &mut rt.stdin()),
+    }
+}
+
+/// Answers on the standard output as it is.
+fn plainly<N: Net<Listener = TcpListener, Stream = TcpStream>, R: Read>(
+    rt: &HostRuntime,
+    net: &N,
+    answer: &Answer<'_>,
+    millis: u64,
+    input: &mut R,
+) -> Result<u8, EngineFault> {
+    program::answer(
+        net,
+        rt.alloc(),
+        answer,
+        Duration::from_millis(millis),
+        input,
+        &mut rt.stdout(),
+        &mut rt.stderr(),
+    )
+}
+
+/// Shows the standard input at a terminal.
+fn show(rt: &HostRuntime) -> Result<u8, EngineFault> {
+    let alloc = rt.alloc();
+    let mut front = Terminal::new(alloc, rt.stdout(), rt, settings(rt, "", 0));
+    let held = show_on(MOST_INPUT_READS, &mut rt.stdin(), &mut front)?;
+    if held > 0 {
+        let mut line = ArrayVec::<u8, 64>::new();
+        append(&mut line, b"unfinished ");
+        append_number(&mut line, held);
+        append(&mut line, b"\n");
+        write_bytes(line.as_slice(), &mut rt.stdout())?;
+    }
+    Ok(Status::Done.code())
+}
+
+/// Draws a board above its plays, where the standard output is a terminal.
+fn plays(rt: &HostRuntime, line: &str, answer: &Answer<'_>) -> Result<u8, EngineFault> {
+    if rt.stdout().is_terminal() {
+        draw_line(rt, line.as_bytes())?;
+    }
+    plainly(rt, rt, answer, READ_MILLIS, &mut rt.stdin())
+}
+
+/// Draws the board of one who plays; nothing for any other line.
+fn draw_line(rt: &HostRuntime, line: &[u8]) -> Result<(), EngineFault> {
+    let alloc = rt.alloc();
+    match Board::read(line) {
+        Ok(board) => match Position::of(&board) {
+            Ok(position) => {
+                let mut text = Vec::new(alloc);
+                append_picture(alloc, &board, &position, &settings(rt, "", 0), &mut text)?;
+                write_bytes(text.as_slice(), &mut rt.stdout())?;
+                Ok(())
+            }
+            Err(_) => Ok(()),
+        },
+        Err(_) => Ok(()),
+    }
+}
+
+/// Talks with a server. The password is the first line of a file, or typed.
+fn connect(
+    rt: &HostRuntime,
+    file: Option<&str>,
+    call: Call<'_>,
+    answer: &Answer<'_>,
+) -> Result<u8, EngineFault> {
+    match file {
+        None => {
+            if rt.stdin().is_terminal() {
+                // where it can't be asked for, it is read all the same
+                let _asked = write_bytes(b"password: ", &mut rt.stderr());
+            }
+            converse(rt, b"", call, answer)
+        }
+        Some(file) => match password_line(rt, file) {
+            Ok(line) => converse(rt, line.as_slice(), call, answer),
+            Err(error) if error.kind() == ErrorKind::OutOfMemory => Err(EngineFault::Memory),
+            Err(_) => {
+                // where it can't be said, the status says it alone
+                let _said = write_bytes(UNREADABLE, &mut rt.stderr());
+                Ok(Status::Device.code())
+            }
+        },
+    }
+}
+
+/// The first line of a file, of which no byte behind it is read: it may be a pipe that others read on.
+fn password_line(rt: &HostRuntime, file: &str) -> io::Result<Vec<u8>> {
+    let alloc = rt.alloc();
+    let file = BufReader::with_capacity(alloc, 1, File::open(rt, file)?)?;
+    first_line(alloc, &mut file.take(MOST_PASSWORD))
+}
+
+/// Talks with a server, of which the first line to be read may be known.
+fn converse(
+    rt: &HostRuntime,
+    first: &[u8],
+    call: Call<'_>,
+    answer: &Answer<'_>,
+) -> Result<u8, EngineFault> {
+    if rt.stdin().is_terminal() {
+        // without a `Poll` the standard input is read as if it were no terminal
+        if let Ok(heard) = Poll::new(rt) {
+            let watch = PollWatch::new(rt, rt.alloc(), rt.stdin().as_raw_fd(), &heard).ok();
+            let typed = TypedOrHeard::new(rt.stdin(), watch);
+            let net = Dialling::new(rt, heard.registry());
+            return shown(
+                rt,
+                &net,
+                call,
+                answer,
+                TERMINAL_MILLIS,
+                &mut first.chain(typed),
+            );
+        }
+    }
+    shown(
+        rt,
+        rt,
+        call,
+        answer,
+        READ_MILLIS,
+        &mut first.chain(rt.stdin()),
+    )
+}
+
+/// Talks at a terminal, or with a log; else on the standard output as it is.
+fn shown<N: Net<Listener = TcpListener, Stream = TcpStream>, R: Read>(
+    rt: &HostRuntime,
+    net: &N,
+    call: Call<'_>,
+    answer: &Answer<'_>,
+    millis: u64,
+    input: &mut R,
+) -> Result<u8, EngineFault> {
+    if call.log.is_none() && !rt.stdout().is_terminal() {
+        return plainly(rt, net, answer, millis, input);
+    }
+    let place = Place {
+        host: call.host,
+        port: call.port,
+        quiet: Duration::from_millis(millis),
+    };
+    play(rt, net, place, call.name, call.log, input)
+}

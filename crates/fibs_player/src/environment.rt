@@ -1,0 +1,75 @@
+//! What the environment says of a terminal.
+
+use fibs_terminal::Settings;
+use std::env;
+
+/// The columns and rows of a terminal that does not tell them.
+const COLUMNS: usize = 80;
+
+const ROWS: usize = 24;
+
+/// Whether a variable is there, and is not empty.
+fn is_set(rt: &HostRuntime, name: &str) -> bool {
+    match env::var(rt, name) {
+        Ok(value) => !value.is_empty(),
+        Err(_) => false,
+    }
+}
+
+/// Whether a variable has this value.
+fn is(rt: &HostRuntime, name: &str, wanted: &str) -> bool {
+    match env::var(rt, name) {
+        Ok(value) => value.as_str() == wanted,
+        Err(_) => false,
+    }
+}
+
+/// The number that a variable says, if it is one from 1 on.
+fn number(rt: &HostRuntime, name: &str, else_this: usize) -> usize {
+    match env::var(rt, name) {
+        Ok(value) => match value.as_str().parse::<usize>() {
+            Ok(0) | Err(_) => else_this,
+            Ok(number) => number,
+        },
+        Err(_) => else_this,
+    }
+}
+
+/// Whether a variable names a locale of UTF-8; None if it names no locale.
+fn names_utf8(rt: &HostRuntime, name: &str) -> Option<bool> {
+    match env::var(rt, name) {
+        Ok(value) => {
+            if value.is_empty() {
+                return None;
+            }
+            let name = value.as_str();
+            Some(name.ends_with("UTF-8") || name.ends_with("utf8"))
+        }
+        Err(_) => None,
+    }
+}
+
+/// Whether the locale is of UTF-8: by the first of these that is set.
+fn is_utf8(rt: &HostRuntime) -> bool {
+    for name in ["LC_ALL", "LC_CTYPE", "LANG"] {
+        if let Some(answer) = names_utf8(rt, name) {
+            return answer;
+        }
+    }
+    false
+}
+
+/// The settings of the terminal at which a person talks with this server.
+pub fn settings<'a>(rt: &HostRuntime, host: &'a str, port: u16) -> Settings<'a> {
+    let dumb = is(rt, "TERM", "dumb") || !is_set(rt, "TERM");
+    Settings {
+        columns: number(rt, "COLUMNS", COLUMNS),
+        rows: number(rt, "LINES", ROWS),
+        colour: !dumb && !is_set(rt, "NO_COLOR"),
+        bell: !is_set(rt, "FIBS_QUIET"),
+        utf8: is_utf8(rt),
+        offset: 0,
+        host: host.as_bytes(),
+        port,
+    }
+}

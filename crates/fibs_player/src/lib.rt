@@ -1,0 +1,12 @@
+//! The program on its devices: where one of them is a terminal, a person is shown what happens. Pipes and files get what
+//! the engines print, to the byte.
+#![tactic(auto)]
+
+mod devices;
+mod environment;
+pub mod logging;
+pub mod pacing;
+mod playing;
+pub mod showing;
+
+pub use devices::answer;

@@ -1,0 +1,64 @@
+//! A stream is shown by a front end.
+ghost use Rattle.std.specs.Prelude.{◌≡◌, ◌*◌, IfErr};
+ghost use Rattle.fibs_engine.specs.Reads.{LostAtMost};
+
+use fibs_engine::fault::EngineFault;
+use fibs_engine::limits::READ_PORTION;
+use fibs_front::fault::FrontFault;
+use fibs_front::front::Front;
+use fibs_front::said::Said;
+use fibs_lines::{Line, Lines};
+use fibs_messages::{Reading, read};
+use std::io::Read;
+
+/// What a line is. One that was cut is a text.
+fn reading<'a>(line: &Line<'a>) -> Reading<'a> {
+    if line.cut {
+        return Reading::Text(line.bytes);
+    }
+    read(line.bytes)
+}
+
+/// Tells each line that a portion ends.
+fn tell_portion<F: Front>(
+    lines: &mut Lines,
+    portion: &[u8],
+    front: &mut F,
+) -> Result<(), FrontFault> {
+    let mut rest = portion;
+    while !rest.is_empty() {
+        let fed = lines.feed(rest);
+        let used = fed.used;
+        match &fed.line {
+            Some(line) => front.tell(&Said::Heard(line, &reading(line)))?,
+            None => {}
+        }
+        rest = &rest[used..];
+    }
+    Ok(())
+}
+
+/// Tells a front end each line that is read, to the reader's end, and answers how many bytes stand after the last line
+/// end. It reads at most so often, and at most 1024 bytes at once.
+///
+/// Errors: `Device` if a read fails, the reader does not end, or the front end can't take what it is told.
+pub fn show_on<R: Read, F: Front>(
+    reads: u32,
+    input: &mut R,
+    front: &mut F,
+) -> Result<usize, EngineFault>
+    ensures device { IfErr result (λ why. why ≡ EngineFault.Device) }
+{
+    let mut lines = Lines::new();
+    let mut portion = [0; READ_PORTION];
+    for _ in 0..reads {
+        front.flush()?;
+        let count = match input.read(&mut portion) {
+            Ok(0) => return Ok(lines.held()),
+            Ok(count) => count,
+            Err(_) => return Err(EngineFault::Device),
+        };
+        tell_portion(&mut lines, &portion[..count], front)?;
+    }
+    Err(EngineFault::Device)
+}
