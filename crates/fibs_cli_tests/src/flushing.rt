@@ -2,8 +2,8 @@
 
 use fibs_connect::converse_with;
 use fibs_connect::dial::Dial;
-use fibs_exchange::link::Link;
 use fibs_engine::fault::EngineFault;
+use fibs_exchange::link::Link;
 use fibs_test_tools::pipe::{After, Pipe};
 use std::alloc::Global;
 use std::cell::Cell;

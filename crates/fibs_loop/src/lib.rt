@@ -9,8 +9,8 @@ ghost use Rattle.fibs_replay.specs.Scripts.{script_limit};
 
 mod sockets;
 
-use fibs_replay::replay_over;
 use fibs_engine::fault::EngineFault;
+use fibs_replay::replay_over;
 use sockets::{BothEnds, Sockets};
 use std::alloc::Global;
 use std::io::{Read, Write};

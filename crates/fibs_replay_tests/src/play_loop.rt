@@ -1,8 +1,8 @@
 //! Scripts that are played over real sockets.
 
 use super::replay::{is_log_so_far, replayed};
-use fibs_loop::play_loop;
 use fibs_engine::fault::EngineFault;
+use fibs_loop::play_loop;
 use fibs_test_tools::outcome::Outcome;
 use fibs_test_tools::pipe::{After, Pipe};
 use fibs_test_tools::text::{Text, joined, text_of};
@@ -244,7 +244,11 @@ fn scripts_are_played_as_they_are_replayed(rt: HostRuntime) -> Result<(), Fail> 
 fn bytes_cross_the_connection_that_is_accepted(rt: HostRuntime) -> Result<(), Fail> {
     let listener = TcpListener::bind(&rt, "127.0.0.1:0")?;
     drop(TcpStream::connect(&rt, listener.local_addr()?)?);
-    let outcome = played(&rt, &listener, script_of(case_of(&rt, "a second click, and a line too few")).as_slice());
+    let outcome = played(
+        &rt,
+        &listener,
+        script_of(case_of(&rt, "a second click, and a line too few")).as_slice(),
+    );
     let ending = Err(EngineFault::Device);
     assert!(rt;
         outcome.is(ending, b"opened 1\n", b""),

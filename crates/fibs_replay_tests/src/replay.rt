@@ -1,6 +1,6 @@
 //! Scripts from end to end: what is printed for them, and how they end.
-use fibs_replay::replay;
 use fibs_engine::fault::EngineFault;
+use fibs_replay::replay;
 use fibs_test_tools::devices::FailsOnce;
 use fibs_test_tools::outcome::Outcome;
 use fibs_test_tools::pipe::{After, FAULT, Pipe};

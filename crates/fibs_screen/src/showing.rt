@@ -5,10 +5,10 @@ ghost use Rattle.fibs_engine.specs.Writing.{GainedFront};
 ghost use Rattle.fibs_screen.specs.Showing.{ShowsAs, DrawsAs, Pictured, line_in_words};
 
 use fibs_boards::board::Board;
-use fibs_picture::draw;
-use fibs_position::Position;
 use fibs_engine::fault::EngineFault;
 use fibs_engine::writing::write_bytes;
+use fibs_picture::draw;
+use fibs_position::Position;
 use fibs_words::append_in_words;
 use std::alloc::{AllocError, Global};
 use std::io;

@@ -7,8 +7,8 @@ ghost use Rattle.fibs_screen.specs.StoredLines.{begun_of};
 
 use crate::showing::append_shown;
 use crate::stage::Stage;
-use fibs_fields::split::split;
 use fibs_engine::writing::write_bytes;
+use fibs_fields::split::split;
 use std::alloc::{AllocError, Global};
 use std::io;
 use std::io::{ErrorKind, Write};

@@ -15,13 +15,13 @@ ghost use Rattle.fibs_show.specs.Plays.{listing, PositionText, PlaysText, Refusa
 ghost use Rattle.fibs_engine.specs.Readings.{reading_text};
 ghost use Rattle.fibs_engine.specs.Writing.{GainedFront};
 
+use arrayvec::ArrayVec;
+use fibs_commands::decision_text;
 use fibs_engine::fault::EngineFault;
 use fibs_engine::fixed::append;
 use fibs_engine::malformed::malformed_text;
 use fibs_engine::status::Status;
 use fibs_engine::writing::write_bytes;
-use arrayvec::ArrayVec;
-use fibs_commands::decision_text;
 use fibs_messages::{Reading, read};
 use fibs_position::{Decision, Direction, Phase, Play, Position, PositionFault};
 use std::alloc::{AllocError, Global};

@@ -7,9 +7,9 @@ ghost use Rattle.fibs_engine.specs.Reads.{LostAtLeast, LostAtMost};
 ghost use Rattle.fibs_show.specs.Shows.{EndsText, Shows};
 ghost use Rattle.fibs_engine.specs.Writing.{GainedFront};
 
+use crate::line::{append_line, append_number};
 use fibs_engine::fault::EngineFault;
 use fibs_engine::limits::{MOST_INPUT_READS, READ_PORTION};
-use crate::line::{append_line, append_number};
 use fibs_engine::status::Status;
 use fibs_engine::writing::{Broken, write_bytes};
 use fibs_lines::{Lines, laws};

@@ -6,8 +6,8 @@ ghost use Rattle.fibs_history.specs.Machine.{Talk, answer_now, plain_refusal};
 ghost use Rattle.fibs_commands.specs.PlainOf.{plain_value};
 
 use super::Client;
-use fibs_history::{PlainRefusal, Refusal};
 use fibs_commands::Plain;
+use fibs_history::{PlainRefusal, Refusal};
 use fibs_position::Decision;
 
 impl Client {
