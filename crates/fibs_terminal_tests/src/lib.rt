@@ -1,8 +1,12 @@
-//! Tests of a terminal: what a player sees of a conversation, and how what he types is read.
+//! Tests of a terminal: what a player sees of a conversation, and how what he types, and a password file, are read.
 #![tactic(auto)]
 
 #[cfg(test)]
 mod conversations;
+#[cfg(test)]
+mod passwords;
+#[cfg(test)]
+mod reading;
 #[cfg(test)]
 mod seats;
 #[cfg(test)]

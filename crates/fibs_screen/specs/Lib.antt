@@ -1,3 +1,0 @@
-pub mod Showing
-pub mod Screens
-pub mod StoredLines
