@@ -456,7 +456,8 @@ def password_files_that_are_none(server):
 
 def the_program_itself_asks_for_the_password(server):
     player = at_a_terminal(server)
-    same('the screen', player.screen(), 'password: %s\n' % PASSWORD)
+    player.sees('connected to', '\n')
+    same('the screen', at_a_time(player.screen()), 'password: %s\nconnected to localhost:4321\n' % PASSWORD)
     leaves(greeted(server, player), server)
 
 
