@@ -1,9 +1,11 @@
 //! Connections to a server.
 
+use crate::alive::keep_alive;
 use fibs_exchange::link::Link;
 use std::io;
 use std::io::ErrorKind;
 use std::net::{Net, SocketAddr, TcpStream, ToSocketAddrs};
+use std::os::fd::AsRawFd;
 use std::time::Duration;
 
 /// How many seconds each address of a server may take to answer.
@@ -67,7 +69,8 @@ impl<N: Net<Stream = TcpStream>> Dial for Server<'_, N> {
     }
 }
 
-/// A socket of which each read waits this long alone, and each command leaves at once.
+/// A socket of which each read waits this long alone, and each command leaves at once. If its other end is gone without a
+/// word, a read says so within two minutes.
 fn connected<N: Net<Stream = TcpStream>>(
     net: &N,
     address: SocketAddr,
@@ -77,5 +80,6 @@ fn connected<N: Net<Stream = TcpStream>>(
     let stream = TcpStream::connect_timeout(net, &address, wait)?;
     stream.set_read_timeout(Some(quiet))?;
     stream.set_nodelay(true)?;
+    keep_alive(stream.as_raw_fd());
     Ok(stream)
 }

@@ -8,6 +8,7 @@ ghost use Rattle.fibs_connect.specs.Converse.Reading.{SpendsReads};
 ghost use Rattle.fibs_front.specs.Lines.{line_bytes};
 ghost use Rattle.fibs_engine.specs.Reads.{LostAtMost};
 
+mod alive;
 pub mod dial;
 mod players;
 mod seat;
