@@ -1,6 +1,8 @@
 //! What the environment says of a terminal.
 
 use fibs_terminal::Settings;
+use jiff::tz::{SystemTimeZone, TimeZoneDatabase};
+use jiff::{Error, Timestamp};
 use std::env;
 
 /// The columns and rows of a terminal that does not tell them.
@@ -59,6 +61,22 @@ fn is_utf8(rt: &HostRuntime) -> bool {
     false
 }
 
+/// How many seconds the clock of the place is ahead of UTC; 0 if it does not tell.
+fn offset(rt: &HostRuntime) -> i32 {
+    match offset_now(rt) {
+        Ok(seconds) => seconds,
+        Err(_) => 0,
+    }
+}
+
+/// The same by the system's time zone, now.
+fn offset_now(rt: &HostRuntime) -> Result<i32, Error> {
+    let system = SystemTimeZone::read(rt)?;
+    let names = TimeZoneDatabase::new(rt.alloc());
+    let zone = system.time_zone(&names)?;
+    Ok(zone.to_offset(Timestamp::now(rt)?).seconds())
+}
+
 /// The settings of the terminal at which a person talks with this server.
 pub fn settings<'a>(rt: &HostRuntime, host: &'a str, port: u16) -> Settings<'a> {
     let dumb = is(rt, "TERM", "dumb") || !is_set(rt, "TERM");
@@ -68,7 +86,7 @@ pub fn settings<'a>(rt: &HostRuntime, host: &'a str, port: u16) -> Settings<'a> 
         colour: !dumb && !is_set(rt, "NO_COLOR"),
         bell: !is_set(rt, "FIBS_QUIET"),
         utf8: is_utf8(rt),
-        offset: 0,
+        offset: offset(rt),
         host: host.as_bytes(),
         port,
     }
