@@ -366,7 +366,7 @@ class Commands:
         player.tell(time.strftime('%A, %B %d %H:%M:%S %Y UTC', time.gmtime()))
 
     def do_version(self, player, _rest):
-        player.tell('fibs_server of Liftplum 0.1.0')
+        player.tell('fibs_server of Liftplum')
 
     def do_wave(self, player, _rest):
         player.tell('You wave goodbye.')

@@ -144,7 +144,7 @@ class Client:
     def catches_up(self):
         """All that was sent to it up to now is read, and of no interest: the answer to a last line ends it."""
         self.send('version')
-        self.sees('fibs_server of Liftplum ..')
+        self.sees('fibs_server of Liftplum')
 
     def forget(self, seconds=0.1):
         """What has come is of no interest."""
