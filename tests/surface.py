@@ -29,6 +29,9 @@ CONNECT_OPTIONS = ['--help', '--log', '--password-file', '-h']
 # The typed lines, without their names and texts; rlwrap completes their words from this file.
 TYPED = (ROOT / 'completions' / 'typed').read_text().splitlines()
 
+# Those that are lines of the plain account too. A terminal lists the others in its own `help`.
+PLAIN = [line for line in TYPED if line not in meanings.TERMINAL]
+
 # The first words of the lines that `connect` and `show` print.
 PRINTED = """board: message text cut malformed unfinished phase confirmed directory lost sent refused ordered withdrawn
     fault unknown player no""".split()
@@ -163,7 +166,7 @@ def help_has_the_typed_lines(_program):
     listed = part(text_of('tests/help/connect.txt'), 'each line that is typed is one of\n', '\nand is answered by')
     firsts = [line[2:26].strip() for line in listed.splitlines() if re.match(r'  \S', line)]
     spans = [one for first in firsts if first != 'an empty line' for one in first.split(', ')]
-    same('help', typed_in(spans + re.findall(r'`([^`]*)`', listed)), TYPED)
+    same('help', typed_in(spans + re.findall(r'`([^`]*)`', listed)), PLAIN)
 
 
 def the_page_has_the_typed_lines(_program):
@@ -182,7 +185,7 @@ def the_program_takes_the_typed_lines(program):
     more = {'move': ['move 8-5 6-5'], 'say': ['say hi'], 'kibitz': ['kibitz hi'], 'whisper': ['whisper hi'],
             'shout': ['shout hi'], 'tell': ['tell bob hi'], 'message': ['message bob hi'],
             'invite': ['invite bob', 'invite bob 5'], 'join': ['join', 'join bob']}
-    lines = [line for known in TYPED for line in more.get(known, [known]) if known not in ('quit', 'open', 'players')]
+    lines = [line for known in PLAIN for line in more.get(known, [known]) if known not in ('quit', 'open', 'players')]
     typed = ''.join(line + '\n' for line in ['secret', *lines, 'dance', 'players', 'open', 'quit', 'roll'])
     done = run([program, 'connect', '127.0.0.1', '1', 'ann'], input=typed)
     wanted = ['no connection'] + ['refused 2 Offline'] * len(lines) + ['unknown', 'no connection']
