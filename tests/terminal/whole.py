@@ -4,7 +4,7 @@ import random
 import re
 import time
 
-from people import PATIENCE, REFUSED, Failed, Person, Served, named_by, same
+from people import REFUSED, ROOT, Failed, Person, Served, named_by, same
 
 # How long a screen may wait for the other one before ann counts as stuck.
 STUCK = 15
@@ -166,5 +166,34 @@ def the_bell():
         server.close()
 
 
-SCENES = [by_hints_alone, by_hints_over_connections_that_are_cut, at_most_thirty_rows_a_turn, at_most_79_columns,
-          on_a_small_terminal, letters_in_bold, the_bell]
+def help_lists_the_words():
+    """On one screen, what can be done now first; and there is more to read of each word."""
+    server = Served('--bot', 'eve:invites=1', '--dice', '13')
+    try:
+        ann = Person(server.port)
+        ann.reads("Type 'join eve' to accept.")
+        ann.type('join eve')
+        hint = ann.hint()
+        ann.type('help')
+        ann.reads('help')
+        first = ann.next_line()
+        same('what can be done now is first', named_by(first), hint)
+        screen = [first]
+        while 'help WORD' not in screen[-1]:
+            screen.append(ann.next_line())
+        same('it fits a screen', (len(screen) <= 23, max(map(len, screen)) <= 79), (True, True))
+        words = sorted({line.split(' ')[0] for line in (ROOT / 'completions' / 'typed').read_text().splitlines()})
+        told = set(re.findall(r'[a-z]+', ' '.join(screen)))
+        same('words that are not there', [word for word in words if word not in told], [])
+        for word in words:
+            ann.type('help ' + word)
+            ann.reads('help ' + word)
+            same('nothing is known of ' + word, ann.next_line().startswith('No such word'), False)
+        ann.was_not_refused()
+        ann.close()
+    finally:
+        server.close()
+
+
+SCENES = [help_lists_the_words, by_hints_alone, by_hints_over_connections_that_are_cut, at_most_thirty_rows_a_turn,
+          at_most_79_columns, on_a_small_terminal, letters_in_bold, the_bell]
