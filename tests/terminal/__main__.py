@@ -36,7 +36,7 @@ def main():
     beside = stuck.SCENES + whole.SCENES + play.SCENES + logs.SCENES
     alone = hostile.SCENES + costs.SCENES
     if words:
-        beside, alone = beside + stuck.WANTED, alone + costs.WANTED
+        beside = beside + stuck.WANTED
     chosen = [[scene for scene in scenes if not words or any(word in scene.__name__ for word in words)]
               for scenes in (beside, alone)]
     failed = 0

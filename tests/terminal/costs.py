@@ -93,7 +93,4 @@ def a_dead_router_is_seen(server):
     ann.close()
 
 
-SCENES = [no_wakes_at_rest, milliseconds, memory]
-
-# What the program does not do yet: played where it is named.
-WANTED = [a_dead_router_is_seen]
+SCENES = [no_wakes_at_rest, milliseconds, memory, a_dead_router_is_seen]
