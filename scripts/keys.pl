@@ -6,7 +6,7 @@ use RlwrapFilter;
 
 my $pressed = 0;
 
-# The key, what stands before the cursor and behind it, and the history. What it answers first is shown until the next key.
+# The key, what is before the cursor and behind it, and the history. The first answer is shown until the next key.
 sub cancels {
     my ($key, $before, $behind, @history) = @_;
     if ("$before$behind" ne '') {

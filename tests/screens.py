@@ -588,18 +588,6 @@ def heard_while_nothing_is_typed(server):
     leaves(player, server)
 
 
-def heard_while_a_line_is_half_typed(server):
-    player = greeted(server)
-    player.type_bytes(b'say h')
-    player.sees('say h')
-    server.send('12 bob amid')
-    player.sees('bob says: amid')
-    player.type_bytes(b'ello\n')
-    same('received', server.line(), 'say hello')
-    player.sees('sent say hello')
-    leaves(player, server, 'say hello')
-
-
 def a_server_that_never_stops_talking(server):
     """A typed line goes out meanwhile, and everything is shown."""
     player = greeted(server)
@@ -774,7 +762,7 @@ CASES = [
     password_files_that_are_none, the_program_itself_asks_for_the_password, a_wrong_password,
     the_picture_of_the_pages, a_capture_is_drawn, plays_below_their_board, forty_columns,
     boards_of_every_malformed_kind, odd_boards, twenty_boards_in_a_second, heard_while_nothing_is_typed,
-    heard_while_a_line_is_half_typed, a_server_that_never_stops_talking, eight_megabytes_at_once,
+    a_server_that_never_stops_talking, eight_megabytes_at_once,
     a_server_that_closes, nothing_is_done_while_nothing_happens, escape_sequences, stopped_and_continued,
     stopped_under_fibs_play, closed_in_mid_picture, a_terminal_on_one_side_alone,
 ]
