@@ -21,7 +21,7 @@ C_ARCHIVE := crates/fibs_c/out/libfibs_c.a
 KIT_ARCHIVE = $(dir $(shell rt doc))c/liblibc_c.a
 
 .PHONY: all lib test quick fmt dist install install-program install-surface install-lib \
-	install-lib-files dist-files bench clean help $(CRATES)
+	install-program-files install-lib-files dist-files bench clean help $(CRATES)
 
 all: ## proves and builds the program: bin/fibs, with bin/fibs-play beside it
 	@scripts/tools build
@@ -77,14 +77,17 @@ lib/fibs.pc: lib/fibs.pc.in Makefile
 
 install: install-program install-lib ## copies the program and the library for C to $(PREFIX)
 
-install-program: all install-surface ## the program alone, with fibs-play, its page and the completions
+install-program: all install-program-files ## the program alone, with fibs-play, its page and the completions
+
+# the program as it stands
+install-program-files: install-surface
+	install -m 755 bin/fibs $(DESTDIR)$(PREFIX)/bin/fibs
 
 # what is built of nothing
 install-surface:
 	install -d $(DESTDIR)$(PREFIX)/bin $(DESTDIR)$(SHARE)/man/man1 $(DESTDIR)$(SHARE)/fibs \
 		$(DESTDIR)$(SHARE)/bash-completion/completions $(DESTDIR)$(SHARE)/zsh/site-functions \
 		$(DESTDIR)$(SHARE)/fish/vendor_completions.d
-	[ ! -x bin/fibs ] || install -m 755 bin/fibs $(DESTDIR)$(PREFIX)/bin/fibs
 	install -m 755 scripts/fibs-play $(DESTDIR)$(PREFIX)/bin/fibs-play
 	install -m 644 docs/fibs.1 $(DESTDIR)$(SHARE)/man/man1/fibs.1
 	ln -sf fibs.1 $(DESTDIR)$(SHARE)/man/man1/fibs-play.1
