@@ -1,12 +1,14 @@
 //! `fibs`: a client for the First Internet Backgammon Server. The command line, the devices and the exit status.
 #![tactic(auto)]
 
-use fibs_cli::arguments::Answer;
-use fibs_cli::{arguments, program};
+use fibs_cli::arguments::{Answer, Request};
+use fibs_cli::{READ_MILLIS, arguments, program};
 use fibs_engine::fault::EngineFault;
+use fibs_player::Call;
 use std::env;
-use std::io::ErrorKind;
+use std::io::{ErrorKind, IsTerminal};
 use std::process::ExitCode;
+use std::time::Duration;
 
 /// What is said of a command line that is no text.
 const UNREADABLE: &str = "error: an argument is not UTF-8 text\n";
@@ -24,7 +26,48 @@ fn run(rt: &HostRuntime) -> Result<u8, EngineFault> {
         Some(words) => arguments::read(alloc, words.as_slice()),
         None => Answer::Refused(String::from_str(alloc, UNREADABLE)?),
     };
-    fibs_player::answer(rt, &answer)
+    carry_out(rt, &answer)
+}
+
+/// Does what a command line asks for: as a person is shown it if the standard output is a terminal, else as the engines
+/// print it.
+fn carry_out(rt: &HostRuntime, answer: &Answer<'_>) -> Result<u8, EngineFault> {
+    match answer {
+        Answer::Engine(
+            Request::Connect {
+                host,
+                port,
+                name,
+                password_file,
+                log,
+            },
+        ) => {
+            let call = Call {
+                host,
+                port: *port,
+                name,
+                password_file: *password_file,
+                log: *log,
+            };
+            return fibs_player::connect(rt, call);
+        }
+        Answer::Engine(Request::Show) if rt.stdout().is_terminal() => {
+            return fibs_player::show(rt);
+        }
+        Answer::Engine(Request::Plays(line)) if rt.stdout().is_terminal() => {
+            fibs_player::draw(rt, line.as_bytes())?;
+        }
+        _ => {}
+    }
+    program::answer(
+        rt,
+        rt.alloc(),
+        answer,
+        Duration::from_millis(READ_MILLIS),
+        &mut rt.stdin(),
+        &mut rt.stdout(),
+        &mut rt.stderr(),
+    )
 }
 
 /// The words of the command line, where all of them are text.

@@ -1,12 +1,12 @@
-//! The program on its devices: what a person types and sees. Where standard input or output is a pipe or a file, nothing
-//! of this is between them and the engines.
+//! The program on its devices: what a person types and sees. If standard output is a pipe or a file, it gets the plain
+//! account.
 
 use crate::environment::settings;
 use crate::playing::play;
 use crate::showing::show_on;
 use arrayvec::ArrayVec;
-use fibs_cli::arguments::{Answer, Request};
-use fibs_cli::{Place, READ_MILLIS, program};
+use fibs_connect::converse_at;
+use fibs_connect::dial::{Place, READ_MILLIS};
 use fibs_engine::fault::EngineFault;
 use fibs_engine::fixed::{append, append_number};
 use fibs_engine::limits::MOST_INPUT_READS;
@@ -36,65 +36,23 @@ const UNREADABLE: &[u8] = b"fibs: the password file can't be read\n";
 
 /// What `connect` is asked for.
 #[derive(Clone, Copy)]
-struct Call<'a> {
-    host: &'a str,
-    port: u16,
-    name: &'a str,
-    log: Option<&'a str>,
-}
-
-/// Does what a command line calls for on the standard streams.
-pub fn answer(rt: &HostRuntime, answer: &Answer<'_>) -> Result<u8, EngineFault> {
-    match answer {
-        Answer::Engine(Request::Show) => {
-            if rt.stdout().is_terminal() {
-                return show(rt);
-            }
-            plainly(rt, rt, answer, READ_MILLIS, &mut rt.stdin())
-        }
-        Answer::Engine(Request::Plays(line)) => plays(rt, line, answer),
-        Answer::Engine(
-            Request::Connect {
-                host,
-                port,
-                name,
-                password_file,
-                log,
-            },
-        ) => {
-            let call = Call {
-                host,
-                port: *port,
-                name,
-                log: *log,
-            };
-            connect(rt, *password_file, call, answer)
-        }
-        _ => plainly(rt, rt, answer, READ_MILLIS, &mut rt.stdin()),
-    }
-}
-
-/// Answers on the standard output as it is.
-fn plainly<N: Net<Listener = TcpListener, Stream = TcpStream>, R: Read>(
-    rt: &HostRuntime,
-    net: &N,
-    answer: &Answer<'_>,
-    millis: u64,
-    input: &mut R,
-) -> Result<u8, EngineFault> {
-    program::answer(
-        net,
-        rt.alloc(),
-        answer,
-        Duration::from_millis(millis),
-        input,
-        &mut rt.stdout(),
-        &mut rt.stderr(),
-    )
+pub struct Call<'a> {
+    /// The server's name or address.
+    pub host: &'a str,
+    /// Its port.
+    pub port: u16,
+    /// The name that logs in.
+    pub name: &'a str,
+    /// The file whose first line is the password. Without one it is typed.
+    pub password_file: Option<&'a str>,
+    /// The file to which each line is added as it comes.
+    pub log: Option<&'a str>,
 }
 
 /// Shows the standard input at a terminal.
-fn show(rt: &HostRuntime) -> Result<u8, EngineFault> {
+///
+/// Errors: `Device` if a stream fails, `Memory`.
+pub fn show(rt: &HostRuntime) -> Result<u8, EngineFault> {
     let alloc = rt.alloc();
     let mut front = Terminal::new(alloc, rt.stdout(), rt, settings(rt, "", 0));
     let held = show_on(MOST_INPUT_READS, &mut rt.stdin(), &mut front)?;
@@ -108,16 +66,10 @@ fn show(rt: &HostRuntime) -> Result<u8, EngineFault> {
     Ok(Status::Done.code())
 }
 
-/// Draws a board above its plays, where the standard output is a terminal.
-fn plays(rt: &HostRuntime, line: &str, answer: &Answer<'_>) -> Result<u8, EngineFault> {
-    if rt.stdout().is_terminal() {
-        draw_line(rt, line.as_bytes())?;
-    }
-    plainly(rt, rt, answer, READ_MILLIS, &mut rt.stdin())
-}
-
-/// Draws the board of one who plays; nothing for any other line.
-fn draw_line(rt: &HostRuntime, line: &[u8]) -> Result<(), EngineFault> {
+/// Draws the board that a line says, if the user plays in its game; nothing for any other line.
+///
+/// Errors: `Device` if the standard output fails, `Memory`.
+pub fn draw(rt: &HostRuntime, line: &[u8]) -> Result<(), EngineFault> {
     let alloc = rt.alloc();
     match Board::read(line) {
         Ok(board) => match Position::of(&board) {
@@ -133,23 +85,20 @@ fn draw_line(rt: &HostRuntime, line: &[u8]) -> Result<(), EngineFault> {
     }
 }
 
-/// Talks with a server. The password is the first line of a file, or typed.
-fn connect(
-    rt: &HostRuntime,
-    file: Option<&str>,
-    call: Call<'_>,
-    answer: &Answer<'_>,
-) -> Result<u8, EngineFault> {
-    match file {
+/// Talks with a server. The password is the first line of a file, or typed. Answers the exit status.
+///
+/// Errors: `Device` if a stream fails, `Memory`.
+pub fn connect(rt: &HostRuntime, call: Call<'_>) -> Result<u8, EngineFault> {
+    match call.password_file {
         None => {
             if rt.stdin().is_terminal() {
                 // where it can't be asked for, it is read all the same
                 let _asked = write_bytes(b"password: ", &mut rt.stderr());
             }
-            converse(rt, b"", call, answer)
+            converse(rt, b"", call)
         }
         Some(file) => match password_line(rt, file) {
-            Ok(line) => converse(rt, line.as_slice(), call, answer),
+            Ok(line) => converse(rt, line.as_slice(), call),
             Err(error) if error.kind() == ErrorKind::OutOfMemory => Err(EngineFault::Memory),
             Err(_) => {
                 // where it can't be said, the status says it alone
@@ -167,37 +116,18 @@ fn password_line(rt: &HostRuntime, file: &str) -> io::Result<Vec<u8>> {
     first_line(alloc, &mut file.take(MOST_PASSWORD))
 }
 
-/// Talks with a server, of which the first line to be read may be known.
-fn converse(
-    rt: &HostRuntime,
-    first: &[u8],
-    call: Call<'_>,
-    answer: &Answer<'_>,
-) -> Result<u8, EngineFault> {
+/// Talks with a server. The first bytes that are read may be known.
+fn converse(rt: &HostRuntime, first: &[u8], call: Call<'_>) -> Result<u8, EngineFault> {
     if rt.stdin().is_terminal() {
         // without a `Poll` the standard input is read as if it were no terminal
         if let Ok(heard) = Poll::new(rt) {
             let watch = PollWatch::new(rt, rt.alloc(), rt.stdin().as_raw_fd(), &heard).ok();
             let typed = TypedOrHeard::new(rt.stdin(), watch);
             let net = Dialling::new(rt, heard.registry());
-            return shown(
-                rt,
-                &net,
-                call,
-                answer,
-                TERMINAL_MILLIS,
-                &mut first.chain(typed),
-            );
+            return shown(rt, &net, call, TERMINAL_MILLIS, &mut first.chain(typed));
         }
     }
-    shown(
-        rt,
-        rt,
-        call,
-        answer,
-        READ_MILLIS,
-        &mut first.chain(rt.stdin()),
-    )
+    shown(rt, rt, call, READ_MILLIS, &mut first.chain(rt.stdin()))
 }
 
 /// Talks at a terminal, or with a log; else on the standard output as it is.
@@ -205,17 +135,24 @@ fn shown<N: Net<Listener = TcpListener, Stream = TcpStream>, R: Read>(
     rt: &HostRuntime,
     net: &N,
     call: Call<'_>,
-    answer: &Answer<'_>,
     millis: u64,
     input: &mut R,
 ) -> Result<u8, EngineFault> {
-    if call.log.is_none() && !rt.stdout().is_terminal() {
-        return plainly(rt, net, answer, millis, input);
-    }
     let place = Place {
         host: call.host,
         port: call.port,
         quiet: Duration::from_millis(millis),
     };
-    play(rt, net, place, call.name, call.log, input)
+    if call.log.is_some() || rt.stdout().is_terminal() {
+        return play(rt, net, place, call.name, call.log, input);
+    }
+    converse_at(
+        net,
+        rt.alloc(),
+        place,
+        call.name.as_bytes(),
+        input,
+        &mut rt.stdout(),
+        &mut rt.stderr(),
+    )
 }

@@ -9,4 +9,4 @@ pub mod pacing;
 mod playing;
 pub mod showing;
 
-pub use devices::answer;
+pub use devices::{Call, connect, draw, show};
