@@ -10,7 +10,7 @@ use std::io::{ErrorKind, IsTerminal};
 use std::process::ExitCode;
 use std::time::Duration;
 
-/// What is said of a command line that is no text.
+/// What is printed if a word of the command line is not text.
 const UNREADABLE: &str = "error: an argument is not UTF-8 text\n";
 
 fn main(rt: HostRuntime) -> ExitCode {
@@ -70,7 +70,7 @@ fn carry_out(rt: &HostRuntime, answer: &Answer<'_>) -> Result<u8, EngineFault> {
     )
 }
 
-/// The words of the command line, where all of them are text.
+/// The words of the command line, if all of them are text.
 fn words(rt: &HostRuntime) -> Result<Option<Vec<String>>, EngineFault> {
     match env::args(rt) {
         Ok(words) => Ok(Some(words.collect(rt.alloc())?)),

@@ -8,7 +8,7 @@ use Rattle.fibs_rules.specs.PlayValue.{hops_of}
 use Rattle.fibs_session.specs.History.Machine.{Talk, answer_now}
 use Rattle.fibs_advice.specs.declared.offers.Offers.{Offers}
 
--- the client takes a decision now: by the history it refuses it by nothing
+-- the client takes a decision now: by the history nothing refuses it
 abbrev pub is_taken : Talk → DecisionValue → Bool
 is_taken t d = is_none (answer_now t d)
 
@@ -34,6 +34,6 @@ hint_words false _ true _ = codes "You are offered a double: accept, or reject.\
 hint_words false _ false true = codes "You are offered a double: reject.\n"
 hint_words false _ false false = []
 
--- the hint: a decision stands in it only if it is taken, and where none is it is empty
+-- the hint: it names a decision only if the client takes it now, and is empty if the client takes none
 abbrev pub hint_text : Offers → List ℕ
 hint_text o = hint_words o.roll o.double o.accept o.reject ++ example_text o.direction o.example

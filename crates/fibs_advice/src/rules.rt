@@ -15,7 +15,7 @@ const BAR: u8 = 25;
 enum Broken {
     /// A checker on the bar enters first.
     Bar,
-    /// No checker stands there.
+    /// No checker is there.
     Empty(u8),
     /// The opponent holds the place.
     Held(u8),
@@ -86,7 +86,7 @@ fn broken_by(position: &Position, dice: (u8, u8), before: &[Step], step: &Step) 
     None
 }
 
-/// The rule that a move breaks, if it can be told.
+/// The rule that a move breaks, if one can be named.
 fn broken_rule(position: &Position, dice: (u8, u8), play: &Play) -> Option<Broken> {
     let steps = play.steps();
     for place in 0..steps.len() {

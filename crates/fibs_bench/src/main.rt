@@ -1,6 +1,6 @@
 //! Loops to measure, over standard input: how many lines a stream has, how many of them are read, taken by a client or
 //! noted by a directory, how many legal plays their boards have, and how many clicks a client refuses; and how many of
-//! a million typed texts are commands. Nothing stands on them.
+//! a million typed texts are commands. Nothing depends on them.
 #![tactic(auto)]
 
 ghost use Rattle.std.specs.Prelude.{◌≤◌, ◌<◌, length};
@@ -33,7 +33,7 @@ enum Count {
     Plays,
 }
 
-/// How many legal plays a line has: none where it is no board with a position.
+/// How many legal plays a line has: 0 if it is no board with a position.
 fn plays_of(alloc: Global, line: &[u8]) -> Result<usize, AllocError> {
     match read(line) {
         Reading::Board(board) => match Position::of(&board) {

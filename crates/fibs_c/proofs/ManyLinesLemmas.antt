@@ -1,4 +1,4 @@
--- Lines that were read one after another: their texts stand behind each other, and a later one leaves the earlier as they are.
+-- Lines that were read one after another: their texts come after each other, and a later one leaves the earlier as they are.
 use Rattle.std.proofs.Common.{◌≡◌, ◌≢◌, ◌<◌, ◌≤◌, ◌+◌, ◌-◌, ◌⊎◌, inl, inr, ℕ, suc, zero, Bool, not, true, false, List, [], ◌∷◌, ◌++◌, length, take, drop, map, refl, sym, ap, subst, ◌∙◌, arith, append_assoc, slice_set, length-set, length-drop, if◌then◌else◌}
 use borrow.Rule.Slice.PartMut.{mid_of, post_of, put_mid, same_len_mid}
 use Rattle.std.proofs.lemmas.Bool.{ne_eqb}
@@ -161,7 +161,7 @@ one_line old now new piece used count bytes rows₀ rows text₀ text text' suff
           ∙ ap (drop fed.len) so.rest_of_text ∙ drop-drop fed.len bytes text₀;
     }
 
--- what is written from b on stands behind b
+-- what is written from b on comes after b
 behind : (text suffix : List ℕ) (b : ℕ) → b ≤ length text → drop b (put_mid b (length text - b) text suffix) ≡ suffix
 behind text suffix b h =
     drop_at (take b text) (suffix ++ post_of b (length text - b) text) b (length-take-le b text h)

@@ -22,7 +22,7 @@ decision_of_ask None = None
 decision_of_ask (Some a) = Some a.1
 
 -- what C gets of a line: its bytes, whether it had more, what it is, the decision that it confirms, and whether a
--- standing order rolls; behind its bytes the text is as it was
+-- standing order rolls; after its bytes the text is as it was
 pub record TellsLine (v : TakenValue) (h : Heard) (text text' : List ℕ) : Type 0 where
   pub ended : h.ended ≡ 1
   pub few : h.len ≤ kept_limit

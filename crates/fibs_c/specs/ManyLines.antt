@@ -29,7 +29,7 @@ pub record LiesWithin (bytes : ℕ) (row : ToldLine) : Type 0 where
 
 -- each stream that the reader was at, with the bytes read, is now its stream, and the rows have the lines that these
 -- ended, with what each is. It went on until the piece ended, the rows were full, or the room was too short for another
--- line. Behind what is given, rows and text are as they were
+-- line. After what is given, rows and text are as they were
 pub record ReadsLines (old new : LinesValue) (piece : List ℕ) (told : Told) (rows rows' : List ToldLine)
     (text text' : List ℕ) : Type 0 where
   pub in_range : told.used ≤ length piece

@@ -65,7 +65,7 @@ pub record TellsPhase (line : List ℕ) (n status : ℕ) : Type 0 where
 abbrev pub IsPhaseTold : List ℕ → ℕ → ℕ → ℕ → Type 0
 IsPhaseTold line n n' status = (IsNoPosition line status × (n' ≡ n)) ⊎ TellsPhase line n' status
 
--- what is said of a decision in the line's position
+-- the status of a decision in the line's position
 pub record TellsAllowed (line : List ℕ) (d : DecisionValue) (status : ℕ) : Type 0 where
   pub position : PositionValue
   pub is : IsPositionIn line position

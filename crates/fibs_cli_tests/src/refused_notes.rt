@@ -1,4 +1,4 @@
-//! Conversations in which the directory has no memory for a player: it is said, and they go on.
+//! Conversations in which the directory has no memory for a player: they say so, and go on.
 
 use super::connect::{Door, conversed};
 use fibs_test_tools::outcome::Outcome;
@@ -6,7 +6,7 @@ use fibs_test_tools::pipe::{After, Pipe};
 use fibs_test_tools::text::joined;
 use std::alloc::Global;
 
-/// What is printed where a note is refused.
+/// What is printed if a note is refused.
 const REFUSED: &[u8] = b"directory 1 Memory\n";
 
 /// What the server sends, and what is printed for it.
@@ -40,8 +40,8 @@ fn heard_at_once(alloc: Global, input: &[u8]) -> Outcome {
     conversed(alloc, door, &mut typed, 1000, 1024)
 }
 
-/// Where a note is refused, the conversation says so and goes on: its end is never want of memory, and the players are
-/// those of whom note was taken.
+/// If a note is refused, the conversation says so and goes on: it never ends because memory ran out, and it knows the
+/// players of whom note was taken.
 #[test]
 fn conversations_go_on_under_refused_memory(rt: HostRuntime) {
     let input = joined(&[HEARD[0].0, HEARD[1].0, HEARD[2].0, HEARD[3].0]);

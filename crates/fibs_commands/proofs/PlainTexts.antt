@@ -46,17 +46,17 @@ points_right points h = go (nat_le points 65535) refl h
     go true e h = grind (arith, nat_tests)
     go false e h = absurd cc
 
--- the name is one, where only a name can be wrong
+-- the name is one, if only a name can be wrong
 pub name_in_it : (plain : PlainValue) (name : List ℕ) → plain_fault_of plain ≡ name_fault name
     → plain_fault_of plain ≡ None → is_name name ≡ true
 name_in_it plain name e h = name_right name (sym e ∙ h)
 
--- the text is one, where only a text can be
+-- the text is one, if only a text can be
 pub text_in_it : (plain : PlainValue) (text : List ℕ) → plain_fault_of plain ≡ text_fault text
     → plain_fault_of plain ≡ None → IsText text
 text_in_it plain text e h = text_right text (sym e ∙ h)
 
--- both are, where both can be
+-- both are, if both can be
 pub both_in_it : (plain : PlainValue) (name text : List ℕ)
     → plain_fault_of plain ≡ first_of (name_fault name) (text_fault text) → plain_fault_of plain ≡ None
     → (is_name name ≡ true) × IsText text

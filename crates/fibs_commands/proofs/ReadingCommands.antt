@@ -1,4 +1,4 @@
--- A text is read as a decision exactly where it is the command of that one.
+-- A text is read as a decision exactly if it is the command of that one.
 use Rattle.std.proofs.Common.{◌≡◌, ◌≢◌, ℕ, ◌+◌, ◌^◌, ◌<◌, ◌≤◌, ◌==◌, ◌&&◌, ◌↔◌, Bool, true, false, cond}
 use Rattle.std.proofs.Common.{nat_le, nat_lt, List, [], ◌∷◌, ◌++◌, length, map, codes, decimal, Option}
 use Rattle.std.proofs.Common.{Some, None, option_map, refl, ap, sym, ◌∙◌, subst, arith, append_assoc, append-nil}

@@ -1,4 +1,4 @@
--- A text is read as a plain command exactly where the relation says so.
+-- A text is read as a plain command exactly if the relation says so.
 use Rattle.std.proofs.Common.{◌≡◌, ◌≢◌, ℕ, ◌≤◌, ◌==◌, ◌&&◌, Bool, true, false, cond, not, nat_le, nat_lt}
 use Rattle.std.proofs.Common.{List, [], ◌∷◌, ◌++◌, length, codes, decimal, Option, Some, None, option_map, refl, ap}
 use Rattle.std.proofs.Common.{sym, ◌∙◌, subst, arith, append-nil}
@@ -31,14 +31,14 @@ use Rattle.fibs_commands.proofs.SplitLemmas.{from, before_and_from, before_witho
 same_word : (word other : List ℕ) → bytes_eq word other ≡ true → other ≡ word
 same_word word other e = sym ((bytes_eq-Decides word other).0 e)
 
--- the fields behind a word
+-- the fields after a word
 
--- a text as it stands behind a word or a name
+-- a text as it comes after a word or a name
 text_stands : (o : Option (List ℕ)) → TextField (text_in o) (from 32 o)
 text_stands None = no_text
 text_stands (Some text) = rest_of_line
 
--- a name and a text as they stand behind a word
+-- a name and a text as they come after a word
 name_stands : (o : Option (List ℕ)) → NameAndText (name_in o) (text_in (after_name o)) (from 32 o)
 name_stands None = no_name
 name_stands (Some rest) =
@@ -291,7 +291,7 @@ saying_found : (front : List ℕ) (made : List ℕ → PlainValue) → (read_pla
 saying_found front made none some no_text = ap read_plain (append-nil front) ∙ none
 saying_found front made none some (rest_of_line {text = t}) = some t
 
--- how a text stands behind a name, as what follows a space or nothing
+-- how a text comes after a name, as what follows a space or nothing
 behind_name : {text rest : List ℕ} → TextField text rest
     → (o : Option (List ℕ)) × (from 32 o ≡ rest) × (text_in o ≡ text)
 behind_name no_text = (None, refl, refl)
@@ -371,7 +371,7 @@ name_apart name h =
         let low = q.0 in
         λ e. let above : 33 ≤ b = grind (arith, nat_tests) in absurd (omega arith)
 
--- the text of a plain command stands as the relation says
+-- the text of a plain command is as the relation says
 plain_stands : (plain : PlainValue) → plain_fault_of plain ≡ None → ReadsAs (plain_of plain) plain
 unfolding plain_of plain_fault_of
 plain_stands board_again h = reads_board

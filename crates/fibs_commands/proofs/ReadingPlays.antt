@@ -27,14 +27,14 @@ full direction played word words many =
     let over : nat_le (length played + length (word ∷ words)) 4 ≡ false = grind (arith, nat_tests) in
     ap (λ b. cond b (option_map (λ later. played ++ later) (steps_in direction (word ∷ words))) None) over
 
--- each step goes behind those before
+-- each step goes after those before
 later_steps : (played : List Hop) (step : Hop) (steps : Option (List Hop))
     → option_map (λ later. played ++ later) (option_map (λ later. step ∷ later) steps)
     ≡ option_map (λ later. (played ++ step ∷ []) ++ later) steps
 later_steps played step None = refl
 later_steps played step (Some steps) = ap Some (sym (append_assoc played (step ∷ []) steps))
 
--- a step goes behind the steps before
+-- a step goes after the steps before
 goes_on : (direction : Direction) (played : List Hop) (step : Hop) (word : List ℕ) (words : List (List ℕ))
     → step_in direction word ≡ Some step
     → play_from direction played (word ∷ words) ≡ play_from direction (played ++ step ∷ []) words
@@ -45,7 +45,7 @@ goes_on direction played step word words e =
     rw (e, many) (ap (λ r. cond (nat_le (length (played ++ step ∷ []) + length words) 4) r None)
     (later_steps played step (steps_in direction words)))
 
--- where no word is left, the play is read
+-- if no word is left, the play is read
 ended : (direction : Direction) (played : List Hop) → length played ≤ 4 → play_from direction played [] ≡ Some played
 unfolding play_from
 ended direction played few =
@@ -84,7 +84,7 @@ one_more direction played later step all o p text word is w a e l h =
     ∙ ap (λ x. play_from direction x (words_after (after 32 text))) (sym l)
     ∙ ap (λ x. play_from direction later (words_after x)) (sym a)
 
--- it ends with the play where no word is left
+-- it ends with the play if no word is left
 pub none_left : (direction : Direction) (played : List Hop) (all : Option (List Hop)) (o : Option (List ℕ))
     → o ≡ None → length played ≤ 4
     → all ≡ play_from direction played (words_after o) → all ≡ Some played

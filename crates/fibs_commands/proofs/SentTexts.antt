@@ -82,7 +82,7 @@ points_text n le =
       length-decimal-le 5 n (omega arith) (omega arith) (omega arith),
     )
 
--- a word, a name and a text are printed where each is
+-- a word, a name and a text are printed if each is
 two : (front n t : List ℕ) → All IsPrinted front → All IsPrinted n → All IsPrinted t
     → All IsPrinted (front ++ (n ++ 32 ∷ t))
 two front n t a b c =
@@ -93,7 +93,7 @@ two front n t a b c =
 two_short : (front n t : List ℕ) → length (front ++ (n ++ 32 ∷ t)) ≡ length front + (length n + (1 + length t))
 two_short front n t = omega (arith, length-append front (n ++ 32 ∷ t), length-append n (32 ∷ t))
 
--- a word and a text are printed where each is
+-- a word and a text are printed if each is
 one : (front t : List ℕ) → All IsPrinted front → All IsPrinted t → All IsPrinted (front ++ t)
 one front t a b = All-append IsPrinted front t a b
 

@@ -8,7 +8,7 @@ use Rattle.std.proofs.lemmas.List.Elements.{All-head, All-tail, All-nil, All-con
 use Rattle.fibs_fields.specs.Split.{before, after}
 use Rattle.fibs_commands.specs.CommandReading.{words_after}
 
--- what stands from c on
+-- what is from c on
 abbrev pub from : ℕ → Option (List ℕ) → List ℕ
 from c None = []
 from c (Some s) = c ∷ s
@@ -25,7 +25,7 @@ before_and_from c (b ∷ s) = elim (cases_eq b c) [
 abbrev pub Without : ℕ → List ℕ → Type 0
 Without c s = All (λ b. b ≢ c) s
 
--- what stands before the first c has none
+-- what is before the first c has none
 pub before_without : (c : ℕ) (s : List ℕ) → Without c (before c s)
 before_without c [] = All-nil (λ b. b ≢ c)
 before_without c (b ∷ s) = elim (cases_eq b c) [
@@ -42,7 +42,7 @@ split_there c (b ∷ w) o h =
     let more = split_there c w o (All-tail (λ b. b ≢ c) b w h) in
     rw (ne_eqb b c (All-head (λ b. b ≢ c) b w h)) (ap (λ (t : List ℕ). b ∷ t) more.0, more.1)
 
--- the words of a text are what stands before its first space, and the words after that
+-- the words of a text are what is before its first space, and the words after that
 pub words_of : (s : List ℕ) → slice_split (λ b. b == 32) s ≡ before 32 s ∷ words_after (after 32 s)
 words_of [] = refl
 words_of (b ∷ s) = elim (cases_eq b 32) [
@@ -55,7 +55,7 @@ abbrev pub left_len : Option (List ℕ) → ℕ
 left_len None = 0
 left_len (Some s) = suc (length s)
 
--- what stands after c is shorter
+-- what is after c is shorter
 pub after_shorter : (c : ℕ) (s : List ℕ) → left_len (after c s) ≤ length s
 after_shorter c [] = omega arith
 after_shorter c (b ∷ s) = elim (cases_eq b c) [

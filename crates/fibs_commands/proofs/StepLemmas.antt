@@ -21,7 +21,7 @@ step_same a b source target =
     let to : ℕ → Hop = λ n. record { source = b.source; target = n } in
     ap from source ∙ ap to target
 
--- no dash stands in a place's text
+-- no dash is in a place's text
 pub place_no_dash : (direction : Direction) (place : ℕ) → place ≤ 25 → All (λ b. b ≢ 45) (place_text direction place)
 place_no_dash direction place le =
     All-weaker IsPlaceByte (λ b. b ≢ 45) (λ b is. λ e. omega arith) (place_text direction place)
@@ -60,7 +60,7 @@ step_injective direction a b ia ib e =
     step_same a b (place_injective direction a.source b.source ia.1 ib.1 parted.0)
     (place_injective direction a.target b.target (omega arith) (omega arith) parted.1)
 
--- no space stands in a step's text
+-- no space is in a step's text
 pub step_no_space : (direction : Direction) (step : Hop) → IsStep step → All (λ b. b ≢ 32) (step_text direction step)
 step_no_space direction step is =
     All-weaker IsStepByte (λ b. b ≢ 32) (λ b byte. λ e. omega arith) (step_text direction step)

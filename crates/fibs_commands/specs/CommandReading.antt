@@ -89,7 +89,7 @@ abbrev pub turn_alone : List ℕ → Option (List ℕ) → Option DecisionValue
 turn_alone word None = turn_in word
 turn_alone word (Some rest) = None
 
--- the decision of a first word and of what follows the space behind it
+-- the decision of a first word and of what follows the space after it
 unfoldable pub decision_in : Direction → List ℕ → Option (List ℕ) → Option DecisionValue
 decision_in direction word rest =
     cond (bytes_eq word (codes "move")) (option_map (λ steps. move steps) (play_from direction [] (words_after rest)))

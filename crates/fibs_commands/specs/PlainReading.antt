@@ -19,7 +19,7 @@ pub data TextField : List ℕ → List ℕ → Type 0 where
   no_text : TextField [] []
   rest_of_line : {text : List ℕ} → TextField text (32 ∷ text)
 
--- a name and a text behind a word: no name, which is the empty one, and no text; or a space, the name, and the text
+-- a name and a text after a word: no name, which is the empty one, and no text; or a space, the name, and the text
 pub data NameAndText : List ℕ → List ℕ → List ℕ → Type 0 where
   no_name : NameAndText [] [] []
   name_then : {name text rest : List ℕ} → NoSpace name → TextField text rest
@@ -60,7 +60,7 @@ abbrev pub name_in : Option (List ℕ) → List ℕ
 name_in None = []
 name_in (Some rest) = before 32 rest
 
--- what follows the space behind a name
+-- what follows the space after a name
 abbrev pub after_name : Option (List ℕ) → Option (List ℕ)
 after_name None = None
 after_name (Some rest) = after 32 rest
@@ -110,7 +110,7 @@ toggle_in (Some setting) =
     (cond (bytes_eq setting (codes "automove")) (Some automove_off)
     (cond (bytes_eq setting (codes "greedy")) (Some greedy_off) None))
 
--- the command of a first word and of what follows the space behind it
+-- the command of a first word and of what follows the space after it
 unfoldable pub plain_in : List ℕ → Option (List ℕ) → Option PlainValue
 plain_in word rest =
     cond (bytes_eq word (codes "invite")) (invitation_in (name_in rest) (after_name rest))

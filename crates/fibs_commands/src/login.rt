@@ -27,7 +27,7 @@ fn is_password_byte(byte: &u8) -> bool
     *byte >= 33 && *byte <= 126
 }
 
-/// Whether each of them is.
+/// True if each byte may be in a password.
 fn are_password_bytes(text: &[u8]) -> bool
     ensures { result ≡ list_all is_password_byte text.now }
 {

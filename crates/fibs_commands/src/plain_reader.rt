@@ -134,7 +134,7 @@ fn read_toggle<'a>(rest: Option<&[u8]>) -> Option<Plain<'a>>
     }
 }
 
-/// The plain command of a first word and of what follows the space behind it.
+/// The plain command of a first word and of what follows the space after it.
 #[tactic(auto, unfolding(crate::specs::PlainReading::plain_in))]
 fn read_fields<'a>(word: &[u8], rest: Option<&'a [u8]>) -> Option<Plain<'a>>
     ensures { option_map plain_value result ≡ plain_in word.now (seen rest.entry) }

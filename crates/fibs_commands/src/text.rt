@@ -16,7 +16,7 @@ pub type CommandText = ArrayString<512>;
 /// A command by which a client answers a line of the server: a text of at most 24 bytes, without its line end.
 pub type AnswerText = ArrayString<24>;
 
-/// The text of no more than this.
+/// The same text as an answer.
 pub fn answer(text: &str) -> AnswerText
     requires { length text.now ≤ 24 }
     ensures { text_of result ≡ text.now }
@@ -26,7 +26,7 @@ pub fn answer(text: &str) -> AnswerText
     answer
 }
 
-/// The text of no more than this.
+/// The same text as a command.
 pub fn command(text: &str) -> CommandText
     requires { length text.now ≤ 512 }
     ensures { text_of result ≡ text.now }
@@ -36,14 +36,14 @@ pub fn command(text: &str) -> CommandText
     command
 }
 
-/// Whether it is a byte of 32 to 126.
+/// True if the byte is printable ASCII, 32 to 126.
 fn is_text_byte(byte: &u8) -> bool
     ensures { result ≡ is_text_byte byte.now }
 {
     *byte >= 32 && *byte <= 126
 }
 
-/// Whether each of them is.
+/// True if every byte of the text is printable ASCII.
 pub fn are_text_bytes(bytes: &[u8]) -> bool
     ensures { result ≡ list_all is_text_byte bytes.now }
 {

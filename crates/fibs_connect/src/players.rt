@@ -1,4 +1,4 @@
-//! The players that are known are told.
+//! The list of the players that are known.
 ghost use Rattle.std.specs.Prelude.{◌≡◌, OnOk};
 ghost use Rattle.fibs_connect.specs.Converse.Players.{players_told};
 
@@ -7,7 +7,7 @@ use fibs_front::front::Front;
 use fibs_front::said::Said;
 use fibs_session::Directory;
 
-/// Tells each player of the directory, in its order.
+/// Reports each player of the directory, in its order.
 pub fn tell_players<F: Front>(directory: &Directory, front: &mut F) -> Result<(), ExchangeFault>
     ensures { OnOk result (F.tells front.old (players_told directory.now) front.new) }
 {

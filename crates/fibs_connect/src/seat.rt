@@ -130,7 +130,7 @@ impl<S: Link + Drop> Seat<S> {
         }
     }
 
-    /// Sends a line to the server as it is, and hears the server. The client is not told the line.
+    /// Sends a line to the server as it is, and hears the server. The client does not learn of it.
     fn pass<F: Front>(&mut self, line: &[u8], front: &mut F) -> Result<(), ExchangeFault>
         requires { FitsStream self.old.client (is_there self.old.stream) }
         ensures fits { OnOk result (FitsStream self.new.client (is_there self.new.stream)) }

@@ -44,7 +44,7 @@ escaped_some xs at e =
     ∙ sym (append_assoc (take at xs) (hex_escape (get_or xs at 0)) (escaped (drop (suc at) xs)))
     ∙ ap (λ n. take at xs ++ hex_escape (get_or xs at 0) ++ escaped (drop n xs)) (sym (add-one at))
 
--- where no byte is escaped, every place passes
+-- if no byte is escaped, every place passes
 none_below : (n m : ℕ) → cond (nat_lt n m) (Some n) None ≡ None → m ≤ n
 none_below n m e = grind (arith, nat_tests)
 

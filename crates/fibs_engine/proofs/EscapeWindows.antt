@@ -26,7 +26,7 @@ covered false true d = refl
 covered false false true = refl
 covered false false false = refl
 
--- windows up to a place, and what stands from an earlier one on, are all
+-- windows up to a place, and what is from an earlier one on, are all
 pub windows_cover : (p : ℕ → Bool) (xs : List ℕ) (from at : ℕ) (found : Bool) → from ≤ at
     → found ≡ (list_any p (drop from xs) || list_any p (take at xs)) → found ≡ list_any p xs
 windows_cover p xs from at found reach is =

@@ -48,7 +48,7 @@ front_of_more held now bytes more broke = (
   broke.4,
 )
 
--- a part of some bytes was written up to some byte, after all that stands before it
+-- a part of some bytes was written up to some byte, after all that is before it
 pub broke_after : (held mid now : Option (List ℕ)) (front part more whole : List ℕ) → front ++ (part ++ more) ≡ whole
     → Appends held mid front → GainedFront mid now part → GainedFront held now whole
 broke_after held mid now front part more whole cut wrote broke =
@@ -61,7 +61,7 @@ pub wrote_front : (r : Result ⊤ declared.Broken) (held now : Option (List ℕ)
 wrote_front (Ok done) held now bytes failed front = cc
 wrote_front (Err why) held now bytes failed front = front
 
--- the last part of some bytes was written, or a front of it, after all that stands before it
+-- the last part of some bytes was written, or a front of it, after all that is before it
 pub wrote_after : (p : Progress) (held mid now : Option (List ℕ)) (front part whole : List ℕ) → front ++ part ≡ whole
     → Appends held mid front → Wrote p mid now part → Wrote p held now whole
 wrote_after Whole held mid now front part whole cut wrote all =

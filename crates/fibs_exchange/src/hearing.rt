@@ -22,7 +22,7 @@ use fibs_messages::Reading;
 use fibs_position::phase_of;
 use fibs_session::{Client, Directory, Outstanding, Taken};
 
-/// Tells the phase of a good board.
+/// Reports the phase of a good board.
 fn tell_phase<F: Front>(reading: &Reading<'_>, front: &mut F) -> Result<(), ExchangeFault>
     ensures { OnOk result (F.tells front.old (phase_told (reading_of reading.now)) front.new) }
 {
@@ -35,7 +35,7 @@ fn tell_phase<F: Front>(reading: &Reading<'_>, front: &mut F) -> Result<(), Exch
     }
 }
 
-/// Tells the decision that is confirmed.
+/// Reports the decision that is confirmed.
 fn tell_confirmed<F: Front>(
     confirmed: &Option<Outstanding>,
     front: &mut F,
@@ -48,7 +48,7 @@ fn tell_confirmed<F: Front>(
     }
 }
 
-/// Tells that a standing order sent its `roll`.
+/// Reports that a standing order sent its `roll`.
 fn tell_rolled<F: Front>(rolled: bool, front: &mut F) -> Result<(), ExchangeFault>
     ensures { OnOk result (F.tells front.old (rolled_told rolled) front.new) }
 {
@@ -58,7 +58,7 @@ fn tell_rolled<F: Front>(rolled: bool, front: &mut F) -> Result<(), ExchangeFaul
     Ok(())
 }
 
-/// Tells a line, and what it calls for.
+/// Reports a line, and what it calls for.
 fn tell_taken<F: Front>(taken: &Taken<'_>, front: &mut F) -> Result<(), ExchangeFault>
     ensures { OnOk result (F.tells front.old (taken_act (taken_of taken.now)).tells front.new) }
 {
@@ -68,7 +68,7 @@ fn tell_taken<F: Front>(taken: &Taken<'_>, front: &mut F) -> Result<(), Exchange
     tell_rolled(taken.rolled, front)
 }
 
-/// Tells the directory a message, and the front end why if it takes no note.
+/// Gives the directory a message. If it takes no note, the front end is told why.
 fn note_taken<F: Front>(
     reading: &Reading<'_>,
     directory: &mut Directory,
@@ -87,7 +87,7 @@ fn note_taken<F: Front>(
     }
 }
 
-/// Writes the commands that a line calls for, then tells it to the front end, then to the directory.
+/// Writes the commands that a line calls for, then reports it to the front end, then gives it to the directory.
 fn hear_line<S: Link, F: Front>(
     taken: &Taken<'_>,
     directory: &mut Directory,

@@ -148,9 +148,9 @@ fn talk_offline<F: Front>(
 /// A stream is given exactly if the client is online; without one nothing is read. A typed line is a decision in the
 /// place numbers of the board shown, else a plain command, else a standing order to roll or its withdrawal. For each
 /// line the commands that it calls for are written first, the `roll` of a standing order that it makes due among them;
-/// then the front end is told it, then the directory. Only the directory takes memory: what it refuses is told.
+/// then the front end is told it, then the directory. Only the directory takes memory: what it refuses is reported.
 ///
-/// Errors: `Output` if the front end can't take what it is told. The client is then as after its last finished call:
+/// Errors: `Output` if the front end fails. The client is then as after its last finished call:
 /// it made the typed call, then it was fed what was read, all of it or up to the end of the line that is not taken, and
 /// then it lost its connection, if that is what is not taken. The commands of these calls are written.
 pub fn exchange_with<S: Link, F: Front>(
@@ -186,7 +186,7 @@ pub fn exchange_with<S: Link, F: Front>(
 /// A stream is given exactly if the client is online; without one nothing is read. A typed line is a decision in the
 /// place numbers of the board shown, else a plain command, else a standing order to roll or its withdrawal. For each
 /// line the commands that it calls for are written first, the `roll` of a standing order that it makes due among them;
-/// then it is printed, then the directory is told. Only the directory takes memory: what it refuses is printed.
+/// then it is printed, then the directory notes it. Only the directory takes memory: what it refuses is printed.
 ///
 /// Errors: `Output` if what is printed can't be written. The client is then as after its last finished call: it made
 /// the typed call, then it was fed what was read, all of it or up to the end of the line that is not printed, and then

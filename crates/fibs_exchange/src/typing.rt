@@ -26,7 +26,7 @@ use fibs_session::{Client, CommandText};
 enum Answer {
     /// The command is to be sent.
     Sent(CommandText),
-    /// Nothing is sent, and this is told.
+    /// Nothing is sent, and this is reported.
     Told(Said<'static>),
 }
 
@@ -67,7 +67,7 @@ fn answer_text(client: &mut Client, text: &[u8]) -> Answer
     answer_typed(client, &typed)
 }
 
-/// Does what a typed line asks for: its command is written, and then told as sent.
+/// Does what a typed line asks for: its command is written, and then reported as sent.
 pub(crate) fn type_line<S: Link, F: Front>(
     client: &mut Client,
     text: &[u8],

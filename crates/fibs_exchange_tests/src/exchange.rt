@@ -1,5 +1,5 @@
 //! Turns of a client with a stream in memory.
-use super::seat::{Kind, Seat, is_made_of, kind_of, opened};
+use super::connected::{Kind, Seat, is_made_of, kind_of, opened};
 use fibs_exchange::link::Link;
 use fibs_exchange::{Ending, ExchangeFault, exchange};
 use fibs_messages::{Reading, read as read_line};
@@ -25,7 +25,7 @@ const INFO_WITHOUT_BOARDS: &[u8] = b"2 ann 1 0 0 0 0 0 1 1 10 0 1 0 1 1500.00 0 
 const PLAYER: &[u8] =
     b"5 someplayer mgnu_advanced - 0 0 1912.15 827 8 1040515752 192.168.143.5 3DFiBs -";
 
-/// A board up to its turn, and what follows where the user is to roll, and after the roll of 6 and 2.
+/// A board up to its turn, and what follows if the user is to roll, and after the roll of 6 and 2.
 const BOARD: &[u8] = b"board:You:bob:3:0:1:0:-2:0:0:0:0:5:0:3:0:0:0:-5:5:0:0:0:-3:0:-5:0:0:0:0:2:0";
 
 const TO_ROLL: &[u8] = b":1:0:0:0:0:1:1:1:0:1:-1:0:25:0:0:0:0:0:0:0:0";
@@ -122,7 +122,7 @@ fn lines_are_answered_and_printed(rt: HostRuntime) {
     }
 }
 
-/// What the server sends, and what is sent and printed where then `roll` is typed.
+/// What the server sends, and what is sent and printed if `roll` is typed then.
 static NOT_SHOWN: [(&str, &[&[u8]], &[u8], &[&[u8]]); 2] = [
     (
         "a board that is shouted",
@@ -361,7 +361,7 @@ static READ_ERRORS: [(ErrorKind, Kind, &[u8]); 6] = [
     (ErrorKind::Interrupted, Kind::Lost, b"text hi\nlost\n"),
 ];
 
-/// Where a read would wait or timed out there is nothing more yet. Each other error ends the connection.
+/// If a read would wait or timed out there is nothing more yet. Each other error ends the connection.
 #[test]
 fn errors_of_reads_are_told_apart(rt: HostRuntime) {
     for (error, kind, printed) in &READ_ERRORS {
@@ -372,7 +372,7 @@ fn errors_of_reads_are_told_apart(rt: HostRuntime) {
     }
 }
 
-/// Whether a turn up to the first board fails where so many bytes may be printed, what is printed, and whether the client
+/// Whether a turn up to the first board fails if so many bytes may be printed, what is printed, and whether the client
 /// shows a board then.
 fn printed_into(rt: &(impl Abort + AllocGlobal), room: usize) -> (bool, Text, bool) {
     let mut client = opened(rt);
@@ -385,7 +385,7 @@ fn printed_into(rt: &(impl Abort + AllocGlobal), room: usize) -> (bool, Text, bo
 }
 
 /// The writer of the printed lines fails after each byte. The client has heard the lines up to the one that fails, so
-/// that it shows the board where the lines before it were printed.
+/// that it shows the board if the lines before it were printed.
 #[test]
 fn each_print_that_fails_stops_the_turn(rt: HostRuntime) {
     let before = WELCOME.len() + INFO.len() + 2 * b"message \n".len();
@@ -568,7 +568,7 @@ fn a_command_is_one_write(rt: HostRuntime) {
     assert_eq!(rt; stream.output.writes(), 4);
 }
 
-/// After a write that fails no other is made, though the stream would take it, and also where a signal interrupted it.
+/// After a write that fails no other is made, though the stream would take it, and also if a signal interrupted it.
 #[test]
 fn nothing_is_sent_after_a_write_that_fails(rt: HostRuntime) {
     let input = joined(&[WELCOME, END, INFO_WITHOUT_BOARDS, END]);

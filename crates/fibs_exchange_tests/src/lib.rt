@@ -2,6 +2,8 @@
 #![tactic(auto)]
 
 #[cfg(test)]
+mod connected;
+#[cfg(test)]
 mod exchange;
 #[cfg(test)]
 mod orders;
@@ -9,5 +11,3 @@ mod orders;
 mod printing;
 #[cfg(test)]
 mod refused_notes;
-#[cfg(test)]
-mod seat;

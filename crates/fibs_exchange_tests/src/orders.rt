@@ -1,5 +1,5 @@
 //! Standing orders to roll.
-use super::seat::{Kind, Seat};
+use super::connected::{Kind, Seat};
 use fibs_test_tools::pipe::{FAULT, QUIET};
 
 const END: &[u8] = b"\r\n";
@@ -7,7 +7,7 @@ const END: &[u8] = b"\r\n";
 /// A board up to its turn.
 const BOARD: &[u8] = b"board:You:bob:3:0:1:0:-2:0:0:0:0:5:0:3:0:0:0:-5:5:0:0:0:-3:0:-5:0:0:0:0:2:0";
 
-/// What follows where the user is to roll and may double, where he may not, the same with the cube at 2, and after his
+/// What follows if the user is to roll and may double, if he may not, the same with the cube at 2, and after his
 /// roll of 6 and 2.
 const MAY_DOUBLE: &[u8] = b":1:0:0:0:0:1:1:1:0:1:-1:0:25:0:0:0:0:0:0:0:0";
 
@@ -64,7 +64,7 @@ static TYPED: [(&[&[u8]], &[u8]); 6] = [
     ),
 ];
 
-/// A standing order is given once, and withdrawn where it was given. Neither sends anything.
+/// A standing order is given once, and withdrawn if it was given. Neither sends anything.
 #[test]
 fn orders_are_given_and_withdrawn(rt: HostRuntime) {
     for (typed, printed) in &TYPED {
@@ -131,7 +131,7 @@ fn the_roll_is_said_last(rt: HostRuntime) {
     }
 }
 
-/// Where the user may double he is asked, and after a withdrawal too.
+/// If the user may double he is asked, and after a withdrawal too.
 #[test]
 fn an_order_that_is_not_due_sends_nothing(rt: HostRuntime) {
     let mut seat = Seat::open(&rt, 1000);

@@ -1,5 +1,5 @@
 //! How the lines of a turn are printed.
-use super::seat::Seat;
+use super::connected::Seat;
 use fibs_exchange::{Ending, exchange};
 use fibs_test_tools::pipe::{After, Pipe, QUIET};
 use fibs_test_tools::text::{Text, joined};

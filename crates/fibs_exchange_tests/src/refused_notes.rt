@@ -1,15 +1,15 @@
-//! Turns in which the directory has no memory for a player: it is said, and they go on.
+//! Turns in which the directory has no memory for a player: they say so, and go on.
 ghost use Rattle.std.specs.Prelude.{true};
 ghost use Rattle.fibs_exchange.specs.Turns.Turn.{FitsStream};
 
-use super::seat::Seat;
+use super::connected::Seat;
 use fibs_session::Directory;
 use fibs_test_tools::text::{Text, joined};
 use std::alloc::{AllocError, Global};
 use std::process::Abort;
 use std::test::Fail;
 
-/// What is printed where a note is refused.
+/// What is printed if a note is refused.
 const REFUSED: &[u8] = b"directory 1 Memory\n";
 
 /// What the server sends, and what is printed for it.
@@ -102,7 +102,7 @@ fn assert_alike(
     Ok(())
 }
 
-/// Where a note is refused, the turn says so behind its line, and goes on as that of a client to which the line was not
+/// If a note is refused, the turn says so after its line, and goes on as that of a client to which the line was not
 /// sent.
 #[test]
 fn turns_go_on_under_refused_memory(rt: HostRuntime) -> Result<(), Fail> {

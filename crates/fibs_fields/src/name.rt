@@ -34,7 +34,7 @@ pub fn name_run(text: &[u8]) -> usize
     text.len()
 }
 
-/// Whether each of them is.
+/// True if each byte may be in a name.
 fn are_name_bytes(bytes: &[u8]) -> bool
     ensures { result ≡ list_all is_name_byte bytes.now }
 {

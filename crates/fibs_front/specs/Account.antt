@@ -1,4 +1,4 @@
--- The plain account: the lines for each thing that is told.
+-- The plain account: the lines for each thing that is reported.
 use Rattle.std.specs.Prelude.{◌++◌, ℕ, List, [], ◌∷◌, codes, Option}
 use Rattle.std.specs.List.{flat_map}
 use Rattle.std.specs.Io.KnownBytes.{Appends}
@@ -12,8 +12,8 @@ use Rattle.fibs_front.specs.Told.{not_sent_said, unknown_said, lost_said, unnote
 use Rattle.fibs_front.specs.Lines.{text_of_lines, heard_text, confirmed_line, lost_line, refused_line, plain_line}
 use Rattle.fibs_front.specs.Lines.{unnoted_line, player_line}
 
--- the lines of each: one, and of a connection that was made none. Why none can be made, and what was sent as it is, is
--- told to a person alone, and the account has no reason, and no line for it
+-- the lines of each: one, but none for a connection that was made. Why none can be made, and what was sent as it is, is
+-- reported to a person alone: the account has no reason for the one, and no line for the other
 abbrev pub lines_of : SaidValue → List (List ℕ)
 lines_of opened_said = []
 lines_of (no_connection_said why) = codes "no connection" ∷ []
@@ -36,7 +36,7 @@ lines_of (player_said told) = player_line told ∷ []
 abbrev pub printed_of : SaidValue → List ℕ
 printed_of said = text_of_lines (lines_of said)
 
--- what is printed of all that is told, one after another
+-- what is printed of all that is reported, one after another
 abbrev pub account_of : List SaidValue → List ℕ
 account_of = flat_map printed_of
 

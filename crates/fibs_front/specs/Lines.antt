@@ -58,7 +58,7 @@ reason_line label number name = label ++ (decimal number ++ (32 ∷ name))
 abbrev pub refused_line : Refusal → List ℕ
 refused_line why = reason_line (codes "refused ") (refusal_number why) (refusal_name why)
 
--- a fault of a plain command is none of the client's state
+-- a fault is one of the command itself, whatever the client's state
 abbrev pub plain_label : PlainRefusal → List ℕ
 plain_label P.Offline = codes "refused "
 plain_label P.NotOn = codes "refused "

@@ -1,4 +1,4 @@
--- What the program tells, as a value.
+-- What the program reports, as a value.
 use Rattle.std.specs.Prelude.{option_map}
 use Rattle.fibs_lines.specs.Lines.{value_of}
 use Rattle.fibs_commands.specs.TextOf.{text_of}

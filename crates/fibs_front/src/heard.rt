@@ -16,7 +16,7 @@ use std::io::Write;
 /// How many bytes a line of the server has mostly, and a board always: no more than these.
 const SHORT_LINE: usize = 512;
 
-/// Room for such a line as it is printed, with its line end: behind `message ` each of its bytes may be escaped.
+/// Room for such a line as it is printed, with its line end: after `message ` each of its bytes may be escaped.
 const SHORT_ROOM: usize = 4 * SHORT_LINE + 9;
 
 /// Room for the longest line.

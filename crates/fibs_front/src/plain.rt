@@ -1,4 +1,4 @@
-//! The plain account: a line is printed for what is told.
+//! The plain account: a line is printed for each thing that happens.
 ghost use Rattle.std.specs.Prelude.{◌≡◌, ◌≤◌, OnOk, length, option_map};
 ghost use Rattle.std.specs.Io.KnownBytes.{Appends};
 ghost use Rattle.fibs_fields.specs.Field.{RatingField, canonical_text};
@@ -21,8 +21,8 @@ use std::io::Write;
 /// The line of a player: a name has at most 64 bytes.
 type PlayerLine = ArrayVec<u8, 128>;
 
-/// A front end that prints a line for what it is told: none for a connection that is made, or a line that is sent as it
-/// is, and no reason if no connection can be made.
+/// A front end that prints a line for each thing that it is told. It prints none for a connection that is made or for a
+/// line that is sent as it is, and no reason if no connection can be made.
 #[derive(Drop)]
 pub struct Plain<'a, W: Write> {
     /// Where it prints.
@@ -53,7 +53,7 @@ impl<W: Write> Front for Plain<'_, W> {
     } };
 }
 
-/// Prints what is told.
+/// Prints the line of one thing.
 fn print_said<W: Write>(said: &Said<'_>, out: &mut W) -> Result<(), FrontFault>
     ensures { OnOk result (Appends (W.contents out.old) (W.contents out.new) (printed_of (said_of said.now))) }
 {

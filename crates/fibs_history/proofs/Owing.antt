@@ -147,7 +147,7 @@ info_takes c log m =
     go true x y e = omega (arith, e, cost_initial (autoboard m) (moreboards m))
     go false x y e = omega (arith, e, cost_nothing)
 
--- a board, where a roll is sent only if an order stands
+-- a board, if a roll is sent only if an order is in force
 shown_takes : (c : ℕ) (log : List Entry) (b : BoardFields) (rolls : Bool)
     → (rolls ≡ true → is_ordered c log ≡ true) → Takes c log (shows_board c log b rolls)
 shown_takes c log b false f =

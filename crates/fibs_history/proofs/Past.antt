@@ -41,7 +41,7 @@ module _ (like : Board → Board → Bool) (c : ℕ) where
       cc (p, q, i)
   spent_quiet (e ∷ later) ys h k = spent_quiet later ys h k
 
-  -- one more Sent, where a board was shown
+  -- one more Sent, if a board was shown
   pub spent_sent : (xs : List Entry) (b : Board) (m : Decision)
       → is_empty (shown c xs) ≡ false → is_spent like c (xs ++ Sent c b m ∷ []) ≡ true
   spent_sent [] b m h = absurd (true≢false h)
@@ -171,7 +171,7 @@ module _ (c : ℕ) where
       → sent c (xs ++ Sent c b m ∷ []) ≡ sent c xs ++ (b, m) ∷ []
   sent_more xs b m = map_more (sent_by c) xs (Sent c b m ∷ []) ((b, m) ∷ []) (one_sent b m)
 
--- where the stretch is spent something was sent
+-- if the stretch is spent something was sent
 pub spent_has_sent : (like : Board → Board → Bool) (c : ℕ) (xs : List Entry)
     → is_spent like c xs ≡ true → is_empty (sent c xs) ≡ false
 spent_has_sent like c [] h = absurd (true≢false (sym h))

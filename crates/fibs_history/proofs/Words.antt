@@ -129,7 +129,7 @@ some_last [] = refl
 some_last (x ∷ []) = refl
 some_last (x ∷ y ∷ ys) = some_last (y ∷ ys)
 
--- what is unconfirmed is something where the stretch is spent
+-- what is unconfirmed is something if the stretch is spent
 pub some_spent : (c : ℕ) (log : List Entry) → is_some (unconfirmed same_game c log) ≡ is_spent same_game c log
 some_spent c log = go (is_spent same_game c log) (spent_has_sent same_game c log)
   where

@@ -19,12 +19,12 @@ use Rattle.fibs_lines.proofs.ReturnLemmas.{kept_line_is}
 abbrev pub kept_of : LinesValue → Kept
 kept_of v = record { telnet = v.telnet; front = v.front; over = v.over }
 
--- what is kept after a stream stands after it
+-- what is kept after a stream is reached by it
 pub StandsAfter-from_kept : (v : LinesValue) (s : List ℕ) → KeptAfter (kept_of v) s → StandsAfter v s
 unfolding StandsAfter
 StandsAfter-from_kept v s h = (h.telnet, h.front, h.over)
 
--- what stands after a stream is kept after it
+-- what is after a stream is kept after it
 pub KeptAfter-from_stands : (v : LinesValue) (s : List ℕ) → StandsAfter v s → KeptAfter (kept_of v) s
 unfolding StandsAfter
 KeptAfter-from_stands v s h = record { telnet = h.0; front = h.1; over = h.2 }

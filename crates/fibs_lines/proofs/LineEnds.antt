@@ -9,7 +9,7 @@ use Rattle.fibs_lines.proofs.Parts.{has_end}
 use Rattle.fibs_lines.proofs.Streams.{data_along, telnet_along, plain-append, telnet_of-append, lines_of_more}
 use Rattle.fibs_lines.proofs.Streams.{lines_of_end}
 
--- what the text's CR and LF give, where the text leaves this much of a command open
+-- what the text's CR and LF give, if the text leaves this much of a command open
 given : (t : List ℕ) (k : Telnet) → telnet_of t ≡ k → plain (with_line_end t) ≡ plain t ++ data_along k (13 ∷ 10 ∷ [])
 given t k h = plain-append t (13 ∷ 10 ∷ []) ∙ ap (λ k. plain t ++ data_along k (13 ∷ 10 ∷ [])) h
 

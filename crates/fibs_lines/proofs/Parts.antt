@@ -6,7 +6,7 @@ use Rattle.std.proofs.lemmas.List.{take_at, drop_at, length-reverse, reverse-app
 use Rattle.std.proofs.lemmas.List.Splits.{length-slice_split}
 use Rattle.fibs_lines.specs.Lines.{plain, is_line_end, finished_parts, line_of, lines_of, rest_of}
 
--- the lists with x put before the first, where there is one
+-- the lists with x put before the first, if there is one
 abbrev pub onto_each_first : ℕ → List (List ℕ) → List (List ℕ)
 onto_each_first x [] = []
 onto_each_first x (part ∷ parts) = (x ∷ part) ∷ parts
@@ -149,7 +149,7 @@ unfolding after_end
 suffix_len-is [] = refl
 suffix_len-is (x ∷ p) = suffix_len_step x p (has_end p) refl (suffix_len-is p)
 
--- with one byte more in front, what follows the last line end still stands at the end
+-- with one byte more in front, what follows the last line end still is at the end
 before_end_step : (x : ℕ) (p : List ℕ) (b : Bool) → has_end p ≡ b → ((front : List ℕ) × (p ≡ front ++ after_end p))
     → (front : List ℕ) × (x ∷ p ≡ front ++ after_end (x ∷ p))
 unfolding after_end
@@ -164,7 +164,7 @@ before_end_step x p false h ih =
       | false ↦ ([], ap (λ b. cond b (after_end p) (x ∷ p)) (sym h))
     ]
 
--- what follows the last line end stands at the end
+-- what follows the last line end is at the end
 before_end : (p : List ℕ) → (front : List ℕ) × (p ≡ front ++ after_end p)
 unfolding after_end
 before_end [] = ([], refl)

@@ -45,7 +45,7 @@ over-without_return limit room r e = let less = length-without_return r in cases
 made : List ℕ → Bool → ReadLine
 made b c = record { bytes = b; cut = c }
 
--- lines are equal where their bytes are, and where both are cut or neither is
+-- lines are equal if their bytes are, and if both are cut or neither is
 pub same_read_line : (a b : ReadLine) → a.bytes ≡ b.bytes → a.cut ≡ b.cut → a ≡ b
 unfolding made
 same_read_line a b e f = ap (λ x. made x a.cut) e ∙ ap (made b.bytes) f

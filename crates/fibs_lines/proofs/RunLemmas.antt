@@ -48,7 +48,7 @@ pub IsRun-further : (bytes : List ℕ) (at more : ℕ) → IsRun (take at bytes)
 IsRun-further bytes at more h i =
     subst IsRun (sym (take-add at more bytes)) (IsRun-append (take at bytes) (take more (drop at bytes)) h i)
 
--- what stands in a window
+-- what is in a window
 pub in-window : (bytes window : List ℕ) (at wide j : ℕ) → window ≡ take wide (take (length bytes - at) (drop at bytes))
     → j < length window → get_or window j 0 ≡ get_or bytes (at + j) 0
 in-window bytes window at wide j same l =

@@ -29,7 +29,7 @@ use Rattle.fibs_lines.proofs.RunLemmas.{IsRun-append, has_end_run, data_along_ru
 use Rattle.fibs_lines.proofs.ReturnLemmas.{same_read_line, strip-is, without_return_yes}
 use Rattle.fibs_lines.proofs.PromptLemmas.{without_prompts_login, without_prompts_command, without_prompts_none}
 
--- what follows the last line end, where the second list has one
+-- what follows the last line end, if the second list has one
 after_end-append_some : (p q : List ℕ) → has_end q ≡ true → after_end (p ++ q) ≡ after_end q
 unfolding after_end
 after_end-append_some [] q h = refl
@@ -37,7 +37,7 @@ after_end-append_some (x ∷ p) q h =
     let e : has_end (p ++ q) ≡ true = grind (arith, has_end-append p q, h) in
     ap (λ b. cond b (after_end (p ++ q)) (cond (eqb x 10) (p ++ q) (x ∷ p ++ q))) e ∙ after_end-append_some p q h
 
--- what follows the last line end, where the first list ends with one
+-- what follows the last line end, if the first list ends with one
 after_end-boundary : (p q : List ℕ) (b : Bool) → has_end q ≡ b → after_end p ≡ [] → after_end (p ++ q) ≡ after_end q
 after_end-boundary p q true h e = after_end-append_some p q h
 after_end-boundary p q false h e = after_end-append_none p q h ∙ ap (λ l. l ++ q) e ∙ sym (after_end_none q h)
@@ -66,7 +66,7 @@ finished-boundary_step x p q false false h i e ih =
     sym (ap (λ b. cond b (after_end p) (cond (eqb x 10) p (x ∷ p))) h ∙ ap (λ b. cond b p (x ∷ p)) i) ∙ e in
     absurd (cc)
 
--- the closed parts of two lists, where the first ends with a line end
+-- the closed parts of two lists, if the first ends with a line end
 finished-boundary : (p q : List ℕ) → after_end p ≡ [] → finished (p ++ q) ≡ finished p ++ finished q
 unfolding finished
 finished-boundary [] q e = refl
@@ -94,7 +94,7 @@ module _ (s t : List ℕ) (a : AtLineStart s) where
       ∙ after_end-boundary (plain s) (plain t) (has_end (plain t)) refl (sym (rest_of-is s) ∙ a.no_rest)
       ∙ sym (rest_of-is t)
 
-  -- how much of a command stands at the end is that of what came after
+  -- how much of a command is at the end is that of what came after
   pub telnet_of-append_start : telnet_of (s ++ t) ≡ telnet_of t
   telnet_of-append_start = telnet_of-append s t ∙ ap (λ k. telnet_along k t) a.no_command ∙ sym (telnet_of-along t)
 
@@ -124,7 +124,7 @@ rest_of-nil : rest_of [] ≡ []
 unfolding rest_of plain
 rest_of-nil = refl
 
--- the empty stream has no line, and stands at a line's start
+-- the empty stream has no line, and is at a line's start
 pub empty_stream_has_no_line : EmptyStreamHasNoLine
 empty_stream_has_no_line = (lines_of-nil, record { no_command = telnet_of-nil; no_rest = rest_of-nil })
 
@@ -144,7 +144,7 @@ ended p Data = ap after_end (sym (append_assoc p (13 ∷ []) (10 ∷ []))) ∙ a
 ended p Command = after_end-append_end p
 ended p Negotiation = after_end-append_end p
 
--- after CR LF a stream stands at a line's start
+-- after CR LF a stream is at a line's start
 pub line_end_is_a_line_start : LineEndIsALineStart
 line_end_is_a_line_start t = record {
   no_command = telnet_of-append t (13 ∷ 10 ∷ []) ∙ closed (telnet_of t);

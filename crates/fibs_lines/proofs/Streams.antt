@@ -197,7 +197,7 @@ lines_of_grow s u =
           ∙ map-append line_of (finished (plain s)) more.0 ∙ ap (λ ls. ls ++ map line_of more.0) (sym (lines_of-is s)),
     )
 
--- where a longer front of more gives no line, a shorter one gives none
+-- if a longer front of more gives no line, a shorter one gives none
 pub lines_of_before : (s piece : List ℕ) (n k : ℕ) → n ≤ k → lines_of (s ++ take k piece) ≡ lines_of s
     → lines_of (s ++ take n piece) ≡ lines_of s
 lines_of_before s piece n k h e =

@@ -2,7 +2,7 @@
 use Rattle.std.proofs.Common.{◌≡◌, ◌-◌, ℕ, List, ◌++◌, length, take, drop, sym, ap, ◌∙◌, append_assoc, arith}
 use Rattle.std.proofs.lemmas.List.{take-append-drop, take_all, length-drop}
 
--- what is left behind a portion
+-- what is left after a portion
 rest_is : (used : ℕ) (rest : List ℕ) → take (length rest - used) (drop used rest) ≡ drop used rest
 rest_is used rest = take_all (length rest - used) (drop used rest) (omega (arith, length-drop used rest))
 

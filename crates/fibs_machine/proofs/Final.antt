@@ -61,7 +61,7 @@ use Rattle.std.proofs.lemmas.Bool.Decides.{nat_tests}
 use Rattle.fibs_machine.proofs.joint.EachEvent.{Served}
 
 module _ (law : Lawful) where
-  -- what is told holds of the log of a world
+  -- what the headline says holds of the log of a world
   abbrev Tells : World → Type 0
   Tells w = Told w.log
 
@@ -73,7 +73,7 @@ module _ (law : Lawful) where
   told_nothing : (c : ℕ) (w : World) → Told w.log → Told (does_heard c w nothing_heard).log
   told_nothing c w h = subst Told (sym (append-nil w.log)) h
 
-  -- a good board is shown, and where a standing order is then due its roll is sent
+  -- a good board is shown, and if a standing order is then due its roll is sent
   told_shows : (c : ℕ) (w : World) (b : Board) → is_good b ≡ true → open_now w.log ≡ c → Told w.log → (rolls : Bool)
       → is_due c (w.log ++ Shown c b ∷ []) b ≡ rolls → Told (does_heard c w (shows_board c w.log b rolls)).log
   told_shows c w b good here h false due = told_shown w.log c b good (sym here) due h
@@ -177,7 +177,7 @@ module _ (law : Lawful) where
   told_unless w e (Some why) p h = h
   told_unless w e None p h = told_plain w.log e p h
 
-  -- each event keeps what is told of the log
+  -- each event keeps what holds of the log
   told_after : (login : List ℕ) (w : World) (e : Event) → Joint [] w → refusal w e ≡ None → Told w.log
       → Told (after login w e).log
   told_after login w Open j k h = told_plain w.log (Opened (w.count + 1)) tt h

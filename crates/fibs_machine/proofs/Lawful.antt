@@ -46,7 +46,7 @@ pub record Lawful : Type 0 where
   pub likeness : IsLikeness same_game
   -- and boards of two game parts differ
   pub differ : (a b : BoardFields) → Differ a b → same_game a b ≡ false
-  -- a board is good where its test says so
+  -- a board is good if its test says so
   pub good_means : (b : BoardFields) → good b ≡ true → IsGood b
   -- what is allowed on a good board is allowed by the rules
   pub allowed_means : (b : BoardFields) (d : DecisionValue) → good b ≡ true → allows b d ≡ None

@@ -47,7 +47,7 @@ none_append (Took c b d ∷ xs) ys h k = absurd h
 none_append (Undone c b d ∷ xs) ys h k = absurd h
 none_append (e ∷ xs) ys h k = none_append xs ys h k
 
--- where there is none, nothing took effect
+-- if there is none, nothing took effect
 none_taken : (xs : List Entry) → NoAnswers xs → taken_on xs ≡ []
 none_taken [] h = refl
 none_taken (Took c b d ∷ xs) h = absurd h
@@ -156,7 +156,7 @@ fits now logged_in c false text d1 d2 =
 abbrev pub Moves : World → World → Event → Type 0
 Moves w w' e = Leaves w w' ⊎ Takes w w' e
 
--- the board is left where no answer to a decision is noted
+-- the board is left if no answer to a decision is noted
 leaves : (w w' : World) → Adds w w' → Leaves w w'
 leaves w w' a = record { board = a.board; noted = a.more; log = a.log; none = none_taken a.more a.none }
 
@@ -211,7 +211,7 @@ moves_linked w w' c l e (inr x) = inr (record {
   differs = x.differs;
 })
 
--- the server takes a line, where there is one
+-- the server takes a line, if there is one
 moves_line : EffectIsExact → EffectIsGood → (w : World) (c d1 d2 : ℕ) (o : Option (List ℕ × List ℕ))
     → Moves w (serves c w d1 d2 o) (Serve c d1 d2)
 moves_line exact good w c d1 d2 None = inl (leaves w w (adds_same w w refl refl))

@@ -1,4 +1,4 @@
--- What is told of a log as it grows.
+-- What holds of a log as it grows.
 pub mod Called
 pub mod Due
 pub mod Fitting

@@ -1,5 +1,5 @@
 //! The world as a machine over events, and what holds of it: the headline. Definitions and laws; the world of the program
-//! stands above.
+//! is in `fibs_model`.
 #![tactic(auto)]
 
 pub mod laws;

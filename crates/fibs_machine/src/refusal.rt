@@ -10,7 +10,7 @@ use std::fmt;
 /// if no other holds.
 #[derive(Clone, Copy, Debug, PartialEq, Eq)]
 pub enum WorldRefusal {
-    /// No memory could be had for what the event adds.
+    /// There was no memory for what the event adds.
     Memory,
     /// A connection is open.
     AlreadyOpen,

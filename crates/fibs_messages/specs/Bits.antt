@@ -1,9 +1,9 @@
 -- The numbers in a message of the program. No public contract rests on it.
 use Rattle.std.specs.Prelude.{◌<◌}
 use Rattle.fibs_fields.specs.Decimal.{numbers_of_32_bits, numbers_of_64_bits}
-use Rattle.fibs_messages.specs.declared.messages.message.Message.{Message}
-use Rattle.fibs_messages.specs.declared.messages.message.Message.TheVariants.{Welcome, OwnInfo, WhoInfo}
-use Rattle.fibs_messages.specs.declared.messages.message.Message.TheVariants.{MessageReceived}
+use Rattle.fibs_messages.specs.declared.message.Message.{Message}
+use Rattle.fibs_messages.specs.declared.message.Message.TheVariants.{Welcome, OwnInfo, WhoInfo}
+use Rattle.fibs_messages.specs.declared.message.Message.TheVariants.{MessageReceived}
 
 -- the numbers in a message have the bits of their types
 abbrev pub HasBits : Message → Type 0

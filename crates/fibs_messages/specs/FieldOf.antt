@@ -1,7 +1,7 @@
 -- The fields of a message of the program as values.
 use Rattle.std.specs.Prelude.{ℕ, ◌-◌, List, map, Option, None, nat_eq, slice_get, if◌then◌else◌}
-use Rattle.fibs_messages.specs.declared.messages.field.Field.{Field}
-use Rattle.fibs_messages.specs.declared.messages.field.Field.TheVariants.{Name, Word, Tail, Flag, Number, Rating, Text}
+use Rattle.fibs_messages.specs.declared.field.Field.{Field}
+use Rattle.fibs_messages.specs.declared.field.Field.TheVariants.{Name, Word, Tail, Flag, Number, Rating, Text}
 use Rattle.fibs_fields.specs.Field.{FieldValue, NameField, WordField, TailField, FlagField, NumberField, RatingField}
 use Rattle.fibs_fields.specs.Field.{TextField}
 use Rattle.fibs_fields.specs.Bytes.{name_bytes, word_bytes, tail_bytes}

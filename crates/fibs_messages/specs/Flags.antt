@@ -2,8 +2,8 @@
 use Rattle.std.specs.Prelude.{◌≡◌, ℕ, Bool, false, Option, Some, slice_get}
 use Rattle.fibs_fields.specs.Field.{FieldValue, FlagField}
 use Rattle.fibs_messages.specs.Message.{MessageValue, message_of}
-use Rattle.fibs_messages.specs.declared.messages.message.Message.TheVariants.{OwnInfo as TheOwnInfo}
-use Rattle.fibs_messages.specs.declared.messages.message.OwnInfo.{OwnInfo}
+use Rattle.fibs_messages.specs.declared.message.Message.TheVariants.{OwnInfo as TheOwnInfo}
+use Rattle.fibs_messages.specs.declared.message.OwnInfo.{OwnInfo}
 
 -- a field that is a flag which is 1
 abbrev pub is_set : Option FieldValue → Bool

@@ -89,7 +89,7 @@ reading_value line =
     then board_reading (first_fault 1 kinds (pieces (without_spaces line))) (pieces (without_spaces line))
     else other_reading (number_word (before 32 line)) line
 
--- what is said of a numbered line is said of its number
+-- the reading is of this number: that of a message, or of a malformed line
 abbrev pub IsOfNumber : ℕ → ReadingValue → Type 0
 IsOfNumber n (numbered_line m) = m.number ≡ n
 IsOfNumber n (board_line b) = ⊥

@@ -9,16 +9,16 @@ use Rattle.fibs_fields.specs.Field.{Kind, a_name, a_word, a_tail, a_flag, a_numb
 use Rattle.fibs_fields.specs.Field.{NameField, WordField, TailField, FlagField, NumberField, RatingField, TextField}
 use Rattle.fibs_fields.specs.Field.{kind_of, IsValue, Spells, canonical_text, texts_for, fault_at, IsFirstFault}
 use Rattle.fibs_fields.specs.Split.{before, after}
-use Rattle.fibs_messages.specs.declared.messages.message.Message.{Message}
-use Rattle.fibs_messages.specs.declared.messages.message.Message.TheVariants.{Welcome, OwnInfo as TheOwnInfo, MotdBegin}
-use Rattle.fibs_messages.specs.declared.messages.message.Message.TheVariants.{MotdEnd, WhoInfo as TheWhoInfo}
-use Rattle.fibs_messages.specs.declared.messages.message.Message.TheVariants.{WhoInfoEnd, Login, Logout}
-use Rattle.fibs_messages.specs.declared.messages.message.Message.TheVariants.{MessageReceived, MessageDelivered}
-use Rattle.fibs_messages.specs.declared.messages.message.Message.TheVariants.{MessageSaved, Says, Shouts, Whispers}
-use Rattle.fibs_messages.specs.declared.messages.message.Message.TheVariants.{Kibitzes, YouSay, YouShout, YouWhisper}
-use Rattle.fibs_messages.specs.declared.messages.message.Message.TheVariants.{YouKibitz}
-use Rattle.fibs_messages.specs.declared.messages.message.OwnInfo.{OwnInfo}
-use Rattle.fibs_messages.specs.declared.messages.message.WhoInfo.{WhoInfo}
+use Rattle.fibs_messages.specs.declared.message.Message.{Message}
+use Rattle.fibs_messages.specs.declared.message.Message.TheVariants.{Welcome, OwnInfo as TheOwnInfo, MotdBegin}
+use Rattle.fibs_messages.specs.declared.message.Message.TheVariants.{MotdEnd, WhoInfo as TheWhoInfo}
+use Rattle.fibs_messages.specs.declared.message.Message.TheVariants.{WhoInfoEnd, Login, Logout}
+use Rattle.fibs_messages.specs.declared.message.Message.TheVariants.{MessageReceived, MessageDelivered}
+use Rattle.fibs_messages.specs.declared.message.Message.TheVariants.{MessageSaved, Says, Shouts, Whispers}
+use Rattle.fibs_messages.specs.declared.message.Message.TheVariants.{Kibitzes, YouSay, YouShout, YouWhisper}
+use Rattle.fibs_messages.specs.declared.message.Message.TheVariants.{YouKibitz}
+use Rattle.fibs_messages.specs.declared.message.OwnInfo.{OwnInfo}
+use Rattle.fibs_messages.specs.declared.message.WhoInfo.{WhoInfo}
 use Rattle.fibs_fields.specs.Bytes.{name_bytes, word_bytes, tail_bytes}
 
 -- a row of the table: a message's number, and the kinds of its fields in their order

@@ -3,8 +3,8 @@ use Rattle.std.specs.Prelude.{List, [], ◌∷◌}
 use Rattle.fibs_fields.specs.Bytes.{word_bytes}
 use Rattle.fibs_fields.specs.Field.{Kind, a_word, a_flag, a_number, a_rating}
 use Rattle.fibs_fields.specs.Field.{FieldValue, WordField, FlagField, NumberField, RatingField}
-use Rattle.fibs_messages.specs.declared.messages.read.LastSettings.{LastSettings}
-use Rattle.fibs_messages.specs.declared.messages.read.LaterSettings.{LaterSettings}
+use Rattle.fibs_messages.specs.declared.reader.LastSettings.{LastSettings}
+use Rattle.fibs_messages.specs.declared.reader.LaterSettings.{LaterSettings}
 
 -- the kinds of the last settings
 abbrev pub last_settings_kinds : List Kind

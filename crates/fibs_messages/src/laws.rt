@@ -11,12 +11,12 @@ ghost use Rattle.fibs_messages.specs.Line.{reading_of};
 ghost use Rattle.fibs_messages.specs.Message.{HasNumber, IsMessage, IsNumber, IsNumbered, MessageText, MessageValue};
 ghost use Rattle.fibs_messages.specs.Message.{WrongMessage, canonical, kinds_of, message_of, own_info_fields};
 ghost use Rattle.fibs_messages.specs.Message.{who_info_fields};
-ghost use Rattle.fibs_messages.specs.declared.messages.message.Message.{Message};
+ghost use Rattle.fibs_messages.specs.declared.message.Message.{Message};
 ghost use Rattle.fibs_boards.specs.Printed.{IsPrinted};
-ghost use Rattle.fibs_messages.specs.declared.messages.message.OwnInfo.{OwnInfo};
+ghost use Rattle.fibs_messages.specs.declared.message.OwnInfo.{OwnInfo};
 
 use crate::line::{Reading, read};
-use crate::messages::message::{Message, OwnInfo, WhoInfo};
+use crate::message::{Message, OwnInfo, WhoInfo};
 pub use fibs_boards::laws::{
     boards_are_valid, each_line_is_one_board_or_wrong, fields_have_their_ranges,
     fields_tell_boards, is_board_is_exact, lines_of_boards_are_their_spellings, print_reads_back,

@@ -2,10 +2,16 @@
 //! printed.
 #![tactic(auto)]
 
+mod canonical;
+mod field;
 pub mod laws;
 mod line;
-mod messages;
+mod message;
+mod number;
+mod print;
+mod reader;
 
+pub use canonical::canonical_line;
 pub use fibs_boards::board::Board;
 pub use fibs_boards::check::check_board;
 pub use fibs_fields::decimal::read_decimal;
@@ -13,8 +19,7 @@ pub use fibs_fields::fault::{Fault, FieldFault};
 pub use fibs_fields::name::Name;
 pub use fibs_fields::split::split;
 pub use fibs_fields::word::{Tail, Word};
+pub use field::Field;
 pub use line::{Reading, is_board_line, message_number, read};
-pub use messages::canonical::canonical_line;
-pub use messages::field::Field;
-pub use messages::message::{Message, OwnInfo, WhoInfo};
-pub use messages::print::print_message;
+pub use message::{Message, OwnInfo, WhoInfo};
+pub use print::print_message;

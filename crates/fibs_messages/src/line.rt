@@ -9,9 +9,9 @@ ghost use Rattle.fibs_messages.specs.LineReading.{BeginsAs, IsAsRead};
 ghost use Rattle.fibs_messages.specs.Message.{number_word, HasNumber, IsNumber, MessageValue, MessageText};
 ghost use Rattle.fibs_fields.specs.Split.{before};
 
-use crate::messages::message::Message;
-use crate::messages::number::{number_of, rest_of};
-use crate::messages::read::read_message;
+use crate::message::Message;
+use crate::number::{number_of, rest_of};
+use crate::reader::read_message;
 use fibs_boards::board::Board;
 use fibs_fields::fault::{Fault, FieldFault};
 use fibs_fields::split::split;

@@ -1,4 +1,4 @@
-//! Tests of lines, boards, messages and directories: what no caller in C sees. Worked rows stand in `tests/rows`.
+//! Tests of lines, boards, messages and directories: what no caller in C sees. Worked rows are in `tests/rows`.
 #![tactic(auto)]
 
 #[cfg(test)]

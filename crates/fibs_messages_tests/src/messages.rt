@@ -6,7 +6,7 @@ use std::alloc::{AllocError, Global};
 use std::process::Abort;
 use std::test::Fail;
 
-/// Lines of messages, and what is printed for them where that is another line.
+/// Lines of messages, and what is printed for them if that is another line.
 static PRINTED: [(&[u8], &[u8]); 30] = [
     // Lines of the CLIP specification, which are printed as they came.
     (b"1 myself 1041253132 192.168.1.308", b""),
@@ -66,7 +66,7 @@ static PRINTED: [(&[u8], &[u8]); 30] = [
     (b"17 ", b"17"),
 ];
 
-/// What is said at once to be printed for a line.
+/// Whether a line is copied as this text, or is not copied.
 fn is_copied_as(line: &[u8], canonical: Option<&[u8]>) -> bool {
     match (canonical_line(line), canonical) {
         (Some(copied), Some(wanted)) => copied == wanted,
@@ -130,7 +130,7 @@ fn append_printed(alloc: Global, line: &[u8], out: &mut Vec<u8>) -> Result<(), A
     }
 }
 
-/// The lines of messages as they are printed in a row. Where a growth is refused, the text is as one that was given the
+/// The lines of messages as they are printed in a row. If a growth is refused, the text is as one that was given the
 /// lines before it, and what is appended later is appended to both.
 fn assert_appended(
     rt: &impl Abort,

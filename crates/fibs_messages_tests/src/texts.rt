@@ -13,7 +13,7 @@ fn letters<A: Allocator>(count: usize, alloc: A) -> Result<Vec<u8, A>, AllocErro
     Ok(bytes)
 }
 
-/// A text that is sent is read as its line, where it has neither LF nor 255.
+/// A text that is sent is read as its line, if it has neither LF nor 255.
 #[test]
 fn texts_as_they_are_sent(rt: HostRuntime) -> Result<(), Fail> {
     let rows: [(&[u8], Option<&[u8]>); 8] = [

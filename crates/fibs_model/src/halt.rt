@@ -9,7 +9,7 @@ use std::alloc::AllocError;
 /// Why an event that may be is not done.
 #[derive(Clone, Copy, Debug, PartialEq, Eq)]
 pub(crate) enum Halt {
-    /// No memory could be had for what the event adds.
+    /// There was no memory for what the event adds.
     Memory,
     /// The carrier failed.
     Broken,
@@ -38,7 +38,7 @@ impl From<Broken> for Halt {
 /// Why an event is not done.
 #[derive(Clone, Copy, Debug, PartialEq, Eq)]
 pub enum Stop {
-    /// The event may not be, or no memory could be had for what it adds.
+    /// The event may not be, or there was no memory for what it adds.
     Refused(WorldRefusal),
     /// The carrier failed.
     Broken,

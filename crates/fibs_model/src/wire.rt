@@ -54,7 +54,7 @@ pub fn line_ends(bytes: &[u8]) -> usize
     bytes.iter().filter(|byte| **byte == b'\n').count()
 }
 
-/// Puts a text and CR LF behind bytes that have room for them.
+/// Puts a text and CR LF after bytes that have room for them.
 fn append(bytes: &mut Vec<u8>, text: &[u8])
     requires { vec_len bytes.old + (length text.now + 2) ≤ vec_capacity bytes.old }
     ensures items { bytes.new.items ≡ bytes.old.items ++ on_wire text.now }

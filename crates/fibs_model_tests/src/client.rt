@@ -1,5 +1,5 @@
 //! What neither the built program nor the library for C shows of sessions and clients. Their histories, worked out by hand,
-//! are told to a client in Python: tests/worlds.
+//! are run by a client in Python: tests/worlds.
 
 use crate::lines::{INFO, INFO_NO_AUTOBOARD, NO_DOUBLE, TO_MOVE, TO_ROLL, WELCOME};
 use fibs_lines::Line;
@@ -146,7 +146,7 @@ fn run_in(alloc: Global) -> Result<Vec<u8>, Fail> {
     }
 }
 
-/// Where a growth is refused, the run says so, and the next one is whole.
+/// If a growth is refused, the run says so, and the next one is whole.
 #[test]
 fn runs_hand_out_their_commands_under_refused_memory(rt: HostRuntime) -> Result<(), Fail> {
     let bytes = run_in(rt.alloc())?;
@@ -206,7 +206,7 @@ fn refusals_are_told_by_their_numbers_and_names(rt: HostRuntime) -> Result<(), F
     Ok(())
 }
 
-/// A width is kept, so that refusals stand in columns.
+/// A width is kept, so that refusals are in columns.
 #[test]
 fn refusals_are_padded_to_a_width(rt: HostRuntime) -> Result<(), Fail> {
     let alloc = rt.alloc();

@@ -170,7 +170,7 @@ fn text_of(alloc: Global, served: &Served) -> Result<String, Fail> {
     }
 }
 
-/// The connection that is logged in after the line, where the answer says that it is served.
+/// The connection that is logged in after the line, if the answer says that it is served.
 fn serve(server: &mut Server, line: Line) -> Option<Served> {
     match line {
         First(conn, text) if conn > 0 => Some(server.serve(conn, true, text, [1, 1])),

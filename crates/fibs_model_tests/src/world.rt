@@ -1,5 +1,5 @@
 //! What no script can say of the world: a text of more than one line, and how it goes on after a refused growth. Its
-//! histories, worked out by hand, are told by the built program: tests/worlds.
+//! histories, worked out by hand, are run by the built program: tests/worlds.
 
 use crate::boards::*;
 use fibs_messages::Board;

@@ -13,7 +13,7 @@ pub fn write_text<W: Write>(bytes: &[u8], out: &mut W) -> io::Result<()>
     out.write_all(bytes)
 }
 
-/// Writes a number behind its label, and ends the line.
+/// Writes a number after its label, and ends the line.
 pub fn write_number<I: Integer, W: Write>(label: &[u8], number: I, out: &mut W) -> io::Result<()>
     ensures { OnOk result (Appends (W.contents out.old) (W.contents out.new)
         ((label.now ++ I.text number) ++ 10 ∷ [])) }

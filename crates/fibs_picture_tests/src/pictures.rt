@@ -115,7 +115,7 @@ fn boards_are_drawn(rt: HostRuntime) -> Result<(), Fail> {
     Ok(())
 }
 
-/// Where there is room for less than a picture, a front of it is written, and the drawing fails.
+/// If there is room for less than a picture, a front of it is written, and the drawing fails.
 #[test]
 fn a_write_that_fails_ends_the_drawing(rt: HostRuntime) -> Result<(), Fail> {
     let wanted = ended(rt.alloc(), &PICTURES[0].lines)?;

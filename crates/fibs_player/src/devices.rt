@@ -14,7 +14,7 @@ use fibs_engine::status::Status;
 use fibs_engine::writing::write_bytes;
 use fibs_messages::Board;
 use fibs_position::Position;
-use fibs_seat::{Dialling, PollWatch, TypedOrHeard, first_line};
+use fibs_seat::{PollWatch, TypedOrHeard, WatchedNet, first_line};
 use fibs_terminal::{Terminal, append_picture};
 use mio::Poll;
 use std::fs::File;
@@ -24,14 +24,14 @@ use std::net::{Net, TcpListener, TcpStream};
 use std::os::fd::AsRawFd;
 use std::time::Duration;
 
-/// For how many milliseconds a server is to be quiet before the next line is read at a terminal, where the wait for
+/// For how many milliseconds a server is to be quiet before the next line is read at a terminal, since the wait for
 /// what comes next hears the server too.
 const TERMINAL_MILLIS: u64 = 20;
 
 /// How many bytes of a password's line are read: more than any has that is taken.
 const MOST_PASSWORD: u64 = 4098;
 
-/// What is said of a password file that can't be read.
+/// What is printed if the password file can't be read.
 const UNREADABLE: &[u8] = b"fibs: the password file can't be read\n";
 
 /// What `connect` is asked for.
@@ -92,7 +92,7 @@ pub fn connect(rt: &HostRuntime, call: Call<'_>) -> Result<u8, EngineFault> {
     match call.password_file {
         None => {
             if rt.stdin().is_terminal() {
-                // where it can't be asked for, it is read all the same
+                // if it can't be asked for, it is read all the same
                 let _asked = write_bytes(b"password: ", &mut rt.stderr());
             }
             converse(rt, b"", call)
@@ -101,7 +101,7 @@ pub fn connect(rt: &HostRuntime, call: Call<'_>) -> Result<u8, EngineFault> {
             Ok(line) => converse(rt, line.as_slice(), call),
             Err(error) if error.kind() == ErrorKind::OutOfMemory => Err(EngineFault::Memory),
             Err(_) => {
-                // where it can't be said, the status says it alone
+                // if it can't be printed, the status alone says it
                 let _said = write_bytes(UNREADABLE, &mut rt.stderr());
                 Ok(Status::Device.code())
             }
@@ -109,7 +109,7 @@ pub fn connect(rt: &HostRuntime, call: Call<'_>) -> Result<u8, EngineFault> {
     }
 }
 
-/// The first line of a file, of which no byte behind it is read: it may be a pipe that others read on.
+/// The first line of a file, and no byte after it is read: it may be a pipe that others read on.
 fn password_line(rt: &HostRuntime, file: &str) -> io::Result<Vec<u8>> {
     let alloc = rt.alloc();
     let file = BufReader::with_capacity(alloc, 1, File::open(rt, file)?)?;
@@ -123,7 +123,7 @@ fn converse(rt: &HostRuntime, first: &[u8], call: Call<'_>) -> Result<u8, Engine
         if let Ok(heard) = Poll::new(rt) {
             let watch = PollWatch::new(rt, rt.alloc(), rt.stdin().as_raw_fd(), &heard).ok();
             let typed = TypedOrHeard::new(rt.stdin(), watch);
-            let net = Dialling::new(rt, heard.registry());
+            let net = WatchedNet::new(rt, heard.registry());
             return shown(rt, &net, call, TERMINAL_MILLIS, &mut first.chain(typed));
         }
     }

@@ -1,4 +1,4 @@
-//! The program on its devices: where one of them is a terminal, a person is shown what happens. Pipes and files get what
+//! The program on its devices: if one of them is a terminal, a person sees what happens. Pipes and files get what
 //! the engines print, to the byte.
 #![tactic(auto)]
 

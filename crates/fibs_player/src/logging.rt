@@ -9,13 +9,13 @@ use std::fs::{File, OpenOptions};
 use std::io;
 use std::io::{ErrorKind, Read, Write};
 
-/// What stands before a line that was sent. The server's prompt is the same, and is dropped from its lines.
+/// What is written before a line that was sent. The server's prompt is the same, and is dropped from its lines.
 const SENT: &[u8] = b"> ";
 
 /// How many bytes of a line that is sent are kept: no line is longer.
 const SENT_ROOM: usize = 4200;
 
-/// A stream of which a log is kept: each line as it came, without telnet's commands and prompts, and behind `> ` each
+/// A stream of which a log is kept: each line as it came, without telnet's commands and prompts, and after `> ` each
 /// line that was sent, but for the first, which is the login. A log that can't be written any more is left as it is.
 #[derive(Drop)]
 pub struct Logged<S: Link + Drop, W: Write + Drop> {

@@ -14,7 +14,7 @@ use fibs_terminal::Terminal;
 use std::io::{IsTerminal, Read};
 use std::net::{Net, TcpStream};
 
-/// What is said of a log that can't be written.
+/// What is printed if the log can't be written.
 const NO_LOG: &[u8] = b"fibs: the log can't be opened\n";
 
 /// Whether the log that is asked for can be written.
@@ -36,7 +36,7 @@ pub fn play<N: Net<Stream = TcpStream>, R: Read>(
     input: &mut R,
 ) -> Result<u8, EngineFault> {
     if !can_log(rt, log) {
-        // where it can't be said, the status says it alone
+        // if it can't be printed, the status alone says it
         let _said = write_bytes(NO_LOG, &mut rt.stderr());
         return Ok(Status::Device.code());
     }

@@ -19,7 +19,7 @@ fn reading<'a>(line: &Line<'a>) -> Reading<'a> {
     read(line.bytes)
 }
 
-/// Tells each line that a portion ends.
+/// Reports each line that a portion ends.
 fn tell_portion<F: Front>(
     lines: &mut Lines,
     portion: &[u8],
@@ -38,10 +38,10 @@ fn tell_portion<F: Front>(
     Ok(())
 }
 
-/// Tells a front end each line that is read, to the reader's end, and answers how many bytes stand after the last line
-/// end. It reads at most so often, and at most 1024 bytes at once.
+/// Reports each line that is read to a front end, up to the reader's end, and answers how many bytes follow the last
+/// line end. It reads at most so often, and at most 1024 bytes at once.
 ///
-/// Errors: `Device` if a read fails, the reader does not end, or the front end can't take what it is told.
+/// Errors: `Device` if a read fails, the reader does not end, or the front end fails.
 pub fn show_on<R: Read, F: Front>(
     reads: u32,
     input: &mut R,

@@ -113,7 +113,7 @@ static MOVES: [Case; 10] = [
         after: Some(&[(11, 1), (12, 1), (13, 4), (33, -1), (34, 0), (35, 0)]),
     },
     Case {
-        name: "X, who goes up, hits three and the last stands alone",
+        name: "X, who goes up, hits three and the last is alone",
         board: b"board:You:bob:5:0:0:0:-2:0:0:0:0:4:0:3:0:0:0:-4:5:0:0:0:-3:0:-6:1:1:0:0:1:0:-1:5:1:0:0:1:1:1:0:-1:1:25:0:0:0:0:0:0:0:0:0",
         own: &[(6, 6), (8, 3), (13, 4), (24, 2)],
         other: &[(1, 1), (4, 1), (5, 1), (12, 5), (17, 3), (19, 4)],

@@ -264,7 +264,7 @@ static ANSWERS: [Case; 9] = [
         after: None,
     },
     Case {
-        name: "an answer where no double was offered",
+        name: "an answer if no double was offered",
         board: b"board:You:bob:5:0:0:0:2:0:0:0:0:-5:0:-3:0:0:0:5:-5:0:0:0:3:0:5:0:0:0:0:-2:0:-1:0:0:0:0:1:1:1:0:1:1:25:0:0:0:0:0:0:0:0:0",
         own: &[(6, 5), (8, 3), (13, 5), (24, 2)],
         other: &[(1, 2), (12, 5), (17, 3), (19, 5)],
@@ -355,7 +355,7 @@ static RESIGNATIONS: [Case; 7] = [
         after: Some(&[(33, -1)]),
     },
     Case {
-        name: "a resignation where no checker can be played is carried out",
+        name: "a resignation is carried out if no checker can be played",
         board: b"board:You:bob:5:0:0:0:0:0:0:0:0:14:0:0:0:0:0:0:0:0:0:0:0:0:-2:-2:-2:-2:-2:-2:1:1:3:1:0:0:1:1:1:0:1:-1:0:25:0:3:1:0:0:0:0:0",
         own: &[(6, 14), (25, 1)],
         other: &[

@@ -20,11 +20,11 @@ pub struct Case {
     pub phase: Phase,
     pub choice: Choice,
     pub dice: [u8; 2],
-    /// The fields that change, where the decision is carried out.
+    /// The fields that change, if the decision is carried out.
     pub after: Option<&'static [(usize, i32)]>,
 }
 
-/// How many checkers stand on a place.
+/// How many checkers are on a place.
 fn count(checkers: &[(u8, u8)], wanted: u8) -> u8 {
     for (place, count) in checkers {
         if *place == wanted {

@@ -41,7 +41,7 @@ static KNOWN: [Case; 7] = [
         after: None,
     },
     Case {
-        name: "an answer where no double is open",
+        name: "an answer if no double is open",
         board: b"board:You:bob:3:0:1:0:-2:0:0:0:0:5:0:3:0:0:0:-5:5:0:0:0:-3:0:-5:0:0:0:0:2:0:1:0:0:0:0:1:1:1:0:1:-1:0:25:0:0:0:0:0:0:0:0",
         own: &[(6, 5), (8, 3), (13, 5), (24, 2)],
         other: &[(1, 2), (12, 5), (17, 3), (19, 5)],
@@ -117,7 +117,7 @@ fn a_roll_leads_to_the_board_shown_next(rt: HostRuntime) -> Result<(), Fail> {
     Ok(())
 }
 
-/// The checker that was hit stands on the bar of the opponent.
+/// The checker that was hit is on the bar of the opponent.
 #[test]
 fn a_hit_checker_goes_to_the_bar(rt: HostRuntime) -> Result<(), Fail> {
     let before = Board::read(BEFORE_HIT).ok().ok_or("board")?;

@@ -1,6 +1,6 @@
 //! Tests of the rules, of positions and of commands: values that no board line shows, what a board is for its player, what
 //! becomes of it, and what is said to the server. Turns, what a player may decide, his plays, and when the game has gone on
-//! stand in `tests/rows/positions.py` and `plays.py`.
+//! are in `tests/rows/positions.py` and `plays.py`.
 #![tactic(auto)]
 
 #[cfg(test)]

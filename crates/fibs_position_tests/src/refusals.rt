@@ -1,4 +1,4 @@
-//! What stays where memory is refused, and what becomes of boards that have no position or another player.
+//! What stays if memory is refused, and what becomes of boards that have no position or another player.
 
 use fibs_messages::Board;
 use fibs_position::{Decision, Position, Stake, differs, effect};
@@ -94,7 +94,7 @@ fn lists(alloc: Global, position: &Position, count: usize) -> Result<bool, Fail>
     Ok(plays.len() == count && plays.iter().all(|found| position.is_legal(found)))
 }
 
-/// Where a growth is refused, the position answers as one that was not asked, and the next call gives the list.
+/// If a growth is refused, the position answers as one that was not asked, and the next call gives the list.
 #[test]
 fn plays_are_listed_under_refused_memory(rt: HostRuntime) -> Result<(), Fail> {
     for (line, count) in &ASKED {

@@ -15,7 +15,7 @@ fn play(steps: &[(u8, u8)]) -> Result<Play, Fail> {
     Ok(play)
 }
 
-/// Counts by place; the checkers that are left stand at `rest`.
+/// Counts by place; the checkers that are left are at `rest`.
 fn counts(placed: &[(usize, u8)], rest: usize) -> [u8; 26] {
     let mut counts = [0u8; 26];
     let mut on = 0u8;

@@ -5,7 +5,7 @@ use Rattle.std.proofs.lemmas.List.{length-take-le, take-append-le, drop_at}
 use Rattle.std.proofs.lemmas.Slice.{take-put_mid_below}
 use Rattle.std.proofs.Math.Seq.{take-add}
 
--- bytes written behind a front of a room
+-- bytes written after a front of a room
 pub append_bytes : (a k : ℕ) (xs ys bytes : List ℕ) (n : ℕ) → a ≤ length xs → n ≤ length ys → take n ys ≡ bytes
     → take (a + n) (put_mid a k xs ys) ≡ take a xs ++ bytes
 append_bytes a k xs ys bytes n h room e =

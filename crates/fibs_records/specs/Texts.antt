@@ -3,7 +3,7 @@ use Rattle.std.specs.Prelude.{◌≡◌, ℕ, ◌<◌, ◌≤◌, Bool, List, le
 use Rattle.std.specs.Prelude.{if◌then◌else◌}
 
 -- the bytes are at the room's start, if they fit, and the rest of the room is as it was; else only their length is
--- told, and nothing is written
+-- given, and nothing is written
 pub record HandsOut (bytes old new : List ℕ) (len status : ℕ) : Type 0 where
   pub len_is : len ≡ length bytes
   pub fits : length bytes ≤ length old → (status ≡ 0) × (take len new ≡ bytes) × (drop len new ≡ drop len old)

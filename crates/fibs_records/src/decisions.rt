@@ -31,14 +31,14 @@ pub struct DecisionRecord {
     pub steps: [PlayStep; 4],
 }
 
-/// Whether it goes from a place 1 to 25 to a place 0 to 24.
+/// True if the step goes from a place 1 to 25 to a place 0 to 24.
 fn is_step(step: &PlayStep) -> bool
     ensures { result ≡ is_step step.now }
 {
     1 <= step.source && step.source <= 25 && step.target <= 24
 }
 
-/// Whether each of them does.
+/// True if each step goes so.
 fn are_steps(steps: &[PlayStep]) -> bool
     ensures { result ≡ list_all is_step steps.now }
 {

@@ -22,7 +22,7 @@ use fibs_session::{PlainRefusal, Refusal};
 /// It was done.
 pub const DONE: u32 = 0;
 
-/// No board was shown, as a client refuses a decision then.
+/// No board on which the user plays was shown, as a client refuses a decision then.
 pub const NO_BOARD: u32 = 5;
 
 /// What is not allowed on a board is named by the numbers of the client's refusals, which are this above its own.

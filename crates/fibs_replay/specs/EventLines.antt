@@ -1,4 +1,4 @@
--- Which event a line of a script says (the project's own format): a word, and behind it the event's parts, each after
+-- Which event a line of a script says (the project's own format): a word, and after it the event's parts, each after
 -- one space. Numbers are canonical decimals without sign.
 use Rattle.std.specs.Prelude.{◌≤◌, ◌++◌, ℕ, List, ◌∷◌, codes, decimal}
 use Rattle.fibs_boards.specs.Board.{BoardFields, BoardText}

@@ -1,4 +1,4 @@
--- Which event a line of a script says, as a function: by the first word, and what follows the space behind it.
+-- Which event a line of a script says, as a function: by the first word, and what follows the space after it.
 use Rattle.std.specs.Prelude.{◌≡◌, ◌↔◌, ℕ, List, [], Option, None, Some, cond, codes, option_map}
 use Rattle.std.specs.Str.{bytes_eq}
 use Rattle.fibs_boards.specs.Board.{BoardFields}
@@ -49,7 +49,7 @@ serving_in rest = do
 unfoldable pub of_roll : Event → List ℕ → Option Event
 of_roll e rest = cond (bytes_eq rest (codes "roll")) (Some e) None
 
--- a word, and what follows the space behind it
+-- a word, and what follows the space after it
 unfoldable pub joined_in : List ℕ → List ℕ → Option Event
 joined_in word rest =
     cond (bytes_eq word (codes "click")) (option_map (λ d. Click d) (read_command Down rest))

@@ -30,7 +30,7 @@ abbrev pub answer_text : Option Refusal → List ℕ
 answer_text None = codes "ok"
 answer_text (Some why) = refusal_name why
 
--- what was unconfirmed, behind a space
+-- what was unconfirmed, after a space
 abbrev pub unconfirmed_text : Option Ask → List ℕ
 unconfirmed_text None = []
 unconfirmed_text (Some ask) = 32 ∷ ask_text ask

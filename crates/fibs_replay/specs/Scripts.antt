@@ -10,7 +10,7 @@ use Rattle.fibs_replay.specs.EventLines.{SaysEvent}
 abbrev pub script_limit : ℕ
 script_limit = 1048576
 
--- The lines of a script are the parts between its bytes 10. One byte 13 directly before a byte 10 goes; behind the last
+-- The lines of a script are the parts between its bytes 10. One byte 13 directly before a byte 10 goes; after the last
 -- byte 10 there is a line only if there are bytes, and it keeps all of them.
 unfoldable pub script_lines : List ℕ → List (List ℕ)
 script_lines script = lines script
@@ -32,8 +32,8 @@ IsNoBoard line = (b : BoardFields) → ¬ BoardText b line
 abbrev pub IsNoEvent : List ℕ → Type 0
 IsNoEvent line = (e : Event) → ¬ SaysEvent line e
 
--- the first line that is unreadable, counted from 1: the first, if there is none or if it says no board; else the
--- line behind some that say events, which says none
+-- the number of the first unreadable line: 1 if there is no line, or if the first says no board; else that of a line
+-- which says no event, after lines that do
 pub data FirstUnreadable : List (List ℕ) → ℕ → Type 0 where
   no_line : FirstUnreadable [] 1
   no_board : {line : List ℕ} {lines : List (List ℕ)} → IsNoBoard line → FirstUnreadable (line ∷ lines) 1
@@ -46,7 +46,7 @@ abbrev pub ReadsScript : Option ℕ → List (List ℕ) → Type 0
 ReadsScript None lines = (b : BoardFields) × (events : List Event) × SayScript lines b events
 ReadsScript (Some number) lines = FirstUnreadable lines number
 
--- of the lines behind the first all say events, or this is the number of the first that does not
+-- of the lines after the first all say events, or this is the number of the first that does not
 abbrev pub ReadsEvents : Option ℕ → List (List ℕ) → Type 0
 ReadsEvents None lines = (events : List Event) × SayEvents lines events
 ReadsEvents (Some number) lines =

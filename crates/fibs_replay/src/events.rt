@@ -88,7 +88,7 @@ fn read_roll<'a>(event: Event<'a>, rest: &[u8]) -> Option<Event<'a>>
     }
 }
 
-/// A word, and what follows the space behind it.
+/// A word, and what follows the space after it.
 #[tactic(auto, unfolding(crate::specs::EventReading::joined_in))]
 fn read_joined<'a>(word: &[u8], rest: &'a [u8]) -> Option<Event<'a>>
     ensures { option_map event_of result ≡ joined_in word.now rest.now }

@@ -34,7 +34,7 @@ fn append_connection(text: &mut Portion, word: &[u8], conn: usize)
     append(text, Buffer::new().format(conn).as_bytes());
 }
 
-/// Appends whether the server does something by itself, behind a space.
+/// Appends whether the server does something by itself, after a space.
 fn append_flag(text: &mut Portion, flag: bool)
     requires { array_vec_len text.old + flag_len ≤ write_len }
     ensures text { text.new.items ≡ text.old.items ++ (32 ∷ flag_text flag) }
@@ -44,7 +44,7 @@ fn append_flag(text: &mut Portion, flag: bool)
     text.push(if flag { b'1' } else { b'0' });
 }
 
-/// Appends a board, behind a space.
+/// Appends a board, after a space.
 fn append_board(text: &mut Portion, board: &Board)
     requires { array_vec_len text.old + board_len ≤ write_len }
     ensures text { text.new.items ≡ text.old.items ++ (32 ∷ spelling (fields_of board.now)) }
@@ -54,7 +54,7 @@ fn append_board(text: &mut Portion, board: &Board)
     append(text, board.print().as_slice());
 }
 
-/// Appends a board, and the command of what was decided on it, in its numbers, behind a space.
+/// Appends a board, and the command of what was decided on it, in its numbers, after a space.
 fn append_ask(text: &mut Portion, asked: &Outstanding)
     requires { array_vec_len text.old + ask_len ≤ write_len }
     ensures text { text.new.items ≡ text.old.items ++ (32 ∷ ask_text (ask_of asked.now)) }
@@ -67,7 +67,7 @@ fn append_ask(text: &mut Portion, asked: &Outstanding)
     append(text, asked.command().as_bytes());
 }
 
-/// Appends the answer to a click, behind a space.
+/// Appends the answer to a click, after a space.
 fn append_answer(text: &mut Portion, answer: Result<(), Refusal>)
     requires { array_vec_len text.old + answer_len ≤ write_len }
     ensures text { text.new.items ≡ text.old.items ++ (32 ∷ answer_text (result_err answer)) }
@@ -80,7 +80,7 @@ fn append_answer(text: &mut Portion, answer: Result<(), Refusal>)
     }
 }
 
-/// Appends what was unconfirmed, behind a space.
+/// Appends what was unconfirmed, after a space.
 fn append_unconfirmed(text: &mut Portion, unconfirmed: &Option<Outstanding>)
     requires { array_vec_len text.old + ask_len ≤ write_len }
     ensures text { text.new.items ≡ text.old.items ++ unconfirmed_text (option_map ask_of unconfirmed.now) }

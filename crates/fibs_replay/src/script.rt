@@ -23,7 +23,7 @@ pub fn script_lines(script: &[u8]) -> Lines<'_>
     script.lines()
 }
 
-/// The number of the first line that says no event, of the lines behind a first one, which has the number 1.
+/// The number of the first line that says no event, of the lines after a first one, which has the number 1.
 fn first_no_event(lines: &mut Lines<'_>) -> Option<usize>
     requires { length lines.old < 2 ^ 63 }
     ensures { ReadsEvents result lines.old }

@@ -115,7 +115,7 @@ static CASES: [Case; 17] = [
         end: b"loggedin 2\nrefused 5 5 NothingToServe\n",
     },
     Case {
-        name: "a board of the server's own where the user decides",
+        name: "a board of the server's own while the user decides",
         board: TO_ROLL,
         log_in: b"",
         events: b"own board:You:bob:5:0:0:0:0:0:0:0:0:0:0:0:0:0:0:0:-2:0:0:0:0:0:0:0:0:0:0:1:0:\
@@ -259,7 +259,7 @@ fn bytes_cross_the_connection_that_is_accepted(rt: HostRuntime) -> Result<(), Fa
     Ok(())
 }
 
-/// Where memory runs out, the log after the events done so far is printed, and the script can be played as before.
+/// If memory runs out, the log after the events done so far is printed, and the script can be played as before.
 fn assert_played_again<N: Net<Listener = TcpListener, Stream = TcpStream> + AllocGlobal + Abort>(
     rt: &N,
     name: &str,

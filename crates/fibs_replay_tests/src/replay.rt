@@ -38,7 +38,7 @@ const NO_DOUBLE_DICE: &[u8] =
 const OTHER: &[u8] =
     b"board:ann:bob:3:0:1:0:-2:0:0:0:0:5:0:3:0:0:0:-5:5:0:0:0:-3:0:-5:0:0:0:0:2:0:1:0:0:0:0:1:1:1:0:1:-1:0:25:0:0:0:0:0:0:0:0";
 
-/// Eight events behind the first board: the client logs in, is welcomed and informed, and is shown the board twice.
+/// Eight events after the first board: the client logs in, is welcomed and informed, and is shown the board twice.
 const LOGS_IN: &[u8] = b"
 open
 serve 1 1 1
@@ -66,7 +66,7 @@ pub fn replayed(alloc: Global, script: &[u8], most: usize) -> Outcome {
     replayed_into(alloc, script, most, After::End, 4096)
 }
 
-/// The same with what follows the script, where so many bytes may be printed.
+/// The same with what follows the script, if so many bytes may be printed.
 fn replayed_into(alloc: Global, script: &[u8], most: usize, after: After, room: usize) -> Outcome {
     let mut reader = Pipe::new(script, most, after, 0);
     let mut writer = Pipe::new(b"", 1, After::End, room);
@@ -210,7 +210,7 @@ fn half_a_command_is_never_served(rt: HostRuntime) {
     assert_replayed(&rt, &script, 3, &wanted);
 }
 
-/// Ten events behind the first board: a client that is to roll by itself, which it is told twice, logs in.
+/// Ten events after the first board: a client that is to roll by itself, which it is told twice, logs in.
 const LOGS_IN_ORDERED: &[u8] = b"
 open
 order roll
@@ -484,7 +484,7 @@ pub fn is_log_so_far(alloc: Global, script: &[u8], text: &[u8]) -> bool {
     false
 }
 
-/// Where memory runs out, the log after the events done so far is printed, and the script can be replayed as before.
+/// If memory runs out, the log after the events done so far is printed, and the script can be replayed as before.
 fn assert_replayed_again(
     rt: &(impl Abort + AllocGlobal),
     script: &Text,

@@ -1,4 +1,4 @@
--- What stands before the first line end.
+-- What is before the first line end.
 use Rattle.std.proofs.Common.{◌≡◌, ◌==◌, ℕ, Bool, true, false, List, [], ◌∷◌, ◌++◌, if◌then◌else◌, refl, ap}
 use Rattle.std.specs.Io.BufRead.{take_through}
 use Rattle.fibs_fields.specs.Split.{before}
@@ -8,7 +8,7 @@ through-cases : (c x : ℕ) (xs : List ℕ) (t : Bool) → (x == c) ≡ t → be
 through-cases c x xs true e inner = rw e (rw e refl)
 through-cases c x xs false e inner = rw e (rw e (ap (λ l. x ∷ l) inner))
 
--- what stands before the first byte of a kind, where a text was cut behind that
+-- what is before the first byte of a kind, if a text was cut after that
 pub before_through : (c : ℕ) (xs : List ℕ) → before c (take_through c xs) ≡ before c xs
 before_through c [] = refl
 before_through c (x ∷ xs) = through-cases c x xs (x == c) refl (before_through c xs)

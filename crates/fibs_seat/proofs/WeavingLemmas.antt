@@ -4,7 +4,7 @@ use Rattle.std.proofs.Common.{Some, refl, arith, sym, ap, inl, inr}
 use Rattle.std.specs.Prelude.{slice_get, slice_set, take}
 use Rattle.fibs_seat.specs.Weaving.{begun_after, Woven, Gives, without_empty}
 
--- whether a line is begun is told by the last byte
+-- whether a line is begun is known by the last byte
 pub begun-by-last : (b : Bool) (xs : List ℕ) (x : ℕ) → Some x ≡ slice_get xs (length xs - 1)
     → not (x == 10) ≡ begun_after b xs
 begun-by-last b [] x e = cc

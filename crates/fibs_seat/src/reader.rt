@@ -1,4 +1,4 @@
-//! A reader of typed lines that gives an empty line where the server speaks first.
+//! A reader of typed lines that gives an empty line if the server speaks first.
 ghost use Rattle.std.specs.Prelude.{◌≡◌, ◌<◌, false, true, None, take, length, [], ◌∷◌, IfOk, OnErr};
 ghost use Rattle.std.specs.Io.{ReadsAtMost};
 ghost use Rattle.std.specs.Io.KnownBytes.{Keeps, IsAtEnd, ReadConsumes};
@@ -8,8 +8,8 @@ use crate::watch::{First, Watch};
 use std::io;
 use std::io::Read;
 
-/// A reader that stands round another one. Where no line is begun it waits for what comes first, and gives an empty
-/// line where that is the server; else it reads as the other one does.
+/// A reader round another one. If no line is begun it waits for what comes first, and gives an empty line if that is
+/// the server; else it reads as the other one does.
 ///
 /// With no watch it only reads.
 #[derive(Drop)]
@@ -74,7 +74,7 @@ impl<R: Read + Drop, W: Watch + Drop> Read for TypedOrHeard<R, W> {
         ensures gives { IfOk result (λ n. Gives self.old.begun
             (R.remaining self.old.source) (R.remaining self.new.source) (take n buf.new)) }
         ensures begun { IfOk result (λ n. self.new.begun ≡ begun_after self.old.begun (take n buf.new)) }
-        // It ends where the other one does.
+        // It ends as soon as the other one does.
         ensures end { IfOk result (λ n. n ≡ 0 → 0 < length buf.new → IsAtEnd (R.remaining self.new.source)) }
         ensures failed { OnErr result (Keeps (R.remaining self.old.source) (R.remaining self.new.source)) }
         ensures still { OnErr result (self.new.begun ≡ self.old.begun) }

@@ -177,7 +177,7 @@ impl Session {
     }
 
     /// Withdraws the standing order to roll. A `roll` that it sent goes on waiting. `Offline`; `NotOrdered` if none
-    /// stands. After a refusal the session is as before.
+    /// is in force. After a refusal the session is as before.
     pub fn withdraw_roll(&mut self) -> Result<(), Refusal>
         ensures does { SessionDoes (session_of self.old) (session_of self.new) Withdraw [] }
         ensures refusal { (t : Talk) → SessionStandsAfter (session_of self.old) t →

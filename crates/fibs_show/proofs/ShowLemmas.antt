@@ -40,7 +40,7 @@ read_line line r e h =
     let P : Bool → Type 0 = λ b. ShownAs b line.bytes (reading_text r) in
     subst P (sym e) (r, h, refl)
 
--- what is read of a line is printed, where a call appends it
+-- what is read of a line is printed, if a call appends it
 pub reading_shown : {T E : Type 0} (r : Result T E) (line old now shown : List ℕ) (reading : ReadingValue)
     → IsReading line reading → shown ≡ reading_text reading → OnOk r (now ≡ old ++ shown)
     → OnOk r ((x : ReadingValue) × IsReading line x × (now ≡ old ++ reading_text x))
@@ -174,14 +174,14 @@ passed_more left still less held now more lines after text piece added cleared r
       few = bounds.1;
     }
 
--- the lines of what was read before the last piece stand written
+-- the lines of what was read before the last piece are written
 pub passed_part : (left still less held now : Option (List ℕ)) (lines : LinesValue) (text piece : List ℕ)
     (reads size : ℕ) → (p : Passed left still held now lines text reads size)
     → Consumes still less piece → WroteLinesOf p.stream piece left less held now
 passed_part left still less held now lines text piece reads size p took =
     (p.shown, Consumes-trans left still less p.stream piece p.took took, p.says, p.wrote)
 
--- all the lines of what was read stand written
+-- all the lines of what was read are written
 pub passed_read : (left still less held now : Option (List ℕ)) (lines : LinesValue) (text : List ℕ) (reads size : ℕ)
     → Passed left still held now lines text reads size
     → Keeps still less → WroteRead left less held now
@@ -245,11 +245,11 @@ passed_few left still less held now lines text piece made reads size p took fits
     let all : (made + 1) * size ≤ reads * size = mul-le-mul_right size (omega (arith, more)) in
     (p.stream ++ piece, rw both (omega (arith, all)), Consumes-trans left still less p.stream piece p.took took)
 
--- a part of a portion fits where the portion does
+-- a part of a portion fits if the portion does
 pub portion_part : (count : ℕ) (portion : List ℕ) (size : ℕ) → length portion ≡ size
     → length (take count portion) ≤ size
 portion_part count portion size whole = omega (arith, length-take count portion, whole)
 
--- and it has a byte where something was counted
+-- and it has a byte if something was counted
 pub portion_some : (count : ℕ) (portion : List ℕ) → count ≢ 0 → count ≤ length portion → 0 < length (take count portion)
 portion_some count portion some fits = omega (arith, length-take count portion, some)

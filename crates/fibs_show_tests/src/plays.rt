@@ -162,7 +162,7 @@ static REFUSED: [Case; 16] = [
     },
 ];
 
-/// How `plays` ends where so many bytes may be printed on both writers, and what it prints.
+/// How `plays` ends if so many bytes may be printed on both writers, and what it prints.
 fn listed(alloc: Global, word: &[u8], out_room: usize, err_room: usize) -> Outcome {
     let mut out = Pipe::new(b"", 1, After::End, out_room);
     let mut err = Pipe::new(b"", 1, After::End, err_room);
@@ -218,7 +218,7 @@ fn reads_a_word_of_any_length(rt: HostRuntime) {
     );
 }
 
-/// Where a growth is refused, nothing is written, and the next call lists the plays.
+/// If a growth is refused, nothing is written, and the next call lists the plays.
 #[test]
 fn prints_plays_under_refused_memory(rt: HostRuntime) {
     for case in &PRINTED {
@@ -270,7 +270,7 @@ fn stops_at_a_failed_write(rt: HostRuntime) {
     }
 }
 
-/// How `plays` ends where one write on each writer fails, and what it prints.
+/// How `plays` ends if one write on each writer fails, and what it prints.
 fn listed_with_a_failure(alloc: Global, word: &[u8], before: usize) -> Outcome {
     let mut out = FailsOnce::new(before, 1);
     let mut err = FailsOnce::new(before, 1);

@@ -27,7 +27,7 @@ impl<'a> Disturbed<'a> {
         }
     }
 
-    /// Fails where a signal comes.
+    /// Fails if a signal comes.
     fn wait(&mut self) -> io::Result<()> {
         if self.left == 0 {
             self.left = self.signals;
@@ -56,7 +56,7 @@ impl Write for Disturbed<'_> {
     }
 }
 
-/// A device whose reads and writes are made again where a signal interrupts them.
+/// A device whose reads and writes are made again if a signal interrupts them.
 #[derive(Drop)]
 struct Retrying<D> {
     device: D,
@@ -78,7 +78,7 @@ impl<W: Write> Write for Retrying<W> {
     }
 }
 
-/// How `show` ends, and what it prints, where so many reads in a row and so many writes in a row are interrupted.
+/// How `show` ends, and what it prints, if so many reads in a row and so many writes in a row are interrupted.
 fn shown(alloc: Global, reads: u32, writes: u32) -> Outcome {
     let mut input = Disturbed::new(Pipe::new(b"hi\nyou\n", 1, After::End, 0), reads);
     let mut output = Disturbed::new(Pipe::new(b"", 1, After::End, 100), writes);

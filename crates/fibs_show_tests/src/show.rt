@@ -16,7 +16,7 @@ const MIDDLE: &[u8] =
 
 const LAST: &[u8] = b":0";
 
-/// How `show` ends that reads `input` in portions of at most `most` bytes, and what it prints where `room` bytes may be.
+/// How `show` ends that reads `input` in portions of at most `most` bytes, and what it prints if `room` bytes may be.
 fn shown(alloc: Global, input: &[u8], most: usize, after: After, room: usize) -> Outcome {
     let mut reader = Pipe::new(input, most, after, 0);
     let mut writer = Pipe::new(b"", 1, After::End, room);
@@ -212,7 +212,7 @@ fn are_first_lines(text: &[u8], lines: &[u8]) -> bool {
         && (text.is_empty() || text.ends_with(b"\n"))
 }
 
-/// Where a growth is refused, what was written are the first lines, and another call writes all.
+/// If a growth is refused, the first lines were written, and another call writes all.
 fn assert_shown_again(rt: &(impl Abort + AllocGlobal), input: &[u8], wanted: &[u8]) {
     for most in [2, 50, 5000] {
         let mut outcome = shown(rt.alloc(), input, most, After::End, 1024);

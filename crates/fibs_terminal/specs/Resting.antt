@@ -7,8 +7,8 @@ use Rattle.fibs_advice.specs.Offers.{OffersNow, hint_text}
 use Rattle.fibs_advice.specs.declared.offers.Offers.{Offers}
 use Rattle.fibs_terminal.specs.declared.memory.Memory.{Memory}
 
--- if a board has come since, and nothing waits, and nobody offers to resign, it is said what the client takes now, by
--- the history
+-- if a board has come since, and nothing waits, and nobody offers to resign, the terminal says what the client takes
+-- now, by the history
 abbrev pub SaysOffers : ClientValue → Memory → List ℕ → List ℕ → Type 0
 SaysOffers client memory before after = (t : Talk) → StandsAfter client t → unconfirmed_now t ≡ None
     → memory.resigner.items ≡ [] → memory.owes ≡ true → (o : Offers) × OffersNow t o × (after ≡ before ++ hint_text o)

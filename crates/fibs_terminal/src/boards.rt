@@ -24,7 +24,7 @@ fn differs(a: &Board, b: &Board, number: usize) -> bool {
     number >= 4 && number <= 53 && a.field(number) != b.field(number)
 }
 
-/// Whether a checker stands elsewhere on another board, or the other board is of another opponent.
+/// Whether a checker is elsewhere on another board, or the other board is of another opponent.
 fn is_moved(a: &Board, b: &Board) -> bool {
     for number in PLACES.0..PLACES.1 + 1 {
         if differs(a, b, number) {
@@ -59,7 +59,7 @@ impl<'a, C: Clock + Drop> Screen<'a, C> {
         }
     }
 
-    /// Whether a checker stands elsewhere than on the board that was drawn last.
+    /// Whether a checker is elsewhere than on the board that was drawn last.
     fn is_moved_since_drawn(&self, board: &Board) -> bool {
         match &self.memory.drawn {
             None => true,

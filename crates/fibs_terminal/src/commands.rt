@@ -196,7 +196,7 @@ impl<'a, C: Clock + Drop> Screen<'a, C> {
     /// Lists the legal moves of the board that is shown.
     fn say_plays(&mut self, client: &Client) -> Result<(), AllocError> {
         match client.shown() {
-            None => self.say(b"No board was shown yet: type board.\n"),
+            None => self.say(b"No board on which you play was shown yet: type board.\n"),
             Some(board) => append_plays(self.alloc, board, &mut self.text),
         }
     }

@@ -12,7 +12,7 @@ use fibs_wording::shown::append_shown;
 use std::alloc::AllocError;
 use std::time::Clock;
 
-/// What the server says of who offers to resign, behind his name.
+/// What the server says of who offers to resign, after his name.
 const OFFERS_TO_RESIGN: &[u8] = b"wants to resign";
 
 /// Who offers to resign, if a text says that.

@@ -8,7 +8,7 @@ use std::alloc::{AllocError, Global};
 /// What is remembered.
 #[derive(Drop)]
 pub struct Memory {
-    /// Whether it is to be said what may be typed: a board has come since it was.
+    /// Whether to say what may be typed: a board has come since that was said.
     pub owes: bool,
     /// Whether the server has answered by a text, or by the same board, since a decision was sent.
     pub answered: bool,

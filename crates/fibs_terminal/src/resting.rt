@@ -53,7 +53,7 @@ impl<'a, C: Clock + Drop> Screen<'a, C> {
             .extend_from_slice(b" offers to resign: send accept, or send reject.\n")
     }
 
-    /// Says what to do where a decision waits and the server has answered by words alone.
+    /// Says what to do if a decision waits and the server has answered by words alone.
     fn say_waiting(&mut self, asked: &Outstanding) -> Result<(), AllocError> {
         if !self.memory.answered {
             return Ok(());

@@ -1,11 +1,11 @@
-//! What a reader gives where the server speaks.
+//! What a reader gives if the server speaks.
 
 use fibs_seat::{First, TypedOrHeard, Watch};
 use std::alloc::Global;
 use std::io::Read;
 use std::test::Fail;
 
-/// Where the server comes first: each time that it is asked, up to so many times.
+/// A watch by which the server comes first: each time that it is asked, up to so many times.
 #[derive(Drop)]
 struct Heard(u32);
 

@@ -1,4 +1,4 @@
-//! Why something was not done, in words. The number and the name stand behind it in brackets.
+//! Why something was not done, in words. The number and the name follow in brackets.
 
 use fibs_messages::Fault;
 use fibs_session::{DirectoryFault, PlainFault, PlainRefusal, Refusal};
@@ -12,21 +12,21 @@ pub fn refusal_words(why: Refusal) -> &'static [u8] {
         Refusal::Offline => b"There is no connection: type open.",
         Refusal::NotReady => b"Not logged in: wrong name or password? quit, and begin again.",
         Refusal::ServerPlays => b"The server plays for you: toggle automove, or toggle greedy.",
-        Refusal::NoBoard => b"No board was shown yet: type board.",
+        Refusal::NoBoard => b"No board on which you play was shown yet: type board.",
         Refusal::Waiting => b"You have decided, and no new board has come yet.",
         Refusal::NotYours => b"There is nothing for you to decide on this board.",
         Refusal::WrongKind => b"That can't be done on this board: help says what can.",
         Refusal::IllegalPlay => b"The rules don't allow this move.",
         Refusal::NotOn => b"It is off already, or will be at your next login.",
-        Refusal::AlreadyOrdered => b"The order to roll stands already.",
-        Refusal::NotOrdered => b"No order to roll stands.",
+        Refusal::AlreadyOrdered => b"You have given the order to roll already.",
+        Refusal::NotOrdered => b"There is no order to roll.",
     }
 }
 
 /// What a fault of a plain command says.
 fn plain_fault_words(why: PlainFault) -> &'static [u8] {
     match why {
-        PlainFault::BadName => b"A name has 1 to 64 printable characters, and no space or colon.",
+        PlainFault::BadName => b"A name has 1 to 64 printable ASCII characters, no space or colon.",
         PlainFault::BadText => b"A text has printable ASCII characters, at least one.",
         PlainFault::TooLong => b"A text has at most 400 characters.",
     }
@@ -41,7 +41,7 @@ pub fn plain_words(why: PlainRefusal) -> &'static [u8] {
     }
 }
 
-/// What is called the name of a plain refusal.
+/// The name of a plain refusal, or of the fault.
 fn plain_name(why: PlainRefusal) -> &'static [u8] {
     match why {
         PlainRefusal::Offline => b"Offline",

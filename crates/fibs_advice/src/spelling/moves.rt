@@ -82,7 +82,7 @@ fn push_places(text: &[u8], times: u32, direction: Direction, play: &mut Play) -
     None
 }
 
-/// What stands before the first `/` or `-`, and what stands after it.
+/// What is before the first `/` or `-`, and what is after it.
 fn split_places(text: &[u8]) -> (&[u8], Option<&[u8]>) {
     if text.contains(&b'/') {
         split(text, b'/')
@@ -154,7 +154,7 @@ fn says(typed: &Play, legal: &Play) -> bool {
     true
 }
 
-/// The legal move that is said, if it is one only.
+/// The legal move that the words say, if they say just one.
 pub fn only_meaning(typed: &Play, legal: &[Play]) -> Option<Play> {
     let mut found = None;
     for play in legal {

@@ -42,7 +42,7 @@ fn takes_name(word: &[u8]) -> bool {
         || word == b"ungag".as_slice()
 }
 
-/// The word that a short one stands for: none for a decision but `roll` and `move`.
+/// The word for a short one. Of the decisions only `roll` and `move` have short words.
 fn long_word(word: &[u8]) -> &[u8] {
     if word == b"r".as_slice() {
         b"roll"
@@ -103,7 +103,7 @@ fn append_word(word: &[u8], rest: Option<&[u8]>, text: &mut Vec<u8>) -> Result<(
     Ok(())
 }
 
-/// Where the steps of a move would be: behind `move`, or in the whole line.
+/// Where the steps of a move would be: after `move`, or in the whole line.
 fn move_words<'a>(word: &[u8], rest: Option<&'a [u8]>, line: &'a [u8]) -> &'a [u8] {
     if word != b"move".as_slice() {
         return line;

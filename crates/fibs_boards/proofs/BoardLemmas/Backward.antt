@@ -18,7 +18,7 @@ room_left spare zs i left start y fit there high room is =
     (omega (arith, fit_long field_values zs fit, table_long)) in
     omega (arith, ap (λ x. length (signed_decimal x)) is, ap (λ n. total (take n field_values)) there, before)
 
--- with its colon it stands before the others
+-- with its colon it is before the others
 pub text_left : (zs : List ℤ) (i left start s : ℕ) (y : ℤ) (old new : List ℕ) → Fit field_values zs → i + 1 ≡ left
     → left ≤ 50 → y ≡ get_or zs i (pos 0)
     → drop start old ≡ after_colons (drop left zs) → drop s new ≡ 58 ∷ signed_decimal y ++ drop start old

@@ -1,4 +1,4 @@
--- Two boards are equal exactly where their 53 fields are.
+-- Two boards are equal exactly if their 53 fields are.
 use Rattle.std.proofs.Common.{◌≡◌, ◌==◌, ◌&&◌, List, ℕ, refl, sym, ap, ◌∙◌, length, take}
 use Rattle.std.specs.Bool.{Decides}
 use Rattle.std.specs.Cmp.Lexicographic.{pointwise}

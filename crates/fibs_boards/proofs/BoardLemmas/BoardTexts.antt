@@ -1,4 +1,4 @@
--- A line says a board exactly where its pieces are the board's fields, and has then no wrong field.
+-- A line says a board exactly if its pieces are the board's fields, and has then no wrong field.
 use Rattle.std.proofs.Common.{◌≡◌, ℕ, ◌<◌, ◌+◌, ◌^◌, true, List, [], ◌∷◌, ◌++◌, Some, None, Result, Ok, Err, map}
 use Rattle.std.proofs.Common.{replicate, codes, append_assoc, arith, refl, sym, ap, ◌∙◌}
 use Rattle.std.specs.Prelude.{ℤ, FitsSigned, IfOk, IfErr}

@@ -48,7 +48,7 @@ from_front zero x ys j within = absurd (omega arith)
 from_front (suc n) x ys zero within = refl
 from_front (suc n) x ys (suc j) within = from_front n x ys j (omega arith)
 
--- an entry that stands behind others
+-- an entry that comes after others
 after_drop : (k : ℕ) (xs : List Values) (i : ℕ) → k ≤ i → slice_get xs i ≡ slice_get (drop k xs) (i - k)
 after_drop zero xs i low = ap (slice_get xs) (omega arith)
 after_drop (suc k) [] i low = refl

@@ -14,7 +14,7 @@ field_held : (b : BoardFields) (n : ℕ) → IsBoard b → 4 ≤ n → n ≤ 53 
 field_held b n board low high =
     can_have_by n (field_of b n) low (fit_at field_values b.numbers (n - 4) (pos 0) board.2 (omega (arith, table_long)))
 
--- a board stays one where a field gets a number that it may have
+-- a board stays one if a field gets a number that it may have
 field_set : (b : BoardFields) (n : ℕ) (z : ℤ) → IsBoard b → can_have n z ≡ true
     → IsBoard (record b { numbers = slice_set b.numbers (n - 4) z })
 field_set b n z board may = (

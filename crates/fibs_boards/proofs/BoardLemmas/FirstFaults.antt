@@ -34,7 +34,7 @@ from_here n ks ps f e here h =
           λ j below. absurd (omega arith);
     }
 
--- a later one is, where the others are those of fewer texts
+-- a later one is, if the others are those of fewer texts
 from_later : (n : ℕ) (k : Kind) (ks : List Kind) (ps qs : List (List ℕ)) (e : FieldFault)
     → fault_at (k ∷ ks) ps 0 ≡ None
     → ((j : ℕ) → fault_at (k ∷ ks) ps (suc j) ≡ fault_at ks qs j) → IsLeast (n + 1) ks qs e → IsLeast n (k ∷ ks) ps e

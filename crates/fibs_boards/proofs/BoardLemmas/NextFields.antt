@@ -26,7 +26,7 @@ use Rattle.fibs_fields.proofs.FieldLemmas.FieldFaults.{err_of_good, fault_of_val
 use Rattle.fibs_fields.proofs.NumberLemmas.Spelled.{number_in_spelled}
 use Rattle.fibs_boards.proofs.BoardLemmas.OneNumberMore.{extra_piece}
 
--- the pieces of a text are what stands before the first colon, and the pieces of what stands after it
+-- the pieces of a text are what is before the first colon, and the pieces of what is after it
 pub pieces_split : (s : List ℕ) → pieces s ≡ before 58 s ∷ pieces_of (after 58 s)
 pieces_split [] = refl
 pieces_split (b ∷ s) = elim (cases_eq b 58) [
@@ -71,7 +71,7 @@ ok_no_err x e h = cc
 err_same : {A : Type 0} (d e : FieldFault) → ◌≡◌ {A = Result A FieldFault} (Err d) (Err e) → d ≡ e
 err_same d e h = cc
 
--- the pieces of what is left, where the first is of the kind, or is not
+-- the pieces of what is left, if the first is of the kind, or is not
 first_right : (kind : Kind) (i : ℕ) (s : List ℕ) (kinds : List Kind) → fault_in kind (before 58 s) ≡ None
     → first_fault i (kind ∷ kinds) (pieces s) ≡ first_fault (i + 1) kinds (pieces_of (after 58 s))
 first_right kind i s kinds good =
@@ -131,7 +131,7 @@ next_wrong read kind i None e kinds reads h =
     rw reads.1 (ap Some (err_same (record { field = i; fault = Missing }) e h))
 next_wrong read kind i (Some s) e kinds reads h = wrong_read read kind i s (read (before 58 s)) e kinds reads refl h
 
--- the same of what is left, where it is parted by colons
+-- the same of what is left, if it is parted by colons
 pub was_read : {A : Type 0} (read : List ℕ → Result A Fault) (kind : Kind) (i : ℕ) (l m : Left) (x : A)
     → Reads read kind → l.separator ≡ 58 → next_at read i l ≡ Ok (x, m) → WasRead read kind i l.rest x m
 was_read read kind i l m x reads colon h =
@@ -194,7 +194,7 @@ pub record NumberRead (values : Values) (i : ℕ) (l m : Left) (z : ℤ) : Type 
   pub later : (kinds : List Kind)
       → first_fault i (a_number_of values ∷ kinds) (pieces_left l) ≡ first_fault (i + 1) kinds (pieces_left m)
 
--- what is so where a number was read
+-- what is so if a number was read
 pub number_was_read : (values : Values) (i : ℕ) (l m : Left) (z : ℤ) → IsNarrow values → l.separator ≡ 58
     → next_at (number_in values) i l ≡ Ok (z, m) → NumberRead values i l m z
 number_was_read values i l m z narrow colon h =
@@ -216,7 +216,7 @@ pub record NameRead (i : ℕ) (l m : Left) (s : List ℕ) : Type 0 where
   pub later : (kinds : List Kind)
       → first_fault i (a_name ∷ kinds) (pieces_left l) ≡ first_fault (i + 1) kinds (pieces_left m)
 
--- where a name was read
+-- if a name was read
 pub name_was_read : (i : ℕ) (l m : Left) (s : List ℕ) → l.separator ≡ 58 → field_at a_name i l ≡ Ok (NameField s, m)
     → NameRead i l m s
 name_was_read i l m s colon h =
@@ -230,7 +230,7 @@ name_was_read i l m s colon h =
       later = read.next.later;
     }
 
--- where a name was refused
+-- if a name was refused
 pub name_was_wrong : (i : ℕ) (l : Left) (e : FieldFault) (kinds : List Kind) → l.separator ≡ 58
     → field_at a_name i l ≡ Err e → first_fault i (a_name ∷ kinds) (pieces_left l) ≡ Some e
 name_was_wrong i l e kinds colon h =
@@ -243,7 +243,7 @@ pub record BoardRead (l m : Left) : Type 0 where
   pub later : (kinds : List Kind)
       → first_fault 1 ((the_word (codes "board")) ∷ kinds) (pieces_left l) ≡ first_fault 2 kinds (pieces_left m)
 
--- where the word was read
+-- if the word was read
 pub board_was_read : (l m : Left) → l.separator ≡ 58 → next_at (this_word (codes "board")) 1 l ≡ Ok (codes "board", m)
     → BoardRead l m
 board_was_read l m colon h =

@@ -77,7 +77,7 @@ fit_at (v ∷ vs) [] i z h within = absurd h
 fit_at (v ∷ vs) (y ∷ ys) zero z h within = h.0
 fit_at (v ∷ vs) (y ∷ ys) (suc i) z h within = fit_at vs ys i z h.1 (omega arith)
 
--- numbers that fit still fit where one gets another that may stand there
+-- numbers that fit still fit if one gets another that may be there
 pub fit_set : (vs : List Values) (zs : List ℤ) (i : ℕ) (z : ℤ) → Fit vs zs → allowed_by (slice_get vs i) z ≡ true
     → Fit vs (slice_set zs i z)
 fit_set [] [] i z h good = h
@@ -86,7 +86,7 @@ fit_set (v ∷ vs) [] i z h good = absurd h
 fit_set (v ∷ vs) (y ∷ ys) zero z h good = (good, h.1)
 fit_set (v ∷ vs) (y ∷ ys) (suc i) z h good = (h.0, fit_set vs ys i z h.1 good)
 
--- fields joined by colons, where all but the first are written after colons
+-- fields joined by colons, if all but the first are written after colons
 pub join_is_after : (x : List ℕ) (zs : List ℤ) → join_with_byte 58 (x ∷ map signed_decimal zs) ≡ x ++ after_colons zs
 join_is_after x [] = sym (append-nil x)
 join_is_after x (z ∷ zs) = ap (λ l. x ++ 58 ∷ l) (join_is_after (signed_decimal z) zs)

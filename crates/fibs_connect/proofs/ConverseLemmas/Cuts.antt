@@ -10,7 +10,7 @@ some_none x h = cc
 some_same : {A : Type 0} (x y : A) → Some x ≡ Some y → x ≡ y
 some_same x y h = cc
 
--- where none stands, all stands before it
+-- if there is none, all is before it
 pub before-all : (c : ℕ) (s : List ℕ) → after c s ≡ None → before c s ≡ s
 before-all c [] e = refl
 before-all c (b ∷ s) e = go (eqb b c) (before-all c s) e
@@ -20,7 +20,7 @@ before-all c (b ∷ s) e = go (eqb b c) (before-all c s) e
     go true ih h = absurd (some_none s h)
     go false ih h = ap (λ (l : List ℕ). b ∷ l) (ih h)
 
--- what stands after the first is all but what stands before it, and that byte
+-- what is after the first is all but what is before it, and that byte
 pub after-drop : (c : ℕ) (s rest : List ℕ) → after c s ≡ Some rest → drop (suc (length (before c s))) s ≡ rest
 after-drop c [] rest e = absurd (some_none rest (sym e))
 after-drop c (b ∷ s) rest e = go (eqb b c) (after-drop c s rest) e
@@ -31,7 +31,7 @@ after-drop c (b ∷ s) rest e = go (eqb b c) (after-drop c s rest) e
     go true ih h = some_same s rest h
     go false ih h = ih h
 
--- the byte, and what stands on its sides, make up the text
+-- the byte, and what is on its sides, make up the text
 pub cut-length : (c : ℕ) (s rest : List ℕ) → after c s ≡ Some rest → length (before c s) + 1 + length rest ≡ length s
 cut-length c [] rest e = absurd (some_none rest (sym e))
 cut-length c (b ∷ s) rest e = go (eqb b c) (cut-length c s rest) e
@@ -42,7 +42,7 @@ cut-length c (b ∷ s) rest e = go (eqb b c) (cut-length c s rest) e
     go true ih h = let same = ap (λ (l : List ℕ). length l) (some_same s rest h) in omega (arith, same)
     go false ih h = let same = ih h in omega (arith, same)
 
--- behind a text without one, more is cut as it would be alone
+-- after a text without one, more is cut as it would be alone
 pub before-more : (c : ℕ) (part s : List ℕ) → after c part ≡ None → before c (part ++ s) ≡ part ++ before c s
 before-more c [] s e = refl
 before-more c (b ∷ part) s e = go (eqb b c) (before-more c part s) e

@@ -88,7 +88,7 @@ parts_end start left line waiting new whole rest k found grows strips = go start
 longer_by : (n : ℕ) (l : List ℕ) → 0 < n → nat_lt 0 (length (take n l)) ≡ nat_lt 0 (length l)
 longer_by n l some = grind (arith, nat_tests, length-take n l)
 
--- a front of a text is empty where the text is
+-- a front of a text is empty if the text is
 longer : (l : List ℕ) → nat_lt 0 (length (take 4098 l)) ≡ nat_lt 0 (length l)
 longer l = longer_by 4098 l (omega arith)
 

@@ -1,4 +1,4 @@
--- The players that are told, one more at each step.
+-- The players that are reported, one more at each step.
 use Rattle.std.proofs.Common.{◌≡◌, ℕ, zero, suc, ◌+◌, List, [], ◌∷◌, ◌++◌, take, slice_get, Some}
 use Rattle.std.proofs.Common.{ap, ◌∙◌, add-one}
 use Rattle.fibs_messages.specs.Message.{MessageValue}

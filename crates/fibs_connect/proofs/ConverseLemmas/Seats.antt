@@ -1,4 +1,4 @@
--- A seat at the server: the client is online exactly where there is a connection.
+-- A seat at the server: the client is online exactly if there is a connection.
 use Rattle.std.proofs.Common.{◌≡◌, ℕ, suc, true, false, not, cond, nat_eq, List, [], ◌∷◌, Option, None, Some}
 use Rattle.std.proofs.Common.{◌⊎◌, inl, refl, sym, ap, subst, ◌∙◌, arith}
 use Rattle.std.specs.Borrow.{MutBor}
@@ -61,7 +61,7 @@ seat_connects Tells remaining contents a client players (Some s) held now none t
 
 -- ---- turns
 
--- where none was given none is given on
+-- if none was given none is given on
 not_given : (e : Ending) → false ≡ still_given e false
 not_given Quiet = refl
 not_given (Lost waited) = refl

@@ -14,7 +14,7 @@ use Rattle.fibs_engine.specs.declared.fault.EngineFault.TheVariants as fault
 abbrev pub login_fault_line : PlainFault → List ℕ
 login_fault_line why = reason_line (codes "fault ") (plain_fault_number why) (plain_fault_name why)
 
--- it ends with the status 0 or 3, or a device failed. Want of memory ends none
+-- it ends with the status 0 or 3, or a device failed. It never ends because memory ran out
 abbrev pub EndsWell : Result ℕ EngineFault → Type 0
 EndsWell result = IfOk result (λ status. (status ≡ 0) ⊎ (status ≡ 3)) × IfErr result (λ why. why ≡ fault.Device)
 

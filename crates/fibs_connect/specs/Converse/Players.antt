@@ -1,4 +1,4 @@
--- What is said of the players of a directory.
+-- What is reported of the players of a directory.
 use Rattle.std.specs.Prelude.{List, map}
 use Rattle.fibs_messages.specs.Message.{MessageValue}
 use Rattle.fibs_front.specs.Told.{SaidValue, player_said}

@@ -56,8 +56,8 @@ pub record TakesTurn {F : Type 0} (Tells : F → List SaidValue → F → Type 0
 abbrev pub Refuses : {F : Type 0} → (F → List SaidValue → F → Type 0) → SeatValue → SeatValue → F → F → Type 0
 Refuses Tells a b held now = (b ≡ a) × Tells held (refused_said AlreadyOpen ∷ []) now
 
--- a new connection is told and knows no player; if none can be made that is said, and nothing else comes of it;
--- if its login was not written whole it is over
+-- a new connection is reported, and no player is known on it; if none can be made that is reported, and nothing else
+-- happens; if its login was not written whole it is over
 abbrev pub Connects : {F : Type 0} → (F → List SaidValue → F → Type 0) → SeatValue → SeatValue → F → F → Type 0
 Connects Tells a b held now =
     (b.connected ≡ true → Tells held (opened_said ∷ []) now × IsDirectory [] b.players)
@@ -69,8 +69,8 @@ abbrev pub written : SeatValue → Option (List ℕ) → Option (List ℕ) → S
 written a left wrote =
     record { client = a.client; players = a.players; connected = a.connected; left = left; wrote = wrote }
 
--- a line was written as it is and that is told, and then the client takes a turn without it, as if nothing had been
--- written
+-- a line was written as it is and that is reported, and then the client takes a turn without it, as if nothing had
+-- been written
 pub record Passed {F : Type 0} (Tells : F → List SaidValue → F → Type 0) (line : List ℕ) (a b : SeatValue)
     (held now : F) : Type 0 where
   pub left : Option (List ℕ)

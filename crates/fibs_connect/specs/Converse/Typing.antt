@@ -3,7 +3,7 @@ use Rattle.std.specs.Prelude.{ℕ, List, [], Option, Some, None, take}
 use Rattle.std.specs.Str.Lines.{strip_carriage_return}
 use Rattle.fibs_fields.specs.Split.{before, after}
 
--- of a line that a byte 10 ends, one byte 13 before that goes; the last line may lack its end, and is as it stands
+-- of a line that a byte 10 ends, one byte 13 before that goes; the last line may lack its end, and is taken as it is
 abbrev pub without_end : List ℕ → Option (List ℕ) → List ℕ
 without_end part None = part
 without_end part (Some more) = strip_carriage_return part

@@ -1,4 +1,4 @@
--- What one element more at the end of a list changes: what stands after the last that passes a test, the first that
+-- What one element more at the end of a list changes: what is after the last that passes a test, the first that
 -- passes, the last of those that pass.
 use Rattle.std.proofs.Common.{◌≡◌, ℕ, ◌+◌, ◌-◌, ◌<◌, ◌≤◌, zero, suc, Bool, true, false, cond, not, List, [], ◌∷◌, ◌++◌}
 use Rattle.std.proofs.Common.{length, drop, reverse, filter, Option, None, Some, is_some, true≢false, refl, sym, ap}
@@ -6,7 +6,7 @@ use Rattle.std.proofs.Common.{◌∙◌, arith, length-append}
 use Rattle.std.specs.List.{after_last, last_or, position_or_len, prefix_len, suffix_len}
 use Rattle.std.proofs.lemmas.List.{reverse-append}
 
--- a front that is dropped, where more follows
+-- a front that is dropped, if more follows
 drop-snoc : {X : Type 0} (n : ℕ) (xs : List X) (x : X) → n ≤ length xs → drop n (xs ++ x ∷ []) ≡ drop n xs ++ x ∷ []
 drop-snoc zero xs x h = refl
 drop-snoc (suc n) [] x h = absurd (omega arith)
@@ -82,7 +82,7 @@ module _ {X : Type 0} (p : X → Bool) where
         | false ↦ λ l. omega (arith, ih (omega (arith, l)) e)
       ] h
 
-  -- where one passes, the first stands in the list
+  -- if one passes, the first is in the list
   pub found_from_last : (xs : List X) → is_some (last_or None (filter p xs)) ≡ true → position_or_len p xs < length xs
   found_from_last [] h = absurd (true≢false (sym h))
   found_from_last (y ∷ xs) h =
@@ -93,7 +93,7 @@ module _ {X : Type 0} (p : X → Bool) where
         | false ↦ λ l. omega (arith, ih l)
       ] h
 
-  -- where none passes, none stands in the list
+  -- if none passes, none is in the list
   pub absent_from_last : (xs : List X) → is_some (last_or None (filter p xs)) ≡ false → position_or_len p xs ≡ length xs
   absent_from_last [] h = refl
   absent_from_last (y ∷ xs) h =

@@ -114,7 +114,7 @@ rising-without f name (e ∷ es) h =
       | false ↦ (all-without (λ k. f (name_of e) < f k) name es h.0, rising-without f name es h.1)
     ]
 
--- where the numbers grow, no name comes again
+-- if the numbers grow, no name comes again
 pub none_later : (f : List ℕ → ℕ) (name : List ℕ) (es : List MessageValue)
     → AllByRecursion (λ k. f name < f k) (map name_of es) → entry_of name es ≡ None
 none_later f name [] h = refl
@@ -203,7 +203,7 @@ pub all-map : (P Q : List ℕ → Type 0)
 all-map P Q h [] i = tt
 all-map P Q h (n ∷ ns) i = (h n i.0, all-map P Q h ns i.1)
 
--- a name more fits where there is room for it
+-- a name more fits if there is room for it
 pub fits : (n : ℕ) (es : List MessageValue) (m : MessageValue)
     → length es ≤ n → (is_none (entry_of (name_of m) es) && nat_eq (length es) n) ≡ false → length (with_entry es m) ≤ n
 fits n es m within room = by (is_some (entry_of (name_of m) es)) refl

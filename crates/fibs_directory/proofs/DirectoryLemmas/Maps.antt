@@ -62,7 +62,7 @@ module _ {Z : Type 0} where
           ∙ ap (λ b. cond b (player_value player ∷ players_value es)
           (player_value e.1 ∷ with_entry (players_value es) (player_value player))) (same false i)
 
-  -- each player still stands under its own name
+  -- each player is still under its own name
   pub keyed-insert : (es : List (Vec ℕ Z × Player)) (key : Vec ℕ Z) (player : Player)
       → IsKeyed es → key.items ≡ player.name.items
       → IsKeyed (insert_entry (λ a b. bytes_eq a.items b.items) es key player)
@@ -93,7 +93,7 @@ module _ {Z : Type 0} where
           ∙ ap (λ b. cond b (players_value es) (player_value e.1 ∷ without_entry name (players_value es)))
           (sym i ∙ ap (bytes_eq name) h.0)
 
-  -- the others still stand under their own names
+  -- the others are still under their own names
   pub keyed-remove : (name : List ℕ) (es : List (Vec ℕ Z × Player))
       → IsKeyed es → IsKeyed (remove_entry (λ k. bytes_eq name k.items) es)
   keyed-remove name [] h = tt
@@ -155,7 +155,7 @@ module _ {Z : Type 0} where
           omega (arith, fits n entries m (omega (arith, long, within)) room, after, length-players new),
         )
 
-  -- where there are n players, the directory is full for the names that the map has not
+  -- if there are n players, the directory is full for the names that the map has not
   pub full_at : (n : ℕ) (name : List ℕ) (es : List (Vec ℕ Z × Player)) (entries : List MessageValue) → IsKeyed es
       → players_value es ≡ entries → n ≤ length entries → length entries ≤ n → (found : Bool)
       → found ≡ is_some (lookup (λ k. bytes_eq name k.items) es)

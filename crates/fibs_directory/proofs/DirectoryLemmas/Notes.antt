@@ -6,15 +6,15 @@ use Rattle.std.specs.Str.{bytes_eq}
 use Rattle.fibs_messages.specs.Message.{MessageValue}
 use Rattle.fibs_messages.specs.Message.{message_of}
 use Rattle.fibs_fields.specs.Bytes.{name_bytes}
-use Rattle.fibs_messages.specs.declared.messages.message.Message.{Message}
-use Rattle.fibs_messages.specs.declared.messages.message.Message.TheVariants.{Welcome, OwnInfo as TheOwnInfo, MotdBegin}
-use Rattle.fibs_messages.specs.declared.messages.message.Message.TheVariants.{MotdEnd, WhoInfo as TheWhoInfo}
-use Rattle.fibs_messages.specs.declared.messages.message.Message.TheVariants.{WhoInfoEnd, Login, Logout}
-use Rattle.fibs_messages.specs.declared.messages.message.Message.TheVariants.{MessageReceived, MessageDelivered}
-use Rattle.fibs_messages.specs.declared.messages.message.Message.TheVariants.{MessageSaved, Says, Shouts, Whispers}
-use Rattle.fibs_messages.specs.declared.messages.message.Message.TheVariants.{Kibitzes, YouSay, YouShout, YouWhisper}
-use Rattle.fibs_messages.specs.declared.messages.message.Message.TheVariants.{YouKibitz}
-use Rattle.fibs_messages.specs.declared.messages.message.WhoInfo.{WhoInfo}
+use Rattle.fibs_messages.specs.declared.message.Message.{Message}
+use Rattle.fibs_messages.specs.declared.message.Message.TheVariants.{Welcome, OwnInfo as TheOwnInfo, MotdBegin}
+use Rattle.fibs_messages.specs.declared.message.Message.TheVariants.{MotdEnd, WhoInfo as TheWhoInfo}
+use Rattle.fibs_messages.specs.declared.message.Message.TheVariants.{WhoInfoEnd, Login, Logout}
+use Rattle.fibs_messages.specs.declared.message.Message.TheVariants.{MessageReceived, MessageDelivered}
+use Rattle.fibs_messages.specs.declared.message.Message.TheVariants.{MessageSaved, Says, Shouts, Whispers}
+use Rattle.fibs_messages.specs.declared.message.Message.TheVariants.{Kibitzes, YouSay, YouShout, YouWhisper}
+use Rattle.fibs_messages.specs.declared.message.Message.TheVariants.{YouKibitz}
+use Rattle.fibs_messages.specs.declared.message.WhoInfo.{WhoInfo}
 use Rattle.fibs_fields.specs.declared.name.Name.{Name}
 use Rattle.fibs_directory.specs.Directory.{name_of, is_of, tells, logs_out, last_told, first_place, entry_of}
 use Rattle.fibs_directory.specs.Directory.{IsDirectory}
@@ -35,7 +35,7 @@ module _ (ms es : List MessageValue) (m : MessageValue) (d : IsDirectory ms es) 
   rises : Rising (λ k. first_place k ms) (map name_of es)
   rises = rising_from_pairs (λ k. first_place k ms) (map name_of es) d.order
 
-  -- each entry's name was told of
+  -- each entry's name was listed by the server
   told_each : (P : List ℕ → Type 0)
       → ((k : List ℕ) → is_some (last_told k ms) ≡ true → P k) → AllByRecursion P (map name_of es)
   told_each P h =

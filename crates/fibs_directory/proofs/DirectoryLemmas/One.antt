@@ -14,7 +14,7 @@ use Rattle.fibs_directory.proofs.DirectoryLemmas.Notes.{directory_of_none, noted
 same_some : {X : Type 0} {x y : X} → Some x ≡ Some y → x ≡ y
 same_some {X} {x} e = ap (λ r. unwrap_or r x) e
 
--- there is no entry where there is one
+-- no entry and some entry are not the same
 none_is_some : {X : Type 0} {x : X} → None ≡ Some x → ⊥
 none_is_some e = true≢false (sym (ap is_some e))
 

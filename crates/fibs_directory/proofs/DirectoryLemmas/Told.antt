@@ -35,7 +35,7 @@ module _ (name : List ℕ) (ms : List MessageValue) (m : MessageValue) where
       ∙ ap (last_or None) (filter-snoc_yes (tells name) (since_logout name ms) m f)
       ∙ last_or-snoc None (filter (tells name) (since_logout name ms)) m
 
-  -- what the place is made of, where the name does not log out
+  -- what the place is made of, if the name does not log out
   place-more : logs_out name m ≡ false
       → first_place name (ms ++ m ∷ [])
       ≡ length ms - length (since_logout name ms) + position_or_len (tells name) (since_logout name ms ++ m ∷ [])
@@ -47,7 +47,7 @@ module _ (name : List ℕ) (ms : List MessageValue) (m : MessageValue) where
       {x = length (ms ++ m ∷ []) - length (since ++ m ∷ [])} {y = length ms - length since}
       (omega (arith, length-append ms (m ∷ []), length-append since (m ∷ [])))
 
-  -- the first message 5 of a name that was told of stays the first
+  -- the first message 5 of a name that was listed stays the first
   pub first_place-known : logs_out name m ≡ false
       → is_some (last_told name ms) ≡ true → first_place name (ms ++ m ∷ []) ≡ first_place name ms
   first_place-known e told =
@@ -64,7 +64,7 @@ module _ (name : List ℕ) (ms : List MessageValue) (m : MessageValue) where
       position-snoc_new (tells name) since m (absent_from_last (tells name) since none) f in
       place-more e ∙ omega (arith, first, since_within name ms)
 
--- the first message 5 of a name that was told of stands in the list
+-- the first message 5 of a name that was listed is in the list
 pub first_place-within : (name : List ℕ) (ms : List MessageValue)
     → is_some (last_told name ms) ≡ true → first_place name ms < length ms
 first_place-within name ms told =

@@ -1,4 +1,4 @@
--- What an answer of a part of a turn says, where a fault is handed on.
+-- What an answer of a part of a turn says, if a fault is handed on.
 use Rattle.std.proofs.Common.{◌≡◌, Result, Ok, Err}
 use Rattle.std.specs.Prelude.{⊤, IsErrAnd}
 use Rattle.fibs_engine.specs.Writing.{Progress, Broken, progress_of}
@@ -23,7 +23,7 @@ module _ (r : Result ⊤ TurnFault) where
       go (Err Stream) k = p
       go (Err Output) k = tt
 
-  -- which is none of the printed lines
+  -- which is not a fault of the printed lines
   pub printed_at_stream : (P : Type 0) → IsErrAnd r (λ e. e ≡ Stream) → IfUnprinted r P
   printed_at_stream P h = go r h
     where

@@ -110,7 +110,7 @@ piece_online t bytes = go (is_online t) refl
         ∙ ap (λ n. not (nat_eq n 0)) (all_open (with_bytes t bytes) (gained t.stream bytes))
     go false off = ap (λ s. is_online s.talk) (offline_reads t bytes off)
 
--- it is put behind the stream
+-- it is put after the stream
 pub piece_stream : (t : Talk) (bytes : List ℕ) → is_online t ≡ true
     → (step t (Piece bytes)).talk.stream ≡ t.stream ++ bytes
 piece_stream t bytes on = ap (λ s. s.talk.stream) (online_reads t bytes on)
@@ -164,7 +164,7 @@ module _ (grow : LinesOnlyGrow) where
           ∙ ap (λ l. l ++ line_acts (log_after t.log first) (gained (t.stream ++ p) q)) (sym (online_acts t p on))
           ∙ ap (λ l. piece_acts t p ++ l) (sym later)
 
-  -- where a front has all lines, so has a longer one
+  -- if a front has all lines, so has a longer one
   middle : (s all : List ℕ) (n k : ℕ) → n ≤ k → lines_of (s ++ take n all) ≡ lines_of (s ++ all)
       → lines_of (s ++ take k all) ≡ lines_of (s ++ all)
   middle s all n k h e =
@@ -190,7 +190,7 @@ module _ (grow : LinesOnlyGrow) where
       )) in
       sym (to_all ∙ ap (λ l. lines_of (s ++ take k all) ++ l) none ∙ append-nil (lines_of (s ++ take k all)))
 
-  -- a line that ends behind a front ends with both
+  -- a line that ends after a front ends with both
   pub ends_joined : (s f g : List ℕ) → EndsALine (s ++ f) g → 0 < length g → EndsALine s (f ++ g)
   ends_joined s f g ends long = λ n lt same.
       let j = n - length f in

@@ -96,12 +96,12 @@ lost_is_plain (Some ask) = refl
 never_unnoted : {P : Type 0} → true ≡ false → P
 never_unnoted {P} e = absurd cc
 
--- a line stays that is none of the directory's
+-- a line that is not the directory's stays
 line_stays : (line : List ℕ) (ms : List (List ℕ)) → is_directory_line line ≡ false
     → without_directory (line ∷ ms) ≡ line ∷ without_directory ms
 line_stays line ms e = ap (λ b. cond b (without_directory ms) (line ∷ without_directory ms)) e
 
--- none of the lines of what is told so is a line of the directory
+-- none of the lines of what is reported so is a line of the directory
 lines_stay : (s : SaidValue) (ms : List (List ℕ)) → is_unnoted s ≡ false
     → without_directory (lines_of s ++ ms) ≡ lines_of s ++ without_directory ms
 lines_stay opened_said ms h = refl

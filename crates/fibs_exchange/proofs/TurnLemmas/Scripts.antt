@@ -20,7 +20,7 @@ use Rattle.fibs_exchange.specs.Turns.Script.{acts_of, writes_of, tells_of, notes
 pub notes_nothing : (d : List MessageValue) → Notes d d []
 notes_nothing d = λ before is. subst (λ ms. IsDirectory ms d) (sym (append-nil before)) is
 
--- it is told more
+-- more is reported to it
 pub notes_joined : (a b c : List MessageValue) (xs ys : List MessageValue) → Notes a b xs → Notes b c ys
     → Notes a c (xs ++ ys)
 notes_joined a b c xs ys f g = λ before is. subst (λ ms. IsDirectory ms c) (append_assoc before xs ys)
@@ -68,7 +68,7 @@ module _ {F : Type 0} {Tells : F → List SaidValue → F → Type 0} (joins : J
             (notes_joined a.players b.players c.players (notes_of d.done) (notes_of e.done) d.noted e.noted);
       }
 
-  -- an act that was written whole, told and noted
+  -- an act that was written whole, reported and noted
   pub did_act : (a b : Outside F) (act : Act) (refused : Option DirectoryFault) → Appends a.wrote b.wrote act.writes
       → Tells a.front (act.tells ++ directory_told refused) b.front
       → Notes a.players b.players (noted_unless refused act.notes) → Did Tells a b (act ∷ []) Whole
@@ -104,7 +104,7 @@ module _ {F : Type 0} {Tells : F → List SaidValue → F → Type 0} (joins : J
     noted = subst (λ d. Notes a.players d []) (sym players) (notes_nothing a.players);
   }
 
-  -- what was written stays, and nothing more was told
+  -- what was written stays, and nothing more was reported
   pub did_kept : (p : Progress) (a b c : Outside F) (script : List Act) → Did Tells a b script p → Keeps b.wrote c.wrote
       → Tells b.front [] c.front → c.players ≡ b.players → Did Tells a c script p
   did_kept p a b c script d k rested players = record {

@@ -1,4 +1,4 @@
--- Where a print fails, the client is as after its last finished call.
+-- If a print fails, the client is as after its last finished call.
 use Rattle.std.proofs.Common.{◌≡◌, ◌<◌, ℕ, true, List, [], ◌∷◌, ◌++◌, length, Option, None, Some, Result, Ok, Err}
 use Rattle.std.proofs.Common.{OnErr}
 use Rattle.std.proofs.Common.{refl, sym, ap, subst, ◌∙◌, append_assoc, append-nil, arith, length-append}
@@ -64,7 +64,7 @@ stopped_broken t y z left still read a b on took k at = record {
 }
 
 module _ (join : PiecesJoin) (grow : LinesOnlyGrow) where
-  -- what was fed behind a front ends a line
+  -- what was fed after a front ends a line
   pub line_behind : {F : Type 0} {Tells : F → List SaidValue → F → Type 0} (t : Talk) (z : ClientValue) (front piece back bytes : List ℕ) (a b : Outside F)
       (now : Option (List ℕ)) → bytes ≡ (front ++ piece) ++ back → is_online t ≡ true
       → Did Tells a b (piece_acts t front) Whole → StandsAfter z (step (step t (Piece front)).talk (Piece piece)).talk

@@ -47,7 +47,7 @@ module _ {F : Type 0} {Tells : F → List SaidValue → F → Type 0} (joins : J
     did = did_same Whole a a [] (piece_acts t []) (sym (no_acts t)) (did_nothing joins a);
   }
 
-  -- what was written stays, and nothing more was told
+  -- what was written stays, and nothing more was reported
   pub gone_kept : (t : Talk) (c : ClientValue) (bytes : List ℕ) (a b d : Outside F) → Gone Tells t c bytes a b
       → Keeps b.wrote d.wrote → Tells b.front [] d.front → d.players ≡ b.players → Gone Tells t c bytes a d
   gone_kept t c bytes a b d g k rested players =
@@ -70,7 +70,7 @@ module _ {F : Type 0} {Tells : F → List SaidValue → F → Type 0} (joins : J
           (did_joined joins Whole a b c (piece_acts t p) acts d e);
     }
 
-    -- a write fails at a line behind them
+    -- a write fails at a line after them
     pub broke_at : (t : Talk) (new : ClientValue) (front piece back bytes : List ℕ) (acts : List Act) (a b c : Outside F)
         → bytes ≡ (front ++ piece) ++ back → is_online t ≡ true
         → Did Tells a b (piece_acts t front) Whole → StandsAfter new (step (step t (Piece front)).talk (Piece piece)).talk

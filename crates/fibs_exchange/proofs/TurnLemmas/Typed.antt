@@ -106,7 +106,7 @@ module _ {F : Type 0} {Tells : F → List SaidValue → F → Type 0} (joins : J
   quiet : (players : List MessageValue) → Notes players players (typed_act t v).notes
   quiet players = subst (Notes players players) (sym (typed_notes t v)) (notes_nothing players)
 
-  -- it is answered by what is told
+  -- it is answered by what is reported
   pub did_reply : (said : SaidValue) (wrote : Option (List ℕ)) (before after : F) (players : List MessageValue)
       → answer_act (Some said) [] ≡ typed_act t v
       → Appends wrote wrote [] → Tells before (said ∷ []) after
@@ -116,7 +116,7 @@ module _ {F : Type 0} {Tells : F → List SaidValue → F → Type 0} (joins : J
       (subst (λ (a : Act). Appends wrote wrote a.writes) is nothing)
       (subst (λ (a : Act). Tells before a.tells after) is told) (quiet players)
 
-  -- the command was written, and told as sent
+  -- the command was written, and reported as sent
   pub did_sent : (text : List ℕ) (wrote now : Option (List ℕ)) (before after : F) (players : List MessageValue)
       → answer_act None (text ∷ []) ≡ typed_act t v
       → Appends wrote now (on_wire text) → Tells before (sent_said text ∷ []) after

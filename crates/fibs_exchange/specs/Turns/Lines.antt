@@ -13,7 +13,7 @@ use Rattle.fibs_session.specs.Calls.SessionOf.{TakenValue}
 use Rattle.fibs_front.specs.Told.{SaidValue, heard_said, phase_said, confirmed_said, rolled_said}
 use Rattle.fibs_exchange.specs.Turns.Acts.{Act}
 
--- after a good board its phase is told
+-- after a good board its phase is reported
 abbrev pub phase_told : ReadingValue → List SaidValue
 phase_told (numbered_line m) = []
 phase_told (board_line b) = if good b then phase_said (phase_of b) ∷ [] else []
@@ -29,7 +29,7 @@ confirmed_told (Some ask) = confirmed_said ask ∷ []
 abbrev pub rolled_told : Bool → List SaidValue
 rolled_told rolled = if rolled then rolled_said ∷ [] else []
 
--- the directory is told each message
+-- the directory is given each message
 abbrev pub messages_in : ReadingValue → List MessageValue
 messages_in (numbered_line m) = m ∷ []
 messages_in (board_line b) = []

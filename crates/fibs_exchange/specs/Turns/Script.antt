@@ -26,12 +26,12 @@ pub record Done : Type 0 where
   pub act : Act
   pub refused : Option DirectoryFault
 
--- a refusal of the directory is told
+-- a refusal of the directory is reported
 abbrev pub directory_told : Option DirectoryFault → List SaidValue
 directory_told None = []
 directory_told (Some why) = unnoted_said why ∷ []
 
--- what an act tells, and after it the directory's
+-- what is reported of an act, and after it what the directory refused
 abbrev pub done_told : Done → List SaidValue
 done_told d = d.act.tells ++ directory_told d.refused
 
@@ -66,8 +66,8 @@ InHand Whole hand part = (hand ≡ []) × (part ≡ [])
 InHand Broken hand part =
     (act : Act) × (missing : ℕ) × (rest : List ℕ) × (hand ≡ act ∷ []) × (act.writes ≡ part ++ (missing ∷ rest))
 
--- the script was done: each act written whole, told and noted, up to the one in hand, of which a part was written
--- and nothing told or noted
+-- the script was done: each act written whole, reported and noted, up to the one in hand, of which a part was
+-- written and nothing reported or noted
 pub record Did {F : Type 0} (Tells : F → List SaidValue → F → Type 0) (a b : Outside F) (script : List Act)
     (p : Progress) : Type 0 where
   pub done : List Done

@@ -58,7 +58,7 @@ pub record Talked {F : Type 0} (Tells : F → List SaidValue → F → Type 0) (
 
 -- ---- the end
 
--- the end of a connection is told
+-- the end of a connection is reported
 abbrev pub end_acts : Ending → List Act
 end_acts Quiet = []
 end_acts (Lost waited) = only_tell (lost_said (option_map ask_of waited)) ∷ []
@@ -103,7 +103,7 @@ pub record TurnedBy {F : Type 0} (Tells : F → List SaidValue → F → Type 0)
   pub offline : is_online t ≡ false → intake.read ≡ []
   pub quiet : is_online t ≡ false → e ≡ Quiet
 
--- the same of a writer, on which what is told is printed
+-- the same of a writer, on which what is reported is printed
 abbrev pub Turned : Talk → ClientValue → Option (List ℕ) → Option (List ℕ) → Option (List ℕ)
     → Outside (Option (List ℕ)) → Outside (Option (List ℕ)) → Ending → Type 0
 Turned = TurnedBy Accounts

@@ -9,7 +9,7 @@ use Rattle.fibs_front.specs.Typing.{TypedValue, typed_decision, typed_plain, typ
 use Rattle.fibs_front.specs.Typing.{typed_now}
 use Rattle.fibs_exchange.specs.Turns.Acts.{Act, only_tell, answer_act}
 
--- a standing order is taken, or it is said why not
+-- a standing order is taken, or the reason why not is reported
 abbrev pub order_told : SaidValue → Option Refusal → SaidValue
 order_told said None = said
 order_told said (Some why) = refused_said why
@@ -22,8 +22,8 @@ typed_step t typed_order = step t Order
 typed_step t typed_withdrawal = step t Withdraw
 typed_step t typed_none = stays t
 
--- what it calls for: the command is written and then told as sent, or it is told why not. A standing order sends
--- nothing by itself
+-- what it calls for: the command is written and then reported as sent, or the reason why not is reported. A standing
+-- order sends nothing by itself
 abbrev pub typed_act : Talk → TypedValue → Act
 typed_act t (typed_decision d) = answer_act (option_map refused_said (answer_now t d)) (step t (Click d)).send
 typed_act t (typed_plain p) = answer_act (option_map not_sent_said (plain_refusal t p)) (step t (PlainInput p)).send

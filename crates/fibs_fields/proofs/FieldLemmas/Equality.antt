@@ -1,4 +1,4 @@
--- Lists of values are equal exactly where a test goes through them, as `==` of a message's fields does.
+-- Lists of values are equal exactly if a test goes through them, as `==` of a message's fields does.
 use Rattle.std.proofs.Common.{◌≡◌, ℕ, Bool, true, false, List, [], ◌∷◌, refl, ap, ap₂, arith}
 use Rattle.std.specs.Prelude.{◌==◌, ◌&&◌}
 use Rattle.std.specs.Bool.{Decides, beq}
@@ -9,7 +9,7 @@ use Rattle.std.proofs.lemmas.Slice.Eq.{bytes_eq-Decides}
 use Rattle.fibs_fields.specs.Field.{FieldValue, NameField, WordField, TailField, FlagField, NumberField, RatingField}
 use Rattle.fibs_fields.specs.Field.{TextField}
 
--- what a value holds, where it is bytes, a flag or a number
+-- what a value holds, if it is bytes, a flag or a number
 abbrev bytes_in : FieldValue → List ℕ
 bytes_in (NameField s) = s
 bytes_in (WordField s) = s

@@ -70,9 +70,9 @@ one_first ks texts i j f g a b = elim (cases_order i j) [
   ]
 ]
 
--- ---- reading fields ends well where nothing is wrong, and else with the first fault
+-- ---- reading fields ends well if nothing is wrong, and else with the first fault
 
--- where nothing is left there are no texts
+-- if nothing is left there are no texts
 pub no_texts : (ks : List Kind) (c : ℕ) → texts_for ks c None ≡ []
 no_texts [] c = refl
 no_texts (k ∷ ks) c = refl
@@ -98,7 +98,7 @@ all_before : (k : Kind) (ks : List Kind) (text : List ℕ) (texts : List (List �
 all_before k ks text texts i here none zero lt = here
 all_before k ks text texts i here none (suc j) lt = none j (omega arith)
 
--- the first field is right, and the others are told
+-- the first field is right, and the others are known
 tells_more : (k : Kind) (ks : List Kind) (i : ℕ) (text : List ℕ) (texts : List (List ℕ)) (v : FieldValue)
     (read : Result (List FieldValue) FieldFault) → fault_in k text ≡ None → Tells ks (i + 1) texts read
     → Tells (k ∷ ks) i (text ∷ texts) (read >>= λ vs. Ok (v ∷ vs))
@@ -154,7 +154,7 @@ tells_no_text ks i c t =
     (subst (λ (texts : List (List ℕ)). Tells ks (i + 1) texts (fields_at ks (i + 1) (left c None))) (no_texts ks c)
     t)
 
--- what reading the fields answers is told of their texts
+-- what reading the fields answers holds of their texts
 pub tells : (ks : List Kind) (i c : ℕ) (o : Option (List ℕ)) → Tells ks i (texts_for ks c o) (fields_at ks i (left c o))
 unfolding field_at text_at end_at
 tells [] i c None = λ j. refl

@@ -1,7 +1,7 @@
 -- Options that are one.
 use Rattle.std.proofs.Common.{◌≡◌, Some, None}
 
--- what stands in one option is one
+-- what is in one option is one
 pub option_same : {A : Type 0} (x y : A) → Some x ≡ Some y → x ≡ y
 option_same x y h = cc
 

@@ -22,12 +22,12 @@ split_none c (b ∷ s) none =
     let more = split_none c s (λ (j : ℕ) (l : j < length s). none (suc j) (omega arith)) in
     rw (ne_eqb b c (none 0 (omega arith))) (ap (λ (t : List ℕ). b ∷ t) more.0, more.1)
 
--- what stands behind c, with it
+-- what comes after c, with it
 abbrev pub behind : ℕ → Option (List ℕ) → List ℕ
 behind c None = []
 behind c (Some s) = c ∷ s
 
--- what stands behind the first byte
+-- what comes after the first byte
 abbrev pub opened : List ℕ → Option (List ℕ)
 opened [] = None
 opened (b ∷ s) = Some s
@@ -37,7 +37,7 @@ abbrev pub HeadIs : ℕ → List ℕ → Type 0
 HeadIs c [] = Unit {0}
 HeadIs c (b ∷ s) = b ≡ c
 
--- what is put behind begins with the byte
+-- what is put after begins with the byte
 pub behind-head : (c : ℕ) (o : Option (List ℕ)) → HeadIs c (behind c o)
 behind-head c None = tt
 behind-head c (Some s) = refl
@@ -47,7 +47,7 @@ pub opened-behind : (c : ℕ) (o : Option (List ℕ)) → opened (behind c o) �
 opened-behind c None = refl
 opened-behind c (Some s) = refl
 
--- what begins with the byte is put behind again
+-- what begins with the byte is put after again
 pub behind-opened : (c : ℕ) (s : List ℕ) → HeadIs c s → behind c (opened s) ≡ s
 behind-opened c [] h = refl
 behind-opened c (b ∷ s) h = ap (λ (x : ℕ). x ∷ s) (sym h)
@@ -64,7 +64,7 @@ before-behind c (b ∷ s) = elim (cases_eq b c) [
 abbrev pub has_no : ℕ → List ℕ → Bool
 has_no c s = list_all (λ b. not (eqb b c)) s
 
--- cut off at c, where none stands before
+-- cut off at c, if none is before
 pub cut_off : (c : ℕ) (w rest : List ℕ) → has_no c w ≡ true → HeadIs c rest
     → (before c (w ++ rest) ≡ w) × (after c (w ++ rest) ≡ opened rest)
 cut_off c [] [] h head = (refl, refl)

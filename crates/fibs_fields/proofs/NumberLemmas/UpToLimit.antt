@@ -47,7 +47,7 @@ up_to_exact limit n text few = (
   λ h. ap (decimal_up_to limit) h.0 ∙ up_to_from limit n few h.1,
 )
 
--- what a reader of 64 bits gave, where it is not above the limit
+-- what a reader of 64 bits gave, if it is not above the limit
 abbrev limited : ℕ → Result ℕ Fault → Option ℕ
 limited limit (Ok n) = cond (nat_le n limit) (Some n) None
 limited limit (Err f) = None

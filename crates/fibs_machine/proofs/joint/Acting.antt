@@ -71,7 +71,7 @@ kept_alike acts w w' a k =
     kept_quiet acts w w' a.board a.logged_in
     (λ c some. carried_is _ _ _ _ _ _ refl (ap (λ n. nat_eq n c) a.here) (a.heard c) (a.coming c) (k.carried c some)) k
 
--- more acts on the connection that is logged in, where other wires to clients stay as they are
+-- more acts on the connection that is logged in, if other wires to clients stay as they are
 pub kept_more : (acts : ℕ → List Act) (more : List Act) (w w' : World) → w'.logged_in ≡ w.logged_in
     → open_now w'.log ≡ open_now w.log
     → ((c : ℕ) → (c ≡ w.logged_in → ⊥) → w'.links c ≡ w.links c)
@@ -104,7 +104,7 @@ kept_more acts more w w' l o other carried steady k = record {
     same : (c : ℕ) → (c ≡ w.logged_in → ⊥) → acts c ++ only c w.logged_in more ≡ acts c
     same c h = ap (λ l. acts c ++ l) (only_other c w.logged_in more h) ∙ append-nil (acts c)
 
--- the server's board becomes b, and an act is sent where the connection is open
+-- the server's board becomes b, and an act is sent if the connection is open
 pub kept_sends : (acts : ℕ → List Act) (w : World) (b : Board) (a : Act) (t : List ℕ) → bytes_of a ≡ on_wire t
     → SteadyTo b (acts w.logged_in) → SteadyTo b (acts w.logged_in ++ a ∷ [])
     → Kept acts w → Kept (λ c. acts c ++ only c w.logged_in (sending w a)) (sends (record w { board = b }) t)

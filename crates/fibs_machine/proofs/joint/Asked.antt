@@ -1,4 +1,4 @@
--- The joint statement is kept where a decision is sent on the board shown last.
+-- The joint statement is kept if a decision is sent on the board shown last.
 use Rattle.std.proofs.Common.{◌≡◌, ℕ, ◌<◌, true, false, List, [], ◌∷◌, ◌++◌, Option, Some, None, nat_eq, flat_map, refl}
 use Rattle.std.proofs.Common.{sym, ◌∙◌, ap, subst, inl, inr, append-nil, append_assoc, true≢false}
 use Rattle.fibs_boards.specs.Board.{BoardFields as Board}
@@ -37,7 +37,7 @@ pub no_entries : ChangesNothing []
 no_entries = record { shows_none = λ c. refl; sends_none = λ c. refl; takes_none = λ c. refl; stays_open = λ o. refl }
 
 module _ (law : Lawful) where
-  -- Behind entries that change nothing a decision is sent on the connection that is logged in and open: nothing was
+  -- After entries that change nothing a decision is sent on the connection that is logged in and open: nothing was
   -- sent in this stretch, and the board shown last allows it. The boards still to be noted are that one.
   pub joint_asked : (more : List Board) (w : World) (first : List Entry) (d : Decision) (b : Board)
       → ChangesNothing first → Joint more w → open_now w.log ≡ w.logged_in → 0 < w.logged_in

@@ -1,4 +1,4 @@
--- The joint statement is kept where the user clicks.
+-- The joint statement is kept if the user clicks.
 use Rattle.std.proofs.Common.{◌≡◌, ℕ, ◌<◌, false, [], ◌∷◌, Option, Some, None, refl, ap, subst, inl, inr, arith}
 use Rattle.std.proofs.lemmas.Bool.Decides.{eqb_tells}
 use Rattle.fibs_position.specs.DecisionValue.{DecisionValue as Decision}

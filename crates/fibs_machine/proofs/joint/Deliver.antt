@@ -1,4 +1,4 @@
--- The joint statement is kept where the client hears lines.
+-- The joint statement is kept if the client hears lines.
 use Rattle.std.proofs.Common.{◌≡◌, ℕ, ◌<◌, Bool, true, false, ◌&&◌, List, [], ◌∷◌, ◌++◌, Option, Some, None, nat_eq}
 use Rattle.std.proofs.Common.{take}
 use Rattle.std.proofs.Common.{drop, refl, sym, ◌∙◌, zero, suc, ap, subst, inl, inr, ◌⊎◌, append-nil, append_assoc}
@@ -206,7 +206,7 @@ module _ (law : Lawful) where
       finish c more w nothing_heard some (joint_noted more w [] y.joint (λ d. refl) (λ d. refl) (λ d. refl) refl)
       (open_append 0 w.log [] ∙ y.here) y.mine tt
 
-  -- A good board is shown, and where a standing order is then due its roll is sent: the boards still to be noted are
+  -- A good board is shown, and if a standing order is then due its roll is sent: the boards still to be noted are
   -- that one, since the user decides on it.
   shows : (c : ℕ) (more : List Board) (w : World) (b : Board) → 0 < c → Hearing c (b ∷ more) w → (rolls : Bool)
       → is_due c (w.log ++ Shown c b ∷ []) b ≡ rolls → Hearing c more (does_heard c w (shows_board c w.log b rolls))

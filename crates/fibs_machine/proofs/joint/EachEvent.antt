@@ -43,7 +43,7 @@ pub not_refused : (z : Bool) (x : WorldRefusal) (o : Option WorldRefusal) → (i
 not_refused true x o h = cc
 not_refused false x o h = (refl, h)
 
--- where neither of two holds, each of them fails
+-- if neither of two holds, each of them fails
 pub or_false : (a b : Bool) → (a || b) ≡ false → (a ≡ false) × (b ≡ false)
 or_false true b h = absurd (true≢false h)
 or_false false b h = (refl, h)
@@ -57,7 +57,7 @@ number_of (suc n) h = omega arith
 pub not_less : (a b : ℕ) → nat_lt a b ≡ false → b ≤ a
 not_less a b h = grind (arith, nat_tests)
 
--- where no connection is missing, one is open
+-- if no connection is missing, one is open
 pub is_open : (x : WorldRefusal) (n : ℕ) → (if nat_eq n 0 then Some x else None) ≡ None → 0 < n
 is_open x n h = number_of n (not_refused (nat_eq n 0) x None h).0
 

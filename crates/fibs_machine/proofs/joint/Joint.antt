@@ -74,7 +74,7 @@ pub record Asked (v : View) (now : Board) (ws : List Board) (a : Ask) : Type 0 w
   pub is_last : last v.seen ≡ Some a.0
   pub calm : Calm now (a.0 ∷ ws)
 
--- where nothing waits to be served, nothing was sent in this stretch, or its effect is on its way
+-- if nothing waits to be served, nothing was sent in this stretch, or its effect is on its way
 abbrev pub Live : View → Board → List Board → Option Ask → Type 0
 Live v now ws None = Free v now ws ⊎ Done v now ws
 Live v now ws (Some a) = Asked v now ws a

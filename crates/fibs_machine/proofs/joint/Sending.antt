@@ -1,4 +1,4 @@
--- The joint statement is kept where commands and lines go on wires.
+-- The joint statement is kept if commands and lines go on wires.
 use Rattle.std.proofs.Common.{◌≡◌, ℕ, ◌<◌, ◌≤◌, Bool, true, false, not, ◌&&◌, List, [], ◌∷◌, ◌++◌, Option, Some, None}
 use Rattle.std.proofs.Common.{nat_eq, flat_map, refl, sym, ◌∙◌, zero, suc, ap, subst, inl, inr, ◌⊎◌, append-nil}
 use Rattle.std.proofs.Common.{append_assoc, true≢false, arith, if◌then◌else◌}
@@ -220,7 +220,7 @@ all_more b x [] h e = (e, tt)
 all_more b x (y ∷ ys) h e = (h.0, all_more b x ys h.1 e)
 
 module _ (law : Lawful) where
-  -- the server's board may become another only where the user doesn't decide
+  -- the server's board may become another only if the user doesn't decide
   abbrev pub MayBecome : Board → Board → Type 0
   MayBecome now b = (now ≡ b) ⊎ (user_decides now ≡ false)
 
@@ -231,7 +231,7 @@ module _ (law : Lawful) where
     | inr k ↦ let k' : user_decides a ≡ false = rw e at k in absurd (true≢false (sym h ∙ k'))
   ]
 
-  -- one more board is sent, where the server's board may become it
+  -- one more board is sent, if the server's board may become it
   pub calm_more : (now b : Board) (bs : List Board) → MayBecome now b → Calm now bs → Calm b (bs ++ b ∷ [])
   calm_more now b [] m h = (λ z. (tt, refl), tt)
   calm_more now b (a ∷ rest) m h =

@@ -45,7 +45,7 @@ no_says w t = if_fact Serveless (is_talking w) _ _ (λ z. refl) (λ z. refl)
 only_none : (c n : ℕ) (acts : List Act) → Serveless acts → Serveless (if nat_eq c n then acts else [])
 only_none c n acts h = if_fact Serveless (nat_eq c n) _ _ (λ z. h) (λ z. refl)
 
--- where no answer is noted, nothing was served
+-- if no answer is noted, nothing was served
 none_served : (c : ℕ) (xs : List Entry) → NoAnswers xs → S.served c xs ≡ []
 none_served c [] h = refl
 none_served c (Took d b m ∷ xs) h = absurd h
@@ -98,7 +98,7 @@ notes_served c conn d1 d2 w l V.Answered h = (
   only_none c w.logged_in (sending w (Shows w.board)) (no_shows w w.board),
 )
 
--- the server takes a line, where there is one
+-- the server takes a line, if there is one
 notes_line : (c : ℕ) (w : World) (conn d1 d2 : ℕ) (o : Option (List ℕ × List ℕ))
     → Notes c w (serves conn w d1 d2 o) (if nat_eq c w.logged_in then acts_at_line w conn d1 d2 o else [])
 notes_line c w conn d1 d2 None = ([], sym (append-nil w.log), only_none c w.logged_in [] refl)

@@ -248,7 +248,7 @@ kept_start b = record {
   newer = λ c high. refl;
 }
 
--- where none is Undone, what was served is what was carried out
+-- if none is Undone, what was served is what was carried out
 took_is_served : (c : ℕ) (log : List Entry) → NoneUndone log → took c log ≡ S.served c log
 took_is_served c [] h = refl
 took_is_served c (Undone d b m ∷ later) h = absurd h

@@ -20,7 +20,7 @@ SteadyTo now (Shows b ∷ later) = (user_decides b ≡ true → SameTo now b lat
 SteadyTo now (Says t ∷ later) = SteadyTo now later
 SteadyTo now (Serves d ∷ later) = SteadyTo now later
 
--- the board may become this one: it is the same where the user decides
+-- the board may become this one: it is the same if the user decides
 abbrev pub Becomes : Board → Board → Type 0
 Becomes now next = user_decides now ≡ true → next ≡ now
 
@@ -46,7 +46,7 @@ same_becomes now next b (Shows x ∷ later) m z h = (h.0, same_becomes now next 
 same_becomes now next b (Says t ∷ later) m z h = same_becomes now next b later m z h
 same_becomes now next b (Serves d ∷ later) m z h = tt
 
--- and the boards stay steady, where the user does not decide
+-- and the boards stay steady, if the user does not decide
 pub steady_becomes : (now next : Board) (acts : List Act) → Becomes now next → SteadyTo now acts → SteadyTo next acts
 steady_becomes now next [] m h = tt
 steady_becomes now next (Shows b ∷ later) m h =

@@ -1,4 +1,4 @@
--- The joint statement is kept where a connection is opened, lost or logged in, and where the server serves.
+-- The joint statement is kept if a connection is opened, lost or logged in, and if the server serves.
 use Rattle.std.proofs.Common.{◌≡◌, ℕ, ◌+◌, ◌<◌, ◌≤◌, Bool, true, false, not, ◌&&◌, List, [], ◌∷◌, ◌++◌, Option, Some}
 use Rattle.std.proofs.Common.{None, nat_eq, flat_map, refl, sym, ◌∙◌, ap, subst, inl, inr, ◌⊎◌, append-nil}
 use Rattle.std.proofs.Common.{true≢false, arith}
@@ -331,7 +331,7 @@ module _ (law : Lawful) where
   all_alike b [] h = refl
   all_alike b (x ∷ xs) h = and_both _ _ (rw h.0 (law.likeness.like_itself b)) (all_alike b xs h.1)
 
-  -- The decision is taken, and where the client is there the board that it leads to goes on its wire.
+  -- The decision is taken, and if the client is there the board that it leads to goes on its wire.
   joint_took : (w w' : World) (t rest : List ℕ) (a : Ask) (b : Board) → Joint [] w → 0 < w.logged_in
       → (cur : Current (nat_eq (open_now w.log) w.logged_in) (view w w.logged_in) w.board
       (waiting [] (w.links w.logged_in)))

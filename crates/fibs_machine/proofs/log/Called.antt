@@ -1,4 +1,4 @@
--- Each decision sent stands directly after what calls for it, and what calls for one is directly followed by it.
+-- Each decision sent comes directly after what calls for it, and what calls for one is directly followed by it.
 use Rattle.std.proofs.Common.{◌≡◌, ℕ, Bool, true, false, List, [], ◌∷◌, ◌++◌, Option, Some, None, nat_eq, refl}
 use Rattle.std.proofs.Common.{sym, ◌∙◌, ap, subst, append-nil, append_assoc}
 use Rattle.fibs_boards.specs.Board.{BoardFields as Board}
@@ -19,7 +19,7 @@ abbrev pub roll_if : ℕ → Bool → Option Call
 roll_if c true = Some (c, roll)
 roll_if c false = None
 
--- what an entry calls for, behind the log before it
+-- what an entry calls for, after the log before it
 abbrev pub calls_for : List Entry → Entry → Option Call
 calls_for before (Clicked c d None) = Some (c, d)
 calls_for before (Shown c b) = roll_if c (is_due c (before ++ Shown c b ∷ []) b)
@@ -68,7 +68,7 @@ order_calls c c' d true h =
     let same = one_call (c', roll) (c, d) h in (refl, ap (λ (x : Call). x.0) same, ap (λ (x : Call). x.1) same)
 order_calls c c' d false h = absurd cc
 
--- where the board of an entry is the last one shown on its connection, and is shown on the open one
+-- if the board of an entry is the last one shown on its connection, and is shown on the open one
 abbrev IsShown : ℕ → Board → List Entry → Entry → Type 0
 IsShown c b before (Shown c' b') = (c' ≡ open_now before) × (c' ≡ c → b' ≡ b)
 IsShown c b before e = Unit {0}
@@ -113,7 +113,7 @@ abbrev pub AllShownHere : List Entry → Type 0
 AllShownHere log =
     (before later : List Entry) (c : ℕ) (b : Board) → log ≡ before ++ Shown c b ∷ later → c ≡ open_now before
 
--- each decision stands directly after what it answers
+-- each decision comes directly after what it answers
 pub own_of : (log : List Entry) → Called None [] log → AllShownHere log → AllOnShown log → AllAnswerTheirs log
 own_of log h here on before later c b d is = go None [] before refl tt (subst (Called None []) is h)
   where

@@ -1,4 +1,4 @@
--- What is so where a standing order is due at a board just shown.
+-- What is so if a standing order is due at a board just shown.
 use Rattle.std.proofs.Common.{◌≡◌, ℕ, true, false, List, [], ◌∷◌, ◌++◌, Some, None, sym, ◌∙◌, ap, subst}
 use Rattle.fibs_boards.specs.Board.{BoardFields as Board}
 use Rattle.fibs_position.specs.DecisionValue.{roll}

@@ -1,4 +1,4 @@
--- What holds of each entry of a log, behind the entries before it.
+-- What holds of each entry of a log, after the entries before it.
 use Rattle.std.proofs.Common.{◌≡◌, List, [], ◌∷◌, ◌++◌, Some, sym, subst, append-nil, append_assoc}
 use Rattle.fibs_position.specs.GamePart.{same_game}
 use Rattle.fibs_history.specs.Log.{Entry, Shown, Clicked, Sent}
@@ -15,7 +15,7 @@ Fits before (Clicked c d a) = (c ≡ open_now before) × (a ≡ answer same_game
 Fits before (Sent c b d) = last (shown c before) ≡ Some b
 Fits before e = Unit {0}
 
--- so it is with each of the entries later, behind those before
+-- so it is with each of the entries later, after those before
 abbrev pub AllFit : List Entry → List Entry → Type 0
 AllFit before [] = Unit {0}
 AllFit before (e ∷ later) = Fits before e × AllFit (before ++ e ∷ []) later

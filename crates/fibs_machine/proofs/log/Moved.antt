@@ -41,7 +41,7 @@ each_fails p (x ∷ xs) y ys h = step (p x) _ (each_fails p xs y ys h)
     step true b h = h
     step false b h = refl
 
--- the log has moved on from its last decision, where a board unlike it is shown after it
+-- the log has moved on from its last decision, if a board unlike it is shown after it
 moved_at : (like : Board → Board → Bool) (c : ℕ) (before rest : List Entry) (b : Board) (d : Decision)
     → sent c rest ≡ [] → each (like b) (shown c rest) ≡ false → has_moved_on like c (before ++ Sent c b d ∷ rest) ≡ true
 moved_at like c [] rest b d h k =
@@ -61,7 +61,7 @@ moved_at like c (Sent e b' m ∷ before) rest b d h k =
     pass false e z x p q = q
 moved_at like c (x ∷ before) rest b d h k = moved_at like c before rest b d h k
 
--- where at most the last of a list is missing, what stands before others is not
+-- if at most the last of a list is missing, what is before others is not
 front : (t : List Ask) (p : Option Ask) (xs : List Ask) (y : Ask) (r : List Ask) → t ++ to_list p ≡ xs ++ y ∷ r
     → is_empty r ≡ false → IsPrefixOf (xs ++ y ∷ []) t
 front t None xs y r h k = (r, append_assoc xs (y ∷ []) r ∙ sym h ∙ append-nil t)

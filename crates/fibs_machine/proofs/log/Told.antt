@@ -34,7 +34,7 @@ abbrev pub AllPass : List Board → Type 0
 AllPass [] = Unit {0}
 AllPass (b ∷ rest) = (is_good b ≡ true) × AllPass rest
 
--- what is told of a log
+-- what holds of a log
 pub record Told (log : List Entry) : Type 0 where
   pub seen : (c : ℕ) → AllPass (shown c log)
   pub legal : (c : ℕ) → AllAllowed (sent c log)
@@ -143,7 +143,7 @@ order_more c xs ys o k i h =
     order_front c xs ys o i (let e : took c (xs ++ ys) ≡ took c xs = map_no_more (took_by c) xs ys k in
     subst (λ (l : List Ask). i < length l) e h)
 
--- one more takes effect, where fewer took effect than were sent
+-- one more takes effect, if fewer took effect than were sent
 order_took : (c : ℕ) (xs : List Entry) (b : Board) (d : Decision) → InOrder c xs
     → length (took c xs) < length (sent c xs) → InOrder c (xs ++ Took c b d ∷ [])
 order_took c xs b d o lt i h =
@@ -200,7 +200,7 @@ one_good : (b : Board) (z : Bool) → is_good b ≡ true → AllPass (one_if z b
 one_good b true h = (h, tt)
 one_good b false h = tt
 
--- what is told of a plain entry alone
+-- what holds of a plain entry alone
 plain_told : (log : List Entry) (e : Entry) → IsPlain e
     → Called None log (e ∷ []) × NoneUndone (e ∷ []) × AllFit log (e ∷ [])
     × ((c : ℕ) → (sent c (e ∷ []) ≡ []) × (took c (e ∷ []) ≡ []) × AllPass (shown c (e ∷ [])))
@@ -217,7 +217,7 @@ plain_told log (Sent c b d) h = absurd h
 plain_told log (Took c b d) h = absurd h
 plain_told log (Undone c b d) h = absurd h
 
--- what is told of a log and of more entries is told of both
+-- what holds of a log and of more entries holds of both
 grown : (log es : List Entry) → Told log → Called None log es → NoneUndone es → AllFit log es
     → ((c : ℕ) → AllPass (shown c es)) → ((c : ℕ) → AllAllowed (sent c es)) → ((c : ℕ) → InOrder c (log ++ es))
     → Told (log ++ es)

@@ -61,7 +61,7 @@ module _ (law : Lawful) where
       ∙ sym (append_assoc (lines_of (on_wire t)) (lines_of (flat_map on_wire ts)) (lines_of y))
       ∙ ap (λ l. l ++ lines_of y) (sym (law.alone t (flat_map on_wire ts)).lines)
 
-  -- one more line on the wire is gained behind the others
+  -- one more line on the wire is gained after the others
   pub gained_more : (a b t : List ℕ) → Whole (a ++ b) → gained a (b ++ on_wire t) ≡ gained a b ++ lines_of (on_wire t)
   gained_more a b t h = gained_is a (b ++ on_wire t) _
       (ap lines_of (sym (append_assoc a b (on_wire t)))
@@ -84,7 +84,7 @@ module _ (law : Lawful) where
   pub gained_none : (a : List ℕ) → gained a [] ≡ []
   gained_none a = gained_is a [] [] (ap lines_of (append-nil a) ∙ sym (append-nil (lines_of a)))
 
-  -- one more line behind whole lines
+  -- one more line after whole lines
   pub whole_more : (a b t : List ℕ) → Whole (a ++ b) → Whole (a ++ (b ++ on_wire t))
   whole_more a b t h = (
     h.0 ++ t ∷ [],
@@ -117,7 +117,7 @@ module _ (law : Lawful) where
       let p = law.prints_line b h in
       ap (boards) p.1 ∙ append-nil _ ∙ ap (board_of) p.2 ∙ ap (λ t. one_if t b) h
 
-  -- what does not read as a good board is none
+  -- what does not read as a good board gives no board
   no_board : (x : ReadingValue) → reads_as_board x ≡ false → board_of x ≡ []
   no_board (board_line b) h = ap (λ t. one_if t b) h
   no_board (numbered_line m) h = refl

@@ -5,7 +5,7 @@ use Rattle.fibs_machine.specs.Wires.{next_line, put}
 use Rattle.fibs_machine.proofs.Lawful.{NoReturn}
 use Rattle.fibs_history.specs.Machine.{on_wire}
 
--- a byte that is no CR stands in the line
+-- a byte that is no CR is in the line
 no_return_step : (b : ℕ) (c : ℕ) (bytes : List ℕ) → nat_eq b 13 ≡ false
     → next_line (b ∷ c ∷ bytes) ≡ put b (next_line (c ∷ bytes))
 unfolding next_line
@@ -18,7 +18,7 @@ line_whole [] more h = refl
 line_whole (b ∷ []) more h = no_return_step b 13 (10 ∷ more) h.0 ∙ ap (put b) (line_whole [] more tt)
 line_whole (b ∷ c ∷ t) more h = no_return_step b c (on_wire t ++ more) h.0 ∙ ap (put b) (line_whole (c ∷ t) more h.1)
 
--- a part of it is none
+-- a part of it is not a whole line
 pub line_cut : (t : List ℕ) (k : ℕ) → NoReturn t → k < length (on_wire t) → next_line (take k (on_wire t)) ≡ None
 unfolding next_line
 line_cut [] zero h lt = refl

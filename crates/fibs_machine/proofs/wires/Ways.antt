@@ -34,14 +34,14 @@ quiet_more : (ts us : List (List ℕ)) → AllQuiet ts → AllQuiet us → AllQu
 quiet_more [] us h k = k
 quiet_more (t ∷ ts) us h k = (h.0, quiet_more ts us h.1 k)
 
--- more such commands behind those on their way
+-- more such commands after those on their way
 queue_more : (p : Option Ask) (ts us : List (List ℕ)) → Queue p ts → AllQuiet us → Queue p (ts ++ us)
 queue_more None ts us h k = quiet_more ts us h k
 queue_more (Some a) [] us h k = absurd h
 queue_more (Some a) (t ∷ ts) us h k =
     elim h [ inl q ↦ inl (q.0, queue_more (Some a) ts us q.1 k) | inr q ↦ inr (q.0, q.1, quiet_more ts us q.2 k) ]
 
--- a decision behind commands that are none
+-- a decision after commands that are none
 queue_decision : (a : Ask) (ts : List (List ℕ)) → NoReturn (command a.0 a.1) → AllQuiet ts
     → Queue (Some a) (ts ++ command a.0 a.1 ∷ [])
 queue_decision a [] n h = inr (refl, n, tt)
@@ -141,7 +141,7 @@ module _ (law : Lawful) where
   texts_of (Some a) (t ∷ ts) q =
       elim q [ inl h ↦ (h.0.text, texts_of (Some a) ts h.1) | inr h ↦ (h.1, quiet_texts ts h.2) ]
 
-  -- while the connection is open, where no line is left to serve, nothing is on its way
+  -- while the connection is open, if no line is left to serve, nothing is on its way
   pub way_served : (p : Option Ask) (asked : List ℕ) → OnWay true p asked → next_line asked ≡ None → asked ≡ []
   way_served p asked w h = let x = whole p asked w in go w.ts x.0 (texts_of p w.ts x.1)
     where

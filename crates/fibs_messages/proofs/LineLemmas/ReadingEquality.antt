@@ -1,4 +1,4 @@
--- Two readings are equal exactly where they say the same.
+-- Two readings are equal exactly if they say the same.
 use Rattle.std.proofs.Common.{◌≡◌, ℕ, List, [], ap, refl, arith}
 use Rattle.std.specs.Prelude.{◌==◌, ◌&&◌}
 use Rattle.std.specs.Bool.{Decides}
@@ -13,7 +13,7 @@ use Rattle.fibs_boards.specs.StoredBoard.{fields_of}
 use Rattle.fibs_boards.specs.contracts.board.BoardPartialEq.TheImpl.{eq-value as board_eq}
 use Rattle.fibs_fields.specs.contracts.fault.FaultPartialEq.TheImpl.{eq-value as fault_eq}
 use Rattle.fibs_messages.specs.contracts.line.ReadingPartialEq.TheImpl.{eq-value as reading_eq}
-use Rattle.fibs_messages.specs.contracts.messages.message.MessagePartialEq.TheImpl.{eq-value as message_eq}
+use Rattle.fibs_messages.specs.contracts.message.MessagePartialEq.TheImpl.{eq-value as message_eq}
 use Rattle.fibs_fields.specs.declared.fault.Fault.{Fault}
 use Rattle.fibs_fields.specs.declared.fault.Fault.TheVariants.{Missing, Extra, NotANumber, OutOfRange, BadName}
 use Rattle.fibs_messages.specs.declared.line.Reading.{Reading}

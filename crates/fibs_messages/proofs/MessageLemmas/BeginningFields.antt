@@ -41,7 +41,7 @@ name_begins text n is some few = record {
 
 -- ---- words
 
--- no space stands before the first
+-- no space is before the first
 before_no : (c : ℕ) (s : List ℕ) → has_no c (before c s) ≡ true
 before_no c [] = refl
 before_no c (b ∷ s) = elim (cases_eq b c) [
@@ -49,7 +49,7 @@ before_no c (b ∷ s) = elim (cases_eq b c) [
   | inr n ↦ rw (ne_eqb b c n) (rw (ne_eqb b c n) (before_no c s))
 ]
 
--- what stands before the first space is a word, where it is not empty
+-- what is before the first space is a word, if it is not empty
 pub word_begins : (text w : List ℕ) (n : ℕ) → w ≡ before 32 text → n ≡ length w → 0 < n → Begins a_word text n
 unfolding canonical_field
 word_begins text w n is long some =
@@ -83,7 +83,7 @@ tail_begins text some plain = record {
   printed = ap (λ (s : List ℕ). 32 ∷ s) (take_all (length text) text (omega arith));
 }
 
--- a text that is not empty is printed behind its space
+-- a text that is not empty is printed after its space
 text_printed : (text : List ℕ) → 0 < length text → 32 ∷ text ≡ canonical_field (TextField text)
 unfolding canonical_field
 text_printed [] some = absurd (omega arith)

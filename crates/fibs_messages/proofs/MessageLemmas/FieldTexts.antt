@@ -27,7 +27,7 @@ numbered_ok (Err f) i v e = absurd cc
 
 -- ---- one field that was read
 
--- the field x.0 stands at the front of what is left, and x.1 after it
+-- the field x.0 is at the front of what is left, and x.1 after it
 pub record Takes (k : Kind) (o : Option (List ℕ)) (x : FieldValue × Left) : Type 0 where
   pub text : List ℕ
   pub field : FieldText x.0 text
@@ -35,7 +35,7 @@ pub record Takes (k : Kind) (o : Option (List ℕ)) (x : FieldValue × Left) : T
   pub separator : x.1 ≡ left 32 x.1.rest
   pub kind : kind_of x.0 ≡ k
 
--- a field where nothing is left
+-- a field if nothing is left
 absent_text : (k : Kind) (i : ℕ) (x : FieldValue × Left) → field_at k i (left 32 None) ≡ Ok x → Takes k None x
 unfolding field_at text_at value_in
 absent_text (the_word word) i x e = absurd cc
@@ -133,7 +133,7 @@ fraction_no_space s h rating.no_fraction = refl
 fraction_no_space s h (rating.tenths {d} lt) = rw (not_a_space d) refl
 fraction_no_space s h (rating.hundredths {d} {e} lt lu) = rw (not_a_space d, not_a_space e) refl
 
--- a text and a tail stand last
+-- a text and a tail come last
 abbrev pub TextLast : List Kind → Type 0
 TextLast [] = Unit {0}
 TextLast (k ∷ ks) = (takes_rest k ≡ true → ks ≡ []) × TextLast ks
@@ -173,7 +173,7 @@ word_no_space (RatingField r) text h k =
     (fraction_no_space t.fraction t.hundreds t.fraction_text))
 word_no_space (TextField s) text h k = absurd cc
 
--- a word behind its space
+-- a word after its space
 word_again : (v : FieldValue) (text rest : List ℕ) (i : ℕ) → Spells v text → HeadIs 32 rest
     → (takes_rest (kind_of v) ≡ true → rest ≡ [])
     → field_at (kind_of v) i (left 32 (Some (text ++ rest))) ≡ Ok (v, left 32 (opened rest))

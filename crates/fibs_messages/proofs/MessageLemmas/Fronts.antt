@@ -3,7 +3,7 @@ use Rattle.std.proofs.Common.{◌≡◌, ◌∙◌, ℕ, List, ◌++◌, length,
 use Rattle.std.proofs.lemmas.List.{take-append-drop}
 use Rattle.std.proofs.Math.Seq.{take-append_seam}
 
--- what stood at the front before stands there after two steps
+-- what was at the front before is there after two steps
 pub front_kept : (old more begun added now new : List ℕ) → begun ≡ old ++ more → now ≡ begun ++ added
     → take (length now) new ≡ now → take (length old) new ≡ old
 front_kept old more begun added now new first then kept =

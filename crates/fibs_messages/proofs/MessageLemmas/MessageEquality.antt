@@ -1,21 +1,21 @@
--- Two messages are equal exactly where they have one number and the same fields.
+-- Two messages are equal exactly if they have one number and the same fields.
 use Rattle.std.proofs.Common.{◌≡◌, ℕ, List, [], ◌∷◌, ap, arith}
 use Rattle.std.specs.Bool.{Decides}
 use Rattle.std.proofs.lemmas.Bool.Decides.{Decides-like}
 use Rattle.fibs_fields.specs.Bytes.{name_bytes, word_bytes}
 use Rattle.fibs_fields.specs.Field.{FieldValue, NameField, WordField, NumberField, TextField}
 use Rattle.fibs_messages.specs.Message.{MessageValue, message, message_of, own_info_fields, who_info_fields}
-use Rattle.fibs_messages.specs.contracts.messages.message.MessagePartialEq.TheImpl.{eq-value}
-use Rattle.fibs_messages.specs.declared.messages.message.Message.{Message}
-use Rattle.fibs_messages.specs.declared.messages.message.Message.TheVariants.{Welcome, OwnInfo, MotdBegin, MotdEnd}
-use Rattle.fibs_messages.specs.declared.messages.message.Message.TheVariants.{WhoInfo, WhoInfoEnd, Login, Logout}
-use Rattle.fibs_messages.specs.declared.messages.message.Message.TheVariants.{MessageReceived, MessageDelivered}
-use Rattle.fibs_messages.specs.declared.messages.message.Message.TheVariants.{MessageSaved, Says, Shouts, Whispers}
-use Rattle.fibs_messages.specs.declared.messages.message.Message.TheVariants.{Kibitzes, YouSay, YouShout, YouWhisper}
-use Rattle.fibs_messages.specs.declared.messages.message.Message.TheVariants.{YouKibitz}
+use Rattle.fibs_messages.specs.contracts.message.MessagePartialEq.TheImpl.{eq-value}
+use Rattle.fibs_messages.specs.declared.message.Message.{Message}
+use Rattle.fibs_messages.specs.declared.message.Message.TheVariants.{Welcome, OwnInfo, MotdBegin, MotdEnd}
+use Rattle.fibs_messages.specs.declared.message.Message.TheVariants.{WhoInfo, WhoInfoEnd, Login, Logout}
+use Rattle.fibs_messages.specs.declared.message.Message.TheVariants.{MessageReceived, MessageDelivered}
+use Rattle.fibs_messages.specs.declared.message.Message.TheVariants.{MessageSaved, Says, Shouts, Whispers}
+use Rattle.fibs_messages.specs.declared.message.Message.TheVariants.{Kibitzes, YouSay, YouShout, YouWhisper}
+use Rattle.fibs_messages.specs.declared.message.Message.TheVariants.{YouKibitz}
 use Rattle.fibs_fields.proofs.FieldLemmas.Equality.{never, same_values, same_values_decides}
 
--- messages of one number are equal exactly where their fields are
+-- messages of one number are equal exactly if their fields are
 one_number : (n : ℕ) (us vs : List FieldValue) → Decides (same_values us vs) (message n us ≡ message n vs)
 one_number n us vs =
     Decides-like (same_values us vs) (λ e i. message n (e i)) (ap (λ m. m.fields)) (same_values_decides us vs)

@@ -27,7 +27,7 @@ use Rattle.fibs_fields.proofs.FieldLemmas.Spaces.{EndsPlain, ends_append, withou
 use Rattle.fibs_fields.proofs.FieldLemmas.Spaces.{spaces_after}
 use Rattle.fibs_fields.proofs.FieldLemmas.Splits.{behind, opened, HeadIs, before-behind, has_no, cut_off, append_head}
 
--- ---- the fields' text ends without a space, where none is a text
+-- ---- the fields' text ends without a space, if none is a text
 
 -- a text that ends in no space, and is not nothing
 pub record Ends (text : List ℕ) : Type 0 where
@@ -107,7 +107,7 @@ pub spaces_head : (n : ℕ) → HeadIs 32 (replicate n 32)
 spaces_head zero = tt
 spaces_head (suc n) = refl
 
--- what stands before the first c, with more behind it
+-- what is before the first c, with more after it
 pub before-append : (c : ℕ) (w s : List ℕ) → HeadIs c s → before c (w ++ s) ≡ before c w
 before-append c [] [] h = refl
 before-append c [] (b ∷ s) h = rw (eq-eqb b c h) refl
@@ -155,7 +155,7 @@ line_reads m line t =
           ∙ fields_complete m.fields t.text 1 t.fields last);
     }
 
--- what is kept, and the spaces behind it
+-- what is kept, and the spaces after it
 pub record Kept (n : ℕ) (line : List ℕ) : Type 0 where
   pub spaces : ℕ
   pub none : drops_spaces n ≡ false → spaces ≡ 0

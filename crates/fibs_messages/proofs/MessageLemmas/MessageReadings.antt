@@ -58,7 +58,7 @@ faults k f = record { field = k; fault = f }
 faults_same : (j k : ℕ) (f g : Fault) → j ≡ k → f ≡ g → faults j f ≡ faults k g
 faults_same j k f g p q i = record { field = p i; fault = q i }
 
--- what is read is told of the texts
+-- what is read holds of the texts
 told : (line : List ℕ) (n : ℕ) (r : Fields) → fields_at (kinds_of n) 1 (left 32 (after 32 (kept n line))) ≡ r
     → Tells (kinds_of n) 1 (texts_for (kinds_of n) 32 (after 32 (kept n line))) r
 told line n r e =

@@ -14,7 +14,7 @@ abbrev is_nil : List Kind → Bool
 is_nil [] = true
 is_nil (k ∷ ks) = false
 
--- a text and a tail stand last, as a test
+-- a text and a tail come last, as a test
 abbrev text_last : List Kind → Bool
 text_last [] = true
 text_last (k ∷ ks) = (not (takes_rest k) || is_nil ks) && text_last ks
@@ -88,7 +88,7 @@ last_is n =
     TextLast-from (kinds_of n)
     (and_parts (text_last (kinds_of n)) (not (drops_spaces n) || has_all (kinds_of n)) (others_are n)).0
 
--- where spaces are dropped there is no text
+-- if spaces are dropped there is no text
 pub no_text_where_dropped : (n : ℕ) → drops_spaces n ≡ true → has_all (kinds_of n) ≡ true
 no_text_where_dropped n e =
     elim

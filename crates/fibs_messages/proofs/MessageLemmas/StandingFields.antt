@@ -1,4 +1,4 @@
--- A line of which each field stands as it is printed is the canonical line of its message.
+-- A line of which each field is as it is printed is the canonical line of its message.
 use Rattle.std.proofs.Common.{◌≡◌, ◌∙◌, ℕ, suc, ◌+◌, ◌<◌, List, [], ◌∷◌, ◌++◌, decimal, length, get_or, take, drop}
 use Rattle.std.proofs.Common.{replicate, Option, Some, None, refl, sym, ap, arith, append_assoc}
 use Rattle.std.proofs.Common.{take-append-drop}
@@ -30,7 +30,7 @@ goes_on_after text rest n within space is =
     ∙ (ap (λ (c : ℕ). c ∷ drop (suc n) text) space
     ∙ ap (λ (s : List ℕ). 32 ∷ s) (ap (λ (k : ℕ). drop k text) (sym (add-one n)) ∙ sym is)))
 
--- a field that begins a text, and what stands after it
+-- a field that begins a text, and what is after it
 pub field_stands : (k : Kind) (text : List ℕ) (n : ℕ) (rest : Option (List ℕ)) → Begins k text n
     → text ≡ take n text ++ after_space rest → Stands k (Some text) rest
 field_stands k text n rest begins parts = record {
@@ -59,7 +59,7 @@ printed_more (x ∷ xs) v rest =
     ∙ (ap (λ (s : List ℕ). canonical_field x ++ s) (printed_more xs v rest)
     ∙ sym (append_assoc (canonical_field x) (flat_map canonical_field (xs ++ v ∷ [])) rest))
 
--- one more field stands as it is printed
+-- one more field is as it is printed
 pub one_more_stands : (ks : List Kind) (k : Kind) (o p q : Option (List ℕ)) → AllStand ks o p → Stands k p q
     → AllStand (ks ++ k ∷ []) o q
 one_more_stands ks k o p q all this = record {
@@ -72,12 +72,12 @@ one_more_stands ks k o p q all this = record {
       ∙ printed_more all.values this.value (after_space q));
 }
 
--- what is left with its space is what is put behind
+-- what is left with its space is what is put after
 behind_space : (o : Option (List ℕ)) → behind 32 o ≡ after_space o
 behind_space None = refl
 behind_space (Some s) = refl
 
--- the message of a line of which all fields stand so
+-- the message of a line of which all fields are so
 pub standing_line : (line : List ℕ) (n : ℕ) → number_word (before 32 line) ≡ Some n
     → AllStand (kinds_of n) (after 32 (kept n line)) None
     → (m : MessageValue) × MessageText m line × (kept n line ≡ canonical m)

@@ -17,7 +17,7 @@ use Rattle.fibs_model.specs.WorldOf.{WorldValue, StandsFor}
 use Rattle.fibs_machine.specs.declared.refusal.WorldRefusal.TheVariants.{BadBoard}
 use Rattle.fibs_machine.proofs.Projection.{talk_is_projected}
 
--- it stands for the machine's
+-- it corresponds to the machine's
 pub new_stands : (v : WorldValue) (login : List ℕ) (b : BoardFields) → v.server.board ≡ b → v.server.logged_in ≡ 0
     → v.links ≡ [] → v.log ≡ [] → v.current ≡ 0 → StandsAfter v.client (M.start login)
     → StandsFor v login (start b)

@@ -103,7 +103,7 @@ pub deliver_open : (v : WorldValue) (login : List ℕ) (w : World) (n : ℕ) →
 deliver_open v login w n s may = let some =
     is_open NotOpen (open_now w.log) (may login w s) in omega (arith, some, s.current)
 
--- where there is room for what the next bytes of a connection may add, there is for what that piece may
+-- if there is room for what the next bytes of a connection may add, there is for what that piece may
 pub room_next : (links : List C.Link) (c : ℕ) (l : C.Link) → 0 < c → c ≤ length links → l ≡ get_or links (c - 1) l
     → (client : ClientValue) (n len capacity : ℕ) → RoomForNext client c n links len capacity
     → RoomForPiece client c (take n l.to_client.items) len capacity l.to_server.room

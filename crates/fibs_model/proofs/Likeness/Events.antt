@@ -1,4 +1,4 @@
--- What each event has of the world for which one stands.
+-- What each event has of the machine's world, to which the program's corresponds.
 use Rattle.std.proofs.Common.{◌≡◌, ◌≤◌, ℕ, List, [], ◌∷◌, ◌++◌, Some, None, length, map, sym, ap, subst, inl, inr, ◌∙◌}
 use Rattle.std.proofs.Common.{arith}
 use Rattle.std.proofs.lemmas.List.{map_push}

@@ -338,7 +338,7 @@ no_roll conn (numbered_line m) = refl
 no_roll conn (text_line t) = refl
 no_roll conn (malformed_line n k f) = refl
 
--- What a line gives is its entry, and the roll where one was sent.
+-- What a line gives is its entry, and the roll if one was sent.
 module _ (conn : ℕ) (r : ReadingValue) (first : List Entry)
     (given : (before : List Entry)
     → (heard conn before r).entries ≡ first ++ roll_entries conn r (heard conn before r).rolled) where

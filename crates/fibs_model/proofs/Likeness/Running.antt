@@ -13,7 +13,7 @@ use Rattle.fibs_model.specs.WorldCalls.{WorldStandsAfter, machine_after, Tells, 
 use Rattle.fibs_model.specs.WorldOf.{WorldValue}
 use Rattle.fibs_machine.specs.declared.refusal.WorldRefusal.{WorldRefusal}
 
--- the headline holds of a world that stands
+-- the headline holds of a world that is reached
 pub headline_of : HeadlineHolds → (v : WorldValue) (name password : List ℕ) (first : BoardFields) (es : List Event)
     → WorldStandsAfter v name password first es
     → Headline (machine_after name password first es)

@@ -41,7 +41,7 @@ pub length_sent : (l c : ℕ) (links : List LinkValue) (line : List ℕ) → len
 length_sent l c links line = if_fact (λ ls. length ls ≡ length links) (nat_eq c l && not (nat_eq l 0)) _ _
     (λ z. length_set_link links c _) (λ z. refl)
 
--- the wires after it, where l is logged in, and c open
+-- the wires after it, if l is logged in, and c open
 pub sent_links : (w : World) (links : List LinkValue) (l c : ℕ) (line : List ℕ)
     → ((d : ℕ) → kept_of (w.links d) ≡ link_at links d) → l ≡ w.logged_in → c ≡ open_now w.log → c ≤ length links
     → (d : ℕ) → kept_of ((sends w line).links d) ≡ link_at (send_links l c links line) d

@@ -53,7 +53,7 @@ fits_sends server links log current w line known f =
       links = sent_links w links server.logged_in current line f.links f.logged_in f.current known;
     }
 
--- a line of c is answered, where w is the world without the line
+-- a line of c is answered, if w is the world without the line
 fits_served : (server : ServerValue) (links : List LinkValue) (log : List Entry) (current c : ℕ) (w : World)
     (s : Served) → current ≤ length links → Fits server links log current w
     → Fits (after_line server c s)

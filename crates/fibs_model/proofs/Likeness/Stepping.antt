@@ -23,7 +23,7 @@ use Rattle.fibs_machine.specs.declared.refusal.WorldRefusal.TheVariants.{Memory,
 use Rattle.fibs_machine.specs.declared.refusal.WorldRefusal.TheVariants.{NothingToServe, UserDecides, BoardAsText}
 use Rattle.fibs_machine.specs.declared.refusal.WorldRefusal.TheVariants.{BadBoard, BadDice}
 
--- The table of refusals has no want of memory.
+-- The table of refusals does not say that memory ran out.
 
 -- it is another refusal
 abbrev pub IsTold : Option WorldRefusal → Type 0
@@ -51,7 +51,7 @@ told w (Text t) = if_told (is_board_text (lines_of (on_wire t))) _ _ tt tt
 told w Order = tt
 told w Withdraw = tt
 
--- what the table tells is told
+-- what the table says is answered
 pub tells : (why : WorldRefusal) (answer : Option WorldRefusal) → IsTold answer → Some why ≡ answer
     → Agrees (Some why) answer
 tells Memory answer t e = absurd (subst IsTold (sym e) t)
@@ -99,7 +99,7 @@ world_more : (login : List ℕ) (first : BoardFields) (es : List Event) (e : Eve
 unfolding world_after
 world_more login first es e = after_more login (start first) es e
 
--- the world stands for the machine's
+-- the world corresponds to the machine's
 pub stands_for : (v : WorldValue) (name password : List ℕ) (first : BoardFields) (es : List Event)
     → WorldStandsAfter v name password first es
     → StandsFor v (login_text name password) (machine_after name password first es)

@@ -16,7 +16,7 @@ pub kept_if : (b : Bool) (l m : Link) → kept_of (if b then l else m) ≡ (if b
 kept_if true l m = refl
 kept_if false l m = refl
 
--- where the server took a line, it took something
+-- if the server took a line, it took something
 pub some_taken : (served text : List ℕ) → is_empty (served ++ on_wire text) ≡ false
 some_taken [] [] = refl
 some_taken [] (b ∷ text) = refl

@@ -19,7 +19,7 @@ several : (l last : ReadLine) (more : List ReadLine) → is_board_text (l ∷ mo
 several l last [] = refl
 several l last (m ∷ more) = refl
 
--- of one line in front and more behind it there is one line in all only where nothing is behind it
+-- of one line in front and more after it there is one line in all only if nothing is after it
 single : (l last : ReadLine) (more : List ReadLine) → l ∷ more ≡ last ∷ [] → l ≡ last
 single l last more e = cc
 
@@ -42,7 +42,7 @@ module _ (text : List ℕ) (empty : EmptyStreamHasNoLine) (grow : LinesOnlyGrow)
       let last = end text in
       sym (ap is_board_text (last.1 ∙ ap (λ ls. ls ++ last.0 ∷ []) whole) ∙ several l last.0 more.0)
 
-  -- where no line was lent, all of the text was read, and it has none
+  -- if no line was lent, all of the text was read, and it has none
   pub none_within : (fed : Fed) (line : Option Line) → Feeds [] text fed → fed.line ≡ line → is_some line ≡ false
       → (take fed.used text ≡ text) × (lines_of text ≡ [])
   none_within fed None feeds is there =

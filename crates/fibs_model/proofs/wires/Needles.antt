@@ -28,39 +28,39 @@ both b c test = grind arith
 passes : (b c : ℕ) → b ≡ 13 → c ≡ 10 → is_pair b c ≡ true
 passes b c e f = grind arith
 
--- where the two bytes in front are CR LF, it occurs there
+-- if the two bytes in front are CR LF, it occurs there
 occurs_here : (b c : ℕ) (bytes : List ℕ) → is_pair b c ≡ true → OccursAt (b ∷ c ∷ bytes) line_end 0
 occurs_here b c bytes test =
     let e = both b c test in
     record { fits = omega arith; reads = reads_pair b c bytes e.0 e.1 }
 
--- where it occurs there, they are
+-- if it occurs there, they are
 here_occurs : (b c : ℕ) (bytes : List ℕ) → OccursAt (b ∷ c ∷ bytes) line_end 0 → is_pair b c ≡ true
 here_occurs b c bytes o = passes b c (o.reads 0 (omega arith)) (o.reads 1 (omega arith))
 
--- one place later behind a byte
+-- one place later after a byte
 later : (b : ℕ) (bytes : List ℕ) (k j : ℕ) → slice_index (b ∷ bytes) (suc k + j) ≡ slice_index bytes (k + j)
 later b bytes k j =
     let e : suc k + j ≡ suc (k + j) = omega arith in
     ap (λ n. slice_index (b ∷ bytes) n) e
 
--- CR LF behind a byte is CR LF one place later
+-- CR LF after a byte is CR LF one place later
 occurs_behind : (b : ℕ) (bytes : List ℕ) (k : ℕ) → OccursAt bytes line_end k → OccursAt (b ∷ bytes) line_end (suc k)
 occurs_behind b bytes k o =
     record { fits = omega (arith, o.fits); reads = λ j below. later b bytes k j ∙ o.reads j below }
 
--- and one place later is behind the byte
+-- and one place later is after the byte
 behind_occurs : (b : ℕ) (bytes : List ℕ) (k : ℕ) → OccursAt (b ∷ bytes) line_end (suc k) → OccursAt bytes line_end k
 behind_occurs b bytes k o =
     record { fits = omega (arith, o.fits); reads = λ j below. sym (later b bytes k j) ∙ o.reads j below }
 
--- the whole line where the two bytes in front are no CR LF
+-- the whole line if the two bytes in front are no CR LF
 no_pair : (b c : ℕ) (bytes : List ℕ) → is_pair b c ≡ false → next_line (b ∷ c ∷ bytes) ≡ put b (next_line (c ∷ bytes))
 unfolding next_line
 no_pair b c bytes test =
     ap (λ pair. if pair then Some ([], bytes) else put b (next_line (c ∷ bytes))) test
 
--- and where they are
+-- and if they are
 pair : (b c : ℕ) (bytes : List ℕ) → is_pair b c ≡ true → next_line (b ∷ c ∷ bytes) ≡ Some ([], bytes)
 unfolding next_line
 pair b c bytes test = ap (λ pair. if pair then Some ([], bytes) else put b (next_line (c ∷ bytes))) test
@@ -71,7 +71,7 @@ fails : (b c : ℕ) (bytes : List ℕ) (test : Bool) → is_pair b c ≡ test �
 fails b c bytes false e not = e
 fails b c bytes true e not = absurd (not (occurs_here b c bytes e))
 
--- where it occurs nowhere, there is no whole line
+-- if it occurs nowhere, there is no whole line
 pub none_found : (bytes : List ℕ) → ((k : ℕ) → ¬ OccursAt bytes line_end k) → next_line bytes ≡ None
 unfolding next_line
 none_found [] never = refl
@@ -80,7 +80,7 @@ none_found (b ∷ c ∷ bytes) never =
     no_pair b c bytes (fails b c bytes (is_pair b c) refl (never 0))
     ∙ ap (put b) (none_found (c ∷ bytes) (λ k o. never (suc k) (occurs_behind b (c ∷ bytes) k o)))
 
--- where it occurs first, the whole line ends
+-- if it occurs first, the whole line ends
 pub found : (bytes : List ℕ) (k : ℕ) → ((j : ℕ) → j < k → ¬ OccursAt bytes line_end j) → OccursAt bytes line_end k
     → next_line bytes ≡ Some (take k bytes, drop (k + 2) bytes)
 found [] k before o = absurd (omega (arith, o.fits))
@@ -104,7 +104,7 @@ searched bytes (Some k) h = found bytes k (λ j below. h.0.before j (omega arith
 ends_pair : (b c : ℕ) (bytes : List ℕ) → b ≡ 13 → c ≡ 10 → take 2 (b ∷ c ∷ bytes) ≡ line_end
 ends_pair b c bytes e f = cc
 
--- where it occurs, the bytes in front and it are those up to its end
+-- if it occurs, the bytes in front and it are those up to its end
 ends : (bytes : List ℕ) (k : ℕ) → OccursAt bytes line_end k → take (k + 2) bytes ≡ take k bytes ++ line_end
 ends [] k o = absurd (omega (arith, o.fits))
 ends (b ∷ []) k o = absurd (omega (arith, o.fits))

@@ -39,7 +39,7 @@ fn serve_refusal(
 }
 
 impl World {
-    /// Why the event may not be. Want of memory is no part of it.
+    /// Why the event may not be. That memory may run out is no part of it.
     pub(super) fn refusal(&self, event: &Event<'_>) -> Option<WorldRefusal>
         ensures { (login : List ℕ) (w : W.World) → StandsFor self.now login w →
             result ≡ refusal w (event_of event.now) }

@@ -1,4 +1,4 @@
--- The cells of a half tell what stands in it.
+-- The cells of a half tell what is in it.
 use Rattle.std.proofs.Common.{◌≡◌, ◌*◌, ◌==◌, ◌&&◌, ◌++◌, ℕ, Bool, true, false}
 use Rattle.std.proofs.Common.{cond}
 use Rattle.std.proofs.Common.{List, [], ◌∷◌, length, refl, sym, ◌∙◌, arith, nat_lt, append-nil}
@@ -39,7 +39,7 @@ cells-tell f g h k (p ∷ ps) u v e =
     let rest = cells-tell f g h k ps u v first.1 in
     ((first.0, rest.0), rest.1)
 
--- the same where nothing follows
+-- the same if nothing follows
 pub cells-alone-tell : (f g : ℕ → List ℕ) → ((p : ℕ) → length (f p) ≡ 3) → ((p : ℕ) → length (g p) ≡ 3) → (ps : List ℕ)
     → flat_map f ps ≡ flat_map g ps → AllOf (λ p. f p ≡ g p) ps
 cells-alone-tell f g h k ps e = (cells-tell f g h k ps [] [] (append-nil _ ∙ e ∙ sym (append-nil _))).0
@@ -51,7 +51,7 @@ length-cells f h [] = refl
 length-cells f h (p ∷ ps) = let here = h p in let rest = length-cells f h ps in
     omega (arith, length-append (f p) (flat_map f ps))
 
--- what stands at a place, on two boards
+-- what is at a place, on two boards
 abbrev pub SameAt : (ℕ → ℕ) → (ℕ → ℕ) → (ℕ → ℕ) → (ℕ → ℕ) → ℕ → Type 0
 SameAt own other own' other' p = (own p ≡ own' p) × (other p ≡ other' p)
 

@@ -15,7 +15,7 @@ column own other =
 abbrev filled : List ℕ → ℕ → ℕ
 filled cells i = cond (slice_index_or cells i 0 == 32) 0 1
 
--- how many checkers are seen: by their number, or as they stand
+-- how many checkers are seen: by their number, or as they are
 abbrev seen : List ℕ → ℕ
 seen cells = cond (nat_lt (slice_index_or cells 13 0) 58 && nat_lt 47 (slice_index_or cells 13 0))
     (10 * (slice_index_or cells 12 0 - 48) + (slice_index_or cells 13 0 - 48))

@@ -1,4 +1,4 @@
--- The lines of a half tell what stands in it.
+-- The lines of a half tell what is in it.
 use Rattle.std.proofs.Common.{◌≡◌, ◌++◌, ℕ, List, length}
 use Rattle.std.proofs.Common.{codes, refl, sym, ◌∙◌, ap, arith}
 use Rattle.std.specs.Prelude.{slice_index}
@@ -63,7 +63,7 @@ walls-tell a b c a' b' c' h k m e =
     let third = parts-tell c c' _ _ m (append_cancel_left (codes "|") _ _ second.1) in
     (first.0, second.0, third.0)
 
--- what stands at a place, on two boards, at a height
+-- what is at a place, on two boards, at a height
 abbrev pub SameCell : Checkers → Checkers → ℕ → ℕ → Type 0
 SameCell c d height place =
     stack (slice_index c.own place) (slice_index c.other place) height

@@ -54,7 +54,7 @@ pub mag-within : (m : ℕ) (z : ℤ) → m < 2 ^ 32 → Within m z → mag z < 2
 mag-within m (pos n) few h = omega (arith, ints, h.1)
 mag-within m (negsuc n) few h = absurd (omega (arith, ints, h.0))
 
--- it is told by its digits
+-- it is known by its digits
 pub number-tells : (m : ℕ) (y z : ℤ) → m < 2 ^ 32 → Within m y → Within m z → signed_decimal y ≡ signed_decimal z
     → y ≡ z
 number-tells m y z few h k e = signed_decimal_injective y z (mag-within m y few h) (mag-within m z few k) e
@@ -111,7 +111,7 @@ turn-lacks false false = refl
 pub turn_words-lacks : (turn colour : ℤ) → lacks 10 (turn_words turn colour) ≡ true
 turn_words-lacks turn colour = turn-lacks (int_eq turn (pos 0)) (int_eq turn colour)
 
--- it is told by its first letter
+-- it is known by its first letter
 abbrev whose_read : List ℕ → Whose
 whose_read text = cond (slice_index_or text 0 0 == 110) nobodys (cond
     (slice_index_or text 0 0 == 121) the_players the_opponents)
@@ -144,7 +144,7 @@ pub deed_in-lacks : (p : PositionValue) → lacks 10 (deed_in p) ≡ true
 unfolding deed_in
 deed_in-lacks p = deed-lacks (phase_in p) (may p accept) (may p double)
 
--- a phase is told by the fifth letter
+-- a phase is known by the fifth letter
 abbrev phase_read : List ℕ → Phase
 phase_read text = let letter = slice_index_or text 4 0 in cond (letter == 103) phase.Over (cond
     (letter == 97) phase.AnswerDouble (cond (letter == 111) phase.OpponentActs (cond
@@ -225,7 +225,7 @@ match-lacks z h = match_text-lacks (int_eq z (pos 9999)) z h
 is-endless : (z : ℤ) → int_eq z (pos 9999) ≡ true → z ≡ pos 9999
 is-endless z h = grind (arith, nat_tests)
 
--- a text that begins with u is none that begins with m
+-- a text that begins with u does not begin with m
 letters-differ : (s t : List ℕ) → s ≡ t → slice_index_or s 0 0 ≡ 117 → slice_index_or t 0 0 ≡ 109 → ⊥
 letters-differ s t e h k = absurd (omega (arith, h, k, ap (λ x. slice_index_or x 0 0) e))
 
@@ -261,7 +261,7 @@ doublers-lacks true false = refl
 doublers-lacks false true = refl
 doublers-lacks false false = refl
 
--- who may double is told by the first letter
+-- who may double is known by the first letter
 abbrev own_read : List ℕ → Bool
 own_read text = cond (slice_index_or text 1 0 == 105) true (slice_index_or text 1 0 == 121)
 
@@ -309,7 +309,7 @@ unfolding cube
 cube-tells a b h k e =
     cube_text-tells (field_of a 38) (field_of b 38) (is_one a 39) (is_one a 40) (is_one b 39) (is_one b 40) h k e
 
--- a flag is told by whether it is 1
+-- a flag is known by whether it is 1
 flag-cases : (y z : ℤ) → (y ≡ pos 0) ⊎ (y ≡ pos 1) → (z ≡ pos 0) ⊎ (z ≡ pos 1) → int_eq y (pos 1) ≡ int_eq z (pos 1)
     → y ≡ z
 flag-cases y z (inl h) (inl k) e = h ∙ sym k

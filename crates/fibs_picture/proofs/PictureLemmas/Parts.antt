@@ -1,4 +1,4 @@
--- Equal texts have equal parts, where the parts can be told from each other.
+-- Equal texts have equal parts, if the parts can be known from each other.
 use Rattle.std.proofs.Common.{◌≡◌, ◌<◌, ◌+◌, ◌%◌, ◌^◌, ◌==◌, ◌&&◌, ◌++◌, ℕ, Bool, true, false}
 use Rattle.std.proofs.Common.{not}
 use Rattle.std.proofs.Common.{List, [], ◌∷◌, length, refl, sym, ◌∙◌, ap, arith, append_assoc}

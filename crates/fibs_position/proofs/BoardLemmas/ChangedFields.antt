@@ -59,7 +59,7 @@ set_at zs i j z within = elim (cases_eq j i) [
   | inr apart ↦ let e : eqb i j ≡ false = grind (arith, nat_tests) in rw e (get_or-set_other zs i j z (pos 0) apart)
 ]
 
--- a field after changes, where the list is long enough
+-- a field after changes, if the list is long enough
 field_after_all : (changes : List (ℕ × ℤ)) (b : BoardFields) (m : ℕ) → m - 4 < length b.numbers
     → field_of (set_fields b changes) m ≡ changed changes m (field_of b m)
 field_after_all [] b m within = refl

@@ -63,12 +63,12 @@ doubled_decides b =
     (Decides-not (int_eq (turn b) (pos 0)) (Decides-int_eq (turn b) (pos 0)))
     (Decides-int_eq (field_of b 41) (pos 1))
 
--- what stands under a test
+-- what is under a test
 kept : {X : Type 0} (t : Bool) (o : Option X) (x : X) → cond t o None ≡ Some x → (t ≡ true) × (o ≡ Some x)
 kept true o x e = (refl, e)
 kept false o x e = absurd cc
 
--- what stands under a test that is true
+-- what is under a test that is true
 under : {X : Type 0} (t : Bool) (o : Option X) → t ≡ true → cond t o None ≡ o
 under t o e = rw e refl
 

@@ -5,7 +5,7 @@ use Rattle.std.specs.Prelude.{ℤ, pos, map}
 use Rattle.std.specs.List.{range_with_len}
 use Rattle.std.proofs.lemmas.List.FromFn.{get_or-map-range_with_len, map-range_with_len_more}
 
--- where they agree on the range, they agree on a number of it
+-- if they agree on the range, they agree on a number of it
 pub agree_at : (f g : ℕ → ℤ) (first long n : ℕ) → first ≤ n → n < first + long
     → map f (range_with_len first long) ≡ map g (range_with_len first long) → f n ≡ g n
 agree_at f g first long n low high same =

@@ -67,7 +67,7 @@ for_sound (resign stake) RollOrDouble e = inl refl
 for_sound (resign stake) Move e = inr refl
 for_sound d phase e = absurd (false≢true e)
 
--- where it holds of one phase alone, it tells whether a position is in it
+-- if it holds of one phase alone, it tells whether a position is in it
 one_decides : (p : PositionValue) (d : DecisionValue) (phase : Phase) → SmallDice p.standing
     → ((other : Phase) → is_for d other ≡ true → other ≡ phase) → is_for d phase ≡ true
     → Decides (is_for d (phase_in p)) (InPhase p phase)
@@ -141,7 +141,7 @@ pub disallowed_exact : (p : PositionValue) (d : DecisionValue) (why : Disallowed
 unfolding refusal_of
 disallowed_exact p d why small = find_first (forbids p d) (Forbids p d) (forbids_decides p d small) reasons why
 
--- where no reason is found, all tests hold
+-- if no reason is found, all tests hold
 none_of : (a b c : Bool) (x y z : Disallowed)
     → cond (not a) (Some x) (cond (not b) (Some y) (cond (not c) (Some z) None)) ≡ None → (a ≡ true) × (b ≡ true)
     × (c ≡ true)
@@ -150,7 +150,7 @@ none_of true true false x y z e = absurd cc
 none_of true false c x y z e = absurd cc
 none_of false b c x y z e = absurd cc
 
--- no reason is found exactly where the player may decide so
+-- no reason is found exactly if the player may decide so
 pub allowed_exact : (p : PositionValue) (d : DecisionValue) → SmallDice p.standing
     → (refusal_of p d ≡ None) ↔ MayDecide p d
 unfolding refusal_of

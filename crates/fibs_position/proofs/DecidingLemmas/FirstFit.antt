@@ -6,7 +6,7 @@ use Rattle.std.specs.Bool.{Decides}
 use Rattle.std.proofs.lemmas.Bool.{false≢true}
 use Rattle.fibs_position.specs.First.{IsFirst}
 
--- where the fact holds of the head, the head is told
+-- if the fact holds of the head, the head is found
 pub err_first : {X A : Type 0} (fits : A → Type 0) (y : A) (ys : List A) (x : A) → fits y
     → (◌≡◌ {A = Result X A} (Err y) (Err x)) ↔ IsFirst fits (y ∷ ys) x
 err_first fits y ys x h = (
@@ -14,7 +14,7 @@ err_first fits y ys x h = (
   λ f. elim f [ inl both ↦ ap Err (sym both.1) | inr later ↦ absurd (later.0 h) ],
 )
 
--- where it doesn't, one of the others is
+-- if it doesn't, one of the others is
 pub skip_first : {P A : Type 0} (fits : A → Type 0) (y : A) (ys : List A) (x : A) → ¬ fits y → P ↔ IsFirst fits ys x
     → P ↔ IsFirst fits (y ∷ ys) x
 skip_first fits y ys x not_y h = (
@@ -22,7 +22,7 @@ skip_first fits y ys x not_y h = (
   λ f. elim f [ inl both ↦ absurd (not_y both.0) | inr later ↦ h.1 later.1 ],
 )
 
--- what a search by tests finds, where each test tells the fact
+-- what a search by tests finds, if each test tells the fact
 by_test : {A : Type 0} (t : Bool) (Q : Type 0) → Decides t Q → (y x : A) (o : Option A) (R : Type 0) → (o ≡ Some x) ↔ R
     → (cond t (Some y) o ≡ Some x) ↔ ((Q × (x ≡ y)) ⊎ (¬ Q × R))
 by_test true Q d y x o R h = (
@@ -47,7 +47,7 @@ picked : {A : Type 0} (t : Bool) (y : A) (o : Option A) → (x : A) × (o ≡ So
 picked true y o found = (y, refl)
 picked false y o found = found
 
--- where the last passes the test, one is found
+-- if the last passes the test, one is found
 pub find_some : {A : Type 0} (test : A → Bool) (ys : List A) (z : A) → test z ≡ true
     → (x : A) × (find test (ys ++ z ∷ []) ≡ Some x)
 find_some test [] z passes = (z, rw passes refl)

@@ -42,7 +42,7 @@ board_dice ranges b board =
           die_small ranges b board 35 (lit≤ tt) (lit≤ tt);
     }
 
--- some die can be played exactly where a run has a step
+-- some die can be played exactly if a run has a step
 pub can_move_decides : (p : Standing) → SmallDice p → Decides (can_move p) (CanMove p)
 can_move_decides p small = (can_sound p small.first small.second, can_complete p)
 

@@ -18,12 +18,12 @@ use Rattle.fibs_position.proofs.BoardLemmas.GoodTest.{BoardTest, good_tells, goo
 use Rattle.fibs_position.proofs.BoardLemmas.SameGameTest.{same_game_is_exact}
 use Rattle.fibs_position.proofs.LawLemmas.CarriedOut.{allowed_is, allowed_carried, effect_is, effect_good_differs}
 
--- where a first reason is none, it is no reason
+-- if a first reason is none, it is no reason
 first_test : (p : Bool) (x : Disallowed) (o : Option Disallowed) → cond (not p) (Some x) o ≡ None → p ≡ true
 first_test true x o h = refl
 first_test false x o h = absurd cc
 
--- where nothing is against a decision, the first reason is not
+-- if nothing is against a decision, the first reason is not
 pub allowed_decides : AllowedDecides
 unfolding refusal_of
 allowed_decides b d h =

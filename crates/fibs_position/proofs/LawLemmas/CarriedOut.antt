@@ -123,7 +123,7 @@ has_turn_in : FieldRanges → (b : BoardFields) → IsBoard b → IsPhase b Roll
 has_turn_in ranges b board (inl h) = (before_roll_from ranges b board h).0
 has_turn_in ranges b board (inr h) = (before_move_from ranges b board h).0
 
--- the phase of answering is where a double is to be answered
+-- the phase is that of answering if a double is to be answered
 doubled_from : (b : BoardFields) → IsPhase b AnswerDouble → IsDoubled b
 doubled_from b h =
     let (some, rest) = not_over b AnswerDouble (λ e. absurd cc) h in (
@@ -183,7 +183,7 @@ cube_may ranges b board small =
     let range = (ranges.cube 38 (field_of b 38) refl).0 (ranges.held b 38 board (lit≤ tt) (lit≤ tt)) in
     may_cube ranges (field_of b 38 +ℤ field_of b 38) (omega (arith, ints, range.0)) (omega (arith, ints))
 
--- where a player who has the turn gives it to the opponent, the board stays good, and differs
+-- if a player who has the turn gives it to the opponent, the board stays good, and differs
 given_good_differs : FieldRanges → (b : BoardFields) → IsGood b → HasTurn b
     → IsGood (turn_given b) × Differ b (turn_given b)
 unfolding field_values

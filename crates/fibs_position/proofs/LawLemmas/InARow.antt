@@ -22,7 +22,7 @@ record Thrown (b : BoardFields) : Type 0 where
   flag : field_of b 41 ≡ pos 0
   dice : ¬ NoDice b
 
--- where the turn is not the player's nothing is carried out
+-- if the turn is not the player's nothing is carried out
 ended_none : (b : BoardFields) (d : DecisionValue) (dice : List ℕ) (after : BoardFields) → Ended b
     → Effect b d dice after → ⊥
 ended_none b roll dice after h (good, (before, thrown, is)) = h.away before.0.0
@@ -37,7 +37,7 @@ away_from : FieldRanges → (b after : BoardFields) (z : ℤ) → IsBoard b → 
     → turn after ≡ z → colour after ≡ colour b → turn after ≢ colour after
 away_from ranges b after z board which is side same = turned ranges b z board which (sym side ∙ sym same ∙ is)
 
--- where the turn is given to the opponent, it is over
+-- if the turn is given to the opponent, it is over
 given_ended : FieldRanges → (b : BoardFields) → IsBoard b → HasTurn b → Ended (turn_given b)
 given_ended ranges b board has =
     let changes : List (ℕ × ℤ) = (33, neg_ℤ (colour b)) ∷ [] in

@@ -71,7 +71,7 @@ unbroken_run (Some S.Broken) done log held now (Ok status) fine h e = h
 unbroken_run (Some S.Broken) done log held now (Err fault.Device) fine h e = fine refl
 unbroken_run (Some S.Broken) done log held now (Err fault.Memory) fine h e = h
 
--- what was printed, where it did not fail
+-- what was printed, if it did not fail
 
 printed_all : (status : ℕ) (text : List ℕ) (held now : Option (List ℕ)) (r : Result ℕ EngineFault)
     → (IsErrOf r fault.Device → ⊥) → Printed status text r held now → Appends held now text
@@ -85,7 +85,7 @@ gave_up_all log held now (Ok answered) fine h = absurd h
 gave_up_all log held now (Err fault.Device) fine h = absurd (fine refl)
 gave_up_all log held now (Err fault.Memory) fine h = h
 
--- the log, and what stands behind it
+-- the log, and what comes after it
 abbrev Behind : ℕ → List ℕ → Option (List ℕ) → Option (List ℕ) → Type 0
 Behind done log held now = (rest : List ℕ) × IsLast done rest × Appends held now (log ++ rest)
 

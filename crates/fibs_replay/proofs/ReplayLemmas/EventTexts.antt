@@ -19,7 +19,7 @@ use Rattle.fibs_replay.specs.EventReading.{said_board, board_in}
 use Rattle.fibs_replay.specs.Scripts.{IsNoBoard}
 use Rattle.fibs_replay.proofs.ReplayLemmas.Splits.{Without}
 
--- a text is read as a number exactly where it is written so
+-- a text is read as a number exactly if it is written so
 abbrev pub DecimalsAreExact : Type 0
 DecimalsAreExact =
     (limit n : ℕ) (text : List ℕ) → limit < 2 ^ 64 → (decimal_up_to limit text ≡ Some n) ↔
@@ -95,7 +95,7 @@ board_is_said line (Ok board) o e found = subst (λ o. IfSome o (λ board. Board
     found
 board_is_said line (Err fault) o e found = subst (λ o. IfSome o (λ board. BoardText (fields_of board) line)) (sym e) tt
 
--- and where there is none, the line says none
+-- and if there is none, the line says none
 pub board_is_none : (line : List ℕ) (r : Result Board FieldFault) (o : Option Board) → o ≡ result_ok r
     → ((b : BoardFields) → BoardText b line → read_fields r ≡ Ok b) → IfNone o (IsNoBoard line)
 board_is_none line (Ok board) o e only = subst (λ o. IfNone o (IsNoBoard line)) (sym e) tt

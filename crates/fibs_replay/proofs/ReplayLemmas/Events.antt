@@ -1,4 +1,4 @@
--- A line is read as an event exactly where it says so.
+-- A line is read as an event exactly if it says so.
 use Rattle.std.proofs.Common.{◌≡◌, ℕ, ◌≤◌, Bool, true, false, cond, List, [], ◌∷◌, ◌++◌, codes, decimal, Option, Some}
 use Rattle.std.proofs.Common.{None, option_map, refl, ap, sym, ◌∙◌, subst, arith}
 use Rattle.std.specs.Str.{bytes_eq}

@@ -14,12 +14,12 @@ use Rattle.fibs_fields.specs.Split.{before, after}
 use Rattle.fibs_replay.specs.Scripts.{script_lines}
 use Rattle.fibs_replay.proofs.ReplayLemmas.Splits.{Without, from, before_and_from, before_without}
 
--- the parts behind the first line end
+-- the parts after the first line end
 abbrev parts_after : Option (List ℕ) → List (List ℕ)
 parts_after None = []
 parts_after (Some rest) = slice_split (λ b. b == 10) rest
 
--- the parts between line ends are what stands before the first, and those behind it
+-- the parts between line ends are what is before the first, and those after it
 parts_of : (s : List ℕ) → slice_split (λ b. b == 10) s ≡ before 10 s ∷ parts_after (after 10 s)
 parts_of [] = refl
 parts_of (b ∷ s) = elim (cases_eq b 10) [
@@ -27,7 +27,7 @@ parts_of (b ∷ s) = elim (cases_eq b 10) [
   | inr n ↦ rw (ne_eqb b 10 n) (ap (onto_first b) (parts_of s))
 ]
 
--- a line end, where there is one, and what follows it
+-- a line end, if there is one, and what follows it
 abbrev line_end : Option (List ℕ) → List ℕ
 line_end None = []
 line_end (Some rest) = 10 ∷ []
@@ -54,7 +54,7 @@ no_cr_is (b ∷ x) =
     ap (λ t. cond (t && slice_index l (length l - 1) == 13) (take (length l - 1) l) l)
     (lt-ltb 0 (length l) (omega arith))
 
--- what stands behind the first line end is shorter
+-- what comes after the first line end is shorter
 left_shorter : (s : List ℕ) → length (left (after 10 s)) ≤ length s
 left_shorter [] = omega arith
 left_shorter (b ∷ s) = elim (cases_eq b 10) [

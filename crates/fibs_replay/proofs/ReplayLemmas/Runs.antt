@@ -34,7 +34,7 @@ use Rattle.fibs_replay.proofs.ReplayLemmas.Scripts.{ReadsLine}
 
 -- events that may be
 
--- no event is refused where there is none
+-- no event is refused if there is none
 pub may_be_none : (login : List ℕ) (first : BoardFields) → MayBe login first []
 unfolding MayBe
 may_be_none login first = tt
@@ -225,7 +225,7 @@ log_for may_break (Ok answered) script text held now for h = absurd h
 log_for may_break (Err fault.Device) script text held now for h = inl (text, inr for, h)
 log_for may_break (Err fault.Memory) script text held now for h = (text, for, h)
 
--- the log so far, where the carrier broke
+-- the log so far, if the carrier broke
 log_for_broken : (may_break : Bool) (r : Result ℕ EngineFault) (script text : List ℕ) (held now : Option (List ℕ))
     → may_break ≡ true → LogOf script text → Broke text r held now → PrintedFor may_break script r held now
 log_for_broken may_break (Ok answered) script text held now may for h = absurd h
@@ -255,7 +255,7 @@ module _ (may_break : Bool) (script : List ℕ) (first : BoardFields) (events : 
       ran.may_be)
       (ap (λ l. log_text l ++ end_text done) log ∙ ap (λ n. log_after first ran.before ++ end_text n) ran.count) h
 
-  -- it stopped where memory ran out
+  -- it stopped because memory ran out
   gave_up : (r : Result ℕ EngineFault) (before later : List Event) → events ≡ before ++ later
       → MayBe script_login first before → noted ≡ (world_after script_login first before).log
       → RunPrinted (Some (S.Refused W.Memory)) done (log_text noted) r held now → PrintedFor may_break script r held now
@@ -263,7 +263,7 @@ module _ (may_break : Bool) (script : List ℕ) (first : BoardFields) (events : 
       log_for may_break r script (log_text noted) held now
       (first, before, later, subst (SayScript (script_lines script) first) cut is.says, may_be, ap log_text log) h
 
-  -- it stopped where the carrier broke
+  -- it stopped because the carrier broke
   broke : (r : Result ℕ EngineFault) (before later : List Event) → may_break ≡ true → events ≡ before ++ later
       → MayBe script_login first before → noted ≡ (world_after script_login first before).log
       → Broke (log_text noted) r held now → PrintedFor may_break script r held now
@@ -285,7 +285,7 @@ module _ (may_break : Bool) (script : List ℕ) (first : BoardFields) (events : 
       (ap (λ l. log_text l ++ refused_text done why) log ∙ ap (λ n. log_after first before ++ refused_text n why) count)
       h
 
--- a refusal is want of memory, or the table's
+-- a refusal says that memory ran out, or is the table's
 told_or_memory : (why : WorldRefusal) (answer : Option WorldRefusal) (done : ℕ) (log : List ℕ)
     (r : Result ℕ EngineFault) (held now : Option (List ℕ)) → Tells why answer
     → RunPrinted (Some (S.Refused why)) done log r held now
@@ -333,7 +333,7 @@ printed_run may_break script first events world noted done (Some (S.Refused why)
               (ran.cut ∙ ap (λ l. ran.before ++ l) e) ran.may_be ran.count told.0 same_log told.1
         ]
 
--- another reason than want of memory is printed
+-- a reason other than that memory ran out is printed
 pub other_reason : (why : WorldRefusal) (done : ℕ) (log : List ℕ) (r : Result ℕ EngineFault)
     (held now : Option (List ℕ)) → (why ≡ W.Memory → ⊥)
     → Printed 3 (log ++ refused_text done why) r held now → RunPrinted (Some (S.Refused why)) done log r held now

@@ -6,7 +6,7 @@ use Rattle.std.proofs.lemmas.List.Elements.{All-head, All-tail, All-nil, All-con
 use Rattle.std.proofs.Common.{inl, inr}
 use Rattle.fibs_fields.specs.Split.{before, after}
 
--- what stands from c on
+-- what is from c on
 abbrev pub from : ℕ → Option (List ℕ) → List ℕ
 from c None = []
 from c (Some s) = c ∷ s
@@ -32,7 +32,7 @@ split_there c (b ∷ w) o h =
     let more = split_there c w o (All-tail (λ b. b ≢ c) b w h) in
     rw (ne_eqb b c (All-head (λ b. b ≢ c) b w h)) (ap (λ (t : List ℕ). b ∷ t) more.0, more.1)
 
--- what stands before the first c has none
+-- what is before the first c has none
 pub before_without : (c : ℕ) (s : List ℕ) → Without c (before c s)
 before_without c [] = All-nil (λ b. b ≢ c)
 before_without c (b ∷ s) = elim (cases_eq b c) [

@@ -25,7 +25,7 @@ AllDice (x ∷ xs) = (0 < x) × AllDice xs
 some_die : (a : ℕ) → (a == 0) ≡ false → 0 < a
 some_die a h = grind (arith, nat_tests)
 
--- where the dice are different and the first is not shown, the second is
+-- if the dice are different and the first is not shown, the second is
 other_die : (a b : ℕ) → (a == b) ≡ false → (a == 0) ≡ true → 0 < b
 other_die a b h k = grind (arith, nat_tests)
 

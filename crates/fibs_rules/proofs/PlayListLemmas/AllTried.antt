@@ -123,13 +123,13 @@ forced_sound p x l r one larger h =
       (die ∷ [], part_of_larger p die is, run_x),
     )
 
--- the runs that are tried where no die is forced
+-- the runs that are tried if no die is forced
 abbrev free_of : Standing → List Reach
 free_of p =
     cond (are_two p.first p.second) (all_in_order p p.first p.second ++ all_in_order p p.second p.first)
     (all_in_order p p.first p.second)
 
--- and where there is no such rule
+-- and if there is no such rule
 free_sound : (p : Standing) (x : Reach) → p.first ≤ 6 → p.second ≤ 6 → ((most_of p == 1) && larger_first p) ≡ false
     → In x (free_of p) → Leads p x.play x.leads
 free_sound p x l r free =
@@ -216,7 +216,7 @@ one_is_covered p steps q l r one long (dice, part, run) =
       | inr front ↦ front_covered p p.first p.second dice steps q l r long (subst (IsFront dice) turned front) run
     ]
 
--- where there is no such rule, each longest run is covered
+-- if there is no such rule, each longest run is covered
 free_complete : (p : Standing) (steps : List Hop) (q : Checkers) → p.first ≤ 6 → p.second ≤ 6
     → length steps ≡ most_of p → RunOf p.checkers (held p) steps q → Covered (free_of p) (reach steps q)
 free_complete p steps q l r long run =

@@ -99,7 +99,7 @@ greater_itself found =
 pub not_greater : (o : Ordering) → is_gt o ≡ false → o ≢ Greater
 not_greater o e g = absurd (false≢true (sym e ∙ ap is_gt g))
 
--- and fails where it is so
+-- and fails if it is so
 pub gt_from : (o : Ordering) → o ≢ Greater → is_gt o ≡ false
 gt_from Less e = refl
 gt_from Equal e = refl

@@ -53,13 +53,13 @@ visit_some kept p q die dice play n e =
     ∙ fold-append noted kept (reaches_by p die dice play n)
     (reaches q dice (next_top die dice (n + 1)) (play ++ hop_by (n + 1) die ∷ []))
 
--- where there is none, nothing comes after
+-- if there is none, nothing comes after
 pub visit_skip : (kept : Kept) (p : Checkers) (die : ℕ) (dice : List ℕ) (play : List Hop) (n : ℕ)
     → one_of p (n + 1) die ≡ None
     → fold noted kept (reaches_by p die dice play (n + 1)) ≡ fold noted kept (reaches_by p die dice play n)
 visit_skip kept p die dice play n e = ap (fold noted kept) (reaches_next p die dice play n None e ∙ append-nil _)
 
--- there is room for one more step where dice are left
+-- there is room for one more step if dice are left
 pub room_left : (play longer : List Hop) (hop : Hop) (dice : List ℕ) → longer ≡ play ++ hop ∷ [] → 0 < length dice
     → length play + length dice ≤ 4 → length longer + length (take (length dice - 1) (drop 1 dice)) ≤ 4
 room_left play longer hop dice e some room =

@@ -16,7 +16,7 @@ count_le xs i = elim (cases_lt i (length xs)) [
   | inr past ↦ let none = get_or-eq_default xs 0 past in omega arith
 ]
 
--- a count that is not 0 stands in the list
+-- a count that is not 0 is in the list
 stands : (xs : List ℕ) (i : ℕ) → 0 < slice_index xs i → i < length xs
 stands xs i some =
     elim (cases_lt i (length xs))
@@ -62,7 +62,7 @@ shifted_at xs from i some =
           get_or-set_other xs from i (slice_index xs from - 1) 0 other in omega arith
     ]
 
--- so does one that is hit, where one is
+-- so does one that is hit, if one is
 hit_at : (t : Bool) (other : List ℕ) (to i : ℕ) → 0 < i
     → slice_index (cond t (shifted other to 0) other) i ≤ slice_index other i
 hit_at true other to i some = shifted_at other to i some

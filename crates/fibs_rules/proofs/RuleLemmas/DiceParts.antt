@@ -146,7 +146,7 @@ held_long a b = elim (held a b) [
   | equal pos e f ↦ rw (e, f) refl
 ]
 
--- where no two different dice are held, the order of the two does not matter
+-- if no two different dice are held, the order of the two does not matter
 pub alike : (a b : ℕ) → (0 < a → 0 < b → a ≢ b → ⊥) → held_of b a ≡ held_of a b
 alike a b not_two = elim (held a b) [
   | none e f ↦ f ∙ sym e

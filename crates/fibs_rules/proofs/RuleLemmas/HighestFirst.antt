@@ -45,7 +45,7 @@ top_equal die next dice source same = cond-true _ _ _ (eq-eqb next die same)
 top_other : (die next : ℕ) (dice : List ℕ) (source : ℕ) → next ≢ die → next_top die (next ∷ dice) source ≡ 25
 top_other die next dice source apart = cond-false _ _ _ (ne_eqb next die apart)
 
--- from any place, where any place may come before
+-- from any place, if any place may come before
 top_whole : (die : ℕ) (dice : List ℕ) → next_top die dice 25 ≡ 25
 top_whole die [] = refl
 top_whole die (next ∷ dice) = cond_both _ 25 25 (λ k. k ≡ 25) (λ e. refl) (λ e. refl)

@@ -57,7 +57,7 @@ lax_complete p q [] run = ap Some run
 lax_complete p q (step ∷ steps) (r, one, run) =
     ap (lax_then (λ q. lax_of q steps)) (lax_one_complete p r step one) ∙ lax_complete r q steps run
 
--- a checker that goes stands at its source
+-- a checker that goes is at its source
 goes_from : (p : Checkers) (f t d : ℕ) → f ≤ 25 → Goes p f t d → 0 < slice_index p.own f
 goes_from p f t d hi (inl h) = subst (λ k. 0 < slice_index p.own k) (sym h.from_bar) h.barred
 goes_from p f t d hi (inr (inl h)) = h.occupied

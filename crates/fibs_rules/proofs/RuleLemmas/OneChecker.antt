@@ -32,7 +32,7 @@ zero_above p k h s le =
 pub empty_from_zero : (p : Checkers) (k : ℕ) → ((s : ℕ) → k ≤ s → slice_index p.own s ≡ 0) → is_empty_from p k ≡ true
 empty_from_zero p k h = all_from_zero (drop k p.own) (λ s. rw get_or-drop (h (k + s) (omega arith)))
 
--- the ways to go, whatever stands at the target
+-- the ways to go, whatever is at the target
 abbrev pub Goes : Checkers → ℕ → ℕ → ℕ → Type 0
 Goes p from to die = Enters p from to die ⊎ Moves p from to die ⊎ BearsOff p from to die ⊎ BearsOffHighest p from to die
 
@@ -74,7 +74,7 @@ highest_off p from die lo occ le home e =
 abbrev is_off : Checkers → ℕ → ℕ → Bool
 is_off p from die = is_empty_from p 7 && (from == die || is_empty_from p (from + 1))
 
--- what is tested where the bar is empty
+-- what is tested if the bar is empty
 abbrev is_unbarred : Checkers → ℕ → ℕ → Bool
 is_unbarred p from die = nat_lt 0 (slice_index p.own from) && (nat_lt die from || is_off p from die)
 

@@ -12,7 +12,7 @@ use Rattle.fibs_rules.specs.OneChecker.{One}
 use Rattle.fibs_rules.specs.Laws.{StepsSwap}
 use Rattle.fibs_rules.proofs.RuleLemmas.OneChecker.{Goes}
 
--- a count above 0 stands in the list
+-- a count above 0 is in the list
 in_list : (xs : List ℕ) (k : ℕ) → 0 < get_or xs k 0 → k < length xs
 in_list [] k h = absurd (omega arith)
 in_list (x ∷ xs) zero h = omega arith
@@ -108,11 +108,11 @@ hits_same ys t u n = elim (cases_lt 0 u) [
   | inr none ↦ and_left _ _ (le-ltb 0 u none) ∙ sym (and_left _ _ (le-ltb 0 u none))
 ]
 
--- where one is hit, it is shifted to the bar
+-- if one is hit, it is shifted to the bar
 hit_yes : (ys : List ℕ) (t : ℕ) → hits ys t ≡ true → hit ys t ≡ shifted ys t 0
 hit_yes ys t e = cond-true (hits ys t) (shifted ys t 0) ys e
 
--- where none is, nothing changes
+-- if none is, nothing changes
 hit_no : (ys : List ℕ) (t : ℕ) → hits ys t ≡ false → hit ys t ≡ ys
 hit_no ys t e = cond-false (hits ys t) (shifted ys t 0) ys e
 
@@ -128,7 +128,7 @@ hits_swap ys t u n a b =
     shifted_swap ys t 0 u 0 (omega (arith, lt)) (omega (arith, lu)) n it (omega (arith, it)) iu (omega (arith, iu))
     (omega (arith, et)) (omega (arith, eu))
 
--- so they do where one of them hits nothing
+-- so they do if one of them hits nothing
 hit_swap : (ys : List ℕ) (t u : ℕ) → t ≢ u → hit (hit ys t) u ≡ hit (hit ys u) t
 hit_swap ys t u n =
     let m : u ≢ t = λ e. n (sym e) in

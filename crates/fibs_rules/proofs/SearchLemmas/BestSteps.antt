@@ -79,7 +79,7 @@ best_of-mono worth p die n m le = elim (best_of-reached worth p die n) [
       omega (arith, i, k)
 ]
 
--- where each arrangement is worth no more, the best is no more
+-- if each arrangement is worth no more, the best is no more
 pub best_of-below : (less more : ℕ → Checkers → ℕ) (p : Checkers) (die n m : ℕ) → n ≤ m
     → ((source : ℕ) (q : Checkers) → source ≤ n → less source q ≤ more source q)
     → best_of less p die n ≤ best_of more p die m

@@ -1,4 +1,4 @@
--- The runs that are tried are as long as any: where one die follows an equal one, the higher source may be first.
+-- The runs that are tried are as long as any: if one die follows an equal one, the higher source may be first.
 use Rattle.std.proofs.Common.{◌≡◌, ℕ, suc, ◌≤◌, List, [], ◌∷◌, ◌++◌, length, subst, sym, arith}
 use Rattle.std.proofs.lemmas.Bool.{cond_both}
 use Rattle.fibs_rules.specs.Hop.{Hop}

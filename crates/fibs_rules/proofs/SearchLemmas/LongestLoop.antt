@@ -61,7 +61,7 @@ unfolding longest_by
 by_more p die dice n top le =
     best_of-mono (λ source q. suc (longest_tried q dice (next_top die dice source))) p die n top le
 
--- where all dice are played, no other place gives more
+-- if all dice are played, no other place gives more
 pub all_played : (p : Checkers) (dice : List ℕ) (best n top : ℕ) → 0 < length dice
     → best ≡ longest_by p (get_or dice 0 0) (drop 1 dice) n → best ≡ length dice → n ≤ top
     → best ≡ longest_tried p dice top

@@ -1,4 +1,4 @@
--- Some run has a step exactly where one of the dice shown can be played.
+-- Some run has a step exactly if one of the dice shown can be played.
 use Rattle.std.proofs.Common.{◌≡◌, ℕ, ◌<◌, ◌≤◌, ◌⊎◌, inl, inr, List, [], ◌∷◌, ◌++◌, length, true, refl, subst, arith}
 use Rattle.std.specs.Prelude.{◌||◌, nat_lt}
 use Rattle.std.proofs.lemmas.Bool.{and_parts, and_from, or_cases, or_left, or_right, ltb-true, lt-ltb}
@@ -21,7 +21,7 @@ by_one p die is le e =
       omega arith,
     )
 
--- where the test is true, some run has a step
+-- if the test is true, some run has a step
 pub can_sound : (p : Standing) → p.first ≤ 6 → p.second ≤ 6
     → (can_play p.checkers p.first || can_play p.checkers p.second) ≡ true → CanMove p
 can_sound p l r e = elim (or_cases (can_play p.checkers p.first) (can_play p.checkers p.second) e) [
@@ -60,6 +60,6 @@ run_can p q (die ∷ dice) (step ∷ steps) part (r, one, run) pos =
           can_be p die (swap is) (can_first p.checkers die some (step.source, step.target, r, one))
     ]
 
--- where some run has a step, the test is true
+-- if some run has a step, the test is true
 pub can_complete : (p : Standing) → CanMove p → (can_play p.checkers p.first || can_play p.checkers p.second) ≡ true
 can_complete p (steps, q, (dice, part, run), pos) = run_can p q dice steps part run pos

@@ -31,7 +31,7 @@ pub both_at : (c : ClientValue) (t : Talk)
 unfolding StandsAfter SessionStandsAfter
 both_at c t l s = (l, s)
 
--- where neither lines nor session changed
+-- if neither lines nor session changed
 pub same_client : (old new : ClientValue) → new.lines ≡ old.lines → new.session ≡ old.session → new ≡ old
 same_client old new e f = ap (λ l. with_both l new.session) e ∙ ap (λ s. with_both old.lines s) f
   where

@@ -61,7 +61,7 @@ done_and_rest all done rest used e = e ∙ ap (λ r. done ++ r) (front_and_rest 
         sym (take-append-drop used xs) ∙ ap (λ ys. take used xs ++ ys)
         (sym (take_all (length xs - used) (drop used xs) (omega (arith, length-drop used xs))))
 
--- what is still to be done of a run: the client stands after some history, and the rest of the inputs gives the rest of
+-- what is still to be done of a run: the client is at some history, and the rest of the inputs gives the rest of
 -- the bytes
 pub record Going (c : ClientValue) (out : List ℕ) (later : List InputValue) (all : List ℕ) : Type 0 where
   pub talk : Talk

@@ -43,7 +43,7 @@ login_no_toggle : (name password : List ℕ) → IsNoToggle (login_text name pas
 unfolding login_text plain_of
 login_no_toggle name password = record { no_automove = refl; no_greedy = refl }
 
--- a session that heard nothing stands after nothing
+-- a session that heard nothing is at no inputs
 pub start_law : (name password : List ℕ) (v : SessionValue)
     → v ≡ fresh (login_text name password) false → SessionStandsAfter v (start (login_text name password))
 unfolding SessionStandsAfter

@@ -91,7 +91,7 @@ module _ (v : SessionValue) (t : Talk) (at : At v t) (on : v.online ≡ true) (l
       })
       (λ _. record { after = unheard_law v t at; send = refl; confirmed = refl; rolled = refl }))
 
-  -- the order is due by the fields where it is by the history
+  -- the order is due by the fields if it is by the history
   due_law : (b : Board) → due_of (with_board v b) b ≡ is_due c (t.log ++ Shown c b ∷ []) b
   unfolding due_of is_due
   due_law b =

@@ -9,7 +9,7 @@ ghost use Rattle.fibs_position.specs.DecisionValue.{roll};
 ghost use Rattle.fibs_position.specs.DirectionOf.{direction_of};
 ghost use Rattle.fibs_commands.specs.Commands.{command_of};
 ghost use Rattle.fibs_history.specs.Words.{one_if};
-ghost use Rattle.fibs_messages.specs.declared.messages.message.Message.TheVariants.{OwnInfo as TheOwnInfo};
+ghost use Rattle.fibs_messages.specs.declared.message.Message.TheVariants.{OwnInfo as TheOwnInfo};
 ghost use Rattle.fibs_session.specs.Calls.FieldSteps.{message_fields, heard_fields, with_board, confirmed_of};
 ghost use Rattle.fibs_session.specs.Calls.FieldSteps.{line_fields, unheard, with_roll, due_of};
 ghost use Rattle.fibs_session.specs.Calls.SessionValue.{SessionValue};

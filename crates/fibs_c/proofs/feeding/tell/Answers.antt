@@ -1,4 +1,4 @@
--- What was heard is told.
+-- What was heard is reported.
 use Rattle.std.proofs.Common.{rules, ◌≡◌, ℕ, length, take, refl, ap, subst, ◌∙◌}
 use Rattle.std.proofs.lemmas.List.{take_min}
 use Rattle.fibs_lines.specs.Lines.{kept_limit}

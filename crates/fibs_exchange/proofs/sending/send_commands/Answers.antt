@@ -10,7 +10,7 @@ use Rattle.fibs_exchange.proofs.TurnLemmas.Faults.{broken_on}
 use Rattle.fibs_exchange.proofs.TurnLemmas.Wrote.{wrote_more, wrote_front}
 use Rattle.fibs_exchange.proofs.sending.send_commands.Goals as goal
 
--- the next command stands first in what is left
+-- the next command comes first in what is left
 next : (i : ℕ) (x : CommandText) (commands : List CommandText) (part : List ℕ) → i < length commands
     → x ≡ get_or commands i x → wire_of (texts_of commands) ≡ part ++ wire_of (texts_of (drop i commands))
     → wire_of (texts_of commands) ≡ (part ++ on_wire (text_of x)) ++ wire_of (texts_of (drop (i + 1) commands))

@@ -1,5 +1,5 @@
 use Rattle.std.proofs.lemmas.Bool.Decides.{Decides-at}
-use Rattle.fibs_messages.specs.contracts.messages.message.MessagePartialEq.TheImpl.{eq-value}
+use Rattle.fibs_messages.specs.contracts.message.MessagePartialEq.TheImpl.{eq-value}
 use Rattle.fibs_messages.proofs.MessageLemmas.MessageEquality.{messages_decide}
 use Rattle.fibs_messages.proofs.laws.messages_are_their_fields.Goals as goal
 

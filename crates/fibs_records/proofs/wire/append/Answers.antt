@@ -1,4 +1,4 @@
--- The bytes stand behind those that the wire had.
+-- The bytes come after those that the wire had.
 use Rattle.std.proofs.Common.{rules, ◌-◌}
 use Rattle.fibs_records.proofs.RoomLemmas.{append_bytes}
 use Rattle.fibs_records.proofs.wire.append.Goals as goal

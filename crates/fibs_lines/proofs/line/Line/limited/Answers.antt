@@ -5,7 +5,7 @@ use Rattle.fibs_lines.proofs.ReturnLemmas.{same_read_line}
 use Rattle.fibs_lines.proofs.line.Line.limited.Goals as goal
 use Rattle.fibs_lines.proofs.line.Line.limited.Goals.{then-over, else-over}
 
--- a list cut at a limit, or at its length where that is less
+-- a list cut at a limit, or at its length if that is less
 take_at_limit : (n k : ℕ) (l : List ℕ) → k ≡ min (length l) n → take k l ≡ take n l
 take_at_limit n k l e = ap (λ m. take m l) {y = min n (length l)} (omega arith) ∙ take_min n l
 

@@ -5,7 +5,7 @@ use Rattle.fibs_machine.specs.Events.{Event}
 use Rattle.fibs_model.specs.WorldCalls.{WorldStandsAfter}
 use Rattle.fibs_model.proofs.world.World.run.Given as goal
 
--- the world stands after the events before and those done
+-- the world is at the events before and those done
 abbrev pub invariant-loop-event : goal.invariant-loop-event
 invariant-loop-event l = record {
   count : l.done ≡ l.event-index;

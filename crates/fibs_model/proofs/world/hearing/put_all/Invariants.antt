@@ -3,7 +3,7 @@ use Rattle.fibs_history.specs.Machine.{wire_of}
 use Rattle.fibs_session.specs.Calls.SessionOf.{texts_of}
 use Rattle.fibs_model.proofs.world.hearing.put_all.Given as goal
 
--- what is still to be put stands behind what was put, and has room
+-- what is still to be put comes after what was put, and has room
 abbrev pub invariant-loop-command : goal.invariant-loop-command
 invariant-loop-command l = record {
   items : l.wire.items ++ wire_of (texts_of (drop l.command-index l.commands)) ≡ l.fn.wire.items ++ wire_of

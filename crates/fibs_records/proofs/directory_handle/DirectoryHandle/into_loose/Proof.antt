@@ -1,4 +1,4 @@
--- `into_loose` hands over the box where there is one.
+-- `into_loose` hands over the box if there is one.
 use Rattle.std.proofs.Common.{◌≡◌, List, [], ◌∷◌, ◌++◌, refl, sym, ◌∙◌, lit<}
 use Rattle.std.specs.Prelude.{None, Some, option_map}
 use mir.Syntax.{Fn}

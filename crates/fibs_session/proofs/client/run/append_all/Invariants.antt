@@ -3,7 +3,7 @@ use Rattle.fibs_history.specs.Machine.{wire_of}
 use Rattle.fibs_session.specs.Calls.SessionOf.{texts_of}
 use Rattle.fibs_session.proofs.client.run.append_all.Given as goal
 
--- what is still to be written stands behind what was written
+-- what is still to be written comes after what was written
 abbrev pub invariant-loop-command : goal.invariant-loop-command
 invariant-loop-command l =
     l.out.items ++ wire_of (texts_of (drop l.command-index l.commands))

@@ -1,8 +1,0 @@
-//! Numbered messages: their contents, and how their lines are read and printed.
-
-pub mod canonical;
-pub mod field;
-pub mod message;
-pub mod number;
-pub mod print;
-pub mod read;

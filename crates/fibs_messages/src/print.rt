@@ -1,0 +1,220 @@
+//! Prints numbered messages.
+
+ghost use Rattle.std.specs.Prelude.{◌≡◌, ◌∷◌, [], ◌++◌, decimal, length, take, OnOk, OnErr};
+ghost use Rattle.std.specs.List.{flat_map};
+ghost use Rattle.fibs_fields.specs.Field.{NameField, FlagField, NumberField, RatingField, TextField};
+ghost use Rattle.fibs_messages.specs.FieldOf.{value_of, values_of};
+ghost use Rattle.fibs_messages.specs.Message.{MessageText, canonical, canonical_field, message_of};
+ghost use Rattle.fibs_fields.specs.Bytes.{name_bytes};
+
+use crate::field::{Field, own_info_fields, who_info_fields};
+use crate::laws::messages_are_well_formed;
+use crate::message::{Message, OwnInfo, WhoInfo};
+use fibs_fields::name::Name;
+use fibs_fields::rating::append_rating;
+use itoa::Buffer;
+use std::alloc::{AllocError, Global};
+
+/// Appends a space and the bytes.
+fn append_piece(out: &mut Vec<u8>, bytes: &[u8]) -> Result<(), AllocError>
+    ensures put { OnOk result (out.new.items ≡ out.old.items ++ (32 ∷ bytes.now)) }
+    ensures front { take (length out.old.items) out.new.items ≡ out.old.items }
+{
+    out.push(b' ')?;
+    out.extend_from_slice(bytes)
+}
+
+/// Appends a space and the rating.
+#[tactic(auto, unfolding(crate::specs::Message::canonical_field))]
+fn append_spaced_rating(out: &mut Vec<u8>, rating: u32) -> Result<(), AllocError>
+    ensures put { OnOk result (out.new.items ≡ out.old.items ++ canonical_field (RatingField rating)) }
+    ensures front { take (length out.old.items) out.new.items ≡ out.old.items }
+{
+    out.push(b' ')?;
+    append_rating(out, rating)
+}
+
+/// Appends a space and the flag, as 0 or 1.
+#[tactic(auto, unfolding(crate::specs::Message::canonical_field))]
+fn append_flag(out: &mut Vec<u8>, flag: bool) -> Result<(), AllocError>
+    ensures put { OnOk result (out.new.items ≡ out.old.items ++ canonical_field (FlagField flag)) }
+    ensures front { take (length out.old.items) out.new.items ≡ out.old.items }
+{
+    out.push(b' ')?;
+    out.push(b'0' + u8::from(flag))?;
+    Ok(())
+}
+
+/// Appends a space and the number.
+#[tactic(auto, unfolding(crate::specs::Message::canonical_field))]
+fn append_count(out: &mut Vec<u8>, count: u64) -> Result<(), AllocError>
+    ensures put { OnOk result (out.new.items ≡ out.old.items ++ canonical_field (NumberField count)) }
+    ensures front { take (length out.old.items) out.new.items ≡ out.old.items }
+{
+    append_piece(out, Buffer::new().format(count).as_bytes())
+}
+
+/// Appends a space and the text, or nothing if it is empty.
+#[tactic(auto, unfolding(crate::specs::Message::canonical_field))]
+fn append_text(out: &mut Vec<u8>, text: &[u8]) -> Result<(), AllocError>
+    ensures put { OnOk result (out.new.items ≡ out.old.items ++ canonical_field (TextField text.now)) }
+    ensures front { take (length out.old.items) out.new.items ≡ out.old.items }
+{
+    match text {
+        [] => Ok(()),
+        _ => append_piece(out, text),
+    }
+}
+
+/// Appends a field after its space; an empty text is nothing.
+#[tactic(auto, unfolding(crate::specs::Message::canonical_field))]
+fn append_field(out: &mut Vec<u8>, field: &Field<'_>) -> Result<(), AllocError>
+    ensures put { OnOk result (out.new.items ≡ out.old.items ++ canonical_field (value_of field.now)) }
+    ensures front { take (length out.old.items) out.new.items ≡ out.old.items }
+{
+    match field {
+        Field::Name(name) => append_piece(out, name.bytes()),
+        Field::Word(word) => append_piece(out, word.bytes()),
+        Field::Tail(tail) => append_piece(out, tail.bytes()),
+        Field::Flag(flag) => append_flag(out, *flag),
+        Field::Number(number) => append_count(out, *number),
+        Field::Rating(rating) => append_spaced_rating(out, *rating),
+        Field::Text(text) => append_text(out, text),
+    }
+}
+
+/// Appends the number of a message.
+fn append_number(out: &mut Vec<u8>, number: u8) -> Result<(), AllocError>
+    ensures put { OnOk result (out.new.items ≡ out.old.items ++ decimal number) }
+    ensures front { take (length out.old.items) out.new.items ≡ out.old.items }
+{
+    out.extend_from_slice(Buffer::new().format(number).as_bytes())
+}
+
+/// Appends the number of a message and its fields.
+fn append_fields(out: &mut Vec<u8>, number: u8, fields: &[Field<'_>]) -> Result<(), AllocError>
+    ensures put { OnOk result (out.new.items ≡ out.old.items
+        ++ (decimal number ++ flat_map canonical_field (values_of fields.now))) }
+    ensures front { take (length out.old.items) out.new.items ≡ out.old.items }
+{
+    append_number(out, number)?;
+    for field in fields {
+        append_field(out, field)?;
+    }
+    Ok(())
+}
+
+// The longer messages stay out of line, so that no other pays for clearing their room.
+
+/// Appends the line of message 2.
+#[inline(never)]
+fn append_own_info(out: &mut Vec<u8>, info: &OwnInfo<'_>) -> Result<(), AllocError>
+    ensures put { OnOk result (out.new.items ≡ out.old.items ++ canonical (message_of (Message.OwnInfo info.now))) }
+    ensures front { take (length out.old.items) out.new.items ≡ out.old.items }
+{
+    append_fields(out, 2, &own_info_fields(info))
+}
+
+/// Appends the line of message 5.
+#[inline(never)]
+fn append_who_info(out: &mut Vec<u8>, info: &WhoInfo<'_>) -> Result<(), AllocError>
+    ensures put { OnOk result (out.new.items ≡ out.old.items ++ canonical (message_of (Message.WhoInfo info.now))) }
+    ensures front { take (length out.old.items) out.new.items ≡ out.old.items }
+{
+    append_fields(out, 5, &who_info_fields(info))
+}
+
+/// Appends the line of a message that has a name and a text.
+fn append_name_and_text(
+    out: &mut Vec<u8>,
+    number: u8,
+    name: Name<'_>,
+    text: &[u8],
+) -> Result<(), AllocError>
+    ensures put { OnOk result (out.new.items ≡ out.old.items
+        ++ (decimal number ++ flat_map canonical_field (NameField (name_bytes name.entry) ∷ TextField text.now ∷ []))) }
+    ensures front { take (length out.old.items) out.new.items ≡ out.old.items }
+{
+    append_fields(out, number, &[Field::Name(name), Field::Text(text)])
+}
+
+/// Appends the line of a message.
+fn append_message(out: &mut Vec<u8>, message: &Message<'_>) -> Result<(), AllocError>
+    ensures put { OnOk result (out.new.items ≡ out.old.items ++ canonical (message_of message.now)) }
+    ensures front { take (length out.old.items) out.new.items ≡ out.old.items }
+{
+    match message {
+        Message::Welcome {
+            name,
+            last_login,
+            last_host,
+        } => append_fields(
+            out,
+            1,
+            &[
+                Field::Name(*name),
+                Field::Number(*last_login),
+                Field::Word(*last_host),
+            ],
+        ),
+        Message::OwnInfo(info) => append_own_info(out, info),
+        Message::MotdBegin => append_fields(out, 3, &[]),
+        Message::MotdEnd => append_fields(out, 4, &[]),
+        Message::WhoInfo(info) => append_who_info(out, info),
+        Message::WhoInfoEnd => append_fields(out, 6, &[]),
+        Message::Login { name, text } => append_name_and_text(out, 7, *name, text),
+        Message::Logout { name, text } => append_name_and_text(out, 8, *name, text),
+        Message::MessageReceived { sender, time, text } => append_fields(
+            out,
+            9,
+            &[
+                Field::Name(*sender),
+                Field::Number(*time),
+                Field::Text(text),
+            ],
+        ),
+        Message::MessageDelivered { name } => append_fields(out, 10, &[Field::Name(*name)]),
+        Message::MessageSaved { name } => append_fields(out, 11, &[Field::Name(*name)]),
+        Message::Says { name, text } => append_name_and_text(out, 12, *name, text),
+        Message::Shouts { name, text } => append_name_and_text(out, 13, *name, text),
+        Message::Whispers { name, text } => append_name_and_text(out, 14, *name, text),
+        Message::Kibitzes { name, text } => append_name_and_text(out, 15, *name, text),
+        Message::YouSay { name, text } => append_name_and_text(out, 16, *name, text),
+        Message::YouShout { text } => append_fields(out, 17, &[Field::Text(text)]),
+        Message::YouWhisper { text } => append_fields(out, 18, &[Field::Text(text)]),
+        Message::YouKibitz { text } => append_fields(out, 19, &[Field::Text(text)]),
+    }
+}
+
+/// Appends the line of a message, or nothing if memory is refused.
+fn append_whole(out: &mut Vec<u8>, message: &Message<'_>) -> Result<(), AllocError>
+    ensures put { OnOk result (out.new.items ≡ out.old.items ++ canonical (message_of message.now)) }
+    ensures refused { OnErr result (out.new.items ≡ out.old.items) }
+{
+    let start = out.len();
+    let appended = append_message(out, message);
+    if appended.is_err() {
+        out.truncate(start);
+    }
+    appended
+}
+
+/// Appends the canonical line of a message, without a line end: its number, and each field after one space. A rating
+/// has two digits after its point; an empty text is written as nothing, without its space.
+///
+/// A refusal of memory leaves `out` as it was.
+pub fn print_message(
+    _alloc: Global,
+    message: &Message<'_>,
+    out: &mut Vec<u8>,
+) -> Result<(), AllocError>
+    // What is appended is the canonical line, and a line that says the message.
+    ensures appended { OnOk result (out.new.items ≡ out.old.items ++ canonical (message_of message.now)) }
+    ensures spelled { MessageText (message_of message.now) (canonical (message_of message.now)) }
+    // A refusal changes nothing.
+    ensures refused { OnErr result (out.new.items ≡ out.old.items) }
+{
+    // A law, which costs nothing when it runs.
+    messages_are_well_formed(message);
+    append_whole(out, message)
+}
