@@ -18,8 +18,8 @@ use Rattle.fibs_cli.specs.declared.arguments.Request.TheVariants.{Show, Plays, R
 use Rattle.fibs_engine.specs.declared.fault.EngineFault.{EngineFault}
 use Rattle.fibs_engine.specs.declared.fault.EngineFault.TheVariants as fault
 
--- what the standard input has left to read, and what the standard output and the standard error hold: Some list where
--- a stream tells its bytes, None where it tells nothing
+-- what the standard input has left to read, and what the standard output and the standard error hold: Some list if
+-- a stream tells its bytes, None if it tells nothing
 pub record Streams : Type 0 where
   pub input : Option (List ℕ)
   pub out : Option (List ℕ)
@@ -92,7 +92,7 @@ fault_line fault.Device = codes "fibs: device\n"
 fault_line fault.Memory = codes "fibs: memory\n"
 
 -- what standard error gains as the program ends: nothing after an end, else the line that says why, or a front of it
--- where it can't be written
+-- if it can't be written
 abbrev pub SaysWhy : Result ℕ EngineFault → Option (List ℕ) → Option (List ℕ) → Type 0
 SaysWhy (Ok status) held now = Keeps held now
 SaysWhy (Err why) held now = Appends held now (fault_line why) ⊎ GainedFront held now (fault_line why)

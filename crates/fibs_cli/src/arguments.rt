@@ -13,14 +13,14 @@ Examples:
   fibs show < session.log        print what each line of a saved session says
   nc fibs.com 4321 | fibs show   the same of a connection, as its lines come
   fibs plays board:You:...       list the plays of a board
-  fibs replay < double-click.txt run a script of clicks, cuts and losses, and print what happened
+  fibs replay < double-click.txt run a script of clicks, cuts and losses
   fibs connect HOST PORT NAME    log in, and play
   fibs loop < double-click.txt   play the same over sockets of this machine
 
-Exit status: 0 done, 2 wrong arguments, 3 refused input, 4 input, output or a socket of `loop` failed,
-5 out of memory";
+Exit status: 0 done, 2 wrong arguments, 3 refused input,
+4 input, output or a socket of `loop` failed, 5 out of memory";
 
-/// What `--version` says behind the program's name. CHANGELOG.md has the same number.
+/// What `--version` says after the program's name. CHANGELOG.md has the same number.
 const VERSION: &str = "0.2.0 (proved with rattle-kit-13f)";
 
 const SHOW: &str = "Print what each line of the server says";
@@ -33,19 +33,22 @@ Reads the server's bytes from standard input, and prints for each line one of
   board:...               a board of style 3 whose 53 fields are right
   message N ...           a numbered message of CLIP, its fields right
   text TEXT               any other line
-  cut TEXT                a line of more than 16,384 bytes, of which these are the first
-  malformed N FIELD WHY   a board (N is 0) or message N whose field FIELD is the first that is
-                          wrong: WHY is Missing, Extra, NotANumber, OutOfRange or BadName
+  cut TEXT                a line of more than 16,384 bytes, of which these are
+                          the first
+  malformed N FIELD WHY   a board (N is 0) or message N whose field FIELD is
+                          the first that is wrong: WHY is Missing, Extra,
+                          NotANumber, OutOfRange or BadName
 
-and at the end, where bytes stand after the last line end,
+and at the end, if there are bytes after the last line end,
 
   unfinished COUNT        how many they are, up to 16,384
 
-Telnet commands, and the prompts `login: ` and `> ` at a line's start, are left out. In TEXT and
-in a message each backslash and each byte that is not printable ASCII is `\\x` and two hexadecimal
-digits.
+Telnet commands, and the prompts `login: ` and `> ` at a line's start, are left
+out. In TEXT and in a message each backslash and each byte that is not
+printable ASCII is `\\x` and two hexadecimal digits.
 
-Where standard output is a terminal a board is drawn, and the other lines are put in words.";
+If standard output is a terminal, a board is drawn, and the other lines are put
+in words.";
 
 const PLAYS: &str = "List the plays of a board";
 
@@ -54,40 +57,50 @@ List the plays of a board.
 
 LINE is a board line of style 3. Prints
 
-  phase PHASE             where the game stands: Over, AnswerDouble, OpponentActs,
-                          RollOrDouble, Move or Passing
+  phase PHASE             what may happen next: Over, AnswerDouble,
+                          OpponentActs, RollOrDouble, Move or Passing
 
-and in the phase Move each different play, one for each arrangement of the checkers that can be
-reached,
+and in the phase Move each different play, one for each arrangement of the
+checkers that can be reached,
 
-  move FROM-TO ..         the command that leads there, in the place numbers of LINE;
-                          of several the greatest
+  move FROM-TO ..         the command that leads there, in the place numbers of
+                          LINE; of several the greatest
 
-Where standard output is a terminal the board is drawn above them.
+If standard output is a terminal, the board is drawn above them.
 
-For any other LINE it prints nothing, says why on standard error, and ends with status 3:
+For any other LINE it prints nothing, says why on standard error, and ends with
+status 3:
 
   not a board             LINE does not begin with `board:`
   malformed 0 FIELD WHY   a field is wrong, as for `fibs show`
-  position WHY            it is not a board of one who plays: WHY is NotYou (field 2),
-                          TooManyOwn or TooManyOther (more than 15 checkers)";
+  position WHY            the board has no position of the user: WHY is NotYou
+                          (field 2 is not `You`), TooManyOwn or TooManyOther
+                          (more than 15 checkers)";
 
 const REPLAY: &str = "Run a script of events, and print what happened";
 
 const REPLAY_LONG: &str = "\
-Run a script of events between a client and a model of the server, and print what happened.
+Run a script of events between a client and a model of the server, and print
+what happened.
 
-Reads the script from standard input, at most 1048576 bytes. Its first line is the server's first board.
-Each other line is one event:
+Reads the script from standard input, at most 1048576 bytes. Its first line is
+the server's first board. Each other line is one event:
 
-  open                    the client connects; it logs in as ann, with the password secret
-  click COMMAND           the player decides, as in `click roll` and `click move 24-18`
-  plain COMMAND           the player sends another command, as in `plain say hello`
-  order roll              from now on the client rolls by itself where the player may not double,
+  open                    the client connects; it logs in as ann, with the
+                          password secret
+  click COMMAND           the player decides, as in `click roll` and
+                          `click move 24-18`
+  plain COMMAND           the player sends another command, as in
+                          `plain say hello`
+  order roll              from now on the client rolls by itself if the player
+                          may not double,
   withdraw roll           and no longer
-  deliver N               the next N bytes reach the client, or all that are on their way
-  lose K                  the connection breaks; of what is on its way to the server K bytes arrive
-  serve C D1 D2           the server takes the next line of connection C, and rolls D1 and D2
+  deliver N               the next N bytes reach the client, or all if fewer
+                          are on their way
+  lose K                  the connection breaks; of what is on its way to the
+                          server the first K bytes arrive
+  serve C D1 D2           the server takes the next line of connection C, and
+                          rolls D1 and D2
   own BOARD               the server's board becomes this one, and is sent
   repeat                  the server sends its board again
   text LINE               the server sends a line
@@ -108,95 +121,127 @@ For example, a player who clicks twice before the answer comes:
   shown 1 board:...
   end 12
 
-It prints what the client and the server noted, a line each: opened C, loggedin C, welcomed C,
-informed C AUTOMOVE GREEDY, shown C BOARD, clicked C ok or clicked C WHY, ordered C, withdrawn C,
-sent C BOARD COMMAND, took C BOARD COMMAND, undone C BOARD COMMAND, and lost C, or
-lost C BOARD COMMAND with what was not confirmed; C is the connection. The last line is one of
+It prints what the client and the server noted, a line each: opened C,
+loggedin C, welcomed C, informed C AUTOMOVE GREEDY, shown C BOARD, clicked C ok
+or clicked C WHY, ordered C, withdrawn C, sent C BOARD COMMAND,
+took C BOARD COMMAND, undone C BOARD COMMAND, and lost C, or
+lost C BOARD COMMAND with what was not confirmed. C is the connection. The last
+line is one of
 
   end DONE                each event was done, and DONE is how many
-  refused DONE N WHY      the event after DONE ones may not be, with status 3
-  script LINE             nothing was run: this line is unreadable, or, where it is 0, the script is
-                          too long; with status 3";
+  refused DONE N WHY      the event after the first DONE was refused; status 3
+  script LINE             nothing was run: the line of this number is
+                          unreadable, or, if it is 0, the script is too long;
+                          status 3";
 
 const CONNECT: &str = "Log in at a server, and play";
 
 const CONNECT_LONG: &str = "\
 Log in at a server, and play.
 
-HOST is a name or an address, PORT 1 to 65535. The first line of standard input is the password: it is
-never printed, but a terminal shows what is typed. This asks for it without showing it, and becomes
-this command:
+HOST is a name or an address, PORT 1 to 65535. The first line of standard input
+is the password. It is never printed, but a terminal shows what is typed. This
+command asks for the password without showing it, and then becomes
+`fibs connect`:
 
   fibs-play fibs.com 4321 ann
 
-With `--password-file FILE` the password is the first line of a file, as of /dev/fd/3 or a pipe with a
-name, and each line of standard input is typed. Where FILE can't be read the status is 4.
+With `--password-file FILE` the password is the first line of FILE, which may
+be /dev/fd/3 or a named pipe, and each line of standard input is a typed line.
+If FILE can't be read, the status is 4.
 
-With `--log FILE` each line of the server is appended to FILE as it came, and behind `> ` what is sent,
-at once; the password never is. `fibs show` reads such a file. If it can't be written the status is 4.
+With `--log FILE` each line of the server is appended to FILE as it came, and
+after `> ` what is sent, at once; the password never is. `fibs show` reads such
+a file. If FILE can't be written, the status is 4.
 
 Then each line that is typed is one of
 
   roll                    roll the dice
-  move 8-5 6-5            play, in the places of the board line; `move bar-20`, `move 3-off`
-  double, accept, reject  offer the cube, take it, give the game up
-  resign n                offer to lose a single game; `resign g` a gammon, `resign b` a backgammon
-  order roll              roll by itself where you may not double, until `withdraw roll` or the end of
+  move 8-5 6-5            play, in the place numbers of the board line;
+                          `move bar-20` enters, `move 3-off` bears off
+  double, accept, reject  offer the cube; take it; give the game up
+  resign n                offer to lose a single game; `resign g` a gammon,
+                          `resign b` a backgammon
+  order roll              roll at each new board on which you are to roll and
+                          may not double, until `withdraw roll` or the end of
                           the connection
   board                   ask for the board again
   who                     ask for the list of players
-  say good luck           to the opponent; so `kibitz TEXT` and `whisper TEXT` to those who watch
-  tell bob hello          to a player; `message bob hello` leaves it, `shout hello` is for all
-  invite bob 5            to a match of 5 points; `invite bob` to resume one
-  join bob                the match to which bob invites; `join` too
-  toggle ready            whether you are ready to play
-  toggle automove         turn off what the server plays by itself; so `toggle greedy`. The client
-                          hears of it at the next login: `bye`, and then `open`
+  say good luck           talk to the opponent
+  kibitz good luck        talk to all who play and watch at your board;
+                          `whisper good luck` to those who watch
+  tell bob hello          talk to a player; `message bob hello` leaves it for
+                          later, `shout hello` is for all
+  invite bob 5            invite to a match of 5 points; `invite bob` to resume
+                          one
+  join bob                join the match to which bob invites; `join` too
+  toggle ready            say whether you are ready to play
+  toggle automove         turn off what the server plays by itself; so does
+                          `toggle greedy`. The client learns of it at the next
+                          login: type `bye`, and then `open`
   bye                     leave the server
   an empty line           hear what the server has sent meanwhile
-  players                 list the players that are known
-  open                    connect again; the server is heard after the next line
+  players                 list the players that the server has listed
+  open                    connect again; the server is heard after the next
+                          line
   quit                    end; so does the end of the input
 
 and is answered by one of
 
-  sent COMMAND            it went to the server; so says `sent roll` after a board that an order rolled
+  sent COMMAND            the command went to the server; after a board
+                          `sent roll` says that the standing order rolled
   ordered, withdrawn      the order to roll is given, or withdrawn
-  refused NUMBER WHY      it can't be sent now, or is against the rules: nothing was sent
-  fault NUMBER WHY        a name or a text is none
+  refused NUMBER WHY      it can't be sent now, or is against the rules:
+                          nothing was sent
+  fault NUMBER WHY        a name or a text is not valid: nothing was sent
   unknown                 it is no command, or has more than 4096 bytes
   player NAME RATING      for `players`, a line for each
   no connection           the server can't be reached
 
-After each line, but not after `open`, `players` and a line that is too long, the server is heard until it
-is quiet for half a second. Where standard input is a terminal that is a fiftieth of a second, and the
-server is heard while nothing is typed, too. What it sends is printed as by `fibs show`, after a board that
-has a position `phase PHASE`, and `confirmed COMMAND` where the board that is shown is of another game than
-the one that was played on.
-`lost`, or `lost COMMAND` with what was not confirmed, says that the connection is over: nothing is
-sent again by itself, and `open` shows where the game stands.
+After each line, but not after `open`, `players` and a line that is too long,
+the server is heard until it is quiet for half a second. If standard input is a
+terminal, that is a fiftieth of a second, and the server is heard while nothing
+is typed, too. What it sends is printed as by `fibs show`. After a board that
+has a position comes `phase PHASE`, and then `confirmed COMMAND` if the board
+shows another game than the one on which COMMAND was played.
 
-Where standard output is a terminal a board is drawn, and the other lines are put in words.
+`lost`, or `lost COMMAND` if COMMAND was not confirmed, says that the
+connection is over. Nothing is sent again by itself: `open` connects again, and
+shows the game as the server has it.
 
-A password or NAME that is none ends it with status 3, and `fault NUMBER WHY` on standard error.";
+If standard output is a terminal, a board is drawn, and the other lines are put
+in words.
+
+If the password or NAME is not valid, the status is 3, and standard error has
+`fault NUMBER WHY`.";
 
 /// What `--password-file` says.
 const PASSWORD_FILE: &str = "A file whose first line is the password";
 
 /// What `--log` says.
-const LOG: &str = "A file to which each line that comes, and what is sent, is appended";
+const LOG: &str = "A file to which the conversation is appended";
+
+/// What `HOST`, `PORT`, `NAME` and `LINE` say.
+const HOST: &str = "The server's name or address";
+
+const PORT: &str = "The server's port, 1 to 65535";
+
+const NAME: &str = "The name under which you log in";
+
+const LINE: &str = "A board line of style 3, which begins with `board:`";
 
 const LOOP: &str = "Play a script over sockets of this machine";
 
 const LOOP_LONG: &str = "\
 Play a script over sockets of this machine.
 
-Reads a script from standard input, and prints, as `fibs replay` does and with its status; `fibs help replay`
-has the lines of both. A client and a model server play it in one process, over a TCP connection of
-127.0.0.1 for each `open`. What one of them sends waits there until `deliver`, `serve` or `lose` moves it
-across, in portions of at most 1024 bytes.
+Reads a script from standard input, and prints what `fibs replay` prints, with
+the same status; `fibs help replay` lists the lines of both. A client and a
+model server play it in one process, over a TCP connection of 127.0.0.1 for
+each `open`. What one of them sends waits there until `deliver`, `serve` or
+`lose` moves it across, in portions of at most 1024 bytes.
 
-A socket that fails is a device that failed: the status is 4, after the log so far.";
+If a socket fails, the status is 4, after the log so far.";
 
 /// What the command line asks for.
 #[derive(Clone, Copy)]
@@ -257,7 +302,7 @@ fn answer_to<'a>(alloc: Global, error: &Error) -> Answer<'a> {
     }
 }
 
-/// The answer of this kind and text. Help, and the version, come where they were asked for alone, and a refusal at
+/// The answer of this kind and text. Help, and the version, come only if they were asked for, and a refusal at
 /// every other mistake.
 fn answer_of<'a>(kind: ErrorKind, text: String) -> Answer<'a>
     ensures memory { kind ≡ ErrorKind.OutOfMemory → result ≡ Answer.Memory }
@@ -302,7 +347,7 @@ fn plays<'a>(alloc: Global) -> Result<Command<'a>, AllocError> {
     Command::new(alloc, "plays")
         .about(PLAYS)
         .long_about(PLAYS_LONG)
-        .arg(Arg::new(alloc, "LINE").required(true))
+        .arg(Arg::new(alloc, "LINE").required(true).help(LINE))
 }
 
 fn replay<'a>(alloc: Global) -> Command<'a> {
@@ -312,7 +357,9 @@ fn replay<'a>(alloc: Global) -> Command<'a> {
 }
 
 fn connect<'a>(alloc: Global) -> Result<Command<'a>, AllocError> {
-    let port = Arg::new(alloc, "PORT").value_parser(ValueParser::unsigned(1, 65535));
+    let port = Arg::new(alloc, "PORT")
+        .value_parser(ValueParser::unsigned(1, 65535))
+        .help(PORT);
     let password = Arg::new(alloc, "password-file")
         .long("password-file")
         .value_name("FILE")
@@ -324,9 +371,9 @@ fn connect<'a>(alloc: Global) -> Result<Command<'a>, AllocError> {
     Command::new(alloc, "connect")
         .about(CONNECT)
         .long_about(CONNECT_LONG)
-        .arg(Arg::new(alloc, "HOST").required(true))?
+        .arg(Arg::new(alloc, "HOST").required(true).help(HOST))?
         .arg(port.required(true))?
-        .arg(Arg::new(alloc, "NAME").required(true))?
+        .arg(Arg::new(alloc, "NAME").required(true).help(NAME))?
         .arg(password)?
         .arg(log)
 }

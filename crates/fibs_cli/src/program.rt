@@ -105,7 +105,7 @@ pub fn status<E: Write>(ending: Result<u8, EngineFault>, err: &mut E) -> u8
     match ending {
         Ok(status) => status,
         Err(fault) => {
-            // where it can't be said, the status says it alone
+            // if it can't be printed, the status alone says it
             let _said = write_bytes(line_of(fault), err);
             fault.status()
         }
