@@ -79,7 +79,7 @@ install: install-program install-lib ## copies the program and the library for C
 
 install-program: all install-program-files ## the program alone, with fibs-play, its page and the completions
 
-# the program as it stands
+# the program as it is
 install-program-files: install-surface
 	install -m 755 bin/fibs $(DESTDIR)$(PREFIX)/bin/fibs
 

@@ -1,8 +1,8 @@
 /* Logs in at a server and plays its first legal play until the match is over: bot HOST PORT NAME, the password being the
  * first line of standard input.
  *
- * It prints each command that it sends, but the login, and each phase. Where the connection is lost it opens another one,
- * and the game goes on as the server has it. Its status is 0 where the match was played out, else 4.
+ * It prints each command that it sends, but the login, and each phase. If the connection is lost it opens another one,
+ * and the game goes on as the server has it. Its status is 0 if the match was played out, else 4.
  *
  *     cc -Iinclude -o bot examples/bot.c lib/libfibs.a
  */
@@ -46,7 +46,7 @@ static int dial(const char *host, const char *port) {
     return server;
 }
 
-/* Sends what is to be sent, and prints it where it is no login. */
+/* Sends what is to be sent, and prints it if it is no login. */
 static bool send_wire(const struct bot *bot, const fibs_wire *wire, bool is_login) {
     if (!is_login && wire->len > 0) {
         printf("> %.*s", (int)wire->len, wire->bytes);
@@ -65,7 +65,7 @@ static bool send_wire(const struct bot *bot, const fibs_wire *wire, bool is_logi
     return true;
 }
 
-/* Makes a decision, where the client allows it. */
+/* Makes a decision, if the client allows it. */
 static bool decide(struct bot *bot, const fibs_decision *decision) {
     static fibs_wire wire;
     fibs_status status = fibs_client_decide(&bot->client, decision, &wire);

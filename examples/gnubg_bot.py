@@ -37,7 +37,7 @@ from read_session import moved
 ANSWERS = {'roll': fibs.ROLL, 'double': fibs.DOUBLE, 'take': fibs.ACCEPT, 'accept': fibs.ACCEPT, 'beaver': fibs.ACCEPT,
            'drop': fibs.REJECT, 'reject': fibs.REJECT, 'pass': fibs.REJECT}
 
-# What GNU Backgammon is told.
+# The commands that GNU Backgammon is given.
 SCRIPT = """set automatic game off
 set evaluation chequerplay evaluation plies {plies}
 set evaluation cubedecision evaluation plies {plies}
@@ -237,7 +237,7 @@ class Bot:
 
     def is_stuck(self):
         """True if the decision that waits is not carried out any more, by what the server says or after a long time.
-        The client refuses each other one, until a new connection shows how the game stands."""
+        The client refuses each other one, until a new connection shows the game."""
         return self.has_waited(self.sent) or self.is_refused and time.monotonic() - self.sent > 2
 
     def piece(self):
@@ -292,7 +292,7 @@ class Bot:
                 self.read(line.text.decode('latin-1').strip())
 
     def set_up(self, info):
-        """Turns off what the server would play by itself, and is ready. That it is off is told at a new login."""
+        """Turns off what the server would play by itself, and is ready. The server says that it is off at a new login."""
         automove, greedy, ready = info[4], info[10], info[16]
         for is_wrong, command in ((not ready, 'ready'), (automove, 'automove'), (greedy, 'greedy')):
             if is_wrong:
@@ -301,7 +301,7 @@ class Bot:
             self.command('bye')
 
     def read(self, text):
-        """A text may be an invitation, or say how the match stands."""
+        """A text may be an invitation, or say what becomes of the match."""
         if re.fullmatch(r'%s wants to (resume|play) .* with you\.' % re.escape(self.other), text):
             self.command('join ' + self.other)
         elif re.match(r"Type 'join' if you want to play the next game", text):

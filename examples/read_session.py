@@ -66,7 +66,7 @@ def tell(before, after):
         before = None
     elif (before.checkers, before.opponent_checkers) != (after.checkers, after.opponent_checkers):
         play = played(before, after)
-        print('%s: %s' % (names[play[0]], play[1]) if play else 'The checkers stand otherwise')
+        print('%s: %s' % (names[play[0]], play[1]) if play else 'The checkers have changed, not by one legal play')
     if before is not None and before.cube != after.cube:
         print('The cube shows %d' % after.cube)
     roll = rolled(before, after)

@@ -8,7 +8,7 @@ players, scores, dice, moves, and what was done with the cube. If a session has 
 played last is written, or the Nth. The status is 1 if there is none.
 
 The boards say what was played: between two of them lies the shortest run of rolls, plays and doubles that leads from
-one to the other, with the dice that the server's texts tell. So what a lost connection hid is filled in, if the rules
+one to the other, with the dice that the server's texts name. So what a lost connection hid is filled in, if the rules
 tell what it was; dice that nobody showed are then such that the play was legal. A game of which the beginning is
 missing is left out; one that can't be followed to its end has its result alone. Both are said on standard error.
 
@@ -77,7 +77,7 @@ def dice_of(board):
 
 
 def rolls(state, hints):
-    """Each roll of a state without dice, with the hints that are left: the dice that the server told, or any."""
+    """Each roll of a state without dice, with the hints that are left: the dice that the server named, or any."""
     told = hints[:1]
     if state.turn is None:
         choices = [(side, dice) for side in (OWN, OTHER) for dice in DICE if dice[0] != dice[1]]
@@ -160,7 +160,7 @@ def way(state, hints, board, most):
 
 
 def shortest_way(state, hints, board):
-    """The way with the fewest plays; what the server told of dice is left aside if no way has it."""
+    """The way with the fewest plays; what the server said of dice is left aside if no way has it."""
     for told in ([hints, ()] if hints else [()]):
         for most in range(MOST_PLAYS + 1):
             found = way(state, told, board, most)
@@ -212,7 +212,7 @@ class Match:
         return bool(self.games) and self.length < fibs.UNLIMITED and max(self.games[-1].scores_after()) >= self.length
 
 
-# What the server says: the side that does it, if `You` or a name stands there.
+# What the server says: the side that does it, if `You` or a name is there.
 ROLLS = re.compile(r'(\S+) rolls? ([1-6]) and ([1-6])\.')
 OPENING = re.compile(r'You rolled ([1-6]), \S+ rolled ([1-6])')
 DOUBLES = re.compile(r'(\S+) doubles?\. (?:Type|Please) .*')
@@ -222,7 +222,7 @@ WINS = re.compile(r'(\S+) wins? the game and gets? (\d+) points?\..*')
 
 
 class Reader:
-    """Reads a session, line by line, and keeps its matches, and the rolls that the server told since the last board."""
+    """Reads a session, line by line, and keeps its matches, and the rolls that the server named since the last board."""
 
     def __init__(self, complain):
         self.complain = complain

@@ -11,7 +11,7 @@
  *
  *     fibs_status status = fibs_client_new(&client, name, strlen(name), password, strlen(password));
  *     if (status == FIBS_STATUS_DONE) {
- *         status = fibs_client_open(&client, &wire);      // a connection stands: the login
+ *         status = fibs_client_open(&client, &wire);      // there is a connection: the login
  *         send(server, wire.bytes, wire.len, 0);
  *     }
  *     while (status == FIBS_STATUS_DONE && (got = recv(server, piece, sizeof piece, 0)) > 0) {
@@ -39,7 +39,7 @@
  *   which holds nothing; `new` makes it hold something, `free` gives that back and makes it NULL.
  * - A function takes the address of a handle, and that address is not null. A handle that is NULL is answered by
  *   FIBS_STATUS_NO_HANDLE; `free` then does nothing.
- * - An assignment copies the pointer and not what it points to: two handles then stand for one thing. After `free` of
+ * - An assignment copies the pointer and not what it points to: two handles then refer to one thing. After `free` of
  *   one the other must not be used.
  * - Calls for different handles may run in different threads at the same time; calls for one handle one at a time. Even
  *   a call that only asks takes the handle for itself while it runs, so no handle is `const`. Functions without a
@@ -55,7 +55,7 @@
  * Statuses
  * - A call answers FIBS_STATUS_DONE, or the first reason against it, in the order in which its comment lists them.
  * - After any other status nothing was changed and nothing was written, but what the comment says.
- * - FIBS_STATUS_SHORT: the room is too short. How much is wanted is told, and no byte of the room was written.
+ * - FIBS_STATUS_SHORT: the room is too short. How much is needed is set, and no byte of the room was written.
  * - FIBS_STATUS_MEMORY: memory ran out. Only `new`, fibs_plays and fibs_directory_note take memory.
  * - Each function returns, whatever bytes it is given, and reads and writes nothing else. Flags are 0 or 1.
  */
@@ -110,7 +110,7 @@ enum {
     FIBS_STATUS_OFFLINE = 2,          /* no connection is open */
     FIBS_STATUS_NOT_READY = 3,        /* the server has not sent message 1 or not message 2 on this connection */
     FIBS_STATUS_SERVER_PLAYS = 4,     /* the latest message 2 says that the server moves or bears off by itself */
-    FIBS_STATUS_NO_BOARD = 5,         /* no board was shown on this connection */
+    FIBS_STATUS_NO_BOARD = 5,         /* no board on which the user plays was shown on this connection */
     FIBS_STATUS_WAITING = 6,          /* a decision was sent, and no board that differs was shown since */
     FIBS_STATUS_NOT_YOURS = 7,        /* the player does not decide on this board */
     FIBS_STATUS_WRONG_KIND = 8,       /* the board's phase has no such decision, or the cube forbids it */
@@ -157,7 +157,7 @@ enum {
 const char *fibs_status_name(fibs_status status);
 
 /* The same, copied, without a zero: at most FIBS_MAX_STATUS_NAME bytes. *len is its length. NO_STATUS; SHORT, and *len
- * is told. */
+ * is set. */
 fibs_status fibs_status_text(fibs_status status, char *text, size_t room, size_t *len);
 
 /* ---- Lines ---- */
@@ -186,7 +186,7 @@ fibs_status fibs_lines_feed(fibs_lines *lines, const char *piece, size_t len, ch
 /* Forgets what has come: the next byte is the first of a new stream. NO_HANDLE. */
 fibs_status fibs_lines_reset(fibs_lines *lines);
 
-/* How many bytes stand after the last line end, at most FIBS_MAX_LINE. NO_HANDLE. */
+/* How many bytes follow the last line end, at most FIBS_MAX_LINE. NO_HANDLE. */
 fibs_status fibs_lines_held(fibs_lines *lines, size_t *len);
 
 /* ---- What a line says ---- */
@@ -224,11 +224,11 @@ typedef struct fibs_told {
     size_t bytes;              /* how many bytes these have in the text */
 } fibs_told;
 
-/* Reads the lines of a piece, many in one call: the text of each stands behind that of the one before, and what each is
+/* Reads the lines of a piece, many in one call: their texts come one after another in text, and what each is
  * in rows, of which there are count. It stops at the end of the piece, when the rows are full, or when less than
  * FIBS_MAX_LINE bytes of the room are left. Call it again with what is left of the piece, until nothing is; each call
  * begins text and rows anew, and reads something if there is something. SHORT if room is below FIBS_MAX_LINE or count
- * is 0: told->used is then 0, told->bytes and told->lines are the room and the count that are wanted; NO_HANDLE. */
+ * is 0: told->used is then 0, told->bytes and told->lines are the room and the count that are needed; NO_HANDLE. */
 fibs_status fibs_read_lines(fibs_lines *lines, const char *piece, size_t len, char *text, size_t room,
                             fibs_line *rows, size_t count, fibs_told *told);
 
@@ -272,11 +272,11 @@ enum {
     FIBS_BOARD_NUMBERS = 50                /* how many numbers there are */
 };
 
-/* What a line is; if it is a board, its fields too. *board stays as it was if it is none. */
+/* What a line is; if it is a board, its fields too. *board stays as it was if it is not a board. */
 fibs_kind fibs_read_board(const char *line, size_t len, fibs_board *board);
 
 /* The one line that says the board of a line: canonical decimals, no spaces at its end, at most FIBS_MAX_BOARD bytes.
- * *printed is its length. FIELD_MISSING to FIELD_BAD_NAME if the line says no board; SHORT, and *printed is told. */
+ * *printed is its length. FIELD_MISSING to FIELD_BAD_NAME if the line says no board; SHORT, and *printed is set. */
 fibs_status fibs_print_board(const char *line, size_t len, char *text, size_t room, size_t *printed);
 
 /* The kinds of fields. */
@@ -291,8 +291,8 @@ typedef struct fibs_field {
     uint8_t kind;              /* one of FIBS_FIELD_.. */
 } fibs_field;
 
-/* A field of a message, counted from 1 behind the message's number (docs/FORMATS.md lists them). Its bytes are copied
- * into text. NO_FIELD if the line is no message, or the message has no such field; SHORT, and *field is told. */
+/* A field of a message, counted from 1 after the message's number (docs/FORMATS.md lists them). Its bytes are copied
+ * into text. NO_FIELD if the line is no message, or the message has no such field; SHORT, and *field is set. */
 fibs_status fibs_read_field(const char *line, size_t len, size_t number, fibs_field *field, char *text, size_t room);
 
 /* ---- The rules ---- */
@@ -312,7 +312,7 @@ enum {
 typedef struct fibs_decision {
     uint8_t kind;              /* one of FIBS_DECISION_.. */
     uint8_t count;             /* how many steps a move has, at most FIBS_MAX_STEPS; of every other kind 0 */
-    fibs_step steps[4];        /* the steps; those behind count are not looked at */
+    fibs_step steps[4];        /* the steps; those after count are not looked at */
 } fibs_decision;
 
 /* The name of a kind of decision, such as `Roll`; the empty text if there is no such kind. */
@@ -337,12 +337,12 @@ fibs_status fibs_allows(const char *line, size_t len, const fibs_decision *decis
 
 /* The plays of a board line, each as a decision to move: for each arrangement of checkers that a legal play reaches the
  * greatest such play, the greatest first; none if the player does not move. *found is how many there are, at most
- * FIBS_MAX_PLAYS; plays has room for count. As of fibs_phase; MEMORY; SHORT, and *found is told. */
+ * FIBS_MAX_PLAYS; plays has room for count. As of fibs_phase; MEMORY; SHORT, and *found is set. */
 fibs_status fibs_plays(const char *line, size_t len, fibs_decision *plays, size_t count, size_t *found);
 
 /* The command of a decision, such as `move 24-18`, without a line end, at most FIBS_MAX_COMMAND bytes. *len is its
  * length. direction is number[FIBS_BOARD_DIRECTION] of the board on which it is made. NO_DECISION; SHORT, and *len is
- * told. */
+ * set. */
 fibs_status fibs_decision_text(const fibs_decision *decision, int32_t direction, char *text, size_t room, size_t *len);
 
 /* The decision whose command the text is, to the byte. NO_COMMAND. */
@@ -353,7 +353,7 @@ fibs_status fibs_read_decision(const char *text, size_t len, int32_t direction, 
 /* A client: connection after connection, what was heard on each, and the decision that waits. */
 typedef struct fibs_client_held *fibs_client;
 
-/* What is to be sent at once, as it stands: some commands, each with CR LF. If a call answers another status than DONE,
+/* What is to be sent at once, unchanged: some commands, each with CR LF. If a call answers another status than DONE,
  * it is empty. */
 typedef struct fibs_wire {
     size_t len;                /* at most FIBS_MAX_WIRE */
@@ -383,7 +383,7 @@ fibs_status fibs_client_new(fibs_client *client, const char *name, size_t name_l
 /* Gives the client's memory back, and makes the handle NULL. */
 void fibs_client_free(fibs_client *client);
 
-/* A connection stands: hands out the login. NO_HANDLE; ALREADY_OPEN. */
+/* There is a connection: hands out the login. NO_HANDLE; ALREADY_OPEN. */
 fibs_status fibs_client_open(fibs_client *client, fibs_wire *wire);
 
 /* Hears a piece up to and with the next line end; copies the line that ends there, if one does, into text, and hands
@@ -410,7 +410,7 @@ fibs_status fibs_client_withdraw_roll(fibs_client *client);
 /* Whether there is a standing order on the open connection. NO_HANDLE. */
 fibs_status fibs_client_ordered(fibs_client *client, uint8_t *ordered);
 
-/* The connection ended: nothing of it is kept. Tells the decision that waited, or one of the kind NONE; it is never
+/* The connection ended: nothing of it is kept. Gives the decision that waited, or one of the kind NONE; it is never
  * sent again by itself. NO_HANDLE. */
 fibs_status fibs_client_lose(fibs_client *client, fibs_outstanding *waited);
 
@@ -443,7 +443,7 @@ fibs_status fibs_directory_len(fibs_directory *directory, size_t *len);
 fibs_status fibs_directory_clear(fibs_directory *directory);
 
 /* A field of the player at a place, counted from 0: the fields are those of message 5, counted from 1 to 12. Its bytes
- * are copied into text. NO_HANDLE; NO_PLAYER; NO_FIELD; SHORT, and *field is told. */
+ * are copied into text. NO_HANDLE; NO_PLAYER; NO_FIELD; SHORT, and *field is set. */
 fibs_status fibs_directory_field(fibs_directory *directory, size_t place, size_t number, fibs_field *field, char *text,
                                  size_t room);
 

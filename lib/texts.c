@@ -1,4 +1,4 @@
-/* The texts of the library that end with a zero. A function of Rattle can't return a pointer, so these stand in C. They
+/* The texts of the library that end with a zero. A function of Rattle can't return a pointer, so these are in C. They
  * are tables and nothing else; tests/c/rooms.c and tests/c_header.py hold them to the library's own names. */
 #include "fibs.h"
 

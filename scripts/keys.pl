@@ -1,15 +1,15 @@
 #!/usr/bin/perl
-# A filter of rlwrap for fibs-play: Ctrl-C cancels what is typed; pressed twice where nothing is, it leaves.
+# A filter of rlwrap for fibs-play: Ctrl-C cancels what is typed; pressed twice if nothing is, it leaves.
 use strict;
 use lib ($ENV{RLWRAP_FILTERDIR} or '.');
 use RlwrapFilter;
 
 my $pressed = 0;
 
-# The key, what is before the cursor and behind it, and the history. The first answer is shown until the next key.
+# The key, what is before the cursor and after it, and the history. The first answer is shown until the next key.
 sub cancels {
-    my ($key, $before, $behind, @history) = @_;
-    if ("$before$behind" ne '') {
+    my ($key, $before, $after, @history) = @_;
+    if ("$before$after" ne '') {
         $pressed = 0;
         return ('cancelled', '', '', @history);
     }

@@ -65,7 +65,7 @@ def bot_of(text):
 
 
 def account_of(text):
-    """NAME:PASSWORD, with :RATING behind it or not."""
+    """NAME:PASSWORD, with :RATING after it or not."""
     name, password, *rating = text.split(':')
     return Player(name, password, float(rating[0]) if rating else 1500.0)
 
@@ -95,20 +95,20 @@ def parser():
         help='roll for a player who may not double, and with `always` also for one who has turned `double` off')
     add('--keep-turn-at-double', action='store_true', help='an open double is not shown as a turn given away')
     add('--show-resignations', action='store_true', help='an open offer to resign is shown as a turn given away')
-    add('--loose-flags', action='store_true', help='boards say that one may double where the match forbids it')
+    add('--loose-flags', action='store_true', help='boards say that one may double even if the match forbids it')
     add('--refuse', type=refusal_of, action='append', default=[], metavar='COMMAND[=TIMES]',
         help='refuse a right command by a text alone: ' + ', '.join(REFUSED))
-    add('--keep-games', action='store_true', help='a game goes on where a connection breaks; who comes again plays on')
+    add('--keep-games', action='store_true', help='a game goes on after a connection breaks; who comes again plays on')
     add('--mixed-sides', action='store_true', help='chance says who is O, and who goes from 24 to 1')
-    add('--no-changes', action='store_true', help='a change of a player is not told by lines 5 and 6')
-    add('--prompts', action='store_true', help='a prompt `> ` behind each answer, to a client too')
+    add('--no-changes', action='store_true', help='a change of a player is not reported by lines 5 and 6')
+    add('--prompts', action='store_true', help='a prompt `> ` after each answer, to a client too')
     group = line.add_argument_group('connections')
     add = group.add_argument
     add('--portions', type=int, default=0, metavar='BYTES', help='send in pieces of at most so many bytes')
     add('--pause', type=float, default=0, metavar='MS', help='wait between two pieces')
     add('--delay', type=float, default=0, metavar='MS', help='everything is so long on its way to the player')
     add('--cut', type=int, default=0, metavar='N', help='one in N lines ends the connection')
-    add('--telnet', action='store_true', help='telnet commands stand between the bytes')
+    add('--telnet', action='store_true', help='telnet commands come between the bytes')
     return line
 
 

@@ -69,7 +69,7 @@ def line_of(numbers, edge):
 
 
 def half(places, numbers, depths):
-    """The rows of a half of the picture; on the innermost the number stands where a place has more than five."""
+    """The rows of a half of the picture; on the innermost is the number, if a place has more than five."""
     rows = []
     for depth in depths:
         cells = []

@@ -4,14 +4,14 @@ import asyncio
 import re
 from random import Random
 
-# Each habit with its value where none is given, and what it may be.
+# Each habit with its value if none is given, and what it may be.
 HABITS = {
     'plays': ('first', 'first, last or random: which of the legal plays'),
     'joins': ('yes', 'yes or no: whether it joins who invites it'),
     'invites': ('', 'POINTS: it invites each player who logs in, or resumes a saved match with him'),
     'takes': ('yes', 'yes or no: how it answers a double'),
     'doubles': ('', 'TURN: it doubles at this turn of its own, if it may'),
-    'resigns': ('', 'TURN with n, g or b behind it, as 2n: it offers to resign at this turn'),
+    'resigns': ('', 'TURN with n, g or b after it, as 2n: it offers to resign at this turn'),
     'answers': ('yes', 'yes, no or never: how it answers an offer to resign'),
     'leaves': ('', 'TURN: it leaves at this turn; roll or move: it leaves when the other has rolled, or moved'),
     'next': ('join', 'join or leave: what it does between two games'),
@@ -20,7 +20,7 @@ HABITS = {
 
 
 class Bot:
-    """It stands where a connection stands: it hears what a client would, and answers by commands."""
+    """It takes the place of a connection: it hears what a client would, and answers by commands."""
 
     host = 'localhost'
 
@@ -37,7 +37,7 @@ class Bot:
     # -- what it hears ---------------------------------------------------------------------------------------------
 
     def send(self, *lines):
-        """Hears lines, and looks afterwards at how things stand."""
+        """Hears lines, and looks afterwards at the match."""
         for line in lines:
             self.hear(line)
         if not self.is_awake:
@@ -90,7 +90,7 @@ class Bot:
             self.does(command)
 
     def command(self, match, side, table):
-        """The command for the match as it stands, if there is one."""
+        """The command for the match as it is, if there is one."""
         habits = self.habits
         if not match.is_on:
             self.turns = 0

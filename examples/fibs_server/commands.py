@@ -24,7 +24,7 @@ class Commands:
         self.room = room
 
     def run(self, player, line):
-        """Carries a line out; raises Against with what is to be said where it can't be."""
+        """Carries a line out; raises Against with what is to be said if it can't be."""
         word, _, rest = line.strip().partition(' ')
         if not word:
             return
@@ -67,7 +67,7 @@ class Commands:
     def do_resign(self, player, rest):
         table, side = self.seat(player)
         if rest[:1] not in RESIGNATIONS or not rest:
-            raise Against("** Type 'n' for normal, 'g' for gammon or 'b' for backgammon behind 'resign'.")
+            raise Against("** Type 'n' for normal, 'g' for gammon or 'b' for backgammon after 'resign'.")
         table.resign(side, rest[0])
 
     def do_leave(self, player, _rest):

@@ -3,7 +3,7 @@
 import random
 from dataclasses import dataclass, field
 
-# How the server rolls by itself when a turn begins: never, where the player may not double, or where he also has
+# How the server rolls by itself when a turn begins: never, if the player may not double, or if he also has
 # turned `double` off.
 AUTOROLLS = 'never', 'no-double', 'always'
 
@@ -18,15 +18,15 @@ class Habits:
     # an open double, an open offer to resign, is shown by a board on which the turn is given away
     shows_doubles: bool = True
     shows_resignations: bool = False
-    # the board says that a player may double where the rules of the match forbid it
+    # the board says that a player may double even if the rules of the match forbid it
     loose_flags: bool = False
     # commands that are refused so many times, by a text alone, though they are right
     refuses: dict = field(default_factory=dict)
-    # a game goes on where its player's connection breaks
+    # a game goes on after its player's connection breaks
     keeps_games: bool = False
     # who plays O, and who goes from 24 to 1, is by chance
     mixed_sides: bool = False
-    # each change of a player is told by a line 5 and a line 6
+    # each change of a player is reported by a line 5 and a line 6
     tells_changes: bool = True
     prompts: bool = False
 

@@ -11,7 +11,7 @@ TRIES = 3
 
 
 class Room:
-    """Everything that the server knows. Where it `is_open`, a login with a new name makes an account."""
+    """Everything that the server knows. If it `is_open`, a login with a new name makes an account."""
 
     def __init__(self, habits, accounts=(), is_open=True, motd=('Good luck.',), settings=None, log=None):
         self.habits, self.is_open, self.motd = habits, is_open, list(motd)
@@ -110,7 +110,7 @@ class Room:
             link.write(b'login: ')
 
     def take_in(self, link, player, client):
-        """The player is logged in; where he already was, the new connection takes the place of the old one."""
+        """The player is logged in; if he already was, the new connection takes the place of the old one."""
         was_here, old = bool(player.logged_in), player.link
         if old:
             old.player = None

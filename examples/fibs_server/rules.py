@@ -6,7 +6,7 @@ BAR, OFF = 25, 0
 CHECKERS = 15
 HOME = 6
 
-# The places at the beginning of a game, and how many checkers stand there.
+# The places at the beginning of a game, and how many checkers are there.
 BEGINNING = {24: 2, 13: 5, 8: 3, 6: 5}
 
 
@@ -99,7 +99,7 @@ def walks(position, steps, numbers):
 
 
 def plays_the_larger(position, dice, left):
-    """If one number alone can be played, it has to be the larger one, where that can be."""
+    """If one number alone can be played, it has to be the larger one, if that can be."""
     larger = max(dice)
     can = any(target_of(position, source, larger) is not None for source in range(BAR, OFF, -1))
     return not can or larger not in left

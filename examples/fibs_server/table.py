@@ -163,7 +163,7 @@ class Table:
         return ' '.join(self.match.spelled(side, step) for step in steps)
 
     def carry_out(self, steps):
-        """Plays for the side whose turn it is; raises Against where that is not legal."""
+        """Plays for the side whose turn it is; raises Against if that is not legal."""
         match = self.match
         turn = match.turn
         is_over = match.moves(steps)
@@ -177,7 +177,7 @@ class Table:
     # -- what a player does ----------------------------------------------------------------------------------------
 
     def check_turn(self, side, what):
-        """Raises Against where this side may not do this now: `roll the dice`, `move`, .."""
+        """Raises Against if this side may not do this now: `roll the dice`, `move`, .."""
         match = self.match
         if not match.is_on:
             raise Against("** You're not playing.")
@@ -195,7 +195,7 @@ class Table:
         self.roll_dice()
 
     def move(self, side, words):
-        """`move`, with the words behind it."""
+        """`move`, with the words after it."""
         self.check_turn(side, 'move')
         if not self.match.dice:
             raise Against('** You have to roll the dice before you move.')

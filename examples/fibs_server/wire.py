@@ -24,7 +24,7 @@ class Manners:
     delay: float = 0
     # one in so many lines ends the connection, within the line or before it is read
     cut: int = 0
-    # telnet commands stand between the bytes
+    # telnet commands come between the bytes
     telnet: bool = False
     seed: int = 0
 
@@ -148,7 +148,7 @@ class Link(asyncio.Protocol):
         asyncio.get_running_loop().call_soon(self.room.lost, self)
 
     def end(self):
-        """Ends the connection behind what was sent."""
+        """Ends the connection after what was sent."""
         self.is_over = True
         if not self.pieces:
             self.transport.close()

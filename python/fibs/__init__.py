@@ -5,7 +5,7 @@
         if line.kind == fibs.BOARD:
             print(line.board.phase.name, [str(play) for play in fibs.plays(line.text)])
 
-It stands on the library for C of Liftplum, whose functions are proved, and on the standard library alone. What a
+It uses the library for C of Liftplum, whose functions are proved, and the standard library alone. What a
 server sends is bytes; a text of one's own may be a str too. A call that is not done raises an Error, one for each
 reason. It has no thread and no socket of its own. A Client, a Lines and a Directory are each used by one thread at a
 time.

@@ -59,7 +59,7 @@ class Client:
         check(self._client.status)
         self._wire, self._heard = _library.Wire(), _library.Heard()
         self._text = ctypes.create_string_buffer(_library.MAX_LINE)
-        # what came and is not heard yet: all behind a place of these bytes, which begin at an address
+        # what came and is not heard yet: all after a place of these bytes, which begin at an address
         self._data, self._start, self._place = b'', 0, 0
 
     def close(self) -> None:

@@ -70,7 +70,7 @@ RESIGN_BACKGAMMON = Decision(DecisionKind.RESIGN_BACKGAMMON)
 
 
 def direction_of(direction: int) -> int:
-    """A number that can stand in field 43."""
+    """A number that field 43 can have."""
     return number_of(direction, -1 << 31, (1 << 31) - 1, 'a direction')
 
 

@@ -32,8 +32,8 @@ _FIELDS = range(1, len(Player._fields) + 1)
 
 
 class Directory:
-    """The players, as messages 5 and 8 tell of them: each with what was told last, in the order in which they were
-    first told of. At most 4096."""
+    """The players of messages 5 and 8: each as the last message 5 has him, in the order in which the server first
+    listed them. At most 4096."""
 
     def __init__(self) -> None:
         self._directory = _library.Owned('fibs_directory_new', 'fibs_directory_free')

@@ -1,6 +1,6 @@
 """libfibs as Python sees it: where it is found, how its records lie, what its functions take and answer.
 
-What follows the names and layouts of include/fibs.h stands here and nowhere else in the package.
+What follows the names and layouts of include/fibs.h is here and nowhere else in the package.
 """
 
 from __future__ import annotations
@@ -25,7 +25,7 @@ BOARD = 2
 # The kinds of a field's value; those that are left have bytes.
 FLAG, NUMBER, RATING = 4, 5, 6
 
-# The field of a board's record that stands first in its numbers, and the one that has the direction of the player.
+# The field of a board's record that comes first in its numbers, and the one that has the direction of the player.
 FIRST_FIELD, DIRECTION = 4, 43
 
 
@@ -121,7 +121,7 @@ def _offset(record: Any, field: str) -> int:
     return offset
 
 
-# Where the kind and the cut of a row stand.
+# Where the kind and the cut of a row are.
 KIND_AT, CUT_AT = _offset(Row, 'kind') + _offset(Kind, 'kind'), _offset(Row, 'cut')
 
 _HANDLE = POINTER(c_void_p)
@@ -204,7 +204,7 @@ MAX_LINE: int = lib.fibs_max_line()
 
 
 def address_of(data: bytes) -> int:
-    """Where bytes stand, for as long as they are kept."""
+    """The address of bytes, for as long as they are kept."""
     return ctypes.cast(c_char_p(data), c_void_p).value or 0
 
 

@@ -165,7 +165,7 @@ class Lines:
 
     @property
     def held(self) -> int:
-        """How many bytes stand after the last line end, at most MAX_LINE. Closed."""
+        """How many bytes follow the last line end, at most MAX_LINE. Closed."""
         size = c_size_t()
         check(_library.lib.fibs_lines_held(self._lines.at, byref(size)))
         return size.value

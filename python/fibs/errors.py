@@ -50,7 +50,7 @@ class ServerPlays(Refused):
 
 
 class NoBoard(Refused):
-    """No board was shown on this connection."""
+    """No board on which the user plays was shown on this connection."""
     status = 5
 
 
