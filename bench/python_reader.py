@@ -11,7 +11,7 @@ from collections import Counter
 
 sys.path.insert(0, str(pathlib.Path(__file__).resolve().parent.parent / 'tests'))
 
-from package import fibs  # noqa: E402
+from props.package import fibs  # noqa: E402
 from fibs import _library  # noqa: E402
 
 NAMES = {fibs.BOARD: 'board', fibs.MESSAGE: 'message', fibs.MALFORMED: 'malformed'}

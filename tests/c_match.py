@@ -1,7 +1,7 @@
 #!/usr/bin/env python3
 """Plays examples/bot.c against a server whose connection breaks in the middle of the match: c_match.py COMMAND..
 
-COMMAND is the bot, maybe behind a tool that watches it. The bot has to play the match to its end, by the plays that it is
+COMMAND is the bot, which a tool that watches it may run. The bot has to play the match to its end, by the plays that it is
 shown: the connection is lost once while a roll waits, of which the server has heard, and once in the middle of a board's
 line. Prints `N passed, M failed`.
 """
@@ -10,14 +10,14 @@ import subprocess
 import sys
 import threading
 
-import prop_server
+from props.server import Game, Server
 
 DICE = [[2, 1], [6, 5], [3, 1], [6, 6], [6, 5], [5, 4], [6, 6]]
 
 
 def serve(server, faults):
     """One match over three connections."""
-    game = prop_server.Game([5, 5, 4, 3, 3, 2], [20, 21, 22, 22, 23], DICE)
+    game = Game([5, 5, 4, 3, 3, 2], [20, 21, 22, 22, 23], DICE)
     # The roll is carried out and never answered.
     server.accept()
     faults.append(server.log_in() != 'ann' and 'no login')
@@ -43,7 +43,7 @@ def serve(server, faults):
 
 
 def main():
-    server, faults = prop_server.Server(), []
+    server, faults = Server(), []
     thread = threading.Thread(target=serve, args=(server, faults), daemon=True)
     thread.start()
     bot = subprocess.run([*sys.argv[1:], '127.0.0.1', str(server.port), 'ann'], input=b'secret\n', capture_output=True,
@@ -53,7 +53,7 @@ def main():
     faults.append(thread.is_alive() and 'the server waits still')
     faults.append(bot.returncode != 0 and 'status %d: %s' % (bot.returncode, bot.stderr.decode()[-2000:]))
     faults.append(out.count('\nlost ') != 2 and 'it did not lose two connections')
-    faults.append('lost roll\n' not in out and 'the roll that waited is not told')
+    faults.append('lost roll\n' not in out and 'the roll that waited is not reported')
     faults.append('secret' in out and 'it shows the password')
     told = [fault for fault in faults if fault]
     for fault in told:

@@ -1,10 +1,10 @@
-"""A differential fuzz: `fuzz.py PROGRAM SECONDS [SEED]` compares PROGRAM with reference.py, byte by byte.
+"""A differential fuzz: `fuzz.py PROGRAM SECONDS [SEED]` compares PROGRAM with props/reference.py, byte by byte.
 
-Where lib/libfibs.so is there, each batch of lines and each script also goes through the library for C (c_beside.py).
+If lib/libfibs.so is there, each batch of lines and each script also goes through the library for C (props/c_beside.py).
 
 A third of the time goes to batches of lines for `PROGRAM show`, a third to scripts, each for `PROGRAM replay` and for
 `PROGRAM loop`, a third to board lines for `PROGRAM plays`, in turn. It ends with status 1 at the first difference, which
-it makes small, and with status 0 where there was none in SECONDS of wall clock. It prints its seed, what the inputs had
+it makes small, and with status 0 if there was none in SECONDS of wall clock. It prints its seed, what the inputs had
 in them, and at last `N passed, M failed`: of lines, scripts and boards, those without a difference.
 """
 import collections
@@ -15,10 +15,10 @@ import subprocess
 import sys
 import time
 
-import reference
+from props import reference
 
 try:
-    import c_beside
+    from props import c_beside
 except ImportError:
     c_beside = None
 

@@ -1,8 +1,8 @@
 #!/usr/bin/env python3
 """Tests the built program and fibs-play on pseudo-terminals: tests/screens.py PROGRAM
 
-It types what a player types, looks at what a terminal shows, and is the server. It goes on where something was shown,
-and not by the clock; where nothing may happen it looks for a while. Prints a line for each case, and then `N passed, M
+It types what a player types, looks at what a terminal shows, and is the server. It goes on when something was shown,
+and not by the clock; if nothing may happen it looks for a while. Prints a line for each case, and then `N passed, M
 failed`.
 """
 
@@ -19,8 +19,8 @@ import tempfile
 import threading
 import time
 
-from prop_server import OWN_INFO, WHO_INFO, Game, Server
-from terminals import PATIENCE, Failed, Terminal, same
+from props.server import OWN_INFO, WHO_INFO, Game, Server
+from props.terminals import PATIENCE, Failed, Terminal, same
 
 PROGRAM = os.path.realpath(sys.argv[1])
 
@@ -42,7 +42,7 @@ STYLE = 'set boardstyle 3'
 
 WELCOME = '1 ann 1041253132 localhost'
 
-# What is shown where it is the player's turn, and of what was typed: at a terminal, and to a program.
+# What is shown when it is the player's turn, and of what was typed: at a terminal, and to a program.
 TO_ROLL, TO_MOVE = 'Your turn: roll', 'Your move, as in: '
 AT_A_TERMINAL = {'roll': TO_ROLL, 'move': TO_MOVE, 'rolled': TO_MOVE, 'won': 'You win', 'wrong': '[8 WrongKind]',
                  'illegal': '[9 IllegalPlay]', 'lost': 'roll may have reached the server or not',
@@ -175,7 +175,7 @@ def leaves(player, server, *received):
 
 
 def server_has(server, *received):
-    """At the end of the connection the server has received these lines behind the login."""
+    """At the end of the connection the server has received these lines after the login."""
     while server.line() is not None:
         pass
     same('all that was received', (server.received, server.unread), ([LOGIN, STYLE, 'board', *received], b''))
@@ -374,7 +374,7 @@ def a_game_ends(server):
                 continue  # which shows rlwrap that the terminal is gone
             player = played_at(server, kind)
             if given == b'\x03' and kind != 'dumb':
-                # where lines are edited the first one cancels the line
+                # if lines are edited the first one cancels the line
                 player.type_bytes(given)
                 player.sees('Ctrl-C again leaves')
             if isinstance(given, bytes):
@@ -503,7 +503,7 @@ def the_picture_of_the_pages(_server):
     drawn = shown_by('show', held=SHOWN + '\n')
     same('its lines', len(drawn.splitlines()), 14)
     for page in 'docs/PLAYING.md', 'docs/fibs.1':
-        same('it stands in ' + page, drawn in (ROOT / page).read_text(), True)
+        same('it is in ' + page, drawn in (ROOT / page).read_text(), True)
 
 
 def a_capture_is_drawn(_server):
@@ -540,7 +540,7 @@ def boards_of_every_malformed_kind(server):
         rows.append((':'.join(other), None))
     server.send(*(line for line, _ in rows), '12 bob done')
     player.sees('bob says: done')
-    # each line is shown as it came, behind what is wrong with it
+    # each line is shown as it came, after what is wrong with it
     wanted = [shown for line, fault in rows
               for shown in (*(["A board that can't be read: " + fault] if fault else []), line)]
     same('the screen', player.screen().split('\n')[-len(wanted) - 2:-2], wanted)
@@ -654,10 +654,10 @@ def nothing_is_done_while_nothing_happens(server):
 def escape_sequences(server):
     """What a terminal would obey never reaches it raw, whatever line it is in."""
     player = greeted(server)
-    ill = '\x1b[2J\x1b]0;title\x07\x9b31m\x08\x0c\x7f\x80\xfe'
-    server.send(ill, '12 bob ' + ill, '7 bob ' + ill, '5 bob%s - - 0 0 1 1 1 1 h - -' % ill,
-                '5 bob - - 0 0 1 1 1 1 h - ' + ill, '1 bob 1 ' + ill, 'board:' + ill,
-                BOARD.replace('bob', 'b' + ill), ill * 4000, '12 bob done')
+    hostile = '\x1b[2J\x1b]0;title\x07\x9b31m\x08\x0c\x7f\x80\xfe'
+    server.send(hostile, '12 bob ' + hostile, '7 bob ' + hostile, '5 bob%s - - 0 0 1 1 1 1 h - -' % hostile,
+                '5 bob - - 0 0 1 1 1 1 h - ' + hostile, '1 bob 1 ' + hostile, 'board:' + hostile,
+                BOARD.replace('bob', 'b' + hostile), hostile * 4000, '12 bob done')
     player.sees('bob says: done')
     same('raw bytes', sorted(set(player.screen()) - {chr(code) for code in [10, *range(32, 127)]}), [])
     same('they are told', player.screen().count('\\x1b[2J') >= 8, True)

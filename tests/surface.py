@@ -3,8 +3,7 @@
 
 The man page, the help (the texts of tests/help, to which tests/program holds the program), the completions and
 docs/PLAYING.md have the same subcommands, options, typed lines, refusals and statuses, and say the same of each: what
-that is, is in tests/meanings.py. With a PROGRAM it is asked too
-whether it takes each typed line. A shell, or a reader of man pages, that is not installed is left out. Prints a line
+that is, is in tests/props/meanings.py. With a PROGRAM it is asked too whether it takes each typed line. A shell, or a reader of man pages, that is not installed is left out. Prints a line
 for each case, and then `N passed, M failed`.
 """
 
@@ -15,7 +14,7 @@ import subprocess
 import sys
 import tempfile
 
-import meanings
+from props import meanings
 
 ROOT = pathlib.Path(__file__).resolve().parent.parent
 
@@ -223,6 +222,11 @@ def bare(text):
     return ' '.join(re.sub(r'^\.\w+ ', '', line) for line in text.splitlines())
 
 
+def listed_by_formats(kind):
+    """The numbers and names that docs/FORMATS.md lists for a kind of line."""
+    return re.search(r'^\| `%s` \|[^|]*?: (\d[^|]*?) \|$' % kind, text_of('docs/FORMATS.md'), re.M)[1].split(', ')
+
+
 def described_by_the_page(section):
     """What a section of the man page says of the lines, refusals or statuses that it lists."""
     for item in re.split(r'^\.It ', page(section), flags=re.M)[1:]:
@@ -265,14 +269,95 @@ def each_typed_line_means_the_same(_program):
 
 def each_refusal_means_the_same(_program):
     known = {'%d %s' % (number, name): meaning for number, name, meaning in meanings.REFUSALS}
-    formats = re.search(r'`refused NUMBER NAME` \| the client refuses: (.*?) \|', text_of('docs/FORMATS.md'))[1]
-    same('docs/FORMATS.md', formats.split(', '), list(known))
+    same('docs/FORMATS.md', listed_by_formats('refused NUMBER NAME'), list(known))
     held('the page', described_by_the_page('REFUSALS'), known)
     rows = described_by_table('docs/PLAYING.md', '## What is refused')
     held('docs/PLAYING.md', [([span.replace('refused ', '') for span in spans], said) for spans, said in rows], known)
-    header = text_of('include/fibs.h').upper()
-    for number, name, _meaning in meanings.REFUSALS:
-        same('the header has %s' % name, re.sub(r'(?<=[a-z])(?=[A-Z])', '_', name).upper() in header, True)
+
+
+def each_fault_has_its_number(_program):
+    for kind, table in ('fault NUMBER NAME', meanings.FAULTS), ('directory NUMBER NAME', meanings.DIRECTORY):
+        same(kind, listed_by_formats(kind), ['%d %s' % row[:2] for row in table])
+    spans = [span for spans, _said in described_by_table('docs/PLAYING.md', '## What is refused') for span in spans]
+    same('docs/PLAYING.md', [span for span in spans if span.startswith('fault')],
+         ['fault %d %s' % row[:2] for row in meanings.FAULTS])
+
+
+def each_wrong_line_means_the_same(_program):
+    """The tables of docs/FORMATS.md: of wrong fields, of boards without a position, of events that are refused."""
+    for head, table in ('## What a line is', meanings.FIELDS), ('## What `fibs plays LINE` prints', meanings.POSITIONS):
+        known = {name: meaning for _number, name, meaning in table}
+        rows = [([span.replace('position ', '') for span in spans], said)
+                for spans, said in described_by_table('docs/FORMATS.md', head)]
+        same(head, [span for spans, _said in rows for span in spans if span in known], list(known))
+        held(head, rows, known)
+    formats = part(text_of('docs/FORMATS.md'), '## Scripts of `fibs replay`', '\n## ')
+    rows = re.findall(r'^\| (\d) \| `(\w+)` \| .*? \| (.*) \|$', formats, re.M)
+    same('events', sorted(row[:2] for row in rows), [(str(number), name) for number, name, _meaning in meanings.EVENTS[1:]])
+    held('events', [([name], said) for _number, name, said in rows],
+         {name: meaning for _number, name, meaning in meanings.EVENTS})
+
+
+def the_code_means_the_same(_program):
+    for path, name, table in meanings.ENUMS:
+        code = text_of('crates/' + path)
+        numbers = re.findall(r'^ +%s::(\w+) => (\d+),' % name, code, re.M)
+        same(path, [(int(number), one) for one, number in numbers], [row[:2] for row in table])
+        comments = re.findall(r'((?:^    ///.*\n)+)    (\w+)(?:\(.*\))?,', part(code, 'enum %s {\n' % name, '\n}'), re.M)
+        same(path, [one for _said, one in comments], [row[1] for row in table])
+        held(path, [([one], re.sub(r'^ *///', '', said, flags=re.M)) for said, one in comments],
+             {one: meaning for _number, one, meaning in table})
+    code = text_of('crates/fibs_engine/src/status.rt')
+    same('statuses', [int(number) for number in re.findall(r'Status::\w+ => (\d+),', code)], list(meanings.STATUSES))
+
+
+def the_header_and_the_package_mean_the_same(_program):
+    """Each name, number and description of a status that the crates give."""
+    header = {name: (int(number), said) for name, number, said in
+              re.findall(r'FIBS_STATUS_(\w+) = (\d+),?(?:[ \n]*/\*(.*?)\*/)?', text_of('include/fibs.h'), re.S)}
+    package = {name: (int(number), said) for name, said, number in
+               re.findall(r'^class (\w+)\(.*\):\n    """(.*?)"""\n    status = (\d+)', text_of('python/fibs/errors.py'), re.M)}
+    page = part(text_of('docs/C.md'), '## Statuses', '\n## ')
+    for family, prefix, table in meanings.FAMILIES:
+        for number, name, meaning in table:
+            upper = re.sub(r'(?<=[a-z])(?=[A-Z])|(?<=A)(?=Number)', '_', prefix + name).upper()
+            same(upper, header.get(upper, (0, ''))[0], family + number)
+            if header[upper][1].strip():
+                held('include/fibs.h', [([name], header[upper][1])], {name: meaning})
+            if family + number != 401:  # Python has a MemoryError of its own
+                same(name, package.get(prefix + name, (0, ''))[0], family + number)
+                held('python/fibs/errors.py', [([name], package[prefix + name][1])], {name: meaning})
+        row = re.search(r'^\| %d(?: to|,) .*$' % (family + 1), page, re.M)[0]
+        if family:
+            same('docs/C.md', re.findall(r'`(\w+)`', row), [name for _number, name, _meaning in table])
+
+
+def the_words_of_a_terminal_mean_the_same(_program):
+    words = text_of('crates/fibs_wording/src/reasons.rt')
+    for name, table in ('Refusal', meanings.REFUSALS), ('PlainFault', meanings.FAULTS):
+        rows = re.findall(r'^ +%s::(\w+) => b"(.*)",' % name, words, re.M)
+        same(name, [one for one, _said in rows], [row[1] for row in table])
+        held('a terminal', [([one], said) for one, said in rows], {one: meaning for _number, one, meaning in table})
+
+
+def the_help_of_a_terminal_means_the_same(_program):
+    """Each typed line has its entry in `help WORD` of a terminal, by itself or by its first word."""
+    code = text_of('crates/fibs_wording/src/help.rt').split('pub fn word_help', 1)[1]
+    rows = []
+    for text in re.findall(r'b"((?:[^"\\]|\\.|\\\n)*:(?:[^"\\]|\\.|\\\n)*)"', code):
+        text = text.replace('\\n', '\n').replace('\\\n', '')
+        heads_of = re.findall(r'(?:^|\. )([a-z][^:.;\n]*): ', text, re.M)
+        rows.append(([re.sub(r' \(or .*\)', '', one) for head in heads_of for one in head.split(', ')], text))
+    spans = [span for found, _said in rows for span in found]
+    same('lines without help', [line for line in TYPED if not any(span == line or span.startswith(line + ' ')
+                                                                 for span in spans)], [])
+    held('help of a terminal', rows, {**meanings.TYPED, **meanings.TERMINAL})
+
+
+def the_commands_of_the_formats_mean_the_same(_program):
+    table = part(text_of('docs/FORMATS.md'), '## Commands to the server', '\n## ')
+    rows = [(re.findall(r'`([^`]*)`', text), said) for said, text in re.findall(r'^\| (.*?) \| (.*?) \| ', table, re.M)]
+    held('docs/FORMATS.md', [row for row in rows if row[1] != 'the first commands of a connection'], meanings.TYPED)
 
 
 def each_status_means_the_same(_program):
@@ -349,7 +434,10 @@ CASES = [
     help_has_the_subcommands, the_page_has_the_subcommands, help_has_the_options, the_page_has_the_options,
     bash_completes, zsh_completes, fish_completes, help_has_the_typed_lines, the_page_has_the_typed_lines,
     the_players_page_has_the_typed_lines, the_page_has_the_printed_lines, the_refusals_are_the_same,
-    the_statuses_are_the_same, each_typed_line_means_the_same, each_refusal_means_the_same, each_status_means_the_same,
+    the_statuses_are_the_same, each_typed_line_means_the_same, each_refusal_means_the_same, each_fault_has_its_number,
+    each_wrong_line_means_the_same, the_code_means_the_same, the_header_and_the_package_mean_the_same,
+    the_words_of_a_terminal_mean_the_same, the_help_of_a_terminal_means_the_same,
+    the_commands_of_the_formats_mean_the_same, each_status_means_the_same,
     the_picture_of_the_page_is_the_players, the_picture_of_the_readme_is_shown,
     the_page_is_clean, fibs_play_is_plain_shell, fibs_play_tells_its_use, make_installs_them,
 ]

@@ -56,7 +56,7 @@ static size_t number(void) {
     return byte < 128 ? byte : bounds[byte % (sizeof bounds / sizeof bounds[0])];
 }
 
-/* A text of its own length, so that a byte read behind it is found; NULL if it is empty. */
+/* A text of its own length, so that a byte read after it is found; NULL if it is empty. */
 struct text { char *bytes; size_t len; };
 
 static struct text some_text(void) {

@@ -45,7 +45,7 @@ static bool run(long number) {
     }
     before = refused;
     made = fibs_plays(board, strlen(board), plays, FIBS_MAX_PLAYS, &count);
-    /* where room for all plays at once is refused, it may do with less */
+    /* if room for all plays at once is refused, it may do with less */
     check(made == S(DONE) || (made == S(MEMORY) && refused > before), "fibs_plays", number);
     check(made == S(DONE) ? count == 14 : count == 77 && plays[0].kind == 0, "fibs_plays writes", number);
 

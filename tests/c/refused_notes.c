@@ -1,5 +1,5 @@
 /* Directories whose notes are refused memory, one allocation after another: a directory is then as its twin, which was
- * told only the lines before, and both go on alike. refused_notes [FEW]: with a word it does without full directories.
+ * given only the lines before, and both go on alike. refused_notes [FEW]: with a word it does without full directories.
  */
 #include "fibs.h"
 #include "refusing.h"
@@ -102,10 +102,10 @@ static void check_filled_alike(fibs_directory *a, fibs_directory *b) {
     check_alike(a, b, known, 2);
 }
 
-/* What a directory is told, and whether a note that was refused is left out, or made again. */
+/* What a directory is given, and whether a note that was refused is left out, or made again. */
 struct story { const char *name; const char *const *lines; size_t count; bool is_left_out, is_filled; };
 
-/* The directory is as its twin, which is told the lines before the refused one, and both go on alike. */
+/* The directory is as its twin, which is given the lines before the refused one, and both go on alike. */
 static void check_twin(fibs_directory *directory, const struct story *story, size_t at) {
     fibs_directory twin = NULL;
     check(refused == 1, "one is refused", number);
@@ -151,7 +151,7 @@ static const char *const NEWCOMERS[] = {
     "5 s - - 1 0 1500 0 3 1 h - -", "5 t - - 1 0 1500 0 3 1 h - -",
 };
 
-/* What is in the directory when all lines are told, but for a note that was left out. */
+/* What is in the directory when all lines are given, but for a note that was left out. */
 static void check_told(fibs_directory *directory, const struct story *story) {
     if (story->lines == NEWCOMERS) {
         check(players_in(directory) == 20 && has(directory, 19, "t", 150000), "the newcomers", number);

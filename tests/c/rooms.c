@@ -84,7 +84,7 @@ static void check_handles(void) {
         check(fibs_client_withdraw_roll(&client) == S(NOT_ORDERED) && fibs_client_order_roll(&client) == S(DONE)
               && fibs_client_order_roll(&client) == S(ALREADY_ORDERED), "an order");
         check(fibs_client_ordered(&client, &ordered) == S(DONE) && ordered == 1
-              && fibs_client_withdraw_roll(&client) == S(DONE), "it stands until it is withdrawn");
+              && fibs_client_withdraw_roll(&client) == S(DONE), "it is in force until it is withdrawn");
         check(fibs_client_ordered(&client, &ordered) == S(DONE) && ordered == 0, "and no longer");
         check(fibs_lines_new(&lines) == S(HELD) && fibs_directory_new(&directory) == S(HELD),
               "the others are held");

@@ -1,5 +1,5 @@
 /* What a call writes: each out-parameter is filled with a pattern, each status of each function is got, and then just
- * those are other than the pattern that the header names. Texts and rooms of NULL and 0 are used where they serve.
+ * those are other than the pattern that the header names. Texts and rooms of NULL and 0 are used if they serve.
  */
 #include "outs.h"
 

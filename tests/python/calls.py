@@ -8,7 +8,7 @@ import socket
 import subprocess
 import sys
 
-from package import ROOT, fibs
+from props.package import ROOT, fibs
 from fibs import _library, errors
 
 HEADER = (ROOT / 'include' / 'fibs.h').read_text()
@@ -47,7 +47,7 @@ def a_stream_may_be_anything_that_is_read(counts):
         lines = fibs.Lines(stream)
         counts.same([next(lines).text, next(lines).text], [b'a', b'b'], what)
         counts.same(sum(1 for line in lines), 79998, '%s, to its end' % what)
-        counts.same(list(lines), [], '%s, behind its end' % what)
+        counts.same(list(lines), [], '%s, after its end' % what)
     ours, theirs = socket.socketpair()
     with ours, theirs, theirs.makefile('rb') as file:
         lines = fibs.Lines(file)

@@ -9,7 +9,7 @@ import subprocess
 import sys
 import tempfile
 
-from package import ROOT
+from props.package import ROOT
 from fibs import _library
 
 # What is done with the package that was installed.

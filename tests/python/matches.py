@@ -15,7 +15,7 @@ import threading
 from collections import Counter
 
 import matchfiles
-from package import ROOT, fibs
+from props.package import ROOT, fibs
 
 POINTS = 7
 # Who plays which side is by chance, lines come in pieces and with prompts, some commands that are right are refused;
@@ -249,7 +249,7 @@ ANSWERS = [
     ('doubled and ahead', board(RACE60, RACE66, doubled=1), 'accept'),
     ('doubled and behind', board(RACE90, RACE60, doubled=1), 'reject'),
     ('redoubled and ahead', board(RACE60, RACE66, doubled=1, cube=2, may=(0, 0)), 'accept'),
-    ('redoubled and behind', board(RACE90, RACE60, doubled=1, cube=2, may=(0, 0)), 'reject'),
+    ('redoubled and trailing', board(RACE90, RACE60, doubled=1, cube=2, may=(0, 0)), 'reject'),
 ]
 
 

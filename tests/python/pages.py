@@ -1,4 +1,4 @@
-"""docs/PYTHON.md as it stands: its sessions, its example of asyncio, and the types of the package."""
+"""docs/PYTHON.md as it is: its sessions, its example of asyncio, and the types of the package."""
 
 import asyncio
 import doctest
@@ -8,8 +8,8 @@ import shutil
 import subprocess
 import threading
 
-import prop_server
-from package import ROOT, fibs
+from props.package import ROOT, fibs
+from props.server import Game, Server
 
 PAGE = (ROOT / 'docs' / 'PYTHON.md').read_text()
 
@@ -19,7 +19,7 @@ def blocks(language):
     return re.findall(r'(?ms)^```%s\n(.*?)^```$' % language, PAGE)
 
 
-def the_sessions_of_the_page_are_as_they_stand(counts):
+def the_sessions_of_the_page_are_as_they_run(counts):
     text = '\n'.join(blocks('pycon'))
     tests = doctest.DocTestParser().get_doctest(text, {}, 'docs/PYTHON.md', None, 0)
     found = doctest.DocTestRunner(verbose=False).run(tests)
@@ -31,12 +31,12 @@ def the_example_of_asyncio_plays_a_game(counts):
     names = {}
     for block in blocks('python'):
         exec(block, names)
-    server = prop_server.Server()
+    server = Server()
 
     def serve():
         server.accept()
         server.log_in()
-        server.serve(prop_server.Game([5, 3], [22, 23], [[2, 1], [6, 5], [6, 5]]))
+        server.serve(Game([5, 3], [22, 23], [[2, 1], [6, 5], [6, 5]]))
 
     thread = threading.Thread(target=serve, daemon=True)
     thread.start()
@@ -47,7 +47,7 @@ def the_example_of_asyncio_plays_a_game(counts):
 
 
 def names_of_the_page_are_in_the_package(counts):
-    """What stands in the table of calls, and each exception that is named."""
+    """What is in the table of calls, and each exception that is named."""
     words = set(re.findall(r'\b[A-Z][A-Za-z]+\b|\b[A-Z][A-Z_]+\b', ' '.join(re.findall(r'`([^`\n]+)`', PAGE))))
     builtin = {'ImportError', 'TypeError', 'ValueError', 'MemoryError', 'FIBS_LIBRARY', 'LD_LIBRARY_PATH'}
     counts.same({word for word in words - builtin if not hasattr(fibs, word)}, set(), 'names that are nowhere')
@@ -66,5 +66,5 @@ def the_types_hold(counts):
         counts.check(told.returncode == 0, told.stdout + told.stderr)
 
 
-TESTS = [the_sessions_of_the_page_are_as_they_stand, the_example_of_asyncio_plays_a_game,
+TESTS = [the_sessions_of_the_page_are_as_they_run, the_example_of_asyncio_plays_a_game,
          names_of_the_page_are_in_the_package, the_types_hold]

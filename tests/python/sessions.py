@@ -5,7 +5,7 @@ import subprocess
 import sys
 
 import matchfiles
-from package import ROOT
+from props.package import ROOT
 
 START = {6: 5, 8: 3, 13: 5, 24: 2}
 

@@ -5,7 +5,7 @@ import sys
 
 sys.path.insert(0, str(pathlib.Path(__file__).resolve().parent.parent))
 
-from package import ROOT, fibs  # noqa: E402, F401
+from props.package import ROOT, fibs  # noqa: E402, F401
 
 # Each test, in its order.
 TESTS = []

@@ -8,7 +8,7 @@ from fibs import _library
 
 sys.path.insert(0, str(ROOT / 'tests'))
 
-import reference  # noqa: E402
+from props import reference  # noqa: E402
 
 DONE, NOT_YOURS, WRONG_KIND, ILLEGAL_PLAY = 0, 7, 8, 9
 NOT_YOU, TOO_MANY_OWN, TOO_MANY_OTHER = 201, 202, 203
@@ -65,7 +65,7 @@ PLAYS = [
         'Passing', 0, [],
         [('roll', NOT_YOURS), ('double', NOT_YOURS), ('accept', NOT_YOURS), ('reject', NOT_YOURS),
          ('move', NOT_YOURS), ('resign g', NOT_YOURS)]),
-    Row('three of four equal dice, upward: X stands on place 20 of his own',
+    Row('three of four equal dice, upward: X is on place 20 of his own',
         b'board:You:bob:5:0:0:0:0:0:0:0:-1:0:0:0:0:0:0:0:0:0:0:0:2:0:0:0:0:0:0:0:0:'
         b'-1:3:3:0:0:1:1:1:0:-1:1:25:0:14:13:0:0:3:0:0:0',
         'Move', 3, ['20-17 17-14 14-11'],

@@ -1,6 +1,6 @@
 """Scripted clients for the tests of the server, and the server that they talk to.
 
-A client reads each line by tests/reference.py, which has the formats and the rules once more, and decides by the board
+A client reads each line by tests/props/reference.py, which has the formats and the rules once more, and decides by the board
 alone, as docs/FORMATS.md has its phases. What a line is to be is checked as it comes.
 """
 
@@ -17,7 +17,7 @@ import time
 ROOT = pathlib.Path(__file__).resolve().parent.parent.parent
 sys.path.insert(0, str(ROOT / 'tests'))
 
-import reference
+from props import reference
 
 # How long something may take to come, on a machine that does much else.
 PATIENCE = 60

@@ -1,4 +1,4 @@
-"""The rules of the server beside those of tests/reference.py, on positions by chance."""
+"""The rules of the server beside those of tests/props/reference.py, on positions by chance."""
 
 import importlib.util
 import random

@@ -8,7 +8,7 @@ QUIET = ['--no-changes']
 
 
 def served(*options):
-    """A decorator: the test is given a server with these options, which is ended behind it."""
+    """A decorator: the test is given a server with these options, which is ended after it."""
     def decorated(does):
         def test():
             server = Served(*QUIET, *options)
@@ -174,7 +174,7 @@ def resignations_and_doubles(server):
     """Ann begins each game."""
     ann, bob = two_at_a_table(server, 5)
     bob.answers('resign n', "** It's not your turn to resign.")
-    ann.answers('resign', "** Type 'n' for normal, 'g' for gammon or 'b' for backgammon behind 'resign'.")
+    ann.answers('resign', "** Type 'n' for normal, 'g' for gammon or 'b' for backgammon after 'resign'.")
     ann.answers('accept', "** Your opponent didn't double or resign.")
     ann.answers('resign g', 'You want to resign. bob will win 2 points.')
     ann.answers('move 8-5 6-5', '** Please wait until bob has accepted or rejected your offer.')

@@ -12,7 +12,7 @@ import sys
 
 import people
 import costs
-import hostile
+import escapes
 import logs
 import play
 import stuck
@@ -34,7 +34,7 @@ def tried(scene):
 def main():
     words = sys.argv[2:]
     beside = stuck.SCENES + whole.SCENES + play.SCENES + logs.SCENES
-    alone = hostile.SCENES + costs.SCENES
+    alone = escapes.SCENES + costs.SCENES
     if words:
         beside = beside + stuck.WANTED
     chosen = [[scene for scene in scenes if not words or any(word in scene.__name__ for word in words)]

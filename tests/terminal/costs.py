@@ -5,7 +5,7 @@ import re
 import statistics
 import time
 
-from hostile import BOARD, greeted, with_server
+from escapes import BOARD, greeted, with_server
 from people import Failed, same
 
 # Kilobytes of memory that a game may take at most.
@@ -59,7 +59,7 @@ def milliseconds(server):
         shown.append(1000 * (time.monotonic() - began))
         at_once.append(until_at_the_server(server, ann, 'say and again %d' % number))
     for what, taken in (('a line that is typed at rest is at the server', at_rest),
-                        ('one that is typed directly behind a line of the server', at_once),
+                        ('one that is typed directly after a line of the server', at_once),
                         ('a line of the server is on the screen', shown)):
         print('        measured: %s after %.2f ms, of 100 lines 99 within %.2f ms' % (
             what, statistics.median(taken), statistics.quantiles(taken, n=100)[98]), flush=True)

@@ -5,9 +5,9 @@ import pathlib
 import subprocess
 import time
 
-from hostile import BOARD, WELCOME, with_server
+from escapes import BOARD, WELCOME, with_server
 from people import PASSWORD, PASSWORD_FILE, PATIENCE, PROGRAM, ROOM, Failed, Person, same
-from prop_server import OWN_INFO
+from props.server import OWN_INFO
 
 OWN = OWN_INFO % 'ann'
 
@@ -46,7 +46,7 @@ def each_line_as_it_came_and_what_was_sent(server):
     ann.type('dance')
     for wanted in 'set boardstyle 3', 'board', 'roll', 'pip':
         same('received', server.line(), wanted)
-    # it is there before the game is over, and behind what was there
+    # it is there before the game is over, and after what was there
     held = holds(path, b'what was there before\n', WELCOME.encode(), OWN.encode(), BOARD.encode(), b'12 bob \x1b[2J ',
                  b'5 bob - - 1 0 15x0', b'roll', b'pip')
     same('the password', PASSWORD.encode() in held, False)

@@ -16,7 +16,7 @@ sys.path[:0] = [str(ROOT / 'tests'), str(ROOT / 'tests' / 'server')]
 
 from clients import Client, Served
 from clients import Failed as Crashed
-from terminals import PATIENCE, Failed, Terminal, same
+from props.terminals import PATIENCE, Failed, Terminal, same
 
 PROGRAM = os.path.realpath(sys.argv[1]) if len(sys.argv) > 1 else ''
 
@@ -30,7 +30,7 @@ pathlib.Path(PASSWORD_FILE).write_text(PASSWORD + '\n')
 # What a terminal that knows bold letters is sent for them.
 BOLD = re.compile(r'\x1b\[[0-9;]*m')
 
-# What a screen says where something was not done.
+# What a screen says if something was not done.
 REFUSED = re.compile(r'.*\[\d+ [A-Z][A-Za-z]+\]|(?:refused|fault) \d+ \w+|unknown.*|No: .*')
 
 # Hints, and the lines that each names.
@@ -79,7 +79,7 @@ class Person(Terminal):
                 whole = self.seen.rfind(b'\n') + 1
                 if whole <= self.taken_to:
                     if not self.news.wait(min(1, max(0, end - time.monotonic()))) and time.monotonic() >= end:
-                        raise Failed('nothing more is shown behind %r' % self.taken[-6:])
+                        raise Failed('nothing more is shown after %r' % self.taken[-6:])
                     continue
                 piece = bytes(self.seen[self.taken_to:whole])
             self.taken_to = whole
@@ -88,7 +88,7 @@ class Person(Terminal):
         return self.taken[self.read_to - 1]
 
     def reads(self, text, seconds=PATIENCE):
-        """Reads on to a line in which a text stands; the line."""
+        """Reads on to a line that has a text; the line."""
         end = time.monotonic() + seconds
         while text not in (line := self.next_line(max(0.01, end - time.monotonic()))):
             pass

@@ -33,7 +33,7 @@ class Typist(Terminal):
         return DRAWN.sub('', self.screen())
 
     def is_shown(self, text, count=1, seconds=PATIENCE):
-        """Waits until a text stands on the screen so often, whatever is drawn between its letters."""
+        """Waits until a text is on the screen so often, whatever is drawn between its letters."""
         end = time.monotonic() + seconds
         while self.plain().count(text) < count:
             if time.monotonic() > end:
@@ -43,7 +43,7 @@ class Typist(Terminal):
 
 
 def with_server(scene):
-    """A decorator: the scene is given a server with a bot. Where rlwrap is not installed it is left out."""
+    """A decorator: the scene is given a server with a bot. If rlwrap is not installed it is left out."""
     def run():
         if not RLWRAP:
             print('        without rlwrap: not tried', flush=True)
@@ -190,7 +190,7 @@ def what_can_not_be_is_refused_before_a_password_is_typed():
 
 @with_server
 def a_log(server):
-    """It is handed through, the password does not stand in it, and so it is where nothing is edited."""
+    """It is handed through, the password is not in it, and so it is if nothing is edited."""
     for kind in 'xterm', 'dumb':
         log = os.path.join(ROOM.name, 'log of ' + kind)
         player = Typist(['--log', log, '127.0.0.1', str(server.port), 'ann'], kind=kind)

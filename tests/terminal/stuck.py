@@ -318,5 +318,5 @@ SCENES = [
     a_wrong_password, a_connection_that_ends, no_server,
 ]
 
-# What the program does not do yet: played where it is named.
+# What the program does not do yet: played if it is named.
 WANTED = [a_wrong_password_at_rest]

@@ -132,7 +132,7 @@ def on_a_small_terminal():
 
 
 def letters_in_bold():
-    """Where the terminal has them, and never where it does not or one does not want them."""
+    """If the terminal has them, and never if it does not or one does not want them."""
     seen = {}
     for name, more in (('xterm', {'TERM': 'xterm'}), ('dumb', {'TERM': 'dumb'}),
                        ('NO_COLOR', {'TERM': 'xterm', 'NO_COLOR': '1'})):
@@ -144,7 +144,7 @@ def letters_in_bold():
 
 
 def the_bell():
-    """It rings at her turn after the other's, at what is said to her, at a loss; never where FIBS_QUIET is set."""
+    """It rings at her turn after the other's, at what is said to her, at a loss; never if FIBS_QUIET is set."""
     server = Served('--bot', 'eve:invites=1,says=hello', '--dice', '31,31,31,31')
     try:
         for quiet in None, '1':

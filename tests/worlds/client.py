@@ -2,7 +2,7 @@
 
 import histories
 from boards import NAMED
-from package import fibs
+from props.package import fibs
 
 LOGIN = (b'ann', b'secret')
 
@@ -156,17 +156,17 @@ ROLL = fibs.ROLL
 def a_roll_of_an_order_is_told_as_one(counts):
     """A client says whether an order is in force, and what it has sent."""
     client = ready()
-    counts.check(not client.ordered, 'no order stands')
+    counts.check(not client.ordered, 'no order is in force')
     counts.same(refusal(client.order_roll), None, 'an order')
-    counts.check(client.ordered, 'an order stands')
+    counts.check(client.ordered, 'an order is in force')
     taken, = client.feed(line('MUST_ROLL'))
     counts.check(taken.rolled and taken.confirmed is None, 'it rolls')
     counts.same(commands(taken.send), ['roll'], 'one command')
     asked = fibs.Outstanding(ROLL, board('MUST_ROLL'))
     counts.same(client.waiting, asked, 'it waits')
-    counts.check(client.ordered, 'it stands until it is withdrawn')
+    counts.check(client.ordered, 'it is in force until it is withdrawn')
     counts.same(client.lose(), asked, 'it is lost')
-    counts.check(not client.ordered, 'offline no order stands')
+    counts.check(not client.ordered, 'offline no order is in force')
     client.open()
     counts.check(not client.ordered, 'a connection has orders of its own')
 

@@ -172,7 +172,7 @@ MESSAGES = [
 
 # If the server plays.
 FLAGS = [
-    ('where the server plays, the user does not decide', [
+    ('if the server plays, the user does not decide', [
         ('open', 'login fibs_client 1008 ann secret'),
         ('line {WELCOME}', 'set boardstyle 3'),
         ('line {INFO_AUTOMOVE}', 'board'),
@@ -242,7 +242,7 @@ BYTES = [
         ('open', 'login fibs_client 1008 ann secret'),
         ('line {INFO}', 'board'),
     ]),
-    ('prompts stand before lines', [
+    ('prompts come before lines', [
         ('open', 'login fibs_client 1008 ann secret'),
         ('bytes login: {WELCOME}\r\n> ', 'set boardstyle 3'),
         ('line {INFO}', 'board'),
@@ -330,7 +330,7 @@ ORDERS = [
         ('order', 'ordered'),
         ('line {MUST_ROLL}', 'roll; rolled'),
     ]),
-    ('boards in one piece are rolled on where their stretch is new', [
+    ('boards in one piece are rolled on if their stretch is new', [
         ('open', 'login fibs_client 1008 ann secret'),
         ('line {WELCOME}', 'set boardstyle 3'),
         ('line {INFO}', 'board'),
@@ -349,7 +349,7 @@ ORDERS = [
         ('line {MUST_ROLL}', 'roll; confirmed move 24-18; rolled'),
         ('line {ROLLED}', 'confirmed roll'),
     ]),
-    ('where the player may double he is asked, whatever the cube shows', [
+    ('if the player may double he is asked, whatever the cube shows', [
         ('open', 'login fibs_client 1008 ann secret'),
         ('line {WELCOME}', 'set boardstyle 3'),
         ('line {INFO}', 'board'),
@@ -389,7 +389,7 @@ ORDERS = [
         ('line {INFO}', 'board'),
         ('line {MUST_ROLL}', 'roll; rolled'),
     ]),
-    ('where the server plays, no order rolls', [
+    ('if the server plays, no order rolls', [
         ('open', 'login fibs_client 1008 ann secret'),
         ('order', 'ordered'),
         ('line {WELCOME}', 'set boardstyle 3'),

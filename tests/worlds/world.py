@@ -1,6 +1,6 @@
 """Histories of the world, worked out by hand: each event of a script of `fibs replay` beside what it adds to the log.
 
-A word in braces is a board or a message of boards.py. An event that may not be adds nothing, and stands beside its
+A word in braces is a board or a message of boards.py. An event that may not be adds nothing, and is beside its
 refusal: the events after it go on without it.
 """
 
@@ -198,7 +198,7 @@ def what_may_not_be_is_refused(counts):
 
 
 def a_board_beyond_the_limit_is_a_text(counts):
-    """The server sends no board as a text; with so many spaces behind it that the line is cut it is a text, and no
+    """The server sends no board as a text; with so many spaces after it that the line is cut it is a text, and no
     board is shown."""
     play(counts, 'the story', '{TO_ROLL}', [
         ('open', 'opened 1'),

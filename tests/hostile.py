@@ -1,8 +1,8 @@
 #!/usr/bin/env python3
-"""Tests the built program's `connect` against hostile servers: tests/malice.py PROGRAM
+"""Tests the built program's `connect` against hostile servers: tests/hostile.py PROGRAM
 
 Whatever the server does, the program holds little memory, answers each typed line, sends nothing twice and nothing that
-was not called for, and ends as its documents say. As in talks.py, each step waits for a line or for the end of a
+was not called for, and ends as its documents say. As in connect.py, each step waits for a line or for the end of a
 connection, and none for the clock. Prints a line for each case, and then `N passed, M failed`.
 """
 
@@ -14,8 +14,8 @@ import subprocess
 import sys
 import threading
 
-from prop_server import OWN_INFO, WHO_INFO, Game, Server
-from talks import LOGIN, PATIENCE, PROGRAM, STYLE, WELCOME, Failed, Player, greeted, logged_in, play, same
+from props.server import OWN_INFO, WHO_INFO, Game, Server
+from connect import LOGIN, PATIENCE, PROGRAM, STYLE, WELCOME, Failed, Player, greeted, logged_in, play, same
 
 # The most memory that the program may hold, in kilobytes.
 MOST_MEMORY = 10000

@@ -1,5 +1,5 @@
 #!/usr/bin/env python3
-"""Tests that the built program's `loop` plays over real sockets: tests/sockets.py PROGRAM
+"""Tests that the built program's `loop` plays over real sockets: tests/loop.py PROGRAM
 
 It lets the program open few files alone, looks where it listens, and comes to its port as a stranger before the
 program's own client does. Prints a line for each case, and then `N passed, M failed`.

@@ -4,8 +4,8 @@
 all that comes to it to a client of the library (the package for Python), and holds what that answers to its own.
 """
 
-import reference
-from package import fibs
+from props import reference
+from props.package import fibs
 
 KINDS = {b'roll': fibs.ROLL, b'double': fibs.DOUBLE, b'accept': fibs.ACCEPT, b'reject': fibs.REJECT,
          b'resign n': fibs.RESIGN_NORMAL, b'resign g': fibs.RESIGN_GAMMON, b'resign b': fibs.RESIGN_BACKGAMMON}
@@ -68,9 +68,9 @@ class Beside(reference.Client):
         same('click', why or wanted, answer(self.other.decide, given))
 
     def order(self, ordered):
-        stands = self.connection is not None and self.ordered
+        in_force = self.connection is not None and self.ordered
         why = 'Offline' if self.connection is None else None
-        if self.connection is not None and stands == ordered:
+        if self.connection is not None and in_force == ordered:
             why = 'AlreadyOrdered' if ordered else 'NotOrdered'
         super().order(ordered)
         same('order', why, answer(self.other.order_roll if ordered else self.other.withdraw_roll))

@@ -1,12 +1,12 @@
 #!/usr/bin/env python3
 """A small model of a backgammon server: a prop of the tests, and a server to try the program on. It is no product.
 
-    prop_server.py [PORT [DICE..]]
+    server.py [PORT [DICE..]]
 
-It listens on 127.0.0.1, on a free port where none is named, prints the port, and plays a short ending against each
+It listens on 127.0.0.1, on a free port if none is named, prints the port, and plays a short ending against each
 player who logs in. DICE are pairs like 62, used in turn for both players; then it rolls. It ends with an interrupt.
 
-The game outlives its connections, as at the real server: who comes back finds the board as it stands.
+The game outlives its connections, as at the real server: who comes back finds the board as it is.
 """
 
 import random

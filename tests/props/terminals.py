@@ -20,7 +20,7 @@ PATIENCE = 60
 # What the processor's time is counted in.
 TICKS = os.sysconf('SC_CLK_TCK')
 
-# What the shell shows behind its job, and no job shows.
+# What the shell shows after its job, and no job shows.
 END = b'\0'
 
 # What a shell ignores, and its job does not.
@@ -87,7 +87,7 @@ class Terminal:
         self.type_bytes(line.encode('latin-1') + b'\n')
 
     def sees(self, *texts, seconds=PATIENCE):
-        """Waits until these are shown, one after the other, behind those that were waited for before."""
+        """Waits until these are shown, one after the other, after those that were waited for before."""
         end = time.monotonic() + seconds
         for text in texts:
             wanted = text.encode('latin-1')
@@ -105,7 +105,7 @@ class Terminal:
             return bytes(self.seen).decode('latin-1').replace('\r\n', '\n')
 
     def shown(self, seconds=0.3):
-        """What is shown within so many seconds, behind what was waited for."""
+        """What is shown within so many seconds, after what was waited for."""
         time.sleep(seconds)
         with self.news:
             found, self.at = bytes(self.seen[self.at:]), len(self.seen)
@@ -128,7 +128,7 @@ class Terminal:
         return words
 
     def catches_up(self):
-        """Reads up to the mark that the shell sets behind all that its job has shown."""
+        """Reads up to the mark that the shell sets after all that its job has shown."""
         if self.reader.is_alive():
             self.sees(END.decode())
             with self.news:
@@ -228,7 +228,7 @@ def begin(words):
 
 
 def shell(orders, reports, words):
-    """Runs one job. It hands a hangup on, unless it was told not to, and tells what becomes of the job."""
+    """Runs one job. It hands a hangup on, unless it was told not to, and reports what becomes of the job."""
     for number in OF_THE_JOB:
         signal.signal(number, signal.SIG_IGN)
     fcntl.ioctl(0, termios.TIOCSCTTY, 0)

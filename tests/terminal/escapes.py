@@ -6,7 +6,7 @@ import time
 
 import people  # noqa: F401
 from people import Failed, PATIENCE, PROGRAM, Person, same
-from prop_server import OWN_INFO, Server
+from props.server import OWN_INFO, Server
 
 WELCOME = '1 ann 1041253132 localhost'
 # What a terminal does not obey.
@@ -40,7 +40,7 @@ def with_server(scene):
 BOARD = ('board:You:bob:3:0:0:0:-2:0:0:0:0:5:0:3:0:0:0:-5:5:0:0:0:-3:0:-5:0:0:0:0:2:0:'
          '1:0:0:0:0:1:1:1:0:1:-1:0:25:0:0:0:0:0:0:0:0')
 
-# Beginnings of lines, in which anything may stand behind.
+# Beginnings of lines, after which anything may come.
 FRONTS = [b'', b'12 bob ', b'13 bob ', b'7 bob ', b'5 bob - - 1 0 1500.00 1 1 1 h - ', b'9 bob 1041253132 ',
           b'1 ann 1 ', b'board:', BOARD.encode()[:-3], b'2 ann ', b'bob wants to resign. ', b'> login: ']
 
@@ -103,7 +103,7 @@ def a_million_lines(server):
 
 @with_server
 def letters_of_other_scripts(server):
-    """Printable letters are themselves where the terminal has them; no control and no direction mark is."""
+    """Printable letters are themselves if the terminal has them; no control and no direction mark is."""
     ann = greeted(server, LC_ALL='C.UTF-8')
     server.send_bytes('12 bob Grüße, Ödön: \u202e\u2066\u0085 \\ ok\r\n'.encode())
     line = ann.reads('bob says: ').encode('latin-1').decode()
@@ -115,7 +115,7 @@ def letters_of_other_scripts(server):
 
 @with_server
 def what_is_malformed_is_shown(server):
-    """What is wrong in English, with the number and the name behind it; and the line itself."""
+    """What is wrong in English, with the number and the name after it; and the line itself."""
     ann = greeted(server)
     server.send('12', '5 bob - - 1 0 15x0 1 1 1 h - -', 'board:You:bob:3', '12 bob end')
     ann.reads('bob says: end')

@@ -1,7 +1,7 @@
 #!/usr/bin/env python3
-"""Tests the built program's `connect` on real sockets: tests/talks.py PROGRAM
+"""Tests the built program's `connect` on real sockets: tests/connect.py PROGRAM
 
-It plays both ends: it types what a player types, and is the server. It goes on where a line was printed, and not by the
+It plays both ends: it types what a player types, and is the server. It goes on when a line was printed, and not by the
 clock, so that a busy machine changes nothing; one case sees how long a quiet server is waited for, with a wide window. Prints a line for each case, and then `N passed, M failed`.
 """
 
@@ -15,7 +15,7 @@ import sys
 import threading
 import time
 
-from prop_server import OWN_INFO, WHO_INFO, Game, Server
+from props.server import OWN_INFO, WHO_INFO, Game, Server
 
 PROGRAM = sys.argv[1]
 
