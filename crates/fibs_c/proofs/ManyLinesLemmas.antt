@@ -5,13 +5,13 @@ use Rattle.std.proofs.lemmas.Bool.{ne_eqb}
 use Rattle.std.proofs.lemmas.List.{take-take, drop-take, take_more_set, map-append, append-nil, take_all, drop_all, drop_at, drop-drop, drop-set-lt}
 use Rattle.std.proofs.lemmas.Slice.{between_to_end, take-put_mid_below}
 use Rattle.std.proofs.Math.Seq.{take-add, length-take-le}
-use Rattle.std.specs.List.{AllByRecursion, between}
+use Rattle.std.specs.List.{AllByRecursion, between, concat}
 use Rattle.fibs_lines.specs.Lines.{ReadLine, lines_of, kept_limit}
 use Rattle.fibs_session.specs.History.Hearing.{line_reading}
 use Rattle.fibs_records.specs.Kinds.{told_kind}
 use Rattle.fibs_lines.specs.LinesValue.{LinesValue, StandsAfter}
 use Rattle.fibs_c.specs.LinesDoor.{FeedsLine, WritesLine, copied}
-use Rattle.fibs_c.specs.ManyLines.{line_in, kind_in, kind_of_line, LiesWithin}
+use Rattle.fibs_c.specs.ManyLines.{line_in, line_bytes, kind_in, kind_of_line, LiesWithin}
 use Rattle.fibs_c.specs.ReadingOn.{ReadSoFar}
 use Rattle.fibs_records.specs.Texts.{is_set}
 use Rattle.fibs_c.specs.declared.lines.FedLine.{FedLine}
@@ -31,6 +31,7 @@ none_read v piece rows text = record {
   gains = λ s h. ap lines_of (append-nil s) ∙ sym (append-nil (lines_of s));
   kinds = refl;
   within = tt;
+  joined = refl;
   rest_of_rows = refl;
   rest_of_text = refl;
 }
@@ -72,6 +73,12 @@ and_last : (b : ℕ) (rows : List ToldLine) (row : ToldLine) → AllByRecursion 
 and_last b [] row h last = (last, tt)
 and_last b (r ∷ rows) row h last = (h.0, and_last b rows row h.1 last)
 
+-- the bytes of one line more
+one_more : (ls : List ReadLine) (l : ReadLine) → concat (map line_bytes (ls ++ l ∷ [])) ≡ concat (map line_bytes ls) ++ l.bytes
+one_more [] l = append-nil l.bytes
+one_more (x ∷ ls) l =
+    ap (λ (t : List ℕ). x.bytes ++ t) (one_more ls l) ∙ sym (append_assoc x.bytes (concat (map line_bytes ls)) l.bytes)
+
 -- the bytes read before and now are one front of the piece
 front : (s piece : List ℕ) (used more : ℕ) → (s ++ take used piece) ++ take more (drop used piece) ≡ s ++ take (used + more) piece
 front s piece used more = append_assoc s (take used piece) (take more (drop used piece)) ∙ ap (λ t. s ++ t) (sym (take-add used more piece))
@@ -109,6 +116,7 @@ no_line old now new piece used count bytes rows₀ rows text₀ text text' suffi
           ∙ so.gains s h ∙ ap (λ ls. lines_of s ++ ls) (sym same);
       kinds = so.kinds ∙ ap (map kind_of_line) (sym same);
       within = so.within;
+      joined = e ∙ so.joined ∙ ap (λ (ls : List ReadLine). concat (map line_bytes ls)) (sym same);
       rest_of_rows = so.rest_of_rows;
       rest_of_text = ed ∙ so.rest_of_text;
     }
@@ -155,6 +163,10 @@ one_line old now new piece used count bytes rows₀ rows text₀ text text' suff
             place = subst (λ (n : ℕ). n + row.len ≤ bytes + fed.len) (sym starts) (subst (λ (n : ℕ). bytes + n ≤ bytes + fed.len) (sym lens) (omega arith));
             flag = subst (λ (n : ℕ). n ≤ 1) (sym cuts) flag;
           }));
+      joined = take-add bytes fed.len text' ∙ (λ i. e i ++ take fed.len (ed i))
+          ∙ ap (λ (t : List ℕ). t ++ take fed.len suffix) so.joined
+          ∙ sym (one_more (map (line_in text) (take count rows)) (line_fed fed suffix))
+          ∙ ap (λ (ls : List ReadLine). concat (map line_bytes ls)) (sym lines');
       rest_of_rows = drop-set-lt (count + 1) rows count row (omega arith) ∙ sym (drop-drop 1 count rows)
           ∙ ap (drop 1) so.rest_of_rows ∙ drop-drop 1 count rows₀;
       rest_of_text = sym (drop-drop fed.len bytes text') ∙ ap (drop fed.len) ed ∙ behind_line

@@ -59,4 +59,5 @@ IsReset (Some v) (Some w) status = (status ≡ 0) × StandsAfter w []
 abbrev pub IsHeld : Option LinesValue → Option LinesValue → ℕ → ℕ → ℕ → Type 0
 IsHeld None new len len' status = (status ≡ 501) × (new ≡ None) × (len' ≡ len)
 IsHeld (Some v) new len len' status =
-    (status ≡ 0) × (new ≡ Some v) × ((s : List ℕ) → StandsAfter v s → len' ≡ min kept_limit (length (rest_of s)))
+    (status ≡ 0) × (new ≡ Some v) × (len' ≤ kept_limit)
+    × ((s : List ℕ) → StandsAfter v s → len' ≡ min kept_limit (length (rest_of s)))

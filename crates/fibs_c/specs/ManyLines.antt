@@ -1,6 +1,6 @@
 -- What C gets of many lines in one call.
 use Rattle.std.specs.Prelude.{◌≡◌, ℕ, ◌+◌, ◌<◌, ◌≤◌, ◌++◌, ◌⊎◌, List, length, map, take, drop, Option, None, Some}
-use Rattle.std.specs.List.{AllByRecursion}
+use Rattle.std.specs.List.{AllByRecursion, concat}
 use Rattle.fibs_lines.specs.Lines.{ReadLine, lines_of, kept_limit}
 use Rattle.fibs_lines.specs.LinesValue.{LinesValue, StandsAfter}
 use Rattle.fibs_session.specs.History.Hearing.{line_reading}
@@ -13,6 +13,10 @@ use Rattle.fibs_records.specs.declared.kinds.LineKind.{LineKind}
 -- the line of a row, whose bytes are in the text
 abbrev pub line_in : List ℕ → ToldLine → ReadLine
 line_in text row = record { bytes = take row.len (drop row.start text); cut = is_set row.cut }
+
+-- the bytes of a line
+abbrev pub line_bytes : ReadLine → List ℕ
+line_bytes line = line.bytes
 
 -- what the row says that it is
 abbrev pub kind_in : ToldLine → LineKind
@@ -28,8 +32,8 @@ pub record LiesWithin (bytes : ℕ) (row : ToldLine) : Type 0 where
   pub flag : row.cut ≤ 1
 
 -- each stream that the reader was at, with the bytes read, is now its stream, and the rows have the lines that these
--- ended, with what each is. It went on until the piece ended, the rows were full, or the room was too short for another
--- line. After what is given, rows and text are as they were
+-- ended, with what each is; the text has their bytes, one line after the other. It went on until the piece ended, the
+-- rows were full, or the room was too short for another line. After what is given, rows and text are as they were
 pub record ReadsLines (old new : LinesValue) (piece : List ℕ) (told : Told) (rows rows' : List ToldLine)
     (text text' : List ℕ) : Type 0 where
   pub in_range : told.used ≤ length piece
@@ -41,6 +45,7 @@ pub record ReadsLines (old new : LinesValue) (piece : List ℕ) (told : Told) (r
       → lines_of (s ++ take told.used piece) ≡ lines_of s ++ map (line_in text') (take told.lines rows')
   pub kinds : map kind_in (take told.lines rows') ≡ map kind_of_line (map (line_in text') (take told.lines rows'))
   pub within : AllByRecursion (LiesWithin told.bytes) (take told.lines rows')
+  pub joined : take told.bytes text' ≡ concat (map line_bytes (map (line_in text') (take told.lines rows')))
   pub rest_of_rows : drop told.lines rows' ≡ drop told.lines rows
   pub rest_of_text : drop told.bytes text' ≡ drop told.bytes text
   pub ends : (length piece ≤ told.used) ⊎ ((length rows ≤ told.lines) ⊎ (length text < told.bytes + kept_limit))

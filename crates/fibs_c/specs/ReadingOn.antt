@@ -1,9 +1,9 @@
 -- How many lines are read one after another. No public contract rests on it.
 use Rattle.std.specs.Prelude.{◌≡◌, ℕ, ◌+◌, ◌<◌, ◌≤◌, ◌++◌, ◌⊎◌, List, length, map, take, drop}
-use Rattle.std.specs.List.{AllByRecursion}
+use Rattle.std.specs.List.{AllByRecursion, concat}
 use Rattle.fibs_lines.specs.Lines.{lines_of, kept_limit}
 use Rattle.fibs_lines.specs.LinesValue.{LinesValue, StandsAfter}
-use Rattle.fibs_c.specs.ManyLines.{line_in, kind_in, kind_of_line, LiesWithin}
+use Rattle.fibs_c.specs.ManyLines.{line_in, line_bytes, kind_in, kind_of_line, LiesWithin}
 use Rattle.fibs_c.specs.declared.many_lines.Told.{Told}
 use Rattle.fibs_c.specs.declared.many_lines.ToldLine.{ToldLine}
 
@@ -32,5 +32,6 @@ pub record ReadSoFar (old now : LinesValue) (piece : List ℕ) (used count bytes
       → lines_of (s ++ take used piece) ≡ lines_of s ++ map (line_in text) (take count rows)
   pub kinds : map kind_in (take count rows) ≡ map kind_of_line (map (line_in text) (take count rows))
   pub within : AllByRecursion (LiesWithin bytes) (take count rows)
+  pub joined : take bytes text ≡ concat (map line_bytes (map (line_in text) (take count rows)))
   pub rest_of_rows : drop count rows ≡ drop count rows₀
   pub rest_of_text : drop bytes text ≡ drop bytes text₀
