@@ -297,8 +297,11 @@ fibs_status fibs_read_field(const char *line, size_t len, size_t number, fibs_fi
 
 /* ---- The rules ---- */
 
+/* The rules are asked by a board's line, so keep the line that came: fibs_client_shown and fibs_client_waiting have its
+ * fields alone. `board`, the two names and the 50 numbers, with a colon between each two, are such a line too. */
+
 /* A step of one checker, in the player's own numbering, in which he goes down: from a place 1 to 24 or the bar, 25, to
- * a place 1 to 24 or off, 0. */
+ * a place 1 to 24 or off, 0. Place p of the board has the number p in it if FIBS_BOARD_DIRECTION is -1, else 25 - p. */
 typedef struct fibs_step { uint8_t source, target; } fibs_step;
 
 /* The kinds of decisions. */
