@@ -27,6 +27,13 @@ def the_sessions_of_the_page_are_as_they_run(counts):
     counts.same(found.failed, 0, 'of %d lines fail' % found.attempted)
 
 
+class Repeating(Game):
+    """A game of which each line comes twice."""
+
+    def answer(self, words):
+        return [line for line in super().answer(words) for _ in range(2)]
+
+
 def the_example_of_asyncio_plays_a_game(counts):
     names = {}
     for block in blocks('python'):
@@ -36,7 +43,7 @@ def the_example_of_asyncio_plays_a_game(counts):
     def serve():
         server.accept()
         server.log_in()
-        server.serve(Game([5, 3], [22, 23], [[2, 1], [6, 5], [6, 5]]))
+        server.serve(Repeating([5, 3], [22, 23], [[2, 1], [6, 5], [6, 5]]))
 
     thread = threading.Thread(target=serve, daemon=True)
     thread.start()
