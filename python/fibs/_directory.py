@@ -3,7 +3,7 @@
 from __future__ import annotations
 
 from ctypes import byref, c_size_t
-from typing import Iterator, NamedTuple, Optional
+from typing import Iterator, NamedTuple, Optional, Union
 
 from . import _library
 from ._texts import Text, bytes_of, number_of, told_field
@@ -73,6 +73,12 @@ class Directory:
 
     def __iter__(self) -> Iterator[Player]:
         return (self[place] for place in range(len(self)))
+
+    def __contains__(self, player: Union[Text, Player]) -> bool:
+        """True if a player of this name is listed, or just this player."""
+        if isinstance(player, Player):
+            return self.get(player.name) == player
+        return self.get(player) is not None
 
     def get(self, name: Text) -> Optional[Player]:
         """The player of a name, or None."""

@@ -97,6 +97,8 @@ class Lines:
     def __init__(self, stream: Union[Bytes, Any] = b'', *, rows: int = 4096, room: int = 1 << 18) -> None:
         if rows < 1 or room < _library.MAX_LINE:
             raise ValueError('no room for a line')
+        if not isinstance(stream, (bytes, bytearray, memoryview)) and not hasattr(stream, 'read'):
+            raise TypeError('bytes or a binary file are wanted, not %s' % type(stream).__name__)
         self._lines = _library.Owned('fibs_lines_new', 'fibs_lines_free')
         check(self._lines.status)
         self._text = (c_uint8 * room)()

@@ -54,7 +54,8 @@ def a_stream_may_be_anything_that_is_read(counts):
         for text in b'one', b'two':
             ours.sendall(text + b'\n')
             counts.same(next(lines).text, text, 'a line of a socket comes as soon as it is there')
-    counts.raises(AttributeError, lambda: next(fibs.Lines(5)))
+    for stream in 5, None, 'capture.txt':
+        counts.raises(TypeError, fibs.Lines, stream)
     counts.raises(TypeError, lambda: next(fibs.Lines(io.StringIO('a\n'))))
 
 
@@ -322,6 +323,9 @@ def players_come_and_go(counts):
     bob = players.get('bob')
     counts.same((bob, bob.rating, bob.opponent, bob.ready), (players[1], 162350, b'ann', True), 'their fields')
     counts.same(players.get(b'carl'), None, 'nobody')
+    counts.same(('bob' in players, b'carl' in players, bob in players, bob._replace(idle=9) in players),
+                (True, False, True, False), 'who is there')
+    counts.raises(TypeError, lambda: 5 in players)
     players.note(b'8 ann ann logs out.')
     counts.same([player.name for player in players], [b'bob'], 'one is left')
     for place in 1, -1, 1 << 62:
