@@ -15,6 +15,7 @@ import sys
 import threading
 import time
 
+from props import peeking
 from props.server import OWN_INFO, WHO_INFO, Game, Server
 
 PROGRAM = sys.argv[1]
@@ -454,7 +455,13 @@ def a_server_that_says_nothing(server):
 
 
 def a_quiet_server_is_waited_for_half_a_second(server):
+    """Each command leaves at once, and a server that is gone without a word is asked after."""
     player = logged_in(server)
+    found = peeking.options(player.program.pid)
+    if found is None:
+        print('        the system does not show what is set of its sockets: not tried', flush=True)
+    else:
+        same('at once, asked after, milliseconds', found, [(True, True, 500)])
     began = time.monotonic()
     player.type_bytes(b'\n\n\n\ndance\n')
     same('printed', player.line(), 'unknown\n')

@@ -13,6 +13,8 @@ import subprocess
 import sys
 import time
 
+from props import peeking
+
 PROGRAM = sys.argv[1]
 
 # How long a step may take, on a machine that does much else.
@@ -136,6 +138,15 @@ def a_listener_of_this_machine_alone():
     same('loop', (program.returncode, out, err), (0, b'opened 1\nlost 1\nend 2\n', b''))
 
 
+def two_that_listen_at_the_same_time():
+    """Each on a port of its own."""
+    (one, first), (other, second) = waiting_loop(), waiting_loop()
+    for program in one, other:
+        out, err = program.communicate(script('open', 'lose 0'), PATIENCE)
+        same('loop', (program.returncode, out, err), (0, b'opened 1\nlost 1\nend 2\n', b''))
+    same('one port for two', first == second, False)
+
+
 # -- a stranger ------------------------------------------------------------------------------------------------------
 
 def came_to(port, said):
@@ -167,6 +178,36 @@ def a_stranger_who_says_nothing_and_leaves():
     same('loop', (program.returncode, out, err), (4, b'opened 1\n', b'fibs: device\n'))
 
 
+def waits_in_vain(program):
+    """What is set of both ends, while one of them waits for what does not come."""
+    end = time.monotonic() + PATIENCE
+    while (found := peeking.options(program.pid)) is not None and len(found) < 2:
+        if program.poll() is not None or time.monotonic() > end:
+            raise Failed('no two ends: %r' % found)
+        time.sleep(0.02)
+    if found is None:
+        print('        the system does not show what is set of its sockets: not tried', flush=True)
+    else:
+        same('at once, asked after, milliseconds', found, [(True, False, 10000)] * 2)
+
+
+def a_stranger_who_says_nothing_and_stays():
+    """The server waits for its first line in vain. Each portion leaves at once, and no end waits forever."""
+    program, port = waiting_loop()
+    stranger = came_to(port, b'')
+    try:
+        program.stdin.write(script('open', 'serve 1 1 1'))
+        program.stdin.close()
+        program.stdin = None
+        waits_in_vain(program)
+        out, err = program.communicate(timeout=PATIENCE)
+        same('loop', (program.returncode, out, err), (4, b'opened 1\n', b'fibs: device\n'))
+    finally:
+        stranger.close()
+        program.kill()
+        program.communicate()
+
+
 def everything(stranger):
     """All bytes that came, up to the end of the connection or its reset."""
     heard = b''
@@ -183,8 +224,9 @@ def everything(stranger):
 
 CASES = [
     a_connection_for_which_no_file_may_be_opened, a_listener_alone_for_a_script_that_opens_nothing,
-    both_ends_closed_at_each_loss, a_listener_of_this_machine_alone, a_stranger_who_stays_is_taken_for_the_client,
-    a_stranger_who_says_nothing_and_leaves,
+    both_ends_closed_at_each_loss, a_listener_of_this_machine_alone, two_that_listen_at_the_same_time,
+    a_stranger_who_stays_is_taken_for_the_client, a_stranger_who_says_nothing_and_leaves,
+    a_stranger_who_says_nothing_and_stays,
 ]
 
 

@@ -8,6 +8,8 @@ import time
 from escapes import BOARD, greeted, with_server
 from people import Failed, same
 
+from props import peeking
+
 # Kilobytes of memory that a game may take at most.
 MEMORY = 3072
 
@@ -93,4 +95,16 @@ def a_dead_router_is_seen(server):
     ann.close()
 
 
-SCENES = [no_wakes_at_rest, milliseconds, memory, a_dead_router_is_seen]
+@with_server
+def what_is_set_of_the_connection(server):
+    """Each command leaves at once, and a read waits for 20 milliseconds."""
+    ann = greeted(server)
+    found = peeking.options(ann.job)
+    if found is None:
+        print('        the system does not show what is set of its sockets: not tried', flush=True)
+    else:
+        same('at once, asked after, milliseconds', found, [(True, True, 20)])
+    ann.close()
+
+
+SCENES = [no_wakes_at_rest, milliseconds, memory, a_dead_router_is_seen, what_is_set_of_the_connection]

@@ -1,6 +1,7 @@
 """Servers that flood, and that send what a terminal would obey."""
 
 import random
+import socket
 import threading
 import time
 
@@ -127,16 +128,15 @@ def what_is_malformed_is_shown(server):
 
 @with_server
 def a_flood_does_not_hold_a_typed_line(server):
-    """Of a server that sends a million lines with no pause: what is typed goes out within a second."""
+    """Of a server that sends lines with no pause and no end, so that both are always ready: what is typed goes out within a
+    second."""
     ann = greeted(server)
     over = threading.Event()
     lines = b''.join(b'13 eve line %d of many, without a pause\r\n' % number for number in range(1000))
 
     def floods():
         try:
-            for _ in range(MILLION // 1000):
-                if over.is_set():
-                    return
+            while not over.is_set():
                 server.send_bytes(lines)
         except OSError:
             # ann has gone
@@ -168,6 +168,34 @@ def a_flood_does_not_hold_a_typed_line(server):
     ann.close()
 
 
+def a_host_of_which_one_address_alone_answers():
+    """At a terminal the connections go through a network of its own, which finds each address too."""
+    for family, _, _, _, (address, *_) in socket.getaddrinfo('localhost', 0, type=socket.SOCK_STREAM):
+        try:
+            listener = socket.create_server((address, 0), family=family)
+        except OSError:
+            continue
+        with listener:
+            ann = Person(listener.getsockname()[1], host='localhost')
+            listener.settimeout(PATIENCE)
+            connection, _ = listener.accept()
+            with connection:
+                same('the login', connection.recv(100).split(b' ')[:2], [b'login', b'fibs_client'])
+                connection.sendall(b'12 bob hi\r\n')
+                ann.reads('bob says: hi')
+            ann.close()
+
+
+@with_server
+def lines_that_are_pasted_are_all_answered(server):
+    """A terminal gives each line by itself: what is typed is asked for anew after each."""
+    ann = greeted(server)
+    lines = ['say number %d' % number for number in range(40)]
+    ann.type_bytes(''.join(line + '\n' for line in lines).encode())
+    same('received', [server.line() for _ in lines], lines)
+    ann.close()
+
+
 @with_server
 def nothing_typed_is_lost_when_a_line_comes(server):
     ann = greeted(server)
@@ -181,4 +209,5 @@ def nothing_typed_is_lost_when_a_line_comes(server):
 
 
 SCENES = [a_million_lines, letters_of_other_scripts, what_is_malformed_is_shown, a_flood_does_not_hold_a_typed_line,
+          a_host_of_which_one_address_alone_answers, lines_that_are_pasted_are_all_answered,
           nothing_typed_is_lost_when_a_line_comes]

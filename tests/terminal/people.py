@@ -60,8 +60,8 @@ def named_by(line):
 class Person(Terminal):
     """One at a terminal."""
 
-    def __init__(self, port, name='ann', words=(), columns=80, rows=24, **more):
-        command = [PROGRAM, 'connect', '--password-file', PASSWORD_FILE, *words, '127.0.0.1', str(port), name]
+    def __init__(self, port, name='ann', words=(), columns=80, rows=24, host='127.0.0.1', **more):
+        command = [PROGRAM, 'connect', '--password-file', PASSWORD_FILE, *words, host, str(port), name]
         more = {'FIBS_QUIET': '1', 'LC_ALL': 'C', 'TZ': 'UTC', **more}
         super().__init__(command, columns, rows, **more)
         # the lines that were taken from the screen, up to which byte of it, and how many of them were read
