@@ -1,6 +1,7 @@
 /* Loaded before a program's own libraries (LD_PRELOAD), this refuses one of its allocations: the one whose number, counted
-   from 1, the variable REFUSED gives. At the refusal it makes the file that REFUSED_TOLD names. It needs no header and no
-   library but the C library of a running program, so that the kit's own compiler builds it. */
+   from 1, the variable REFUSED gives. At the refusal it makes the file that REFUSED_TOLD names. If INTERRUPTED is set, each
+   second write to a socket is as one that a signal interrupts, the first among them. It needs no header and no library but
+   the C library of a running program, so that the kit's own compiler builds it. */
 typedef __SIZE_TYPE__ size_t;
 
 void *__libc_malloc(size_t size);
@@ -8,10 +9,13 @@ void *__libc_realloc(void *old, size_t size);
 char *getenv(const char *name);
 int open(const char *path, int flags, ...);
 int close(int file);
+long __send(int socket, const void *bytes, size_t size, int flags);
+int *__errno_location(void);
 
-enum { WRITE_AND_CREATE = 0101, OWNER_ONLY = 0600 };
+enum { WRITE_AND_CREATE = 0101, OWNER_ONLY = 0600, INTERRUPTED_CALL = 4 };
 
 static long asked;
+static long sends;
 
 static long number_of(const char *digits) {
     long number = 0;
@@ -39,4 +43,12 @@ void *malloc(size_t size) {
 
 void *realloc(void *old, size_t size) {
     return is_refused() ? (void *)0 : __libc_realloc(old, size);
+}
+
+long send(int socket, const void *bytes, size_t size, int flags) {
+    if (getenv("INTERRUPTED") && sends++ % 2 == 0) {
+        *__errno_location() = INTERRUPTED_CALL;
+        return -1;
+    }
+    return __send(socket, bytes, size, flags);
 }
