@@ -1,5 +1,5 @@
 -- What `feed` answers, from what is kept.
-use Rattle.std.proofs.Common.{◌≡◌, ℕ, ◌+◌, min, Bool, true, false, List, [], ◌∷◌, ◌++◌, length, take, None, Some}
+use Rattle.std.proofs.Common.{◌≡◌, ℕ, zero, suc, ◌+◌, min, Bool, true, false, List, [], ◌∷◌, ◌++◌, length, take, None, Some}
 use Rattle.std.proofs.Common.{true≢false, refl, sym, ap, subst, ◌∙◌, arith, append_assoc}
 use Rattle.std.specs.Prelude.{nat_lt}
 use Rattle.std.proofs.lemmas.List.{take_more, take_all, append-nil, length-take}
@@ -105,6 +105,20 @@ value_where_lent u lent e = ap (lines_value u) e
 -- the value of a reader that has lent none
 pub value_where_not_lent : (u : Unfinished) (lent : Bool) → lent ≡ false → lines_value u lent ≡ lines_value u false
 value_where_not_lent u lent e = ap (lines_value u) e
+
+-- the first n of the first n + 1
+take_one_less : (n : ℕ) (r : List ℕ) → take n (take (suc n) r) ≡ take n r
+take_one_less zero r = refl
+take_one_less (suc n) [] = refl
+take_one_less (suc n) (x ∷ r) = ap (λ l. x ∷ l) (take_one_less n r)
+
+take_fewer : (n m : ℕ) (r : List ℕ) → m ≡ suc n → take n (take m r) ≡ take n r
+take_fewer n m r e = ap (λ k. take n (take k r)) e ∙ take_one_less n r
+
+-- what is held
+pub bytes_of_front : (v : Kept) (s : List ℕ) → KeptAfter v s → take kept_limit v.front ≡ take kept_limit (rest_of s)
+bytes_of_front v s h =
+    ap (take kept_limit) h.front ∙ take_fewer kept_limit (kept_limit + 1) (rest_of s) (omega arith)
 
 -- how much is held
 pub held_of_front : (v : Kept) (s : List ℕ) → KeptAfter v s

@@ -1,11 +1,15 @@
 -- The byte 13 at a line's end.
 use Rattle.std.proofs.Common.{◌≡◌, ℕ, zero, suc, ◌+◌, ◌-◌, ◌<◌, ◌≤◌, Bool, true, false, eqb, cond, List, [], ◌∷◌, ◌++◌}
-use Rattle.std.proofs.Common.{length, take, refl, sym, ap, ◌∙◌, arith, get_or, ne_eqb, ◌≢◌}
+use Rattle.std.proofs.Common.{length, take, min, refl, sym, ap, ◌∙◌, arith, get_or, ne_eqb, ◌≢◌}
 use Rattle.std.specs.Prelude.{◌||◌, nat_lt}
-use Rattle.std.proofs.lemmas.List.{take_all, take_more}
+use Rattle.std.proofs.lemmas.List.{take_all, take_more, take_min}
 use Rattle.std.specs.Str.Lines.{strip_carriage_return}
 use Rattle.fibs_lines.specs.Lines.{kept_limit, without_prompts, line_of, ReadLine}
 use Rattle.fibs_lines.specs.LinesValue.{kept_line}
+
+-- a list cut at a limit, or at its length where that is less
+pub take_at_limit : (n k : ℕ) (l : List ℕ) → k ≡ min (length l) n → take k l ≡ take n l
+take_at_limit n k l e = ap (λ m. take m l) {y = min n (length l)} (omega arith) ∙ take_min n l
 
 -- std's `strip_carriage_return`, from the front on
 unfoldable pub without_return : List ℕ → List ℕ

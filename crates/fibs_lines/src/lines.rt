@@ -136,4 +136,18 @@ impl Lines {
         }
         self.unfinished.front.len().min(LIMIT)
     }
+
+    /// The bytes that follow the last line end, without telnet commands and up to `LIMIT`: those that `held` counts. None
+    /// after a line was lent.
+    ///
+    /// A prompt that the server writes without a line end stands here.
+    pub fn unfinished(&self) -> &[u8]
+        ensures { (s : List ℕ) → StandsAfter self.now s → result.now ≡ take kept_limit (rest_of s) }
+    {
+        if self.lent {
+            return b"";
+        }
+        let front = self.unfinished.front.as_slice();
+        &front[..front.len().min(LIMIT)]
+    }
 }

@@ -5,6 +5,7 @@ ghost use Rattle.std.specs.Io.BufRead.{Rests};
 ghost use Rattle.std.specs.Option.{option_copied};
 ghost use Rattle.std.specs.Result.{result_err};
 ghost use Rattle.std.specs.Prelude.{◌≡◌, IsErr, ◌<◌, ◌≤◌, Option, [], length, take, option_map};
+ghost use Rattle.fibs_lines.specs.Lines.{kept_limit, rest_of};
 ghost use Rattle.fibs_boards.specs.StoredBoard.{fields_of};
 ghost use Rattle.fibs_position.specs.DecisionValue.{decision_of};
 ghost use Rattle.fibs_session.specs.Calls.Doing.{Does};
@@ -162,6 +163,14 @@ impl Client {
         ensures { (t : Talk) → StandsAfter self.now t → option_map ask_of (option_copied result) ≡ unconfirmed_now t }
     {
         self.session.waiting()
+    }
+
+    /// The bytes of the line that has not ended: what follows the last line end of the connection, without telnet commands
+    /// and up to 16,384 bytes. A prompt of the server stands here, since it has no line end.
+    pub fn unfinished(&self) -> &[u8]
+        ensures { (t : Talk) → StandsAfter self.now t → result.now ≡ take kept_limit (rest_of t.stream) }
+    {
+        self.lines.unfinished()
     }
 
     /// Reads `piece` up to and with the next line end, and hears the line, by lines and session.
