@@ -1,10 +1,12 @@
 -- Counts of checkers: no step adds one.
 use Rattle.std.proofs.Common.{◌≡◌, ℕ, zero, suc, ◌+◌, ◌-◌, ◌<◌, ◌≤◌, ◌≢◌, Bool, true, false, cond, List, [], ◌∷◌}
-use Rattle.std.proofs.Common.{length, drop, sum, inl, inr, refl, ap, arith, drop-cons, add-one}
+use Rattle.std.proofs.Common.{length, drop, sum, inl, inr, refl, ap, ◌∙◌, arith, drop-cons, add-one, get_or, eq-eqb}
+use Rattle.std.proofs.Common.{length-set, get_or-set_same, get_or-set_other}
 use Rattle.std.specs.Prelude.{◌&&◌, ◌==◌, nat_lt, slice_index, slice_set, map}
 use Rattle.std.specs.List.{range_with_len}
-use Rattle.std.proofs.lemmas.Bool.{cases_lt, cases_eq, and_parts, eqb-true}
-use Rattle.std.proofs.lemmas.List.{get_or-set_same, get_or-set_other, set_past, drop_all}
+use Rattle.std.proofs.lemmas.Bool.{cases_lt, and_parts, eqb-true, ltb-true, ne_eqb, cond-true, cond-false, cond_both}
+use Rattle.std.proofs.lemmas.Bool.Decides.{nat_tests}
+use Rattle.std.proofs.lemmas.List.{set_past, drop_all}
 use Rattle.std.proofs.lemmas.List.Sums.{sum_by-set, sum_by-cons, get_or-le-sum_by}
 use Rattle.std.proofs.Math.ListN.{get_or-eq_default}
 use Rattle.fibs_rules.specs.Checkers.{shifted, hit}
@@ -16,8 +18,8 @@ count_le xs i = elim (cases_lt i (length xs)) [
   | inr past ↦ let none = get_or-eq_default xs 0 past in omega arith
 ]
 
--- a count that is not 0 is in the list
-stands : (xs : List ℕ) (i : ℕ) → 0 < slice_index xs i → i < length xs
+-- a count that is not 0 stands in the list
+pub stands : (xs : List ℕ) (i : ℕ) → 0 < slice_index xs i → i < length xs
 stands xs i some =
     elim (cases_lt i (length xs))
     [ inl within ↦ within | inr past ↦ let none = get_or-eq_default xs 0 past in absurd (omega arith) ]
@@ -42,31 +44,26 @@ hit_sum : (t : Bool) (other : List ℕ) (to : ℕ) → t ≡ (nat_lt 0 to && (sl
 hit_sum true other to is some = shifted_le other to 0 (some refl)
 hit_sum false other to is some = omega arith
 
--- a checker that leaves to place 0 adds none elsewhere
-shifted_at : (xs : List ℕ) (from i : ℕ) → 0 < i → slice_index (shifted xs from 0) i ≤ slice_index xs i
-shifted_at xs from i some =
-    let left = slice_set xs from (slice_index xs from - 1) in
-    let apart : i ≢ 0 = omega arith in
-    let above : slice_index (shifted xs from 0) i ≡ slice_index left i =
-    get_or-set_other left 0 i (slice_index left 0 + 1) 0 apart in
-    elim (cases_eq i from) [
-      | inl here ↦ elim (cases_lt from (length xs)) [
-        | inl within ↦ let e : slice_index left from ≡ slice_index xs from - 1 =
-            get_or-set_same xs from (slice_index xs from - 1) 0 within in
-            let f : slice_index left i ≡ slice_index left from = ap (slice_index left) here in
-            let g : slice_index xs i ≡ slice_index xs from = ap (slice_index xs) here in omega arith
-        | inr past ↦ let e : slice_index left i ≡ slice_index xs i =
-            ap (λ l. slice_index l i) (set_past xs from (slice_index xs from - 1) past) in omega arith
-      ]
-      | inr other ↦ let e : slice_index left i ≡ slice_index xs i =
-          get_or-set_other xs from i (slice_index xs from - 1) 0 other in omega arith
-    ]
+-- a shift leaves the length
+pub shifted_long : (xs : List ℕ) (f t : ℕ) → length (shifted xs f t) ≡ length xs
+shifted_long xs f t = omega (arith, length-set {A = ℕ})
 
--- so does one that is hit, if one is
-hit_at : (t : Bool) (other : List ℕ) (to i : ℕ) → 0 < i
-    → slice_index (cond t (shifted other to 0) other) i ≤ slice_index other i
-hit_at true other to i some = shifted_at other to i some
-hit_at false other to i some = omega arith
+-- what a shift makes of one count
+abbrev pub shift_at : ℕ → ℕ → ℕ → ℕ → ℕ
+shift_at x k f t = cond (k == f) (x - 1) (cond (k == t) (x + 1) x)
+
+-- at the target there is one more
+pub shift_to : (x k f t : ℕ) → k ≢ f → k ≡ t → shift_at x k f t ≡ x + 1
+shift_to x k f t n e = cond-false (k == f) _ _ (ne_eqb k f n) ∙ cond-true (k == t) _ _ (eq-eqb k t e)
+
+-- elsewhere there are as many
+pub shift_else : (x k f t : ℕ) → k ≢ f → k ≢ t → shift_at x k f t ≡ x
+shift_else x k f t n m = cond-false (k == f) _ _ (ne_eqb k f n) ∙ cond-false (k == t) _ _ (ne_eqb k t m)
+
+-- a count after a shift
+pub shifted_at : (xs : List ℕ) (f t k : ℕ) → f ≢ t → f < length xs → t < length xs
+    → get_or (shifted xs f t) k 0 ≡ shift_at (get_or xs k 0) k f t
+shifted_at xs f t k apart l r = grind (arith, nat_tests, get_or-set_same, get_or-set_other, length-set)
 
 -- no hit adds one, on the bar and elsewhere together, nor on any place
 pub hit_le : (other : List ℕ) (to : ℕ) → sum (hit other to) ≤ sum other
@@ -76,7 +73,16 @@ hit_le other to = hit_sum (nat_lt 0 to && (slice_index other to == 1)) other to 
 
 -- a hit adds none on a place
 pub hit_place : (other : List ℕ) (to i : ℕ) → 0 < i → slice_index (hit other to) i ≤ slice_index other i
-hit_place other to i some = hit_at (nat_lt 0 to && (slice_index other to == 1)) other to i some
+hit_place other to i some =
+    cond_both (nat_lt 0 to && (slice_index other to == 1)) (shifted other to 0) other
+    (λ ys. slice_index ys i ≤ slice_index other i)
+    (λ e.
+    let (low, one) = and_parts (nat_lt 0 to) (slice_index other to == 1) e in
+    let is = eqb-true (slice_index other to) 1 one in let within = stands other to (omega (arith, is)) in
+    let at = shifted_at other to 0 i (omega (arith, ltb-true 0 to low)) within (omega (arith, within)) in
+    let less : shift_at (slice_index other i) i to 0 ≤ slice_index other i = grind (arith, nat_tests) in
+    omega (arith, at, less))
+    (λ e. omega arith)
 
 -- sums over a range
 pub range_le : (f g : ℕ → ℕ) (first long : ℕ) → ((k : ℕ) → first ≤ k → k < first + long → f k ≤ g k)

@@ -2,7 +2,7 @@
 use Rattle.std.proofs.lemmas.Bool.{cases_eq}
 use Rattle.std.proofs.lemmas.Bool.Decides.{nat_tests}
 use Rattle.std.proofs.Common.{◌≢◌, ◌≡◌, ℕ, suc, zero, ◌<◌, ◌≤◌, ◌⊎◌, inl, inr, List, [], ◌∷◌, ◌++◌, length, replicate}
-use Rattle.std.proofs.Common.{refl, sym, ◌∙◌, arith}
+use Rattle.std.proofs.Common.{refl, ◌∙◌, arith}
 use Rattle.fibs_rules.specs.Runs.{IsPart, held_of}
 use Rattle.fibs_rules.specs.Search.{AreDice}
 
@@ -32,36 +32,24 @@ picked_equal (x ∷ before) after die a (suc n) e =
     (ih.0, cc)
 
 -- a part of equal dice is a front of them
-equal_front : (dice held : List ℕ) (a n : ℕ) → held ≡ replicate n a → IsPart dice held → IsFront dice (replicate n a)
-equal_front [] held a n e h = (replicate n a, refl)
+equal_front : (dice held : List ℕ) (a n : ℕ) → held ≡ replicate n a → IsPart dice held → IsFront dice held
+equal_front [] held a n e h = (held, refl)
 equal_front (die ∷ dice) held a zero e (before, after, f, h) = absurd (not_empty before after die (f ∙ e))
 equal_front (die ∷ dice) held a (suc n) e (before, after, f, h) =
     let (same, left) = picked_equal before after die a n (f ∙ e) in
     let (rest, g) = equal_front dice (before ++ after) a n left h in
     (rest, cc)
 
--- of no dice
-none_front : (dice : List ℕ) → IsPart dice [] → IsFront dice []
-none_front dice h = equal_front dice [] 0 0 refl h
-
--- of one die
-one_front : (a : ℕ) (dice : List ℕ) → IsPart dice (a ∷ []) → IsFront dice (a ∷ [])
-one_front a dice h = equal_front dice (a ∷ []) a 1 refl h
-
--- of four equal ones
-four_front : (a : ℕ) (dice : List ℕ) → IsPart dice (a ∷ a ∷ a ∷ a ∷ []) → IsFront dice (a ∷ a ∷ a ∷ a ∷ [])
-four_front a dice h = equal_front dice (a ∷ a ∷ a ∷ a ∷ []) a 4 refl h
-
 -- of two dice, a front in one of the two orders
 two_front : (a b : ℕ) (dice : List ℕ) → IsPart dice (a ∷ b ∷ []) → IsFront dice (a ∷ b ∷ []) ⊎ IsFront dice (b ∷ a ∷ [])
 two_front a b [] h = inl (a ∷ b ∷ [], refl)
 two_front a b (die ∷ dice) ([], after, e, h) =
     let f : after ≡ b ∷ [] = cc in
-    let (rest, g) = one_front b dice (rw f at h) in inl (rest, cc)
+    let (rest, g) = equal_front dice (b ∷ []) b 1 refl (rw f at h) in inl (rest, cc)
 two_front a b (die ∷ dice) (x ∷ [], after, e, h) =
     let f : after ≡ [] = cc in
     let x_is : x ≡ a = cc in
-    let (rest, g) = one_front a dice (rw (f, x_is) at h) in inr (rest, cc)
+    let (rest, g) = equal_front dice (a ∷ []) a 1 refl (rw (f, x_is) at h) in inr (rest, cc)
 two_front a b (die ∷ dice) (x ∷ y ∷ before, after, e, h) =
     let f : before ++ die ∷ after ≡ [] = cc in absurd (not_empty before after die f)
 
@@ -94,10 +82,10 @@ held a b = elim (cases_eq a b) [
 pub front_from_part : (a b : ℕ) (dice : List ℕ) → IsPart dice (held_of a b)
     → IsFront dice (held_of a b) ⊎ IsFront dice (held_of b a)
 front_from_part a b dice h = elim (held a b) [
-  | none e f ↦ inl (rw e (none_front dice (rw e at h)))
-  | single d is pos e f ↦ inl (rw e (one_front d dice (rw e at h)))
+  | none e f ↦ inl (equal_front dice (held_of a b) 0 0 e h)
+  | single d is pos e f ↦ inl (equal_front dice (held_of a b) d 1 e h)
   | different apart l r e f ↦ rw (e, f) (two_front a b dice (rw e at h))
-  | equal pos e f ↦ inl (rw e (four_front a dice (rw e at h)))
+  | equal pos e f ↦ inl (equal_front dice (held_of a b) a 4 e h)
 ]
 
 -- a front of two dice turned round is a part of them
@@ -139,21 +127,11 @@ two_held a b l r apart = grind (arith, nat_tests)
 
 -- as many are held in either order
 pub held_long : (a b : ℕ) → length (held_of a b) ≡ length (held_of b a)
-held_long a b = elim (held a b) [
-  | none e f ↦ rw (e, f) refl
-  | single d is pos e f ↦ rw (e, f) refl
-  | different apart x y e f ↦ rw (e, f) refl
-  | equal pos e f ↦ rw (e, f) refl
-]
+held_long a b = grind (arith, nat_tests)
 
 -- if no two different dice are held, the order of the two does not matter
 pub alike : (a b : ℕ) → (0 < a → 0 < b → a ≢ b → ⊥) → held_of b a ≡ held_of a b
-alike a b not_two = elim (held a b) [
-  | none e f ↦ f ∙ sym e
-  | single d is pos e f ↦ f ∙ sym e
-  | different apart l r e f ↦ absurd (not_two l r apart)
-  | equal pos e f ↦ f ∙ sym e
-]
+alike a b not_two = grind (arith, nat_tests, not_two)
 
 -- a die that is shown is held
 first_held : (a b : ℕ) → 0 < a → IsFront (a ∷ []) (held_of a b)

@@ -1,69 +1,16 @@
 -- Two steps by one die, the second from a higher place, may be played in the other order.
-use Rattle.std.proofs.Common.{◌≡◌, ◌≢◌, ℕ, suc, zero, ◌+◌, ◌-◌, ◌<◌, ◌≤◌, ◌⊎◌, inl, inr, List, [], ◌∷◌, length, get_or}
-use Rattle.std.proofs.Common.{set, Bool, true, false, refl, sym, ap, subst, ◌∙◌, arith, cond, eq-eqb, length-set}
-use Rattle.std.proofs.Common.{get_or-set_other, get_or-set_same}
+use Rattle.std.proofs.Common.{◌≡◌, ◌≢◌, ℕ, ◌+◌, ◌<◌, ◌≤◌, ◌⊎◌, inl, inr, List, length, get_or}
+use Rattle.std.proofs.Common.{Bool, true, false, refl, sym, ap, subst, ◌∙◌, arith}
 use Rattle.std.specs.Prelude.{◌&&◌, ◌==◌, nat_lt, slice_index}
-use Rattle.std.proofs.lemmas.Bool.{cases_eq, cases_lt, cond-true, cond-false, cases_Bool, ne_eqb, cond_both, and_parts}
+use Rattle.std.proofs.lemmas.Bool.{cases_eq, cases_lt, cond-true, cond-false, cases_Bool, cond_both, and_parts}
 use Rattle.std.proofs.lemmas.Bool.{and_left, ltb-true, eqb-true, le-ltb}
 use Rattle.std.proofs.lemmas.Bool.Decides.{nat_tests}
 use Rattle.std.proofs.lemmas.Grind.{same_number_lists}
 use Rattle.fibs_rules.specs.Checkers.{Checkers, AllHome, moved, shifted, hit}
 use Rattle.fibs_rules.specs.OneChecker.{One}
 use Rattle.fibs_rules.specs.Laws.{StepsSwap}
+use Rattle.fibs_rules.proofs.RuleLemmas.CheckerCounts.{shift_at, shift_else, shift_to, shifted_at, shifted_long, stands}
 use Rattle.fibs_rules.proofs.RuleLemmas.OneChecker.{Goes}
-
--- a count above 0 is in the list
-in_list : (xs : List ℕ) (k : ℕ) → 0 < get_or xs k 0 → k < length xs
-in_list [] k h = absurd (omega arith)
-in_list (x ∷ xs) zero h = omega arith
-in_list (x ∷ xs) (suc k) h = let ih = in_list xs k h in omega (arith, ih)
-
--- a shift leaves the length
-shifted_long : (xs : List ℕ) (f t : ℕ) → length (shifted xs f t) ≡ length xs
-shifted_long xs f t = omega (arith, length-set {A = ℕ})
-
--- what a shift makes of one count
-abbrev shift_at : ℕ → ℕ → ℕ → ℕ → ℕ
-shift_at x k f t = cond (k == f) (x - 1) (cond (k == t) (x + 1) x)
-
--- at the source there is one less
-shift_from : (x k f t : ℕ) → k ≡ f → shift_at x k f t ≡ x - 1
-shift_from x k f t e = cond-true (k == f) _ _ (eq-eqb k f e)
-
--- at the target there is one more
-shift_to : (x k f t : ℕ) → k ≢ f → k ≡ t → shift_at x k f t ≡ x + 1
-shift_to x k f t n e = cond-false (k == f) _ _ (ne_eqb k f n) ∙ cond-true (k == t) _ _ (eq-eqb k t e)
-
--- elsewhere there are as many
-shift_else : (x k f t : ℕ) → k ≢ f → k ≢ t → shift_at x k f t ≡ x
-shift_else x k f t n m = cond-false (k == f) _ _ (ne_eqb k f n) ∙ cond-false (k == t) _ _ (ne_eqb k t m)
-
--- a count after a shift
-shifted_at : (xs : List ℕ) (f t k : ℕ) → f ≢ t → f < length xs → t < length xs
-    → get_or (shifted xs f t) k 0 ≡ shift_at (get_or xs k 0) k f t
-shifted_at xs f t k apart l r = elim (cases_eq k f) [
-  | inl e ↦
-      let n : k ≢ t = omega arith in
-      let a = get_or-set_other (set xs f (get_or xs f 0 - 1)) t k (get_or (set xs f (get_or xs f 0 - 1)) t 0 + 1) 0 n in
-      let b : get_or (set xs f (get_or xs f 0 - 1)) k 0 ≡ get_or xs k 0 - 1 =
-      subst (λ j. get_or (set xs f (get_or xs f 0 - 1)) j 0 ≡ get_or xs j 0 - 1) (sym e)
-      (get_or-set_same xs f (get_or xs f 0 - 1) 0 l) in
-      a ∙ b ∙ sym (shift_from (get_or xs k 0) k f t e)
-  | inr n ↦ elim (cases_eq k t) [
-    | inl e ↦
-        let m : t ≢ f = omega arith in
-        let a : get_or (shifted xs f t) t 0 ≡ get_or (set xs f (get_or xs f 0 - 1)) t 0 + 1 =
-        get_or-set_same (set xs f (get_or xs f 0 - 1)) t (get_or (set xs f (get_or xs f 0 - 1)) t 0 + 1) 0
-        (rw length-set r) in
-        let b : get_or (shifted xs f t) t 0 ≡ get_or xs t 0 + 1 =
-        a ∙ ap (λ x. x + 1) (get_or-set_other xs f t (get_or xs f 0 - 1) 0 m) in
-        subst (λ j. get_or (shifted xs f t) j 0 ≡ get_or xs j 0 + 1) (sym e) b
-        ∙ sym (shift_to (get_or xs k 0) k f t n e)
-    | inr m ↦
-        get_or-set_other (set xs f (get_or xs f 0 - 1)) t k (get_or (set xs f (get_or xs f 0 - 1)) t 0 + 1) 0 m
-        ∙ get_or-set_other xs f k (get_or xs f 0 - 1) 0 n ∙ sym (shift_else (get_or xs k 0) k f t n m)
-  ]
-]
 
 -- two shifts of one count swap
 shifts_swap : (x k f t g u : ℕ) → f ≢ t → g ≢ u → f ≢ g → (k ≡ f → 0 < x) → (k ≡ g → 0 < x)
@@ -97,7 +44,7 @@ hit_else ys t u n pos =
     (λ e.
     let (some, one) = and_parts (nat_lt 0 t) (get_or ys t 0 == 1) e in
     let lo = ltb-true 0 t some in let is = eqb-true (get_or ys t 0) 1 one in
-    let l = in_list ys t (omega (arith, is)) in
+    let l = stands ys t (omega (arith, is)) in
     shifted_at ys t 0 u (omega (arith, lo)) l (omega (arith, l)) ∙ shift_else (get_or ys u 0) u t 0 n (omega arith))
     (λ e. refl)
 
@@ -124,7 +71,7 @@ hits_swap ys t u n a b =
     let (su, ou) = and_parts (nat_lt 0 u) (get_or ys u 0 == 1) b in
     let lt = ltb-true 0 t st in let lu = ltb-true 0 u su in
     let et = eqb-true (get_or ys t 0) 1 ot in let eu = eqb-true (get_or ys u 0) 1 ou in
-    let it = in_list ys t (omega (arith, et)) in let iu = in_list ys u (omega (arith, eu)) in
+    let it = stands ys t (omega (arith, et)) in let iu = stands ys u (omega (arith, eu)) in
     shifted_swap ys t 0 u 0 (omega (arith, lt)) (omega (arith, lu)) n it (omega (arith, it)) iu (omega (arith, iu))
     (omega (arith, et)) (omega (arith, eu))
 
@@ -183,9 +130,20 @@ low p f t d die pos lt (inr (inr (inr h))) =
 moved_above : (p : Checkers) (f t g : ℕ) → f < g → t < f → 0 < slice_index p.own f
     → slice_index (moved p f t).own g ≡ slice_index p.own g
 moved_above p f t g lt below occ =
-    let l = in_list p.own f occ in
+    let l = stands p.own f occ in
     shifted_at p.own f t g (omega arith) l (omega (arith, l))
     ∙ shift_else (get_or p.own g 0) g f t (omega arith) (omega arith)
+
+-- below an own checker it goes as far as the die says
+goes_whole : (p : Checkers) (f t g d : ℕ) → f < g → Low p f t d → 0 < slice_index p.own g
+    → (t + d ≡ f) × ((0 < t) ⊎ (t ≡ 0) × AllHome p)
+goes_whole p f t g d lt a occ = elim a.how [
+  | inl w ↦ (w.0, inl w.1)
+  | inr v ↦ elim v [
+    | inl w ↦ let x = w.0 in let y = w.1 in (omega (arith, x, y), inr (w.1, w.2))
+    | inr w ↦ let x = w.1 g lt in absurd (omega (arith, occ, x))
+  ]
+]
 
 -- the second of two such steps moves on the board
 second_moves : (p : Checkers) (f t g u d : ℕ) → f < g → g ≤ 25 → Low p f t d → Goes (moved p f t) g u d
@@ -198,40 +156,22 @@ second_moves p f t g u d lt hi a (inr (inl h)) =
     (omega (arith, same, o), h.onto, h.on_board)
 second_moves p f t g u d lt hi a (inr (inr (inl h))) =
     let same = moved_above p f t g lt a.below a.occupied in let o = h.occupied in let e = h.exact in
-    elim a.how [
-      | inl w ↦ let x = w.0 in absurd (omega (arith, e, x))
-      | inr v ↦
-          elim v [
-            | inl w ↦ let x = w.0 in absurd (omega (arith, e, x))
-            | inr w ↦ let x = w.1 g lt in
-                absurd (omega (arith, same, o, x))
-          ]
-    ]
+    let whole = (goes_whole p f t g d lt a (omega (arith, same, o))).0 in absurd (omega (arith, whole, e))
 second_moves p f t g u d lt hi a (inr (inr (inr h))) =
     let same = moved_above p f t g lt a.below a.occupied in let o = h.occupied in let e = h.larger in
-    elim a.how [
-      | inl w ↦ let x = w.0 in absurd (omega (arith, e, x))
-      | inr v ↦
-          elim v [
-            | inl w ↦ let x = w.0 in absurd (omega (arith, e, x))
-            | inr w ↦ let x = w.1 g lt in
-                absurd (omega (arith, same, o, x))
-          ]
-    ]
+    let whole = (goes_whole p f t g d lt a (omega (arith, same, o))).0 in absurd (omega (arith, whole, e))
 
 -- the first step after the second
 first_after : (p : Checkers) (f t g u d : ℕ) → 0 < d → f < g → g < 25 → Low p f t d → 0 < slice_index p.own g
     → u + d ≡ g → Goes p f t d → Goes (moved p g u) f t d
-first_after p f t g u d die lt hi a occ onto goes = elim a.how [
-  | inl w ↦ inr (inl (record { bar_empty = at_bar; occupied = still; onto = w.0; on_board = w.1 }))
-  | inr v ↦ elim v [
-    | inl w ↦ inr (inr (inl (record { home = λ s h. kept_home w.2 s h; occupied = still; exact = w.0; off = w.1 })))
-    | inr w ↦ let x = w.1 g lt in absurd (omega (arith, occ, x))
-  ]
+first_after p f t g u d die lt hi a occ onto goes = let whole = goes_whole p f t g d lt a occ in elim whole.1 [
+  | inl w ↦ inr (inl (record { bar_empty = at_bar; occupied = still; onto = whole.0; on_board = w }))
+  | inr w ↦ let x = whole.0 in let y = w.0 in
+      inr (inr (inl (record { home = λ s h. kept_home w.1 s h; occupied = still; exact = omega (arith, x, y); off = y })))
 ]
   where
     place : g < length p.own
-    place = in_list p.own g occ
+    place = stands p.own g occ
 
     at : (k : ℕ) → slice_index (moved p g u).own k ≡ shift_at (slice_index p.own k) k g u
     at k = shifted_at p.own g u k (omega arith) place (let l = place in omega (arith, l))
@@ -258,8 +198,8 @@ first_after p f t g u d die lt hi a occ onto goes = elim a.how [
 swapped : (p : Checkers) (f t g u d : ℕ) → 0 < d → f < g → Low p f t d → 0 < slice_index p.own g → u + d ≡ g → t ≢ u
     → moved (moved p f t) g u ≡ moved (moved p g u) f t
 swapped p f t g u d die lt a occ onto apart =
-    let lf = in_list p.own f a.occupied in
-    let lg = in_list p.own g occ in
+    let lf = stands p.own f a.occupied in
+    let lg = stands p.own g occ in
     let below = a.below in
     let own =
     shifted_swap p.own f t g u (omega (arith, below)) (omega arith) (omega arith) lf (omega (arith, lf, below)) lg
@@ -281,13 +221,7 @@ steps_swap_at p q f t g u d die lt one two =
           absurd (omega (arith, x, occ))
       | inr n ↦ omega (arith, s2)
     ] in
-    let apart : u ≢ t =
-    elim a.how [
-      | inl w ↦ let x = w.0 in omega (arith, x)
-      | inr v ↦
-          elim v
-          [ inl w ↦ let x = w.1 in omega (arith, x) | inr w ↦ let x = w.1 g lt in absurd (omega (arith, occ, x)) ]
-    ] in
+    let whole = (goes_whole p f t g d lt a occ).0 in let apart : u ≢ t = omega (arith, whole, onto) in
     let there : t ≢ u = λ e. apart (sym e) in (
       moved p g u,
       record {

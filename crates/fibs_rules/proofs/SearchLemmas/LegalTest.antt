@@ -76,21 +76,27 @@ played_long p die (from, to, q, one) =
     let h = longest-most p q (die ∷ []) [] (record { source = from; target = to } ∷ []) (q, one, refl) in
     omega (arith, h)
 
--- a run with a step by one die plays it
-first_played : (p q : Checkers) (die : ℕ) (used rest : List ℕ) (steps : List Hop) → Run p used steps q
-    → used ++ rest ≡ die ∷ [] → 0 < length steps → CanPlay p die
-first_played p q die [] rest [] run e pos = absurd (omega arith)
-first_played p q die [] rest (step ∷ steps) run e pos = absurd run
-first_played p q die (d ∷ used) rest [] run e pos = absurd run
-first_played p q die (d ∷ used) rest (step ∷ steps) (r, one, run) e pos =
-    let same : d ≡ die = cc in (step.source, step.target, r, subst (λ k. One p step.source step.target k r) same one)
+-- a run with a step by one die
+single_run : (p q : Checkers) (die : ℕ) (used rest : List ℕ) (steps : List Hop) → Run p used steps q
+    → used ++ rest ≡ die ∷ [] → 0 < length steps → Run p (die ∷ []) steps q
+single_run p q die [] rest [] run e some = absurd (omega arith)
+single_run p q die [] rest (step ∷ steps) run e some = absurd run
+single_run p q die (d ∷ used) rest [] run e some = absurd run
+single_run p q die (d ∷ []) rest (step ∷ steps) run e some =
+    let same : d ≡ die = cc in subst (λ k. Run p (k ∷ []) (step ∷ steps) q) same run
+single_run p q die (d ∷ c ∷ used) rest (step ∷ steps) run e some = absurd cc
+
+-- it plays the die
+plays_die : (p q : Checkers) (die : ℕ) (steps : List Hop) → Run p (die ∷ []) steps q → CanPlay p die
+plays_die p q die [] run = absurd run
+plays_die p q die (step ∷ steps) (r, one, run) = (step.source, step.target, r, one)
 
 -- a die of which one step is found can be played
 pub playable : (p : Checkers) (die : ℕ) → 0 < die → die ≤ 6 → 0 < longest p (die ∷ []) → CanPlay p die
 playable p die lo hi pos =
     let r = longest-reached p (die ∷ []) (lo, hi, tt) in
     let l = r.long in
-    first_played p r.to die r.used r.rest r.steps r.run r.front (omega (arith, l))
+    plays_die p r.to die r.steps (single_run p r.to die r.used r.rest r.steps r.run r.front (omega (arith, l)))
 
 -- what the test of two dice tells
 pub two_from : (a b : ℕ) → are_two a b ≡ true → (0 < a) × (0 < b) × (a ≢ b)
@@ -155,22 +161,12 @@ order_complete p steps q (dice, part, run) = elim (front_from_part p.first p.sec
   | inr front ↦ or_right _ _ (rw front.1 at (follows_complete p.checkers q dice front.0 steps run))
 ]
 
--- a run of one step by one die
-single_run : (p q : Checkers) (die : ℕ) (used rest : List ℕ) (steps : List Hop) → Run p used steps q
-    → used ++ rest ≡ die ∷ [] → length steps ≡ 1 → Run p (die ∷ []) steps q
-single_run p q die [] rest [] run e one = absurd (omega arith)
-single_run p q die [] rest (step ∷ steps) run e one = absurd run
-single_run p q die (d ∷ used) rest [] run e one = absurd run
-single_run p q die (d ∷ []) rest (step ∷ steps) run e one =
-    let same : d ≡ die = cc in subst (λ k. Run p (k ∷ []) (step ∷ steps) q) same run
-single_run p q die (d ∷ c ∷ used) rest (step ∷ steps) run e one = absurd cc
-
 -- a step that follows by the larger die is a run of it
 larger_sound : (p : Standing) (steps : List Hop) (die : ℕ) → 0 < die → die ≤ 6 → length steps ≡ 1
     → follows p.checkers (die ∷ []) steps ≡ true → (q : Checkers) × Run p.checkers (die ∷ []) steps q
 larger_sound p steps die lo hi one e =
     let f = follows_sound p.checkers (die ∷ []) steps (lo, hi, tt) e in
-    (f.to, single_run p.checkers f.to die f.used f.front.0 steps f.run f.front.1 one)
+    (f.to, single_run p.checkers f.to die f.used f.front.0 steps f.run f.front.1 (omega (arith, one)))
 
 -- the test is the rule
 pub legal_sound : (p : Standing) (steps : List Hop) → p.first ≤ 6 → p.second ≤ 6 → legal_of p steps ≡ true
