@@ -16,6 +16,7 @@ use crate::read::read_board;
 use crate::stored_name::StoredName;
 use arrayvec::ArrayVec;
 use fibs_fields::fault::FieldFault;
+use fibs_fields::fixed::append;
 use fibs_fields::name::Name;
 use std::alloc::AllocError;
 
@@ -32,14 +33,6 @@ pub struct Board {
     opponent: StoredName,
     numbers: [i32; 50],
     pub ghost valid: { IsBoard (parts player opponent numbers) } by { IsBoard-prop (parts player opponent numbers) },
-}
-
-/// Appends bytes for which there is room.
-fn append(out: &mut ArrayVec<u8, 512>, bytes: &[u8])
-    requires { array_vec_len out.old + length bytes.now ≤ 512 }
-    ensures { out.new.items ≡ out.old.items ++ bytes.now }
-{
-    let _fits = out.try_extend_from_slice(bytes);
 }
 
 impl Board {
@@ -168,6 +161,19 @@ impl Board {
         ensures flags { 39 ≤ n → n ≤ 41 → (IsSome result ↔ ((value ≡ pos 0) ⊎ (value ≡ pos 1))) }
         ensures side { 42 ≤ n → n ≤ 43 → (IsSome result ↔ ((value ≡ negsuc 0) ⊎ (value ≡ pos 1))) }
         ensures off { 46 ≤ n → n ≤ 47 → (IsSome result ↔ ((pos 0 ≤ℤ value) × (value ≤ℤ pos 15))) }
+    {
+        self.changed(n, value)
+    }
+
+    /// The board with the number of field `n` changed, if the table of the fields allows it.
+    fn changed(&self, n: usize, value: i32) -> Option<Board>
+        ensures value { option_map fields_of result ≡ with_field (fields_of self.now) n value }
+        ensures changed { IfSome result (λ b. field_of (fields_of b) n ≡ value) }
+        ensures kept { IfSome result (λ b. (m : ℕ) → 4 ≤ m → m ≢ n →
+            field_of (fields_of b) m ≡ field_of (fields_of self.now) m) }
+        ensures names { IfSome result (λ b. ((fields_of b).player ≡ (fields_of self.now).player)
+            × ((fields_of b).opponent ≡ (fields_of self.now).opponent)) }
+        ensures exact { IsSome result ↔ ((4 ≤ n) × (n ≤ 53) × (can_have n value ≡ true)) }
     {
         if !can_have(n, value) {
             return None;

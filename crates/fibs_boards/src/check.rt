@@ -9,7 +9,7 @@ ghost use Rattle.fibs_fields.specs.Field.{a_number_of};
 ghost use Rattle.fibs_fields.specs.FieldReading.{left_of};
 ghost use Rattle.fibs_fields.specs.Spaces.{without_spaces};
 
-use crate::field_ranges::values_of;
+use crate::read::{read_names, read_number};
 use fibs_fields::fault::FieldFault;
 use fibs_fields::reader::Fields;
 use fibs_fields::trailing_spaces::without_spaces;
@@ -20,7 +20,7 @@ fn check_numbers(fields: &mut Fields<'_>) -> Result<(), FieldFault>
     ensures { first_fault 4 (map a_number_of field_values) (pieces_left (left_of fields.old)) ≡ result_err result }
 {
     for i in 0..50 {
-        fields.number_of(values_of(i), i + 4)?;
+        read_number(fields, i)?;
     }
     fields.end(54)
 }
@@ -32,9 +32,7 @@ fn check_fields(line: &[u8]) -> Result<&[u8], FieldFault>
 {
     let kept = without_spaces(line);
     let mut fields = Fields::new(Some(kept), b':');
-    fields.this_word(b"board", 1)?;
-    fields.name(2)?;
-    fields.name(3)?;
+    read_names(&mut fields)?;
     check_numbers(&mut fields)?;
     Ok(kept)
 }

@@ -4,6 +4,7 @@
 pub mod board;
 pub mod check;
 mod field_ranges;
+pub mod fields;
 pub mod laws;
 mod print;
 mod read;

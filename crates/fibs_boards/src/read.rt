@@ -1,19 +1,48 @@
 //! Reads the fields of a board line.
 
-ghost use Rattle.std.specs.Prelude.{◌≡◌, ◌++◌, ℕ, replicate, map, IfOk, IfErr, Some};
+ghost use Rattle.std.specs.Prelude.{◌≡◌, ◌<◌, ◌+◌, ◌++◌, ℕ, drop, replicate, map, IfOk, IfErr, Some};
 ghost use Rattle.std.specs.Fmt.{signed_decimal};
 ghost use Rattle.fibs_boards.specs.Board.{IsBoard, Fit, field_values, kinds, pieces, texts};
 ghost use Rattle.fibs_fields.specs.Spaces.{without_spaces};
 ghost use Rattle.fibs_fields.specs.Field.{a_number_of};
-ghost use Rattle.fibs_boards.specs.BoardReading.{first_fault, pieces_left};
+ghost use Rattle.fibs_boards.specs.BoardReading.{first_fault, pieces_left, HasRead, NumberRead, names_read};
+ghost use Rattle.fibs_fields.specs.Bytes.{name_bytes};
 ghost use Rattle.fibs_fields.specs.FieldReading.{left_of};
 ghost use Rattle.fibs_boards.specs.StoredBoard.{read_fields};
 
 use crate::board::Board;
 use crate::field_ranges::values_of;
 use fibs_fields::fault::FieldFault;
+use fibs_fields::name::Name;
 use fibs_fields::reader::Fields;
 use fibs_fields::trailing_spaces::without_spaces;
+
+/// Reads the word `board` and the names of the player and of the opponent.
+#[inline(always)]
+pub fn read_names<'a>(fields: &mut Fields<'a>) -> Result<(Name<'a>, Name<'a>), FieldFault>
+    requires { (left_of fields.old).separator ≡ 58 }
+    ensures ok { IfOk result (λ names.
+        HasRead (pieces_left (left_of fields.old)) (names_read (name_bytes names.0) (name_bytes names.1)) 4
+        (map a_number_of field_values) (left_of fields.new)) }
+    ensures err { IfErr result (λ e. first_fault 1 kinds (pieces_left (left_of fields.old)) ≡ Some e) }
+{
+    fields.this_word(b"board", 1)?;
+    let player = fields.name(2)?;
+    let opponent = fields.name(3)?;
+    Ok((player, opponent))
+}
+
+/// Reads the number of field `i + 4`.
+#[inline(always)]
+pub fn read_number(fields: &mut Fields<'_>, i: usize) -> Result<i32, FieldFault>
+    requires within { i < 50 }
+    requires colon { (left_of fields.old).separator ≡ 58 }
+    ensures ok { IfOk result (λ z. NumberRead i z (left_of fields.old) (left_of fields.new)) }
+    ensures err { IfErr result (λ e.
+        first_fault (i + 4) (map a_number_of (drop i field_values)) (pieces_left (left_of fields.old)) ≡ Some e) }
+{
+    fields.number_of(values_of(i), i + 4)
+}
 
 /// The numbers of fields 4 to 53, which end the line.
 fn read_numbers(fields: &mut Fields<'_>) -> Result<[i32; 50], FieldFault>
@@ -25,7 +54,7 @@ fn read_numbers(fields: &mut Fields<'_>) -> Result<[i32; 50], FieldFault>
 {
     let mut numbers = [0; 50];
     for i in 0..50 {
-        numbers[i] = fields.number_of(values_of(i), i + 4)?;
+        numbers[i] = read_number(fields, i)?;
     }
     fields.end(54)?;
     Ok(numbers)
@@ -39,9 +68,7 @@ pub fn read_board(line: &[u8]) -> Result<Board, FieldFault>
     ensures err { IfErr (read_fields result) (λ e. first_fault 1 kinds (pieces (without_spaces line.now)) ≡ Some e) }
 {
     let mut fields = Fields::new(Some(without_spaces(line)), b':');
-    fields.this_word(b"board", 1)?;
-    let player = fields.name(2)?;
-    let opponent = fields.name(3)?;
+    let (player, opponent) = read_names(&mut fields)?;
     let numbers = read_numbers(&mut fields)?;
     Ok(Board::of_parts(player, opponent, numbers))
 }

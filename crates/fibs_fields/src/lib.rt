@@ -4,6 +4,7 @@
 pub mod dash;
 pub mod decimal;
 pub mod fault;
+pub mod fixed;
 pub mod laws;
 pub mod name;
 pub mod rating;

@@ -1,5 +1,5 @@
 -- A line whose fields have no fault says a board, and is its spelling but for the spaces at its end.
-use Rattle.std.proofs.Common.{◌≡◌, List, [], ℕ, Some, None, Result, Ok, Err, ap, sym, ◌∙◌}
+use Rattle.std.proofs.Common.{◌≡◌, List, [], ℕ, Result, Ok, Err, ap, sym, ◌∙◌}
 use Rattle.std.specs.Prelude.{IfOk, IfErr}
 use Rattle.std.specs.Result.{result_err}
 use Rattle.fibs_boards.specs.Board.{BoardFields, BoardText, Wrong, kinds, pieces, spelling}
@@ -11,7 +11,7 @@ use Rattle.fibs_fields.proofs.FieldLemmas.Options.{option_same, some_none}
 use Rattle.fibs_fields.proofs.FieldLemmas.Spaces.{spaces_after}
 use Rattle.fibs_boards.proofs.BoardLemmas.BoardTexts.{board_from_pieces, pieces_of_board, texts_right}
 use Rattle.fibs_boards.proofs.BoardLemmas.BoardTexts.{without_spaces-spelling, wrong_from_first, first_from_wrong}
-use Rattle.fibs_boards.proofs.BoardLemmas.EachLine.{AreFields, fields_from}
+use Rattle.fibs_boards.proofs.BoardLemmas.EachLine.{fields_from}
 use Rattle.fibs_boards.proofs.BoardLemmas.NextFields.{end_right, end_wrong}
 
 -- a line that says a board is its spelling, but for the spaces at its end

@@ -1,5 +1,5 @@
 -- Which numbers a field may have, group by group of the table.
-use Rattle.std.proofs.Common.{◌≡◌, ℕ, ◌<◌, ◌≤◌, ◌+◌, ◌-◌, Bool, true, false, Some, arith, refl, nat_le, ⊎_elim, inl}
+use Rattle.std.proofs.Common.{◌≡◌, ℕ, ◌<◌, ◌≤◌, ◌+◌, ◌-◌, true, false, Some, arith, refl, nat_le, ⊎_elim, inl}
 use Rattle.std.proofs.Common.{inr, ◌⊎◌, zero, suc, List, [], ◌∷◌, ◌++◌, replicate, drop, sym, ap, ◌∙◌}
 use Rattle.std.specs.Prelude.{ℤ, pos, negsuc, ◌≤ℤ◌, int_le, slice_get, ◌↔◌, FitsSigned}
 use Rattle.std.specs.Int.{w32, cast_signed, cast_unsigned}
@@ -161,9 +161,9 @@ side_exact n z low high = either_at n z (negsuc 0) (pos 1) (omega arith) (side_v
 pub off_exact : (n : ℕ) (z : ℤ) → 46 ≤ n → n ≤ 47 → Exactly n z ((pos 0 ≤ℤ z) × (z ≤ℤ pos 15))
 off_exact n z low high = between_at n z (pos 0) (pos 15) (omega arith) (off_values n low high)
 
--- what a test of a number of 32 bits answered, against the same fact
-pub by_answer : (n : ℕ) (z : ℤ) (b : Bool) (P : Type 0) → FitsSigned w32 z
-    → b ≡ can_have n (cast_signed w32 (cast_unsigned w32 z)) → Exactly n z P → (b ≡ true) ↔ P
-by_answer n z b P fits answer exact =
-    let same : b ≡ can_have n z = answer ∙ ap (can_have n) (to_z-of_z w32 z fits) in
-    ((λ h. exact.0 (sym same ∙ h)), (λ h. same ∙ exact.1 h))
+-- what is so exactly if field n may have a number of 32 bits is so exactly if the group of the field says it
+pub by_exact : {P Q : Type 0} (n : ℕ) (z : ℤ) → 4 ≤ n → n ≤ 53 → FitsSigned w32 z
+    → Q ↔ ((4 ≤ n) × (n ≤ 53) × (can_have n (cast_signed w32 (cast_unsigned w32 z)) ≡ true)) → Exactly n z P → Q ↔ P
+by_exact n z low high fits exact group =
+    let same : can_have n (cast_signed w32 (cast_unsigned w32 z)) ≡ can_have n z = ap (can_have n) (to_z-of_z w32 z fits) in
+    ((λ h. group.0 (sym same ∙ (exact.0 h).2)), (λ h. exact.1 (low, high, same ∙ group.1 h)))

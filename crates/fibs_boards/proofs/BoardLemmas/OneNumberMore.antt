@@ -1,10 +1,11 @@
 -- One more number is read.
-use Rattle.std.proofs.Common.{◌≡◌, ◌==◌, ℕ, zero, suc, ◌<◌, ◌+◌, true, List, [], ◌∷◌, ◌++◌, Some, length, get_or, take}
+use Rattle.std.proofs.Common.{◌≡◌, ◌==◌, ℕ, zero, suc, ◌<◌, ◌+◌, true, List, [], ◌∷◌, ◌++◌, Option, Some, None, length, get_or, take}
 use Rattle.std.proofs.Common.{drop, map, arith, refl, sym, ap, ◌∙◌, append_assoc, add-one, drop-cons}
 use Rattle.std.specs.Prelude.{ℤ, slice_get, slice_set}
 use Rattle.std.specs.List.{join_with_byte}
 use Rattle.std.specs.Fmt.{signed_decimal}
 use Rattle.std.proofs.lemmas.List.{append-nil, take_more_set, take_more, map-append}
+use Rattle.std.proofs.lemmas.Bool.{false≢true}
 use Rattle.std.proofs.lemmas.Option.{get_or_from_slice_get, slice_get_within}
 use Rattle.fibs_boards.specs.Board.{Fit, allowed_by, pieces}
 use Rattle.fibs_fields.specs.Field.{Kind, a_number_of}
@@ -45,9 +46,10 @@ pub drop_next : (vs : List Values) (i : ℕ) (v : Values) → slice_get vs i ≡
 drop_next vs i v e = rw (add-one, drop-cons vs i v (slice_get_within vs i v e), get_or_from_slice_get vs i v v e) refl
 
 -- the numbers up to a place fit, and the next one does
-pub fit_more : (vs : List Values) (zs : List ℤ) (i : ℕ) (v : Values) (z : ℤ) → i < length zs → slice_get vs i ≡ Some v
-    → allows v z ≡ true → Fit (take i vs) (take i zs) → Fit (take (i + 1) vs) (take (i + 1) (slice_set zs i z))
-fit_more vs zs i v z within e good h =
+pub fit_more : (vs : List Values) (zs : List ℤ) (i : ℕ) (o : Option Values) (z : ℤ) → i < length zs → slice_get vs i ≡ o
+    → allowed_by o z ≡ true → Fit (take i vs) (take i zs) → Fit (take (i + 1) vs) (take (i + 1) (slice_set zs i z))
+fit_more vs zs i None z within e good h = absurd (false≢true good)
+fit_more vs zs i (Some v) z within e good h =
     rw (take_next vs i v e, take_more_set zs i z within) (Fit-push (take i vs) (take i zs) v z h good)
 
 -- the first fault from a place on is that after a right piece

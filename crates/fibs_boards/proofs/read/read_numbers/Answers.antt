@@ -1,43 +1,31 @@
-use Rattle.std.proofs.Common.{◌≡◌, ◌∷◌, ◌++◌, ◌+◌, ◌<◌, ◌≤◌, [], sym, ap, ◌∙◌, rules, arith, take, drop, length, map}
+use Rattle.std.proofs.Common.{◌≡◌, ◌∷◌, ◌++◌, ◌+◌, ◌<◌, ◌≤◌, [], refl, sym, ap, ◌∙◌, rules, arith, take, drop, length, map}
 use Rattle.std.proofs.Common.{length-set}
-use Rattle.std.specs.Prelude.{FitsSigned}
+use Rattle.std.specs.Prelude.{FitsSigned, slice_get}
 use Rattle.std.specs.Fmt.{signed_decimal}
 use Rattle.std.specs.Int.{w32, cast_signed, cast_unsigned}
 use Rattle.std.proofs.lemmas.Int.{to_z-of_z}
 use Rattle.std.proofs.lemmas.List.{append-nil, take_all}
 use Rattle.std.proofs.lemmas.Result.{err_from_is_err_and}
 use Rattle.std.proofs.Math.ListN.{drop_of_length-le}
-use Rattle.fibs_boards.specs.Board.{field_values}
+use Rattle.fibs_boards.specs.Board.{allowed_by, field_values}
 use Rattle.fibs_fields.specs.Field.{a_number_of}
 use Rattle.fibs_boards.specs.BoardReading.{pieces_left, first_fault}
-use Rattle.fibs_fields.specs.Decimal.{allows, number_in}
 use Rattle.fibs_fields.specs.FieldReading.{left_of}
-use Rattle.fibs_boards.proofs.BoardLemmas.NextFields.{number_was_read, was_wrong, reads_number, end_right, end_wrong}
-use Rattle.fibs_boards.proofs.BoardLemmas.OneNumberMore.{read_more, fit_more, fault_more, drop_next}
+use Rattle.fibs_boards.proofs.BoardLemmas.NextFields.{end_right, end_wrong}
+use Rattle.fibs_boards.proofs.BoardLemmas.OneNumberMore.{read_more, fit_more}
 use Rattle.fibs_boards.proofs.BoardLemmas.FieldTable.{table_long}
 use Rattle.fibs_boards.proofs.read.read_numbers.Goals as goal
 
 pub returns-in_err-numbers-clause-err : goal.returns-in_err-numbers-clause-err
 returns-in_err-numbers-clause-err c =
     let p = err_from_is_err_and c.from_residual.result c.from_residual.ensures.1 in
-    let i = c.loop-i.i in
-    let v = c.values_of.result in
-    rw (p.1, p.2)
-    (c.loop-i.invariant.fault
-    ∙ ap (λ l. first_fault (i + 4) (map a_number_of l) (pieces_left (left_of c.loop-i.fields)))
-    (drop_next field_values i v c.values_of.ensures.value)
-    ∙ was_wrong (number_in v) (a_number_of v) (i + 4) (left_of c.loop-i.fields) c.in_err-numbers.field-0.0
-    (map a_number_of (drop (i + 1) field_values)) (reads_number v) c.loop-i.invariant.colon
-    c.in_err-numbers.ensures)
+    rw (p.1, p.2) (c.loop-i.invariant.fault ∙ c.in_err-numbers.ensures.err)
 
 pub loop-i-preserved : goal.loop-i-preserved
 loop-i-preserved c =
     let i = c.loop-i.i in
     let z = c.in_ok-numbers.field-0 in
-    let v = c.values_of.result in
-    let read =
-    number_was_read v (i + 4) (left_of c.loop-i.fields) (left_of c.number_of.new.self) z c.values_of.ensures.narrow
-    c.loop-i.invariant.colon c.in_ok-numbers.ensures in
+    let read = c.in_ok-numbers.ensures.ok in
     let fits : FitsSigned w32 z = search rules in
     let same : cast_signed w32 (cast_unsigned w32 z) ≡ z = to_z-of_z w32 z fits in
     let within : i < length c.loop-i.numbers = omega (arith, c.loop-i.invariant.long, c.loop-i-test.true) in
@@ -45,10 +33,10 @@ loop-i-preserved c =
       long = length-set c.loop-i.numbers i _ ∙ c.loop-i.invariant.long;
       colon = read.colon;
       read = read_more c.loop-i.numbers i _ _ _ _ within c.loop-i.invariant.read
-          (read.pieces ∙ ap (λ y. signed_decimal y ∷ pieces_left (left_of c.number_of.new.self)) (sym same));
-      fit = fit_more field_values c.loop-i.numbers i v _ within c.values_of.ensures.value
-          (ap (allows v) same ∙ read.allowed) c.loop-i.invariant.fit;
-      fault = c.loop-i.invariant.fault ∙ fault_more field_values i v _ _ c.values_of.ensures.value read.later;
+          (read.pieces ∙ ap (λ y. signed_decimal y ∷ pieces_left (left_of c.read_number.new.fields)) (sym same));
+      fit = fit_more field_values c.loop-i.numbers i (slice_get field_values i) _ within refl
+          (ap (allowed_by (slice_get field_values i)) same ∙ read.allowed) c.loop-i.invariant.fit;
+      fault = c.loop-i.invariant.fault ∙ read.fault;
     }
 
 pub returns-in_err-end-clause-err : goal.returns-in_err-end-clause-err

@@ -4,7 +4,7 @@ use Rattle.fibs_boards.specs.StoredBoard.{fields_of}
 use Rattle.fibs_boards.proofs.BoardLemmas.BoardTexts.{spelling_says}
 use Rattle.fibs_boards.proofs.board.Board.print.Goals as goal
 
-printed : (c : goal.After-append) → c.append.new.out.items ≡ spelling (fields_of c.args.self.now)
+printed : (c : goal.After-append) → c.append.new.text.items ≡ spelling (fields_of c.args.self.now)
 printed c =
     let line = drop c.write_line-start.result c.write_line-start.new.text in
     let all : take (329 - c.write_line-start.result) line ≡ line =
