@@ -1,7 +1,7 @@
 //! The fields of a message by their numbers.
 
 ghost use Rattle.std.specs.Prelude.{◌≡◌, option_map};
-ghost use Rattle.fibs_messages.specs.FieldOf.{field_at, value_of, values_of};
+ghost use Rattle.fibs_messages.specs.FieldOf.{field_at, listed, value_of, values_of};
 ghost use Rattle.fibs_messages.specs.Message.{message_of, own_info_fields, who_info_fields};
 
 use crate::message::{Message, OwnInfo, WhoInfo};
@@ -86,38 +86,69 @@ fn field_in<'a>(fields: &[Field<'a>], number: usize) -> Option<Field<'a>>
     fields.get(number - 1).copied()
 }
 
+/// The fields of a message, in the order of its line: three at most, or those of message 2 or 5.
+#[derive(Clone, Copy)]
+pub(super) enum FieldList<'m, 'a> {
+    None,
+    One(Field<'a>),
+    Two(Field<'a>, Field<'a>),
+    Three(Field<'a>, Field<'a>, Field<'a>),
+    OwnInfo(&'m OwnInfo<'a>),
+    WhoInfo(&'m WhoInfo<'a>),
+}
+
 impl<'a> Message<'a> {
-    /// The field of this number, or None if the message has none. Fields are counted from 1 after the message's
-    /// number, in the order of the line, as those of a malformed line are.
-    pub fn field(&self, number: usize) -> Option<Field<'a>>
-        ensures { option_map value_of result ≡ field_at number (message_of self.now).fields }
+    /// The message's number, 1 to 19.
+    pub fn number(&self) -> u8
+        ensures { result ≡ (message_of self.now).number }
+    {
+        match self {
+            Message::Welcome { .. } => 1,
+            Message::OwnInfo(_) => 2,
+            Message::MotdBegin => 3,
+            Message::MotdEnd => 4,
+            Message::WhoInfo(_) => 5,
+            Message::WhoInfoEnd => 6,
+            Message::Login { .. } => 7,
+            Message::Logout { .. } => 8,
+            Message::MessageReceived { .. } => 9,
+            Message::MessageDelivered { .. } => 10,
+            Message::MessageSaved { .. } => 11,
+            Message::Says { .. } => 12,
+            Message::Shouts { .. } => 13,
+            Message::Whispers { .. } => 14,
+            Message::Kibitzes { .. } => 15,
+            Message::YouSay { .. } => 16,
+            Message::YouShout { .. } => 17,
+            Message::YouWhisper { .. } => 18,
+            Message::YouKibitz { .. } => 19,
+        }
+    }
+
+    /// The message's fields.
+    pub(super) fn fields(&self) -> FieldList<'_, 'a>
+        ensures { listed result ≡ (message_of self.now).fields }
     {
         match self {
             Message::Welcome {
                 name,
                 last_login,
                 last_host,
-            } => field_in(
-                &[
-                    Field::Name(*name),
-                    Field::Number(*last_login),
-                    Field::Word(*last_host),
-                ],
-                number,
+            } => FieldList::Three(
+                Field::Name(*name),
+                Field::Number(*last_login),
+                Field::Word(*last_host),
             ),
-            Message::OwnInfo(info) => field_in(&own_info_fields(info), number),
-            Message::WhoInfo(info) => field_in(&who_info_fields(info), number),
-            Message::MotdBegin | Message::MotdEnd | Message::WhoInfoEnd => None,
-            Message::MessageReceived { sender, time, text } => field_in(
-                &[
-                    Field::Name(*sender),
-                    Field::Number(*time),
-                    Field::Text(text),
-                ],
-                number,
+            Message::OwnInfo(info) => FieldList::OwnInfo(info),
+            Message::WhoInfo(info) => FieldList::WhoInfo(info),
+            Message::MotdBegin | Message::MotdEnd | Message::WhoInfoEnd => FieldList::None,
+            Message::MessageReceived { sender, time, text } => FieldList::Three(
+                Field::Name(*sender),
+                Field::Number(*time),
+                Field::Text(text),
             ),
             Message::MessageDelivered { name } | Message::MessageSaved { name } => {
-                field_in(&[Field::Name(*name)], number)
+                FieldList::One(Field::Name(*name))
             }
             Message::Login { name, text }
             | Message::Logout { name, text }
@@ -126,11 +157,26 @@ impl<'a> Message<'a> {
             | Message::Whispers { name, text }
             | Message::Kibitzes { name, text }
             | Message::YouSay { name, text } => {
-                field_in(&[Field::Name(*name), Field::Text(text)], number)
+                FieldList::Two(Field::Name(*name), Field::Text(text))
             }
             Message::YouShout { text }
             | Message::YouWhisper { text }
-            | Message::YouKibitz { text } => field_in(&[Field::Text(text)], number),
+            | Message::YouKibitz { text } => FieldList::One(Field::Text(text)),
+        }
+    }
+
+    /// The field of this number, or None if the message has none. Fields are counted from 1 after the message's
+    /// number, in the order of the line, as those of a malformed line are.
+    pub fn field(&self, number: usize) -> Option<Field<'a>>
+        ensures { option_map value_of result ≡ field_at number (message_of self.now).fields }
+    {
+        match self.fields() {
+            FieldList::None => None,
+            FieldList::One(only) => field_in(&[only], number),
+            FieldList::Two(first, last) => field_in(&[first, last], number),
+            FieldList::Three(first, second, last) => field_in(&[first, second, last], number),
+            FieldList::OwnInfo(info) => field_in(&own_info_fields(info), number),
+            FieldList::WhoInfo(info) => field_in(&who_info_fields(info), number),
         }
     }
 }

@@ -1,16 +1,14 @@
 //! Prints numbered messages.
 
-ghost use Rattle.std.specs.Prelude.{◌≡◌, ◌∷◌, [], ◌++◌, decimal, length, take, OnOk, OnErr};
+ghost use Rattle.std.specs.Prelude.{◌≡◌, ◌∷◌, ◌++◌, decimal, length, take, OnOk, OnErr};
 ghost use Rattle.std.specs.List.{flat_map};
-ghost use Rattle.fibs_fields.specs.Field.{NameField, FlagField, NumberField, RatingField, TextField};
-ghost use Rattle.fibs_messages.specs.FieldOf.{value_of, values_of};
-ghost use Rattle.fibs_messages.specs.Message.{MessageText, canonical, canonical_field, message_of};
-ghost use Rattle.fibs_fields.specs.Bytes.{name_bytes};
+ghost use Rattle.fibs_fields.specs.Field.{FlagField, NumberField, RatingField, TextField};
+ghost use Rattle.fibs_messages.specs.FieldOf.{listed, value_of, values_of};
+ghost use Rattle.fibs_messages.specs.Message.{MessageText, canonical, canonical_field, message_of, own_info_fields, who_info_fields};
 
-use crate::field::{Field, own_info_fields, who_info_fields};
+use crate::field::{Field, FieldList, own_info_fields, who_info_fields};
 use crate::laws::messages_are_well_formed;
 use crate::message::{Message, OwnInfo, WhoInfo};
-use fibs_fields::name::Name;
 use fibs_fields::rating::append_rating;
 use itoa::Buffer;
 use std::alloc::{AllocError, Global};
@@ -108,34 +106,44 @@ fn append_fields(out: &mut Vec<u8>, number: u8, fields: &[Field<'_>]) -> Result<
 
 /// Appends the line of message 2.
 #[inline(never)]
-fn append_own_info(out: &mut Vec<u8>, info: &OwnInfo<'_>) -> Result<(), AllocError>
-    ensures put { OnOk result (out.new.items ≡ out.old.items ++ canonical (message_of (Message.OwnInfo info.now))) }
+fn append_own_info(out: &mut Vec<u8>, number: u8, info: &OwnInfo<'_>) -> Result<(), AllocError>
+    ensures put { OnOk result (out.new.items ≡ out.old.items
+        ++ (decimal number ++ flat_map canonical_field (own_info_fields info.now))) }
     ensures front { take (length out.old.items) out.new.items ≡ out.old.items }
 {
-    append_fields(out, 2, &own_info_fields(info))
+    append_fields(out, number, &own_info_fields(info))
 }
 
 /// Appends the line of message 5.
 #[inline(never)]
-fn append_who_info(out: &mut Vec<u8>, info: &WhoInfo<'_>) -> Result<(), AllocError>
-    ensures put { OnOk result (out.new.items ≡ out.old.items ++ canonical (message_of (Message.WhoInfo info.now))) }
+fn append_who_info(out: &mut Vec<u8>, number: u8, info: &WhoInfo<'_>) -> Result<(), AllocError>
+    ensures put { OnOk result (out.new.items ≡ out.old.items
+        ++ (decimal number ++ flat_map canonical_field (who_info_fields info.now))) }
     ensures front { take (length out.old.items) out.new.items ≡ out.old.items }
 {
-    append_fields(out, 5, &who_info_fields(info))
+    append_fields(out, number, &who_info_fields(info))
 }
 
-/// Appends the line of a message that has a name and a text.
-fn append_name_and_text(
+/// Appends the number of a message and the fields listed.
+fn append_listed(
     out: &mut Vec<u8>,
     number: u8,
-    name: Name<'_>,
-    text: &[u8],
+    fields: &FieldList<'_, '_>,
 ) -> Result<(), AllocError>
     ensures put { OnOk result (out.new.items ≡ out.old.items
-        ++ (decimal number ++ flat_map canonical_field (NameField (name_bytes name.entry) ∷ TextField text.now ∷ []))) }
+        ++ (decimal number ++ flat_map canonical_field (listed fields.now))) }
     ensures front { take (length out.old.items) out.new.items ≡ out.old.items }
 {
-    append_fields(out, number, &[Field::Name(name), Field::Text(text)])
+    match fields {
+        FieldList::None => append_fields(out, number, &[]),
+        FieldList::One(only) => append_fields(out, number, &[*only]),
+        FieldList::Two(first, last) => append_fields(out, number, &[*first, *last]),
+        FieldList::Three(first, second, last) => {
+            append_fields(out, number, &[*first, *second, *last])
+        }
+        FieldList::OwnInfo(info) => append_own_info(out, number, info),
+        FieldList::WhoInfo(info) => append_who_info(out, number, info),
+    }
 }
 
 /// Appends the line of a message.
@@ -143,47 +151,7 @@ fn append_message(out: &mut Vec<u8>, message: &Message<'_>) -> Result<(), AllocE
     ensures put { OnOk result (out.new.items ≡ out.old.items ++ canonical (message_of message.now)) }
     ensures front { take (length out.old.items) out.new.items ≡ out.old.items }
 {
-    match message {
-        Message::Welcome {
-            name,
-            last_login,
-            last_host,
-        } => append_fields(
-            out,
-            1,
-            &[
-                Field::Name(*name),
-                Field::Number(*last_login),
-                Field::Word(*last_host),
-            ],
-        ),
-        Message::OwnInfo(info) => append_own_info(out, info),
-        Message::MotdBegin => append_fields(out, 3, &[]),
-        Message::MotdEnd => append_fields(out, 4, &[]),
-        Message::WhoInfo(info) => append_who_info(out, info),
-        Message::WhoInfoEnd => append_fields(out, 6, &[]),
-        Message::Login { name, text } => append_name_and_text(out, 7, *name, text),
-        Message::Logout { name, text } => append_name_and_text(out, 8, *name, text),
-        Message::MessageReceived { sender, time, text } => append_fields(
-            out,
-            9,
-            &[
-                Field::Name(*sender),
-                Field::Number(*time),
-                Field::Text(text),
-            ],
-        ),
-        Message::MessageDelivered { name } => append_fields(out, 10, &[Field::Name(*name)]),
-        Message::MessageSaved { name } => append_fields(out, 11, &[Field::Name(*name)]),
-        Message::Says { name, text } => append_name_and_text(out, 12, *name, text),
-        Message::Shouts { name, text } => append_name_and_text(out, 13, *name, text),
-        Message::Whispers { name, text } => append_name_and_text(out, 14, *name, text),
-        Message::Kibitzes { name, text } => append_name_and_text(out, 15, *name, text),
-        Message::YouSay { name, text } => append_name_and_text(out, 16, *name, text),
-        Message::YouShout { text } => append_fields(out, 17, &[Field::Text(text)]),
-        Message::YouWhisper { text } => append_fields(out, 18, &[Field::Text(text)]),
-        Message::YouKibitz { text } => append_fields(out, 19, &[Field::Text(text)]),
-    }
+    append_listed(out, message.number(), &message.fields())
 }
 
 /// Appends the line of a message, or nothing if memory is refused.

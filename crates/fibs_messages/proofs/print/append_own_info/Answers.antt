@@ -9,5 +9,5 @@ pub returns-clause-put : goal.returns-clause-put
 returns-clause-put c =
     let P : List FieldValue → Type 0 =
     λ vs. OnOk c.append_fields.result
-    (c.append_fields.new.out.items ≡ c.args.out.now.items ++ (decimal 2 ++ flat_map canonical_field vs)) in
+    (c.append_fields.new.out.items ≡ c.args.out.now.items ++ (decimal c.args.number ++ flat_map canonical_field vs)) in
     subst P c.own_info_fields.ensures c.append_fields.ensures.put
