@@ -14,7 +14,7 @@ ghost use Rattle.fibs_model.specs.Crossings.{crossings_of};
 ghost use Rattle.fibs_model.specs.EntryOf.{entry_of};
 ghost use Rattle.fibs_model.specs.EventOf.{event_of};
 ghost use Rattle.fibs_machine.specs.Events as E;
-ghost use Rattle.fibs_machine.specs.Headline.{Headline};
+ghost use Rattle.fibs_machine.specs.Headline.{AllAtMost, Headline};
 ghost use Rattle.fibs_machine.specs.Once.{Once};
 ghost use Rattle.fibs_machine.specs.Refusals.{refusal};
 ghost use Rattle.fibs_model.specs.WorldCalls.{WorldStandsAfter, machine_after, Agrees, Halts, Stops, accepted};
@@ -220,13 +220,17 @@ impl World {
         self.client.shown()
     }
 
-    /// What happened, the oldest first.
+    /// What happened, the oldest first. No connection's number is above the number of entries.
     pub fn log(&self) -> &[Entry]
         ensures value { map entry_of result.now ≡ self.now.log }
         ensures log { (name password : List ℕ) (first : BoardFields) (events : List E.Event) →
             WorldStandsAfter self.now name password first events →
             map entry_of result.now ≡ (machine_after name password first events).log }
+        ensures numbers { (name password : List ℕ) (first : BoardFields) (events : List E.Event) →
+            WorldStandsAfter self.now name password first events →
+            let log = map entry_of result.now in AllAtMost (length log) log }
     {
+        laws::headline();
         &self.log
     }
 }
