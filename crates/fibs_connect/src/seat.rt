@@ -2,7 +2,8 @@
 ghost use Rattle.std.specs.Prelude.{◌≡◌, ◌≤◌, ◌∷◌, [], Some, length, true, false, IfOk, OnOk, IsSome};
 ghost use Rattle.fibs_directory.specs.Directory.{IsDirectory};
 ghost use Rattle.fibs_exchange.specs.Turns.Turn.{FitsStream, bytes_of, is_there};
-ghost use Rattle.fibs_connect.specs.Converse.Seats.{Answered, Connects, Passes, PassesOn, Refuses, TakesTurn, seat_of};
+ghost use Rattle.fibs_connect.specs.Converse.Seats.{Answered, Connects, Opens, OpensAndLoses, Passes, PassesOn, Refuses};
+ghost use Rattle.fibs_connect.specs.Converse.Seats.{TakesTurn, seat_of};
 ghost use Rattle.fibs_front.specs.Told.{opened_said};
 ghost use Rattle.fibs_front.specs.Wishes.{wish_value};
 
@@ -110,7 +111,10 @@ impl<S: Link + Drop> Seat<S> {
         requires { FitsStream self.old.client false }
         ensures fits { OnOk result (FitsStream self.new.client (is_there self.new.stream)) }
         ensures players { OnOk result (IsDirectory [] self.new.directory) }
-        ensures told { OnOk result (IsSome self.new.stream → F.tells front.old (opened_said ∷ []) front.new) }
+        ensures opens { OnOk result (IsSome self.new.stream →
+            F.tells front.old (opened_said ∷ []) front.new × Opens self.old.client self.new.client) }
+        ensures loses { OnOk result (is_there self.new.stream ≡ false →
+            OpensAndLoses F.tells self.old.client self.new.client front.old front.new) }
     {
         self.directory.clear();
         front.tell(&Said::Opened)?;

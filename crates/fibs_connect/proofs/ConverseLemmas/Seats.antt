@@ -3,10 +3,10 @@ use Rattle.std.proofs.Common.{◌≡◌, ℕ, suc, true, false, not, cond, nat_e
 use Rattle.std.proofs.Common.{◌⊎◌, inl, refl, sym, ap, subst, ◌∙◌, arith}
 use Rattle.std.specs.Borrow.{MutBor}
 use Rattle.fibs_messages.specs.Message.{MessageValue}
-use Rattle.fibs_front.specs.Told.{SaidValue, opened_said}
+use Rattle.fibs_front.specs.Told.{SaidValue, Joins, opened_said}
 use Rattle.fibs_session.specs.declared.session.taken.Outstanding.{Outstanding}
 use Rattle.fibs_exchange.specs.Turns.Script.{known_before, known_after, outside}
-use Rattle.fibs_connect.specs.Converse.Seats.{SeatValue, TakesTurn, Connects, seat_of}
+use Rattle.fibs_connect.specs.Converse.Seats.{SeatValue, TakesTurn, Connects, Opens, OpensAndLoses, seat_of}
 use Rattle.fibs_directory.specs.Directory.{IsDirectory}
 use Rattle.std.specs.Prelude.{is_some, IsSome, OnOk, Result, Ok, Err}
 use Rattle.std.proofs.lemmas.Bool.{ne_eqb}
@@ -45,19 +45,46 @@ seat_away (Some s) e new none fits = absurd (cc)
 seat_away None Quiet new none fits = fits
 seat_away None (Lost waited) new none fits = fits
 
--- what two clauses say of an answer
-pub on_ok_both : {T E P Q R : Type 0} (r : Result T E) → (P → Q → R) → OnOk r P → OnOk r Q → OnOk r R
-on_ok_both (Ok x) f p q = f p q
-on_ok_both (Err e) f p q = tt
+-- what three clauses say of an answer
+pub on_ok_three : {T E P Q R V : Type 0} (r : Result T E) → (P → Q → R → V) → OnOk r P → OnOk r Q → OnOk r R → OnOk r V
+on_ok_three (Ok x) f p q v = f p q v
+on_ok_three (Err e) f p q v = tt
+
+-- the client of a seat, with a connection or without one
+seat_client : {S : Type 0} (remaining contents : S → Option (List ℕ)) (client : ClientValue) (players : List MessageValue)
+    (stream : Option S) → (seat_of remaining contents client players stream).client ≡ client
+seat_client remaining contents client players None = refl
+seat_client remaining contents client players (Some s) = refl
 
 -- a new connection was made, or its login was not written whole
 pub seat_connects : {S F : Type 0} (Tells : F → List SaidValue → F → Type 0) (remaining contents : S → Option (List ℕ))
-    (a : SeatValue) (client : ClientValue) (players : List MessageValue) (stream : Option S) (held now : F)
-    → IsDirectory [] players → (IsSome stream → Tells held (opened_said ∷ []) now)
-    → Connects Tells a (seat_of remaining contents client players stream) held now
-seat_connects Tells remaining contents a client players None held now none told = (λ e. absurd cc, λ e. inl none)
-seat_connects Tells remaining contents a client players (Some s) held now none told =
-    (λ e. (told refl, none), λ e. absurd cc)
+    (old client : ClientValue) (known players : List MessageValue) (was stream : Option S) (held now : F)
+    → IsDirectory [] players → (IsSome stream → Tells held (opened_said ∷ []) now × Opens old client)
+    → (is_there stream ≡ false → OpensAndLoses Tells old client held now)
+    → Connects Tells (seat_of remaining contents old known was) (seat_of remaining contents client players stream) held now
+seat_connects Tells remaining contents old client known players was None held now none opens loses = (
+  λ e. absurd cc,
+  λ e. inl (
+    subst (λ c. OpensAndLoses Tells c client held now) (sym (seat_client remaining contents old known was)) (loses refl),
+    none,
+  ),
+)
+seat_connects Tells remaining contents old client known players was (Some s) held now none opens loses = (
+  λ e. let o = opens refl in
+      (o.0, subst (λ c. Opens c client) (sym (seat_client remaining contents old known was)) o.1, none),
+  λ e. absurd cc,
+)
+
+-- a connection that is told after a flush was opened and lost since before it
+pub loses_since : {F : Type 0} {Tells : F → List SaidValue → F → Type 0} → Joins Tells → (held from now : F)
+    (old new : ClientValue) → Tells held [] from → OpensAndLoses Tells old new from now
+    → OpensAndLoses Tells old new held now
+loses_since joins held from now old new still lost = record {
+  mid = lost.mid;
+  ending = lost.ending;
+  told = joins.joined held from lost.mid [] (opened_said ∷ []) still lost.told;
+  ended = lost.ended;
+}
 
 -- ---- turns
 

@@ -4,7 +4,7 @@ use Rattle.std.specs.Io.KnownBytes.{Appends, Keeps}
 use Rattle.std.specs.declared.io.ErrorKind.{ErrorKind}
 use Rattle.fibs_messages.specs.Message.{MessageValue}
 use Rattle.fibs_directory.specs.Directory.{IsDirectory}
-use Rattle.fibs_session.specs.History.Machine.{Talk, is_online, on_wire}
+use Rattle.fibs_session.specs.History.Machine.{Talk, Open, step, is_online, on_wire}
 use Rattle.fibs_session.specs.Calls.Standing.{ClientValue, StandsAfter}
 use Rattle.fibs_exchange.specs.declared.Ending.{Ending}
 use Rattle.fibs_front.specs.Told.{SaidValue, refused_said, unknown_said, opened_said, no_connection_said, passed_said}
@@ -56,12 +56,26 @@ pub record TakesTurn {F : Type 0} (Tells : F → List SaidValue → F → Type 0
 abbrev pub Refuses : {F : Type 0} → (F → List SaidValue → F → Type 0) → SeatValue → SeatValue → F → F → Type 0
 Refuses Tells a b held now = (b ≡ a) × Tells held (refused_said AlreadyOpen ∷ []) now
 
+-- the client has opened a connection
+abbrev pub Opens : ClientValue → ClientValue → Type 0
+Opens old new = (t : Talk) → StandsAfter old t → StandsAfter new (step t Open).talk
+
+-- its login was not written whole: the connection is reported, and then that it is over
+pub record OpensAndLoses {F : Type 0} (Tells : F → List SaidValue → F → Type 0) (old new : ClientValue) (held now : F) :
+    Type 0 where
+  pub mid : F
+  pub ending : Ending
+  pub told : Tells held (opened_said ∷ []) mid
+  pub ended : (t : Talk) → StandsAfter old t → (wrote : Option (List ℕ)) → (players : List MessageValue) →
+      Ended Tells Broken (step t Open).talk new (outside wrote mid players) (outside wrote now players) ending
+
 -- a new connection is reported, and no player is known on it; if none can be made that is reported, and nothing else
--- happens; if its login was not written whole it is over
+-- happens;
+-- if its login was not written whole it is over
 abbrev pub Connects : {F : Type 0} → (F → List SaidValue → F → Type 0) → SeatValue → SeatValue → F → F → Type 0
 Connects Tells a b held now =
-    (b.connected ≡ true → Tells held (opened_said ∷ []) now × IsDirectory [] b.players)
-    × (b.connected ≡ false → IsDirectory [] b.players
+    (b.connected ≡ true → Tells held (opened_said ∷ []) now × Opens a.client b.client × IsDirectory [] b.players)
+    × (b.connected ≡ false → (OpensAndLoses Tells a.client b.client held now × IsDirectory [] b.players)
     ⊎ ((b ≡ a) × ((why : ErrorKind) × Tells held (no_connection_said why ∷ []) now)))
 
 -- a seat on whose connection something was written

@@ -14,3 +14,11 @@ returns-in_ok-_lost-in-Err-send_command-clause-fits g c =
     let ended = c.in_ok-_lost-in-Err-send_command.ensures.ended Broken t
     (c.open.ensures.does.stands c.requires.0 c.requires.1) None [] in
     seat_lost c.in_ok-_lost-in-Err-send_command._lost t _ ended.leaves
+
+pub returns-in_ok-_lost-in-Err-send_command-clause-loses : goal.returns-in_ok-_lost-in-Err-send_command-clause-loses
+returns-in_ok-_lost-in-Err-send_command-clause-loses g c = λ away. record {
+  mid = _;
+  ending = c.in_ok-_lost-in-Err-send_command._lost;
+  told = c.in_ok-tell.ensures;
+  ended = λ t at. c.in_ok-_lost-in-Err-send_command.ensures.ended Broken (step t Open).talk (c.open.ensures.does.stands t at);
+}
