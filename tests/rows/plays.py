@@ -111,20 +111,6 @@ def a_play_has_four_steps(check):
     check(read_decision('move 24-18 24-18 24-18 24-18 24-18'), None, 'five are not')
 
 
-TWO_CHECKERS_BY_FOUR_ONES = (b'board:You:bob:5:0:0:0:0:0:0:1:0:0:0:1:0:0:0:0:0:0:0:0:0:0:0:0:0:0:0:-2:0:'
-                             b'1:1:1:0:0:1:1:1:0:1:-1:0:25:13:13:0:0:2:0:0:0')
-
-PLAYS_BY_FOUR_ONES = ['8-7 7-6 6-5 5-4', '8-7 7-6 6-5 4-3', '8-7 7-6 4-3 3-2', '8-7 4-3 3-2 2-1']
-
-
-@test
-def four_ones_give_four_plays(check):
-    wanted = [steps_of(play) for play in PLAYS_BY_FOUR_ONES]
-    board = reference.Board(TWO_CHECKERS_BY_FOUR_ONES)
-    check(answer(listed, board.printed), wanted, 'of a position')
-    check(reference.greatest_plays(board.position(), board.dice()), wanted, 'by a slow program')
-
-
 class Numbers:
     """Numbers that look like any."""
 

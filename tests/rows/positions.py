@@ -1,4 +1,5 @@
-"""Positions: the phase of a board, its plays, what may be decided on it, and when the game has gone on."""
+"""Positions: the phase of a board, what may be decided on it, and when the game has gone on. Worked boards with plays are in
+fibs_position_tests."""
 
 import sys
 from collections import namedtuple
@@ -39,124 +40,50 @@ def listed(board):
     return [play.steps for play in fibs.plays(board)]
 
 
-# A board, its phase, how many dice are played at most, its plays, and the answers to some decisions.
-Row = namedtuple('Row', 'name board phase most plays answers')
-
-PLAYS = [
-    Row("either die can be played, both can't: the larger",
-        b'board:You:bob:5:0:0:0:0:0:0:0:0:0:0:0:0:0:0:0:-2:0:0:0:0:0:0:0:0:0:0:1:0:'
-        b'1:6:5:0:0:1:1:1:0:1:-1:0:25:14:13:0:0:1:0:0:0',
-        'Move', 1, ['24-18'],
-        [('move 24-18', DONE), ('move 24-19', ILLEGAL_PLAY), ('move 24-13', ILLEGAL_PLAY), ('roll', WRONG_KIND),
-         ('accept', WRONG_KIND), ('resign g', DONE)]),
-    Row('one die is shown',
-        b'board:You:bob:5:0:0:0:0:0:0:0:0:0:0:0:0:0:0:0:-2:0:0:0:0:0:0:0:0:0:0:1:0:'
-        b'1:6:0:0:0:1:1:1:0:1:-1:0:25:14:13:0:0:1:0:0:0',
-        'Move', 1, ['24-18'],
-        [('move 24-18', DONE), ('move', ILLEGAL_PLAY)]),
-    Row('bearing off, the highest first',
-        b'board:You:bob:5:0:0:0:0:1:1:0:0:0:0:0:0:0:0:0:-2:0:0:0:0:0:0:0:0:0:0:0:0:'
-        b'1:6:5:0:0:1:1:1:0:1:-1:0:25:13:13:0:0:2:0:0:0',
-        'Move', 2, ['3-off 2-off'],
-        [('move 3-off 2-off', DONE), ('move 2-off 3-off', ILLEGAL_PLAY)]),
-    Row('no entry',
-        b'board:You:bob:5:0:0:0:0:0:0:0:0:14:0:0:0:0:0:0:0:0:0:0:0:0:-2:-2:-2:-2:-2:-2:1:'
-        b'1:3:1:0:0:1:1:1:0:1:-1:0:25:0:3:1:0:0:0:0:0',
-        'Passing', 0, [],
-        [('roll', NOT_YOURS), ('double', NOT_YOURS), ('accept', NOT_YOURS), ('reject', NOT_YOURS),
-         ('move', NOT_YOURS), ('resign g', NOT_YOURS)]),
-    Row('three of four equal dice, upward: X is on place 20 of his own',
-        b'board:You:bob:5:0:0:0:0:0:0:0:-1:0:0:0:0:0:0:0:0:0:0:0:2:0:0:0:0:0:0:0:0:'
-        b'-1:3:3:0:0:1:1:1:0:-1:1:25:0:14:13:0:0:3:0:0:0',
-        'Move', 3, ['20-17 17-14 14-11'],
-        [('move 20-17 17-14', ILLEGAL_PLAY), ('move 20-17 17-14 14-11', DONE)]),
-    Row('both orders reach one arrangement',
-        b'board:You:bob:5:0:0:0:0:-2:0:0:0:0:0:0:0:0:0:0:0:0:0:0:0:0:0:0:0:0:0:1:0:'
-        b'1:6:5:0:0:1:1:1:0:1:-1:0:25:14:13:0:0:2:0:0:0',
-        'Move', 2, ['24-19 19-13'],
-        [('move 24-19 19-13', DONE)]),
-    Row('four arrangements',
-        b'board:You:bob:5:0:0:0:0:0:0:1:0:0:0:1:0:0:0:0:0:0:0:0:0:0:0:0:0:0:0:-2:0:'
-        b'1:2:1:0:0:1:1:1:0:1:-1:0:25:13:13:0:0:2:0:0:0',
-        'Move', 2, ['8-7 7-5', '8-7 4-2', '8-6 4-3', '4-3 3-1'],
-        [('move 8-6 6-5', DONE)]),
-    Row('four ones',
-        b'board:You:bob:5:0:0:0:0:0:0:1:0:0:0:1:0:0:0:0:0:0:0:0:0:0:0:0:0:0:0:-2:0:'
-        b'1:1:1:0:0:1:1:1:0:1:-1:0:25:13:13:0:0:2:0:0:0',
-        'Move', 4, ['8-7 7-6 6-5 5-4', '8-7 7-6 6-5 4-3', '8-7 7-6 4-3 3-2', '8-7 4-3 3-2 2-1'],
-        []),
-    Row('a hit',
-        b'board:You:bob:5:0:0:0:0:0:0:0:0:0:0:0:0:0:0:-2:0:0:0:0:0:-1:0:0:0:0:0:1:0:'
-        b'1:6:6:0:0:1:1:1:0:1:-1:0:25:14:12:0:0:1:0:0:0',
-        'Move', 1, ['24-18'],
-        [('move 24-18', DONE)]),
-]
+# A board on which nothing can be played, its phase, and the answers to some decisions.
+Row = namedtuple('Row', 'name board phase answers')
 
 ANSWERS = [
-    Row("a double can't be accepted, the cube is full",
-        b'board:You:bob:3:0:1:0:-2:0:0:0:0:5:0:3:0:0:0:-5:5:0:0:0:-3:0:-5:0:0:0:0:2:0:'
-        b'1:0:0:0:0:1048576:1:1:1:1:-1:0:25:0:0:0:0:0:0:0:0',
-        'AnswerDouble', 0, [],
-        [('accept', WRONG_KIND), ('roll', WRONG_KIND), ('reject', DONE), ('resign g', WRONG_KIND)]),
     Row('a double can be accepted',
         b'board:You:bob:3:0:1:0:-2:0:0:0:0:5:0:3:0:0:0:-5:5:0:0:0:-3:0:-5:0:0:0:0:2:0:'
         b'1:0:0:0:0:524288:1:1:1:1:-1:0:25:0:0:0:0:0:0:0:0',
-        'AnswerDouble', 0, [],
+        'AnswerDouble',
         [('accept', DONE), ('double', WRONG_KIND), ('reject', DONE), ('move', WRONG_KIND)]),
-    Row('before the roll',
-        b'board:You:bob:3:0:1:0:-2:0:0:0:0:5:0:3:0:0:0:-5:5:0:0:0:-3:0:-5:0:0:0:0:2:0:'
-        b'1:0:0:0:0:1:1:1:0:1:-1:0:25:0:0:0:0:0:0:0:0',
-        'RollOrDouble', 0, [],
-        [('roll', DONE), ('double', DONE), ('reject', WRONG_KIND), ('move', WRONG_KIND), ('resign n', DONE),
-         ('resign g', DONE), ('resign b', DONE)]),
     Row('the player may not double',
         b'board:You:bob:3:0:1:0:-2:0:0:0:0:5:0:3:0:0:0:-5:5:0:0:0:-3:0:-5:0:0:0:0:2:0:'
         b'1:0:0:0:0:1:0:1:0:1:-1:0:25:0:0:0:0:0:0:0:0',
-        'RollOrDouble', 0, [],
+        'RollOrDouble',
         [('roll', DONE), ('double', WRONG_KIND)]),
     Row('the cube is full',
         b'board:You:bob:3:0:1:0:-2:0:0:0:0:5:0:3:0:0:0:-5:5:0:0:0:-3:0:-5:0:0:0:0:2:0:'
         b'1:0:0:0:0:1048576:1:1:0:1:-1:0:25:0:0:0:0:0:0:0:0',
-        'RollOrDouble', 0, [],
+        'RollOrDouble',
         [('roll', DONE), ('double', WRONG_KIND)]),
     Row('the last double',
         b'board:You:bob:3:0:1:0:-2:0:0:0:0:5:0:3:0:0:0:-5:5:0:0:0:-3:0:-5:0:0:0:0:2:0:'
         b'1:0:0:0:0:524288:1:1:0:1:-1:0:25:0:0:0:0:0:0:0:0',
-        'RollOrDouble', 0, [],
+        'RollOrDouble',
         [('double', DONE)]),
     Row("the opponent's turn",
         b'board:You:bob:3:0:1:0:-2:0:0:0:0:5:0:3:0:0:0:-5:5:0:0:0:-3:0:-5:0:0:0:0:2:0:'
         b'-1:0:0:0:0:1:1:1:0:1:-1:0:25:0:0:0:0:0:0:0:0',
-        'OpponentActs', 0, [],
+        'OpponentActs',
         [('roll', NOT_YOURS), ('resign n', NOT_YOURS)]),
     Row('the game is over',
         b'board:You:bob:3:0:1:0:-2:0:0:0:0:5:0:3:0:0:0:-5:5:0:0:0:-3:0:-5:0:0:0:0:2:0:'
         b'0:0:0:0:0:1:1:1:0:1:-1:0:25:0:0:0:0:0:0:0:0',
-        'Over', 0, [],
+        'Over',
         [('roll', NOT_YOURS), ('move', NOT_YOURS), ('resign n', NOT_YOURS)]),
 ]
 
 
-def check_rows(check, rows):
-    for row in rows:
-        wanted = [steps_of(play) for play in row.plays]
-        check(phase_of(row.board), row.phase, '%s: the phase' % row.name)
-        check(answer(listed, row.board), wanted, '%s: the plays' % row.name)
-        check(max(map(len, listed(row.board)), default=0), row.most, '%s: the longest run' % row.name)
-        for play in wanted:
-            check(allowed(row.board, move_of(play)), DONE, '%s: a play that is listed' % row.name)
-        for text, status in row.answers:
-            check(allowed(row.board, decision_of(text)), status, '%s: %s' % (row.name, text))
-
-
-@test
-def plays(check):
-    check_rows(check, PLAYS)
-
-
 @test
 def answers(check):
-    check_rows(check, ANSWERS)
+    for row in ANSWERS:
+        check(phase_of(row.board), row.phase, '%s: the phase' % row.name)
+        check(answer(listed, row.board), [], '%s: the plays' % row.name)
+        for text, status in row.answers:
+            check(allowed(row.board, decision_of(text)), status, '%s: %s' % (row.name, text))
 
 
 START = b'board:You:bob:3:0:1:0:-2:0:0:0:0:5:0:3:0:0:0:-5:5:0:0:0:-3:0:-5:0:0:0:0:2:0:'

@@ -1,6 +1,6 @@
-//! Tests of the rules, of positions and of commands: values that no board line shows, what a board is for its player, what
-//! becomes of it, and what is said to the server. Turns, what a player may decide, his plays, and when the game has gone on
-//! are in `tests/rows/positions.py` and `plays.py`.
+//! Tests of the rules, of positions and of commands: worked rows of positions, values that no board line shows, what a board
+//! is for its player, what becomes of it, a slow search beside the list of plays, and what is said to the server. More turns,
+//! more that a player may decide, and when the game has gone on are in `tests/rows/positions.py` and `plays.py`.
 #![tactic(auto)]
 
 #[cfg(test)]
@@ -17,5 +17,9 @@ mod commands;
 mod known_boards;
 #[cfg(test)]
 mod refusals;
+#[cfg(test)]
+mod rows;
+#[cfg(test)]
+mod slow;
 #[cfg(test)]
 mod turns;

@@ -1,56 +1,13 @@
 //! What stays if memory is refused, and what becomes of boards that have no position or another player.
 
+use crate::rows::{ROWS, position};
 use fibs_messages::Board;
 use fibs_position::{Decision, Position, Stake, differs, effect};
 use std::alloc::Global;
 use std::test::Fail;
 
-/// Boards, and how many plays each has.
-static ASKED: [(&[u8], usize); 9] = [
-    (
-        b"board:You:bob:5:0:0:0:0:0:0:0:0:0:0:0:0:0:0:0:-2:0:0:0:0:0:0:0:0:0:0:1:0:1:6:5:0:0:1:1:1:0:1:-1:0:25:14:13:0:0:1:0:0:0",
-        1,
-    ),
-    (
-        b"board:You:bob:5:0:0:0:0:0:0:0:0:0:0:0:0:0:0:0:-2:0:0:0:0:0:0:0:0:0:0:1:0:1:6:0:0:0:1:1:1:0:1:-1:0:25:14:13:0:0:1:0:0:0",
-        1,
-    ),
-    (
-        b"board:You:bob:5:0:0:0:0:1:1:0:0:0:0:0:0:0:0:0:-2:0:0:0:0:0:0:0:0:0:0:0:0:1:6:5:0:0:1:1:1:0:1:-1:0:25:13:13:0:0:2:0:0:0",
-        1,
-    ),
-    (
-        b"board:You:bob:5:0:0:0:0:0:0:0:0:14:0:0:0:0:0:0:0:0:0:0:0:0:-2:-2:-2:-2:-2:-2:1:1:3:1:0:0:1:1:1:0:1:-1:0:25:0:3:1:0:0:0:0:0",
-        0,
-    ),
-    (
-        b"board:You:bob:5:0:0:0:0:0:0:0:-1:0:0:0:0:0:0:0:0:0:0:0:2:0:0:0:0:0:0:0:0:-1:3:3:0:0:1:1:1:0:-1:1:25:0:14:13:0:0:3:0:0:0",
-        1,
-    ),
-    (
-        b"board:You:bob:5:0:0:0:0:-2:0:0:0:0:0:0:0:0:0:0:0:0:0:0:0:0:0:0:0:0:0:1:0:1:6:5:0:0:1:1:1:0:1:-1:0:25:14:13:0:0:2:0:0:0",
-        1,
-    ),
-    (
-        b"board:You:bob:5:0:0:0:0:0:0:1:0:0:0:1:0:0:0:0:0:0:0:0:0:0:0:0:0:0:0:-2:0:1:2:1:0:0:1:1:1:0:1:-1:0:25:13:13:0:0:2:0:0:0",
-        4,
-    ),
-    (
-        b"board:You:bob:5:0:0:0:0:0:0:1:0:0:0:1:0:0:0:0:0:0:0:0:0:0:0:0:0:0:0:-2:0:1:1:1:0:0:1:1:1:0:1:-1:0:25:13:13:0:0:2:0:0:0",
-        4,
-    ),
-    (
-        b"board:You:bob:5:0:0:0:0:0:0:0:0:0:0:0:0:0:0:-2:0:0:0:0:0:-1:0:0:0:0:0:1:0:1:6:6:0:0:1:1:1:0:1:-1:0:25:14:12:0:0:1:0:0:0",
-        1,
-    ),
-];
-
 fn board(line: &[u8]) -> Result<Board, Fail> {
     Ok(Board::read(line).ok().ok_or("board")?)
-}
-
-fn position(line: &[u8]) -> Result<Position, Fail> {
-    Ok(Position::of(&board(line)?).ok().ok_or("position")?)
 }
 
 /// Each reader answers the same of both.
@@ -97,17 +54,14 @@ fn lists(alloc: Global, position: &Position, count: usize) -> Result<bool, Fail>
 /// If a growth is refused, the position answers as one that was not asked, and the next call gives the list.
 #[test]
 fn plays_are_listed_under_refused_memory(rt: HostRuntime) -> Result<(), Fail> {
-    for (line, count) in &ASKED {
-        let asked = position(line)?;
-        match asked.plays(rt.alloc()) {
-            Ok(plays) => assert_eq!(rt; plays.len(), *count),
-            Err(_refused) => {
-                let twin = position(line)?;
-                assert!(rt; are_alike(&asked, &twin));
-                assert!(rt; answer_alike(&asked, &twin));
-                assert!(rt; lists(rt.alloc(), &asked, *count)?);
-                assert!(rt; lists(rt.alloc(), &twin, *count)?);
-            }
+    for row in &ROWS {
+        let asked = position(row.board)?;
+        if asked.plays(rt.alloc()).is_err() {
+            let twin = position(row.board)?;
+            assert!(rt; are_alike(&asked, &twin));
+            assert!(rt; answer_alike(&asked, &twin));
+            assert!(rt; lists(rt.alloc(), &asked, row.plays.len())?);
+            assert!(rt; lists(rt.alloc(), &twin, row.plays.len())?);
         }
     }
     Ok(())

@@ -1,0 +1,281 @@
+//! A slow search for plays, as the rules say it: all runs, then the longest, then one for each arrangement that they lead
+//! to, found by a search from the front. The list of a position is compared with it.
+
+use crate::rows::position;
+use fibs_position::{Play, Position, Step};
+use std::alloc::{AllocError, Global};
+use std::cmp::Ordering;
+use std::test::Fail;
+
+/// Checkers by place: the player's, of which place 0 is off and 25 the bar, and the opponent's, of which place 0 is the
+/// bar.
+#[derive(Clone, Copy, PartialEq, Eq)]
+struct Sides {
+    own: [u8; 26],
+    other: [u8; 26],
+}
+
+/// Steps one after another, and what they lead to.
+#[derive(Clone, Copy)]
+struct Run {
+    play: Play,
+    leads: Sides,
+}
+
+/// How many checkers are on a place.
+fn count(side: &[u8; 26], place: u8) -> u8 {
+    if place < 26 {
+        side[usize::from(place)]
+    } else {
+        0
+    }
+}
+
+/// The same with another count on a place.
+fn with(side: &[u8; 26], place: u8, count: u8) -> [u8; 26] {
+    let mut changed = *side;
+    if place < 26 {
+        changed[usize::from(place)] = count;
+    }
+    changed
+}
+
+/// The checkers of a position.
+fn sides_of(position: &Position) -> Sides {
+    let mut own = [0u8; 26];
+    let mut other = [0u8; 26];
+    other[0] = position.other_bar();
+    for place in 0..26 {
+        own = with(&own, place, position.own(place));
+    }
+    for place in 1..25 {
+        other = with(&other, place, position.other(place));
+    }
+    Sides { own, other }
+}
+
+/// No checker of the player is on a place from this one on.
+fn none_from(at: &Sides, first: u8) -> bool {
+    for place in first..26 {
+        if count(&at.own, place) > 0 {
+            return false;
+        }
+    }
+    true
+}
+
+/// Where a checker goes from a place by a die, if it may.
+fn target(at: &Sides, from: u8, die: u8) -> Option<u8> {
+    if count(&at.own, from) == 0 || (from != 25 && at.own[25] > 0) {
+        return None;
+    }
+    if from > die {
+        let is_open = count(&at.other, from - die) < 2;
+        return if is_open { Some(from - die) } else { None };
+    }
+    if none_from(at, 7) && (from == die || none_from(at, from.saturating_add(1))) {
+        return Some(0);
+    }
+    None
+}
+
+/// The checkers after a step.
+fn after(at: &Sides, from: u8, to: u8) -> Sides {
+    let left = with(&at.own, from, count(&at.own, from).saturating_sub(1));
+    let own = with(&left, to, count(&left, to).saturating_add(1));
+    let mut other = at.other;
+    if to > 0 && count(&other, to) == 1 {
+        let bar = other[0].saturating_add(1);
+        other = with(&with(&other, to, 0), 0, bar);
+    }
+    Sides { own, other }
+}
+
+/// The play with one step more.
+fn with_step(play: &Play, from: u8, to: u8) -> Play {
+    let mut longer = *play;
+    if let Some(step) = Step::new(from, to) {
+        let _room = longer.push(step);
+    }
+    longer
+}
+
+/// Each run with one step more by this die.
+fn longer(alloc: Global, runs: &[Run], die: u8) -> Result<Vec<Run>, AllocError> {
+    let mut found = Vec::new(alloc);
+    for run in runs {
+        for from in 1..26 {
+            if let Some(to) = target(&run.leads, from, die) {
+                found.push(Run {
+                    play: with_step(&run.play, from, to),
+                    leads: after(&run.leads, from, to),
+                })?;
+            }
+        }
+    }
+    Ok(found)
+}
+
+/// The longest runs by these dice in this order.
+fn in_order(alloc: Global, start: Run, dice: &[u8]) -> Result<Vec<Run>, AllocError> {
+    let mut runs = Vec::new(alloc);
+    runs.push(start)?;
+    for die in dice {
+        let more = longer(alloc, runs.as_slice(), *die)?;
+        if more.is_empty() {
+            return Ok(runs);
+        }
+        runs = more;
+    }
+    Ok(runs)
+}
+
+/// The longest runs by two dice in either order, by equal ones four times.
+fn longest_in_each_order(alloc: Global, start: Run, dice: [u8; 2]) -> Result<Vec<Run>, AllocError> {
+    let [one, other] = dice;
+    if one == other {
+        return in_order(alloc, start, &[one; 4]);
+    }
+    let mut runs = in_order(alloc, start, &[one, other])?;
+    let more = in_order(alloc, start, &[other, one])?;
+    runs.extend_from_slice(more.as_slice())?;
+    Ok(runs)
+}
+
+/// The length of a longest run.
+fn most(runs: &[Run]) -> usize {
+    let mut most = 0;
+    for run in runs {
+        most = most.max(run.play.steps().len());
+    }
+    most
+}
+
+/// Keeps the greatest run to each arrangement.
+fn note(kept: &mut Vec<Run>, run: &Run) -> Result<(), AllocError> {
+    match kept.iter().position(|one| one.leads == run.leads) {
+        None => kept.push(*run)?,
+        Some(at) => {
+            if let Some(one) = kept.get_mut(at) {
+                if one.play.steps().cmp(run.play.steps()) == Ordering::Less {
+                    *one = *run;
+                }
+            }
+        }
+    }
+    Ok(())
+}
+
+/// The greatest run of so many steps to each arrangement.
+fn greatest(alloc: Global, runs: &[Run], most: usize) -> Result<Vec<Run>, AllocError> {
+    let mut kept = Vec::new(alloc);
+    for run in runs {
+        if run.play.steps().len() == most {
+            note(&mut kept, run)?;
+        }
+    }
+    Ok(kept)
+}
+
+/// The plays of a position by two dice, in any order.
+fn slow_plays(alloc: Global, position: &Position, dice: [u8; 2]) -> Result<Vec<Run>, AllocError> {
+    let start = Run {
+        play: Play::new(),
+        leads: sides_of(position),
+    };
+    let runs = longest_in_each_order(alloc, start, dice)?;
+    let most = most(runs.as_slice());
+    let larger = longer(alloc, &[start], dice[0].max(dice[1]))?;
+    if most == 1 && dice[0] != dice[1] && !larger.is_empty() {
+        return greatest(alloc, larger.as_slice(), 1);
+    }
+    greatest(alloc, runs.as_slice(), most)
+}
+
+/// Each play is greater than the one behind it.
+fn are_descending(plays: &[Play]) -> bool {
+    let mut before: Option<Play> = None;
+    for play in plays {
+        if let Some(greater) = before {
+            if greater.steps().cmp(play.steps()) != Ordering::Greater {
+                return false;
+            }
+        }
+        before = Some(*play);
+    }
+    true
+}
+
+/// One of the runs is this play.
+fn has(runs: &[Run], play: &Play) -> bool {
+    for run in runs {
+        if run.play == *play {
+            return true;
+        }
+    }
+    false
+}
+
+/// Boards, their dice, and how many plays they have.
+static BOARDS: [(&[u8], [u8; 2], usize); 9] = [
+    (
+        b"board:You:bob:5:0:0:0:-15:0:0:0:0:0:0:0:0:1:1:1:1:1:1:1:1:1:1:1:1:1:1:1:0:1:2:2:0:0:1048576:1:1:0:1:-1:0:25:0:0:0:0:0:0:0:0",
+        [2, 2],
+        1749,
+    ),
+    (
+        b"board:You:bob:5:0:0:0:-2:0:0:0:0:5:0:3:0:0:0:-5:5:0:0:0:-3:0:-5:0:0:0:0:2:0:1:3:3:0:0:1048576:1:1:0:1:-1:0:25:0:0:0:0:2:0:0:0",
+        [3, 3],
+        73,
+    ),
+    (
+        b"board:You:bob:5:0:0:0:0:0:0:1:0:0:0:1:0:0:0:0:0:0:0:0:0:0:0:0:0:0:0:-2:0:1:1:1:0:0:1:1:1:0:1:-1:0:25:13:13:0:0:2:0:0:0",
+        [1, 1],
+        4,
+    ),
+    (
+        b"board:You:bob:5:0:0:0:0:0:0:0:0:0:0:0:0:0:0:0:-2:0:0:0:0:0:0:0:0:0:0:1:0:1:6:5:0:0:1:1:1:0:1:-1:0:25:14:13:0:0:1:0:0:0",
+        [6, 5],
+        1,
+    ),
+    (
+        b"board:You:bob:5:0:0:0:0:-2:0:0:0:0:0:0:0:0:0:0:0:0:0:0:0:0:0:0:0:0:0:1:0:1:6:5:0:0:1:1:1:0:1:-1:0:25:14:13:0:0:2:0:0:0",
+        [6, 5],
+        1,
+    ),
+    (
+        b"board:You:bob:5:0:0:0:0:1:1:0:0:0:0:0:0:0:0:0:-2:0:0:0:0:0:0:0:0:0:0:0:0:1:6:5:0:0:1:1:1:0:1:-1:0:25:13:13:0:0:2:0:0:0",
+        [6, 5],
+        1,
+    ),
+    (
+        b"board:You:bob:5:0:0:0:0:0:0:0:-1:0:0:0:0:0:0:0:0:0:0:0:2:0:0:0:0:0:0:0:0:-1:3:3:0:0:1:1:1:0:-1:1:25:0:14:13:0:0:3:0:0:0",
+        [3, 3],
+        1,
+    ),
+    (
+        b"board:You:bob:5:0:0:0:0:0:0:0:0:0:0:0:0:0:0:-2:0:0:0:0:0:-1:0:0:0:0:0:1:0:1:6:6:0:0:1:1:1:0:1:-1:0:25:14:12:0:0:1:0:0:0",
+        [6, 6],
+        1,
+    ),
+    (
+        b"board:You:someplayer:3:0:1:0:-2:0:0:0:0:5:0:3:0:0:0:-5:5:0:0:0:-3:0:-5:0:0:0:0:2:0:1:6:2:0:0:1:1:1:0:1:-1:0:25:0:0:0:0:2:0:0:0",
+        [6, 2],
+        14,
+    ),
+];
+
+#[test]
+fn a_slow_search_finds_the_same_plays(rt: HostRuntime) -> Result<(), Fail> {
+    for (line, dice, count) in &BOARDS {
+        let position = position(line)?;
+        let fast = position.plays(rt.alloc())?;
+        let slow = slow_plays(rt.alloc(), &position, *dice)?;
+        assert_eq!(rt; (fast.len(), slow.len()), (*count, *count), "{line:?}");
+        assert!(rt; are_descending(fast.as_slice()), "{line:?}");
+        for play in &fast {
+            assert!(rt; has(slow.as_slice(), play), "{line:?}");
+        }
+    }
+    Ok(())
+}
