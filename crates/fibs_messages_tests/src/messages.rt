@@ -180,6 +180,27 @@ fn each_message_is_appended_under_refused_memory(rt: HostRuntime) -> Result<(), 
     Ok(())
 }
 
+/// With ample memory each message is appended, however much is there before it.
+#[test]
+fn messages_are_appended_one_behind_another(rt: HostRuntime) -> Result<(), Fail> {
+    let alloc = rt.alloc();
+    let mut out = Vec::new(alloc);
+    let mut wanted = Vec::new(alloc);
+    for _ in 0..40u32 {
+        for (line, canonical) in &PRINTED {
+            append_printed(alloc, line, &mut out)?;
+            let text = if canonical.is_empty() {
+                line
+            } else {
+                canonical
+            };
+            wanted.extend_from_slice(text)?;
+        }
+    }
+    assert_eq!(rt; out, wanted);
+    Ok(())
+}
+
 /// What is printed of a message is read back as it.
 #[test]
 fn a_printed_message_is_read_back(rt: HostRuntime) {
