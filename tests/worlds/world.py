@@ -1,78 +1,12 @@
 """Histories of the world, worked out by hand: each event of a script of `fibs replay` beside what it adds to the log.
 
-A word in braces is a board or a message of boards.py. An event that may not be adds nothing, and is beside its
-refusal: the events after it go on without it.
+A word in braces is a board or a message of boards.py. An event that may not be adds nothing, and stands beside its
+refusal: the events after it go on without it. A second click, a lost play and a cut one are told in fibs_replay_tests.
 """
 
 import subprocess
 
 from boards import NAMED
-
-# A second click before the answer, and a line that is not there.
-CLICKED_TWICE = [
-    ('open', 'opened 1'),
-    ('serve 1 1 1', 'loggedin 1'),
-    ('text {WELCOME}',),
-    ('text {INFO}',),
-    ('deliver 10000', 'welcomed 1', 'informed 1 0 0'),
-    ('serve 1 1 1',),
-    ('serve 1 1 1',),
-    ('deliver 10000', 'shown 1 {TO_ROLL}', 'shown 1 {TO_ROLL}'),
-    ('click roll', 'clicked 1 ok', 'sent 1 {TO_ROLL} roll'),
-    ('click roll', 'clicked 1 Waiting'),
-    ('serve 1 6 2', 'took 1 {TO_ROLL} roll'),
-    ('deliver 10000', 'shown 1 {TO_MOVE}'),
-    ('click roll', 'clicked 1 WrongKind'),
-    ('serve 1 1 1', 'refused 5 NothingToServe'),
-]
-
-# A loss that keeps all bytes: the play is served after it, and the new connection sends none by itself.
-LOST = [
-    ('open', 'opened 1'),
-    ('serve 1 1 1', 'loggedin 1'),
-    ('text {WELCOME}',),
-    ('text {INFO}',),
-    ('deliver 10000', 'welcomed 1', 'informed 1 0 0'),
-    ('serve 1 1 1',),
-    ('serve 1 1 1',),
-    ('deliver 10000', 'shown 1 {ONE_STEP}', 'shown 1 {ONE_STEP}'),
-    ('click move 24-18', 'clicked 1 ok', 'sent 1 {ONE_STEP} move 24-18'),
-    ('lose 10000', 'lost 1 {ONE_STEP} move 24-18'),
-    ('serve 1 1 1', 'took 1 {ONE_STEP} move 24-18'),
-    ('open', 'opened 2'),
-    ('serve 2 1 1', 'loggedin 2'),
-    ('text {WELCOME}',),
-    ('text {INFO}',),
-    ('deliver 10000', 'welcomed 2', 'informed 2 0 0'),
-    ('serve 2 1 1',),
-    ('serve 2 1 1',),
-    ('deliver 10000', 'shown 2 {STEPPED}', 'shown 2 {STEPPED}'),
-    ('click roll', 'clicked 2 NotYours'),
-]
-
-# A loss that keeps three bytes of the play: it is not served, and the user may send it again.
-CUT = [
-    ('open', 'opened 1'),
-    ('serve 1 1 1', 'loggedin 1'),
-    ('text {WELCOME}',),
-    ('text {INFO}',),
-    ('deliver 10000', 'welcomed 1', 'informed 1 0 0'),
-    ('serve 1 1 1',),
-    ('serve 1 1 1',),
-    ('deliver 10000', 'shown 1 {ONE_STEP}', 'shown 1 {ONE_STEP}'),
-    ('click move 24-18', 'clicked 1 ok', 'sent 1 {ONE_STEP} move 24-18'),
-    ('lose 3', 'lost 1 {ONE_STEP} move 24-18'),
-    ('open', 'opened 2'),
-    ('serve 2 1 1', 'loggedin 2'),
-    ('text {WELCOME}',),
-    ('text {INFO}',),
-    ('deliver 10000', 'welcomed 2', 'informed 2 0 0'),
-    ('serve 2 1 1',),
-    ('serve 2 1 1',),
-    ('deliver 10000', 'shown 2 {ONE_STEP}', 'shown 2 {ONE_STEP}'),
-    ('click move 24-18', 'clicked 2 ok', 'sent 2 {ONE_STEP} move 24-18'),
-    ('serve 1 1 1', 'refused 5 NothingToServe'),
-]
 
 # What may not be, in the order in which it is named.
 REFUSED = [
@@ -177,21 +111,6 @@ def run_all(counts, name, begins, story, end):
     counts.same(lines[-2:], [end, ''], name)
 
 
-def a_second_click_waits(counts):
-    play(counts, 'the story', '{TO_ROLL}', CLICKED_TWICE)
-    run_all(counts, 'the run stops at the last', '{TO_ROLL}', CLICKED_TWICE, 'refused 13 5 NothingToServe')
-
-
-def a_play_may_be_served_after_a_loss(counts):
-    play(counts, 'the story', '{ONE_STEP}', LOST)
-    run_all(counts, 'all are done', '{ONE_STEP}', LOST, 'end 20')
-
-
-def a_play_of_which_three_bytes_are_kept_is_sent_again(counts):
-    play(counts, 'the story', '{ONE_STEP}', CUT)
-    run_all(counts, 'the cut play is no line', '{ONE_STEP}', CUT, 'refused 19 5 NothingToServe')
-
-
 def what_may_not_be_is_refused(counts):
     play(counts, 'the story', '{TO_ROLL}', REFUSED)
     run_all(counts, 'no world begins with a board of another', '{OF_OTHERS}', [], 'refused 0 8 BadBoard')
@@ -223,6 +142,5 @@ def the_server_has_boards_of_its_own(counts):
     run_all(counts, 'the run stops at the last', '{STEPPED}', OWN_BOARDS, 'refused 14 6 UserDecides')
 
 
-TESTS = [a_second_click_waits, a_play_may_be_served_after_a_loss, a_play_of_which_three_bytes_are_kept_is_sent_again,
-         what_may_not_be_is_refused, a_board_beyond_the_limit_is_a_text, connections_are_cut_up,
+TESTS = [what_may_not_be_is_refused, a_board_beyond_the_limit_is_a_text, connections_are_cut_up,
          the_server_has_boards_of_its_own]
