@@ -19,7 +19,7 @@ mod sent;
 mod telnet;
 mod unfinished;
 
-pub use line::Line;
+pub use line::{Line, without_return};
 pub use lines::{Fed, Lines};
 pub use sent::sent_line;
 

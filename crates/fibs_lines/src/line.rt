@@ -15,8 +15,8 @@ pub struct Line<'a> {
     pub cut: bool,
 }
 
-/// `bytes` without one CR at the end.
-fn without_return(bytes: &[u8]) -> &[u8]
+/// The bytes without one CR at the end.
+pub fn without_return(bytes: &[u8]) -> &[u8]
     ensures { result.now ≡ strip_carriage_return bytes.now }
 {
     let len = bytes.len();

@@ -12,14 +12,15 @@ ghost use Rattle.fibs_rules.specs.PlayValue.{hops_of};
 ghost use Rattle.fibs_position.specs.OwnView.{colour, no_dice, own_placed, other_placed};
 ghost use Rattle.fibs_position.specs.declared.stake.Stake.{Stake};
 
+use crate::cube::MOST_DOUBLED;
 use crate::decision::Decision;
-use crate::fields::{
-    COLOUR, CUBE, FIRST_DIE, MAY_DOUBLE, MOST_DOUBLED, OPPONENT_MAY_DOUBLE, OPPONENTS_FIRST_DIE,
-    OPPONENTS_SECOND_DIE, OWN_OFF, SECOND_DIE, TURN, WAS_DOUBLED,
-};
 use crate::good_board::is_good;
 use crate::own_view::{arrangement_of, colour, no_dice, place_field};
 use fibs_boards::board::Board;
+use fibs_boards::fields::{
+    COLOUR, CUBE, FIRST_DIE, MAY_DOUBLE, OTHER_FIRST_DIE, OTHER_MAY_DOUBLE, OTHER_SECOND_DIE,
+    OWN_OFF, SECOND_DIE, TURN, WAS_DOUBLED,
+};
 use fibs_boards::laws::{fields_have_their_ranges, is_board_is_exact};
 use fibs_rules::{Arrangement, Play};
 
@@ -59,8 +60,8 @@ fn is_before_move(board: &Board) -> bool
     has_turn(board) && !no_dice(board)
 }
 
-/// A number of a die.
-fn is_die(number: u8) -> bool
+/// It is a number of a die.
+pub fn is_die(number: u8) -> bool
     ensures { result ≡ is_die number }
 {
     0 < number && number <= 6
@@ -83,8 +84,8 @@ fn rolled(board: Board, dice: [u8; 2]) -> Board
     fields_have_their_ranges();
     let board = set(board, FIRST_DIE, i32::from(dice[0]));
     let board = set(board, SECOND_DIE, i32::from(dice[1]));
-    let board = set(board, OPPONENTS_FIRST_DIE, 0);
-    set(board, OPPONENTS_SECOND_DIE, 0)
+    let board = set(board, OTHER_FIRST_DIE, 0);
+    set(board, OTHER_SECOND_DIE, 0)
 }
 
 /// The turn goes to the opponent, who has to answer.
@@ -106,7 +107,7 @@ fn accepted(board: Board) -> Board
     let board = set(board, WAS_DOUBLED, 0);
     let board = set(board, CUBE, cube + cube);
     let board = set(board, MAY_DOUBLE, 1);
-    let board = set(board, OPPONENT_MAY_DOUBLE, 0);
+    let board = set(board, OTHER_MAY_DOUBLE, 0);
     set(board, TURN, turn)
 }
 

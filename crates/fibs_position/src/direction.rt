@@ -3,8 +3,8 @@
 ghost use Rattle.std.specs.Prelude.{◌≡◌, ◌≤◌};
 ghost use Rattle.fibs_boards.specs.StoredBoard.{fields_of};
 
-use crate::fields::DIRECTION;
 use fibs_boards::board::Board;
+use fibs_boards::fields::DIRECTION;
 
 /// Which way a player's checkers go by the numbers of the board line.
 #[derive(Clone, Copy, Debug, PartialEq, Eq)]

@@ -2,10 +2,10 @@
 #![tactic(auto)]
 
 mod board_effect;
+mod cube;
 mod decision;
 mod direction;
 mod disallowed;
-mod fields;
 mod game_part;
 mod good_board;
 pub mod laws;
@@ -15,7 +15,7 @@ mod position;
 mod position_fault;
 mod stake;
 
-pub use board_effect::effect;
+pub use board_effect::{effect, is_die};
 pub use decision::Decision;
 pub use direction::Direction;
 pub use disallowed::Disallowed;

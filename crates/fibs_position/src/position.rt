@@ -7,14 +7,15 @@ ghost use Rattle.fibs_boards.specs.StoredBoard.{fields_of};
 ghost use Rattle.fibs_position.specs.OwnView.{own_view};
 ghost use Rattle.fibs_position.specs.GoodBoard.{IsGood};
 
+use crate::cube::MOST_DOUBLED;
 use crate::decision::Decision;
 use crate::direction::Direction;
 use crate::disallowed::Disallowed;
-use crate::fields::{COLOUR, CUBE, MAY_DOUBLE, MOST_DOUBLED, TURN, WAS_DOUBLED};
 use crate::own_view::{arranged, first_die, other_placed, own_placed, second_die};
 use crate::phase::Phase;
 use crate::position_fault::PositionFault;
 use fibs_boards::board::Board;
+use fibs_boards::fields::{COLOUR, CUBE, MAY_DOUBLE, TURN, WAS_DOUBLED};
 use fibs_boards::laws::is_board_is_exact;
 use fibs_rules::{Arrangement, Play, Turn};
 use std::alloc::{AllocError, Global};
