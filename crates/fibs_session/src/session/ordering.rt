@@ -6,11 +6,9 @@ ghost use Rattle.fibs_boards.specs.StoredBoard.{fields_of};
 ghost use Rattle.fibs_session.specs.Calls.FieldSteps.{due_of, order_refusal_of, withdraw_refusal_of, with_order};
 
 use super::{Session, ShownBoard};
+use fibs_boards::fields::MAY_DOUBLE;
 use fibs_history::Refusal;
 use fibs_position::{Decision, Phase};
-
-/// The field that says whether the player may double.
-const MAY_DOUBLE: usize = 39;
 
 impl Session {
     ghost use Rattle.fibs_session.specs.Calls.SessionOf.{session_of};
