@@ -32,8 +32,8 @@ world_of w = record {
 }
 
 -- It corresponds to a world of the machine, for the command that logs the user in. Of each connection it has the bytes
--- that the machine has on their way, and whether the machine's server took a line. Of the bytes that were taken it says
--- nothing: a wire of the program may still hold some, at most as many as are on their way (`HoldsFewTaken`).
+-- that the machine has on their way, and whether the machine's server took a line. Of the bytes that were taken it has
+-- none: their room on a wire of the program is room for more.
 pub record StandsFor (v : WorldValue) (login : List ℕ) (w : World) : Type 0 where
   pub board : v.server.board ≡ w.board
   pub logged_in : v.server.logged_in ≡ w.logged_in

@@ -10,7 +10,6 @@ ghost use Rattle.fibs_position.specs.First.{IsFirst};
 ghost use Rattle.fibs_position.specs.GoodBoard.{IsGood, HasFault, faults};
 ghost use Rattle.fibs_position.specs.GoodBoard.{good};
 ghost use Rattle.fibs_position.specs.PositionValue.{position_of, position_value};
-ghost use Rattle.fibs_position.specs.BoardEffect.{is_die};
 ghost use Rattle.fibs_machine.specs.Server.{answered, obeyed, own_refusal, user_decides};
 
 use crate::entry::Entry;
@@ -70,13 +69,6 @@ impl Served {
             }),
         }
     }
-}
-
-/// It is a number of a die.
-pub fn is_die(number: u8) -> bool
-    ensures { result ≡ is_die number }
-{
-    0 < number && number <= 6
 }
 
 /// A model of the server: a good board with its position, and the number of the connection that is logged in. The

@@ -1,7 +1,7 @@
 //! Wires, and the bytes on them.
 
-ghost use Rattle.std.specs.Prelude.{◌≡◌, ◌≤◌, ◌+◌, ◌++◌, [], length, take, drop, count_by, option_map};
-ghost use Rattle.std.specs.Prelude.{IfSome, IfOk, OnOk, vec_len, vec_capacity};
+ghost use Rattle.std.specs.Prelude.{◌≡◌, ◌≤◌, ◌<◌, ◌+◌, ◌-◌, ◌*◌, ◌++◌, [], length, take, drop, count_by, max};
+ghost use Rattle.std.specs.Prelude.{IfSome, IfOk, OnOk, OnErr, option_map, vec_len, vec_capacity};
 ghost use Rattle.fibs_lines.specs.Lines.{value_of};
 ghost use Rattle.fibs_lines.specs.Lines.{is_line_end, lines_of};
 ghost use Rattle.fibs_history.specs.Hearing.{line_reading};
@@ -18,9 +18,9 @@ use std::marker::Model;
 
 /// A wire one way: bytes are put at its end and taken at its front, and it has those on their way.
 ///
-/// Bytes that were taken go when they are more than those on their way, which are then moved to the front: fewer bytes
-/// than were taken since the last time. So all moves together are of fewer bytes than were taken, and beside the bytes
-/// on their way a wire holds at most as many that were taken.
+/// It is a ring in one piece: the room of bytes that were taken is room for more. Those on their way are moved to the
+/// front if there is no room behind them; then the wire grows to twice what it has to hold, if memory can be had, so
+/// that it moves none before as many were put. It never holds room for more than twice what was on it at once.
 #[derive(Drop)]
 pub struct Wire {
     bytes: Vec<u8>,
@@ -29,13 +29,13 @@ pub struct Wire {
 }
 
 impl Model for Wire {
-    ghost use Rattle.fibs_model.specs.WireOf.{WireValue, wire_value, HoldsFewTaken};
+    ghost use Rattle.fibs_model.specs.WireOf.{WireValue, wire_value, IsWithin};
 
     ghost Value = { WireValue };
 
     ghost view = { wire_value };
 
-    ghost invariant = { HoldsFewTaken };
+    ghost invariant = { IsWithin };
 }
 
 /// The length of the text before the first CR LF.
@@ -77,6 +77,41 @@ fn remove_front(bytes: &mut Vec<u8>, count: usize)
     bytes.truncate(len - count);
 }
 
+/// Moves the bytes that were not taken to the front, unless there is room for more behind them without that. Gives how
+/// many that were taken are then before them.
+fn room_behind(bytes: &mut Vec<u8>, taken: usize, more: usize) -> usize
+    requires within { taken ≤ vec_len bytes.old }
+    requires room { more ≤ vec_capacity bytes.old - (vec_len bytes.old - taken) }
+    ensures items { drop result bytes.new.items ≡ drop taken bytes.old.items }
+    ensures within { result ≤ vec_len bytes.new }
+    ensures left { vec_len bytes.new - result ≡ vec_len bytes.old - taken }
+    ensures room { vec_len bytes.new + more ≤ vec_capacity bytes.new }
+    ensures capacity { vec_capacity bytes.new ≡ vec_capacity bytes.old }
+{
+    if more <= bytes.capacity() - bytes.len() {
+        return taken;
+    }
+    remove_front(bytes, taken);
+    0
+}
+
+/// Makes room for more bytes behind those that are there: for twice what it has to hold, or if that can't be had, for
+/// no more than is asked for.
+fn grow(bytes: &mut Vec<u8>, more: usize) -> Result<(), AllocError>
+    ensures items { bytes.new.items ≡ bytes.old.items }
+    ensures len { vec_len bytes.new ≡ vec_len bytes.old }
+    ensures ok { OnOk result (vec_len bytes.new + more ≤ vec_capacity bytes.new) }
+    ensures full { OnErr result (vec_capacity bytes.old < vec_len bytes.old + more) }
+    ensures capacity { vec_capacity bytes.old ≤ vec_capacity bytes.new }
+    ensures bound { vec_capacity bytes.new ≤ max (vec_capacity bytes.old) (2 * (vec_len bytes.old + more)) }
+{
+    let ahead = bytes.len().saturating_add(more);
+    match bytes.reserve_exact(more.saturating_add(ahead)) {
+        Ok(()) => Ok(()),
+        Err(_) => bytes.reserve_exact(more),
+    }
+}
+
 impl Wire {
     /// A wire with nothing on it.
     pub fn new(alloc: Global) -> Wire
@@ -99,12 +134,19 @@ impl Wire {
         })
     }
 
-    /// Makes room for more bytes.
+    /// Makes room for more bytes. It is refused only if the wire is too full for them.
     pub fn reserve(&mut self, more: usize) -> Result<(), AllocError>
         ensures items { self.new.items ≡ self.old.items }
         ensures room { OnOk result (more ≤ self.new.room) }
+        ensures full { OnErr result (self.old.room < more) }
+        ensures bound { self.new.room ≤ max self.old.room (length self.old.items + 2 * more) }
     {
-        self.bytes.reserve(more)
+        if more <= self.bytes.capacity() - self.bytes.len() {
+            return Ok(());
+        }
+        remove_front(&mut self.bytes, self.taken);
+        self.taken = 0;
+        grow(&mut self.bytes, more)
     }
 
     /// The bytes on their way.
@@ -128,17 +170,19 @@ impl Wire {
         ensures items { self.new.items ≡ self.old.items ++ on_wire text.now }
         ensures room { self.old.room ≤ self.new.room + (length text.now + 2) }
     {
+        self.taken = room_behind(&mut self.bytes, self.taken, text.len() + 2);
         append(&mut self.bytes, text);
     }
 
-    /// Takes the first bytes from the wire.
+    /// Takes the first bytes from the wire: their room is room for more.
     pub fn take(&mut self, count: usize)
         requires { count ≤ length self.old.items }
-        ensures { self.new.items ≡ drop count self.old.items }
+        ensures items { self.new.items ≡ drop count self.old.items }
+        ensures room { self.new.room ≡ self.old.room + count }
     {
         self.taken += count;
-        if self.bytes.len() - self.taken < self.taken {
-            remove_front(&mut self.bytes, self.taken);
+        if self.taken == self.bytes.len() {
+            self.bytes.clear();
             self.taken = 0;
         }
     }

@@ -11,9 +11,9 @@ ghost use Rattle.fibs_model.specs.WorldOf.{StandsFor};
 use super::World;
 use super::link::Link;
 use crate::event::Event;
-use crate::server::is_die;
 use crate::wire::{is_board_text, whole_line};
 use fibs_machine::WorldRefusal;
+use fibs_position::is_die;
 
 /// Why a line of a connection may not be served.
 #[tactic(auto, unfolding(crate::specs::Calls::serve_refusal))]
