@@ -35,8 +35,6 @@ def main():
     words = sys.argv[2:]
     beside = stuck.SCENES + whole.SCENES + play.SCENES + logs.SCENES
     alone = escapes.SCENES + costs.SCENES
-    if words:
-        beside = beside + stuck.WANTED
     chosen = [[scene for scene in scenes if not words or any(word in scene.__name__ for word in words)]
               for scenes in (beside, alone)]
     failed = 0

@@ -170,7 +170,7 @@ def the_same_first_board_in_the_next_match(table):
     bob.sees("Type 'join ann' to accept.")
     bob.send('join ann')
     bob.sees('Starting a new game with ann.')
-    ann.reads("It's your turn to move.")
+    ann.reads('Starting a new game with bob.')
     ann.type(sends(ann.hint_for('send ' + move, 'bye')))
     bob.sees('ann moves ..')
     ann.was_not_refused()
@@ -315,8 +315,5 @@ SCENES = [
     a_roll_crosses_the_opponents_drop, a_double_that_the_server_refuses_once, a_double_that_the_match_forbids,
     the_same_first_board_in_the_next_match, the_opponents_resignation_is_accepted,
     the_opponents_resignation_is_rejected, what_the_client_takes_is_not_sent_as_it_is, a_double_of_the_opponent,
-    a_wrong_password, a_connection_that_ends, no_server,
+    a_wrong_password, a_wrong_password_at_rest, a_connection_that_ends, no_server,
 ]
-
-# What the program does not do yet: played if it is named.
-WANTED = [a_wrong_password_at_rest]

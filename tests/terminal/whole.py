@@ -103,10 +103,6 @@ def at_most_thirty_rows_a_turn():
         raise Failed('%d rows a turn; the middle is %d; the worst is %r' % (max(rows), middle, worst))
 
 
-def columns_of(lines):
-    return max(len(line) for line in lines)
-
-
 def at_most_79_columns():
     follower = match_by_hints('--mixed-sides', seed=4)
     lines = follower.ann.lines()
@@ -117,7 +113,7 @@ def at_most_79_columns():
 
 def on_a_small_terminal():
     """60 by 15, as the environment has it: the picture and its hint fit."""
-    follower = match_by_hints(seed=5, columns=60, rows=15, COLUMNS='60', LINES='15')
+    follower = match_by_hints(seed=5, columns=60, rows=15, COLUMNS='60')
     lines = follower.ann.lines()
     drawn = [line for line in lines if PICTURE.fullmatch(line)]
     same('boards were drawn', len(drawn) > 50, True)
@@ -137,10 +133,11 @@ def letters_in_bold():
     for name, more in (('xterm', {'TERM': 'xterm'}), ('dumb', {'TERM': 'dumb'}),
                        ('NO_COLOR', {'TERM': 'xterm', 'NO_COLOR': '1'})):
         screen = match_by_hints(seed=6, **more).ann.screen()
-        seen[name] = '\x1b[' in screen
+        seen[name] = '\x1b[1m' in screen, '\x1b[35m' in screen
         rest = re.sub(r'\x1b\[[0-9;]*m', '', screen)
         same('what else acts on the terminal with ' + name, '\x1b' in rest, False)
-    same('bold letters', seen, {'xterm': True, 'dumb': False, 'NO_COLOR': False})
+    same('bold letters, and a last move that is marked', seen,
+         {'xterm': (True, True), 'dumb': (False, False), 'NO_COLOR': (False, False)})
 
 
 def the_bell():

@@ -144,7 +144,7 @@ fn shown<N: Net<Listener = TcpListener, Stream = TcpStream>, R: Read>(
         quiet: Duration::from_millis(millis),
     };
     if call.log.is_some() || rt.stdout().is_terminal() {
-        return play(rt, net, place, call.name, call.log, input);
+        return play(rt, net, place, millis, call.name, call.log, input);
     }
     converse_at(
         net,

@@ -5,10 +5,8 @@ use jiff::tz::{SystemTimeZone, TimeZoneDatabase};
 use jiff::{Error, Timestamp};
 use std::env;
 
-/// The columns and rows of a terminal that does not tell them.
+/// The columns of a terminal that does not tell them.
 const COLUMNS: usize = 80;
-
-const ROWS: usize = 24;
 
 /// Whether a variable is there, and is not empty.
 fn is_set(rt: &HostRuntime, name: &str) -> bool {
@@ -82,7 +80,6 @@ pub fn settings<'a>(rt: &HostRuntime, host: &'a str, port: u16) -> Settings<'a> 
     let dumb = is(rt, "TERM", "dumb") || !is_set(rt, "TERM");
     Settings {
         columns: number(rt, "COLUMNS", COLUMNS),
-        rows: number(rt, "LINES", ROWS),
         colour: !dumb && !is_set(rt, "NO_COLOR"),
         bell: !is_set(rt, "FIBS_QUIET"),
         utf8: is_utf8(rt),

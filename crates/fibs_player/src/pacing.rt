@@ -1,5 +1,7 @@
 //! Connections that leave a person time to type.
 
+ghost use Rattle.std.specs.Io.{ReadsAtMost};
+
 use fibs_connect::dial::{Dial, Server};
 use fibs_exchange::link::Link;
 use std::io;
@@ -9,17 +11,49 @@ use std::net::{Net, TcpStream};
 /// How often a server is read before what was typed meanwhile is looked at.
 const READS_AT_ONCE: u32 = 64;
 
-/// A stream that is quiet after so many reads, though more may have come. So a turn ends in time, whatever is sent.
+/// For how many milliseconds a server is waited for that asks for the login: it was sent, and the answer is on its way.
+const LOGIN_MILLIS: u64 = 2000;
+
+/// What a server prints that wants a login.
+const LOGIN_PROMPT: &[u8] = b"login: ";
+
+/// A stream that is quiet after so many reads, though more may have come. So a turn ends in time, whatever is sent. Once it
+/// is not quiet for a while: where the server has just asked for the login. So a turn that ends there was not answered.
 #[derive(Drop)]
 pub struct Paced<S: Link + Drop> {
     stream: S,
     reads: u32,
+    /// How often a quiet stream is read again where the server asks for the login.
+    patience: u64,
+    /// The server has asked for the login, and has said nothing since.
+    asked: bool,
 }
 
 impl<S: Link + Drop> Paced<S> {
     /// The same stream, of which nothing was read in this turn.
-    pub fn new(stream: S) -> Paced<S> {
-        Paced { stream, reads: 0 }
+    pub fn new(stream: S, patience: u64) -> Paced<S> {
+        Paced {
+            stream,
+            reads: 0,
+            patience,
+            asked: false,
+        }
+    }
+
+    /// Reads once more after each quiet read, if the server asks for the login.
+    fn receive_patiently(&mut self, buf: &mut [u8]) -> io::Result<usize>
+        ensures { ReadsAtMost result buf.new }
+    {
+        if self.asked {
+            self.asked = false;
+            for _ in 0..self.patience {
+                match self.stream.receive(buf) {
+                    Err(error) if is_quiet(error.kind()) => {}
+                    answer => return answer,
+                }
+            }
+        }
+        self.stream.receive(buf)
     }
 }
 
@@ -46,8 +80,11 @@ impl<S: Link + Drop> Link for Paced<S> {
             return Err(io::Error::from(ErrorKind::WouldBlock));
         }
         self.reads += 1;
-        match self.stream.receive(buf) {
-            Ok(count) => Ok(count),
+        match self.receive_patiently(buf) {
+            Ok(count) => {
+                self.asked = buf[..count].ends_with(LOGIN_PROMPT);
+                Ok(count)
+            }
             Err(error) => {
                 self.reads = 0;
                 Err(error)
@@ -60,16 +97,25 @@ impl<S: Link + Drop> Link for Paced<S> {
     }
 }
 
+/// Whether a read was answered by nothing.
+fn is_quiet(kind: ErrorKind) -> bool {
+    kind == ErrorKind::WouldBlock || kind == ErrorKind::TimedOut
+}
+
 /// A server whose connections are paced.
 #[derive(Drop)]
 pub struct PacedServer<'a, N: Net<Stream = TcpStream>> {
     server: Server<'a, N>,
+    patience: u64,
 }
 
 impl<'a, N: Net<Stream = TcpStream>> PacedServer<'a, N> {
-    /// The same server.
-    pub fn new(server: Server<'a, N>) -> PacedServer<'a, N> {
-        PacedServer { server }
+    /// The same server, each read of which waits so many milliseconds.
+    pub fn new(server: Server<'a, N>, millis: u64) -> PacedServer<'a, N> {
+        PacedServer {
+            server,
+            patience: LOGIN_MILLIS / millis.max(1),
+        }
     }
 }
 
@@ -78,7 +124,7 @@ impl<N: Net<Stream = TcpStream>> Dial for PacedServer<'_, N> {
 
     fn dial(&mut self) -> Result<Paced<TcpStream>, ErrorKind> {
         match self.server.dial() {
-            Ok(stream) => Ok(Paced::new(stream)),
+            Ok(stream) => Ok(Paced::new(stream, self.patience)),
             Err(why) => Err(why),
         }
     }

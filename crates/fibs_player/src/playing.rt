@@ -25,12 +25,13 @@ fn can_log(rt: &HostRuntime, path: Option<&str>) -> bool {
     }
 }
 
-/// Talks with a server at a place: as a terminal shows it, if the standard output is one, and with a log, if one is
-/// asked for.
+/// Talks with a server at a place, each read of which waits so many milliseconds: as a terminal shows it, if the standard
+/// output is one, and with a log, if one is asked for.
 pub fn play<N: Net<Stream = TcpStream>, R: Read>(
     rt: &HostRuntime,
     net: &N,
     place: Place<'_>,
+    millis: u64,
     name: &str,
     log: Option<&str>,
     input: &mut R,
@@ -46,7 +47,7 @@ pub fn play<N: Net<Stream = TcpStream>, R: Read>(
     if rt.stdout().is_terminal() {
         let shown = settings(rt, place.host, place.port);
         let mut front = Terminal::new(alloc, rt.stdout(), rt, shown);
-        let mut server = LoggedServer::new(PacedServer::new(server), rt, log);
+        let mut server = LoggedServer::new(PacedServer::new(server, millis), rt, log);
         converse_on(
             &mut server,
             alloc,

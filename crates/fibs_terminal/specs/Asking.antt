@@ -1,10 +1,15 @@
 -- What a typed line asks for (the project's own).
-use Rattle.std.specs.Prelude.{◌≡◌, true, false, ℕ, List, Result, OnOk, IfOk}
+use Rattle.std.specs.Prelude.{◌≡◌, true, false, ℕ, nat_lt, length, List, [], None, Result, OnOk, IfOk}
 use Rattle.fibs_session.specs.History.Machine.{Talk}
 use Rattle.fibs_session.specs.Calls.Standing.{ClientValue, StandsAfter}
 use Rattle.fibs_front.specs.Typing.{typed_now, is_command, would_take}
+use Rattle.fibs_front.specs.Wishes.{WishValue, takes_turn, is_too_long, typed_limit}
 use Rattle.fibs_front.specs.declared.wish.Wish.{Wish}
 use Rattle.fibs_front.specs.declared.wish.Wish.TheVariants.{Send}
+
+-- an empty line hears the server, and one that is too long asks for nothing that can be
+abbrev pub AsksInBounds : List ℕ → WishValue → Type 0
+AsksInBounds line wish = (line ≡ [] → wish ≡ takes_turn None) × (nat_lt typed_limit (length line) ≡ true → wish ≡ is_too_long)
 
 -- what the client knows is never respelled: a decision, a line to people, an order
 abbrev pub KnownStays : {E : Type 0} → ClientValue → List ℕ → List ℕ → Result Wish E → Type 0

@@ -3,7 +3,8 @@ ghost use Rattle.std.specs.Prelude.{◌≡◌, ◌≤◌};
 ghost use Rattle.fibs_boards.specs.StoredBoard.{fields_of};
 ghost use Rattle.fibs_position.specs.PositionValue.{position_of, position_value};
 
-use crate::picture::append_picture;
+use crate::came::{Came, came_since, nothing_came};
+use crate::picture::append_marked;
 use crate::screen::Screen;
 use fibs_boards::board::Board;
 use fibs_position::{Phase, Position};
@@ -112,11 +113,20 @@ impl<'a, C: Clock + Drop> Screen<'a, C> {
         }
         if again {
             self.memory.answered = true;
+            self.memory.advised = false;
         }
         if self.is_drawn_whole(board, phase) {
             self.memory.asked = false;
+            let came = self.came(board, position);
+            append_marked(
+                self.alloc,
+                board,
+                position,
+                &came,
+                &self.settings,
+                &mut self.text,
+            )?;
             self.memory.drawn = Some(*board);
-            append_picture(self.alloc, board, position, &self.settings, &mut self.text)?;
         } else if !again {
             self.say_board(board, phase)?;
         }
@@ -125,37 +135,62 @@ impl<'a, C: Clock + Drop> Screen<'a, C> {
             self.say(b"\n")?;
         }
         self.memory.heard = Some((*board, phase));
+        self.memory.said.clear();
         Ok(())
     }
 
-    /// Says in a row what a board is that is not drawn.
-    fn say_board(&mut self, board: &Board, phase: Phase) -> Result<(), AllocError> {
-        match phase {
-            Phase::Move => {
-                self.say(b"You roll ")?;
-                self.say_dice(die(board, 34), die(board, 35))
+    /// Where the opponent has moved to since the board that was drawn before this one.
+    fn came(&mut self, board: &Board, position: &Position) -> Came {
+        if let Some(drawn) = &self.memory.drawn {
+            if is_moved(drawn, board) {
+                self.memory.drawn_before = Some(*drawn);
             }
-            Phase::Passing => self.say(b"You can't move: the server passes for you.\n"),
-            Phase::OpponentActs => self.say_opponents_turn(board),
-            Phase::RollOrDouble | Phase::AnswerDouble | Phase::Over => Ok(()),
+        }
+        match &self.memory.drawn_before {
+            Some(before) => came_since(before, board, position),
+            None => nothing_came(),
         }
     }
 
-    /// Says that the opponent has the turn, and his dice, if they are shown.
-    fn say_opponents_turn(&mut self, board: &Board) -> Result<(), AllocError> {
-        self.say(front(board.opponent().bytes()))?;
-        if die(board, 36) == 0 {
-            return self.say(b"'s turn.\n");
+    /// Says in a row what a board is that is not drawn, if the server's last text does not say it.
+    fn say_board(&mut self, board: &Board, phase: Phase) -> Result<(), AllocError> {
+        let mut row = Vec::new(self.alloc);
+        append_board(board, phase, &mut row)?;
+        if row.is_empty() || row.as_slice() == self.memory.said.as_slice() {
+            return Ok(());
         }
-        self.say(b" rolls ")?;
-        self.say_dice(die(board, 36), die(board, 37))
+        self.text.extend_from_slice(row.as_slice())?;
+        self.say(b"\n")
     }
+}
 
-    /// Says two dice.
-    fn say_dice(&mut self, first: i32, second: i32) -> Result<(), AllocError> {
-        self.say(Buffer::new().format(first).as_bytes())?;
-        self.say(b" and ")?;
-        self.say(Buffer::new().format(second).as_bytes())?;
-        self.say(b".\n")
+/// Appends in a row what a board is that is not drawn.
+fn append_board(board: &Board, phase: Phase, row: &mut Vec<u8>) -> Result<(), AllocError> {
+    match phase {
+        Phase::Move => {
+            row.extend_from_slice(b"You roll ")?;
+            append_dice(die(board, 34), die(board, 35), row)
+        }
+        Phase::Passing => row.extend_from_slice(b"You can't move: the server passes for you."),
+        Phase::OpponentActs => append_opponents_turn(board, row),
+        Phase::RollOrDouble | Phase::AnswerDouble | Phase::Over => Ok(()),
     }
+}
+
+/// Appends that the opponent has the turn, and his dice, if they are shown.
+fn append_opponents_turn(board: &Board, row: &mut Vec<u8>) -> Result<(), AllocError> {
+    row.extend_from_slice(front(board.opponent().bytes()))?;
+    if die(board, 36) == 0 {
+        return row.extend_from_slice(b"'s turn.");
+    }
+    row.extend_from_slice(b" rolls ")?;
+    append_dice(die(board, 36), die(board, 37), row)
+}
+
+/// Appends two dice.
+fn append_dice(first: i32, second: i32, row: &mut Vec<u8>) -> Result<(), AllocError> {
+    row.extend_from_slice(Buffer::new().format(first).as_bytes())?;
+    row.extend_from_slice(b" and ")?;
+    row.extend_from_slice(Buffer::new().format(second).as_bytes())?;
+    row.extend_from_slice(b".")
 }

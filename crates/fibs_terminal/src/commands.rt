@@ -1,5 +1,7 @@
 //! What a line asks for that is typed at a terminal.
-ghost use Rattle.fibs_terminal.specs.Asking.{KnownStays, SendsUntaken};
+ghost use Rattle.std.specs.Prelude.{IfOk};
+ghost use Rattle.fibs_front.specs.Wishes.{wish_value};
+ghost use Rattle.fibs_terminal.specs.Asking.{AsksInBounds, KnownStays, SendsUntaken};
 
 use crate::screen::Screen;
 use fibs_advice::offers::{append_offers, offered};
@@ -84,6 +86,7 @@ impl<'a, C: Clock + Drop> Screen<'a, C> {
         directory: &Directory,
         line: &mut TypedLine,
     ) -> Result<Wish, AllocError>
+        ensures asks { IfOk result (λ wish. AsksInBounds line.old.items (wish_value wish line.new.items)) }
         ensures known { KnownStays client.now line.old.items line.new.items result }
         ensures sent { SendsUntaken client.now line.new.items result }
     {

@@ -3,6 +3,7 @@
 #![tactic(auto)]
 
 mod boards;
+mod came;
 mod commands;
 pub mod laws;
 mod listening;

@@ -5,6 +5,7 @@ use fibs_fields::name::Name;
 use fibs_fields::split::split;
 use fibs_lines::Line;
 use fibs_messages::{Fault, Message, Reading};
+use fibs_position::Phase;
 use fibs_wording::lists::append_count;
 use fibs_wording::messages::{append_message, append_player};
 use fibs_wording::reasons::append_malformed;
@@ -14,6 +15,17 @@ use std::time::Clock;
 
 /// What the server says of who offers to resign, after his name.
 const OFFERS_TO_RESIGN: &[u8] = b"wants to resign";
+
+/// What the server says to a player who can't move.
+const CANT_MOVE: &[u8] = b"You can't move.";
+
+/// How many bytes of a text are kept, to know a row that would say the same: no row of a board is longer.
+const MOST_KEPT: usize = 80;
+
+/// The first bytes of a text.
+fn front_of(said: &[u8]) -> &[u8] {
+    &said[..said.len().min(MOST_KEPT)]
+}
 
 /// Who offers to resign, if a text says that.
 fn resigner(said: &[u8]) -> Option<&[u8]> {
@@ -27,7 +39,7 @@ fn resigner(said: &[u8]) -> Option<&[u8]> {
 
 /// Whether a text of the server says no more than the hint does, or nothing.
 fn is_said_by_hint(said: &[u8]) -> bool {
-    said.is_empty() || said.starts_with(b"Please move ")
+    said.is_empty() || said.starts_with(b"Please move ") || said.starts_with(b"It's your turn to ")
 }
 
 /// Whether a text of the server may be all that it answers to a decision: not if it tells the user what he does.
@@ -60,11 +72,21 @@ impl<'a, C: Clock + Drop> Screen<'a, C> {
         self.say(b"\n")
     }
 
+    /// Whether a text says that the user can't move, as the board that came last did.
+    fn is_passing(&self, said: &[u8]) -> bool {
+        match &self.memory.heard {
+            None => false,
+            Some((_, phase)) => *phase == Phase::Passing && said == CANT_MOVE,
+        }
+    }
+
     /// Hears a line without a number.
     fn hear_text(&mut self, said: &[u8]) -> Result<(), AllocError> {
-        if is_said_by_hint(said) {
+        if is_said_by_hint(said) || self.is_passing(said) {
             return Ok(());
         }
+        self.memory.said.clear();
+        self.memory.said.extend_from_slice(front_of(said))?;
         if is_answer(said) {
             self.memory.answered = true;
         }
@@ -128,6 +150,10 @@ impl<'a, C: Clock + Drop> Screen<'a, C> {
                 append_player(info, &mut self.memory.change)
             }
             Message::WhoInfoEnd => self.hear_list_end(),
+            Message::Welcome { .. } => {
+                self.memory.logging_in = false;
+                self.say_message(message)
+            }
             Message::Says { .. } | Message::MessageReceived { .. } => {
                 self.ring()?;
                 self.say_message(message)

@@ -10,14 +10,21 @@ use std::alloc::{AllocError, Global};
 pub struct Memory {
     /// Whether to say what may be typed: a board has come since that was said.
     pub owes: bool,
+    /// Whether a login was sent on this connection, and the server has not greeted the user.
+    pub logging_in: bool,
     /// Whether the server has answered by a text, or by the same board, since a decision was sent.
     pub answered: bool,
+    /// Whether it was said what to do while that decision waits, and neither the same board nor a line that was sent as it
+    /// is has come since.
+    pub advised: bool,
     /// Whether the next board is to be drawn whole, since the user has asked for it.
     pub asked: bool,
     /// Whether shouts are kept from the screen, and who comes and goes.
     pub quiet: bool,
     /// The board that was drawn last.
     pub drawn: Option<Board>,
+    /// The board that was drawn before it, or before that one if no checker has moved.
+    pub drawn_before: Option<Board>,
     /// The board that came last, and its phase.
     pub heard: Option<(Board, Phase)>,
     /// How many players were listed since the last list ended.
@@ -26,6 +33,8 @@ pub struct Memory {
     pub change: Vec<u8>,
     /// Who offers to resign, if that is to be said.
     pub resigner: Vec<u8>,
+    /// The text of the server that was shown last, if no board has come since.
+    pub said: Vec<u8>,
     /// Which rule the move breaks that was typed last, if it breaks one.
     pub rule: Vec<u8>,
     /// Whose words are kept from the screen.
@@ -37,14 +46,18 @@ impl Memory {
     pub fn new(alloc: Global) -> Memory {
         Memory {
             owes: false,
+            logging_in: false,
             answered: false,
+            advised: false,
             asked: false,
             quiet: false,
             drawn: None,
+            drawn_before: None,
             heard: None,
             listed: 0,
             change: Vec::new(alloc),
             resigner: Vec::new(alloc),
+            said: Vec::new(alloc),
             rule: Vec::new(alloc),
             gagged: Vec::new(alloc),
         }
@@ -53,12 +66,16 @@ impl Memory {
     /// A connection begins: no board of another one counts.
     pub fn forget_boards(&mut self) {
         self.owes = false;
+        self.logging_in = false;
         self.answered = false;
+        self.advised = false;
         self.asked = false;
         self.drawn = None;
+        self.drawn_before = None;
         self.heard = None;
         self.listed = 0;
         self.resigner.clear();
+        self.said.clear();
     }
 
     /// Whether the words of a player are kept from the screen.

@@ -1,13 +1,15 @@
-//! The picture of a board, as the terminal has it: its own checkers and dice bold, and cut to its columns.
+//! The picture of a board, as the terminal has it: the player's checkers and dice are bold, the opponent's last move is
+//! marked, and it is cut to the columns.
 ghost use Rattle.std.specs.Prelude.{◌≡◌, ◌++◌, OnOk, List, ℕ, true, false};
 ghost use Rattle.fibs_boards.specs.StoredBoard.{fields_of};
 ghost use Rattle.fibs_position.specs.PositionValue.{position_of, position_value};
 ghost use Rattle.fibs_terminal.specs.Drawings.{DrawsBoard, is_plain};
 
+use crate::came::{Came, nothing_came};
 use bstr::ByteSlice;
 use fibs_boards::board::Board;
 use fibs_picture::draw;
-use fibs_position::Position;
+use fibs_position::{Phase, Position};
 use fibs_wording::messages::front;
 use fibs_wording::settings::Settings;
 use std::alloc::{AllocError, Global};
@@ -18,8 +20,26 @@ const PICTURE_COLUMNS: usize = 79;
 /// The columns of the places.
 const BOARD_COLUMNS: usize = 43;
 
-/// What makes letters bold, and what ends that.
+/// The first column of the left half, and of the right one; each place has three columns.
+const LEFT: usize = 2;
+
+const RIGHT: usize = 25;
+
+/// The columns of six places.
+const SIX_PLACES: usize = 18;
+
+/// How many checkers are seen of a place: a number stands for more.
+const MOST_SEEN: usize = 5;
+
+/// The row between the halves, and that of the words below the board.
+const MIDDLE_ROW: usize = 6;
+
+const LAST_ROW: usize = 13;
+
+/// What makes letters bold, what marks those of the opponent's last move, and what ends that.
 const BOLD: &[u8] = b"\x1b[1m";
+
+const CAME: &[u8] = b"\x1b[35m";
 
 const PLAIN: &[u8] = b"\x1b[0m";
 
@@ -32,35 +52,105 @@ fn append_plain(board: &Board, position: &Position, text: &mut Vec<u8>) -> Resul
     draw(board, position, text).map_err(|_| AllocError)
 }
 
-/// Appends a byte in bold.
-fn append_bold(byte: u8, text: &mut Vec<u8>) -> Result<(), AllocError> {
-    text.extend_from_slice(BOLD)?;
+/// The place that stands at a column of a row, by the player's own numbering; 0 if none does.
+fn place_at(row: usize, column: usize) -> u8 {
+    let along = if column >= LEFT && column < LEFT + SIX_PLACES {
+        (column - LEFT) / 3
+    } else if column >= RIGHT && column < RIGHT + SIX_PLACES {
+        (column - RIGHT) / 3 + 6
+    } else {
+        return 0;
+    };
+    if row >= 1 && row < MIDDLE_ROW {
+        13u8.saturating_add(along as u8)
+    } else if row > MIDDLE_ROW && row < LAST_ROW - 1 {
+        12u8.saturating_sub(along as u8)
+    } else {
+        0
+    }
+}
+
+/// How high a row is in its half, from 1 at the edge to 5.
+fn height_of(row: usize) -> usize {
+    if row < MIDDLE_ROW {
+        row
+    } else {
+        (LAST_ROW - 1).saturating_sub(row)
+    }
+}
+
+/// Whether the checker that is seen at a height of a place has come there by the opponent's last move: those that have
+/// come are the innermost ones.
+fn has_come(place: u8, row: usize, position: &Position, came: &Came) -> bool {
+    if place < 1 || place > 24 {
+        return false;
+    }
+    let seen = usize::from(position.other(place)).min(MOST_SEEN);
+    let count = usize::from(came[usize::from(place)]);
+    count > 0 && height_of(row) <= seen && height_of(row).saturating_add(count) > seen
+}
+
+/// What a byte of a picture is marked by.
+#[derive(Clone, Copy, PartialEq, Eq)]
+enum Mark {
+    /// It is the player's.
+    Own,
+    /// It is the opponent's, and has come by his last move.
+    Came,
+    /// It is not marked.
+    None,
+}
+
+/// The mark of a byte: a checker of the player's on a place, or a die of his, or a checker that has come.
+fn mark_of(
+    byte: u8,
+    row: usize,
+    column: usize,
+    dice: bool,
+    position: &Position,
+    came: &Came,
+) -> Mark {
+    let own = (byte == b'O' && column < BOARD_COLUMNS)
+        || (dice && column > BOARD_COLUMNS && byte >= b'1' && byte <= b'6');
+    if own {
+        return Mark::Own;
+    }
+    let place = place_at(row, column);
+    if byte != b' ' && place > 0 && has_come(place, row, position, came) {
+        return Mark::Came;
+    }
+    Mark::None
+}
+
+/// Appends a byte with its mark.
+fn append_byte(byte: u8, mark: Mark, text: &mut Vec<u8>) -> Result<(), AllocError> {
+    match mark {
+        Mark::None => return text.extend_from_slice(&[byte]),
+        Mark::Own => text.extend_from_slice(BOLD)?,
+        Mark::Came => text.extend_from_slice(CAME)?,
+    }
     text.extend_from_slice(&[byte])?;
     text.extend_from_slice(PLAIN)
 }
 
-/// Whether a byte of a row is the player's: a checker of his on a place, or a die below the middle.
-fn is_own(byte: u8, column: usize, dice: bool) -> bool {
-    (byte == b'O' && column < BOARD_COLUMNS)
-        || (dice && column > BOARD_COLUMNS && byte >= b'1' && byte <= b'6')
-}
-
-/// Appends a row: what is the player's in bold, if the terminal has that, and no more than its columns.
+/// Appends a row of a picture, marked, if the terminal can do that, and no wider than it is.
 fn append_row(
-    row: &[u8],
-    lower: bool,
+    bytes: &[u8],
+    row: usize,
+    position: &Position,
+    came: &Came,
     settings: &Settings<'_>,
     text: &mut Vec<u8>,
 ) -> Result<(), AllocError> {
-    let dice = lower && row.contains_str(b" dice ");
-    let shown = &row[..row.len().min(settings.columns)];
+    let dice = row > MIDDLE_ROW && bytes.contains_str(b" dice ");
+    let shown = &bytes[..bytes.len().min(settings.columns)];
     for column in 0..shown.len() {
-        let byte = shown[column];
-        if settings.colour && is_own(byte, column, dice) {
-            append_bold(byte, text)?;
+        let mark = if settings.colour {
+            mark_of(shown[column], row, column, dice, position, came)
         } else {
-            text.extend_from_slice(&[byte])?;
-        }
+            Mark::None
+        };
+        append_byte(shown[column], mark, text)?;
     }
     text.extend_from_slice(b"\n")
 }
@@ -83,24 +173,30 @@ fn append_short(row: &[u8], opponent: &[u8], short: &mut Vec<u8>) -> Result<(), 
     }
 }
 
+/// Whether a row of a picture is shown: the words below the board only if the user can't move, since the hint has the
+/// others, or the row on how the game ended.
+fn is_shown(row: usize, position: &Position) -> bool {
+    row < LAST_ROW || position.phase() == Phase::Passing
+}
+
 /// Appends the rows of a picture.
 fn append_rows(
     alloc: Global,
     picture: &[u8],
     opponent: &[u8],
+    position: &Position,
+    came: &Came,
     settings: &Settings<'_>,
     text: &mut Vec<u8>,
 ) -> Result<(), AllocError> {
-    let mut lower = false;
-    for row in picture.split_str(b"\n") {
-        if !row.is_empty() {
+    let mut row = 0usize;
+    for bytes in picture.split_str(b"\n") {
+        if !bytes.is_empty() && is_shown(row, position) {
             let mut short = Vec::new(alloc);
-            append_short(row, opponent, &mut short)?;
-            append_row(short.as_slice(), lower, settings, text)?;
+            append_short(bytes, opponent, &mut short)?;
+            append_row(short.as_slice(), row, position, came, settings, text)?;
         }
-        if row.contains_str(b"|BAR|") {
-            lower = true;
-        }
+        row = row.saturating_add(1);
     }
     Ok(())
 }
@@ -126,6 +222,22 @@ pub fn append_picture(
     ensures plain { is_plain settings.now ≡ true → OnOk result ((t : List ℕ)
         × DrawsBoard (fields_of board.now) t × (text.new.items ≡ text.old.items ++ t)) }
 {
+    append_marked(alloc, board, position, &nothing_came(), settings, text)
+}
+
+/// The same, with marks where the opponent has come to.
+pub(crate) fn append_marked(
+    alloc: Global,
+    board: &Board,
+    position: &Position,
+    came: &Came,
+    settings: &Settings<'_>,
+    text: &mut Vec<u8>,
+) -> Result<(), AllocError>
+    requires { position_value position.now ≡ position_of (fields_of board.now) }
+    ensures plain { is_plain settings.now ≡ true → OnOk result ((t : List ℕ)
+        × DrawsBoard (fields_of board.now) t × (text.new.items ≡ text.old.items ++ t)) }
+{
     if is_plain(settings) {
         return append_plain(board, position, text);
     }
@@ -135,6 +247,8 @@ pub fn append_picture(
         alloc,
         picture.as_slice(),
         front(board.opponent().bytes()),
+        position,
+        came,
         settings,
         text,
     )

@@ -9,10 +9,14 @@ ghost use Rattle.fibs_terminal.specs.Resting.{SaysOffers};
 use crate::screen::Screen;
 use fibs_advice::offers::{append_offers, offered};
 use fibs_front::fault::FrontFault;
-use fibs_session::{Client, Outstanding};
+use fibs_session::{Client, Outstanding, Refusal};
 use fibs_wording::messages::front;
+use fibs_wording::reasons::refusal_words;
 use std::alloc::AllocError;
 use std::time::Clock;
+
+/// What a server prints that wants a login. The client sends one as soon as it is connected.
+const LOGIN_PROMPT: &[u8] = b"login: ";
 
 impl<'a, C: Clock + Drop> Screen<'a, C> {
     /// Says once what may be typed now, if a board has come; or why nothing goes on, if the server has answered a
@@ -55,10 +59,10 @@ impl<'a, C: Clock + Drop> Screen<'a, C> {
 
     /// Says what to do if a decision waits and the server has answered by words alone.
     fn say_waiting(&mut self, asked: &Outstanding) -> Result<(), AllocError> {
-        if !self.memory.answered {
+        if !self.memory.answered || self.memory.advised {
             return Ok(());
         }
-        self.memory.answered = false;
+        self.memory.advised = true;
         let command = asked.command();
         self.say(command.as_bytes())?;
         self.say(b" was sent and nothing has changed: if ")?;
@@ -68,14 +72,24 @@ impl<'a, C: Clock + Drop> Screen<'a, C> {
         self.say(b"; or bye and open.\n")
     }
 
-    /// Says what may be decided, if a board has come since that was said.
+    /// Says that the user is not logged in, if the server asks for a login though one was sent.
+    fn say_login(&mut self, client: &Client) -> Result<(), AllocError> {
+        if !self.memory.logging_in || !client.unfinished().ends_with(LOGIN_PROMPT) {
+            return Ok(());
+        }
+        self.memory.logging_in = false;
+        self.say(refusal_words(Refusal::NotReady))?;
+        self.say(b"\n")
+    }
+
+    /// Says what may be decided, if a board has come since that was said; else that the login was refused, if it was.
     fn say_offers(&mut self, client: &Client) -> Result<(), AllocError>
         ensures { OnOk result (self.old.memory.owes ≡ true → (o : Offers)
             × ((t : Talk) → StandsAfter client.now t → OffersNow t o)
             × (self.new.text.items ≡ self.old.text.items ++ hint_text o)) }
     {
         if !self.memory.owes {
-            return Ok(());
+            return self.say_login(client);
         }
         self.memory.owes = false;
         let offers = offered(self.alloc, client)?;

@@ -24,7 +24,7 @@ impl<'a, C: Clock + Drop> Screen<'a, C> {
             }
             Said::Confirmed(_) => {
                 self.memory.owes = true;
-                self.memory.answered = false;
+                self.forget_answer();
                 Ok(())
             }
             Said::Sent(command) => self.hear_sent(command),
@@ -50,6 +50,7 @@ impl<'a, C: Clock + Drop> Screen<'a, C> {
     /// A connection was made.
     fn hear_opened(&mut self) -> Result<(), AllocError> {
         self.memory.forget_boards();
+        self.memory.logging_in = true;
         self.say(b"connected to ")?;
         self.say_place()
     }
@@ -74,9 +75,15 @@ impl<'a, C: Clock + Drop> Screen<'a, C> {
         self.say(b"; open tries again\n")
     }
 
+    /// What the server has answered to a decision counts no more.
+    fn forget_answer(&mut self) {
+        self.memory.answered = false;
+        self.memory.advised = false;
+    }
+
     /// A command was sent: it is shown in full.
     fn hear_sent(&mut self, command: &CommandText) -> Result<(), AllocError> {
-        self.memory.answered = false;
+        self.forget_answer();
         self.memory.asked = command.as_bytes() == b"board".as_slice();
         self.say(b"sent ")?;
         self.say(command.as_bytes())?;
@@ -85,6 +92,7 @@ impl<'a, C: Clock + Drop> Screen<'a, C> {
 
     /// Says that a line was sent as it is.
     fn say_passed(&mut self, line: &[u8]) -> Result<(), AllocError> {
+        self.forget_answer();
         self.say(b"sent as it is: ")?;
         append_shown(line, self.settings.utf8, &mut self.text)?;
         self.say(b"\n")

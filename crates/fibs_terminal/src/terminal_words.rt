@@ -1,6 +1,7 @@
 //! A terminal is typed at.
 ghost use Rattle.std.specs.Prelude.{OnOk, IfOk};
-ghost use Rattle.fibs_terminal.specs.Asking.{KnownStays, SendsUntaken};
+ghost use Rattle.fibs_front.specs.Wishes.{wish_value};
+ghost use Rattle.fibs_terminal.specs.Asking.{AsksInBounds, KnownStays, SendsUntaken};
 ghost use Rattle.fibs_terminal.specs.Grown.{Grown};
 ghost use Rattle.fibs_terminal.specs.Resting.{ShowsOffers};
 
@@ -15,7 +16,7 @@ use std::io::Write;
 use std::time::Clock;
 
 impl<W: Write + Drop, C: Clock + Drop> Words for Terminal<'_, W, C> {
-    ghost asks = { λ _ line wish. Unit {0} };
+    ghost asks = { λ _ line wish. AsksInBounds line wish };
 
     fn rest(&mut self, client: &Client, _directory: &Directory) -> Result<(), FrontFault>
         ensures told { OnOk result (Grown (W.contents self.old.out) (W.contents self.new.out)) }
@@ -35,7 +36,7 @@ impl<W: Write + Drop, C: Clock + Drop> Words for Terminal<'_, W, C> {
         line: &mut TypedLine,
     ) -> Result<Wish, FrontFault>
         ensures told { OnOk result (Grown (W.contents self.old.out) (W.contents self.new.out)) }
-        ensures asks { IfOk result (λ wish. Unit {0}) }
+        ensures asks { IfOk result (λ wish. AsksInBounds line.old.items (wish_value wish line.new.items)) }
         // What the client knows is never respelled: a decision, an order, a line to people.
         ensures known { KnownStays client.now line.old.items line.new.items result }
         // What goes to the server as it is, the client would not take.

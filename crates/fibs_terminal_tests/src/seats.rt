@@ -1,5 +1,6 @@
 //! A client and a terminal, to which a server's lines and typed lines are given.
 
+use fibs_front::fault::FrontFault;
 use fibs_front::front::Front;
 use fibs_front::said::Said;
 use fibs_front::typed_line::TypedLine;
@@ -12,7 +13,7 @@ use fibs_session::{Client, CommandText, Directory, Login};
 use fibs_terminal::{Settings, Terminal};
 use std::alloc::Global;
 use std::io;
-use std::io::ErrorKind;
+use std::io::{ErrorKind, Write};
 use std::test::Fail;
 use std::time::{Clock, Duration};
 
@@ -39,6 +40,8 @@ pub enum Step<'a> {
     Types(&'a [u8]),
     /// The terminal lets the user type.
     Rests,
+    /// A connection is made.
+    Opens,
     /// No connection can be made.
     Fails,
     /// The connection is over.
@@ -49,7 +52,6 @@ pub enum Step<'a> {
 pub fn plain_settings() -> Settings<'static> {
     Settings {
         columns: 80,
-        rows: 24,
         colour: false,
         bell: false,
         utf8: false,
@@ -65,7 +67,7 @@ fn hear<F: Front>(
     directory: &mut Directory,
     line: &[u8],
     front: &mut F,
-) -> Result<(), Fail> {
+) -> Result<(), FrontFault> {
     let heard = client.read(line);
     let got = client.got(heard);
     let Some(taken) = got.taken else {
@@ -78,7 +80,7 @@ fn hear<F: Front>(
         }
     }
     if let Reading::Numbered(message) = &taken.reading {
-        directory.note(message)?;
+        directory.note(message).map_err(|_| FrontFault::Output)?;
     }
     if let Some(asked) = &taken.confirmed {
         front.tell(&Said::Confirmed(asked))?;
@@ -87,13 +89,13 @@ fn hear<F: Front>(
 }
 
 /// Tells that a command was sent.
-fn tell_sent<F: Front>(command: &CommandText, front: &mut F) -> Result<(), Fail> {
+fn tell_sent<F: Front>(command: &CommandText, front: &mut F) -> Result<(), FrontFault> {
     front.tell(&Said::Sent(command))?;
     Ok(())
 }
 
 /// Gives a line to the client, and tells what it answers.
-fn say<F: Front>(client: &mut Client, line: &[u8], front: &mut F) -> Result<(), Fail> {
+fn say<F: Front>(client: &mut Client, line: &[u8], front: &mut F) -> Result<(), FrontFault> {
     match read_typed(client, line) {
         Typed::Decision(decision) => match client.decide(&decision) {
             Ok(command) => tell_sent(&command, front),
@@ -114,7 +116,7 @@ fn take_line<F: Words>(
     directory: &Directory,
     line: &[u8],
     front: &mut F,
-) -> Result<(), Fail> {
+) -> Result<(), FrontFault> {
     let mut typed = TypedLine::new();
     let _fits = typed.try_extend_from_slice(line);
     match front.wish(client, directory, &mut typed)? {
@@ -131,11 +133,15 @@ fn take_step<F: Words>(
     directory: &mut Directory,
     step: Step<'_>,
     front: &mut F,
-) -> Result<(), Fail> {
+) -> Result<(), FrontFault> {
     match step {
         Step::Hears(line) => hear(client, directory, line, front),
         Step::Types(line) => take_line(client, directory, line, front),
         Step::Rests => Ok(front.rest(client, directory)?),
+        Step::Opens => {
+            let _login = client.open();
+            Ok(front.tell(&Said::Opened)?)
+        }
         Step::Fails => Ok(front.tell(&Said::NoConnection(ErrorKind::ConnectionRefused))?),
         Step::Loses => {
             let waited = client.lose();
@@ -147,15 +153,24 @@ fn take_step<F: Words>(
 /// What the screen shows after steps, of a user who is connected.
 pub fn shown(alloc: Global, settings: Settings<'_>, steps: &[Step<'_>]) -> Result<Vec<u8>, Fail> {
     let mut shown = Vec::new(alloc);
-    let login = Login::new(b"ann", b"secret").map_err(|_| Fail::from("login"))?;
+    show_on(alloc, settings, steps, &mut shown)?;
+    Ok(shown)
+}
+
+/// The same on any writer.
+pub fn show_on<W: Write + Drop>(
+    alloc: Global,
+    settings: Settings<'_>,
+    steps: &[Step<'_>],
+    out: W,
+) -> Result<(), FrontFault> {
+    let login = Login::new(b"ann", b"secret").map_err(|_| FrontFault::Output)?;
     let mut client = Client::new(login);
     let _login = client.open();
     let mut directory = Directory::new(alloc);
-    {
-        let mut terminal = Terminal::new(alloc, &mut shown, Stopped, settings);
-        for step in steps {
-            take_step(&mut client, &mut directory, *step, &mut terminal)?;
-        }
+    let mut terminal = Terminal::new(alloc, out, Stopped, settings);
+    for step in steps {
+        take_step(&mut client, &mut directory, *step, &mut terminal)?;
     }
-    Ok(shown)
+    Ok(())
 }

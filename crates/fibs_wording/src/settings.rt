@@ -5,8 +5,6 @@
 pub struct Settings<'a> {
     /// How many columns a line may have.
     pub columns: usize,
-    /// How many rows there are.
-    pub rows: usize,
     /// Whether it shows bold letters.
     pub colour: bool,
     /// Whether the bell may ring.
