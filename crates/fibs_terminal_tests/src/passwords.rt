@@ -1,6 +1,6 @@
 //! The first line of what holds a password.
 
-use fibs_seat::first_line;
+use fibs_watch::first_line;
 use std::test::Fail;
 
 #[test]

@@ -1,6 +1,6 @@
 //! What a reader gives if the server speaks.
 
-use fibs_seat::{First, TypedOrHeard, Watch};
+use fibs_watch::{First, TypedOrHeard, Watch};
 use std::alloc::Global;
 use std::io::Read;
 use std::test::Fail;

@@ -2,7 +2,7 @@
 ghost use Rattle.std.specs.Prelude.{◌≡◌, ◌<◌, false, true, None, take, length, [], ◌∷◌, IfOk, OnErr};
 ghost use Rattle.std.specs.Io.{ReadsAtMost};
 ghost use Rattle.std.specs.Io.KnownBytes.{Keeps, IsAtEnd, ReadConsumes};
-ghost use Rattle.fibs_seat.specs.Weaving.{Gives, begun_after};
+ghost use Rattle.fibs_watch.specs.Weaving.{Gives, begun_after};
 
 use crate::watch::{First, Watch};
 use std::io;

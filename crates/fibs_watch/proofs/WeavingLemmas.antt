@@ -2,7 +2,7 @@
 use Rattle.std.proofs.Common.{◌≡◌, ◌==◌, ◌<◌, ◌-◌, ℕ, suc, Bool, true, false, cond, not, List, [], ◌∷◌, ◌++◌, length}
 use Rattle.std.proofs.Common.{Some, refl, arith, sym, ap, inl, inr}
 use Rattle.std.specs.Prelude.{slice_get, slice_set, take}
-use Rattle.fibs_seat.specs.Weaving.{begun_after, Woven, Gives, without_empty}
+use Rattle.fibs_watch.specs.Weaving.{begun_after, Woven, Gives, without_empty}
 
 -- whether a line is begun is known by the last byte
 pub begun-by-last : (b : Bool) (xs : List ℕ) (x : ℕ) → Some x ≡ slice_get xs (length xs - 1)

@@ -1,5 +1,5 @@
 //! What reads in a row give.
-ghost use Rattle.fibs_seat.specs.Weaving.{GivesWoven, WovenJoins, WovenInEmptyLines};
+ghost use Rattle.fibs_watch.specs.Weaving.{GivesWoven, WovenJoins, WovenInEmptyLines};
 
 /// What one read gave is woven of what it took.
 pub fn reads_weave()
