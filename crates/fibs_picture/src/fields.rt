@@ -1,4 +1,4 @@
-//! The numbers of the fields of a board line that a picture shows.
+//! The fields of a board that a picture shows.
 ghost use Rattle.std.specs.Prelude.{◌≡◌, ◌≤◌};
 ghost use Rattle.fibs_boards.specs.Board.{field_of};
 ghost use Rattle.fibs_boards.specs.StoredBoard.{fields_of};
@@ -6,30 +6,6 @@ ghost use Rattle.fibs_position.specs.OwnView.{natural};
 ghost use Rattle.fibs_picture.specs.Picture.{is_one};
 
 use fibs_boards::board::Board;
-
-pub const MATCH_LENGTH: usize = 4;
-
-pub const OWN_SCORE: usize = 5;
-
-pub const OTHER_SCORE: usize = 6;
-
-pub const TURN: usize = 33;
-
-pub const OWN_DICE: usize = 34;
-
-pub const OTHER_DICE: usize = 36;
-
-pub const CUBE: usize = 38;
-
-pub const MAY_DOUBLE: usize = 39;
-
-pub const OTHER_MAY_DOUBLE: usize = 40;
-
-pub const COLOUR: usize = 42;
-
-pub const OWN_OFF: usize = 46;
-
-pub const OTHER_OFF: usize = 47;
 
 /// A die, 0 if there is none.
 pub fn die(board: &Board, field: usize) -> u8

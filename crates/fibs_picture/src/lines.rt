@@ -9,12 +9,13 @@ ghost use Rattle.fibs_position.specs.PositionValue.{position_value};
 ghost use Rattle.fibs_picture.specs.Picture.{line, edge, layer, middle, named, score, off, pips, dice};
 ghost use Rattle.fibs_picture.specs.Picture.{match_length, cube, turn_words, deed_in};
 
-use crate::fields::{COLOUR, CUBE, MATCH_LENGTH, MAY_DOUBLE, OTHER_MAY_DOUBLE, TURN, die, is_one};
+use crate::fields::{die, is_one};
 use crate::half::Half;
 use crate::layers::{draw_edge, draw_layer};
 use crate::words::{deed_in, doublers, turn_words, write_name, write_two_dice};
 use crate::writing::{write_digits, write_number, write_text};
 use fibs_boards::board::Board;
+use fibs_boards::fields::{COLOUR, CUBE, MATCH_LENGTH, MAY_DOUBLE, OTHER_MAY_DOUBLE, TURN};
 use fibs_position::Position;
 use std::io;
 use std::io::Write;

@@ -11,7 +11,6 @@ ghost use Rattle.fibs_picture.specs.Picture.{line, upper_lines, lower_lines, dra
 ghost use Rattle.fibs_picture.specs.Picture.{named, score, off, pips, own_pips, other_pips, dice, match_length};
 ghost use Rattle.fibs_picture.specs.Picture.{cube, turn_words};
 
-use crate::fields::{OTHER_DICE, OTHER_OFF, OTHER_SCORE, OWN_DICE, OWN_OFF, OWN_SCORE};
 use crate::half::Half;
 use crate::lines::{
     cube_line, deed_line, dice_line, edge_line, match_line, off_line, pips_line, score_line,
@@ -19,6 +18,7 @@ use crate::lines::{
 };
 use crate::pips::{other_pips, own_pips};
 use fibs_boards::board::Board;
+use fibs_boards::fields::{FIRST_DIE, OTHER_FIRST_DIE, OTHER_OFF, OTHER_SCORE, OWN_OFF, OWN_SCORE};
 use fibs_position::Position;
 use std::io;
 use std::io::Write;
@@ -53,7 +53,7 @@ fn draw_game<W: Write>(board: &Board, position: &Position, out: &mut W) -> io::R
         ∷ (layer p Half.Upper 5, match_length (field_of b 4))
         ∷ (middle, cube b) ∷ []))) }
 {
-    dice_line(board, position, Half::Upper, OTHER_DICE, out)?;
+    dice_line(board, position, Half::Upper, OTHER_FIRST_DIE, out)?;
     match_line(board, position, out)?;
     cube_line(board, out)
 }
@@ -78,7 +78,7 @@ fn draw_turn<W: Write>(board: &Board, position: &Position, out: &mut W) -> io::R
         ∷ (layer p Half.Lower 3, pips (own_pips p.standing.checkers)) ∷ []))) }
 {
     turn_line(board, position, out)?;
-    dice_line(board, position, Half::Lower, OWN_DICE, out)?;
+    dice_line(board, position, Half::Lower, FIRST_DIE, out)?;
     pips_line(position, Half::Lower, own_pips(position), out)
 }
 
