@@ -184,7 +184,7 @@ fn a_line_may_come_in_three_turns(rt: HostRuntime) {
 }
 
 /// What is typed, the command that is sent, and the answer.
-static TYPED: [(&[u8], &[u8], &[u8]); 18] = [
+static TYPED: [(&[u8], &[u8], &[u8]); 19] = [
     (b"dance", b"", b"unknown\n"),
     (b"", b"", b"unknown\n"),
     (b"roll ", b"", b"unknown\n"),
@@ -202,17 +202,24 @@ static TYPED: [(&[u8], &[u8], &[u8]); 18] = [
     (b"say ", b"", b"fault 2 BadText\n"),
     (b"invite bob 5", b"invite bob 5\r\n", b"sent invite bob 5\n"),
     (b"toggle automove", b"", b"refused 10 NotOn\n"),
+    (b"toggle ready", b"toggle ready\r\n", b"sent toggle ready\n"),
     (b"bye", b"bye\r\n", b"sent bye\n"),
 ];
 
+/// After each typed line, whatever it is, the server is heard in the same turn.
 #[test]
 fn typed_lines_are_answered(rt: HostRuntime) {
     for (typed, command, answer) in &TYPED {
         for most in [1, 2, 7, 1000] {
             let mut seat = Seat::open(&rt, most);
             seat.hears(&rt, &[READY]);
-            seat.types(&rt, typed, &[]);
-            seat.assert_did(&rt, "a typed line", &[SENT, command], &[PRINTED, answer]);
+            seat.types(&rt, typed, &[b"hi\r\n"]);
+            seat.assert_did(
+                &rt,
+                "a typed line",
+                &[SENT, command],
+                &[PRINTED, answer, b"text hi\n"],
+            );
         }
     }
 }

@@ -106,6 +106,19 @@ fn escapes(count: usize) -> Text {
     text
 }
 
+/// There is room for a line of any length, each of whose bytes is escaped.
+#[test]
+fn a_line_of_any_length_is_one_write(rt: HostRuntime) {
+    for length in [0usize, 511, 512, 513, 600, 1000, 2000, 2057, 2058, 4096] {
+        let wanted = Counts {
+            writes: 1,
+            bytes: length.saturating_mul(4).saturating_add(6),
+        };
+        let input = joined(&[&escapes(length), b"\r\n"]);
+        assert_eq!(rt; counted(&rt, None, &input, QUIET), wanted, "{length} bytes");
+    }
+}
+
 /// There is room for the longest line, each of whose bytes is escaped: one that is kept whole, one that is cut, and a
 /// message.
 #[test]

@@ -1,7 +1,7 @@
-//! What neither the built program nor the library for C shows of sessions and clients. Their histories, worked out by hand,
-//! are run by a client in Python: tests/worlds.
+//! Worked rows of a client, and what neither the built program nor the library for C shows of sessions and clients. More
+//! histories, worked out by hand, are told to a client in Python: tests/worlds.
 
-use crate::lines::{INFO, INFO_NO_AUTOBOARD, NO_DOUBLE, TO_MOVE, TO_ROLL, WELCOME};
+use crate::lines::{INFO, INFO_AUTOMOVE, INFO_NO_AUTOBOARD, NO_DOUBLE, TO_MOVE, TO_ROLL, WELCOME};
 use fibs_lines::Line;
 use fibs_messages::{Board, Reading};
 use fibs_position::Decision;
@@ -108,6 +108,85 @@ fn a_piece_is_used_up_to_its_first_line_end(rt: HostRuntime) -> Result<(), Fail>
     assert!(rt; client.lose().is_none());
     let got = client.feed(TO_ROLL);
     assert!(rt; got.used == TO_ROLL.len() && got.taken.is_none(), "offline");
+    Ok(())
+}
+
+/// Half a line is forgotten with its connection: its other half is a text on the next one.
+#[test]
+fn half_a_line_does_not_pass_into_the_next_connection(rt: HostRuntime) -> Result<(), Fail> {
+    let mut client = ready()?;
+    feed_line(&mut client, TO_ROLL);
+    assert!(rt; client.feed(b"board:You:bob:3:0:1:0:-2").taken.is_none());
+    assert!(rt; client.lose().is_none());
+    client.open().ok().ok_or("open")?;
+    let rest =
+        b":0:0:0:0:5:0:3:0:0:0:-5:5:0:0:0:-3:0:-5:0:0:0:0:2:0:1:0:0:0:0:1:1:1:0:1:-1:0:25:0:0:0:0:0:0:0:0\r\n";
+    let taken = client.feed(rest.as_slice()).taken.ok_or("no line")?;
+    assert!(rt; matches!(taken.reading, Reading::Text(_)));
+    assert!(rt; client.shown().is_none());
+    assert_eq!(rt;
+        client.decide(&Decision::Roll).err(),
+        Some(Refusal::NotReady)
+    );
+    feed_line(&mut client, WELCOME);
+    feed_line(&mut client, INFO);
+    assert_eq!(rt;
+        client.decide(&Decision::Roll).err(),
+        Some(Refusal::NoBoard)
+    );
+    Ok(())
+}
+
+/// A client opens a connection, and is greeted by these lines.
+fn greet(client: &mut Client, lines: &[&[u8]]) -> Result<(), Fail> {
+    client.open().ok().ok_or("open")?;
+    for line in lines {
+        feed_line(client, line);
+    }
+    Ok(())
+}
+
+/// Where the server plays, the user does not decide, also after he has turned that off; on the next connection he does.
+#[test]
+fn where_the_server_plays_the_user_does_not_decide(rt: HostRuntime) -> Result<(), Fail> {
+    let mut client = Client::new(login()?);
+    greet(&mut client, &[WELCOME, INFO_AUTOMOVE, TO_ROLL])?;
+    assert_eq!(rt;
+        client.decide(&Decision::Roll).err(),
+        Some(Refusal::ServerPlays)
+    );
+    let off = client
+        .plain(&Plain::AutomoveOff)
+        .ok()
+        .ok_or("automove is on")?;
+    assert_eq!(rt; off.as_str(), "toggle automove");
+    for plain in [Plain::AutomoveOff, Plain::GreedyOff] {
+        assert_eq!(rt; client.plain(&plain).err(), Some(PlainRefusal::NotOn));
+    }
+    assert_eq!(rt;
+        client.decide(&Decision::Roll).err(),
+        Some(Refusal::ServerPlays)
+    );
+    assert!(rt; client.lose().is_none());
+    greet(&mut client, &[WELCOME, INFO, TO_ROLL])?;
+    let roll = client.decide(&Decision::Roll).ok().ok_or("roll")?;
+    assert_eq!(rt; roll.as_str(), "roll");
+    Ok(())
+}
+
+/// An order ends with its connection.
+#[test]
+fn a_new_connection_has_no_order(rt: HostRuntime) -> Result<(), Fail> {
+    let mut client = Client::new(login()?);
+    assert_eq!(rt; client.withdraw_roll(), Err(Refusal::Offline));
+    greet(&mut client, &[])?;
+    assert_eq!(rt; client.withdraw_roll(), Err(Refusal::NotOrdered));
+    assert_eq!(rt; client.order_roll(), Ok(()));
+    assert!(rt; client.ordered());
+    assert!(rt; client.lose().is_none());
+    assert!(rt; !client.ordered());
+    greet(&mut client, &[])?;
+    assert!(rt; !client.ordered());
     Ok(())
 }
 

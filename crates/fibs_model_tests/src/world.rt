@@ -1,5 +1,5 @@
-//! What no script can say of the world: a text of more than one line, and how it goes on after a refused growth. Its
-//! histories, worked out by hand, are run by the built program: tests/worlds.
+//! A worked row of the world, and what no script can say of it: a text of more than one line, and how it goes on after a
+//! refused growth. More histories, worked out by hand, are told by the built program: tests/worlds.
 
 use crate::boards::*;
 use fibs_messages::Board;
@@ -46,6 +46,58 @@ fn a_long_run_is_whole(rt: HostRuntime) -> Result<(), Fail> {
     let end = world.run(&events);
     assert_eq!(rt; (end.done, end.refusal), (1000, None));
     assert_eq!(rt; world.log().len(), 1000);
+    Ok(())
+}
+
+/// The events of a second click before the answer, and a line that is not there.
+fn clicked_twice() -> [Event<'static>; 14] {
+    let serve = Event::Serve {
+        conn: 1,
+        dice: [1, 1],
+    };
+    [
+        Event::Open,
+        serve,
+        Event::Text(WELCOME),
+        Event::Text(INFO),
+        Event::Deliver(10000),
+        serve,
+        serve,
+        Event::Deliver(10000),
+        Event::Click(Decision::Roll),
+        Event::Click(Decision::Roll),
+        Event::Serve {
+            conn: 1,
+            dice: [6, 2],
+        },
+        Event::Deliver(10000),
+        Event::Click(Decision::Roll),
+        serve,
+    ]
+}
+
+/// A run does the events before the first that may not be. Step by step each of them is taken, and the log is the same.
+#[test]
+fn a_run_stops_at_a_line_that_is_not_there(rt: HostRuntime) -> Result<(), Fail> {
+    let events = clicked_twice();
+    let mut in_a_row = world(rt.alloc(), TO_ROLL)?;
+    let end = in_a_row.run(&events);
+    assert_eq!(rt;
+        (end.done, end.refusal),
+        (13, Some(WorldRefusal::NothingToServe))
+    );
+    let mut stepwise = world(rt.alloc(), TO_ROLL)?;
+    for (place, event) in events.iter().enumerate() {
+        let wanted = if place < 13 {
+            Ok(())
+        } else {
+            Err(WorldRefusal::NothingToServe)
+        };
+        assert_eq!(rt; stepwise.step(event), wanted, "event {place}");
+    }
+    assert_eq!(rt; in_a_row.log().len(), 12);
+    assert!(rt; in_a_row.log() == stepwise.log());
+    assert!(rt; in_a_row.shown() == Some(&board(TO_MOVE)?));
     Ok(())
 }
 

@@ -10,14 +10,14 @@ use std::process::Abort;
 use std::test::Fail;
 
 /// A board on which the player rolls or doubles, and the same with the dice 6 and 2.
-const ROLL: &[u8] =
+pub const ROLL: &[u8] =
     b"board:You:bob:3:0:1:0:-2:0:0:0:0:5:0:3:0:0:0:-5:5:0:0:0:-3:0:-5:0:0:0:0:2:0:1:0:0:0:0:1:1:1:0:1:-1:0:25:0:0:0:0:0:0:0:0";
 
 const DICE: &[u8] =
     b"board:You:bob:3:0:1:0:-2:0:0:0:0:5:0:3:0:0:0:-5:5:0:0:0:-3:0:-5:0:0:0:0:2:0:1:6:2:0:0:1:1:1:0:1:-1:0:25:0:0:0:0:0:0:0:0";
 
 /// A board on which the larger die alone can be played, and the board after that play.
-const LARGER: &[u8] =
+pub const LARGER: &[u8] =
     b"board:You:bob:5:0:0:0:0:0:0:0:0:0:0:0:0:0:0:0:-2:0:0:0:0:0:0:0:0:0:0:1:0:1:6:5:0:0:1:1:1:0:1:-1:0:25:14:13:0:0:1:0:0:0";
 
 const MOVED: &[u8] =
@@ -28,18 +28,18 @@ const GIVEN: &[u8] =
     b"board:You:bob:3:0:1:0:-2:0:0:0:0:5:0:3:0:0:0:-5:5:0:0:0:-3:0:-5:0:0:0:0:2:0:-1:0:0:0:0:1:1:1:0:1:-1:0:25:0:0:0:0:0:0:0:0";
 
 /// A board on which the player rolls and may not double, and the same with the dice 6 and 2.
-const NO_DOUBLE: &[u8] =
+pub const NO_DOUBLE: &[u8] =
     b"board:You:bob:3:0:1:0:-2:0:0:0:0:5:0:3:0:0:0:-5:5:0:0:0:-3:0:-5:0:0:0:0:2:0:1:0:0:0:0:1:0:1:0:1:-1:0:25:0:0:0:0:0:0:0:0";
 
 const NO_DOUBLE_DICE: &[u8] =
     b"board:You:bob:3:0:1:0:-2:0:0:0:0:5:0:3:0:0:0:-5:5:0:0:0:-3:0:-5:0:0:0:0:2:0:1:6:2:0:0:1:0:1:0:1:-1:0:25:0:0:0:0:0:0:0:0";
 
 /// A board of which the player is not `You`.
-const OTHER: &[u8] =
+pub const OTHER: &[u8] =
     b"board:ann:bob:3:0:1:0:-2:0:0:0:0:5:0:3:0:0:0:-5:5:0:0:0:-3:0:-5:0:0:0:0:2:0:1:0:0:0:0:1:1:1:0:1:-1:0:25:0:0:0:0:0:0:0:0";
 
-/// Eight events after the first board: the client logs in, is welcomed and informed, and is shown the board twice.
-const LOGS_IN: &[u8] = b"
+/// Eight events behind the first board: the client logs in, is welcomed and informed, and is shown the board twice.
+pub const LOGS_IN: &[u8] = b"
 open
 serve 1 1 1
 text 1 ann 1041253132 localhost
@@ -92,13 +92,11 @@ fn assert_replayed(rt: &(impl Abort + AllocGlobal), script: &Text, status: u8, w
 }
 
 /// A second click before the answer comes, and one after it; at the end nothing is left to serve.
-fn double_click() -> Text {
-    joined(&[
-        ROLL,
-        LOGS_IN,
-        b"click roll\nclick roll\nserve 1 6 2\ndeliver 10000\nclick roll\nserve 1 1 1\n",
-    ])
-}
+pub const SECOND_CLICK: &[&[u8]] = &[
+    ROLL,
+    LOGS_IN,
+    b"click roll\nclick roll\nserve 1 6 2\ndeliver 10000\nclick roll\nserve 1 1 1\n",
+];
 
 fn double_click_printed() -> Text {
     joined(&[
@@ -118,17 +116,19 @@ fn double_click_printed() -> Text {
 
 #[test]
 fn a_second_click_sends_nothing(rt: HostRuntime) {
-    assert_replayed(&rt, &double_click(), 3, &double_click_printed());
+    assert_replayed(&rt, &joined(SECOND_CLICK), 3, &double_click_printed());
 }
+
+/// A resignation, a click before its answer, and one after it; at the end nothing is left to serve.
+pub const RESIGNATION: &[&[u8]] = &[
+    ROLL,
+    LOGS_IN,
+    b"click resign g\nclick roll\nserve 1 6 2\ndeliver 10000\nclick roll\nserve 1 1 1\n",
+];
 
 /// A resignation goes out once, and gives the turn to the opponent, whatever the dice of the server.
 #[test]
 fn a_resignation_gives_the_turn_away(rt: HostRuntime) {
-    let script = joined(&[
-        ROLL,
-        LOGS_IN,
-        b"click resign g\nclick roll\nserve 1 6 2\ndeliver 10000\nclick roll\nserve 1 1 1\n",
-    ]);
     let wanted = joined(&[
         b"opened 1\nloggedin 1\nwelcomed 1\ninformed 1 0 0\nshown 1 ",
         ROLL,
@@ -142,19 +142,17 @@ fn a_resignation_gives_the_turn_away(rt: HostRuntime) {
         GIVEN,
         b"\nclicked 1 NotYours\nrefused 13 5 NothingToServe\n",
     ]);
-    assert_replayed(&rt, &script, 3, &wanted);
+    assert_replayed(&rt, &joined(RESIGNATION), 3, &wanted);
 }
 
 /// A play that a loss leaves on its way; the next connection is shown what came of it.
-fn lost_play() -> Text {
-    joined(&[
-        LARGER,
-        LOGS_IN,
-        b"click move 24-18\nlose 10000\nserve 1 1 1\n",
-        LOGS_IN_AGAIN,
-        b"click roll\n",
-    ])
-}
+pub const LOST_PLAY: &[&[u8]] = &[
+    LARGER,
+    LOGS_IN,
+    b"click move 24-18\nlose 10000\nserve 1 1 1\n",
+    LOGS_IN_AGAIN,
+    b"click roll\n",
+];
 
 fn lost_play_printed() -> Text {
     joined(&[
@@ -178,7 +176,7 @@ fn lost_play_printed() -> Text {
 
 #[test]
 fn a_play_that_a_loss_leaves_on_its_way_is_served(rt: HostRuntime) {
-    assert_replayed(&rt, &lost_play(), 0, &lost_play_printed());
+    assert_replayed(&rt, &joined(LOST_PLAY), 0, &lost_play_printed());
 }
 
 #[test]
@@ -225,13 +223,11 @@ deliver 10000
 ";
 
 /// The client rolls by itself on the first of two boards that come together; then the order is withdrawn.
-fn standing_order() -> Text {
-    joined(&[
-        NO_DOUBLE,
-        LOGS_IN_ORDERED,
-        b"click roll\nserve 1 6 2\nwithdraw roll\ndeliver 10000\n",
-    ])
-}
+pub const STANDING_ORDER: &[&[u8]] = &[
+    NO_DOUBLE,
+    LOGS_IN_ORDERED,
+    b"click roll\nserve 1 6 2\nwithdraw roll\ndeliver 10000\n",
+];
 
 fn standing_order_printed() -> Text {
     joined(&[
@@ -251,12 +247,19 @@ fn standing_order_printed() -> Text {
 
 #[test]
 fn a_standing_order_rolls_once(rt: HostRuntime) {
-    assert_replayed(&rt, &standing_order(), 0, &standing_order_printed());
+    assert_replayed(&rt, &joined(STANDING_ORDER), 0, &standing_order_printed());
 }
+
+/// An order on a board that is shown, which is then shown again.
+pub const ORDER_AFTER_THE_BOARD: &[&[u8]] = &[
+    NO_DOUBLE,
+    LOGS_IN,
+    b"order roll\nrepeat\ndeliver 10000\n",
+];
 
 #[test]
 fn an_order_on_a_board_that_is_shown_waits_for_the_next_board(rt: HostRuntime) {
-    let script = joined(&[NO_DOUBLE, LOGS_IN, b"order roll\nrepeat\ndeliver 10000\n"]);
+    let script = joined(ORDER_AFTER_THE_BOARD);
     let wanted = joined(&[
         b"opened 1\nloggedin 1\nwelcomed 1\ninformed 1 0 0\nshown 1 ",
         NO_DOUBLE,
@@ -424,7 +427,7 @@ fn nothing_is_printed_after_a_failed_read(rt: HostRuntime) {
 
 #[test]
 fn a_front_is_printed_before_a_failed_write(rt: HostRuntime) {
-    let script = double_click();
+    let script = joined(SECOND_CLICK);
     let wanted = double_click_printed();
     for room in 0..wanted.len() {
         let outcome = replayed_into(rt.alloc(), script.as_slice(), 4096, After::End, room);
@@ -512,15 +515,15 @@ fn assert_replayed_again(
 
 #[test]
 fn a_second_click_is_replayed_under_refused_memory(rt: HostRuntime) {
-    assert_replayed_again(&rt, &double_click(), 3, &double_click_printed());
+    assert_replayed_again(&rt, &joined(SECOND_CLICK), 3, &double_click_printed());
 }
 
 #[test]
 fn a_standing_order_is_replayed_under_refused_memory(rt: HostRuntime) {
-    assert_replayed_again(&rt, &standing_order(), 0, &standing_order_printed());
+    assert_replayed_again(&rt, &joined(STANDING_ORDER), 0, &standing_order_printed());
 }
 
 #[test]
 fn a_lost_play_is_replayed_under_refused_memory(rt: HostRuntime) {
-    assert_replayed_again(&rt, &lost_play(), 0, &lost_play_printed());
+    assert_replayed_again(&rt, &joined(LOST_PLAY), 0, &lost_play_printed());
 }
