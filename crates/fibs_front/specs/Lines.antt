@@ -6,14 +6,13 @@ use Rattle.fibs_lines.specs.Lines.{ReadLine}
 use Rattle.fibs_fields.specs.Field.{FieldValue, canonical_text}
 use Rattle.fibs_messages.specs.Message.{MessageValue}
 use Rattle.fibs_messages.specs.Line.{ReadingValue, numbered_line, board_line, text_line, malformed_line}
-use Rattle.fibs_position.specs.DirectionOf.{direction_of}
-use Rattle.fibs_commands.specs.Commands.{command_of}
 use Rattle.fibs_directory.specs.Directory.Faults.{directory_fault_number, directory_fault_name}
 use Rattle.fibs_directory.specs.declared.fault.DirectoryFault.{DirectoryFault}
 use Rattle.fibs_history.specs.declared.refusal.Refusal.{Refusal}
 use Rattle.fibs_history.specs.declared.refusal.PlainRefusal.{PlainRefusal}
 use Rattle.fibs_history.specs.declared.refusal.PlainRefusal.TheVariants as P
 use Rattle.fibs_session.specs.History.Refusals.{refusal_number, refusal_name, plain_refusal_number, plain_refusal_name}
+use Rattle.fibs_session.specs.History.Asked.{asked_text}
 use Rattle.fibs_session.specs.History.Words.{Ask}
 use Rattle.fibs_engine.specs.Escape.{escaped}
 use Rattle.fibs_engine.specs.Readings.{reading_text}
@@ -36,10 +35,6 @@ said_text bytes (malformed_line number k f) = reading_text (malformed_line numbe
 -- how a line is printed: of one that was cut the kept bytes
 abbrev pub heard_text : ReadLine → ReadingValue → List ℕ
 heard_text line r = if line.cut then codes "cut " ++ escaped line.bytes else said_text line.bytes r
-
--- the command of a decision that was sent, in the numbers of the board that it was made on
-abbrev pub asked_text : Ask → List ℕ
-asked_text ask = command_of (direction_of ask.0) ask.1
 
 -- the line of a decision that a board confirms
 abbrev pub confirmed_line : Ask → List ℕ

@@ -11,7 +11,7 @@ ghost use Rattle.fibs_front.specs.SaidOf.{said_of};
 use crate::fault::FrontFault;
 use crate::front::Front;
 use crate::heard::print_heard;
-use crate::printing::{asked_command, print, print_line, print_reason, text_bytes};
+use crate::printing::{print, print_line, print_reason, text_bytes};
 use crate::said::Said;
 use arrayvec::ArrayVec;
 use fibs_engine::fixed::{append, append_number};
@@ -92,7 +92,7 @@ fn print_confirmed<W: Write>(asked: &Outstanding, out: &mut W) -> Result<(), Fro
     ensures { OnOk result (Appends (W.contents out.old) (W.contents out.new)
         (line_bytes (confirmed_line (ask_of asked.now)))) }
 {
-    print_line(b"confirmed ", text_bytes(&asked_command(asked)), out)
+    print_line(b"confirmed ", text_bytes(&asked.command()), out)
 }
 
 /// Prints why the directory took no note.
@@ -109,7 +109,7 @@ fn print_lost<W: Write>(waited: &Option<Outstanding>, out: &mut W) -> Result<(),
 {
     match waited {
         None => print_line(b"lost", b"", out),
-        Some(asked) => print_line(b"lost ", text_bytes(&asked_command(asked)), out),
+        Some(asked) => print_line(b"lost ", text_bytes(&asked.command()), out),
     }
 }
 

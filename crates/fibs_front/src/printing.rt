@@ -2,17 +2,14 @@
 ghost use Rattle.std.specs.Prelude.{◌≡◌, ◌≤◌, ◌+◌, ◌++◌, length, OnOk, IfSome};
 ghost use Rattle.std.specs.Io.KnownBytes.{Appends};
 ghost use Rattle.fibs_commands.specs.TextOf.{text_of};
-ghost use Rattle.fibs_session.specs.Calls.SessionOf.{ask_of};
 ghost use Rattle.fibs_engine.specs.Escape.{escaped};
-ghost use Rattle.fibs_front.specs.Lines.{line_bytes, asked_text, reason_line};
+ghost use Rattle.fibs_front.specs.Lines.{line_bytes, reason_line};
 
 use crate::fault::FrontFault;
 use arrayvec::{ArrayString, ArrayVec};
 use fibs_engine::escape::write_escaped;
 use fibs_engine::fixed::{append, append_number};
 use fibs_engine::writing::write_bytes;
-use fibs_position::Direction;
-use fibs_session::{CommandText, Outstanding, decision_text};
 use std::fmt::Display;
 use std::io::Write;
 
@@ -80,13 +77,6 @@ pub(crate) fn append_labelled<const N: usize>(
     print(label, text)?;
     write_escaped(bytes, text)?;
     Ok(())
-}
-
-/// The command of a decision that was sent, in the numbers of the board that it was made on.
-pub(crate) fn asked_command(asked: &Outstanding) -> CommandText
-    ensures { text_of result ≡ asked_text (ask_of asked.now) }
-{
-    decision_text(&asked.decision, Direction::of(&asked.board))
 }
 
 /// The bytes of a command.

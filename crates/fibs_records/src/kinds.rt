@@ -2,10 +2,9 @@
 
 ghost use Rattle.std.specs.Prelude.{◌≡◌};
 ghost use Rattle.fibs_messages.specs.Line.{reading_of};
-ghost use Rattle.fibs_messages.specs.Message.{message_of};
 ghost use Rattle.fibs_records.specs.Kinds.{told_kind};
 
-use fibs_messages::{Message, Reading};
+use fibs_messages::Reading;
 
 /// What a line is.
 #[repr(C)]
@@ -19,34 +18,6 @@ pub struct LineKind {
     pub number: u8,
     /// What is wrong with the first wrong field; 0 if nothing is.
     pub fault: u8,
-}
-
-/// The message's number.
-#[inline(always)]
-fn number_of(message: &Message<'_>) -> u8
-    ensures { result ≡ (message_of message.now).number }
-{
-    match message {
-        Message::Welcome { .. } => 1,
-        Message::OwnInfo(_) => 2,
-        Message::MotdBegin => 3,
-        Message::MotdEnd => 4,
-        Message::WhoInfo(_) => 5,
-        Message::WhoInfoEnd => 6,
-        Message::Login { .. } => 7,
-        Message::Logout { .. } => 8,
-        Message::MessageReceived { .. } => 9,
-        Message::MessageDelivered { .. } => 10,
-        Message::MessageSaved { .. } => 11,
-        Message::Says { .. } => 12,
-        Message::Shouts { .. } => 13,
-        Message::Whispers { .. } => 14,
-        Message::Kibitzes { .. } => 15,
-        Message::YouSay { .. } => 16,
-        Message::YouShout { .. } => 17,
-        Message::YouWhisper { .. } => 18,
-        Message::YouKibitz { .. } => 19,
-    }
 }
 
 impl LineKind {
@@ -73,7 +44,7 @@ impl LineKind {
             Reading::Numbered(message) => LineKind {
                 field: 0,
                 kind: 1,
-                number: number_of(message),
+                number: message.number(),
                 fault: 0,
             },
             Reading::Board(_) => LineKind {
