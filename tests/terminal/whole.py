@@ -103,6 +103,16 @@ def at_most_thirty_rows_a_turn():
         raise Failed('%d rows a turn; the middle is %d; the worst is %r' % (max(rows), middle, worst))
 
 
+def the_game_of_the_docs():
+    """It was recorded: its turns take at most 30 rows too, from the login to the end."""
+    page = (ROOT / 'docs' / 'GAME.md').read_text().split('```')[1].split('\n')[1:-1]
+    same('it is whole', (page[0].startswith('connected to '), any(ENDED.fullmatch(line) for line in page)), (True, True))
+    rows = [len(turn) for turn in turns(page)]
+    same('turns were counted', len(rows) > 3, True)
+    same('turns of more than 30 rows', [count for count in rows if count > 30], [])
+    same('lines of more than 79 columns', [line for line in page if len(line) > 79], [])
+
+
 def at_most_79_columns():
     follower = match_by_hints('--mixed-sides', seed=4)
     lines = follower.ann.lines()
@@ -193,4 +203,4 @@ def help_lists_the_words():
 
 
 SCENES = [help_lists_the_words, by_hints_alone, by_hints_over_connections_that_are_cut, at_most_thirty_rows_a_turn,
-          at_most_79_columns, on_a_small_terminal, letters_in_bold, the_bell]
+          the_game_of_the_docs, at_most_79_columns, on_a_small_terminal, letters_in_bold, the_bell]
