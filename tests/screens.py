@@ -500,10 +500,11 @@ def shown_by(*words, columns=80, held=''):
 
 
 def the_picture_of_the_pages(_server):
-    drawn = shown_by('show', held=SHOWN + '\n')
-    same('its lines', len(drawn.splitlines()), 14)
+    """The pages have it without the last row, as a terminal with letters in bold has."""
+    drawn = shown_by('show', held=SHOWN + '\n').splitlines(True)
+    same('its lines', len(drawn), 14)
     for page in 'docs/PLAYING.md', 'docs/fibs.1':
-        same('it is in ' + page, drawn in (ROOT / page).read_text(), True)
+        same('it is in ' + page, ''.join(drawn[:13]) in (ROOT / page).read_text(), True)
 
 
 def a_capture_is_drawn(_server):
