@@ -24,7 +24,8 @@ pub mod laws;
 mod owned_reading;
 mod run;
 
-use crate::session::{Outstanding, Session, Taken};
+use crate::session::Session;
+use crate::taken::{Outstanding, Taken};
 use fibs_commands::{CommandText, Login, Plain};
 use fibs_history::{PlainRefusal, Refusal};
 use fibs_lines::Lines;

@@ -2,8 +2,14 @@
 #![tactic(auto)]
 
 pub mod client;
+mod connection;
+mod deciding;
+mod hearing;
 pub mod laws;
+mod ordering;
 mod session;
+mod shown_board;
+mod taken;
 
 pub use client::{Client, Got, HeardLine, Input, run_client};
 pub use fibs_commands::{
@@ -12,4 +18,5 @@ pub use fibs_commands::{
 };
 pub use fibs_directory::{Directory, DirectoryFault, Player};
 pub use fibs_history::{PlainRefusal, Refusal};
-pub use session::{Outstanding, Session, Taken};
+pub use session::Session;
+pub use taken::{Outstanding, Taken};

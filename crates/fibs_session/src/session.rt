@@ -16,28 +16,20 @@ ghost use Rattle.fibs_history.specs.Machine.{Order, Withdraw, order_refusal, wit
 ghost use Rattle.fibs_commands.specs.LoginOf.{login_of};
 ghost use Rattle.fibs_commands.specs.PlainOf.{plain_value};
 
-mod connection;
-mod deciding;
-mod hearing;
-mod ordering;
-mod shown_board;
-mod taken;
-
+use crate::hearing::{Reply, is_unheard, read_line};
+use crate::shown_board::ShownBoard;
+use crate::taken::{Outstanding, Taken};
 use fibs_commands::{CommandText, Login, Plain};
 use fibs_history::{PlainRefusal, Refusal};
 use fibs_lines::Line;
 use fibs_messages::Board;
 use fibs_position::{Decision, laws};
-pub(crate) use hearing::read_line;
-use hearing::{Reply, is_unheard};
-use shown_board::ShownBoard;
-pub use taken::{Outstanding, Taken};
 
 /// What the server does by itself, as a message 2 says.
 #[derive(Clone, Copy, Debug, PartialEq, Eq)]
 pub(crate) struct ServerFlags {
-    automove: bool,
-    greedy: bool,
+    pub(crate) automove: bool,
+    pub(crate) greedy: bool,
 }
 
 /// A session with the server: one connection after another, each from `open` to `lose`.
@@ -48,18 +40,18 @@ pub(crate) struct ServerFlags {
 /// takes memory.
 #[derive(Clone, Copy)]
 pub struct Session {
-    login: Login,
-    online: bool,
+    pub(crate) login: Login,
+    pub(crate) online: bool,
     /// A message 1 came on this connection.
-    welcomed: bool,
+    pub(crate) welcomed: bool,
     /// Of the latest message 2 of this connection.
-    flags: Option<ServerFlags>,
-    automove_sent: bool,
-    greedy_sent: bool,
-    shown: Option<ShownBoard>,
-    waiting: Option<Outstanding>,
+    pub(crate) flags: Option<ServerFlags>,
+    pub(crate) automove_sent: bool,
+    pub(crate) greedy_sent: bool,
+    pub(crate) shown: Option<ShownBoard>,
+    pub(crate) waiting: Option<Outstanding>,
     /// A standing order to roll is in force.
-    ordered: bool,
+    pub(crate) ordered: bool,
 }
 
 impl Session {

@@ -4,7 +4,7 @@ use Rattle.std.proofs.Common.{◌⊎◌, inl, refl, sym, ap, subst, ◌∙◌, a
 use Rattle.std.specs.Borrow.{MutBor}
 use Rattle.fibs_messages.specs.Message.{MessageValue}
 use Rattle.fibs_front.specs.Told.{SaidValue, Joins, opened_said}
-use Rattle.fibs_session.specs.declared.session.taken.Outstanding.{Outstanding}
+use Rattle.fibs_session.specs.declared.taken.Outstanding.{Outstanding}
 use Rattle.fibs_exchange.specs.Turns.Script.{known_before, known_after, outside}
 use Rattle.fibs_connect.specs.Converse.Seats.{SeatValue, TakesTurn, Connects, Opens, OpensAndLoses, seat_of}
 use Rattle.fibs_directory.specs.Directory.{IsDirectory}

@@ -9,9 +9,9 @@ use Rattle.fibs_boards.specs.StoredBoard.{fields_of}
 use Rattle.fibs_position.specs.DecisionValue.{decision_of}
 use Rattle.fibs_commands.specs.TextOf.{text_of}
 use Rattle.arrayvec.specs.ArrayString.{ArrayString as CommandText}
-use Rattle.fibs_session.specs.declared.session.shown_board.ShownBoard.{ShownBoard}
-use Rattle.fibs_session.specs.declared.session.taken.Outstanding.{Outstanding}
-use Rattle.fibs_session.specs.declared.session.taken.Taken.{Taken}
+use Rattle.fibs_session.specs.declared.shown_board.ShownBoard.{ShownBoard}
+use Rattle.fibs_session.specs.declared.taken.Outstanding.{Outstanding}
+use Rattle.fibs_session.specs.declared.taken.Taken.{Taken}
 use Rattle.fibs_session.specs.declared.session.ServerFlags.{ServerFlags}
 use Rattle.fibs_session.specs.declared.session.Session.{Session}
 use Rattle.fibs_history.specs.Log.{Flags}

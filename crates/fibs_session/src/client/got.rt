@@ -1,6 +1,6 @@
 //! What a client has read of a piece.
 
-use crate::session::Taken;
+use crate::taken::Taken;
 
 /// What `Client::feed` has read.
 #[derive(Drop)]

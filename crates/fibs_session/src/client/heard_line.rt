@@ -4,7 +4,7 @@ ghost use Rattle.std.specs.Prelude.{◌≡◌, [], None, false};
 ghost use Rattle.fibs_session.specs.declared.client.owned_reading.OwnedReading.TheVariants.{Numbered};
 
 use super::owned_reading::OwnedReading;
-use crate::session::Outstanding;
+use crate::taken::Outstanding;
 use arrayvec::ArrayVec;
 use fibs_commands::AnswerText;
 

@@ -6,7 +6,7 @@ ghost use Rattle.fibs_lines.specs.Lines.{ReadLine};
 ghost use Rattle.fibs_messages.specs.Line.{reading_of};
 ghost use Rattle.fibs_history.specs.Hearing.{line_reading};
 
-use crate::session::read_line;
+use crate::hearing::read_line;
 use fibs_lines::Line;
 use fibs_messages::{Board, Fault, Reading, laws};
 

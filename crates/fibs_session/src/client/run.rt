@@ -10,7 +10,7 @@ ghost use Rattle.fibs_commands.specs.TextOf.{text_of};
 
 use super::input::Input;
 use super::{Client, laws};
-use crate::session::Taken;
+use crate::taken::Taken;
 use arrayvec::ArrayString;
 use fibs_commands::{AnswerText, CommandText, Login};
 use fibs_history::{PlainRefusal, Refusal};

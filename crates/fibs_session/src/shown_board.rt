@@ -11,8 +11,8 @@ use fibs_position::Position;
 /// A board that is shown. Its position is made once, when the board is heard: a click makes none.
 #[derive(Clone, Copy)]
 pub(crate) struct ShownBoard {
-    pub(super) board: Board,
-    pub(super) position: Position,
+    pub(crate) board: Board,
+    pub(crate) position: Position,
     ghost is_good: { good (fields_of board) ≡ true },
     ghost is_its_position: { position_value position ≡ position_of (fields_of board) },
 }
@@ -20,7 +20,7 @@ pub(crate) struct ShownBoard {
 impl ShownBoard {
     /// A board with its position. None if it has none.
     #[inline(always)]
-    pub(super) fn of(board: &Board) -> Option<ShownBoard>
+    pub(crate) fn of(board: &Board) -> Option<ShownBoard>
         ensures good { is_some result ≡ good (fields_of board.now) }
         ensures board { IfSome result (λ shown. shown.board ≡ board.now) }
     {

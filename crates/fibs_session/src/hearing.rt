@@ -16,7 +16,9 @@ ghost use Rattle.fibs_session.specs.Calls.SessionValue.{SessionValue};
 ghost use Rattle.fibs_history.specs.Hearing.{initial_commands, line_reading};
 ghost use Rattle.fibs_commands.specs.TextOf.{text_of};
 
-use super::{Outstanding, ServerFlags, Session, ShownBoard};
+use crate::session::{ServerFlags, Session};
+use crate::shown_board::ShownBoard;
+use crate::taken::Outstanding;
 use arrayvec::ArrayVec;
 use fibs_commands::{
     AnswerText, autoboard_text, board_text, moreboards_text, roll_text, style_text,
@@ -28,10 +30,10 @@ use fibs_position::{Decision, differs};
 /// What a session says to a line: the commands that are to be sent, the decision that is confirmed, and whether the
 /// standing order has rolled.
 #[derive(Drop)]
-pub(super) struct Reply {
-    pub(super) send: ArrayVec<AnswerText, 3>,
-    pub(super) confirmed: Option<Outstanding>,
-    pub(super) rolled: bool,
+pub(crate) struct Reply {
+    pub(crate) send: ArrayVec<AnswerText, 3>,
+    pub(crate) confirmed: Option<Outstanding>,
+    pub(crate) rolled: bool,
 }
 
 impl Reply {
@@ -62,7 +64,7 @@ pub(crate) fn read_line<'a>(line: &Line<'a>) -> Reading<'a>
 /// Whether a line is a message that says nothing to a session: each but message 1 and message 2. Its fields are not
 /// read.
 #[inline(always)]
-pub(super) fn is_unheard(line: &Line<'_>) -> bool
+pub(crate) fn is_unheard(line: &Line<'_>) -> bool
     ensures { result ≡ true → (v : SessionValue) → line_fields v (line_reading (value_of line.now)) ≡ unheard v }
 {
     // A board line is the longest, and has no number to be looked for.
@@ -199,7 +201,7 @@ impl Session {
 
     /// What a reading says. Offline it says nothing.
     #[inline(always)]
-    pub(super) fn note_line(&mut self, reading: &Reading<'_>) -> Reply
+    pub(crate) fn note_line(&mut self, reading: &Reading<'_>) -> Reply
         ensures fields { session_of self.new ≡ (line_fields (session_of self.old) (reading_of reading.now)).session }
         ensures send { texts_of result.send.items
             ≡ (line_fields (session_of self.old) (reading_of reading.now)).send }

@@ -4,7 +4,8 @@ ghost use Rattle.std.specs.Prelude.{◌≡◌, IsErr, option_map};
 ghost use Rattle.fibs_session.specs.Calls.FieldSteps.{fresh, open_fields, open_send, open_refusal_of, lose_fields};
 ghost use Rattle.fibs_commands.specs.LoginOf.{login_of};
 
-use super::{Outstanding, Session};
+use crate::session::Session;
+use crate::taken::Outstanding;
 use fibs_commands::{CommandText, Login};
 use fibs_history::Refusal;
 
@@ -12,7 +13,7 @@ impl Session {
     ghost use Rattle.fibs_session.specs.Calls.SessionOf.{session_of, ask_of, handed, refusal_in};
 
     /// A session of which nothing was heard.
-    pub(super) fn fresh(login: Login, online: bool) -> Session
+    pub(crate) fn fresh(login: Login, online: bool) -> Session
         ensures { session_of result ≡ fresh (login_of login) online }
     {
         Session {
@@ -29,7 +30,7 @@ impl Session {
     }
 
     /// A connection is opened.
-    pub(super) fn note_open(&mut self) -> Result<CommandText, Refusal>
+    pub(crate) fn note_open(&mut self) -> Result<CommandText, Refusal>
         ensures fields { session_of self.new ≡ open_fields (session_of self.old) }
         ensures handed { handed result ≡ open_send (session_of self.old) }
         ensures refusal { refusal_in result ≡ open_refusal_of (session_of self.old) }
@@ -43,7 +44,7 @@ impl Session {
     }
 
     /// The connection is lost.
-    pub(super) fn note_lose(&mut self) -> Option<Outstanding>
+    pub(crate) fn note_lose(&mut self) -> Option<Outstanding>
         ensures fields { session_of self.new ≡ lose_fields (session_of self.old) }
         ensures result { option_map ask_of result ≡ (session_of self.old).waiting }
     {

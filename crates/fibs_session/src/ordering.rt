@@ -5,7 +5,8 @@ ghost use Rattle.std.specs.Result.{result_err};
 ghost use Rattle.fibs_boards.specs.StoredBoard.{fields_of};
 ghost use Rattle.fibs_session.specs.Calls.FieldSteps.{due_of, order_refusal_of, withdraw_refusal_of, with_order};
 
-use super::{Session, ShownBoard};
+use crate::session::Session;
+use crate::shown_board::ShownBoard;
 use fibs_boards::fields::MAY_DOUBLE;
 use fibs_history::Refusal;
 use fibs_position::{Decision, Phase};
@@ -14,7 +15,7 @@ impl Session {
     ghost use Rattle.fibs_session.specs.Calls.SessionOf.{session_of};
 
     /// An order is given.
-    pub(super) fn note_order(&mut self) -> Result<(), Refusal>
+    pub(crate) fn note_order(&mut self) -> Result<(), Refusal>
         ensures fields { session_of self.new
             ≡ with_order (session_of self.old) true (order_refusal_of (session_of self.old)) }
         ensures refusal { result_err result ≡ order_refusal_of (session_of self.old) }
@@ -31,7 +32,7 @@ impl Session {
     }
 
     /// The order is withdrawn.
-    pub(super) fn note_withdrawal(&mut self) -> Result<(), Refusal>
+    pub(crate) fn note_withdrawal(&mut self) -> Result<(), Refusal>
         ensures fields { session_of self.new
             ≡ with_order (session_of self.old) false (withdraw_refusal_of (session_of self.old)) }
         ensures refusal { result_err result ≡ withdraw_refusal_of (session_of self.old) }
@@ -49,7 +50,7 @@ impl Session {
 
     /// Whether the board that is shown makes the order due. A click on `Roll` is asked about last: it costs most.
     #[tactic(auto, unfolding(crate::specs::Calls::FieldSteps::due_of))]
-    pub(super) fn is_due(&self, shown: &ShownBoard) -> bool
+    pub(crate) fn is_due(&self, shown: &ShownBoard) -> bool
         ensures { result ≡ due_of (session_of self.now) (fields_of shown.now.board) }
     {
         if !self.ordered {

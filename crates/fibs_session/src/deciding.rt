@@ -10,7 +10,8 @@ ghost use Rattle.fibs_history.specs.Allows.{refusal_of};
 ghost use Rattle.fibs_history.specs.Machine.{flag_is_on};
 ghost use Rattle.fibs_commands.specs.PlainOf.{plain_value};
 
-use super::{Outstanding, Session};
+use crate::session::Session;
+use crate::taken::Outstanding;
 use fibs_commands::{CommandText, Plain, plain_text};
 use fibs_history::{PlainRefusal, Refusal};
 use fibs_messages::Board;
@@ -31,7 +32,7 @@ impl Session {
     ghost use Rattle.fibs_session.specs.Calls.SessionOf.{session_of, handed, refusal_in};
 
     /// The board on which a decision is made, or why it is refused: the first of the reasons, in the order below.
-    pub(super) fn board_for(&self, decision: &Decision) -> Result<&Board, Refusal>
+    pub(crate) fn board_for(&self, decision: &Decision) -> Result<&Board, Refusal>
         ensures refusal { result_err result ≡ answer_of (session_of self.now) (decision_of decision.now) }
         ensures board { IfOk result (λ board. (session_of self.now).shown ≡ Some (fields_of board.now)) }
     {
@@ -60,7 +61,7 @@ impl Session {
     }
 
     /// The user decides.
-    pub(super) fn note_decision(&mut self, decision: &Decision) -> Result<CommandText, Refusal>
+    pub(crate) fn note_decision(&mut self, decision: &Decision) -> Result<CommandText, Refusal>
         ensures fields { session_of self.new ≡ decide_fields (session_of self.old) (decision_of decision.now) }
         ensures handed { handed result ≡ decide_send (session_of self.old) (decision_of decision.now) }
         ensures refusal { refusal_in result ≡ answer_of (session_of self.old) (decision_of decision.now) }
@@ -117,7 +118,7 @@ impl Session {
     }
 
     /// The user says a plain command.
-    pub(super) fn note_plain(&mut self, plain: &Plain<'_>) -> Result<CommandText, PlainRefusal>
+    pub(crate) fn note_plain(&mut self, plain: &Plain<'_>) -> Result<CommandText, PlainRefusal>
         ensures fields { session_of self.new ≡ plain_fields (session_of self.old) (plain_value plain.now) }
         ensures handed { handed result ≡ plain_send (session_of self.old) (plain_value plain.now) }
         ensures refusal { refusal_in result ≡ plain_refusal_of (session_of self.old) (plain_value plain.now) }
