@@ -1,8 +1,8 @@
 //! `fibs`: a client for the First Internet Backgammon Server. The command line, the devices and the exit status.
 #![tactic(auto)]
 
-use fibs_cli::arguments::{Answer, Request};
-use fibs_cli::{READ_MILLIS, arguments, program};
+use fibs_arguments::{Answer, Request};
+use fibs_cli::{READ_MILLIS, program};
 use fibs_engine::fault::EngineFault;
 use fibs_player::Call;
 use std::env;
@@ -23,7 +23,7 @@ fn run(rt: &HostRuntime) -> Result<u8, EngineFault> {
     let alloc = rt.alloc();
     let words = words(rt)?;
     let answer = match &words {
-        Some(words) => arguments::read(alloc, words.as_slice()),
+        Some(words) => fibs_arguments::read(alloc, words.as_slice()),
         None => Answer::Refused(String::from_str(alloc, UNREADABLE)?),
     };
     carry_out(rt, &answer)

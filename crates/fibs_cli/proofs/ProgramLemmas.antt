@@ -13,8 +13,8 @@ use Rattle.fibs_replay.specs.Scripts.{script_limit}
 use Rattle.fibs_engine.specs.Reads.{LostAtMost}
 use Rattle.fibs_show.specs.Show.{WroteAll, WroteRead, WroteLines, WroteFront}
 use Rattle.fibs_engine.specs.Writing.{GainedFront}
-use Rattle.fibs_cli.specs.declared.arguments.Request.{Request}
-use Rattle.fibs_cli.specs.declared.arguments.Request.TheVariants.{Show, Plays, Replay, Loop}
+use Rattle.fibs_arguments.specs.declared.arguments.Request.{Request}
+use Rattle.fibs_arguments.specs.declared.arguments.Request.TheVariants.{Show, Plays, Replay, Loop}
 use Rattle.fibs_engine.specs.declared.fault.EngineFault.{EngineFault}
 use Rattle.fibs_engine.specs.declared.fault.EngineFault.TheVariants.{Device, Memory}
 

@@ -11,10 +11,10 @@ use Rattle.fibs_replay.specs.Output.{LoggedInPart, Replayed, ReplayFailed, Repla
 use Rattle.fibs_show.specs.Show.{WroteAll, WroteRead, WroteLines, WroteFront}
 use Rattle.fibs_engine.specs.Printing.{Printed}
 use Rattle.fibs_engine.specs.Writing.{GainedFront}
-use Rattle.fibs_cli.specs.declared.arguments.Answer.{Answer}
-use Rattle.fibs_cli.specs.declared.arguments.Answer.TheVariants.{Engine, Help, Refused, Memory}
-use Rattle.fibs_cli.specs.declared.arguments.Request.{Request}
-use Rattle.fibs_cli.specs.declared.arguments.Request.TheVariants.{Show, Plays, Replay, Connect, Loop}
+use Rattle.fibs_arguments.specs.declared.arguments.Answer.{Answer}
+use Rattle.fibs_arguments.specs.declared.arguments.Answer.TheVariants.{Engine, Help, Refused, Memory}
+use Rattle.fibs_arguments.specs.declared.arguments.Request.{Request}
+use Rattle.fibs_arguments.specs.declared.arguments.Request.TheVariants.{Show, Plays, Replay, Connect, Loop}
 use Rattle.fibs_engine.specs.declared.fault.EngineFault.{EngineFault}
 use Rattle.fibs_engine.specs.declared.fault.EngineFault.TheVariants as fault
 

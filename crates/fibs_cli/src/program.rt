@@ -4,9 +4,9 @@ ghost use Rattle.fibs_cli.specs.Program.{Answered, PlayedScript, SaysWhy, Served
 ghost use Rattle.fibs_engine.specs.Printing.{Printed};
 ghost use Rattle.fibs_engine.specs.Status.{code_of};
 
-use crate::arguments::{Answer, Request};
+use fibs_arguments::{Answer, Request};
 use fibs_connect::converse_at;
-use fibs_connect::dial::Place;
+use fibs_links::dial::Place;
 use fibs_engine::fault::EngineFault;
 use fibs_engine::status::Status;
 use fibs_engine::writing::write_bytes;

@@ -1,6 +1,6 @@
 //! Conversations, with streams in memory and on real sockets.
 
-use fibs_connect::dial::Dial;
+use fibs_links::dial::Dial;
 use fibs_connect::{converse, converse_with};
 use fibs_engine::fault::EngineFault;
 use fibs_test_tools::devices::Endless;

@@ -1,5 +1,4 @@
 //! The command line, from its words to the exit status.
-use fibs_cli::arguments;
 use fibs_cli::program::{answer, status};
 use fibs_engine::fault::EngineFault;
 use fibs_test_tools::outcome::Outcome;
@@ -88,7 +87,7 @@ fn answered<N: Net<Listener = TcpListener, Stream = TcpStream> + AllocGlobal>(
     let mut input = Pipe::new(input, 7, After::End, 0);
     let mut out = Pipe::new(b"", 1, After::End, 4096);
     let mut err = Pipe::new(b"", 1, After::End, 4096);
-    let called = arguments::read(rt.alloc(), line.as_slice());
+    let called = fibs_arguments::read(rt.alloc(), line.as_slice());
     let ending = answer(
         rt,
         rt.alloc(),

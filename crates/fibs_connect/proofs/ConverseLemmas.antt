@@ -1,8 +1,4 @@
--- Typed lines, logins and turns of a conversation.
-pub mod Cuts
-pub mod Kept
-pub mod Parts
+-- Logins and turns of a conversation.
 pub mod Logins
 pub mod PlayerLines
 pub mod Seats
-pub mod Spent

@@ -1,6 +1,4 @@
--- What a user types in a conversation with the server, and what the conversation itself prints.
-pub mod Typing
+-- What a conversation with the server prints itself, and how it ends.
 pub mod Players
 pub mod Seats
-pub mod Reading
 pub mod Ending

@@ -4,23 +4,20 @@
 ghost use Rattle.std.specs.Prelude.{◌≡◌, ◌*◌, IfOk, IfErr};
 ghost use Rattle.std.specs.Io.KnownBytes.{Appends, Keeps};
 ghost use Rattle.fibs_connect.specs.Converse.Ending.{Conversed, EndsWell, login_fault_line};
-ghost use Rattle.fibs_connect.specs.Converse.Reading.{SpendsReads};
+ghost use Rattle.fibs_typed.specs.Reading.{SpendsReads};
 ghost use Rattle.fibs_front.specs.Lines.{line_bytes};
 ghost use Rattle.fibs_engine.specs.Reads.{LostAtMost};
 
-mod alive;
-pub mod dial;
 mod players;
 mod seat;
-pub mod typed_lines;
 
-use dial::{Dial, Place, READ_MILLIS, Server};
+use fibs_links::dial::{Dial, Place, READ_MILLIS, Server};
 use fibs_engine::fault::EngineFault;
 use fibs_engine::limits::{MOST_INPUT_READS, READ_PORTION};
 use fibs_engine::status::Status;
 use fibs_front::plain::Plain;
 use fibs_front::printing::print_reason;
-use fibs_front::typed_line::TypedLine;
+use fibs_typed::typed_line::TypedLine;
 use fibs_front::words::Words;
 use fibs_session::{Login, PlainFault};
 use seat::{Going, Seat};
@@ -28,7 +25,7 @@ use std::alloc::Global;
 use std::io::{Read, Write};
 use std::net::{Net, TcpStream};
 use std::time::Duration;
-use typed_lines::TypedLines;
+use fibs_typed::typed_lines::TypedLines;
 
 /// Talks with a server for a player.
 ///

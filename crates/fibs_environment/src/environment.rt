@@ -1,6 +1,6 @@
 //! What the environment says of a terminal.
 
-use fibs_terminal::Settings;
+use crate::settings::Settings;
 use jiff::tz::{SystemTimeZone, TimeZoneDatabase};
 use jiff::{Error, Timestamp};
 use std::env;
@@ -76,7 +76,7 @@ fn offset_now(rt: &HostRuntime) -> Result<i32, Error> {
 }
 
 /// The settings of the terminal at which a person talks with this server.
-pub fn settings<'a>(rt: &HostRuntime, host: &'a str, port: u16) -> Settings<'a> {
+pub fn terminal_settings<'a>(rt: &HostRuntime, host: &'a str, port: u16) -> Settings<'a> {
     let dumb = is(rt, "TERM", "dumb") || !is_set(rt, "TERM");
     Settings {
         columns: number(rt, "COLUMNS", COLUMNS),

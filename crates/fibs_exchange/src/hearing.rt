@@ -13,7 +13,7 @@ ghost use Rattle.fibs_exchange.specs.Turns.Turn.{Talked, FedToALine};
 ghost use Rattle.fibs_directory.specs.declared.fault.DirectoryFault.{DirectoryFault};
 
 use crate::ExchangeFault;
-use crate::link::Link;
+use fibs_links::link::Link;
 use crate::sending::send_commands;
 use crate::turn_fault::TurnFault;
 use fibs_front::front::Front;

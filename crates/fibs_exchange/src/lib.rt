@@ -13,7 +13,6 @@ ghost use Rattle.fibs_engine.specs.Reads.{LostAtMost, turn_limit};
 
 mod hearing;
 pub mod laws;
-pub mod link;
 pub mod loss;
 pub mod sending;
 mod turn_fault;
@@ -25,7 +24,7 @@ use fibs_front::front::Front;
 use fibs_front::plain::Plain;
 use fibs_session::{Client, Directory, Outstanding};
 use hearing::hear_portion;
-use link::Link;
+use fibs_links::link::Link;
 use loss::end_connection;
 use std::io;
 use std::io::{ErrorKind, Write};

@@ -13,7 +13,7 @@ ghost use Rattle.fibs_exchange.specs.Turns.Typing.{typed_step, typed_act};
 ghost use Rattle.fibs_engine.specs.Writing.{Whole};
 
 use crate::ExchangeFault;
-use crate::link::Link;
+use fibs_links::link::Link;
 use crate::sending::send_command;
 use crate::turn_fault::TurnFault;
 use fibs_front::front::Front;

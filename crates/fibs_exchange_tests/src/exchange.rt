@@ -1,6 +1,6 @@
 //! Turns of a client with a stream in memory.
 use super::connected::{Kind, Seat, is_made_of, kind_of, opened};
-use fibs_exchange::link::Link;
+use fibs_links::link::Link;
 use fibs_exchange::{Ending, ExchangeFault, exchange};
 use fibs_messages::{Reading, read as read_line};
 use fibs_session::{Client, Directory, Login};

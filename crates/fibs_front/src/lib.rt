@@ -8,7 +8,6 @@ pub mod plain;
 pub mod printing;
 pub mod said;
 pub mod taking;
-pub mod typed_line;
 pub mod typing;
 pub mod wish;
 pub mod words;

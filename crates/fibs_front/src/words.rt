@@ -5,7 +5,7 @@ ghost use Rattle.fibs_front.specs.Wishes.{WishValue, wish_value, wish_of};
 use crate::fault::FrontFault;
 use crate::front::Front;
 use crate::plain::Plain;
-use crate::typed_line::TypedLine;
+use fibs_typed::typed_line::TypedLine;
 use crate::wish::{Wish, wish_of};
 use fibs_session::{Client, Directory};
 use std::io::Write;

@@ -1,7 +1,7 @@
 //! Connections to a server.
 
 use crate::alive::keep_alive;
-use fibs_exchange::link::Link;
+use crate::link::Link;
 use std::io;
 use std::io::ErrorKind;
 use std::net::{Net, SocketAddr, TcpStream, ToSocketAddrs};

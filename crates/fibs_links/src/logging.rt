@@ -1,9 +1,9 @@
 //! Connections of which a log is kept.
 
 use arrayvec::ArrayVec;
-use fibs_connect::dial::Dial;
+use crate::dial::Dial;
 use fibs_engine::writing::{Broken, write_bytes};
-use fibs_exchange::link::Link;
+use crate::link::Link;
 use fibs_lines::Lines;
 use std::fs::{File, OpenOptions};
 use std::io;

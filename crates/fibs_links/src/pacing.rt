@@ -2,8 +2,8 @@
 
 ghost use Rattle.std.specs.Io.{ReadsAtMost};
 
-use fibs_connect::dial::{Dial, Server};
-use fibs_exchange::link::Link;
+use crate::dial::{Dial, Server};
+use crate::link::Link;
 use std::io;
 use std::io::{ErrorKind, Read, Write};
 use std::net::{Net, TcpStream};

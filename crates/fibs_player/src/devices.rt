@@ -1,12 +1,12 @@
 //! The program on its devices: what a person types and sees. If standard output is a pipe or a file, it gets the plain
 //! account.
 
-use crate::environment::settings;
+use fibs_environment::terminal_settings;
 use crate::playing::play;
 use crate::showing::show_on;
 use arrayvec::ArrayVec;
 use fibs_connect::converse_at;
-use fibs_connect::dial::{Place, READ_MILLIS};
+use fibs_links::dial::{Place, READ_MILLIS};
 use fibs_engine::fault::EngineFault;
 use fibs_engine::fixed::{append, append_number};
 use fibs_engine::limits::MOST_INPUT_READS;
@@ -54,7 +54,7 @@ pub struct Call<'a> {
 /// Errors: `Device` if a stream fails, `Memory`.
 pub fn show(rt: &HostRuntime) -> Result<u8, EngineFault> {
     let alloc = rt.alloc();
-    let mut front = Terminal::new(alloc, rt.stdout(), rt, settings(rt, "", 0));
+    let mut front = Terminal::new(alloc, rt.stdout(), rt, terminal_settings(rt, "", 0));
     let held = show_on(MOST_INPUT_READS, &mut rt.stdin(), &mut front)?;
     if held > 0 {
         let mut line = ArrayVec::<u8, 64>::new();
@@ -75,7 +75,7 @@ pub fn draw(rt: &HostRuntime, line: &[u8]) -> Result<(), EngineFault> {
         Ok(board) => match Position::of(&board) {
             Ok(position) => {
                 let mut text = Vec::new(alloc);
-                append_picture(alloc, &board, &position, &settings(rt, "", 0), &mut text)?;
+                append_picture(alloc, &board, &position, &terminal_settings(rt, "", 0), &mut text)?;
                 write_bytes(text.as_slice(), &mut rt.stdout())?;
                 Ok(())
             }

@@ -3,9 +3,6 @@
 #![tactic(auto)]
 
 mod devices;
-mod environment;
-pub mod logging;
-pub mod pacing;
 mod playing;
 pub mod showing;
 

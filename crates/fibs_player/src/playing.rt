@@ -1,10 +1,10 @@
 //! A person plays.
 
-use crate::environment::settings;
-use crate::logging::{LoggedServer, open};
-use crate::pacing::PacedServer;
+use fibs_environment::terminal_settings;
+use fibs_links::logging::{LoggedServer, open};
+use fibs_links::pacing::PacedServer;
 use fibs_connect::converse_on;
-use fibs_connect::dial::{Place, Server};
+use fibs_links::dial::{Place, Server};
 use fibs_engine::fault::EngineFault;
 use fibs_engine::limits::MOST_INPUT_READS;
 use fibs_engine::status::Status;
@@ -45,7 +45,7 @@ pub fn play<N: Net<Stream = TcpStream>, R: Read>(
     let name = name.as_bytes();
     let server = Server::new(net, place);
     if rt.stdout().is_terminal() {
-        let shown = settings(rt, place.host, place.port);
+        let shown = terminal_settings(rt, place.host, place.port);
         let mut front = Terminal::new(alloc, rt.stdout(), rt, shown);
         let mut server = LoggedServer::new(PacedServer::new(server, millis), rt, log);
         converse_on(

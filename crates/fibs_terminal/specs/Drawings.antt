@@ -4,7 +4,7 @@ use Rattle.fibs_boards.specs.Board.{BoardFields}
 use Rattle.fibs_position.specs.GoodBoard.{IsGood}
 use Rattle.fibs_picture.specs.Picture.{picture}
 use Rattle.fibs_picture.specs.Told.{SameToTheEye}
-use Rattle.fibs_wording.specs.declared.settings.Settings.{Settings}
+use Rattle.fibs_environment.specs.declared.settings.Settings.{Settings}
 
 -- the terminal takes the picture as it is: it shows nothing in bold, and is wide enough
 abbrev pub is_plain : Settings → Bool

@@ -10,7 +10,7 @@ use fibs_advice::rules::append_rule;
 use fibs_advice::spelling::words::append_spelled;
 use fibs_fields::split::split;
 use fibs_front::taking::would_take;
-use fibs_front::typed_line::{TYPED_LIMIT, TypedLine};
+use fibs_typed::typed_line::{TYPED_LIMIT, TypedLine};
 use fibs_front::typing::{Typed, is_command, read_typed};
 use fibs_front::wish::Wish;
 use fibs_position::Decision;

@@ -16,6 +16,5 @@ mod terminal;
 mod terminal_front;
 mod terminal_words;
 
-pub use fibs_wording::settings::Settings;
 pub use picture::append_picture;
 pub use terminal::Terminal;

@@ -11,7 +11,7 @@ use fibs_boards::board::Board;
 use fibs_picture::draw;
 use fibs_position::{Phase, Position};
 use fibs_wording::messages::front;
-use fibs_wording::settings::Settings;
+use fibs_environment::Settings;
 use std::alloc::{AllocError, Global};
 
 /// The columns of the widest picture.

@@ -1,7 +1,7 @@
 //! A screen: all that a terminal has but its writer.
 
 use crate::memory::Memory;
-use fibs_wording::settings::Settings;
+use fibs_environment::Settings;
 use std::alloc::{AllocError, Global};
 use std::time::Clock;
 

@@ -3,7 +3,7 @@
 ghost use Rattle.std.specs.Prelude.{◌≡◌};
 
 use crate::screen::Screen;
-use fibs_wording::settings::Settings;
+use fibs_environment::Settings;
 use std::alloc::Global;
 use std::io::Write;
 use std::time::Clock;

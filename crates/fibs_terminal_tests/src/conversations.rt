@@ -2,7 +2,7 @@
 
 use crate::seats::{Step, plain_settings, show_on, shown};
 use arrayvec::ArrayVec;
-use fibs_terminal::Settings;
+use fibs_environment::Settings;
 use std::alloc::Global;
 use std::test::Fail;
 

@@ -3,7 +3,7 @@
 use fibs_front::fault::FrontFault;
 use fibs_front::front::Front;
 use fibs_front::said::Said;
-use fibs_front::typed_line::TypedLine;
+use fibs_typed::typed_line::TypedLine;
 use fibs_front::typing::{Typed, read_typed};
 use fibs_front::wish::Wish;
 use fibs_front::words::Words;

@@ -1,7 +1,7 @@
 //! Messages, and their words.
 
 use crate::seats::{Step, plain_settings, shown};
-use fibs_terminal::Settings;
+use fibs_environment::Settings;
 use std::test::Fail;
 
 /// A line of the server, and what is shown of it.

@@ -1,7 +1,7 @@
 -- How typed lines are read, portion by portion. No public contract of the program rests on it.
 use Rattle.std.specs.Prelude.{◌≡◌, ◌≤◌, ◌+◌, ◌*◌, ℕ, Bool, true, List, length, nat_lt, Option, Some, None, ⊤}
 use Rattle.std.specs.Io.KnownBytes.{prepend_known, Consumes, IsAtEnd}
-use Rattle.fibs_connect.specs.Converse.Typing.{typed_line, after_typed_line, kept_typed}
+use Rattle.fibs_typed.specs.Typing.{typed_line, after_typed_line, kept_typed}
 
 -- what a reader of typed lines keeps: bytes that wait, how many reads it may still make, and whether nothing follows
 pub record TypedValue : Type 0 where

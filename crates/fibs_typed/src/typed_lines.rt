@@ -1,15 +1,17 @@
 //! The lines that a user types.
+
 ghost use Rattle.std.specs.Prelude.{◌≡◌, ◌<◌, ◌-◌, ◌++◌, [], take, length, is_some, false, true, IfOk, OnOk};
 ghost use Rattle.std.specs.Io.KnownBytes.{Consumes, IsAtEnd};
 ghost use Rattle.std.specs.Str.Lines.{strip_carriage_return};
 ghost use Rattle.fibs_fields.specs.Split.{before, after};
-ghost use Rattle.fibs_connect.specs.Converse.Typing.{kept_typed, rest_or_nothing};
-ghost use Rattle.fibs_connect.specs.Converse.Reading.{ahead, FitsDevice, TakesLine, SpendsReads};
+ghost use Rattle.fibs_typed.specs.Typing.{kept_typed, rest_or_nothing};
+ghost use Rattle.fibs_typed.specs.Reading.{ahead, FitsDevice, TakesLine, SpendsReads};
 
 use fibs_engine::fault::EngineFault;
 use fibs_engine::limits::READ_PORTION;
-use fibs_front::typed_line::{KEPT, TypedLine};
-use fibs_messages::split;
+use crate::typed_line::{KEPT, TypedLine};
+use fibs_fields::split::split;
+use fibs_lines::without_return;
 use std::io::Read;
 use std::marker::Model;
 
@@ -45,7 +47,7 @@ pub struct TypedLines {
 
 impl Model for TypedLines {
     ghost use Rattle.std.specs.Prelude.{◌≤◌, ◌-◌, take, drop};
-    ghost use Rattle.fibs_connect.specs.Converse.Reading.{TypedValue};
+    ghost use Rattle.fibs_typed.specs.Reading.{TypedValue};
 
     ghost Value = { TypedValue };
 
@@ -58,17 +60,6 @@ impl Model for TypedLines {
     ghost invariant = { λ t. (t.taken ≤ t.filled) × (t.filled ≤ 1024) };
 }
 
-/// How long a line of these bytes is without one CR at its end.
-fn returnless_len(bytes: &[u8]) -> usize
-    ensures { take result bytes.now ≡ strip_carriage_return bytes.now }
-{
-    let len = bytes.len();
-    if len > 0 && bytes[len - 1] == b'\r' {
-        return len - 1;
-    }
-    len
-}
-
 /// Keeps what there is room for of `run`.
 fn keep(line: &mut TypedLine, run: &[u8])
     ensures { line.new.items ≡ line.old.items ++ take (4098 - length line.old.items) run.now }
@@ -78,10 +69,11 @@ fn keep(line: &mut TypedLine, run: &[u8])
 }
 
 /// Drops one CR at the end of a line that has ended.
+#[tactic(auto, using(crate::proofs::TypedLemmas::Kept::front_stays))]
 fn drop_return(line: &mut TypedLine)
     ensures { line.new.items ≡ strip_carriage_return line.old.items }
 {
-    let len = returnless_len(line.as_slice());
+    let len = without_return(line.as_slice()).len();
     line.truncate(len);
 }
 

@@ -7,5 +7,4 @@ pub mod lists;
 pub mod messages;
 pub mod outcomes;
 pub mod reasons;
-pub mod settings;
 pub mod shown;

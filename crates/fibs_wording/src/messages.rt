@@ -1,7 +1,7 @@
 //! The words of messages.
 
 use crate::dates::{append_date, append_time};
-use crate::settings::Settings;
+use fibs_environment::Settings;
 use crate::shown::append_shown;
 use fibs_messages::{Message, OwnInfo, WhoInfo};
 use itoa::Buffer;

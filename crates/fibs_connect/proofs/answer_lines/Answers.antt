@@ -1,5 +1,5 @@
 use Rattle.std.proofs.Common.{rules, refl}
-use Rattle.fibs_connect.proofs.ConverseLemmas.Spent.{spends_nothing, spends_more}
+use Rattle.fibs_typed.proofs.TypedLemmas.Spent.{spends_nothing, spends_more}
 use Rattle.fibs_connect.proofs.answer_lines.Goals as goal
 
 pub loop-init : goal.loop-init

@@ -28,3 +28,14 @@ kept-line n part = elim (cases_lt (length part) (suc (suc n))) [
       ∙ take-take n (suc n) part (omega arith)
       ∙ sym (stripped n part (eqb (get_or part (length part - 1) 0) 13) (omega arith))
 ]
+
+-- a line without a CR at its end is a front of it
+stripped_front : (l : List ℕ) (t : Bool)
+    → take (length (cond t (take (length l - 1) l) l)) l ≡ cond t (take (length l - 1) l) l
+stripped_front l true =
+    let short : length (take (length l - 1) l) ≡ length l - 1 = omega (arith, length-take (length l - 1) l) in
+    ap (λ (k : ℕ). take k l) short
+stripped_front l false = take_all (length l) l (omega arith)
+
+pub front_stays : (l : List ℕ) → take (length (strip_carriage_return l)) l ≡ strip_carriage_return l
+front_stays l = stripped_front l (eqb (get_or l (length l - 1) 0) 13)

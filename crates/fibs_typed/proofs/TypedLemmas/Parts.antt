@@ -8,11 +8,11 @@ use Rattle.std.specs.Prelude.{◌==◌, is_some}
 use Rattle.std.specs.Io.KnownBytes.{Consumes, IsAtEnd, prepend_known}
 use Rattle.std.specs.Str.Lines.{strip_carriage_return}
 use Rattle.fibs_fields.specs.Split.{before, after}
-use Rattle.fibs_connect.specs.Converse.Typing.{kept_typed, without_end, rest_or_nothing}
-use Rattle.fibs_connect.specs.Converse.Reading.{TakesLine}
-use Rattle.fibs_connect.proofs.ConverseLemmas.Cuts.{before-all, before-more, after-more, after-front, before-front}
-use Rattle.fibs_connect.proofs.ConverseLemmas.Cuts.{cut-length}
-use Rattle.fibs_connect.proofs.ConverseLemmas.Kept.{kept-more, kept-line}
+use Rattle.fibs_typed.specs.Typing.{kept_typed, without_end, rest_or_nothing}
+use Rattle.fibs_typed.specs.Reading.{TakesLine}
+use Rattle.fibs_typed.proofs.TypedLemmas.Cuts.{before-all, before-more, after-more, after-front, before-front}
+use Rattle.fibs_typed.proofs.TypedLemmas.Cuts.{cut-length}
+use Rattle.fibs_typed.proofs.TypedLemmas.Kept.{kept-more, kept-line}
 
 -- of what was to come a part without a line end was taken, and kept as far as there is room
 pub record Parts (start now : Option (List ℕ)) (line : List ℕ) : Type 0 where

@@ -4,7 +4,7 @@ use Rattle.std.proofs.Common.{length-take}
 use Rattle.std.specs.Io.KnownBytes.{Consumes, Keeps}
 use Rattle.std.proofs.KnownBytes.{Consumes-nil, Consumes-trans, Consumes-kept}
 use Rattle.fibs_engine.specs.Reads.{LostAtMost}
-use Rattle.fibs_connect.specs.Converse.Reading.{TypedValue, SpendsReads}
+use Rattle.fibs_typed.specs.Reading.{TypedValue, SpendsReads}
 
 -- no read was made
 pub spends_nothing : (a b : TypedValue) (left : Option (List ℕ)) → b.reads ≡ a.reads → SpendsReads a b left left

@@ -1,8 +1,8 @@
 use Rattle.std.proofs.Common.{◌≡◌, ℕ, List, Option, sym, ap, ◌∙◌}
-use Rattle.fibs_connect.specs.Converse.Reading.{ahead, TypedValue, SpendsReads}
-use Rattle.fibs_connect.proofs.ConverseLemmas.Parts.{line_ended, line_last, line_goes_on}
-use Rattle.fibs_connect.proofs.ConverseLemmas.Spent.{spends_kept, spends_more}
-use Rattle.fibs_connect.proofs.typed_lines.TypedLines.read_to_end.Goals as goal
+use Rattle.fibs_typed.specs.Reading.{ahead, TypedValue, SpendsReads}
+use Rattle.fibs_typed.proofs.TypedLemmas.Parts.{line_ended, line_last, line_goes_on}
+use Rattle.fibs_typed.proofs.TypedLemmas.Spent.{spends_kept, spends_more}
+use Rattle.fibs_typed.proofs.typed_lines.TypedLines.read_to_end.Goals as goal
 
 -- the reads so far, a call that makes none, and one more
 spent : (a b c d : TypedValue) (left mid still : Option (List ℕ)) → SpendsReads a b left mid → c.reads ≡ b.reads

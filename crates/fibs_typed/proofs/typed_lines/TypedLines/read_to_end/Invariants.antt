@@ -1,6 +1,6 @@
-use Rattle.fibs_connect.specs.Converse.Reading.{ahead, FitsDevice, SpendsReads}
-use Rattle.fibs_connect.proofs.ConverseLemmas.Parts.{Parts}
-use Rattle.fibs_connect.proofs.typed_lines.TypedLines.read_to_end.Given as goal
+use Rattle.fibs_typed.specs.Reading.{ahead, FitsDevice, SpendsReads}
+use Rattle.fibs_typed.proofs.TypedLemmas.Parts.{Parts}
+use Rattle.fibs_typed.proofs.typed_lines.TypedLines.read_to_end.Given as goal
 
 -- of what was to come a part of the line was taken, and no more than the reads may give that were made
 abbrev pub invariant-loop-line : goal.invariant-loop-line

@@ -1,9 +1,9 @@
 use Rattle.std.proofs.Common.{◌-◌, ◌++◌, ℕ, List, length, take, drop, is_some, ap, sym}
 use Rattle.std.proofs.Common.{◌∙◌}
 use Rattle.fibs_fields.specs.Split.{before, after, seen}
-use Rattle.fibs_connect.specs.Converse.Typing.{rest_or_nothing}
-use Rattle.fibs_connect.proofs.ConverseLemmas.Cuts.{window-rest, window-fits, take-none}
-use Rattle.fibs_connect.proofs.typed_lines.TypedLines.take_to_end.Goals as goal
+use Rattle.fibs_typed.specs.Typing.{rest_or_nothing}
+use Rattle.fibs_typed.proofs.TypedLemmas.Cuts.{window-rest, window-fits, take-none}
+use Rattle.fibs_typed.proofs.typed_lines.TypedLines.take_to_end.Goals as goal
 
 pub invariant_of-self-in-Some : goal.invariant_of-self-in-Some
 invariant_of-self-in-Some c =

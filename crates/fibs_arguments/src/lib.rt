@@ -1,0 +1,6 @@
+//! The command line of `fibs`: its words, and what they ask for.
+#![tactic(auto)]
+
+mod arguments;
+
+pub use arguments::{Answer, Request, read};

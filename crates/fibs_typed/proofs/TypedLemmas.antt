@@ -1,0 +1,5 @@
+-- Typed lines, cut out of portions.
+pub mod Cuts
+pub mod Kept
+pub mod Parts
+pub mod Spent
