@@ -7,11 +7,9 @@ ghost use Rattle.fibs_replay.specs.Limits.{read_len};
 ghost use Rattle.fibs_replay.specs.Output.{LoggedInPart, Replayed, ReplayedInPart, ReplayFailed};
 ghost use Rattle.fibs_replay.specs.Scripts.{script_limit};
 
-mod sockets;
-
+use fibs_carrier::{BothEnds, Sockets};
 use fibs_engine::fault::EngineFault;
 use fibs_replay::replay_over;
-use sockets::{BothEnds, Sockets};
 use std::alloc::Global;
 use std::io::{Read, Write};
 use std::net::{Net, TcpListener, TcpStream};

@@ -12,10 +12,11 @@ pub use Rattle.fibs_machine.specs.Stale
 pub use Rattle.fibs_machine.specs.Acts
 pub use Rattle.fibs_machine.specs.Joint
 pub use Rattle.fibs_machine.specs.Laws
+-- what is given to a carrier
+pub use Rattle.fibs_carrier.specs.Carrying
 pub mod ServerOf
 pub mod EventOf
 pub mod EntryOf
-pub mod Carrying
 pub mod Clients
 pub mod WireOf
 pub mod LinksOf

@@ -2,7 +2,7 @@
 
 ghost use Rattle.std.specs.Prelude.{◌≡◌};
 
-use crate::carrier::Broken;
+use fibs_carrier::Broken;
 use fibs_machine::WorldRefusal;
 use std::alloc::AllocError;
 

@@ -1,7 +1,6 @@
 //! A model of a backgammon server, and what holds of it, of the wires to it and of a client: the headline.
 #![tactic(auto)]
 
-mod carrier;
 mod entry;
 mod event;
 mod halt;
@@ -11,9 +10,9 @@ mod server;
 pub mod wire;
 mod world;
 
-pub use carrier::{Broken, Carrier, InMemory, Way};
 pub use entry::Entry;
 pub use event::Event;
+pub use fibs_carrier::{Broken, Carrier, InMemory, Way};
 pub use fibs_machine::WorldRefusal;
 pub use fibs_position::is_die;
 pub use halt::Stop;

@@ -33,13 +33,13 @@ mod sending;
 mod serving;
 mod stepping;
 
-use crate::carrier::{Carrier, InMemory};
 use crate::entry::Entry;
 use crate::event::Event;
 use crate::halt::{Halt, Stop};
 use crate::laws;
 use crate::run_end::RunEnd;
 use crate::server::Server;
+use fibs_carrier::{Carrier, InMemory};
 use fibs_machine::WorldRefusal;
 use fibs_messages::Board;
 use fibs_session::{Client, Login};

@@ -4,7 +4,7 @@ use Rattle.std.proofs.Common.{drop, get_or, nat_eq, if◌then◌else◌, refl, s
 use Rattle.std.specs.Prelude.{option_map, IfSome, IsSome, Result, Ok, Err, OnOk}
 use Rattle.fibs_boards.specs.Board.{BoardFields}
 use Rattle.fibs_history.specs.Machine.{on_wire}
-use Rattle.fibs_model.specs.Carrying.{Crossing, crossed, closed, Joins}
+use Rattle.fibs_carrier.specs.Carrying.{Crossing, crossed, closed, Joins}
 use Rattle.fibs_model.specs.Crossings.{line_crossed, line_crossings, crossings_of, crossings_in, crossings_from, crossings}
 use Rattle.fibs_model.specs.Crossings.{CrossingsJoin}
 use Rattle.fibs_machine.specs.Events.{Event, Open, Click, Plain, Deliver, Lose, Serve, Own, Repeat, Text, Order, Withdraw}
@@ -13,7 +13,7 @@ use Rattle.fibs_machine.specs.Runs.{after_all, world_after}
 use Rattle.fibs_machine.specs.Wires.{next_line}
 use Rattle.fibs_machine.specs.World.{World, after, start}
 use Rattle.fibs_model.specs.WorldOf.{WorldValue, StandsFor, May}
-use Rattle.fibs_model.specs.declared.carrier.Way.TheVariants.{ToServer, ToClient}
+use Rattle.fibs_carrier.specs.declared.carrier.Way.TheVariants.{ToServer, ToClient}
 use Rattle.fibs_model.specs.declared.world.link.Link.{Link}
 use Rattle.fibs_machine.proofs.joint.EachEvent.{served}
 use Rattle.fibs_model.proofs.Likeness.Links.{link_was}

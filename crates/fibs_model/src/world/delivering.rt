@@ -15,10 +15,10 @@ use super::crossing::cross_to_client;
 use super::hearing::hear_all;
 use super::link::Link;
 use super::links::make_room;
-use crate::carrier::Carrier;
 use crate::entry::Entry;
 use crate::halt::Halt;
 use crate::wire::line_ends;
+use fibs_carrier::Carrier;
 use fibs_session::Client;
 use std::alloc::AllocError;
 

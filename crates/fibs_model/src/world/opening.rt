@@ -8,10 +8,10 @@ ghost use Rattle.fibs_model.specs.WorldOf.{May, Goes};
 use super::World;
 use super::link::Link;
 use super::links::COMMAND;
-use crate::carrier::Carrier;
 use crate::entry::Entry;
 use crate::halt::Halt;
 use crate::wire::Wire;
+use fibs_carrier::Carrier;
 
 impl World {
     /// The client opens a connection; its login goes on the new wire.

@@ -16,10 +16,10 @@ use super::crossing::cross_line;
 use super::hearing::note;
 use super::link::Link;
 use super::links::{BOARD, make_room, send_line};
-use crate::carrier::Carrier;
 use crate::halt::Halt;
 use crate::server::{Served, Server};
 use crate::wire::whole_line;
+use fibs_carrier::Carrier;
 
 /// The server takes the next line of a connection.
 fn take_line(server: &mut Server, link: &mut Link, conn: usize, len: usize, dice: [u8; 2]) -> Served

@@ -6,9 +6,9 @@ ghost use Rattle.fibs_model.specs.EventOf.{event_of};
 ghost use Rattle.fibs_model.specs.WorldOf.{May, Goes};
 
 use super::World;
-use crate::carrier::Carrier;
 use crate::event::Event;
 use crate::halt::Halt;
+use fibs_carrier::Carrier;
 
 impl World {
     /// Does an event that may be.

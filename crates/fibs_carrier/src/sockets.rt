@@ -1,9 +1,10 @@
-//! Both ends of a connection in one process, which carry what a world gives them.
+//! Both ends of a connection in one process, as a carrier.
+
 ghost use Rattle.std.specs.Prelude.{◌≡◌, [], ◌∷◌, refl, true, length, None, IsErr, OnOk, OnErr};
 ghost use Rattle.std.specs.Io.KnownBytes.{Appends, Consumes};
-ghost use Rattle.fibs_model.specs.Carrying.{connected, crossed};
+ghost use Rattle.fibs_carrier.specs.Carrying.{connected, crossed};
 
-use fibs_model::{Broken, Carrier, Way};
+use crate::carrier::{Broken, Carrier, Way};
 use std::io;
 use std::io::{Read, Write};
 use std::net::{Net, TcpListener, TcpStream};
@@ -24,6 +25,7 @@ pub struct Ends<E> {
 
 /// Makes connections of which it has both ends.
 pub trait Connects<E>: Drop {
+    /// A new connection.
     fn pair(&self) -> io::Result<Ends<E>>;
 }
 
@@ -120,7 +122,7 @@ impl<P, E> BothEnds<P, E> {
 }
 
 impl<E: Read + Write + Drop, P: Connects<E>> Carrier for BothEnds<P, E> {
-    ghost use Rattle.fibs_loop.specs.Ways.{Went, went_joined};
+    ghost use Rattle.fibs_carrier.specs.Ways.{Went, went_joined};
 
     ghost may_break = { true };
 

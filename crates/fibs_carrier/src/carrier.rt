@@ -1,7 +1,7 @@
 //! What carries bytes between the client and the server.
 
 ghost use Rattle.std.specs.Prelude.{◌≡◌, Bool, true, false, List, [], ◌∷◌, IsErr, OnOk, ⊤};
-ghost use Rattle.fibs_model.specs.Carrying.{Crossing, connected, crossed, closed, Joins};
+ghost use Rattle.fibs_carrier.specs.Carrying.{Crossing, connected, crossed, closed, Joins};
 
 /// Which way bytes go.
 #[derive(Clone, Copy, Debug, PartialEq, Eq)]

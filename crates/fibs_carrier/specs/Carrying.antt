@@ -1,6 +1,6 @@
 -- What is given to a carrier.
 use Rattle.std.specs.Prelude.{ℕ, List, [], ◌++◌}
-use Rattle.fibs_model.specs.declared.carrier.Way.{Way}
+use Rattle.fibs_carrier.specs.declared.carrier.Way.{Way}
 
 -- one thing that is given to it
 pub data Crossing : Type 0 where

@@ -2,9 +2,9 @@
 use Rattle.std.specs.Prelude.{◌≡◌, ℕ, List, [], ◌∷◌, ◌++◌, Option, None, Some, IsSome}
 use Rattle.std.proofs.Common.{subst}
 use Rattle.std.specs.Io.KnownBytes.{Appends, Consumes}
-use Rattle.fibs_model.specs.Carrying.{Crossing, connected, crossed, closed}
-use Rattle.fibs_model.specs.declared.carrier.Way.TheVariants.{ToServer, ToClient}
-use Rattle.fibs_loop.specs.declared.sockets.Ends.{Ends}
+use Rattle.fibs_carrier.specs.Carrying.{Crossing, connected, crossed, closed}
+use Rattle.fibs_carrier.specs.declared.carrier.Way.TheVariants.{ToServer, ToClient}
+use Rattle.fibs_carrier.specs.declared.sockets.Ends.{Ends}
 
 -- One crossing. Bytes were written at one end, and read at the other.
 abbrev pub Did : {E : Type 0} → (contents remaining : E → Option (List ℕ)) → Option (Ends E) → Crossing

@@ -1,6 +1,6 @@
 use Rattle.std.proofs.Common.{◌≡◌, ℕ, List, ◌++◌, length}
 use Rattle.std.specs.Io.KnownBytes.{Appends, Consumes}
-use Rattle.fibs_loop.proofs.sockets.carry_all.Given as goal
+use Rattle.fibs_carrier.proofs.sockets.carry_all.Given as goal
 
 -- a front of the bytes was written at one end, and read at the other
 abbrev pub invariant-loop-rest : goal.invariant-loop-rest

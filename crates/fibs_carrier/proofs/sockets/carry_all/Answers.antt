@@ -1,7 +1,7 @@
 use Rattle.std.proofs.Common.{[], ◌++◌, take, refl}
 use Rattle.std.proofs.KnownBytes.{Appends-nil, Appends-trans, Consumes-nil, Consumes-trans}
-use Rattle.fibs_loop.proofs.Portions.{done_more}
-use Rattle.fibs_loop.proofs.sockets.carry_all.Goals as goal
+use Rattle.fibs_carrier.proofs.Portions.{done_more}
+use Rattle.fibs_carrier.proofs.sockets.carry_all.Goals as goal
 
 pub loop-rest-init : goal.loop-rest-init
 loop-rest-init g c = record {
