@@ -1,4 +1,2 @@
-pub mod Outcomes
-pub mod wires
 pub mod Following
 pub mod Likeness

@@ -1,5 +1,5 @@
 -- What the calls of a world do to its log and its wires.
-use Rattle.std.specs.Prelude.{◌≡◌, ℕ, ◌+◌, take, drop, Bool, true, false, not, ◌&&◌, ◌||◌, List, [], ◌∷◌, length}
+use Rattle.std.specs.Prelude.{◌≡◌, ℕ, ◌+◌, take, drop, false, not, ◌&&◌, ◌||◌, List, [], ◌∷◌, length}
 use Rattle.std.specs.Prelude.{Option, Some, None, if◌then◌else◌, nat_eq, nat_lt, is_some}
 use Rattle.fibs_boards.specs.Board.{BoardFields}
 use Rattle.fibs_position.specs.DecisionValue.{DecisionValue}
@@ -12,7 +12,8 @@ use Rattle.fibs_position.specs.BoardEffect.{is_die}
 use Rattle.fibs_machine.specs.Server.{ServerValue}
 use Rattle.fibs_model.specs.WireLinks.{more_asked, more_coming, taken}
 use Rattle.fibs_machine.specs.Wires.{next_line}
-use Rattle.fibs_model.specs.ServerOf.{after_line}
+use Rattle.fibs_server.specs.ServerOf.{after_line}
+pub use Rattle.fibs_server.specs.ServerOf.{served_entries, is_answered}
 use Rattle.fibs_model.specs.declared.world.link.Link as C
 use Rattle.fibs_machine.specs.declared.refusal.WorldRefusal.{WorldRefusal}
 use Rattle.fibs_machine.specs.declared.refusal.WorldRefusal.TheVariants.{NoSuchConnection, BadDice, NothingToServe}
@@ -39,22 +40,6 @@ click_entries c d None (Some b) = L.Clicked c d None ∷ L.Sent c b d ∷ []
 abbrev pub unless_refused : Option Refusal → L.Entry → List L.Entry
 unless_refused (Some why) e = []
 unless_refused None e = e ∷ []
-
--- what is noted of a line that the server took, with its board before
-abbrev pub served_entries : ℕ → BoardFields → V.Served → List L.Entry
-served_entries c before V.Stale = []
-served_entries c before V.LoggedIn = L.LoggedIn c ∷ []
-served_entries c before (V.Took d b) = L.Took c before d ∷ []
-served_entries c before (V.Undone d) = L.Undone c before d ∷ []
-served_entries c before V.Answered = []
-
--- the line is answered by the board
-abbrev pub is_answered : V.Served → Bool
-is_answered V.Stale = false
-is_answered V.LoggedIn = false
-is_answered (V.Took d b) = true
-is_answered (V.Undone d) = true
-is_answered V.Answered = true
 
 -- why a line of a connection may not be served
 abbrev pub serve_refusal : List LinkValue → ℕ → ℕ → ℕ → ℕ → Option WorldRefusal

@@ -12,13 +12,13 @@ pub use Rattle.fibs_machine.specs.Stale
 pub use Rattle.fibs_machine.specs.Acts
 pub use Rattle.fibs_machine.specs.Joint
 pub use Rattle.fibs_machine.specs.Laws
--- what is given to a carrier
+-- what is given to a carrier; the server, events and entries of the program; a wire
 pub use Rattle.fibs_carrier.specs.Carrying
-pub mod ServerOf
-pub mod EventOf
-pub mod EntryOf
+pub use Rattle.fibs_server.specs.ServerOf
+pub use Rattle.fibs_server.specs.EventOf
+pub use Rattle.fibs_server.specs.EntryOf
+pub use Rattle.fibs_wires.specs.WireOf
 pub mod Clients
-pub mod WireOf
 pub mod LinksOf
 pub mod WireLinks
 pub mod WorldOf

@@ -8,7 +8,7 @@ use Rattle.fibs_model.specs.LinksOf.{LinkValue, link_of, seen, link_at}
 use Rattle.fibs_machine.specs.Server as V
 use Rattle.fibs_machine.specs.Wires.{next_line}
 use Rattle.fibs_model.specs.WireLinks.{taken}
-use Rattle.fibs_model.specs.WireOf.{WireValue}
+use Rattle.fibs_wires.specs.WireOf.{WireValue}
 use Rattle.fibs_model.specs.declared.world.link.Link.{Link}
 use Rattle.fibs_machine.proofs.Answering.{answered_at}
 use Rattle.fibs_model.proofs.Likeness.Links.{link_set, link_was, value_path}

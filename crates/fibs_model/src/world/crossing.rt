@@ -8,8 +8,8 @@ ghost use Rattle.fibs_model.specs.LinksOf.{seen, link_at};
 ghost use Rattle.fibs_machine.specs.Wires.{next_line};
 
 use super::link::Link;
-use crate::wire::whole_line;
 use fibs_carrier::{Broken, Carrier, Way};
+use fibs_wires::wire::whole_line;
 
 /// The next bytes to the client cross.
 pub(super) fn cross_to_client<C: Carrier>(

@@ -1,6 +1,6 @@
 //! The wires of one connection.
 
-use crate::wire::Wire;
+use fibs_wires::wire::Wire;
 
 /// The wires of a connection.
 #[derive(Drop)]

@@ -8,9 +8,9 @@ ghost use Rattle.fibs_model.specs.WorldOf.{May, Goes};
 use super::World;
 use super::crossing::hang_up;
 use super::links::cut;
-use crate::entry::Entry;
 use crate::halt::Halt;
 use fibs_carrier::Carrier;
+use fibs_server::Entry;
 
 impl World {
     /// The open connection ends: of the bytes on their way to the server the first `kept` stay.

@@ -8,10 +8,10 @@ ghost use Rattle.fibs_model.specs.WorldOf.{May, Goes};
 use super::World;
 use super::link::Link;
 use super::links::COMMAND;
-use crate::entry::Entry;
 use crate::halt::Halt;
-use crate::wire::Wire;
 use fibs_carrier::Carrier;
+use fibs_server::Entry;
+use fibs_wires::wire::Wire;
 
 impl World {
     /// The client opens a connection; its login goes on the new wire.

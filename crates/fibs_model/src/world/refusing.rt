@@ -2,7 +2,7 @@
 
 ghost use Rattle.std.specs.Prelude.{◌≡◌, ℕ, List, length, slice_index};
 ghost use Rattle.fibs_model.specs.Calls.{serve_refusal};
-ghost use Rattle.fibs_model.specs.EventOf.{event_of};
+ghost use Rattle.fibs_server.specs.EventOf.{event_of};
 ghost use Rattle.fibs_model.specs.LinksOf.{seen, link_at};
 ghost use Rattle.fibs_machine.specs.Refusals.{refusal};
 ghost use Rattle.fibs_machine.specs.World as W;
@@ -10,10 +10,10 @@ ghost use Rattle.fibs_model.specs.WorldOf.{StandsFor};
 
 use super::World;
 use super::link::Link;
-use crate::event::Event;
-use crate::wire::{is_board_text, whole_line};
 use fibs_machine::WorldRefusal;
 use fibs_position::is_die;
+use fibs_server::{Event, own_refusal};
+use fibs_wires::wire::{is_board_text, whole_line};
 
 /// Why a line of a connection may not be served.
 #[tactic(auto, unfolding(crate::specs::Calls::serve_refusal))]
@@ -62,7 +62,7 @@ impl World {
             Event::Serve { conn, dice } => {
                 serve_refusal(&self.links, self.server.logged_in(), *conn, *dice)
             }
-            Event::Own(board) => self.server.own_refusal(board),
+            Event::Own(board) => own_refusal(&self.server, board),
             Event::Text(line) => {
                 if is_board_text(line) {
                     Some(WorldRefusal::BoardAsText)

@@ -1,0 +1,16 @@
+use Rattle.std.proofs.Common.{ap}
+use Rattle.std.specs.Prelude.{option_map}
+use Rattle.fibs_boards.specs.StoredBoard.{fields_of}
+use Rattle.fibs_server.proofs.server.Server.obey.Goals as goal
+
+pub unwrap-self-inside-requires : goal.unwrap-self-inside-requires
+unwrap-self-inside-requires c =
+    c.of.ensures.good.1 (c.effect_is_good.ensures _ _ _ _
+    ((c.effect.ensures.carried _).0 (ap (option_map fields_of) c.in-Some.is))).0
+
+pub invariant_of-self : goal.invariant_of-self
+invariant_of-self c = (
+  (c.good_is_exact.ensures _).1
+      (c.effect_is_good.ensures _ _ _ _ ((c.effect.ensures.carried _).0 (ap (option_map fields_of) c.in-Some.is))).0,
+  rw c.unwrap-self-inside.ensures at c.of.ensures.same,
+)

@@ -1,0 +1,3 @@
+pub mod ServerOf
+pub mod EventOf
+pub mod EntryOf
