@@ -8,8 +8,8 @@ use Rattle.fibs_boards.specs.Board.{BoardFields}
 use Rattle.fibs_show.specs.Plays.{PlaysText}
 use Rattle.fibs_cli.specs.Program.{Streams, Showed, Listed, Played, RanScript, PlayedScript, Served}
 use Rattle.fibs_engine.specs.Printing.{Printed}
-use Rattle.fibs_replay.specs.Output.{LoggedInPart, Replayed, ReplayFailed, ReplayedInPart}
-use Rattle.fibs_replay.specs.Scripts.{script_limit}
+use Rattle.fibs_scripts.specs.Output.{LoggedInPart, Replayed, ReplayFailed, ReplayedInPart}
+use Rattle.fibs_scripts.specs.Scripts.{script_limit}
 use Rattle.fibs_engine.specs.Reads.{LostAtMost}
 use Rattle.fibs_show.specs.Show.{WroteAll, WroteRead, WroteLines, WroteFront}
 use Rattle.fibs_engine.specs.Writing.{GainedFront}

@@ -7,7 +7,7 @@ use Rattle.fibs_messages.specs.Line.{ReadingValue, board_line, IsReading}
 use Rattle.fibs_position.specs.GoodBoard.{IsGood}
 use Rattle.fibs_connect.specs.Converse.Ending.{Conversed}
 use Rattle.fibs_show.specs.Plays.{PlaysText, Refusal}
-use Rattle.fibs_replay.specs.Output.{LoggedInPart, Replayed, ReplayFailed, ReplayedInPart}
+use Rattle.fibs_scripts.specs.Output.{LoggedInPart, Replayed, ReplayFailed, ReplayedInPart}
 use Rattle.fibs_show.specs.Show.{WroteAll, WroteRead, WroteLines, WroteFront}
 use Rattle.fibs_engine.specs.Printing.{Printed}
 use Rattle.fibs_engine.specs.Writing.{GainedFront}

@@ -1,10 +1,3 @@
--- Scripts of events, the lines of the log, and what `fibs replay` prints.
-pub mod Splits
-pub mod EventTexts
-pub mod Events
-pub mod Lines
-pub mod Scripts
-pub mod Outputs
+-- A script of events is run, and what it led to is printed.
 pub mod Runs
 pub mod Carrying
-pub mod Reads

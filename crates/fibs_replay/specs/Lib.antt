@@ -1,10 +1,3 @@
--- What `fibs replay` reads and prints: a script of events, and the log of the world after them.
-pub mod Limits
-pub mod EventLines
-pub mod EventReading
-pub mod Scripts
-pub mod LogLines
-pub mod Output
+-- How a script is run on a world, what is printed then, and what its carrier is given.
 pub mod Carried
-pub mod Passing
 pub mod Running

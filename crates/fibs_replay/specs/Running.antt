@@ -13,7 +13,7 @@ use Rattle.fibs_engine.specs.declared.fault.EngineFault.TheVariants as fault
 use Rattle.std.specs.Io.KnownBytes.{Appends}
 use Rattle.fibs_engine.specs.Printing.{Printed}
 use Rattle.fibs_engine.specs.Writing.{GainedFront}
-use Rattle.fibs_replay.specs.Output.{script_login, end_text, refused_text, ReplayText, LogOf, IsFor}
+use Rattle.fibs_scripts.specs.Output.{script_login, end_text, refused_text, ReplayText, LogOf, IsFor}
 
 -- the world is reached by these events of the user of scripts
 abbrev pub StandsFrom : WorldValue → BoardFields → List Event → Type 0

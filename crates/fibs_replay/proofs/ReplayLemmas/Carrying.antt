@@ -18,10 +18,10 @@ use Rattle.fibs_engine.specs.Printing.{Printed}
 use Rattle.fibs_engine.specs.declared.fault.EngineFault.{EngineFault}
 use Rattle.fibs_engine.specs.declared.fault.EngineFault.TheVariants as fault
 use Rattle.fibs_replay.specs.Carried.{IsLast, CarriedFor, Carried}
-use Rattle.fibs_replay.specs.LogLines.{log_text}
-use Rattle.fibs_replay.specs.Output.{script_login, ReadWhole, unread_text, end_text, refused_text, log_after}
+use Rattle.fibs_scripts.specs.LogLines.{log_text}
+use Rattle.fibs_scripts.specs.Output.{script_login, ReadWhole, unread_text, end_text, refused_text, log_after}
 use Rattle.fibs_replay.specs.Running.{StandsFrom, RanTo, GaveUp, RunPrinted}
-use Rattle.fibs_replay.specs.Scripts.{script_lines, SayScript}
+use Rattle.fibs_scripts.specs.Scripts.{script_lines, SayScript}
 use Rattle.fibs_replay.proofs.ReplayLemmas.Runs.{may_be_none}
 
 -- the events in front

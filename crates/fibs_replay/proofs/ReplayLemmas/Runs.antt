@@ -14,7 +14,7 @@ use Rattle.fibs_model.specs.Runs.{AllAccepted, after_all, MayBe, world_after}
 use Rattle.fibs_model.specs.World.{World, start, after}
 use Rattle.fibs_model.specs.WorldCalls.{Tells, Halts, HaltsAt}
 use Rattle.fibs_model.specs.WorldOf.{WorldValue}
-use Rattle.fibs_model.specs.declared.event.Event.{Event as ProgramEvent}
+use Rattle.fibs_server.specs.declared.event.Event.{Event as ProgramEvent}
 use Rattle.fibs_model.specs.declared.halt.Stop.{Stop}
 use Rattle.fibs_model.specs.declared.halt.Stop.TheVariants as S
 use Rattle.fibs_machine.specs.declared.refusal.WorldRefusal.{WorldRefusal}
@@ -22,15 +22,14 @@ use Rattle.fibs_machine.specs.declared.refusal.WorldRefusal.TheVariants as W
 use Rattle.fibs_engine.specs.declared.fault.EngineFault.{EngineFault}
 use Rattle.fibs_engine.specs.declared.fault.EngineFault.TheVariants as fault
 use Rattle.fibs_engine.specs.Printing.{Printed}
-use Rattle.fibs_replay.specs.LogLines.{log_text}
-use Rattle.fibs_replay.specs.Output.{script_login, unread_text, end_text, refused_text, log_after, ReplayText}
-use Rattle.fibs_replay.specs.Output.{too_long, unreadable, refused, to_the_end, LogOf, Replayed}
-use Rattle.fibs_replay.specs.Output.{LoggedInPart, ReplayFailed, ReplayedInPart, ReadWhole, ReadLines}
+use Rattle.fibs_scripts.specs.LogLines.{log_text}
+use Rattle.fibs_scripts.specs.Output.{script_login, unread_text, end_text, refused_text, log_after, ReplayText}
+use Rattle.fibs_scripts.specs.Output.{refused, to_the_end, LogOf, Replayed}
+use Rattle.fibs_scripts.specs.Output.{LoggedInPart, ReplayFailed, ReplayedInPart, ReadWhole, ReadLines}
 use Rattle.fibs_replay.specs.Running.{StandsFrom, RanTo, Broke, RunPrinted, PrintedFor}
-use Rattle.fibs_replay.specs.Scripts.{script_limit, script_lines, SayEvents, SayScript, IsNoEvent}
-use Rattle.fibs_replay.specs.Scripts.{FirstUnreadable}
-use Rattle.fibs_replay.specs.declared.script.Script.TheVariants.{Unreadable}
-use Rattle.fibs_replay.proofs.ReplayLemmas.Scripts.{ReadsLine}
+use Rattle.fibs_scripts.specs.Scripts.{script_limit, script_lines, SayEvents, SayScript, IsNoEvent}
+use Rattle.fibs_scripts.specs.declared.script.Script.TheVariants.{Unreadable}
+use Rattle.fibs_scripts.proofs.ScriptLemmas.Scripts.{ReadsLine}
 
 -- events that may be
 
@@ -382,13 +381,6 @@ pub good_first : GoodIsExact → (b : BoardFields) → None ≡ (if good b then 
 good_first exact b h = (exact b).0 (taken_first (good b) h)
 
 -- a script that is not run
-
-pub unread_long : (left still : Option (List ℕ)) → ReadWhole None left still → ReadLines (Unreadable 0) left still
-unread_long left still read = (read.0, read.1, inr read.2, too_long read.2)
-
-pub unread_at : (script : List ℕ) (number : ℕ) (left still : Option (List ℕ)) → ReadWhole (Some script) left still
-    → FirstUnreadable (script_lines script) number → ReadLines (Unreadable number) left still
-unread_at script number left still read first = (script, read.0, inl read.1, unreadable number read.2 first)
 
 pub unread_done : (r : Result ℕ EngineFault) (number : ℕ) (left still held now : Option (List ℕ)) (text : List ℕ)
     → ReadLines (Unreadable number) left still → text ≡ unread_text number → Printed 3 text r held now

@@ -1,0 +1,8 @@
+-- Scripts of events, and the lines of the log.
+pub mod Splits
+pub mod EventTexts
+pub mod Events
+pub mod Lines
+pub mod Scripts
+pub mod Outputs
+pub mod Reads

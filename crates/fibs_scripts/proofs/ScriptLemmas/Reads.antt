@@ -1,0 +1,41 @@
+-- How many bytes of a script are read, and what is known of a script that is not run.
+use Rattle.std.proofs.Common.{◌≡◌, ◌≤◌, ◌+◌, ◌++◌, ℕ, List, Option, None, Some, arith, inl, inr, length, take}
+use Rattle.std.proofs.lemmas.List.{length-append, length-take}
+use Rattle.std.specs.Io.KnownBytes.{Consumes, Keeps}
+use Rattle.std.proofs.KnownBytes.{Consumes-kept, Consumes-trans}
+use Rattle.fibs_engine.specs.Reads.{LostAtMost}
+use Rattle.fibs_scripts.specs.Output.{too_long, unreadable, ReadWhole, ReadLines}
+use Rattle.fibs_scripts.specs.Scripts.{script_lines, FirstUnreadable}
+use Rattle.fibs_scripts.specs.declared.script.Script.TheVariants.{Unreadable}
+
+-- a read that gave nothing
+pub few_kept : (most : ℕ) (a b c : Option (List ℕ)) (read : List ℕ) → Consumes a b read → length read ≤ most → Keeps b c
+    → LostAtMost most a c
+few_kept most a b c read took few kept = (read, few, Consumes-kept a b c read took kept)
+
+-- a read that gave nothing new, and its bytes are known
+pub few_known : (most : ℕ) (a b : Option (List ℕ)) (read : List ℕ) → Consumes a b read → length read ≤ most
+    → LostAtMost most a b
+few_known most a b read took few = (read, few, took)
+
+-- a read that gave bytes
+pub few_more : (most size : ℕ) (a b c : Option (List ℕ)) (read : List ℕ) (count : ℕ) (portion : List ℕ)
+    → Consumes a b read → length read ≤ most → length portion ≡ size → Consumes b c (take count portion)
+    → LostAtMost (most + size) a c
+few_more most size a b c read count portion took few whole more =
+    let long = length-append read (take count portion) in
+    let part = length-take count portion in (
+      read ++ take count portion,
+      omega (arith, few, whole, long, part),
+      Consumes-trans a b c read (take count portion)
+          took more,
+    )
+
+-- a script that is not run
+
+pub unread_long : (left still : Option (List ℕ)) → ReadWhole None left still → ReadLines (Unreadable 0) left still
+unread_long left still read = (read.0, read.1, inr read.2, too_long read.2)
+
+pub unread_at : (script : List ℕ) (number : ℕ) (left still : Option (List ℕ)) → ReadWhole (Some script) left still
+    → FirstUnreadable (script_lines script) number → ReadLines (Unreadable number) left still
+unread_at script number left still read first = (script, read.0, inl read.1, unreadable number read.2 first)

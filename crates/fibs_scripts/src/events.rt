@@ -1,0 +1,138 @@
+//! Events, read from the lines of a script.
+ghost use Rattle.std.specs.Prelude.{◌≡◌, ◌↔◌, Some, IfSome, IfNone, option_map};
+ghost use Rattle.fibs_boards.specs.Board.{BoardText};
+ghost use Rattle.fibs_fields.specs.Decimal.{decimal_up_to};
+ghost use Rattle.fibs_boards.specs.StoredBoard.{fields_of};
+ghost use Rattle.fibs_server.specs.EventOf.{event_of};
+ghost use Rattle.fibs_machine.specs.Events.{Event as EventValue};
+ghost use Rattle.fibs_scripts.specs.EventLines.{SaysEvent};
+ghost use Rattle.fibs_scripts.specs.EventReading.{alone_in, board_in, event_in, joined_in, of_roll};
+ghost use Rattle.fibs_scripts.specs.EventReading.{serving_in};
+ghost use Rattle.fibs_scripts.specs.Scripts.{IsNoBoard, IsNoEvent};
+
+use crate::laws::events_are_exact;
+use fibs_messages::{Board, read_decimal, split};
+use fibs_position::Direction;
+use fibs_server::Event;
+use fibs_session::{read_command, read_plain};
+
+/// The number of a connection, or how many bytes.
+fn read_count(text: &[u8]) -> Option<usize>
+    ensures { result ≡ decimal_up_to 4294967295 text.now }
+{
+    let count = read_decimal(text, 4_294_967_295)?;
+    Some(count as usize)
+}
+
+/// The number of a die. Which numbers are dice is not said by the line.
+fn read_die(text: &[u8]) -> Option<u8>
+    ensures { result ≡ decimal_up_to 255 text.now }
+{
+    let die = read_decimal(text, 255)?;
+    Some(die as u8)
+}
+
+/// The board that a line says; None if it says none.
+pub fn read_board(line: &[u8]) -> Option<Board>
+    ensures some { IfSome result (λ board. BoardText (fields_of board) line.now) }
+    ensures none { IfNone result (IsNoBoard line.now) }
+    ensures value { option_map fields_of result ≡ board_in line.now }
+{
+    fibs_messages::laws::reading_is_exact();
+    fibs_messages::laws::each_line_has_one_reading();
+    fibs_messages::laws::spellings_are_lines();
+    Board::read(line).ok()
+}
+
+/// A connection and two dice.
+#[tactic(auto, unfolding(crate::specs::EventReading::serving_in))]
+fn read_serving<'a>(rest: &[u8]) -> Option<Event<'a>>
+    ensures { option_map event_of result ≡ serving_in rest.now }
+{
+    let (conn, dice) = split(rest, b' ');
+    let conn = read_count(conn)?;
+    let (one, other) = split(dice?, b' ');
+    let one = read_die(one)?;
+    let other = read_die(other?)?;
+    Some(Event::Serve {
+        conn,
+        dice: [one, other],
+    })
+}
+
+/// A word alone.
+#[tactic(auto, unfolding(crate::specs::EventReading::alone_in))]
+fn read_alone<'a>(word: &[u8]) -> Option<Event<'a>>
+    ensures { option_map event_of result ≡ alone_in word.now }
+{
+    if word == b"open".as_slice() {
+        Some(Event::Open)
+    } else if word == b"repeat".as_slice() {
+        Some(Event::Repeat)
+    } else if word == b"text".as_slice() {
+        Some(Event::Text(b""))
+    } else {
+        None
+    }
+}
+
+/// An event of the standing order, which is one to roll.
+#[tactic(auto, unfolding(crate::specs::EventReading::of_roll))]
+fn read_roll<'a>(event: Event<'a>, rest: &[u8]) -> Option<Event<'a>>
+    ensures { option_map event_of result ≡ of_roll (event_of event.entry) rest.now }
+{
+    if rest == b"roll".as_slice() {
+        Some(event)
+    } else {
+        None
+    }
+}
+
+/// A word, and what follows the space after it.
+#[tactic(auto, unfolding(crate::specs::EventReading::joined_in))]
+fn read_joined<'a>(word: &[u8], rest: &'a [u8]) -> Option<Event<'a>>
+    ensures { option_map event_of result ≡ joined_in word.now rest.now }
+{
+    if word == b"click".as_slice() {
+        Some(Event::Click(read_command(rest, Direction::Down)?))
+    } else if word == b"plain".as_slice() {
+        Some(Event::Plain(read_plain(rest)?))
+    } else if word == b"order".as_slice() {
+        read_roll(Event::Order, rest)
+    } else if word == b"withdraw".as_slice() {
+        read_roll(Event::Withdraw, rest)
+    } else if word == b"deliver".as_slice() {
+        Some(Event::Deliver(read_count(rest)?))
+    } else if word == b"lose".as_slice() {
+        Some(Event::Lose(read_count(rest)?))
+    } else if word == b"serve".as_slice() {
+        read_serving(rest)
+    } else if word == b"own".as_slice() {
+        Some(Event::Own(read_board(rest)?))
+    } else if word == b"text".as_slice() {
+        Some(Event::Text(rest))
+    } else {
+        None
+    }
+}
+
+/// The event that a line of a script says, without its line end; None if it says none.
+///
+/// The first word says the event, and its parts follow, each after one space: `open`, `click COMMAND` in the place
+/// numbers of a player who goes from 24 down to 1, `plain COMMAND`, `order roll`, `withdraw roll`, `deliver N`,
+/// `lose K`, `serve C D1 D2`, `own BOARD`, `repeat`, `text BYTES`, in which all that follows the space is the text,
+/// which is empty if there is no space. N, K and C are decimals without leading zero up to 4,294,967,295, D1 and D2 up
+/// to 255.
+#[tactic(auto, unfolding(crate::specs::EventReading::event_in))]
+pub fn read_event(line: &[u8]) -> Option<Event<'_>>
+    ensures none { IfNone result (IsNoEvent line.now) }
+    ensures exact { (event : EventValue) → (option_map event_of result ≡ Some event) ↔ SaysEvent line.now event }
+    ensures value { option_map event_of result ≡ event_in line.now }
+{
+    events_are_exact();
+    let (word, rest) = split(line, b' ');
+    match rest {
+        None => read_alone(word),
+        Some(rest) => read_joined(word, rest),
+    }
+}
