@@ -4,5 +4,6 @@ pub mod FieldFaults
 pub mod FieldValues
 pub mod NameFronts
 pub mod Options
+pub mod Runs
 pub mod Spaces
 pub mod Splits

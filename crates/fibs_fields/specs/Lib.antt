@@ -12,3 +12,4 @@ pub mod Bytes
 -- What only private functions and proofs say; on the reading of fields rests `reading_value` of fibs_messages too.
 pub mod DecimalReading
 pub mod FieldReading
+pub mod Runs

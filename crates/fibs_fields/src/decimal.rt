@@ -12,6 +12,7 @@ ghost use Rattle.fibs_fields.specs.Decimal.{numbers_of_32_bits, numbers_of_64_bi
 ghost use Rattle.fibs_fields.specs.DecimalReading.{IsNarrow, capped, unsigned_value};
 
 use crate::fault::Fault;
+use crate::runs::run_of;
 use crate::values::{Values, allows};
 
 /// Whether each byte is a digit.
@@ -26,12 +27,8 @@ fn are_digits(text: &[u8]) -> bool
 pub fn digit_run(text: &[u8]) -> usize
     ensures { result ≡ prefix_len is_ascii_digit text.now }
 {
-    for i in 0..text.len() {
-        if !text[i].is_ascii_digit() {
-            return i;
-        }
-    }
-    text.len()
+    // A colon is no digit either.
+    run_of(text, b'0', b'9', b':')
 }
 
 /// Whether the text is digits that begin with no 0.

@@ -9,6 +9,7 @@ pub mod laws;
 pub mod name;
 pub mod rating;
 pub mod reader;
+mod runs;
 pub mod split;
 pub mod trailing_spaces;
 pub mod values;

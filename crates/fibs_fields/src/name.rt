@@ -6,6 +6,7 @@ ghost use Rattle.fibs_fields.specs.Name.{is_name, is_name_byte};
 ghost use Rattle.fibs_fields.specs.Split.{before, after};
 
 use crate::dash::is_dash;
+use crate::runs::run_of;
 
 /// The name of a player, borrowed: 1 to 64 printable bytes of ASCII (33 to 126) without a colon.
 #[derive(Clone, Copy, Debug, PartialEq, Eq)]
@@ -26,12 +27,7 @@ fn is_name_byte(byte: &u8) -> bool
 pub fn name_run(text: &[u8]) -> usize
     ensures { result ≡ prefix_len is_name_byte text.now }
 {
-    for i in 0..text.len() {
-        if !is_name_byte(&text[i]) {
-            return i;
-        }
-    }
-    text.len()
+    run_of(text, 33, 126, b':')
 }
 
 /// True if each byte may be in a name.

@@ -1,8 +1,10 @@
 //! A text is split at a byte.
 
 ghost use Rattle.std.specs.Prelude.{◌≡◌, ◌∷◌, [], IfSome, Some};
+ghost use Rattle.bstr.specs.Find.{IsFirstByte, is_byte};
 ghost use Rattle.fibs_fields.specs.Split.{seen, before, after};
 
+use crate::runs::short_run;
 use bstr::ByteSlice;
 
 /// The first byte of a text and what comes after the second, if that is `byte` and the first is not.
@@ -16,6 +18,17 @@ pub fn one_before(text: &[u8], byte: u8) -> Option<(u8, &[u8])>
     } else {
         None
     }
+}
+
+/// Where the first `byte` of a text is. Nearly all fields end in the first window.
+#[inline(always)]
+fn place_of(text: &[u8], byte: u8) -> Option<usize>
+    ensures { IsFirstByte (is_byte byte) text.now result }
+{
+    if let Some(at) = short_run(text, 0, 255, byte) {
+        return Some(at);
+    }
+    text.find_byte(byte)
 }
 
 /// What comes before the first `byte`, and what comes after it, if there is one.
@@ -33,7 +46,7 @@ pub fn split(text: &[u8], byte: u8) -> (&[u8], Option<&[u8]>)
             return (&text[..2], Some(&text[3..]));
         }
     }
-    match text.find_byte(byte) {
+    match place_of(text, byte) {
         Some(at) => (&text[..at], Some(&text[at + 1..])),
         None => (text, None),
     }

@@ -1,13 +1,10 @@
--- The bytes of a name at the front of a text are one, and what follows them parts the text.
-use Rattle.std.proofs.Common.{◌≡◌, ◌∙◌, ℕ, suc, ◌<◌, ◌≤◌, ◌&&◌, Bool, true, false, List, Some, length, get_or, take}
-use Rattle.std.proofs.Common.{drop, sym, ap, arith, nat_le, nat_lt, true≢false}
+-- The bytes of a name at the front of a text are one.
+use Rattle.std.proofs.Common.{◌≡◌, ◌∙◌, ℕ, ◌<◌, ◌≤◌, ◌&&◌, Bool, true, List, length, take, ap, arith, nat_le, nat_lt}
 use Rattle.std.specs.List.{list_all, prefix_len}
 use Rattle.std.proofs.lemmas.Bool.{and_from, lt-ltb, le-leb}
 use Rattle.std.proofs.lemmas.List.{get_or-take, length-take-le}
 use Rattle.std.proofs.lemmas.List.Sums.{prefix_len_passes, prefix_len-le-length, list_all-from_AllPass}
 use Rattle.fibs_fields.specs.Name.{is_name, is_name_byte}
-use Rattle.fibs_fields.specs.Split.{before, after}
-use Rattle.fibs_fields.proofs.FieldLemmas.Splits.{split_at}
 
 -- each byte of the front that passes a test passes it
 pub front_passes : (p : ℕ → Bool) (text : List ℕ) (n : ℕ) → n ≡ prefix_len p text → list_all p (take n text) ≡ true
@@ -27,13 +24,3 @@ front_is_name text n is some few =
     (and_from (nat_lt 0 (length (take n text))) (nat_le (length (take n text)) 64)
     (lt-ltb 0 (length (take n text)) (omega arith)) (le-leb (length (take n text)) 64 (omega arith)))
     (front_passes is_name_byte text n is)
-
--- a byte that is in no name parts the text after them
-pub front_is_split : (text : List ℕ) (byte n : ℕ) → n ≡ prefix_len is_name_byte text → n < length text
-    → get_or text n 0 ≡ byte → is_name_byte byte ≡ false
-    → (take n text ≡ before byte text) × (Some (drop (suc n) text) ≡ after byte text)
-front_is_split text byte n is within there other =
-    split_at byte text n within
-    (λ j below same. true≢false
-    (sym (prefix_len_passes is_name_byte text j 0 (omega arith)) ∙ (ap is_name_byte same ∙ other)))
-    there

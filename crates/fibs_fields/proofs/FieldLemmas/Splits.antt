@@ -1,6 +1,7 @@
 -- Texts that are split at the first byte of a kind.
-use Rattle.std.proofs.Common.{◌≡◌, ℕ, zero, suc, ◌<◌, Bool, true, not, eqb, List, [], ◌∷◌, ◌++◌, length, get_or, take}
-use Rattle.std.proofs.Common.{drop, Option, Some, None, refl, ap, sym, arith, inl, inr}
+use Rattle.std.proofs.Common.{◌≡◌, ◌∙◌, ℕ, zero, suc, ◌+◌, ◌-◌, ◌<◌, Bool, true, not, eqb, List, [], ◌∷◌, ◌++◌}
+use Rattle.std.proofs.Common.{length, get_or, take, drop, Option, Some, None, refl, ap, sym, arith, inl, inr, add-one}
+use Rattle.std.proofs.Common.{length-drop, take_all}
 use Rattle.std.specs.List.{list_all}
 use Rattle.std.proofs.lemmas.Bool.{cases_eq, eq-eqb, ne_eqb, and_parts, not-true}
 use Rattle.fibs_fields.specs.Split.{before, after}
@@ -13,6 +14,13 @@ split_at c (b ∷ s) zero lt none is = rw (eq-eqb b c is) (refl, refl)
 split_at c (b ∷ s) (suc k) lt none is =
     let more = split_at c s k (omega arith) (λ (j : ℕ) (l : j < k). none (suc j) (omega arith)) is in
     rw (ne_eqb b c (none 0 (omega arith))) (ap (λ (t : List ℕ). b ∷ t) more.0, more.1)
+
+-- the slice of what comes after it
+pub rest_after : (text : List ℕ) (k : ℕ) → k < length text
+    → Some (take (length text - (k + 1)) (drop (k + 1) text)) ≡ Some (drop (suc k) text)
+rest_after text k within =
+    let all = take_all (length text - (k + 1)) (drop (k + 1) text) (omega (arith, length-drop (k + 1) text)) in
+    ap Some (all ∙ ap (λ (n : ℕ). drop n text) (add-one k))
 
 -- without one all of the text is before it
 pub split_none : (c : ℕ) (s : List ℕ) → ((j : ℕ) → j < length s → get_or s j 0 ≡ c → ⊥)

@@ -1,6 +1,6 @@
-use Rattle.std.proofs.Common.{◌≡◌, ◌∙◌, ◌+◌, ◌-◌, length, drop, Some, arith, ap, length-drop, take_all, suc, add-one}
+use Rattle.std.proofs.Common.{◌∙◌, arith}
 use Rattle.std.proofs.lemmas.Bool.{eqb-true, eq-eqb}
-use Rattle.fibs_fields.proofs.FieldLemmas.Splits.{split_at, split_none}
+use Rattle.fibs_fields.proofs.FieldLemmas.Splits.{rest_after, split_at, split_none}
 use Rattle.fibs_fields.proofs.split.split.Goals as goal
 
 pub returns-in-Some-clause-before : goal.returns-in-Some-clause-before
@@ -14,9 +14,7 @@ returns-in-Some-clause-after c =
     let e = c.in-Some.ensures in
     let text = c.args.text.now in
     let k = c.in-Some.at in
-    let more : k + 1 ≡ suc k = add-one k in
-    let all = take_all (length text - (k + 1)) (drop (k + 1) text) (omega (arith, length-drop (k + 1) text)) in
-    ap Some (all ∙ ap (λ n. drop n text) more)
+    rest_after text k e.0.high
     ∙ (split_at c.args.byte text k e.0.high (λ j l is. e.0.before j (omega arith) l (eq-eqb _ _ is))
     (eqb-true _ _ e.1)).1
 
