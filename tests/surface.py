@@ -162,7 +162,7 @@ def fish_completes(_program):
 # -- lines -----------------------------------------------------------------------------------------------------------
 
 def help_has_the_typed_lines(_program):
-    listed = part(text_of('tests/help/connect.txt'), 'each line that is typed is one of\n', '\nand is answered by')
+    listed = part(text_of('tests/help/connect.txt'), 'each line that is typed is one of\n', '\nThe answer is one of')
     firsts = [line[2:26].strip() for line in listed.splitlines() if re.match(r'  \S', line)]
     spans = [one for first in firsts if first != 'an empty line' for one in first.split(', ')]
     same('help', typed_in(spans + re.findall(r'`([^`]*)`', listed)), PLAIN)
@@ -243,7 +243,7 @@ def described_by_table(path, head):
 
 def described_by_help():
     """What the help of connect says of each typed line."""
-    listed = part(text_of('tests/help/connect.txt'), 'each line that is typed is one of\n', '\nand is answered by')
+    listed = part(text_of('tests/help/connect.txt'), 'each line that is typed is one of\n', '\nThe answer is one of')
     for item in re.split(r'\n(?=  \S)', '\n' + listed.strip('\n'))[1:]:
         said = ' '.join(line[26:].strip() for line in item.splitlines())
         yield item[2:26].strip().split(', '), item[2:26] + said

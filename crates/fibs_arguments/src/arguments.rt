@@ -28,24 +28,24 @@ const SHOW: &str = "Print what each line of the server says";
 const SHOW_LONG: &str = "\
 Print what each line of the server says.
 
-Reads the server's bytes from standard input, and prints for each line one of
+Reads the server's bytes from standard input, and prints one of these for each
+line:
 
   board:...               a board of style 3 whose 53 fields are right
   message N ...           a numbered message of CLIP, its fields right
   text TEXT               any other line
-  cut TEXT                a line of more than 16,384 bytes, of which these are
-                          the first
+  cut TEXT                the first 16,384 bytes of a line that has more
   malformed N FIELD WHY   a board (N is 0) or message N whose field FIELD is
                           the first that is wrong: WHY is Missing, Extra,
                           NotANumber, OutOfRange or BadName
 
-and at the end, if there are bytes after the last line end,
+If bytes follow the last line end, it prints at the end
 
-  unfinished COUNT        how many they are, up to 16,384
+  unfinished COUNT        how many bytes they are, up to 16,384
 
 Telnet commands, and the prompts `login: ` and `> ` at a line's start, are left
 out. In TEXT and in a message each backslash and each byte that is not
-printable ASCII is `\\x` and two hexadecimal digits.
+printable ASCII is printed as `\\x` and two hexadecimal digits.
 
 If standard output is a terminal, a board is drawn, and the other lines are put
 in words.";
@@ -60,11 +60,11 @@ LINE is a board line of style 3. Prints
   phase PHASE             what may happen next: Over, AnswerDouble,
                           OpponentActs, RollOrDouble, Move or Passing
 
-and in the phase Move each different play, one for each arrangement of the
-checkers that can be reached,
+and in the phase Move one play for each arrangement of the checkers that can be
+reached:
 
   move FROM-TO ..         the command that leads there, in the place numbers of
-                          LINE; of several the greatest
+                          LINE; if there are several, the greatest
 
 If standard output is a terminal, the board is drawn above them.
 
@@ -93,8 +93,8 @@ the server's first board. Each other line is one event:
   plain COMMAND           the player sends another command, as in
                           `plain say hello`
   order roll              from now on the client rolls by itself if the player
-                          may not double,
-  withdraw roll           and no longer
+                          may not double
+  withdraw roll           it no longer does
   deliver N               the next N bytes reach the client, or all if fewer
                           are on their way
   lose K                  the connection breaks; of what is on its way to the
@@ -121,7 +121,7 @@ For example, a player who clicks twice before the answer comes:
   shown 1 board:...
   end 12
 
-It prints what the client and the server noted, a line each: opened C,
+It prints what the client and the server noted, one line each: opened C,
 loggedin C, welcomed C, informed C AUTOMOVE GREEDY, shown C BOARD, clicked C ok
 or clicked C WHY, ordered C, withdrawn C, sent C BOARD COMMAND,
 took C BOARD COMMAND, undone C BOARD COMMAND, and lost C, or
@@ -150,9 +150,9 @@ With `--password-file FILE` the password is the first line of FILE, which may
 be /dev/fd/3 or a named pipe, and each line of standard input is a typed line.
 If FILE can't be read, the status is 4.
 
-With `--log FILE` each line of the server is appended to FILE as it came, and
-after `> ` what is sent, at once; the password never is. `fibs show` reads such
-a file. If FILE can't be written, the status is 4.
+With `--log FILE` each line of the server is appended at once to FILE, and
+after `> ` each line that is sent. The password never is. `fibs show` reads
+such a file. If FILE can't be opened, the status is 4.
 
 Then each line that is typed is one of
 
@@ -174,19 +174,20 @@ Then each line that is typed is one of
                           later, `shout hello` is for all
   invite bob 5            invite to a match of 5 points; `invite bob` to resume
                           one
-  join bob                join the match to which bob invites; `join` too
+  join bob                join the match to which bob has invited you; `join`
+                          too
   toggle ready            say whether you are ready to play
   toggle automove         turn off what the server plays by itself; so does
                           `toggle greedy`. The client learns of it at the next
                           login: type `bye`, and then `open`
   bye                     leave the server
-  an empty line           hear what the server has sent meanwhile
+  an empty line           print what the server has sent meanwhile
   players                 list the players that the server has listed
   open                    connect again; the server is heard after the next
                           line
   quit                    end; so does the end of the input
 
-and is answered by one of
+The answer is one of
 
   sent COMMAND            the command went to the server; after a board
                           `sent roll` says that the standing order rolled
@@ -194,20 +195,21 @@ and is answered by one of
   refused NUMBER WHY      it can't be sent now, or is against the rules:
                           nothing was sent
   fault NUMBER WHY        a name or a text is not valid: nothing was sent
-  unknown                 it is no command, or has more than 4096 bytes
-  player NAME RATING      for `players`, a line for each
+  unknown                 it is not a command, or has more than 4096 bytes
+  player NAME RATING      for `players`, one line for each
   no connection           the server can't be reached
 
 After each line, but not after `open`, `players` and a line that is too long,
-the server is heard until it is quiet for half a second. If standard input is a
-terminal, that is a fiftieth of a second, and the server is heard while nothing
-is typed, too. What it sends is printed as by `fibs show`. After a board that
-has a position comes `phase PHASE`, and then `confirmed COMMAND` if the board
-shows another game than the one on which COMMAND was played.
+the client reads from the server until it is quiet for half a second. If
+standard input is a terminal, that is a fiftieth of a second, and it also reads
+from the server while nothing is typed. What the server sends is printed as by
+`fibs show`. After a board that has a position comes `phase PHASE`, and then
+`confirmed COMMAND` if the game has changed since the board on which COMMAND
+was decided.
 
-`lost`, or `lost COMMAND` if COMMAND was not confirmed, says that the
-connection is over. Nothing is sent again by itself: `open` connects again, and
-shows the game as the server has it.
+`lost`, or `lost COMMAND` if COMMAND was not confirmed, means that the
+connection is over. The client sends nothing again by itself: `open` connects
+again, and the server then shows the game as it has it.
 
 If standard output is a terminal, a board is drawn, and the other lines are put
 in words.
