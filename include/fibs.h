@@ -1,6 +1,6 @@
 /* The FIBS library for C and C++: lines, messages, boards, the rules, a client, and the players that the server listed.
  *
- * It owns no socket and no screen. Bytes of the server go in, and bytes for the server come out:
+ * It opens no socket and draws no screen. Bytes of the server go in, and bytes for the server come out:
  *
  *     fibs_client client = NULL;
  *     static fibs_wire wire;                              // what is to be sent, ready with its line ends
@@ -31,31 +31,31 @@
  *     fibs_client_lose(&client, &waited);                 // waited.decision: what the loss left open, never sent again
  *     fibs_client_free(&client);                          // client is NULL again
  *
- * examples/bot.c is such a client as a whole. docs/C.md says what is proved, and what a new version may change. Both are
- * installed in share/doc/fibs.
+ * examples/bot.c is a complete client of this kind. docs/C.md says what is proved, and what a new version may change.
+ * Both are installed in share/doc/fibs.
  *
  * Handles
- * - fibs_lines, fibs_client and fibs_directory are pointers to what only the library knows. A handle begins as NULL,
- *   which holds nothing; `new` makes it hold something, `free` gives that back and makes it NULL.
- * - A function takes the address of a handle, and that address is not null. A handle that is NULL is answered by
+ * - fibs_lines, fibs_client and fibs_directory are opaque pointers. A handle begins as NULL, which holds nothing; `new`
+ *   makes it hold something, `free` gives the memory back and makes the handle NULL.
+ * - A function takes the address of a handle, and that address is not null. For a handle that is NULL a call answers
  *   FIBS_STATUS_NO_HANDLE; `free` then does nothing.
  * - An assignment copies the pointer and not what it points to: two handles then refer to one thing. After `free` of
- *   one the other must not be used.
- * - Calls for different handles may run in different threads at the same time; calls for one handle one at a time. Even
- *   a call that only asks takes the handle for itself while it runs, so no handle is `const`. Functions without a
- *   handle may run anywhere and at any time, but not in a signal handler.
+ *   one the other must not be used. What is proved does not cover copies.
+ * - Calls for different handles may run in different threads at the same time; calls for one handle run one at a time.
+ *   Even a call that only asks takes the value out of the handle while it runs, so no handle is `const`. Functions
+ *   without a handle may run anywhere and at any time, but not in a signal handler.
  *
  * Texts and rooms
  * - A text is a pointer and how many bytes it has. It needs no zero at its end. NULL with the length 0 is the empty
  *   text.
  * - `room` counts the bytes that a call may write, `count` the records; NULL with 0 is no room.
  * - Every other pointer is not null. Each is valid for what its length, its room or its type says, and what a call
- *   writes through one pointer lies in nothing that another pointer of that call points to.
+ *   writes through one pointer does not overlap what another pointer of that call points to.
  *
  * Statuses
  * - A call answers FIBS_STATUS_DONE, or the first reason against it, in the order in which its comment lists them.
- * - After any other status nothing was changed and nothing was written, but what the comment says.
- * - FIBS_STATUS_SHORT: the room is too short. How much is needed is set, and no byte of the room was written.
+ * - After any other status nothing was changed, and nothing was written but what the comment says.
+ * - FIBS_STATUS_SHORT: the room is too short. The call says how much is needed, and wrote no byte of the room.
  * - FIBS_STATUS_MEMORY: memory ran out. Only `new`, fibs_plays and fibs_directory_note take memory.
  * - Each function returns, whatever bytes it is given, and reads and writes nothing else. Flags are 0 or 1.
  */
@@ -71,8 +71,8 @@ extern "C" {
 
 /* ---- Version ---- */
 
-/* The version of this header. While the first number is 0, a program is built again when the second one changes; the
- * shared library's name has both. The third changes nothing that a caller can see but faults that were mended. */
+/* The version of this header. While the first number is 0, you have to build your program again when the second one
+ * changes; the shared library's name has both. When only the third one changes, faults were mended and nothing else. */
 #define FIBS_VERSION "0.2.0"
 #define FIBS_VERSION_MAJOR 0
 #define FIBS_VERSION_MINOR 2
@@ -83,7 +83,7 @@ const char *fibs_version(void);
 
 /* ---- The greatest lengths ---- */
 
-#define FIBS_MAX_LINE 16384      /* bytes of a line; of a longer one only so many are kept, and it is cut */
+#define FIBS_MAX_LINE 16384      /* bytes of a line; a longer line is cut: only its first bytes are kept */
 #define FIBS_MAX_BOARD 329       /* bytes of a board's line, as fibs_print_board writes it */
 #define FIBS_MAX_COMMAND 512     /* bytes of a command, as fibs_decision_text writes it */
 #define FIBS_MAX_WIRE 1542       /* bytes that one call hands out for the server */
@@ -98,8 +98,7 @@ size_t fibs_max_line(void);
 
 /* ---- Statuses ---- */
 
-/* What a call answers: one of FIBS_STATUS_.. A status is a family's hundred, and in it the number of a refusal or of a
- * fault. */
+/* What a call answers: one of FIBS_STATUS_.. A status is a family's hundred plus the number of a refusal or a fault. */
 typedef uint32_t fibs_status;
 
 enum {
@@ -119,30 +118,30 @@ enum {
     FIBS_STATUS_ALREADY_ORDERED = 11, /* there is a standing order to roll already */
     FIBS_STATUS_NOT_ORDERED = 12,     /* there is no standing order */
 
-    /* 100 and: what is wrong with a login or a plain command */
+    /* 100 plus: what is wrong with a login or a plain command */
     FIBS_STATUS_BAD_NAME = 101,       /* a name has 1 to 64 bytes from 33 to 126, none of them a colon */
     FIBS_STATUS_BAD_TEXT = 102,       /* the text is empty, or has a byte outside 32 to 126 (a password: 33 to 126) */
     FIBS_STATUS_TOO_LONG = 103,       /* the text has more than 400 bytes, the password more than 64 */
 
-    /* 200 and: why a board has no position */
+    /* 200 plus: why a board has no position */
     FIBS_STATUS_NOT_YOU = 201,        /* the player is not `You`: the board is that of a watched game */
     FIBS_STATUS_TOO_MANY_OWN = 202,   /* the player has more than 15 checkers */
     FIBS_STATUS_TOO_MANY_OTHER = 203, /* the opponent has more than 15 checkers */
 
-    /* 300 and: what is wrong with a field of a line, one of FIBS_FAULT_.. */
+    /* 300 plus: what is wrong with a field of a line, one of FIBS_FAULT_.. */
     FIBS_STATUS_FIELD_MISSING = 301,
     FIBS_STATUS_FIELD_EXTRA = 302,
     FIBS_STATUS_FIELD_NOT_A_NUMBER = 303,
     FIBS_STATUS_FIELD_OUT_OF_RANGE = 304,
     FIBS_STATUS_FIELD_BAD_NAME = 305, /* a name, a word or a tail is not valid, or the first field is not `board` */
 
-    /* 400 and: why a directory took no note; 401 also of other calls */
+    /* 400 plus: why a directory took no note; other calls answer 401 too */
     FIBS_STATUS_MEMORY = 401,         /* memory ran out */
     FIBS_STATUS_FULL = 402,           /* the name is new, and the directory has FIBS_MAX_PLAYERS already */
 
-    /* 500 and: what this library itself answers */
+    /* 500 plus: what this library itself answers */
     FIBS_STATUS_NO_HANDLE = 501,      /* the handle holds nothing */
-    FIBS_STATUS_HELD = 502,           /* the handle holds something already, which stays */
+    FIBS_STATUS_HELD = 502,           /* the handle already holds something, and keeps it */
     FIBS_STATUS_SHORT = 503,          /* the room is too short */
     FIBS_STATUS_NO_DECISION = 504,    /* not a decision: an unknown kind, more than FIBS_MAX_STEPS steps, or a step that
                                          does not go from 1 to 25 to a place 0 to 24 */
@@ -178,9 +177,9 @@ fibs_status fibs_lines_new(fibs_lines *lines);
 /* Gives the reader's memory back, and makes the handle NULL. */
 void fibs_lines_free(fibs_lines *lines);
 
-/* Reads a piece up to and with the next line end, and copies the line that ends there, if one does, into text. The line
- * end, telnet commands and prompts at the start of a line are no part of it. Call it again with what is left of the
- * piece, until nothing is. SHORT if room is below FIBS_MAX_LINE; NO_HANDLE. */
+/* Reads a piece up to and with the next line end, and copies the line that ends there, if one does, into text. The text
+ * has no line end, no telnet commands, and no prompts at its start. Call it again with the rest of the piece, until
+ * nothing is left. SHORT if room is below FIBS_MAX_LINE; NO_HANDLE. */
 fibs_status fibs_lines_feed(fibs_lines *lines, const char *piece, size_t len, char *text, size_t room, fibs_fed *fed);
 
 /* Forgets what has come: the next byte is the first of a new stream. NO_HANDLE. */
@@ -224,18 +223,18 @@ typedef struct fibs_told {
     size_t bytes;              /* how many bytes these have in the text */
 } fibs_told;
 
-/* Reads the lines of a piece, many in one call: their texts come one after another in text, and what each is
- * in rows, of which there are count. It stops at the end of the piece, when the rows are full, or when less than
- * FIBS_MAX_LINE bytes of the room are left. Call it again with what is left of the piece, until nothing is; each call
- * begins text and rows anew, and reads something if there is something. SHORT if room is below FIBS_MAX_LINE or count
+/* Reads the lines of a piece, many in one call. It writes their texts one after another into text, and what each is
+ * into rows, of which there are count. It stops at the end of the piece, when the rows are full, or when less than
+ * FIBS_MAX_LINE bytes of the room are left. Call it again with the rest of the piece, until nothing is left; each call
+ * begins text and rows again, and reads something if there is something. SHORT if room is below FIBS_MAX_LINE or count
  * is 0: told->used is then 0, told->bytes and told->lines are the room and the count that are needed; NO_HANDLE. */
 fibs_status fibs_read_lines(fibs_lines *lines, const char *piece, size_t len, char *text, size_t room,
                             fibs_line *rows, size_t count, fibs_told *told);
 
-/* What a line is that was not cut, without its line end. */
+/* What a line is. The line is without its line end, and was not cut. */
 fibs_kind fibs_read(const char *line, size_t len);
 
-/* The 53 fields of a board, but the first, which is `board`. */
+/* The 53 fields of a board without the first, which is `board`. */
 typedef struct fibs_board {
     size_t player_len;         /* at most FIBS_MAX_NAME, as is the opponent's */
     size_t opponent_len;
@@ -297,8 +296,9 @@ fibs_status fibs_read_field(const char *line, size_t len, size_t number, fibs_fi
 
 /* ---- The rules ---- */
 
-/* The rules are asked by a board's line, so keep the line that came: fibs_client_shown and fibs_client_waiting have its
- * fields alone. `board`, the two names and the 50 numbers, with a colon between each two, are such a line too. */
+/* The calls of this part take a board's line, so keep the line that came: fibs_client_shown and fibs_client_waiting
+ * give only its fields. You can also make the line of these: `board`, the two names and the 50 numbers, joined by
+ * colons. */
 
 /* A step of one checker, in the player's own numbering, in which he goes down: from a place 1 to 24 or the bar, 25, to
  * a place 1 to 24 or off, 0. Place p of the board has the number p in it if FIBS_BOARD_DIRECTION is -1, else 25 - p. */
@@ -314,8 +314,8 @@ enum {
 /* What a player decides. */
 typedef struct fibs_decision {
     uint8_t kind;              /* one of FIBS_DECISION_.. */
-    uint8_t count;             /* how many steps a move has, at most FIBS_MAX_STEPS; of every other kind 0 */
-    fibs_step steps[4];        /* the steps; those after count are not looked at */
+    uint8_t count;             /* how many steps a move has, at most FIBS_MAX_STEPS; 0 for every other kind */
+    fibs_step steps[4];        /* the steps; those after count are ignored */
 } fibs_decision;
 
 /* The name of a kind of decision, such as `Roll`; the empty text if there is no such kind. */
@@ -334,13 +334,13 @@ const char *fibs_phase_name(uint8_t phase);
  * TOO_MANY_OWN, TOO_MANY_OTHER if the board has no position. */
 fibs_status fibs_phase(const char *line, size_t len, uint8_t *phase);
 
-/* Whether the player may decide so on a board line: DONE. NO_DECISION; as of fibs_phase; NOT_YOURS, WRONG_KIND,
+/* DONE if the player may decide so on a board line. NO_DECISION; those of fibs_phase; NOT_YOURS, WRONG_KIND,
  * ILLEGAL_PLAY. */
 fibs_status fibs_allows(const char *line, size_t len, const fibs_decision *decision);
 
 /* The plays of a board line, each as a decision to move: for each arrangement of checkers that a legal play reaches the
  * greatest such play, the greatest first; none if the player does not move. *found is how many there are, at most
- * FIBS_MAX_PLAYS; plays has room for count. As of fibs_phase; MEMORY; SHORT, and *found is set. */
+ * FIBS_MAX_PLAYS; plays has room for count. Those of fibs_phase; MEMORY; SHORT, and *found is set. */
 fibs_status fibs_plays(const char *line, size_t len, fibs_decision *plays, size_t count, size_t *found);
 
 /* The command of a decision, such as `move 24-18`, without a line end, at most FIBS_MAX_COMMAND bytes. *len is its
@@ -356,8 +356,8 @@ fibs_status fibs_read_decision(const char *text, size_t len, int32_t direction, 
 /* A client: connection after connection, what was heard on each, and the decision that waits. */
 typedef struct fibs_client_held *fibs_client;
 
-/* What is to be sent at once, unchanged: some commands, each with CR LF. If a call answers another status than DONE,
- * it is empty. */
+/* What you have to send at once, unchanged: some commands, each with CR LF. It is empty if a call answers another
+ * status than DONE. */
 typedef struct fibs_wire {
     size_t len;                /* at most FIBS_MAX_WIRE */
     char bytes[1542];
@@ -390,8 +390,8 @@ void fibs_client_free(fibs_client *client);
 fibs_status fibs_client_open(fibs_client *client, fibs_wire *wire);
 
 /* Hears a piece up to and with the next line end; copies the line that ends there, if one does, into text, and hands
- * out the commands that answer it. Call it again with what is left of the piece, until nothing is. Without a connection
- * all bytes are dropped. SHORT if room is below FIBS_MAX_LINE; NO_HANDLE. */
+ * out the commands that answer it. Call it again with the rest of the piece, until nothing is left. Without a
+ * connection all bytes are dropped. SHORT if room is below FIBS_MAX_LINE; NO_HANDLE. */
 fibs_status fibs_client_feed(fibs_client *client, const char *piece, size_t len, char *text, size_t room,
                              fibs_heard *heard, fibs_wire *wire);
 
@@ -403,8 +403,8 @@ fibs_status fibs_client_decide(fibs_client *client, const fibs_decision *decisio
  * (docs/FORMATS.md). NO_COMMAND; NO_HANDLE; OFFLINE, NOT_ON; BAD_NAME to TOO_LONG. */
 fibs_status fibs_client_plain(fibs_client *client, const char *text, size_t len, fibs_wire *wire);
 
-/* Gives a standing order for this connection: at each board on which only a roll can be decided the client rolls by
- * itself. NO_HANDLE; OFFLINE, ALREADY_ORDERED. */
+/* Gives a standing order for this connection: at each new board on which the user is to roll and may not double the
+ * client rolls by itself. NO_HANDLE; OFFLINE, ALREADY_ORDERED. */
 fibs_status fibs_client_order_roll(fibs_client *client);
 
 /* Withdraws it. A roll that it sent goes on waiting. NO_HANDLE; OFFLINE, NOT_ORDERED. */
@@ -413,8 +413,8 @@ fibs_status fibs_client_withdraw_roll(fibs_client *client);
 /* Whether there is a standing order on the open connection. NO_HANDLE. */
 fibs_status fibs_client_ordered(fibs_client *client, uint8_t *ordered);
 
-/* The connection ended: nothing of it is kept. Gives the decision that waited, or one of the kind NONE; it is never
- * sent again by itself. NO_HANDLE. */
+/* The connection ended: nothing of it is kept. Gives the decision that waited, or one of the kind NONE. The client
+ * never sends it again by itself. NO_HANDLE. */
 fibs_status fibs_client_lose(fibs_client *client, fibs_outstanding *waited);
 
 /* The board that was shown last on this connection. NO_HANDLE; NO_BOARD. */
@@ -450,7 +450,7 @@ fibs_status fibs_directory_clear(fibs_directory *directory);
 fibs_status fibs_directory_field(fibs_directory *directory, size_t place, size_t number, fibs_field *field, char *text,
                                  size_t room);
 
-/* The same of the player of a name. */
+/* The same for the player of a name. */
 fibs_status fibs_directory_field_of(fibs_directory *directory, const char *name, size_t name_len, size_t number,
                                     fibs_field *field, char *text, size_t room);
 
