@@ -164,7 +164,7 @@ fn append_broken(
     }
 }
 
-/// A die of the player's, 0 if there is none.
+/// A die of the player, 0 if there is none.
 fn die(board: &Board, number: usize) -> u8
     requires low { 34 ≤ number }
     requires high { number ≤ 35 }

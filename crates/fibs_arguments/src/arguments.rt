@@ -284,7 +284,7 @@ pub enum Answer<'a> {
     Memory,
 }
 
-/// Reads the words of the command line, of which the first is the program's own name.
+/// Reads the words of the command line. The first is the program's own name.
 pub fn read<'a>(alloc: Global, words: &'a [String]) -> Answer<'a> {
     match matches_of(alloc, words) {
         Ok(matches) => match request_of(&matches) {

@@ -49,7 +49,7 @@ fn is_read(line: &[u8]) -> bool {
     matches!(read(line), Reading::Board(_) | Reading::Numbered(_))
 }
 
-/// Whether a line is a message of which the directory takes note.
+/// True if a line is a message that the directory notes.
 fn is_noted(directory: &mut Directory, line: &[u8]) -> bool {
     match read(line) {
         Reading::Numbered(message) => directory.note(&message).is_ok(),

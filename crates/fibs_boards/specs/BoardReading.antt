@@ -8,7 +8,7 @@ use Rattle.fibs_fields.specs.declared.fault.Fault.{Fault}
 use Rattle.fibs_fields.specs.declared.fault.Fault.TheVariants.{Extra}
 use Rattle.fibs_fields.specs.declared.fault.FieldFault.{FieldFault}
 
--- the pieces that are left, of which none is left after the last
+-- the pieces that are left, nothing being left after the last
 abbrev pub pieces_of : Option (List ℕ) → List (List ℕ)
 pieces_of None = []
 pieces_of (Some rest) = pieces rest

@@ -18,6 +18,6 @@ pub record FieldRanges : Type 0 where
   -- a board's fields have numbers that they may have, and there are fifty
   pub held : (b : BoardFields) (n : ℕ) → IsBoard b → 4 ≤ n → n ≤ 53 → can_have n (field_of b n) ≡ true
   pub fifty : (b : BoardFields) → IsBoard b → length b.numbers ≡ 50
-  -- a board of which one field gets a number that it may have is a board
+  -- if one field of a board gets a number that it may have, the result is a board
   pub set : (b : BoardFields) (n : ℕ) (z : ℤ) → IsBoard b → can_have n z ≡ true
       → IsBoard (record b { numbers = slice_set b.numbers (n - 4) z })

@@ -15,7 +15,7 @@ IsToldBoard (numbered_line m) old new = new ≡ old
 IsToldBoard (text_line text) old new = new ≡ old
 IsToldBoard (malformed_line n k f) old new = new ≡ old
 
--- the line says no board: it has a first wrong field, of which this is the fault
+-- the line says no board: this is the fault of its first wrong field
 pub record IsWrongBoard (line : List ℕ) (status : ℕ) : Type 0 where
   pub field : ℕ
   pub fault : Fault

@@ -59,7 +59,7 @@ AreLinesReadInRoom (Some v) None piece told told' rows rows' text text' status =
 AreLinesReadInRoom (Some v) (Some w) piece told told' rows rows' text text' status =
     (status ≡ 0) × ReadsLines v w piece told' rows rows' text text'
 
--- there is no room for one line: the room and the rows that are wanted are given, and nothing else is written
+-- there is no room for one line: the room and the rows that are needed are given, and nothing else is written
 pub record WantsRoom (old new : Option LinesValue) (told : Told) (status : ℕ) : Type 0 where
   pub short : status ≡ 503
   pub unchanged : new ≡ old

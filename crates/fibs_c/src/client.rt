@@ -56,7 +56,7 @@ pub extern "C" fn fibs_client_free(alloc: Global, client: &mut ClientHandle)
     drop(client.take(alloc));
 }
 
-/// Hands out a command, or says why there is none.
+/// Hands out a command, or says why it does not.
 fn hand_out_command(wire: &mut Wire, answer: &Result<CommandText, Refusal>) -> u32
     ensures wire { Holds wire.new (wire_of (handed answer.now)) }
     ensures refused { result ≢ 0 → IsEmptied wire.old wire.new }

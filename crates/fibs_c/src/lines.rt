@@ -32,7 +32,7 @@ pub extern "C" fn fibs_max_line() -> usize
     LIMIT
 }
 
-/// Makes a reader of a stream of which nothing has come. A handle that holds one stays as it is.
+/// Makes a reader of a stream that begins. A handle that holds one stays as it is.
 #[unsafe(no_mangle)]
 pub extern "C" fn fibs_lines_new(alloc: Global, lines: &mut LinesHandle) -> u32
     ensures { IsNewLines lines.old.value lines.new.value result }

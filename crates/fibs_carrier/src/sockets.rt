@@ -23,7 +23,7 @@ pub struct Ends<E> {
     server: E,
 }
 
-/// Makes connections of which it has both ends.
+/// Makes connections, and has both ends of each.
 pub trait Connects<E>: Drop {
     /// A new connection.
     fn pair(&self) -> io::Result<Ends<E>>;

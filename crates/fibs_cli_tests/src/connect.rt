@@ -33,7 +33,7 @@ impl<'a> Dial for Door<'a> {
     }
 }
 
-/// What is typed, how often one can connect, and what comes of it.
+/// What is typed, how often a connection can be made, and the result.
 struct Case {
     name: &'static str,
     typed: &'static [u8],

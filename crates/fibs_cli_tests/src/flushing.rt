@@ -119,7 +119,7 @@ impl<'a> Dial for WatchedDoor<'a> {
     }
 }
 
-/// How a conversation ends in which each kind of line is typed, on a screen of which one flush fails after so many.
+/// How a conversation with each kind of typed line ends, if one flush of the screen fails after so many.
 fn conversed_on(alloc: Global, seen: &Seen, flushes: u32) -> Result<u8, EngineFault> {
     let lines = b"secret\nplayers\ndance\nroll\nopen\nopen\n\nroll\nquit\n";
     let mut typed = Watched {

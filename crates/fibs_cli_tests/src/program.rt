@@ -9,7 +9,7 @@ use std::net::{Net, TcpListener, TcpStream};
 use std::test::Fail;
 use std::time::Duration;
 
-/// The words after the program's name, what is on standard input, and what comes of them.
+/// The words after the program's name, what is on standard input, and the result.
 struct Case {
     name: &'static str,
     words: &'static [&'static str],

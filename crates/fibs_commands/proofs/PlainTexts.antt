@@ -12,7 +12,7 @@ use Rattle.fibs_commands.specs.declared.plain.PlainFault.TheVariants.{BadName, B
 abbrev pub IsText : List ℕ → Type 0
 IsText text = (length text ≤ 400) × (is_printed text ≡ true)
 
--- of two faults there is none
+-- there is no first of two faults
 no_fault : (a b : Option PlainFault) → first_of a b ≡ None → (a ≡ None) × (b ≡ None)
 no_fault None b h = (refl, h)
 no_fault (Some f) b h = absurd cc

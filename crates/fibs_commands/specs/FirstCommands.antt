@@ -5,11 +5,11 @@ use Rattle.std.specs.Prelude.{ℕ, List, codes}
 unfoldable pub style_text : List ℕ
 style_text = codes "set boardstyle 3"
 
--- the setting that shows a board after every move is turned over
+-- it toggles the setting that shows a board after every move
 unfoldable pub autoboard_text : List ℕ
 autoboard_text = codes "toggle autoboard"
 
--- the setting that shows a board after every roll too is turned over
+-- it toggles the setting that shows a board after every roll too
 unfoldable pub moreboards_text : List ℕ
 moreboards_text = codes "toggle moreboards"
 

@@ -18,7 +18,7 @@ pub fn style_text() -> AnswerText
     answer("set boardstyle 3")
 }
 
-/// `toggle autoboard`: the setting that shows a board after every move is turned over.
+/// `toggle autoboard`: toggles the setting that shows a board after every move.
 #[tactic(auto, unfolding(crate::specs::FirstCommands::autoboard_text))]
 pub fn autoboard_text() -> AnswerText
     ensures { text_of result ≡ first.autoboard_text }
@@ -26,7 +26,7 @@ pub fn autoboard_text() -> AnswerText
     answer("toggle autoboard")
 }
 
-/// `toggle moreboards`: the setting that shows a board after every roll too is turned over.
+/// `toggle moreboards`: toggles the setting that shows a board after every roll too.
 #[tactic(auto, unfolding(crate::specs::FirstCommands::moreboards_text))]
 pub fn moreboards_text() -> AnswerText
     ensures { text_of result ≡ first.moreboards_text }

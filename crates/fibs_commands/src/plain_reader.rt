@@ -20,7 +20,7 @@ fn text_in(rest: Option<&[u8]>) -> &[u8]
     rest.unwrap_or(b"")
 }
 
-/// The name after a word, which ends at the next space, and what follows that. The name is empty if there is none.
+/// The name after a word, which ends at the next space, and what follows that. An absent name is empty.
 fn name_in(rest: Option<&[u8]>) -> (&[u8], Option<&[u8]>)
     ensures name { result.0.now ≡ name_in (seen rest.entry) }
     ensures after { seen result.1 ≡ after_name (seen rest.entry) }

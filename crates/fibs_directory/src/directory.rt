@@ -76,7 +76,7 @@ impl Directory {
         self.players.len()
     }
 
-    /// Whether there are none.
+    /// True if there are no players.
     pub fn is_empty(&self) -> bool
         ensures { IsTrue result ↔ (length self.now ≡ 0) }
     {

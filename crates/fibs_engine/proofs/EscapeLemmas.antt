@@ -48,7 +48,7 @@ escaped_some xs at e =
 none_below : (n m : ℕ) → cond (nat_lt n m) (Some n) None ≡ None → m ≤ n
 none_below n m e = grind (arith, nat_tests)
 
--- bytes of which none is escaped are their own text
+-- if no byte is escaped, the bytes are their own text
 pub escaped_none : (xs : List ℕ) → position is_escaped xs ≡ None → escaped xs ≡ xs
 escaped_none xs e =
     let all = none_below (position_or_len is_escaped xs) (length xs) e in
@@ -83,7 +83,7 @@ escaped_rest front xs left whole at found same kept =
     ∙ append_assoc (front ++ take at xs) (hex_escape (get_or xs at 0)) (escaped (drop (at + 1) xs))
     ∙ escaped_escape front xs whole at found kept
 
--- a text of which no byte is escaped is its own text
+-- if no byte of a text is escaped, the text stays as it is
 pub escaped_plain : (xs : List ℕ) → list_any is_escaped xs ≡ false → escaped xs ≡ xs
 escaped_plain [] e = refl
 escaped_plain (x ∷ xs) e =

@@ -1,4 +1,4 @@
--- A text is tested by windows, of which the last may begin within another.
+-- A text is tested by windows. The last may begin within another.
 use Rattle.std.proofs.Common.{◌≡◌, ◌∙◌, ℕ, ◌+◌, ◌-◌, ◌≤◌, Bool, true, false, List, take, drop, refl, sym, ap, arith}
 use Rattle.std.proofs.Common.{take-append-drop}
 use Rattle.std.specs.Prelude.{◌||◌}

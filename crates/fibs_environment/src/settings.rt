@@ -1,6 +1,6 @@
 //! What a terminal is.
 
-/// What a terminal is, as the environment says, and where the server is.
+/// What kind of terminal it is, as the environment says, and the address of the server.
 #[derive(Clone, Copy)]
 pub struct Settings<'a> {
     /// How many columns a line may have.

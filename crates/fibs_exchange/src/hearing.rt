@@ -68,7 +68,7 @@ fn tell_taken<F: Front>(taken: &Taken<'_>, front: &mut F) -> Result<(), Exchange
     tell_rolled(taken.rolled, front)
 }
 
-/// Gives the directory a message. If it takes no note, the front end is told why.
+/// Gives the directory a message. If the directory takes no note, reports why to the front end.
 fn note_taken<F: Front>(
     reading: &Reading<'_>,
     directory: &mut Directory,

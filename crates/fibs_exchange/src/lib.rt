@@ -147,7 +147,8 @@ fn talk_offline<F: Front>(
 /// A stream is given exactly if the client is online; without one nothing is read. A typed line is a decision in the
 /// place numbers of the board shown, else a plain command, else a standing order to roll or its withdrawal. For each
 /// line the commands that it calls for are written first, the `roll` of a standing order that it makes due among them;
-/// then the front end is told it, then the directory. Only the directory takes memory: what it refuses is reported.
+/// then it is reported to the front end, then to the directory. Only the directory takes memory: what it refuses is
+/// reported.
 ///
 /// Errors: `Output` if the front end fails. The client is then as after its last finished call:
 /// it made the typed call, then it was fed what was read, all of it or up to the end of the line that is not taken, and

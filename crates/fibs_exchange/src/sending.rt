@@ -75,7 +75,7 @@ pub(crate) fn send_commands<S: Link>(commands: &[AnswerText], stream: &mut S) ->
     Ok(())
 }
 
-/// Writes a line of which the client does not learn, and its line end, by one write if the stream takes all of it.
+/// Writes a line past the client, and its line end, by one write if the stream takes all of it.
 pub fn send_as_it_is<S: Link>(line: &[u8], stream: &mut S) -> Result<(), Broken>
     requires { length line.now ≤ TYPED_LIMIT }
     ensures wrote { Wrote (progress_of result) (S.contents stream.old) (S.contents stream.new) (on_wire line.now) }

@@ -37,7 +37,7 @@ const OPENING: &[u8] =
     b"board:You:someplayer:3:0:1:0:-2:0:0:0:0:5:0:3:0:0:0:-5:5:0:0:0:-3:0:-5:0:0:0:0:2:0\
     :1:6:2:0:0:1:1:1:0:1:-1:0:25:0:0:0:0:2:0:0:0";
 
-/// The board of one who goes up, with dice 3 and 3.
+/// The board of a player who goes up, with dice 3 and 3.
 const GOING_UP: &[u8] = b"board:You:bob:5:0:0:0:0:0:0:0:-1:0:0:0:0:0:0:0:0:0:0:0:2:0:0:0:0:0:0:0:0\
     :-1:3:3:0:0:1:1:1:0:-1:1:25:0:14:13:0:0:3:0:0:0";
 
@@ -281,7 +281,7 @@ static PLAYS: [(&[u8], Kind, &[u8], &[u8]); 2] = [
     ),
 ];
 
-/// Plays are typed and printed in the place numbers of the board shown, here that of one who goes up.
+/// Plays are typed and printed in the place numbers of the board shown, here that of a player who goes up.
 #[test]
 fn plays_are_in_the_numbers_of_the_board(rt: HostRuntime) {
     for (typed, kind, sent, answer) in &PLAYS {
@@ -413,7 +413,7 @@ fn repeated(bytes: &[u8], times: usize) -> Text {
     text
 }
 
-/// A line of which only the front is kept is no board.
+/// A line that was cut is no board.
 #[test]
 fn a_line_that_is_too_long_is_cut(rt: HostRuntime) {
     let prompts = repeated(b"> ", 8192);
@@ -510,7 +510,7 @@ fn a_directory_that_is_full_says_so(rt: HostRuntime) {
     assert_eq!(rt; seat.directory.len(), 4096);
 }
 
-/// A stream of which one write fails, and which takes bytes before and after it.
+/// A stream with one write that fails. It takes bytes before and after it.
 #[derive(Drop)]
 struct Stumbles<'a> {
     input: Pipe<'a>,

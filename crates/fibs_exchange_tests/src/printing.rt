@@ -13,7 +13,7 @@ const READY: &[u8] = b"1 ann 1041253132 localhost\r\n\
     board:You:bob:3:0:1:0:-2:0:0:0:0:5:0:3:0:0:0:-5:5:0:0:0:-3:0:-5:0:0:0:0:2:0\
     :1:0:0:0:0:1:1:1:0:1:-1:0:25:0:0:0:0:0:0:0:0\r\n";
 
-/// Lines of each kind, the last of which confirms `roll`.
+/// Lines of each kind. The last confirms `roll`.
 const LINES: &[u8] = b"1 ann 1041253132 localhost\r\n\
     a\x1b\\\r\n\
     3 x\r\n\

@@ -1,4 +1,4 @@
--- What a front end is told (the project's own).
+-- What is reported to a front end (the project's own).
 use Rattle.std.specs.Prelude.{ℕ, List, [], ◌++◌, Option}
 use Rattle.std.specs.declared.io.ErrorKind.{ErrorKind}
 use Rattle.fibs_lines.specs.Lines.{ReadLine}

@@ -1,4 +1,4 @@
-//! Front ends, which are told what happens.
+//! Front ends, to which everything that happens is reported.
 ghost use Rattle.std.specs.Prelude.{OnOk, List, [], ◌∷◌};
 ghost use Rattle.fibs_front.specs.Told.{SaidValue, Joins};
 ghost use Rattle.fibs_front.specs.SaidOf.{said_of};
@@ -6,7 +6,7 @@ ghost use Rattle.fibs_front.specs.SaidOf.{said_of};
 use crate::fault::FrontFault;
 use crate::said::Said;
 
-/// A front end: it is told what happens, one thing after another.
+/// A front end: everything that happens is reported to it, one thing after another.
 pub trait Front {
     // From the one the other has come by being told these things, in this order.
     ghost tells: { Self → List SaidValue → Self → Type 0 };
@@ -15,7 +15,7 @@ pub trait Front {
     fn tell(&mut self, said: &Said<'_>) -> Result<(), FrontFault>
         ensures { OnOk result (tells self.old (said_of said.now ∷ []) self.new) };
 
-    /// Hands on what it was told, before the program waits for the server.
+    /// Hands on what was reported, before the program waits for the server.
     fn flush(&mut self) -> Result<(), FrontFault>
         ensures { OnOk result (tells self.old [] self.new) };
 

@@ -1,4 +1,4 @@
-//! Front ends: each is told what happens, and says what a typed line asks for. The plain account is one.
+//! Front ends: what happens is reported to each, and each says what a typed line asks for. The plain account is one.
 #![tactic(auto)]
 
 pub mod fault;

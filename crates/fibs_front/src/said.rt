@@ -1,4 +1,4 @@
-//! What happened, as a front end is told it.
+//! What happened, as it is reported to a front end.
 
 use fibs_lines::Line;
 use fibs_messages::Reading;

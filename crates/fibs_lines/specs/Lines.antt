@@ -35,11 +35,11 @@ is_line_end b = b == 10
 abbrev pub finished_parts : List ℕ → List (List ℕ)
 finished_parts p = take (count_by is_line_end p) (slice_split is_line_end p)
 
--- the prompt of a server that wants a login
+-- the prompt of a server that waits for a login
 abbrev pub login_prompt : List ℕ
 login_prompt = codes "login: "
 
--- the prompt of a server that wants a command
+-- the prompt of a server that waits for a command
 abbrev pub command_prompt : List ℕ
 command_prompt = codes "> "
 
@@ -51,7 +51,7 @@ without_some_prompts (suc n) l =
     else if starts_with nat_eq l command_prompt then without_some_prompts n (drop 2 l)
     else l
 
--- the line without the prompts at its start, of which there are no more than it has bytes
+-- the line without the prompts at its start: there are at most as many as it has bytes
 abbrev pub without_prompts : List ℕ → List ℕ
 without_prompts l = without_some_prompts (length l) l
 

@@ -41,11 +41,11 @@ pub record ReadsAlone (s t : List ℕ) : Type 0 where
   pub rest : rest_of (s ++ t) ≡ rest_of t
   pub start : AtLineStart t → AtLineStart (s ++ t)
 
--- so it is at every line's start
+-- this holds at every line's start
 abbrev pub LineStartReadsAlone : Type 0
 LineStartReadsAlone = (s t : List ℕ) → AtLineStart s → ReadsAlone s t
 
--- so is what follows CR LF: the lines of `t CR LF s` are those of `t CR LF` and then those of s, for every t
+-- what follows CR LF reads alone: the lines of `t CR LF s` are those of `t CR LF` and then those of s, for every t
 abbrev pub WhatFollowsALineEndReadsAlone : Type 0
 WhatFollowsALineEndReadsAlone = (t s : List ℕ) → ReadsAlone (with_line_end t) s
 

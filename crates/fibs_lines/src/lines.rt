@@ -56,7 +56,7 @@ impl Lines {
     ghost use Rattle.fibs_lines.specs.Feeding.{Feeds};
     ghost use Rattle.fibs_lines.specs.Lines.{line_value};
 
-    /// The reader of a stream of which nothing has come.
+    /// The reader of a stream that begins.
     pub fn new() -> Lines
         ensures stands { StandsAfter result [] }
         ensures no_line { result.line ≡ None }
@@ -126,7 +126,7 @@ impl Lines {
     /// How many bytes follow the last line end, without telnet commands and up to `LIMIT`. It is 0 after a line
     /// was lent.
     ///
-    /// Prompts are counted, and so is a CR at the end, since they are bytes of the line until it ends.
+    /// It counts prompts and a CR at the end, since they are bytes of the line until it ends.
     pub fn held(&self) -> usize
         ensures bound { result ≤ kept_limit }
         ensures value { (s : List ℕ) → StandsAfter self.now s → result ≡ min kept_limit (length (rest_of s)) }
@@ -140,7 +140,7 @@ impl Lines {
     /// The bytes that follow the last line end, without telnet commands and up to `LIMIT`: those that `held` counts. None
     /// after a line was lent.
     ///
-    /// A prompt that the server writes without a line end stands here.
+    /// It has a prompt that the server writes without a line end.
     pub fn unfinished(&self) -> &[u8]
         ensures { (s : List ℕ) → StandsAfter self.now s → result.now ≡ take kept_limit (rest_of s) }
     {

@@ -11,7 +11,7 @@ use std::time::Duration;
 /// How many seconds each address of a server may take to answer.
 const CONNECT_SECONDS: u64 = 10;
 
-/// How many milliseconds a read waits if nothing else is said: a pipe or a file has no other pace.
+/// How many milliseconds a read waits by default: a pipe or a file has no other pace.
 pub const READ_MILLIS: u64 = 500;
 
 /// What makes connections to one server.

@@ -1,4 +1,4 @@
-//! Connections of which a log is kept.
+//! Connections with a log.
 
 use arrayvec::ArrayVec;
 use crate::dial::Dial;
@@ -15,7 +15,7 @@ const SENT: &[u8] = b"> ";
 /// How many bytes of a line that is sent are kept: no line is longer.
 const SENT_ROOM: usize = 4200;
 
-/// A stream of which a log is kept: each line as it came, without telnet's commands and prompts, and after `> ` each
+/// A stream with a log: each line as it came, without telnet's commands and prompts, and after `> ` each
 /// line that was sent, but for the first, which is the login. A log that can't be written any more is left as it is.
 #[derive(Drop)]
 pub struct Logged<S: Link + Drop, W: Write + Drop> {

@@ -14,23 +14,23 @@ const READS_AT_ONCE: u32 = 64;
 /// For how many milliseconds a server is waited for that asks for the login: it was sent, and the answer is on its way.
 const LOGIN_MILLIS: u64 = 2000;
 
-/// What a server prints that wants a login.
+/// What a server prints when it waits for a login.
 const LOGIN_PROMPT: &[u8] = b"login: ";
 
 /// A stream that is quiet after so many reads, though more may have come. So a turn ends in time, whatever is sent. Once it
-/// is not quiet for a while: where the server has just asked for the login. So a turn that ends there was not answered.
+/// is not quiet for a while: if the server has just asked for the login. So a turn that ends then was not answered.
 #[derive(Drop)]
 pub struct Paced<S: Link + Drop> {
     stream: S,
     reads: u32,
-    /// How often a quiet stream is read again where the server asks for the login.
+    /// How often a quiet stream is read again if the server asks for the login.
     patience: u64,
     /// The server has asked for the login, and has said nothing since.
     asked: bool,
 }
 
 impl<S: Link + Drop> Paced<S> {
-    /// The same stream, of which nothing was read in this turn.
+    /// The same stream, from which nothing was read in this turn.
     pub fn new(stream: S, patience: u64) -> Paced<S> {
         Paced {
             stream,

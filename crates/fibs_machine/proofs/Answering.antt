@@ -11,14 +11,14 @@ answered_at now logged_in c first text d1 d2 =
     answered (record { board = now; logged_in = logged_in })
     (record { conn = c; first = first; text = text; die = d1; other_die = d2 })
 
--- what comes of it
+-- its answer
 abbrev pub takes_line : ℕ → World → Bool → List ℕ → ℕ → ℕ → World
 takes_line c w first text d1 d2 = does_served c w (answered_at w.board w.logged_in c first text d1 d2)
 
--- what comes of a decision, by the board to which it leads
+-- the answer to a decision, by the board to which it leads
 abbrev pub carries_out : ℕ → World → Decision → Option Board → World
 carries_out c w d o = does_served c w (carried d o)
 
--- what comes of a later line of the connection logged in, by the decision that it says
+-- the answer to a later line of the connection logged in, by the decision that it says
 abbrev pub obeys : ℕ → World → ℕ → ℕ → Option Decision → World
 obeys c w d1 d2 o = does_served c w (obeyed w.board d1 d2 o)

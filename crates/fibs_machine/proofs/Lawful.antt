@@ -31,7 +31,7 @@ pub record IsQuiet (t : List ℕ) : Type 0 where
   pub text : NoReturn t
   pub quiet : (b : BoardFields) → decision_in b t ≡ None
 
--- commands of which none is a decision
+-- commands that are no decisions
 abbrev pub AllQuiet : List (List ℕ) → Type 0
 AllQuiet [] = Unit {0}
 AllQuiet (t ∷ ts) = IsQuiet t × AllQuiet ts

@@ -37,7 +37,7 @@ pub record ServerValue : Type 0 where
   pub board : BoardFields
   pub logged_in : ℕ
 
--- a line that it takes: of which connection, whether as the first there, and the dice, should it be a roll
+-- a line that it takes: its connection, whether it is the first line there, and the dice if it is a roll
 pub record TakenLine : Type 0 where
   pub conn : ℕ
   pub first : Bool
@@ -45,7 +45,7 @@ pub record TakenLine : Type 0 where
   pub die : ℕ
   pub other_die : ℕ
 
--- what comes of a line
+-- the server's answer to a line
 pub data Served : Type 0 where
   -- it is of a connection older than the one logged in, or a later line of one that isn't logged in
   Stale : Served

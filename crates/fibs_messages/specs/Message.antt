@@ -85,7 +85,7 @@ kinds_in (r ∷ rows) n = if r.number == n then r.kinds else kinds_in rows n
 abbrev pub kinds_of : ℕ → List Kind
 kinds_of n = kinds_in table n
 
--- the messages of which trailing spaces are dropped: those that end in no text
+-- the messages whose trailing spaces are dropped: those that do not end in a text
 abbrev pub drops_spaces : ℕ → Bool
 drops_spaces n = nat_le n 6 || n == 10 || n == 11
 

@@ -50,7 +50,7 @@ pub record Stands (k : Kind) (o p : Option (List ℕ)) : Type 0 where
   pub valid : IsValue value
   pub text : after_space o ≡ canonical_field value ++ after_space p
 
--- so are the next fields, of values of these kinds
+-- the next fields are too, with values of these kinds
 pub record AllStand (ks : List Kind) (o p : Option (List ℕ)) : Type 0 where
   pub values : List FieldValue
   pub kinds : map kind_of values ≡ ks

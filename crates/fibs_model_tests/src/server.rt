@@ -153,13 +153,13 @@ static CASES: [Case; 9] = [
     },
 ];
 
-/// The decision's command, as of one who goes down.
+/// The decision's command, for a player who goes down.
 fn with_command(alloc: Global, word: &str, decision: &Decision) -> Result<String, Fail> {
     let command = decision_text(decision, Direction::Down);
     Ok(format!(in alloc; "{word} {command}")?)
 }
 
-/// The answer's name, with the decision as of one who goes down.
+/// The answer's name, with the decision of a player who goes down.
 fn text_of(alloc: Global, served: &Served) -> Result<String, Fail> {
     match served {
         Served::Stale => Ok(String::from_str(alloc, "Stale")?),

@@ -10,7 +10,7 @@ own_letter = 79
 abbrev pub other_letter : ℕ
 other_letter = 88
 
--- a number below 100 by two digits, the first of which is a filler if it is 0
+-- a number below 100 by two digits; the first is a filler if it is 0
 abbrev pub two_digits : ℕ → ℕ → List ℕ
 two_digits filler n = (if nat_lt n 10 then filler else 48 + n / 10) ∷ (48 + n % 10) ∷ []
 

@@ -20,7 +20,7 @@ whose_turn b =
     if int_eq (turn b) (pos 0) then nobodys
     else (if int_eq (turn b) (colour b) then the_players else the_opponents)
 
--- two boards are the same to one who sees their pictures
+-- two boards look the same in their pictures
 pub record SameToTheEye (a b : BoardFields) : Type 0 where
   pub arrangement : own_view a ≡ own_view b
   pub direction : direction_of a ≡ direction_of b
@@ -38,6 +38,6 @@ pub record SameToTheEye (a b : BoardFields) : Type 0 where
   -- as much of the opponent's name as is shown
   pub opponent : take 30 a.opponent ≡ take 30 b.opponent
 
--- boards of one picture, each of which has a position, are the same to the eye
+-- boards with the same picture, each with a position, look the same
 abbrev pub PictureTells : Type 0
 PictureTells = (a b : BoardFields) → IsGood a → IsGood b → picture a ≡ picture b → SameToTheEye a b

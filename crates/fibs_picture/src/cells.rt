@@ -13,7 +13,7 @@ const OWN_LETTER: u8 = b'O';
 /// The letter of the opponent's checkers.
 const OTHER_LETTER: u8 = b'X';
 
-/// A number by two digits, the first of which is a filler if it is 0.
+/// A number by two digits. The first is a filler if it is 0.
 fn two_digits(filler: u8, n: u8) -> [u8; 2]
     requires { n < 100 }
     ensures { result ≡ two_digits filler n }

@@ -4,7 +4,7 @@ ghost use Rattle.fibs_picture.specs.Told.{PictureTells};
 
 use fibs_boards::laws::fields_have_their_ranges;
 
-/// Boards of one picture, each of which has a position, are the same to the eye.
+/// Boards with the same picture, each with a position, look the same (`SameToTheEye`).
 pub fn picture_tells()
     ensures { PictureTells }
 {

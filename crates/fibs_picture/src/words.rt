@@ -1,4 +1,4 @@
-//! What is said in words beside a board, and below it.
+//! The words beside a board, and below it.
 ghost use Rattle.std.specs.Prelude.{◌≡◌, ◌≤◌, ◌++◌, ◌∷◌, [], OnOk, take};
 ghost use Rattle.std.specs.Io.KnownBytes.{Appends};
 ghost use Rattle.fibs_position.specs.DecisionValue.{decision_of};

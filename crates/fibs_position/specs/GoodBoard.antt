@@ -6,7 +6,7 @@ use Rattle.fibs_position.specs.OwnView.{own_placed, other_placed}
 use Rattle.fibs_position.specs.declared.position_fault.PositionFault.{PositionFault}
 use Rattle.fibs_position.specs.declared.position_fault.PositionFault.TheVariants.{NotYou, TooManyOwn, TooManyOther}
 
--- a board of one who plays himself, on which neither side has more than fifteen checkers on places 1 to 24 and off
+-- a board of a game in which the user plays, and neither side has more than fifteen checkers on places 1 to 24 and off
 pub record IsGood (b : BoardFields) : Type 0 where
   pub board : IsBoard b
   pub plays : b.player ≡ codes "You"

@@ -45,8 +45,7 @@ EffectIsGood =
     (b : BoardFields) (decision : DecisionValue) (dice : List ℕ) (after : BoardFields) → Effect b decision dice after
     → IsGood after × Differ b after
 
--- no three decisions are carried out one after another: after a roll there may be one more, and after any other it is
--- not the player's turn
+-- no three decisions are carried out one after another, each on the board to which the one before it led
 abbrev pub NoThreeInARow : Type 0
 NoThreeInARow =
     (a b c after : BoardFields) (d e f : DecisionValue) (dice dice' dice'' : List ℕ)

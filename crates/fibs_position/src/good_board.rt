@@ -1,4 +1,4 @@
-//! Boards that have a position, for callers that want no more of it than one word.
+//! Whether a board has a position, and its phase, for callers that need nothing else of the position.
 
 ghost use Rattle.std.specs.Prelude.{◌≡◌, ◌↔◌, IsTrue, None, Some, if◌then◌else◌};
 ghost use Rattle.fibs_boards.specs.StoredBoard.{fields_of};

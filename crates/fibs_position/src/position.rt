@@ -20,7 +20,7 @@ use fibs_boards::laws::is_board_is_exact;
 use fibs_rules::{Arrangement, Play, Turn};
 use std::alloc::{AllocError, Global};
 
-/// What the rules read of a board of one who plays, seen from his own side.
+/// What the rules read of a board of a game in which the user plays, seen from the user's side.
 #[derive(Clone, Copy, Debug)]
 pub struct Position {
     /// The checkers of both sides, and the player's dice.
@@ -43,7 +43,7 @@ pub struct Position {
     ghost second: { standing.second ≤ 6 },
 }
 
-/// The board's player is one who plays himself.
+/// The user plays in the board's game.
 fn is_you(board: &Board) -> bool
     ensures { IsTrue result ↔ ((fields_of board.now).player ≡ codes "You") }
 {

@@ -13,7 +13,7 @@ use fibs_session::Outstanding;
 #[derive(Clone, Copy)]
 pub struct OutstandingRecord {
     pub board: BoardRecord,
-    /// Of kind 0 if there is none.
+    /// Its kind is 0 if there is no decision.
     pub decision: DecisionRecord,
 }
 
@@ -25,7 +25,7 @@ pub fn put_outstanding(out: &mut OutstandingRecord, told: &Outstanding)
     out.decision = decision_record(&told.decision);
 }
 
-/// Gives a decision with its board, or that there is none.
+/// Writes a decision with its board, or that there is none.
 pub fn put_maybe(out: &mut OutstandingRecord, told: &Option<Outstanding>)
     ensures { IsMaybeAsk out.old out.new (option_map ask_of told.now) }
 {

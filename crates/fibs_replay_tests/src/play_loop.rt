@@ -246,7 +246,7 @@ fn a_standing_order_is_played_under_refused_memory(rt: HostRuntime) -> Result<()
     assert_played_again(&rt, "a standing order")
 }
 
-/// The log grows between the two entries of one event, of which then none is printed.
+/// The log grows between the two entries of one event: then neither is printed.
 #[test]
 fn a_click_before_the_connection_is_played_under_refused_memory(
     rt: HostRuntime,

@@ -34,7 +34,7 @@ pub const NO_DOUBLE: &[u8] =
 const NO_DOUBLE_DICE: &[u8] =
     b"board:You:bob:3:0:1:0:-2:0:0:0:0:5:0:3:0:0:0:-5:5:0:0:0:-3:0:-5:0:0:0:0:2:0:1:6:2:0:0:1:0:1:0:1:-1:0:25:0:0:0:0:0:0:0:0";
 
-/// A board of which the player is not `You`.
+/// A board whose player is not `You`.
 pub const OTHER: &[u8] =
     b"board:ann:bob:3:0:1:0:-2:0:0:0:0:5:0:3:0:0:0:-5:5:0:0:0:-3:0:-5:0:0:0:0:2:0:1:0:0:0:0:1:1:1:0:1:-1:0:25:0:0:0:0:0:0:0:0";
 

@@ -23,7 +23,7 @@ pub record Reach : Type 0 where
   pub play : List Hop
   pub leads : Checkers
 
--- what goes on from an arrangement, and nothing if there is none
+-- what follows from an arrangement, and nothing if there is no arrangement
 abbrev pub onward : (Checkers → List Reach) → Option Checkers → List Reach
 onward more None = []
 onward more (Some q) = more q

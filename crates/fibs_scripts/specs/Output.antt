@@ -29,7 +29,7 @@ unread_text number = line_bytes (codes "script " ++ decimal number)
 abbrev pub end_text : ℕ → List ℕ
 end_text done = line_bytes (codes "end " ++ decimal done)
 
--- the last line of a script of which an event is refused, after so many events
+-- the last line if an event of the script is refused, after so many events
 abbrev pub refused_text : ℕ → WorldRefusal → List ℕ
 refused_text done why =
     line_bytes (codes "refused " ++ (decimal done ++ 32 ∷ (decimal (refusal_number why) ++ 32 ∷ refusal_name why)))

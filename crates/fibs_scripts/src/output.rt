@@ -31,7 +31,7 @@ pub fn unread_line(number: usize) -> LastLine
     line
 }
 
-/// The last line of a script of which each event was accepted.
+/// The last line of a script if each event was accepted.
 pub fn end_line(done: usize) -> LastLine
     ensures { result.items ≡ end_text done }
 {
@@ -42,7 +42,7 @@ pub fn end_line(done: usize) -> LastLine
     line
 }
 
-/// The last line of a script of which an event was refused, after so many that were accepted.
+/// The last line of a script if an event was refused, after so many that were accepted.
 pub fn refused_line(done: usize, why: WorldRefusal) -> LastLine
     ensures { result.items ≡ refused_text done why }
 {

@@ -19,7 +19,7 @@ use fibs_position::{Decision, Direction, Phase, Position, PositionFault, effect}
 use fibs_session::read_command;
 use std::marker::Model;
 
-/// What comes of a line that the server takes.
+/// The server's answer to a line.
 #[derive(Clone, Copy, Debug, PartialEq, Eq)]
 pub enum Served {
     /// The line is of a connection older than the one logged in, or a later line of one that isn't logged in.
@@ -152,7 +152,7 @@ impl Server {
         )
     }
 
-    /// What comes of a decision.
+    /// Carries a decision out, if it can be.
     fn obey(&mut self, decision: Decision, dice: [u8; 2]) -> Served
         ensures answer { served_of result self.new.board ≡
             obeyed self.old.board (slice_index dice 0) (slice_index dice 1) (Some (decision_of decision)) }

@@ -12,7 +12,7 @@ use fibs_history::Refusal;
 impl Session {
     ghost use Rattle.fibs_session.specs.Calls.SessionOf.{session_of, ask_of, handed, refusal_in};
 
-    /// A session of which nothing was heard.
+    /// A session that has heard nothing.
     pub(crate) fn fresh(login: Login, online: bool) -> Session
         ensures { session_of result ≡ fresh (login_of login) online }
     {

@@ -25,7 +25,7 @@ play_line direction play = command_of direction (move play) ++ (10 ∷ [])
 abbrev pub listing : Phase → Direction → List (List Hop) → List ℕ
 listing phase direction plays = codes "phase " ++ (phase_name phase ++ (10 ∷ flat_map (play_line direction) plays))
 
--- what is printed for a position: its phase and its plays, of which only the phase Move has some
+-- what is printed for a position: its phase and its plays; only the phase Move has plays
 abbrev pub PositionText : PositionValue → List ℕ → Type 0
 PositionText p text = (phase : Phase) × (plays : List (List Hop)) × InPhase p phase × PlaysIn p plays
     × (text ≡ listing phase p.direction plays)

@@ -68,7 +68,7 @@ pub fn plays<W: Write, E: Write>(
     }
 }
 
-/// The position of a board line, or the line that says why there is none.
+/// The position of a board line, or the line that says why it has none.
 fn position_of(line: &[u8]) -> Result<Position, RefusalLine>
     ensures good { IfOk result (λ position. (b : BoardFields) → IsReading line.now (board_line b)
         → position_value position ≡ position_of b) }

@@ -1,4 +1,4 @@
-//! Devices of which a signal interrupts calls.
+//! Devices whose calls a signal interrupts.
 use fibs_engine::fault::EngineFault;
 use fibs_engine::retrying::{RETRIES, read_retrying, write_retrying};
 use fibs_show::show::show;
@@ -9,7 +9,7 @@ use std::alloc::Global;
 use std::io;
 use std::io::{ErrorKind, Read, Write};
 
-/// A device of which so many calls are interrupted before each one that is not.
+/// A device with so many interrupted calls before each one that is not.
 #[derive(Drop)]
 struct Disturbed<'a> {
     pipe: Pipe<'a>,
@@ -18,7 +18,7 @@ struct Disturbed<'a> {
 }
 
 impl<'a> Disturbed<'a> {
-    /// A device of which no call was made yet.
+    /// A device on which no call was made yet.
     fn new(pipe: Pipe<'a>, signals: u32) -> Disturbed<'a> {
         Disturbed {
             pipe,

@@ -6,7 +6,7 @@ use fibs_position::Position;
 /// How many checkers of the opponent have come to each place, by the player's own numbering.
 pub(crate) type Came = [u8; 25];
 
-/// How many checkers move at most in a turn: where more have come it was no move.
+/// How many checkers move at most in a turn: if more have come it was no move.
 const MOST_MOVED: u8 = 4;
 
 /// None has come.

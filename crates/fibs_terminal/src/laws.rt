@@ -1,7 +1,7 @@
 //! Laws of what a terminal draws. Each function does nothing: its contract is the law.
 ghost use Rattle.fibs_terminal.specs.Drawings.{DrawingsTell};
 
-/// Boards of one drawing, each of which has a position, are the same to the eye.
+/// Boards with the same drawing, each with a position, look the same (`SameToTheEye`).
 pub fn drawings_tell()
     ensures { DrawingsTell }
 {

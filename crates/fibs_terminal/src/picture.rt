@@ -28,7 +28,7 @@ const RIGHT: usize = 25;
 /// The columns of six places.
 const SIX_PLACES: usize = 18;
 
-/// How many checkers are seen of a place: a number stands for more.
+/// How many checkers are drawn on a place: for more there is a number.
 const MOST_SEEN: usize = 5;
 
 /// The row between the halves, and that of the words below the board.
@@ -52,7 +52,7 @@ fn append_plain(board: &Board, position: &Position, text: &mut Vec<u8>) -> Resul
     draw(board, position, text).map_err(|_| AllocError)
 }
 
-/// The place that stands at a column of a row, by the player's own numbering; 0 if none does.
+/// The place at a column of a row, in own numbers; 0 if there is none.
 fn place_at(row: usize, column: usize) -> u8 {
     let along = if column >= LEFT && column < LEFT + SIX_PLACES {
         (column - LEFT) / 3
@@ -225,7 +225,7 @@ pub fn append_picture(
     append_marked(alloc, board, position, &nothing_came(), settings, text)
 }
 
-/// The same, with marks where the opponent has come to.
+/// The same, with marks on the places to which the opponent has moved.
 pub(crate) fn append_marked(
     alloc: Global,
     board: &Board,

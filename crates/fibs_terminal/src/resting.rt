@@ -15,7 +15,7 @@ use fibs_wording::reasons::refusal_words;
 use std::alloc::AllocError;
 use std::time::Clock;
 
-/// What a server prints that wants a login. The client sends one as soon as it is connected.
+/// What a server prints when it waits for a login. The client sends one as soon as it is connected.
 const LOGIN_PROMPT: &[u8] = b"login: ";
 
 impl<'a, C: Clock + Drop> Screen<'a, C> {
@@ -31,7 +31,7 @@ impl<'a, C: Clock + Drop> Screen<'a, C> {
         }
     }
 
-    /// Makes the text that is said before the user types.
+    /// Makes the text that is shown before the user types.
     pub(crate) fn rest_anew(&mut self, client: &Client) -> Result<(), FrontFault>
         ensures { OnOk result (SaysOffers client.now self.old.memory [] self.new.text.items) }
     {

@@ -1,4 +1,4 @@
-//! What a terminal says of what it is told.
+//! What a terminal shows of what is reported to it.
 
 use crate::screen::Screen;
 use fibs_front::said::Said;
@@ -55,7 +55,7 @@ impl<'a, C: Clock + Drop> Screen<'a, C> {
         self.say_place()
     }
 
-    /// Says where the server is.
+    /// Shows the address of the server.
     fn say_place(&mut self) -> Result<(), AllocError> {
         self.say(self.settings.host)?;
         self.say(b":")?;

@@ -8,7 +8,7 @@ use std::alloc::Global;
 use std::io::Write;
 use std::time::Clock;
 
-/// A front end for a person: it draws what it is told, words it, and says once what may be typed.
+/// A front end for a person: it draws boards, shows the rest in words, and says once what may be typed.
 #[derive(Drop)]
 pub struct Terminal<'a, W: Write + Drop, C: Clock + Drop> {
     pub(crate) screen: Screen<'a, C>,

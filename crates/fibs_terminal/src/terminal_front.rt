@@ -1,4 +1,4 @@
-//! A terminal is told what happens.
+//! What happens is reported to a terminal.
 ghost use Rattle.std.specs.Prelude.{OnOk};
 ghost use Rattle.std.specs.Io.KnownBytes.{Appends};
 ghost use Rattle.fibs_terminal.specs.Grown.{Grown};

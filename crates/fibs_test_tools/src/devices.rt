@@ -34,7 +34,7 @@ impl Read for Endless {
     }
 }
 
-/// A writer of which one write fails, and which takes bytes before and after it. It counts its writes.
+/// A writer with one write that fails. It takes bytes before and after it, and counts its writes.
 #[derive(Drop)]
 pub struct FailsOnce {
     before: usize,
@@ -51,7 +51,7 @@ impl FailsOnce {
         FailsOnce::of_kind(ErrorKind::BrokenPipe, before, most)
     }
 
-    /// The same, of which a write fails with an error of this kind.
+    /// The same; the write fails with an error of this kind.
     pub fn of_kind(error: ErrorKind, before: usize, most: usize) -> FailsOnce {
         FailsOnce {
             before,

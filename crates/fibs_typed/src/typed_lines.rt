@@ -78,7 +78,7 @@ fn drop_return(line: &mut TypedLine)
 }
 
 impl TypedLines {
-    /// The lines of a reader of which nothing was read yet, and which is read at most so often.
+    /// The lines of a reader from which nothing was read yet, and which is read at most so often.
     pub fn new(reads: u32) -> TypedLines
         ensures waiting { result.waiting ≡ [] }
         ensures reads { result.reads ≡ reads }

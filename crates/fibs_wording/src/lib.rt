@@ -1,4 +1,4 @@
-//! What is said to a person at a terminal: messages, reasons, dates and lists in words.
+//! What a person at a terminal reads: messages, reasons, dates and lists in words.
 #![tactic(auto)]
 
 pub mod dates;

@@ -18,7 +18,7 @@ const OWN_OFF: usize = 46;
 
 const OTHER_OFF: usize = 47;
 
-/// The match length that stands for no end.
+/// The match length that means an unlimited match.
 const UNLIMITED: i32 = 9999;
 
 /// Appends a number.

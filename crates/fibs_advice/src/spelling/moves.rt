@@ -116,7 +116,7 @@ fn next_step(steps: &[Step], used: &[bool; MOST_STEPS], source: u8, target: u8) 
     None
 }
 
-/// Uses steps by which a checker comes from a place to another one. False if there are none.
+/// Uses steps that take a checker from one place to another. False if there are no such steps.
 fn use_way(steps: &[Step], used: &mut [bool; MOST_STEPS], way: &Step) -> bool {
     let mut source = way.source();
     for _ in 0..MOST_STEPS {

@@ -7,7 +7,7 @@ use Rattle.fibs_fields.specs.FieldReading.{Left, left, next_at, field_at, this_w
 use Rattle.fibs_fields.specs.declared.fault.FieldFault.{FieldFault}
 use Rattle.fibs_boards.proofs.BoardLemmas.NextFields.{IsNext, name_next, name_wrong, word_next}
 
--- what is left of a text of which nothing was read
+-- what is left of a text before anything was read
 pub begun : (text line : List ℕ) (l : Left) → text ≡ line → l ≡ left 58 (Some text)
     → (l.separator ≡ 58) × (pieces_left l ≡ pieces line)
 begun text line l same is = (ap (λ m. m.separator) is, ap pieces_left is ∙ ap pieces same)

@@ -7,7 +7,7 @@ use Rattle.fibs_fields.specs.Decimal.{allows}
 use Rattle.fibs_fields.specs.Name.{is_name}
 use Rattle.fibs_boards.specs.Board.{BoardFields, IsBoard, Fit, field_values, fit, is_board}
 
--- numbers of which the test says yes fit
+-- numbers that pass the test fit
 fit_tells : (vs : List Values) (zs : List ℤ) → fit vs zs ≡ true → Fit vs zs
 fit_tells [] [] h = tt
 fit_tells [] (z ∷ zs) h = absurd (true≢false (sym h))
@@ -21,7 +21,7 @@ fit_from [] (z ∷ zs) h = absurd h
 fit_from (v ∷ vs) [] h = absurd h
 fit_from (v ∷ vs) (z ∷ zs) h = and_from (allows v z) (fit vs zs) h.0 (fit_from vs zs h.1)
 
--- fields of which the test says yes are a board
+-- fields that pass the test are a board
 board_tells : (b : BoardFields) → is_board b ≡ true → IsBoard b
 unfolding is_board
 board_tells b h =

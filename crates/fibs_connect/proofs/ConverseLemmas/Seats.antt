@@ -75,7 +75,7 @@ seat_connects Tells remaining contents old client known players was (Some s) hel
   λ e. absurd cc,
 )
 
--- a connection that is told after a flush was opened and lost since before it
+-- a connection that is reported after a flush was opened and lost since the flush
 pub loses_since : {F : Type 0} {Tells : F → List SaidValue → F → Type 0} → Joins Tells → (held from now : F)
     (old new : ClientValue) → Tells held [] from → OpensAndLoses Tells old new from now
     → OpensAndLoses Tells old new held now

@@ -7,7 +7,7 @@ use Rattle.fibs_exchange.specs.declared.turn_fault.TurnFault.{TurnFault}
 use Rattle.fibs_exchange.specs.declared.turn_fault.TurnFault.TheVariants.{Stream, Output}
 use Rattle.fibs_exchange.specs.Turns.Answering.{IfPrinted, IfUnprinted}
 
--- a write that failed is said to have failed
+-- after a failed write the answer says so
 pub broken_on : (Holds : Progress → Type 0) (r : Result ⊤ declared.Broken) (v : declared.Broken)
     → IsErrAnd r (λ e. e ≡ v) → Holds Broken → Holds (progress_of r)
 broken_on Holds (Ok x) v h p = absurd h

@@ -101,7 +101,7 @@ line_stays : (line : List ℕ) (ms : List (List ℕ)) → is_directory_line line
     → without_directory (line ∷ ms) ≡ line ∷ without_directory ms
 line_stays line ms e = ap (λ b. cond b (without_directory ms) (line ∷ without_directory ms)) e
 
--- none of the lines of what is reported so is a line of the directory
+-- none of the lines that are printed for it is a line of the directory
 lines_stay : (s : SaidValue) (ms : List (List ℕ)) → is_unnoted s ≡ false
     → without_directory (lines_of s ++ ms) ≡ lines_of s ++ without_directory ms
 lines_stay opened_said ms h = refl

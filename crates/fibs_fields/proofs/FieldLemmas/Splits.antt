@@ -82,7 +82,7 @@ cut_off c (b ∷ w) rest h head =
     let more = cut_off c w rest p.1 head in
     rw (not-true (eqb b c) p.0) (ap (λ (t : List ℕ). b ∷ t) more.0, more.1)
 
--- two texts of which each begins with the byte or is nothing
+-- two texts, each empty or beginning with the byte
 pub append_head : (c : ℕ) (t s : List ℕ) → HeadIs c t → HeadIs c s → HeadIs c (t ++ s)
 append_head c [] s h k = k
 append_head c (b ∷ t) s h k = h

@@ -1,4 +1,4 @@
--- What is left on a wire to the server: lines of which at most one is a decision, the one that is not served.
+-- What is left on a wire to the server: lines. At most one of them is a decision, the one that is not served.
 use Rattle.std.proofs.Common.{◌≡◌, ◌⊎◌, inl, inr, ℕ, Bool, true, false, List, [], ◌∷◌, ◌++◌, Option, Some, None, nat_eq}
 use Rattle.std.proofs.Common.{flat_map, refl, sym, ◌∙◌, ap, subst, append_assoc}
 use Rattle.fibs_boards.specs.Board.{BoardFields as Board}

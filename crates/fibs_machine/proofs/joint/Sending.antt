@@ -237,7 +237,7 @@ module _ (law : Lawful) where
   calm_more now b (a ∷ rest) m h =
       (λ z. let e = becomes now b a m z (h.0 z).1 in (all_more a b rest (h.0 z).0 e, e), calm_more now b rest m h.1)
 
-  -- so it is with the boards on their way to the client
+  -- the same holds of the boards on their way to the client
   pub live_more : (v : View) (now b : Board) (ws : List Board) (p : Option Ask) → MayBecome now b → Live v now ws p
       → Live v b (ws ++ b ∷ []) p
   live_more v now b ws None m y = elim y [

@@ -15,7 +15,7 @@ Fits before (Clicked c d a) = (c ≡ open_now before) × (a ≡ answer same_game
 Fits before (Sent c b d) = last (shown c before) ≡ Some b
 Fits before e = Unit {0}
 
--- so it is with each of the entries later, after those before
+-- the same holds of each later entry, after those before it
 abbrev pub AllFit : List Entry → List Entry → Type 0
 AllFit before [] = Unit {0}
 AllFit before (e ∷ later) = Fits before e × AllFit (before ++ e ∷ []) later

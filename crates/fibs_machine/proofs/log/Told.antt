@@ -137,7 +137,7 @@ order_front c xs ys o i h =
     ap length (map_more (sent_by c) xs ys (sent c ys) refl) ∙ length-append (sent c xs) (sent c ys) in
     (omega arith, omega arith)
 
--- entries of which none took effect keep the order
+-- entries without a Took keep the order
 order_more : (c : ℕ) (xs ys : List Entry) → InOrder c xs → took c ys ≡ [] → InOrder c (xs ++ ys)
 order_more c xs ys o k i h =
     order_front c xs ys o i (let e : took c (xs ++ ys) ≡ took c xs = map_no_more (took_by c) xs ys k in

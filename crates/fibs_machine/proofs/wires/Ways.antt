@@ -124,7 +124,7 @@ module _ (law : Lawful) where
   text_of None t ts q = q.0.text
   text_of (Some a) t ts q = elim q [ inl h ↦ h.0.text | inr h ↦ h.1 ]
 
-  -- texts of which none holds a CR
+  -- texts without a CR
   abbrev AllText : List (List ℕ) → Type 0
   AllText [] = Unit {0}
   AllText (t ∷ ts) = NoReturn t × AllText ts

@@ -81,7 +81,7 @@ pub record ReadExactly (line : List ℕ) (v : ReadingValue) : Type 0 where
   pub malformed : (n k : ℕ) → (f : Fault) → (v ≡ malformed_line n k f) ↔ IsMalformed line n k f
   pub text : (t : List ℕ) → (v ≡ text_line t) ↔ (IsText line × (t ≡ line))
 
--- so it is of each reading that is the line's
+-- this holds of each reading that is the line's
 pub exactly : (line : List ℕ) (v : ReadingValue) → IsReading line v → ReadExactly line v
 exactly line v found =
     let P : ReadingValue → Type 0 = λ w. IsReading line w in

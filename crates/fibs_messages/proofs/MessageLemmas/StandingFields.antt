@@ -1,4 +1,4 @@
--- A line of which each field is as it is printed is the canonical line of its message.
+-- If each field of a line is as it is printed, the line is the canonical line of its message.
 use Rattle.std.proofs.Common.{◌≡◌, ◌∙◌, ℕ, suc, ◌+◌, ◌<◌, List, [], ◌∷◌, ◌++◌, decimal, length, get_or, take, drop}
 use Rattle.std.proofs.Common.{replicate, Option, Some, None, refl, sym, ap, arith, append_assoc}
 use Rattle.std.proofs.Common.{take-append-drop}
@@ -77,7 +77,7 @@ behind_space : (o : Option (List ℕ)) → behind 32 o ≡ after_space o
 behind_space None = refl
 behind_space (Some s) = refl
 
--- the message of a line of which all fields are so
+-- the message of a line whose fields are all so
 pub standing_line : (line : List ℕ) (n : ℕ) → number_word (before 32 line) ≡ Some n
     → AllStand (kinds_of n) (after 32 (kept n line)) None
     → (m : MessageValue) × MessageText m line × (kept n line ≡ canonical m)

@@ -45,7 +45,7 @@ module _ (links : List Link) (c : ℕ) (l : Link) (some : 0 < c) (known : c ≤ 
   kept_cross kept bytes e =
       e ∙ ap (λ (x : LinkValue). take kept x.asked) (sym (link_was links c l some known is))
 
--- two calls, of which the second may fail
+-- two calls; the second may fail
 pub carried_both : {A E : Type 0} (Carries : A → List Crossing → A → Type 0) → Joins Carries
     → (a b c : A) (xs ys : List Crossing) (r : Result (Unit {0}) E) → Carries a xs b → OnOk r (Carries b ys c)
     → OnOk r (Carries a (xs ++ ys) c)

@@ -1,4 +1,4 @@
--- What is said beside a board has no line end within it, and tells what it says.
+-- The words beside a board have no line end within them, and determine what they say.
 use Rattle.std.proofs.Common.{◌≡◌, ◌⊎◌, ◌<◌, ◌+◌, ◌^◌, ◌==◌, ◌&&◌, ◌++◌, ℕ, zero, suc, Bool, true}
 use Rattle.std.proofs.Common.{false, not, cond}
 use Rattle.std.proofs.Common.{List, [], ◌∷◌, length, take, codes, refl, sym, ◌∙◌, ap, arith, lit<}

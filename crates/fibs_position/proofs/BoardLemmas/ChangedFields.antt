@@ -1,4 +1,4 @@
--- The fields of a board of which some are changed.
+-- The fields of a board if some are changed.
 use Rattle.std.proofs.Common.{◌≡◌, ℕ, zero, suc, ◌+◌, ◌-◌, ◌<◌, ◌≤◌, ◌≢◌, Bool, true, false, cond, eqb, List, [], ◌∷◌}
 use Rattle.std.proofs.Common.{◌++◌, length, get_or, set, inl, inr, refl, ap, ◌∙◌, arith}
 use Rattle.std.specs.Prelude.{ℤ, pos, map, nat_le, ◌&&◌}
@@ -48,7 +48,7 @@ abbrev pub changed : List (ℕ × ℤ) → ℕ → ℤ → ℤ
 changed [] m z = z
 changed (c ∷ cs) m z = changed cs m (cond (eqb (c.0 - 4) (m - 4)) c.1 z)
 
--- a number of a list of which one is changed
+-- a number of a list if one number is changed
 set_at : (zs : List ℤ) (i j : ℕ) (z : ℤ) → j < length zs
     → get_or (set zs i z) j (pos 0) ≡ cond (eqb i j) z (get_or zs j (pos 0))
 set_at zs i j z within = elim (cases_eq j i) [

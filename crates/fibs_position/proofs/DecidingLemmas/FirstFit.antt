@@ -1,4 +1,4 @@
--- The first of a list of which a fact holds.
+-- The first element of a list for which a fact holds.
 use Rattle.std.proofs.Common.{◌≡◌, Bool, true, false, cond, List, [], ◌∷◌, ◌++◌, ◌⊎◌, inl, inr, Option, Some, Err, sym}
 use Rattle.std.proofs.Common.{ap, refl}
 use Rattle.std.specs.Prelude.{◌↔◌, Result, find}

@@ -39,11 +39,11 @@ decision_valid b reject h = tt
 decision_valid b (move steps) h = legal_plays_are_steps (standing_of b) steps h.legal
 decision_valid b (resign stake) h = tt
 
--- so is what the function allows
+-- what the function allows is, too
 pub allowed_is_a_decision : BoardTest → FieldRanges → AllowedIsADecision
 allowed_is_a_decision test ranges b d g h = decision_valid b d ((allowed_is ranges b d (good_tells test b g)).0.0 h)
 
--- so is each value of the type
+-- each value of the type is, too
 pub decisions_are_valid : DecisionsAreValid
 decisions_are_valid Roll = tt
 decisions_are_valid Double = tt

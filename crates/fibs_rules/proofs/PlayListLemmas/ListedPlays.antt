@@ -52,7 +52,7 @@ value_in plays play (k, lt, e) =
     let long = length-map plays hops_of in
     (k, omega (arith, lt, long), get_or-map hops_of plays k play (hops_of play) lt ∙ ap hops_of e)
 
--- plays in order of which no two are level are in descending order
+-- plays in order, no two of them level, are in descending order
 descends : (plays : List Play) → IsSortedBy (λ (a b : Play). is_lt (play_cmp (hops_of b) (hops_of a))) plays
     → IsDistinct level plays
     → AllAdjacentBelow (λ a b. play_cmp a b ≡ Greater) (map hops_of plays) (length (map hops_of plays))

@@ -99,7 +99,7 @@ greater_itself found =
 pub not_greater : (o : Ordering) → is_gt o ≡ false → o ≢ Greater
 not_greater o e g = absurd (false≢true (sym e ∙ ap is_gt g))
 
--- and fails if it is so
+-- and fails if one is
 pub gt_from : (o : Ordering) → o ≢ Greater → is_gt o ≡ false
 gt_from Less e = refl
 gt_from Equal e = refl
@@ -111,7 +111,7 @@ tied a Less e f g = absurd (false≢true (sym f ∙ ap is_gt e))
 tied a Equal e f g = e
 tied a Greater e f g = absurd (false≢true (sym g))
 
--- two plays of which neither is the greater are one
+-- two plays are the same if neither is the greater
 pub play_same : (a b : List Hop) → is_gt (play_cmp a b) ≡ false → is_gt (play_cmp b a) ≡ false → a ≡ b
 play_same a b f g = play_exact a b (tied _ _ (play_total.antisymm a b) f g)
 

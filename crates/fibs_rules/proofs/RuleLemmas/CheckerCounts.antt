@@ -18,7 +18,7 @@ count_le xs i = elim (cases_lt i (length xs)) [
   | inr past ↦ let none = get_or-eq_default xs 0 past in omega arith
 ]
 
--- a count that is not 0 stands in the list
+-- a count that is not 0 is in the list
 pub stands : (xs : List ℕ) (i : ℕ) → 0 < slice_index xs i → i < length xs
 stands xs i some =
     elim (cases_lt i (length xs))

@@ -91,7 +91,7 @@ plays_die : (p q : Checkers) (die : ℕ) (steps : List Hop) → Run p (die ∷ [
 plays_die p q die [] run = absurd run
 plays_die p q die (step ∷ steps) (r, one, run) = (step.source, step.target, r, one)
 
--- a die of which one step is found can be played
+-- if a step by a die is found, the die can be played
 pub playable : (p : Checkers) (die : ℕ) → 0 < die → die ≤ 6 → 0 < longest p (die ∷ []) → CanPlay p die
 playable p die lo hi pos =
     let r = longest-reached p (die ∷ []) (lo, hi, tt) in

@@ -95,7 +95,7 @@ board_is_said line (Ok board) o e found = subst (λ o. IfSome o (λ board. Board
     found
 board_is_said line (Err fault) o e found = subst (λ o. IfSome o (λ board. BoardText (fields_of board) line)) (sym e) tt
 
--- and if there is none, the line says none
+-- and if there is no event, the line says none
 pub board_is_none : (line : List ℕ) (r : Result Board FieldFault) (o : Option Board) → o ≡ result_ok r
     → ((b : BoardFields) → BoardText b line → read_fields r ≡ Ok b) → IfNone o (IsNoBoard line)
 board_is_none line (Ok board) o e only = subst (λ o. IfNone o (IsNoBoard line)) (sym e) tt

@@ -16,7 +16,7 @@ use Rattle.fibs_engine.specs.declared.writing.Broken as declared
 use Rattle.fibs_scripts.specs.Passing.{Passed}
 use Rattle.fibs_engine.specs.Writing.{Progress, Whole, Broken}
 
--- a write that failed is said to have failed
+-- after a failed write the answer says so
 pub broken_on : (Holds : Progress → Type 0) (r : Result ⊤ declared.Broken) (v : declared.Broken)
     → IsErrAnd r (λ e. e ≡ v) → Holds Broken → Holds (progress_of r)
 broken_on Holds (Ok x) v h p = absurd h

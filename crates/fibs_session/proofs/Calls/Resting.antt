@@ -1,4 +1,4 @@
--- A `&mut` whose last value is said rests there.
+-- A `&mut` whose last value is known rests there.
 use mathlib.Core.Option.{none}
 use seplogic.Ra.Ura.{Ura}
 use base.Logic.{ent, ex_i}
