@@ -29,7 +29,7 @@ abbrev pub IsNewClient : Option ClientValue → Option ClientValue → List ℕ 
 IsNewClient (Some c) new name password status = (status ≡ 502) × (new ≡ Some c)
 IsNewClient None new name password status = IsNewFor (login_fault name password) new name password status
 
--- each history that the client was reached by, with the input, reaches it now, and the wire holds just
+-- for each history by which the client was reached, that history with the input reaches it now, and the wire holds just
 -- the bytes of the commands that the machine hands out
 pub record DoesOnWire (old new : ClientValue) (i : InputValue) (wire : Wire) : Type 0 where
   pub stands : (t : Talk) → StandsAfter old t → StandsAfter new (step t i).talk
@@ -86,7 +86,7 @@ IsLost None new waited waited' status = (status ≡ 501) × (new ≡ None) × (w
 IsLost (Some c) None waited waited' status = ⊥
 IsLost (Some c) (Some d) waited waited' status = Loses c d waited waited' status
 
--- the board that is shown; or none is, and nothing is written
+-- the board that is shown; or no board is shown, and nothing is written
 abbrev pub IsShownBoard : Option BoardFields → BoardRecord → BoardRecord → ℕ → Type 0
 IsShownBoard None r r' status = (status ≡ 5) × (r' ≡ r)
 IsShownBoard (Some b) r r' status = (status ≡ 0) × IsBoardAs r' b
@@ -97,7 +97,7 @@ IsShown None new r r' status = (status ≡ 501) × (new ≡ None) × (r' ≡ r)
 IsShown (Some c) new r r' status =
     (new ≡ Some c) × ((t : Talk) → StandsAfter c t → IsShownBoard (shown_now t) r r' status)
 
--- the decision that waits; or none does, and nothing is written
+-- the decision that waits; or no decision waits, and nothing is written
 abbrev pub IsWaitingAsk : Option Ask → OutstandingRecord → OutstandingRecord → ℕ → Type 0
 IsWaitingAsk None out out' status = (status ≡ 507) × (out' ≡ out)
 IsWaitingAsk (Some a) out out' status = (status ≡ 0) × IsAskAs out' a

@@ -34,7 +34,7 @@ pub record TellsLine (v : TakenValue) (h : Heard) (text text' : List ℕ) : Type
   pub confirmed : IsMaybeDecision h.confirmed (decision_of_ask v.confirmed)
   pub rolled : h.rolled ≡ flag_of v.rolled
 
--- no line ended, and nothing is given of one
+-- no line ended, and no line is given
 pub record TellsNone (h : Heard) (text text' : List ℕ) : Type 0 where
   pub ended : h.ended ≡ 0
   pub len : h.len ≡ 0
@@ -44,7 +44,7 @@ pub record TellsNone (h : Heard) (text text' : List ℕ) : Type 0 where
   pub rolled : h.rolled ≡ 0
   pub unwritten : text' ≡ text
 
--- the one or the other
+-- a line is given, or none
 abbrev pub IsTold : Option TakenValue → Heard → List ℕ → List ℕ → Type 0
 IsTold None h text text' = TellsNone h text text'
 IsTold (Some v) h text text' = TellsLine v h text text'

@@ -10,8 +10,8 @@ use Rattle.fibs_c.specs.declared.lines.FedLine.{FedLine}
 abbrev pub copied : FedLine → List ℕ → List ReadLine
 copied fed text = if is_set fed.ended then record { bytes = take fed.len text; cut = is_set fed.cut } ∷ [] else []
 
--- each stream that the reader was at, with the bytes read, is now its stream: the shortest front of the piece with
--- which the stream has one line more, and that line was copied; or the whole piece
+-- if the reader was at a stream, it is now at that stream followed by the bytes read: the shortest front of the piece
+-- with which the stream has one line more, and that line was copied; or the whole piece
 pub record FeedsLine (old new : LinesValue) (piece : List ℕ) (fed : FedLine) (text : List ℕ) : Type 0 where
   pub in_range : fed.used ≤ length piece
   pub progress : 0 < length piece → 0 < fed.used
@@ -34,7 +34,7 @@ IsNewLines (Some v) new status = (status ≡ 502) × (new ≡ Some v)
 IsNewLines None None status = status ≡ 401
 IsNewLines None (Some w) status = (status ≡ 0) × StandsAfter w []
 
--- the reader was fed; or none is held, and nothing is written
+-- the reader was fed; or no reader is held, and nothing is written
 abbrev pub IsFedInRoom : Option LinesValue → Option LinesValue → List ℕ → FedLine → FedLine → List ℕ → List ℕ → ℕ
     → Type 0
 IsFedInRoom None new piece fed fed' text text' status =
@@ -49,7 +49,7 @@ IsFed old new piece fed fed' text text' status =
     ((length text < kept_limit) × (status ≡ 503) × (new ≡ old) × (fed' ≡ fed) × (text' ≡ text))
     ⊎ ((kept_limit ≤ length text) × IsFedInRoom old new piece fed fed' text text' status)
 
--- nothing has come, or none is held
+-- the reader is at the empty stream; or no reader is held
 abbrev pub IsReset : Option LinesValue → Option LinesValue → ℕ → Type 0
 IsReset None new status = (status ≡ 501) × (new ≡ None)
 IsReset (Some v) None status = ⊥

@@ -61,7 +61,7 @@ pub record TellsPhase (line : List ℕ) (n status : ℕ) : Type 0 where
   pub number : n ≡ phase_number phase
   pub done : status ≡ 0
 
--- or the line has none, and nothing is written
+-- or the line has no position, and nothing is written
 abbrev pub IsPhaseTold : List ℕ → ℕ → ℕ → ℕ → Type 0
 IsPhaseTold line n n' status = (IsNoPosition line status × (n' ≡ n)) ⊎ TellsPhase line n' status
 
@@ -82,7 +82,7 @@ pub record HandsOutPlays (plays : List (List Hop)) (old new : List DecisionRecor
       × (drop (length plays) new ≡ drop (length plays) old)
   pub short : length old < length plays → (status ≡ 503) × (new ≡ old)
 
--- the plays of the line's position, and how many they are
+-- the plays of the line's position, and how many there are
 pub record TellsPlays (line : List ℕ) (old new : List DecisionRecord) (count status : ℕ) : Type 0 where
   pub position : PositionValue
   pub is : IsPositionIn line position

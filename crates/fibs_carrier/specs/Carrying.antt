@@ -11,7 +11,7 @@ pub data Crossing : Type 0 where
   -- it is closed
   closed : Crossing
 
--- Nothing may be given, and what is given in parts is the whole.
+-- A carrier that is given nothing may stay as it is, and what is given in parts is the whole.
 pub record Joins {A : Type 0} (Carries : A → List Crossing → A → Type 0) : Type 0 where
   pub nothing : (a : A) → Carries a [] a
   pub joined : (a b c : A) (xs ys : List Crossing) → Carries a xs b → Carries b ys c → Carries a (xs ++ ys) c

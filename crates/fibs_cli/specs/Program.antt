@@ -19,7 +19,7 @@ use Rattle.fibs_engine.specs.declared.fault.EngineFault.{EngineFault}
 use Rattle.fibs_engine.specs.declared.fault.EngineFault.TheVariants as fault
 
 -- what the standard input has left to read, and what the standard output and the standard error hold: Some list if
--- a stream tells its bytes, None if it tells nothing
+-- the prover knows the bytes of a stream, None if it does not
 pub record Streams : Type 0 where
   pub input : Option (List ℕ)
   pub out : Option (List ℕ)

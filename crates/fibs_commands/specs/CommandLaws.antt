@@ -65,19 +65,19 @@ pub record IsSent (text : List ℕ) : Type 0 where
   pub sendable : IsSendable text
   pub line : lines_of (with_line_end text) ≡ (record { bytes = text; cut = false }) ∷ []
 
--- the command of each decision is so
+-- the command of each decision is such a text
 abbrev pub DecisionsAreSent : Type 0
 DecisionsAreSent = (direction : Direction) (d : DecisionValue) → IsDecision d → IsSent (command_of direction d)
 
--- the text of each plain command without a fault is so
+-- the text of each plain command without a fault is such a text
 abbrev pub PlainIsSent : Type 0
 PlainIsSent = (plain : PlainValue) → plain_fault_of plain ≡ None → IsSent (plain_of plain)
 
--- each login is so
+-- each login is such a text
 abbrev pub LoginsAreSent : Type 0
 LoginsAreSent = (name password : List ℕ) → IsLogin name password → IsSent (login_text name password)
 
--- the commands that set up a connection are so
+-- the commands that set up a connection are such texts
 abbrev pub FirstAreSent : Type 0
 FirstAreSent = IsSent style_text × IsSent autoboard_text × IsSent moreboards_text × IsSent board_text
 

@@ -22,7 +22,7 @@ password_fault text =
     (cond (nat_lt 0 (length text) && list_all is_password_byte text) None (Some BadText))
     (Some TooLong)
 
--- what is wrong with a name and a password: the name goes first
+-- what is wrong with a name and a password: a fault of the name comes first
 unfoldable pub login_fault : List ℕ → List ℕ → Option PlainFault
 login_fault name password = first_of (name_fault name) (password_fault password)
 

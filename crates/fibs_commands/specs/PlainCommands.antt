@@ -66,11 +66,11 @@ name_fault name = cond (is_name name) None (Some BadName)
 abbrev pub text_fault : List ℕ → Option PlainFault
 text_fault text = cond (nat_le (length text) 400) (cond (is_printed text) None (Some BadText)) (Some TooLong)
 
--- what is wrong with the points of an invitation: they have more than 16 bits, as no invitation of the program has
+-- what is wrong with the points of an invitation: they have more than 16 bits, which no invitation of the program has
 abbrev pub points_fault : ℕ → Option PlainFault
 points_fault points = cond (nat_le points 65535) None (Some TooLong)
 
--- what is wrong with a plain command, if it has no text: its name goes before its text
+-- what is wrong with a plain command, if it has no text: a fault of its name comes before one of its text
 unfoldable pub plain_fault_of : PlainValue → Option PlainFault
 plain_fault_of (say text) = text_fault text
 plain_fault_of (tell name text) = first_of (name_fault name) (text_fault text)

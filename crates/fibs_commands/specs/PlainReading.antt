@@ -9,7 +9,7 @@ use Rattle.fibs_commands.specs.PlainCommands.{PlainValue, board_again, who, say,
 use Rattle.fibs_commands.specs.PlainCommands.{leave_message, invite, invite_to, join, join_with, toggle_ready}
 use Rattle.fibs_commands.specs.PlainCommands.{automove_off, greedy_off, bye}
 
--- a name ends at the next space, so it has none; it may be empty
+-- a name ends at the next space, so it has no space in it; it may be empty
 abbrev pub NoSpace : List ℕ → Type 0
 NoSpace name = All (λ byte. byte ≢ 32) name
 
@@ -55,7 +55,7 @@ abbrev pub text_in : Option (List ℕ) → List ℕ
 text_in None = []
 text_in (Some text) = text
 
--- an absent name is the empty one, and another one ends at the next space
+-- an absent name is the empty one; any other name ends at the next space
 abbrev pub name_in : Option (List ℕ) → List ℕ
 name_in None = []
 name_in (Some rest) = before 32 rest
@@ -102,7 +102,7 @@ unfoldable pub joining_in : Option (List ℕ) → Option PlainValue
 joining_in None = Some join
 joining_in (Some rest) = only (before 32 rest) (after 32 rest)
 
--- what a user turns over
+-- what a user toggles
 unfoldable pub toggle_in : Option (List ℕ) → Option PlainValue
 toggle_in None = None
 toggle_in (Some setting) =

@@ -1,4 +1,4 @@
--- What an engine answers that prints a text.
+-- The answer of an engine that prints a text.
 use Rattle.std.specs.Prelude.{◌≡◌, ℕ, List, Option, Result, Ok, Err}
 use Rattle.std.specs.Io.KnownBytes.{Appends}
 use Rattle.fibs_engine.specs.Writing.{GainedFront}

@@ -12,8 +12,8 @@ abbrev pub progress_of : Result ⊤ declared.Broken → Progress
 progress_of (Ok done) = Whole
 progress_of (Err why) = Broken
 
--- What a writer holds is Some list if the prover knows its bytes, and None if it knows nothing: of the latter the next
--- two say nothing.
+-- What a writer holds is Some list if the prover knows its bytes, and else None: then the next two definitions say
+-- nothing.
 
 -- a writer gained a front of the bytes, and at least one of them is missing
 abbrev pub GainedFront : Option (List ℕ) → Option (List ℕ) → List ℕ → Type 0

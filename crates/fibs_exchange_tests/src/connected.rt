@@ -88,7 +88,8 @@ impl Seat {
         outcome.expect(rt, "there is room for what is printed")
     }
 
-    /// One turn: what is typed, what the server sends, in parts, what follows that, and how many bytes the stream takes.
+    /// One turn: what is typed, what the server sends, in parts, what follows that, and how many bytes the stream
+    /// takes.
     pub fn turn(
         &mut self,
         rt: &impl Abort,

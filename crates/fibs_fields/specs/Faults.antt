@@ -1,4 +1,4 @@
--- What a fault of a field is called, and how it is printed (the project's own names and numbers).
+-- The name and the number of each fault of a field, and how it is printed (the project's own).
 use Rattle.std.specs.Prelude.{ℕ, List, ◌++◌, codes, decimal}
 use Rattle.fibs_fields.specs.declared.fault.FieldFault.{FieldFault}
 use Rattle.fibs_fields.specs.declared.fault.Fault.{Fault}

@@ -85,7 +85,7 @@ IsValue (NumberField n) = n < numbers_of_64_bits
 IsValue (RatingField r) = r < numbers_of_32_bits
 IsValue (TextField s) = Unit {0}
 
--- the texts that say a value: the one that is printed, and of a rating others
+-- the texts that say a value: the one that is printed, and others for a rating
 abbrev pub IsSpelling : FieldValue → List ℕ → Type 0
 IsSpelling (RatingField r) text = RatingText r text
 IsSpelling v text = text ≡ canonical_text v
@@ -137,7 +137,7 @@ fault_between None None = None
 abbrev pub fault_at : List Kind → List (List ℕ) → ℕ → Option Fault
 fault_at ks texts i = fault_between (slice_get ks i) (slice_get texts i)
 
--- of the places 0, 1, 2 and so on, each of which has its fault or none, field k, counted from 1, is wrong for the
--- reason f, and no field before it is wrong
+-- the places 0, 1, 2 and so on each have a fault or none: field k, counted from 1, has the fault f, and no field before
+-- it has one
 abbrev pub IsFirstFault : (ℕ → Option Fault) → ℕ → Fault → Type 0
 IsFirstFault fault k f = (i : ℕ) × (k ≡ i + 1) × (fault i ≡ Some f) × ((j : ℕ) → j < i → fault j ≡ None)

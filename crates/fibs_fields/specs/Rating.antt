@@ -47,7 +47,7 @@ is_rating text = (is_zero (before 46 text) || is_positive (before 46 text)) && i
 abbrev pub rating_value : List ℕ → ℕ
 rating_value text = 100 * digits_value 10 (before 46 text) + hundredths_of (after 46 text)
 
--- the rating that a text has the form of, or what is wrong with it; the form goes before the range
+-- the rating that a text spells, or what is wrong with it; a fault of the form comes before one of the range
 abbrev pub rating_in : List ℕ → Result ℕ Fault
 rating_in text =
     cond (is_rating text)

@@ -1,4 +1,4 @@
--- What a word and a tail are: the parts of a message of the server that are no names.
+-- What a word and a tail are: parts of a message of the server that are not names.
 use Rattle.std.specs.Prelude.{◌==◌, ◌&&◌, ◌-◌, ℕ, Bool, not, List, length, nat_lt, slice_index}
 use Rattle.std.specs.List.{list_all}
 

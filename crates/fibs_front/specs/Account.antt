@@ -12,8 +12,8 @@ use Rattle.fibs_front.specs.Told.{not_sent_said, unknown_said, lost_said, unnote
 use Rattle.fibs_front.specs.Lines.{text_of_lines, heard_text, confirmed_line, lost_line, refused_line, plain_line}
 use Rattle.fibs_front.specs.Lines.{unnoted_line, player_line}
 
--- the lines of each: one, but none for a connection that was made. Why none can be made, and what was sent as it is, is
--- reported to a person alone: the account has no reason for the one, and no line for the other
+-- the lines of each: one, but none for a connection that was made. Only a person sees why no connection can be made,
+-- and what was sent as it is: the account gives no reason for the one, and no line for the other
 abbrev pub lines_of : SaidValue → List (List ℕ)
 lines_of opened_said = []
 lines_of (no_connection_said why) = codes "no connection" ∷ []

@@ -32,7 +32,7 @@ said_text bytes (board_line b) = reading_text (board_line b)
 said_text bytes (text_line text) = reading_text (text_line text)
 said_text bytes (malformed_line number k f) = reading_text (malformed_line number k f)
 
--- how a line is printed: of one that was cut the kept bytes
+-- how a line is printed: if it was cut, its kept bytes
 abbrev pub heard_text : ReadLine → ReadingValue → List ℕ
 heard_text line r = if line.cut then codes "cut " ++ escaped line.bytes else said_text line.bytes r
 
@@ -71,7 +71,7 @@ abbrev pub field_text : Option FieldValue → List ℕ
 field_text None = []
 field_text (Some value) = canonical_text value
 
--- of a message 5 the first field is the player's name, and the sixth the rating
+-- the first field of a message 5 is the player's name, and the sixth the rating
 abbrev pub player_line : MessageValue → List ℕ
 player_line told =
     codes "player " ++ (field_text (slice_get told.fields 0) ++ (32 ∷ field_text (slice_get told.fields 5)))

@@ -29,8 +29,8 @@ pub data SaidValue : Type 0 where
   unnoted_said : DirectoryFault → SaidValue  -- the directory took no note of a message
   player_said : MessageValue → SaidValue  -- a player is known, by the message that listed him
 
--- how a front end comes from one state to another by being told things, one after another: told nothing it may stay,
--- and what it is told may come in parts
+-- how a front end comes from one state to another as things are reported to it, one after another: if nothing is
+-- reported it may stay as it is, and what is reported may come in parts
 pub record Joins {F : Type 0} (Tells : F → List SaidValue → F → Type 0) : Type 0 where
   pub nothing : (a : F) → Tells a [] a
   pub joined : (a b c : F) (xs ys : List SaidValue) → Tells a xs b → Tells b ys c → Tells a (xs ++ ys) c

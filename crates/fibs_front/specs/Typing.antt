@@ -1,4 +1,4 @@
--- What a line is that the user types.
+-- What a line that the user types is.
 use Rattle.std.specs.Prelude.{ℕ, Bool, true, false, List, codes, cond, Option, Some, None, is_none}
 use Rattle.std.specs.Str.{bytes_eq}
 use Rattle.fibs_boards.specs.Board.{BoardFields}

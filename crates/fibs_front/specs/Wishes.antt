@@ -22,7 +22,7 @@ abbrev pub said_line : List ℕ → Option (List ℕ)
 said_line [] = None
 said_line (b ∷ line) = Some (b ∷ line)
 
--- of a line of the plain account, which has no word for a line that goes as it is
+-- for the plain account, which has no word for a line that goes as it is
 abbrev pub wish_of : List ℕ → WishValue
 wish_of line =
     cond (bytes_eq line (codes "open")) connects

@@ -16,7 +16,7 @@ use Rattle.fibs_history.specs.Log.{Entry, Flags, Welcomed, Informed, Shown, Sent
 use Rattle.fibs_history.specs.Orders.{is_due}
 use Rattle.fibs_history.specs.Words.{Ask, one_if, is_empty, welcomed, informed, is_spent, unconfirmed}
 
--- what a line gives on a connection: the entries that are noted, the commands that are handed out, the decision that
+-- the answer to a line on a connection: the entries that are noted, the commands that are handed out, the decision that
 -- is confirmed, and whether a standing order has rolled
 pub record Heard : Type 0 where
   pub entries : List Entry
@@ -32,7 +32,7 @@ nothing_heard = record { entries = []; send = []; confirmed = None; rolled = fal
 abbrev pub flags_of : MessageValue → Flags
 flags_of m = record { automove = automove m; greedy = greedy m }
 
--- what the first message 2 of a connection is answered by: the toggles of what is off, and then `board`
+-- the answer to the first message 2 of a connection: the toggles of what is off, and then `board`
 abbrev pub initial_commands : MessageValue → List (List ℕ)
 initial_commands m =
     (if autoboard m then [] else autoboard_text ∷ [])
@@ -77,13 +77,13 @@ abbrev pub heard_board : ℕ → List Entry → BoardFields → Heard
 heard_board c log b =
     if good b then shows_board c log b (is_due c (log ++ Shown c b ∷ []) b) else nothing_heard
 
--- of the connection, its log before the line, and the line's reading
+-- by the connection, the log before the line, and the line's reading
 abbrev pub heard : ℕ → List Entry → ReadingValue → Heard
 heard c log (numbered_line m) = heard_message c log m
 heard c log (board_line b) = heard_board c log b
 heard c log (text_line text) = nothing_heard
 heard c log (malformed_line number k f) = nothing_heard
 
--- the reading of a line. One that was cut is a text
+-- the reading of a line. A line that was cut is a text
 abbrev pub line_reading : ReadLine → ReadingValue
 line_reading line = if line.cut then text_line line.bytes else reading_value line.bytes

@@ -16,7 +16,7 @@ pub data Entry : Type 0 where
   Welcomed : ℕ → Entry  -- the client read a message 1
   Informed : ℕ → Flags → Entry  -- it read a message 2
   Shown : ℕ → BoardFields → Entry  -- it read a board that has a position
-  -- the user decided; no refusal is the yes. Offline the connection is 0
+  -- the user decided; no refusal means yes. Offline the connection is 0
   Clicked : ℕ → DecisionValue → Option Refusal → Entry
   -- the decision, on the board shown: directly after a click with a yes; or a roll, directly after a board at which a
   -- standing order is due

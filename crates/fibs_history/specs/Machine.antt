@@ -32,8 +32,8 @@ pub record Step : Type 0 where
   pub talk : Talk
   pub send : List (List ℕ)
 
--- what comes to a client: bytes of the server, a decision of the user, another command of his, a standing order to roll
--- and its end
+-- an input of a client: bytes of the server, a decision of the user, another command of the user, a standing order to
+-- roll and its end
 pub data InputValue : Type 0 where
   Open : InputValue
   Lose : InputValue
@@ -43,7 +43,7 @@ pub data InputValue : Type 0 where
   Order : InputValue
   Withdraw : InputValue
 
--- before all
+-- the machine at first
 abbrev pub start : List ℕ → Talk
 start login = record { login = login; log = []; stream = []; commands = [] }
 
@@ -58,7 +58,7 @@ abbrev pub noted : Talk → List Entry → List (List ℕ) → Talk
 noted t entries texts =
     record { login = t.login; log = t.log ++ entries; stream = t.stream; commands = t.commands ++ texts }
 
--- it notes and hands out
+-- entries are noted, and these commands are the outcome
 abbrev pub does : Talk → List Entry → List (List ℕ) → Step
 does t entries texts = record { talk = noted t entries texts; send = texts }
 
@@ -162,17 +162,17 @@ abbrev pub flag_is_on : (Flags → Bool) → Option Flags → Bool
 flag_is_on flag None = false
 flag_is_on flag (Some f) = flag f
 
--- that the latest message 2 says 1 for it, and that it was not sent on this connection
+-- the latest message 2 says 1 for it, and it was not sent on this connection
 abbrev pub is_on : Talk → (Flags → Bool) → PlainValue → Bool
 is_on t flag p = flag_is_on flag (last (informed (open_now t.log) t.log)) && not (was_sent (plain_of p) t.commands)
 
--- only the two commands that turn something off ask for that
+-- only the two commands that turn something off need that
 abbrev pub may_send : Talk → PlainValue → Bool
 may_send t automove_off = is_on t (λ f. f.automove) automove_off
 may_send t greedy_off = is_on t (λ f. f.greedy) greedy_off
 may_send t p = true
 
--- the first that fits; None is the yes
+-- the first refusal that fits; None means yes
 abbrev pub plain_refusal : Talk → PlainValue → Option PlainRefusal
 plain_refusal t p =
     if not (is_online t) then Some P.Offline
@@ -192,13 +192,13 @@ plains t p = sends_plain t p (plain_refusal t p)
 abbrev pub ordered_now : Talk → Bool
 ordered_now t = is_ordered (open_now t.log) t.log
 
--- refused offline, and if one is in force already
+-- refused offline, and if an order is in force already
 abbrev pub order_refusal : List Entry → Option Refusal
 order_refusal log =
     if nat_eq (open_now log) 0 then Some R.Offline
     else (if is_ordered (open_now log) log then Some R.AlreadyOrdered else None)
 
--- refused offline, and if none is in force
+-- refused offline, and if no order is in force
 abbrev pub withdraw_refusal : List Entry → Option Refusal
 withdraw_refusal log =
     if nat_eq (open_now log) 0 then Some R.Offline

@@ -36,7 +36,7 @@ abbrev pub each : {A : Type 0} → (A → Bool) → List A → Bool
 each p [] = true
 each p (x ∷ xs) = p x && each p xs
 
--- the connection that is open: from its Opened to its Lost. 0 says that none is
+-- the connection that is open: from its Opened to its Lost; 0 if none is open
 
 abbrev pub open_from : ℕ → List Entry → ℕ
 open_from o [] = o
@@ -135,7 +135,7 @@ abbrev pub plays_itself : Option Flags → Bool
 plays_itself None = false
 plays_itself (Some f) = f.automove || f.greedy
 
--- of a decision by the history: the first refusal that fits; None is the yes
+-- the answer to a decision, by the history: the first refusal that fits; None means yes
 abbrev pub answer : (Board → Board → Bool) → (Board → Decision → Option Refusal) → List Entry → Decision
     → Option Refusal
 answer like allows log d =

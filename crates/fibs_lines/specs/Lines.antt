@@ -31,7 +31,7 @@ plain (b ∷ c ∷ d ∷ s) =
 abbrev pub is_line_end : ℕ → Bool
 is_line_end b = b == 10
 
--- the parts between the line ends, but the last, which no line end closes: they are as many as the line ends
+-- the parts between the line ends, without the last, which no line end closes: there are as many as line ends
 abbrev pub finished_parts : List ℕ → List (List ℕ)
 finished_parts p = take (count_by is_line_end p) (slice_split is_line_end p)
 
@@ -60,7 +60,8 @@ pub record ReadLine : Type 0 where
   pub bytes : List ℕ
   pub cut : Bool
 
--- the line of a finished part: one CR at the end goes, then what is past the limit, then the prompts at the start
+-- the line of a finished part: first one CR at the end is removed, then what is past the limit, then the prompts at the
+-- start
 unfoldable pub line_of : List ℕ → ReadLine
 line_of part =
     let line = strip_carriage_return part in

@@ -19,7 +19,7 @@ pub record LinesValue : Type 0 where
   pub line : Option ReadLine
 
 -- the value is what the stream leaves: one byte more than a line's is kept, since that may be the CR before a line end.
--- Callers name streams by this word, and never open it
+-- Callers use this name, and never unfold it
 unfoldable pub StandsAfter : LinesValue → List ℕ → Type 0
 StandsAfter v s =
     (v.telnet ≡ telnet_of s)

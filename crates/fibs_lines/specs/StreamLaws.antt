@@ -58,7 +58,7 @@ abbrev pub LinesFit : Type 0
 LinesFit = (s : List ℕ) → All (λ l. length l.bytes ≤ kept_limit) (lines_of s)
 
 -- a text that a reader gets as it was sent: it fits, begins with no prompt, and has no LF and no 255. It may end in CR,
--- since only the CR that is sent after it goes
+-- since only the CR that is sent after it is removed
 pub record IsSendable (text : List ℕ) : Type 0 where
   pub fits : length text ≤ kept_limit
   pub no_line_end : All (λ b. b ≢ 10) text

@@ -137,8 +137,8 @@ impl Lines {
         self.unfinished.front.len().min(LIMIT)
     }
 
-    /// The bytes that follow the last line end, without telnet commands and up to `LIMIT`: those that `held` counts. None
-    /// after a line was lent.
+    /// The bytes that follow the last line end, without telnet commands and up to `LIMIT`: those that `held` counts.
+    /// None after a line was lent.
     ///
     /// It has a prompt that the server writes without a line end.
     pub fn unfinished(&self) -> &[u8]

@@ -69,8 +69,8 @@ impl<N: Net<Stream = TcpStream>> Dial for Server<'_, N> {
     }
 }
 
-/// A socket of which each read waits this long alone, and each command leaves at once. If its other end is gone without a
-/// word, a read says so within two minutes.
+/// A socket of which each read waits this long alone, and each command leaves at once. If its other end is gone
+/// without a word, a read says so within two minutes.
 fn connected<N: Net<Stream = TcpStream>>(
     net: &N,
     address: SocketAddr,

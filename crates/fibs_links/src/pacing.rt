@@ -17,8 +17,9 @@ const LOGIN_MILLIS: u64 = 2000;
 /// What a server prints when it waits for a login.
 const LOGIN_PROMPT: &[u8] = b"login: ";
 
-/// A stream that is quiet after so many reads, though more may have come. So a turn ends in time, whatever is sent. Once it
-/// is not quiet for a while: if the server has just asked for the login. So a turn that ends then was not answered.
+/// A stream that is quiet after so many reads, though more may have come. So a turn ends in time, whatever is sent.
+/// Once it is not quiet for a while: if the server has just asked for the login. So a turn that ends then was not
+/// answered.
 #[derive(Drop)]
 pub struct Paced<S: Link + Drop> {
     stream: S,

@@ -102,7 +102,7 @@ pub record LastUnserved (c : ℕ) (acts : List Act) (w : World) : Type 0 where
   -- and if the connection may still be served, the one that was not is the only decision left on its wire
   pub left : 0 < c → w.logged_in ≤ c → Left c unserved w
 
--- of the server's acts on each connection, and of the world after them
+-- the four facts about the server's acts on each connection, and about the world after them
 pub record Joint (acts : ℕ → List Act) (w : World) : Type 0 where
   -- On each connection the bytes put on the wire to the client are those delivered, then those still on it or dropped
   -- at a loss, cut anywhere.
@@ -116,7 +116,7 @@ pub record Joint (acts : ℕ → List Act) (w : World) : Type 0 where
   -- A connection newer than the one logged in has no board shown.
   pub newer_unshown : (c : ℕ) → w.logged_in < c → shown c w.log ≡ []
 
--- it holds after every list of events that may be, from every good first board on, for every login
+-- they hold after every list of events none of which is refused, from every good first board on, for every login
 abbrev pub JointStatement : Type 0
 JointStatement =
     (name password : List ℕ) (first : BoardFields) (events : List Event) → IsLogin name password → IsGood first

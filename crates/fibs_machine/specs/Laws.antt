@@ -1,4 +1,4 @@
--- What holds after every list of events that may be, from every good first board on, for every login.
+-- What holds after every list of events none of which is refused, from every good first board on, for every login.
 use Rattle.std.specs.Prelude.{ℕ, List}
 use Rattle.fibs_boards.specs.Board.{BoardFields}
 use Rattle.fibs_position.specs.GoodBoard.{IsGood}

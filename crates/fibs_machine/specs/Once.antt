@@ -1,5 +1,5 @@
 -- A decision takes effect at most once: what one event makes of the server's board, and what a list of events does (the
--- project's own). Boards are one game if their game parts are.
+-- project's own). Boards are of the same game if their game parts are equal.
 use Rattle.std.specs.Prelude.{◌≡◌, ◌⊎◌, ℕ, true, List, [], ◌∷◌, ◌++◌, None, All, flat_map}
 use Rattle.fibs_boards.specs.Board.{BoardFields}
 use Rattle.fibs_position.specs.BoardEffect.{Effect}
@@ -20,15 +20,15 @@ taken_by e = []
 abbrev pub taken_on : List Entry → List BoardFields
 taken_on entries = flat_map taken_by entries
 
--- the server's board is left, and no decision is noted as one that took effect
+-- the server's board stays as it is, and no decision is noted as one that took effect
 pub record Leaves (w w' : World) : Type 0 where
   pub board : w'.board ≡ w.board
   pub noted : List Entry
   pub log : w'.log ≡ w.log ++ noted
   pub none : taken_on noted ≡ []
 
--- A decision takes effect on the server's board: just that is noted, the board becomes the one to which the decision
--- leads with the dice of the event, and that is another game.
+-- A decision takes effect on the server's board: only that is noted, the board becomes the one to which the decision
+-- leads with the dice of the event, and the new board is of another game.
 pub record Takes (w w' : World) (e : Event) : Type 0 where
   pub conn : ℕ
   pub die : ℕ
@@ -39,8 +39,8 @@ pub record Takes (w w' : World) (e : Event) : Type 0 where
   pub leads : Effect w.board decision (die ∷ other_die ∷ []) w'.board
   pub differs : Differ w.board w'.board
 
--- While the user decides on the server's board, an event that is accepted leaves that board, or one decision takes
--- effect on it.
+-- While the user decides on the server's board, an event that is accepted leaves that board as it is, or one decision
+-- takes effect on it.
 abbrev pub OneStep : Type 0
 OneStep =
     (login : List ℕ) (w : World) (e : Event) → user_decides w.board ≡ true → refusal w e ≡ None
@@ -52,19 +52,19 @@ NoneOwn [] = Unit {0}
 NoneOwn (Own b ∷ later) = ⊥
 NoneOwn (e ∷ later) = NoneOwn later
 
--- no two of the boards are one game
+-- no two of the boards are of the same game
 abbrev pub NoTwoAlike : List BoardFields → Type 0
 NoTwoAlike [] = Unit {0}
 NoTwoAlike (b ∷ later) = All (Differ b) later × NoTwoAlike later
 
--- of the decisions that are noted from one world to a later one as having taken effect, no two were on one game
+-- of the decisions that took effect between one world and a later one, no two did so on boards of the same game
 pub record TakesOnce (w w' : World) : Type 0 where
   pub noted : List Entry
   pub log : w'.log ≡ w.log ++ noted
   pub once : NoTwoAlike (taken_on noted)
 
--- Of the decisions that take effect, on whatever connections, no two do so on one game, unless a board of the server's
--- own comes between them.
+-- Of the decisions that take effect, on whatever connections, no two do so on boards of the same game, unless a board
+-- of the server's own comes between them.
 abbrev pub Once : List ℕ → BoardFields → List Event → Type 0
 Once login first events =
     (before between later : List Event) → events ≡ before ++ (between ++ later) → NoneOwn between

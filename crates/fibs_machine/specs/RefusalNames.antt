@@ -1,4 +1,4 @@
--- The numbers and names of what may not be (the project's own).
+-- The numbers and names of the refusals of events (the project's own).
 use Rattle.std.specs.Prelude.{ℕ, List, codes}
 use Rattle.fibs_machine.specs.declared.refusal.WorldRefusal.{WorldRefusal}
 use Rattle.fibs_machine.specs.declared.refusal.WorldRefusal.TheVariants.{Memory, AlreadyOpen, NotOpen, NoSuchConnection}

@@ -1,4 +1,4 @@
--- Which events may not be: a table, each line with its conditions in order. Memory is no part of it.
+-- Which events are refused: a table, each line with its conditions in order. Memory is no part of it.
 use Rattle.std.specs.Prelude.{Bool, true, false, not, ◌&&◌, ◌||◌, List, [], ◌∷◌, Option, Some, None, if◌then◌else◌}
 use Rattle.std.specs.Prelude.{nat_eq, nat_lt, is_some}
 use Rattle.fibs_lines.specs.Lines.{ReadLine, lines_of}

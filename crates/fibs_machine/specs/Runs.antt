@@ -16,7 +16,7 @@ abbrev pub after_all : List ℕ → World → List Event → World
 after_all login w [] = w
 after_all login w (e ∷ es) = after_all login (after login w e) es
 
--- the events may all be, one after another, from the first board on
+-- no event is refused when it comes, from the first board on
 unfoldable pub MayBe : List ℕ → BoardFields → List Event → Type 0
 MayBe login first events = AllAccepted login (start first) events
 

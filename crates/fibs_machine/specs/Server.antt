@@ -47,15 +47,15 @@ pub record TakenLine : Type 0 where
 
 -- the server's answer to a line
 pub data Served : Type 0 where
-  -- it is of a connection older than the one logged in, or a later line of one that isn't logged in
+  -- the line is of a connection older than the one logged in, or a later line of one that isn't logged in
   Stale : Served
-  -- it was a login
+  -- the line was a login
   LoggedIn : Served
   -- the decision was carried out, and leads to this board
   Took : DecisionValue → BoardFields → Served
   -- the decision changes nothing
   Undone : DecisionValue → Served
-  -- it is no decision
+  -- the line is no decision
   Answered : Served
 
 -- a decision is carried out if it leads to a board

@@ -31,7 +31,7 @@ input_of w (Text t) = None
 input_of w Order = Some M.Order
 input_of w Withdraw = Some M.Withdraw
 
--- what of the bytes on their way to the server an event leaves there
+-- which of the bytes on their way to the server an event leaves there
 abbrev pub left_of : Event → List ℕ → List ℕ
 left_of (Lose k) bytes = take k bytes
 left_of e bytes = bytes

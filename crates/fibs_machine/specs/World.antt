@@ -125,7 +125,7 @@ serves c w d1 d2 None = w
 serves c w d1 d2 (Some p) =
     does_served c (linked w c (taken (w.links c) (on_wire p.0) p.1)) (answered (server_of w) (line_of w c p.0 d1 d2))
 
--- What an event does that is not refused, one line for each. `login` is the command that logs the user in.
+-- What an event that is not refused does, one line for each. `login` is the command that logs the user in.
 abbrev pub after : List ℕ → World → Event → World
 after login w Open =
     asks (noted (record w { count = w.count + 1 }) (L.Opened (w.count + 1) ∷ [])) (w.count + 1) (login ∷ [])

@@ -77,7 +77,7 @@ abbrev pub message_reading : ℕ → Result (List FieldValue) FieldFault → Rea
 message_reading n (Ok fields) = numbered_line (record { number = n; fields = fields })
 message_reading n (Err e) = malformed_line n e.field e.fault
 
--- what a line is that is no board line, from the number with which it begins, if any
+-- what a line other than a board line is, from the number with which it begins, if any
 abbrev pub other_reading : Option ℕ → List ℕ → ReadingValue
 other_reading None line = text_line line
 other_reading (Some n) line = message_reading n (fields_at (kinds_of n) 1 (left 32 (after 32 (kept n line))))

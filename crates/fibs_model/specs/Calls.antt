@@ -41,7 +41,7 @@ abbrev pub unless_refused : Option Refusal → L.Entry → List L.Entry
 unless_refused (Some why) e = []
 unless_refused None e = e ∷ []
 
--- why a line of a connection may not be served
+-- why it is refused to serve a line of a connection
 abbrev pub serve_refusal : List LinkValue → ℕ → ℕ → ℕ → ℕ → Option WorldRefusal
 serve_refusal links logged_in c d1 d2 =
     if nat_eq c 0 || nat_lt (length links) c then Some NoSuchConnection
@@ -50,7 +50,7 @@ serve_refusal links logged_in c d1 d2 =
     then Some NothingToServe
     else None))
 
--- the server took the first len bytes that are on their way, with their line end, and this came of it
+-- the server took the first len bytes that are on their way, with their line end, and this was its answer
 pub record TakesLine (old new : ServerValue) (before after : C.Link) (c len d1 d2 : ℕ) (served : V.Served)
     : Type 0 where
   pub answer : served ≡ V.answered old (record {

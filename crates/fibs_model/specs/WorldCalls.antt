@@ -23,12 +23,12 @@ pub record IsAfter (v : WorldValue) (name password : List ℕ) (first : BoardFie
   pub may_be : MayBe (login_text name password) first events
   pub stands : StandsFor v (login_text name password) (machine_after name password first events)
 
--- The world is reached by the events: the name and the password are a login, the first board is good, the events may
--- all be, one after another, and the world is what they make of it. Callers name it by this word, and never open it.
+-- The world is reached by the events: the name and the password are a login, the first board is good, no event is
+-- refused when it comes, and the world is the one after them. Callers use this name, and never unfold it.
 unfoldable pub WorldStandsAfter : WorldValue → List ℕ → List ℕ → BoardFields → List Event → Type 0
 WorldStandsAfter v name password first events = IsAfter v name password first events
 
--- why an event was refused, beside the table's answer: that memory ran out is answered only if the table refuses
+-- why an event was refused, beside the table's answer: the answer is that memory ran out only if the table refuses
 -- nothing
 abbrev pub Tells : WorldRefusal → Option WorldRefusal → Type 0
 Tells Memory answer = answer ≡ None

@@ -32,8 +32,8 @@ world_of w = record {
 }
 
 -- It corresponds to a world of the machine, for the command that logs the user in. Of each connection it has the bytes
--- that the machine has on their way, and whether the machine's server took a line. Of the bytes that were taken it has
--- none: their room on a wire of the program is room for more.
+-- that the machine has on their way, and whether the machine's server took a line. It does not have the bytes that were
+-- taken: their room on a wire of the program is room for more.
 pub record StandsFor (v : WorldValue) (login : List ℕ) (w : World) : Type 0 where
   pub board : v.server.board ≡ w.board
   pub logged_in : v.server.logged_in ≡ w.logged_in
@@ -51,7 +51,7 @@ pub record IsKept (w : Inside) : Type 0 where
   pub world : World
   pub stands : StandsFor (world_of w) login world
 
--- the event may be in each world to which it corresponds
+-- the event is not refused in any world to which it corresponds
 abbrev pub May : WorldValue → Event → Type 0
 May v e = (login : List ℕ) (w : World) → StandsFor v login w → refusal w e ≡ None
 

@@ -122,10 +122,10 @@ impl World {
         }
     }
 
-    /// Does one event, whose bytes cross a carrier, or says why it is not done: the first refusal of the event's line;
-    /// `Memory` only if no other holds; `Broken` only if none holds and the carrier may break. An event that is
-    /// not done changes nothing: the memory that it needs is reserved first, then its bytes cross, and after that nothing
-    /// can fail.
+    /// Does one event, whose bytes cross a carrier, or says why it is not done: the first refusal of the event's
+    /// line; `Memory` only if no other holds; `Broken` only if none holds and the carrier may break. An event that is
+    /// not done changes nothing: the memory that it needs is reserved first, then its bytes cross, and after that
+    /// nothing can fail.
     ///
     /// The carrier is given what crosses at the event and nothing else, and nothing at an event that is refused.
     pub fn carry_out<C: Carrier>(&mut self, carrier: &mut C, event: &Event<'_>) -> Result<(), Stop>

@@ -1,5 +1,5 @@
-//! Worked rows of a client, and what neither the built program nor the library for C shows of sessions and clients. More
-//! histories, worked out by hand, are told to a client in Python: tests/worlds.
+//! Worked rows of a client, and what neither the built program nor the library for C shows of sessions and clients.
+//! More histories, worked out by hand, are told to a client in Python: tests/worlds.
 
 use crate::lines::{INFO, INFO_AUTOMOVE, INFO_NO_AUTOBOARD, NO_DOUBLE, TO_MOVE, TO_ROLL, WELCOME};
 use fibs_lines::Line;

@@ -1,5 +1,5 @@
-//! Tests of clients, of the model server, its wires and its world, and a caller that is proved. Histories that the program or the
-//! library for C shows are in `tests/worlds`.
+//! Tests of clients, of the model server, its wires and its world, and a caller that is proved. Histories that the
+//! program or the library for C shows are in `tests/worlds`.
 #![tactic(auto)]
 
 #[cfg(test)]

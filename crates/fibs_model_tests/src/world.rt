@@ -1,5 +1,5 @@
-//! A worked row of the world, and what no script can say of it: a text of more than one line, and how it goes on after a
-//! refused growth. More histories, worked out by hand, are told by the built program: tests/worlds.
+//! A worked row of the world, and what no script can say of it: a text of more than one line, and how it goes on
+//! after a refused growth. More histories, worked out by hand, are told by the built program: tests/worlds.
 
 use crate::boards::*;
 use fibs_messages::Board;

@@ -14,17 +14,17 @@ other_letter = 88
 abbrev pub two_digits : ℕ → ℕ → List ℕ
 two_digits filler n = (if nat_lt n 10 then filler else 48 + n / 10) ∷ (48 + n % 10) ∷ []
 
--- what is seen of n checkers at a height, 1 at the edge and 5 next to the middle: one of them, or the number of more
--- than five in place of the fifth
+-- what is drawn of n checkers at a height, 1 at the edge and 5 next to the middle: one of them; if there are more than
+-- five, their number in place of the fifth
 abbrev pub level : ℕ → ℕ → ℕ → List ℕ
 level letter n height =
     if nat_lt n height then codes "   "
     else (if (height == 5) && nat_lt 5 n then two_digits 32 n ++ 32 ∷ [] else 32 ∷ letter ∷ 32 ∷ [])
 
--- what is seen at a height of a place with so many checkers of the player, or so many of the opponent
+-- what is drawn at a height of a place with so many checkers of the player, or so many of the opponent
 abbrev pub stack : ℕ → ℕ → ℕ → List ℕ
 stack own other height = if own == 0 then level other_letter other height else level own_letter own height
 
--- the number of a place, which the player counts so as to go down: it is the one that he types
+-- the number of a place, which the player counts so as to go down: the number that the player types
 unfoldable pub label : Direction → ℕ → List ℕ
 label direction place = two_digits 45 (line_place direction place) ++ 45 ∷ []

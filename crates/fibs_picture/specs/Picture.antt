@@ -46,7 +46,7 @@ right_first half.Lower = 6
 unfoldable pub labels : Direction → List ℕ → List ℕ
 labels direction places = flat_map (label direction) places
 
--- what is seen at a height of a place
+-- what is drawn at a height of a place
 unfoldable pub stands : Checkers → ℕ → ℕ → List ℕ
 stands c height place = stack (slice_index c.own place) (slice_index c.other place) height
 
@@ -54,7 +54,7 @@ stands c height place = stack (slice_index c.own place) (slice_index c.other pla
 unfoldable pub stacks : Checkers → ℕ → List ℕ → List ℕ
 stacks c height places = flat_map (stands c height) places
 
--- what is seen at a height of a bar: the player's above, on the side of its entry, and the opponent's below
+-- what is drawn at a height of a bar: the player's above, on the side of its entry, and the opponent's below
 abbrev pub bar : Checkers → Half → ℕ → List ℕ
 bar c half.Upper height = stack (slice_index c.own 25) 0 height
 bar c half.Lower height = stack 0 (slice_index c.other 0) height
@@ -76,7 +76,7 @@ layer p half height =
 abbrev pub middle : List ℕ
 middle = codes " |                  |BAR|                  |   "
 
--- ---- what is said
+-- ---- the words
 
 -- a letter, and a name or its first 30 bytes
 unfoldable pub named : ℕ → List ℕ → List ℕ
@@ -112,7 +112,7 @@ two_dice first second = if (first == 0) && (second == 0) then codes "-" else (48
 abbrev pub dice : ℤ → ℤ → List ℕ
 dice first second = codes "  dice  " ++ two_dice (natural first) (natural second)
 
--- 9999 means a match without end
+-- 9999 means an unlimited match
 abbrev pub match_length : ℤ → List ℕ
 match_length n = if int_eq n (pos 9999) then codes "unlimited match" else codes "match to " ++ signed_decimal n
 
@@ -136,7 +136,7 @@ turn_words turn colour =
     if int_eq turn (pos 0) then codes "nobody's turn"
     else (if int_eq turn colour then codes "your turn" else codes "the opponent's turn")
 
--- nothing speaks against a decision of the player
+-- there is no reason against a decision of the player
 abbrev pub may : PositionValue → DecisionValue → Bool
 may p decision = is_none (refusal_of p decision)
 
@@ -157,7 +157,7 @@ deed_in p = deed (phase_in p) (may p accept) (may p double)
 
 -- ---- the picture
 
--- a line: what is drawn, what is said, and its end
+-- a line: what is drawn, the words, and its end
 unfoldable pub line : List ℕ × List ℕ → List ℕ
 line sides = sides.0 ++ (sides.1 ++ 10 ∷ [])
 

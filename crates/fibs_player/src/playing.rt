@@ -25,8 +25,8 @@ fn can_log(rt: &HostRuntime, path: Option<&str>) -> bool {
     }
 }
 
-/// Talks with a server at a place, each read of which waits so many milliseconds: as a terminal shows it, if the standard
-/// output is one, and with a log, if one is asked for.
+/// Talks with a server at a place, each read of which waits so many milliseconds: as a terminal shows it, if the
+/// standard output is one, and with a log, if one is asked for.
 pub fn play<N: Net<Stream = TcpStream>, R: Read>(
     rt: &HostRuntime,
     net: &N,

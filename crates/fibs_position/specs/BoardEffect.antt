@@ -1,8 +1,8 @@
--- What becomes of a board when a decision is carried out.
+-- The board after a decision is carried out.
 --
--- The effect asks for less than the rules do: of a move it asks that at each step a checker is at the source and
--- no two of the opponent's at the target, and nothing of dice lengths, of the bar, of bearing off or of the fullest use
--- of the dice.
+-- The effect asks for less than the rules do. For a move it asks that at each step a checker is at the source and no
+-- two of the opponent's at the target. It asks nothing about how far a step goes, the bar, bearing off or the fullest
+-- use of the dice.
 use Rattle.std.specs.Prelude.{◌≡◌, ◌≢◌, ◌≤ℤ◌, ◌<◌, ◌≤◌, ◌==◌, ◌+ℤ◌, ◌-ℤ◌, ◌-◌, ◌++◌, ◌&&◌, not, int_le, nat_lt, nat_le}
 use Rattle.std.specs.Prelude.{ℕ, ℤ, pos, neg_ℤ, Bool, Option, Some, None, option_map, List, [], ◌∷◌, map, slice_set}
 use Rattle.std.specs.Prelude.{slice_index, if◌then◌else◌}

@@ -9,8 +9,8 @@ use Rattle.fibs_position.specs.declared.direction.Direction.TheVariants.{Down, U
 abbrev pub direction_of : BoardFields → Direction
 direction_of b = if int_eq (field_of b 43) (negsuc 0) then Down else Up
 
--- the line's number of a place, which the player counts so as to go down: a player who goes down counts as the line does,
--- a player who goes up from the other end
+-- the line's number of a place, which the player counts so as to go down: a player who goes down counts as the line
+-- does, a player who goes up from the other end
 abbrev pub line_place : Direction → ℕ → ℕ
 line_place Down place = place
 line_place Up place = 25 - place

@@ -1,4 +1,4 @@
--- What of a board the game is.
+-- Which part of a board is the game.
 use Rattle.std.specs.Prelude.{◌≡◌, ◌≢◌, ◌+◌, ◌-◌, ◌++◌, ◌&&◌, ℕ, ℤ, Bool, true, false, List, [], ◌∷◌, map}
 use Rattle.std.specs.Ordering.{int_eq}
 use Rattle.std.specs.Str.{bytes_eq}
@@ -33,17 +33,17 @@ Agree a b first last = map (field_of a) (from_to first last) ≡ map (field_of b
 
 -- ---- the same as a test
 
--- two lists of numbers are one
+-- two lists of numbers are equal
 abbrev pub ints_eq : List ℤ → List ℤ → Bool
 ints_eq [] [] = true
 ints_eq [] (y ∷ ys) = false
 ints_eq (x ∷ xs) [] = false
 ints_eq (x ∷ xs) (y ∷ ys) = int_eq x y && ints_eq xs ys
 
--- two game parts are one
+-- two game parts are equal
 abbrev pub same_part : GamePart → GamePart → Bool
 same_part p q = bytes_eq p.opponent q.opponent && ints_eq p.numbers q.numbers
 
--- two boards have one game part: they do not differ
+-- two boards have the same game part: they do not differ
 unfoldable pub same_game : BoardFields → BoardFields → Bool
 same_game a b = same_part (game_part a) (game_part b)

@@ -13,7 +13,7 @@ pub record IsGood (b : BoardFields) : Type 0 where
   pub own : own_placed b ≤ 15
   pub other : other_placed b ≤ 15
 
--- what a board is not good for
+-- why a board is not good
 abbrev pub HasFault : BoardFields → PositionFault → Type 0
 HasFault b NotYou = b.player ≢ codes "You"
 HasFault b TooManyOwn = 15 < own_placed b
@@ -23,6 +23,6 @@ HasFault b TooManyOther = 15 < other_placed b
 abbrev pub faults : List PositionFault
 faults = NotYou ∷ TooManyOwn ∷ TooManyOther ∷ []
 
--- the same as a test, of all values of fields: also of numbers that no field may have
+-- the same as a test for all values of fields, also for numbers that no field may have
 unfoldable pub good : BoardFields → Bool
 good b = is_board b && (bytes_eq b.player (codes "You") && (nat_le (own_placed b) 15 && nat_le (other_placed b) 15))

@@ -1,4 +1,4 @@
--- The names and numbers of phases, of what a board is not good for, and of refusals, as they are printed.
+-- The names and numbers of phases, of the faults of boards, and of refusals, as they are printed.
 use Rattle.std.specs.Prelude.{ℕ, List, codes}
 use Rattle.fibs_position.specs.declared.phase.Phase.{Phase}
 use Rattle.fibs_position.specs.declared.phase.Phase.TheVariants.{Over, AnswerDouble, OpponentActs, RollOrDouble, Move}
@@ -17,7 +17,7 @@ phase_name RollOrDouble = codes "RollOrDouble"
 phase_name Move = codes "Move"
 phase_name Passing = codes "Passing"
 
--- the name of what a board is not good for
+-- the name of the fault of a board that is not good
 abbrev pub position_fault_name : PositionFault → List ℕ
 position_fault_name NotYou = codes "NotYou"
 position_fault_name TooManyOwn = codes "TooManyOwn"

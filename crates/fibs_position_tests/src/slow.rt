@@ -1,5 +1,5 @@
-//! A slow search for plays, as the rules say it: all runs, then the longest, then one for each arrangement that they lead
-//! to, found by a search from the front. The list of a position is compared with it.
+//! A slow search for plays, as the rules say it: all runs, then the longest, then one for each arrangement that they
+//! lead to, found by a search from the front. The list of a position is compared with it.
 
 use crate::rows::position;
 use fibs_position::{Play, Position, Step};

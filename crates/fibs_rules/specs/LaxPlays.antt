@@ -1,9 +1,9 @@
--- Plays as the server carries them out, which asks for less than the rules do.
+-- Plays as the server carries them out: it asks for less than the rules do.
 use Rattle.std.specs.Prelude.{◌≡◌, ◌<◌, ◌&&◌, nat_lt, List, [], ◌∷◌, slice_index, Option, Some, None, if◌then◌else◌}
 use Rattle.fibs_rules.specs.Hop.{Hop}
 use Rattle.fibs_rules.specs.Checkers.{Checkers, IsOpen, moved, is_open}
 
--- one step as the server carries it out, which asks for a checker and for a place that is open, and for nothing else
+-- one step as the server carries it out: it asks only for a checker and for a place that is open
 pub record LaxOne (p : Checkers) (step : Hop) (q : Checkers) : Type 0 where
   pub occupied : 0 < slice_index p.own step.source
   pub free : IsOpen p step.target
@@ -23,7 +23,7 @@ lax_one p step =
     then Some (moved p step.source step.target)
     else None
 
--- what goes on from an arrangement, if there is one
+-- what follows from an arrangement, if there is one
 abbrev pub lax_then : (Checkers → Option Checkers) → Option Checkers → Option Checkers
 lax_then more None = None
 lax_then more (Some q) = more q

@@ -52,7 +52,7 @@ pub record IsMost (p : Standing) (n : ℕ) : Type 0 where
 
 -- ---- the same as functions
 
--- what an arrangement is worth, and 0 for none
+-- what an arrangement is worth; 0 if there is none
 abbrev pub score : (Checkers → ℕ) → Option Checkers → ℕ
 score worth None = 0
 score worth (Some q) = worth q

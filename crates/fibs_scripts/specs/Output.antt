@@ -59,8 +59,8 @@ pub data ReplayText : (script text : List ℕ) → (status : ℕ) → Type 0 whe
       → SayScript (script_lines script) first events → IsGood first → MayBe script_login first events
       → ReplayText script (log_after first events ++ end_text (length events)) 0
 
--- What a reader has left, and what a writer holds, is Some list if the prover knows its bytes, and None if it knows
--- nothing: of the latter the next ones say nothing.
+-- What a reader has left, and what a writer holds, is Some list if the prover knows its bytes, and else None: then the
+-- next definitions say nothing.
 
 -- a reader was read to its end, or past the limit of a script, and a writer gained all that is printed for its bytes
 abbrev pub Replayed : ℕ → Option (List ℕ) → Option (List ℕ) → Option (List ℕ) → Option (List ℕ) → Type 0

@@ -166,8 +166,8 @@ impl Client {
         self.session.waiting()
     }
 
-    /// The bytes of the line that has not ended: what follows the last line end of the connection, without telnet commands
-    /// and up to 16,384 bytes. It has a prompt of the server, since no line end follows that.
+    /// The bytes of the line that has not ended: what follows the last line end of the connection, without telnet
+    /// commands and up to 16,384 bytes. It has a prompt of the server, since no line end follows that.
     pub fn unfinished(&self) -> &[u8]
         ensures { (t : Talk) → StandsAfter self.now t → result.now ≡ take kept_limit (rest_of t.stream) }
     {

@@ -17,7 +17,7 @@ use Rattle.fibs_position.specs.declared.position_fault.PositionFault.{PositionFa
 use Rattle.fibs_commands.specs.Commands.{command_of}
 use Rattle.fibs_engine.specs.Readings.{reading_text}
 
--- a play's command, by which the player whose checkers go this way sends it, and a line end
+-- a play's command, in the numbers of a player whose checkers go this way, and a line end
 abbrev pub play_line : Direction → List Hop → List ℕ
 play_line direction play = command_of direction (move play) ++ (10 ∷ [])
 
@@ -30,7 +30,7 @@ abbrev pub PositionText : PositionValue → List ℕ → Type 0
 PositionText p text = (phase : Phase) × (plays : List (List Hop)) × InPhase p phase × PlaysIn p plays
     × (text ≡ listing phase p.direction plays)
 
--- what is printed for a good board is that for its position
+-- for a good board, what is printed for its position
 abbrev pub PlaysText : BoardFields → List ℕ → Type 0
 PlaysText b text = PositionText (position_of b) text
 

@@ -27,13 +27,13 @@ ShownLines (line ∷ lines) text =
 abbrev pub unfinished_text : ℕ → List ℕ
 unfinished_text held = if held == 0 then [] else codes "unfinished " ++ (decimal held ++ (10 ∷ []))
 
--- all that is printed for a stream: its lines, and how many bytes are left over, as far as a line keeps them
+-- all that is printed for a stream: its lines, and how many bytes are left over, at most as many as a line keeps
 abbrev pub ShowText : List ℕ → List ℕ → Type 0
 ShowText s text = (shown : List ℕ) × ShownLines (lines_of s) shown
     × (text ≡ shown ++ unfinished_text (min kept_limit (length (rest_of s))))
 
--- What a reader has left, and what a writer holds, is Some list if the prover knows its bytes, and None if it knows
--- nothing: of the latter the next five say nothing.
+-- What a reader has left, and what a writer holds, is Some list if the prover knows its bytes, and else None: then the
+-- next five definitions say nothing.
 
 -- a reader was read to its end, and a writer gained all that is printed for its bytes
 abbrev pub WroteAll : Option (List ℕ) → Option (List ℕ) → Option (List ℕ) → Option (List ℕ) → Type 0

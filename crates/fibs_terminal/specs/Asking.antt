@@ -7,7 +7,7 @@ use Rattle.fibs_front.specs.Wishes.{WishValue, takes_turn, is_too_long, typed_li
 use Rattle.fibs_front.specs.declared.wish.Wish.{Wish}
 use Rattle.fibs_front.specs.declared.wish.Wish.TheVariants.{Send}
 
--- an empty line hears the server, and one that is too long asks for nothing that can be
+-- an empty line asks to hear the server; a line that is too long is reported as such
 abbrev pub AsksInBounds : List ℕ → WishValue → Type 0
 AsksInBounds line wish = (line ≡ [] → wish ≡ takes_turn None) × (nat_lt typed_limit (length line) ≡ true → wish ≡ is_too_long)
 

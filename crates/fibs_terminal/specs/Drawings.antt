@@ -14,7 +14,7 @@ is_plain s = not s.colour && nat_le 79 s.columns
 abbrev pub DrawsBoard : BoardFields → List ℕ → Type 0
 DrawsBoard b text = text ≡ picture b
 
--- what is drawn tells the board
+-- boards with the same drawing look the same
 abbrev pub DrawingsTell : Type 0
 DrawingsTell = (a b : BoardFields) (text : List ℕ) → IsGood a → IsGood b → DrawsBoard a text → DrawsBoard b text
     → SameToTheEye a b

@@ -1,4 +1,4 @@
--- What a terminal says before it lets the user type (the project's own).
+-- What a terminal shows before the user types (the project's own).
 use Rattle.std.specs.Prelude.{◌≡◌, ◌++◌, ℕ, true, List, [], Option, None}
 use Rattle.std.specs.Io.KnownBytes.{Appends}
 use Rattle.fibs_session.specs.History.Machine.{Talk, unconfirmed_now}
@@ -13,7 +13,7 @@ abbrev pub SaysOffers : ClientValue → Memory → List ℕ → List ℕ → Typ
 SaysOffers client memory before after = (t : Talk) → StandsAfter client t → unconfirmed_now t ≡ None
     → memory.resigner.items ≡ [] → memory.owes ≡ true → (o : Offers) × OffersNow t o × (after ≡ before ++ hint_text o)
 
--- the same of a writer
+-- the same for a writer
 abbrev pub ShowsOffers : ClientValue → Memory → Option (List ℕ) → Option (List ℕ) → Type 0
 ShowsOffers client memory held now = (t : Talk) → StandsAfter client t → unconfirmed_now t ≡ None
     → memory.resigner.items ≡ [] → memory.owes ≡ true → (o : Offers) × OffersNow t o × Appends held now (hint_text o)

@@ -14,8 +14,8 @@ pub struct Memory {
     pub logging_in: bool,
     /// Whether the server has answered by a text, or by the same board, since a decision was sent.
     pub answered: bool,
-    /// Whether it was said what to do while that decision waits, and neither the same board nor a line that was sent as it
-    /// is has come since.
+    /// Whether it was said what to do while that decision waits, and neither the same board nor a line that was sent
+    /// as it is has come since.
     pub advised: bool,
     /// Whether the next board is to be drawn whole, since the user has asked for it.
     pub asked: bool,

@@ -13,7 +13,7 @@ pub record TypedValue : Type 0 where
 abbrev pub ahead : TypedValue → Option (List ℕ) → Option (List ℕ)
 ahead value left = prepend_known value.waiting left
 
--- it holds that nothing follows only if that is so
+-- the reader of typed lines says that nothing follows only if the device is at its end
 abbrev pub FitsDevice : TypedValue → Option (List ℕ) → Type 0
 FitsDevice value left = value.ended ≡ true → IsAtEnd left
 

@@ -3,12 +3,13 @@ use Rattle.std.specs.Prelude.{ℕ, List, [], Option, Some, None, take}
 use Rattle.std.specs.Str.Lines.{strip_carriage_return}
 use Rattle.fibs_fields.specs.Split.{before, after}
 
--- of a line that a byte 10 ends, one byte 13 before that goes; the last line may lack its end, and is taken as it is
+-- if a byte 10 ends a line, one byte 13 directly before it is dropped; the last line may lack its end, and is taken
+-- as it is
 abbrev pub without_end : List ℕ → Option (List ℕ) → List ℕ
 without_end part None = part
 without_end part (Some more) = strip_carriage_return part
 
--- the first line of what is typed: the empty one if nothing is
+-- the first line of what is typed: the empty line if nothing is typed
 abbrev pub typed_line : List ℕ → List ℕ
 typed_line typed = without_end (before 10 typed) (after 10 typed)
 

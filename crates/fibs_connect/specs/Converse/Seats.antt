@@ -18,8 +18,8 @@ use Rattle.fibs_front.specs.Wishes.{is_answered, typed_limit}
 use Rattle.fibs_connect.specs.declared.seat.Going.{Going}
 use Rattle.fibs_connect.specs.declared.seat.Going.TheVariants.{On, Away}
 
--- a seat: the client, the players that it knows, and the connection, with what it has left to read and what was written
--- there, if it tells it
+-- a seat: the client, the players that it knows, and the connection, with what it has left to read and what was
+-- written there, if the prover knows it
 pub record SeatValue : Type 0 where
   pub client : ClientValue
   pub players : List MessageValue
@@ -69,9 +69,8 @@ pub record OpensAndLoses {F : Type 0} (Tells : F → List SaidValue → F → Ty
   pub ended : (t : Talk) → StandsAfter old t → (wrote : Option (List ℕ)) → (players : List MessageValue) →
       Ended Tells Broken (step t Open).talk new (outside wrote mid players) (outside wrote now players) ending
 
--- a new connection is reported, and no player is known on it; if none can be made that is reported, and nothing else
--- happens;
--- if its login was not written whole it is over
+-- a new connection is reported, and no player is known on it; if its login was not written whole it is over. If no
+-- connection can be made that is reported, and nothing else happens
 abbrev pub Connects : {F : Type 0} → (F → List SaidValue → F → Type 0) → SeatValue → SeatValue → F → F → Type 0
 Connects Tells a b held now =
     (b.connected ≡ true → Tells held (opened_said ∷ []) now × Opens a.client b.client × IsDirectory [] b.players)
@@ -114,7 +113,7 @@ Passes Tells line a b held now = (typed_limit < length line → (b ≡ a) × Tel
     × (length line ≤ typed_limit → a.connected ≡ false → (b ≡ a) × Tells held (refused_said Offline ∷ []) now)
     × (length line ≤ typed_limit → a.connected ≡ true → PassesOn Tells line a b held now)
 
--- a wish was answered: what the seat was and is, what the front end was before and is, and whether more is answered
+-- a wish was answered: the seat before and after, the front end before and after, and whether the conversation goes on
 abbrev pub Answered : {F : Type 0} → (F → List SaidValue → F → Type 0) → WishValue → SeatValue → SeatValue → F → F
     → Going → Type 0
 Answered Tells connects a b held now going = (a.connected ≡ true → Refuses Tells a b held now)

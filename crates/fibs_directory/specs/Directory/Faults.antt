@@ -1,4 +1,4 @@
--- The numbers and names of what can keep a directory from taking note of a message.
+-- The numbers and names of the reasons for which a directory does not note a message.
 use Rattle.std.specs.Prelude.{ℕ, List, codes}
 use Rattle.fibs_directory.specs.declared.fault.DirectoryFault.{DirectoryFault}
 use Rattle.fibs_directory.specs.declared.fault.DirectoryFault.TheVariants.{Memory, Full}

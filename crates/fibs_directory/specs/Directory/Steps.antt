@@ -13,6 +13,6 @@ abbrev pub without_entry : List ℕ → List MessageValue → List MessageValue
 without_entry name [] = []
 without_entry name (e ∷ es) = if is_of name e then es else e ∷ without_entry name es
 
--- the name is new, and no name more has room
+-- the name is new, and there is no room for another name
 abbrev pub is_full_for : List ℕ → List MessageValue → Bool
 is_full_for name entries = is_none (entry_of name entries) && length entries == directory_limit

@@ -20,12 +20,12 @@ phase_told (board_line b) = if good b then phase_said (phase_of b) ∷ [] else [
 phase_told (text_line text) = []
 phase_told (malformed_line number k f) = []
 
--- and if it confirms a decision, that
+-- if it confirms a decision, that is reported
 abbrev pub confirmed_told : Option Ask → List SaidValue
 confirmed_told None = []
 confirmed_told (Some ask) = confirmed_said ask ∷ []
 
--- and if it makes a standing order due, that `roll` was sent
+-- if it makes a standing order due, it is reported that `roll` was sent
 abbrev pub rolled_told : Bool → List SaidValue
 rolled_told rolled = if rolled then rolled_said ∷ [] else []
 
@@ -55,7 +55,7 @@ line_act log line =
     let h = heard (open_now log) log (line_reading line) in
     heard_act line (line_reading line) h.send h.confirmed h.rolled
 
--- and each of several lines, by the history before it
+-- what each of several lines calls for, by the history before it
 abbrev pub line_acts : List Entry → List ReadLine → List Act
 line_acts log [] = []
 line_acts log (line ∷ lines) =

@@ -1,4 +1,4 @@
--- Of what a turn leaves in hand at a failed write the directory would take no note.
+-- A directory would not note what a turn leaves undone at a failed write.
 use Rattle.std.specs.Prelude.{◌≢◌, ℕ, List, Option}
 use Rattle.std.specs.List.{AllByRecursion}
 use Rattle.fibs_messages.specs.Message.{MessageValue}
@@ -8,7 +8,7 @@ use Rattle.fibs_exchange.specs.declared.Ending.{Ending}
 use Rattle.fibs_exchange.specs.Turns.Script.{Outside}
 use Rattle.fibs_exchange.specs.Turns.Turn.{Turned}
 
--- a directory takes note of messages 5 and 8 alone
+-- a directory notes only messages 5 and 8
 abbrev pub TellsNothing : MessageValue → Type 0
 TellsNothing m = (m.number ≢ 5) × (m.number ≢ 8)
 

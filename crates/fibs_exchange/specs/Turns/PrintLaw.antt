@@ -1,4 +1,4 @@
--- The lines that a turn prints, the directory's left aside.
+-- The lines that a turn prints, without those of the directory.
 use Rattle.std.specs.Prelude.{◌≡◌, ℕ, Bool, cond, nat_eq, List, [], ◌∷◌, ◌++◌, codes, Option}
 use Rattle.std.specs.List.{flat_map, starts_with}
 use Rattle.std.specs.Io.KnownBytes.{Appends}
@@ -22,7 +22,7 @@ without_directory (line ∷ lines) =
 abbrev pub lines_of_acts : List Act → List (List ℕ)
 lines_of_acts = flat_map (λ act. flat_map lines_of act.tells)
 
--- what was printed is these lines, and lines of the directory
+-- what was printed is these lines, with lines of the directory among them
 abbrev pub PrintsBesides : Outside (Option (List ℕ)) → Outside (Option (List ℕ)) → List (List ℕ) → Type 0
 PrintsBesides a b lines =
     (all : List (List ℕ)) × Appends a.front b.front (text_of_lines all) × (without_directory all ≡ lines)

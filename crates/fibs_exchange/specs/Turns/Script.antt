@@ -35,7 +35,7 @@ directory_told (Some why) = unnoted_said why ∷ []
 abbrev pub done_told : Done → List SaidValue
 done_told d = d.act.tells ++ directory_told d.refused
 
--- what the directory has noted: not what it refused
+-- what the directory has noted: nothing that it refused
 abbrev pub noted_unless : Option DirectoryFault → List MessageValue → List MessageValue
 noted_unless None messages = messages
 noted_unless (Some why) messages = []
@@ -56,7 +56,7 @@ tells_of = flat_map done_told
 abbrev pub notes_of : List Done → List MessageValue
 notes_of = flat_map (λ d. noted_unless d.refused d.act.notes)
 
--- a directory of some messages has become that of these messages more
+-- if it was the directory of some messages, it is now that of those and of these messages
 abbrev pub Notes : List MessageValue → List MessageValue → List MessageValue → Type 0
 Notes old new messages = (before : List MessageValue) → IsDirectory before old → IsDirectory (before ++ messages) new
 
@@ -66,8 +66,8 @@ InHand Whole hand part = (hand ≡ []) × (part ≡ [])
 InHand Broken hand part =
     (act : Act) × (missing : ℕ) × (rest : List ℕ) × (hand ≡ act ∷ []) × (act.writes ≡ part ++ (missing ∷ rest))
 
--- the script was done: each act written whole, reported and noted, up to the one in hand, of which a part was
--- written and nothing reported or noted
+-- the script was done: each act written whole, reported and noted, up to the one in hand: a part of
+-- its bytes was written, and nothing of it was reported or noted
 pub record Did {F : Type 0} (Tells : F → List SaidValue → F → Type 0) (a b : Outside F) (script : List Act)
     (p : Progress) : Type 0 where
   pub done : List Done

@@ -30,7 +30,7 @@ is_there (Some s) = true
 abbrev pub FitsStream : ClientValue → Bool → Type 0
 FitsStream client given = (t : Talk) × StandsAfter client t × (is_online t ≡ given)
 
--- and at the next turn: after Quiet as before, after Lost none
+-- the same at the next turn: after Quiet a stream is given as before, after Lost none
 abbrev pub still_given : Ending → Bool → Bool
 still_given Quiet given = given
 still_given (Lost waited) given = false
@@ -103,7 +103,7 @@ pub record TurnedBy {F : Type 0} (Tells : F → List SaidValue → F → Type 0)
   pub offline : is_online t ≡ false → intake.read ≡ []
   pub quiet : is_online t ≡ false → e ≡ Quiet
 
--- the same of a writer, on which what is reported is printed
+-- the same for a writer, on which what is reported is printed
 abbrev pub Turned : Talk → ClientValue → Option (List ℕ) → Option (List ℕ) → Option (List ℕ)
     → Outside (Option (List ℕ)) → Outside (Option (List ℕ)) → Ending → Type 0
 Turned = TurnedBy Accounts

@@ -6,7 +6,7 @@ use Rattle.fibs_history.specs.MachineLaws.{IsServers}
 use Rattle.fibs_session.specs.Calls.Standing.{ClientValue, StandsAfter, StandsAfterInputs}
 use Rattle.fibs_session.specs.Calls.Doing.{Does}
 
--- what a server notes says nothing to a client
+-- what a server notes changes nothing for a client
 abbrev pub ServersEntriesAreSilent : Type 0
 ServersEntriesAreSilent =
     (c : ClientValue) (t : Talk) (e : Entry) → IsServers e → StandsAfter c t → StandsAfter c (noted t (e ∷ []) [])

@@ -1,4 +1,4 @@
--- What a heard line keeps for its lending.
+-- What is kept of a heard line until it is lent.
 use Rattle.std.specs.Prelude.{ℕ, List, [], Option, None, Some}
 use Rattle.fibs_lines.specs.Lines.{ReadLine}
 use Rattle.fibs_messages.specs.Line.{ReadingValue, board_line, text_line, malformed_line}

@@ -6,7 +6,7 @@ use Rattle.fibs_history.specs.Machine.{Talk, InputValue, step, line_heard, hears
 use Rattle.fibs_session.specs.Calls.SessionValue.{SessionValue}
 use Rattle.fibs_session.specs.Calls.Standing.{SessionStandsAfter, ClientValue, StandsAfter}
 
--- each history that it was reached by, with the input, reaches it now, and these commands are handed
+-- for each history by which it was reached, that history with the input reaches it now, and these commands are handed
 -- out
 pub record SessionDoes (old new : SessionValue) (i : InputValue) (send : List (List ℕ)) : Type 0 where
   pub stands : (t : Talk) → SessionStandsAfter old t → SessionStandsAfter new (step t i).talk

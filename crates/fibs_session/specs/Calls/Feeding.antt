@@ -40,7 +40,7 @@ pub record ReadsOnline (old new : ClientValue) (piece : List ℕ) (h : HeardLine
   pub stands : (s : List ℕ) → LinesStandAfter old.lines s → LinesStandAfter new.lines (s ++ take h.used piece)
   pub answers : AnswersLine old.session new.lines.line h.answer new.session
 
--- and while none is
+-- and while no connection is open
 pub record ReadsOffline (old new : ClientValue) (piece : List ℕ) (h : HeardLine) : Type 0 where
   pub used : h.used ≡ length piece
   pub answer : h.answer ≡ None
@@ -113,7 +113,7 @@ abbrev pub ReadsItself : Option TakenValue → Type 0
 ReadsItself None = Unit {0}
 ReadsItself (Some t) = t.reading ≡ line_reading t.line
 
--- what `feed` answers, for each history that the client was reached by: the commands that the machine hands out; while
+-- what `feed` answers, for each history by which the client was reached: the commands that the machine hands out; while
 -- a connection is open, the shortest front with which the stream has one line more, and that line, its reading, what it
 -- confirms and whether a standing order rolls at it; else the whole piece, and no line
 pub record FeedAnswers (old : ClientValue) (piece : List ℕ) (used : ℕ) (taken : Option TakenValue) : Type 0 where

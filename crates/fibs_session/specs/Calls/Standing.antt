@@ -4,7 +4,7 @@ use Rattle.fibs_lines.specs.LinesValue.{LinesValue, StandsAfter as LinesStandAft
 use Rattle.fibs_history.specs.Machine.{Talk, InputValue, start, run}
 use Rattle.fibs_session.specs.Calls.SessionValue.{SessionValue, At}
 
--- a session is reached by what has happened. Callers name what has happened by this word, and never open it
+-- a session is reached by what has happened. Callers use this name, and never unfold it
 unfoldable pub SessionStandsAfter : SessionValue → Talk → Type 0
 SessionStandsAfter v t = At v t
 
@@ -13,7 +13,8 @@ pub record ClientValue : Type 0 where
   pub lines : LinesValue
   pub session : SessionValue
 
--- a client is reached by what has happened: its lines by the bytes, its session by the rest. Never opened either
+-- a client is reached by what has happened: its lines by the bytes, its session by the rest. Callers never
+-- unfold it either
 unfoldable pub StandsAfter : ClientValue → Talk → Type 0
 StandsAfter v t = LinesStandAfter v.lines t.stream × At v.session t
 
