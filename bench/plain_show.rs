@@ -1,4 +1,4 @@
-//! The behaviour of `fibs show` in plain Rust over std alone, with no proof: what `bench/show` measures `fibs show` beside.
+//! The behaviour of `fibs show` in plain Rust over std alone, without proofs: `bench/show` compares `fibs show` with it.
 //! Built by `rustc -O`; it reads standard input and writes standard output, and its output is that of `fibs show`.
 
 use std::fmt::Write as _;
@@ -213,7 +213,8 @@ fn numbered(line: &[u8]) -> Option<(u8, Option<&[u8]>)> {
     }
 }
 
-/// The kinds of a message's fields: `n` a name, `f` a flag, `u` a number, `r` a rating, `w` a word, `t` a tail, `x` a text.
+/// The kinds of a message's fields: `n` a name, `f` a flag, `u` a number, `r` a rating, `w` a word, `t` a tail, `x` a
+/// text.
 fn kinds(number: u8) -> &'static str {
     match number {
         1 => "nuw",

@@ -28,7 +28,8 @@ BEGIN {
         place_side(-1)
         line = "board:You:bob:5:0:0:0"
         for (place = 1; place <= 24; place++) line = line ":" on[place]
-        line = line ":0:1:" below(6) + 1 ":" below(6) + 1 ":0:0:1:1:1:0:1:" (below(2) ? 1 : -1) ":0:25:" off[1] ":" off[-1] ":0:0:0:0:0:0"
+        line = line ":0:1:" below(6) + 1 ":" below(6) + 1 ":0:0:1:1:1:0:1:" (below(2) ? 1 : -1) \
+            ":0:25:" off[1] ":" off[-1] ":0:0:0:0:0:0"
         print line
     }
 }

@@ -1,7 +1,7 @@
 #!/usr/bin/env python3
-"""The time of a line in Python: python_reader.py FILE. By plain Python, by the library with one call a line, and with many
-lines a call, each in the same run; each counts the boards, messages, texts, cut and malformed lines, and they have to agree.
-"""
+"""The time of a line in Python: python_reader.py FILE. By plain Python, by the library with one call a line, and with
+many lines a call, each in the same run; each counts the boards, messages, texts, cut and malformed lines, and they
+have to agree."""
 
 import ctypes
 import pathlib
@@ -23,7 +23,8 @@ FIELDS = {1: 3, 2: 21, 3: 0, 4: 0, 5: 12, 6: 0, 10: 1, 11: 1, 9: 3, 17: 1, 18: 1
 
 
 def plain(data):
-    """As one writes it at once: lines by split, a board's numbers by int, a message's fields by split. No range is looked at."""
+    """As one writes it at once: lines by split, a board's numbers by int, a message's fields by split. No range is
+    looked at."""
     counts = Counter()
     for line in data.split(b'\n')[:-1]:
         line = line.rstrip(b'\r')

@@ -33,7 +33,8 @@ function board(    i, place, moves, from, to, side, line, own, other) {
     own = below(7)
     other = below(7)
     line = line ":" (below(2) ? 1 : -1) ":" own ":" (own ? below(6) + 1 : 0) ":" other ":" (other ? below(6) + 1 : 0)
-    line = line ":" 2 ^ below(5) ":" below(2) ":" below(2) ":0:" (below(2) ? "1:-1" : "-1:1") ":0:25:0:0:0:0:" below(5) ":0:0:0"
+    line = line ":" 2 ^ below(5) ":" below(2) ":" below(2) ":0:" (below(2) ? "1:-1" : "-1:1") \
+        ":0:25:0:0:0:0:" below(5) ":0:0:0"
     return line
 }
 
@@ -42,8 +43,10 @@ function address() {
 }
 
 function who() {
-    return "5 " one_of(names) " " one_of("- - " names) " - " below(2) " " below(2) " " sprintf("%.2f", 1000 + below(100000) / 100) \
-        " " below(50000) " " below(3000) " " (1000000000 + below(99999999)) " " address() " " one_of("- 3DFiBs JavaFIBS2001") " -"
+    return "5 " one_of(names) " " one_of("- - " names) " - " below(2) " " below(2) \
+        " " sprintf("%.2f", 1000 + below(100000) / 100) \
+        " " below(50000) " " below(3000) " " (1000000000 + below(99999999)) " " address() \
+        " " one_of("- 3DFiBs JavaFIBS2001") " -"
 }
 
 function talk(    i, text) {

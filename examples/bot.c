@@ -1,11 +1,7 @@
-/* Logs in at a server and plays its first legal play until the match is over: bot HOST PORT NAME, the password being the
- * first line of standard input.
- *
- * It prints each command that it sends, but the login, and each phase. If the connection is lost it opens another one,
- * and the game goes on as the server has it. Its status is 0 if the match was played out, else 4.
- *
- *     cc -Iinclude -o bot examples/bot.c lib/libfibs.a
- */
+/* Logs in at a server and plays its first legal play until the match is over: bot HOST PORT NAME. The password is the
+ * first line of standard input. It prints each phase, and each command that it sends except the login. If the
+ * connection is lost it opens another one, and the game goes on as the server has it. Its status is 0 if the match was
+ * played out, else 4. cc -Iinclude -o bot examples/bot.c lib/libfibs.a */
 #define _POSIX_C_SOURCE 200809L
 #include "fibs.h"
 

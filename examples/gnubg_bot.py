@@ -292,7 +292,7 @@ class Bot:
                 self.read(line.text.decode('latin-1').strip())
 
     def set_up(self, info):
-        """Turns off what the server would play by itself, and is ready. The server says that it is off at a new login."""
+        """Turns off what the server would play by itself, and is ready. The server says so at the next login."""
         automove, greedy, ready = info[4], info[10], info[16]
         for is_wrong, command in ((not ready, 'ready'), (automove, 'automove'), (greedy, 'greedy')):
             if is_wrong:

@@ -222,7 +222,7 @@ WINS = re.compile(r'(\S+) wins? the game and gets? (\d+) points?\..*')
 
 
 class Reader:
-    """Reads a session, line by line, and keeps its matches, and the rolls that the server named since the last board."""
+    """Reads a session, line by line, and keeps its matches, and the rolls since the last board."""
 
     def __init__(self, complain):
         self.complain = complain

@@ -137,7 +137,8 @@ def page_program(counts, work):
     else:
         print('left out: CMake, which is not installed')
     python = dict(os.environ, PYTHONPATH=str(ROOT / 'python'), FIBS_LIBRARY=str(ROOT / 'lib/libfibs.so'))
-    wanted = run(sys.executable, '-B', ROOT / 'examples/read_session.py', '-c', ROOT / 'examples/capture.txt', env=python)
+    wanted = run(sys.executable, '-B', ROOT / 'examples/read_session.py', '-c', ROOT / 'examples/capture.txt',
+                 env=python)
     boards, messages, texts, _, malformed = (int(n) for n in re.findall(r'\d+', wanted))
     lines = 'text %d\nmessage %d\nboard %d\nmalformed %d\n' % (texts, messages, boards, malformed)
     for program in programs:

@@ -1,8 +1,9 @@
 #!/usr/bin/env python3
 """Tests the built program's `connect` on real sockets: tests/connect.py PROGRAM
 
-It plays both ends: it types what a player types, and is the server. It goes on when a line was printed, and not by the
-clock, so that a busy machine changes nothing; one case sees how long a quiet server is waited for, with a wide window. Prints a line for each case, and then `N passed, M failed`.
+It plays both ends: it types what a player types, and is the server. It goes on when a line was printed, and not by
+the clock, so that a busy machine changes nothing; one case sees how long a quiet server is waited for, with a wide
+window. Prints a line for each case, and then `N passed, M failed`.
 """
 
 import concurrent.futures
@@ -169,7 +170,8 @@ def a_game_from_login_to_the_end_with_a_lost_connection_in_the_middle(server):
     player.sees('player ann 1500.00', 'player bob 1623.50')
     for typed, answer in (
             ('open', 'refused 1 AlreadyOpen'), ('double', 'refused 8 WrongKind'),
-            ('move 5-3 3-2', 'refused 8 WrongKind'), ('dance', 'unknown'), ('say ' + 'a' * 401, 'fault 3 TooLong'), ('toggle greedy', 'refused 10 NotOn')):
+            ('move 5-3 3-2', 'refused 8 WrongKind'), ('dance', 'unknown'),
+            ('say ' + 'a' * 401, 'fault 3 TooLong'), ('toggle greedy', 'refused 10 NotOn')):
         player.type(typed)
         player.sees(answer)
     player.type('roll')
@@ -471,7 +473,7 @@ def a_quiet_server_is_waited_for_half_a_second(server):
     player.quits()
 
 
-# -- a program that is stopped and continued (Ctrl-Z, fg) ----------------------------------------------------------------
+# -- a program that is stopped and continued (Ctrl-Z, fg) --------------------------------------------------------------
 
 def stop_and_continue(player, times=3):
     """Stops the program for a while, again and again."""

@@ -3,9 +3,9 @@
 If lib/libfibs.so is there, each batch of lines and each script also goes through the library for C (props/c_beside.py).
 
 A third of the time goes to batches of lines for `PROGRAM show`, a third to scripts, each for `PROGRAM replay` and for
-`PROGRAM loop`, a third to board lines for `PROGRAM plays`, in turn. It ends with status 1 at the first difference, which
-it makes small, and with status 0 if there was none in SECONDS of wall clock. It prints its seed, what the inputs had
-in them, and at last `N passed, M failed`: of lines, scripts and boards, those without a difference.
+`PROGRAM loop`, a third to board lines for `PROGRAM plays`, in turn. It ends with status 1 at the first difference, for
+which it looks for a small input, and with status 0 if there was none in SECONDS of wall clock. It prints its seed, what
+the inputs had in them, and at last `N passed, M failed`: of lines, scripts and boards, those without a difference.
 """
 import collections
 import random

@@ -487,7 +487,8 @@ def prompts_without_end(_server):
         player.sees(printed, 'message ' + WELCOME)
         leaves(player, server, LOGIN, STYLE)
 
-    at_once(prompted, [(b'> ', 'cut '), (b'login: ', 'cut logi'), (b'login: > ', 'cut logi'), (b'>', 'cut ' + '>' * LINE)])
+    at_once(prompted, [(b'> ', 'cut '), (b'login: ', 'cut logi'), (b'login: > ', 'cut logi'),
+                       (b'>', 'cut ' + '>' * LINE)])
 
 
 def prompts_as_far_as_a_line_is_kept(_server):

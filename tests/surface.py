@@ -3,8 +3,8 @@
 
 The man page, the help (the texts of tests/help, to which tests/program holds the program), the completions and
 docs/PLAYING.md have the same subcommands, options, typed lines, refusals and statuses, and say the same of each: what
-that is, is in tests/props/meanings.py. With a PROGRAM it is asked too whether it takes each typed line. A shell, or a reader of man pages, that is not installed is left out. Prints a line
-for each case, and then `N passed, M failed`.
+that is, is in tests/props/meanings.py. With a PROGRAM it is asked too whether it takes each typed line. A shell, or a
+reader of man pages, that is not installed is left out. Prints a line for each case, and then `N passed, M failed`.
 """
 
 import pathlib
@@ -293,7 +293,8 @@ def each_wrong_line_means_the_same(_program):
         held(head, rows, known)
     formats = part(text_of('docs/FORMATS.md'), '## Scripts of `fibs replay`', '\n## ')
     rows = re.findall(r'^\| (\d) \| `(\w+)` \| .*? \| (.*) \|$', formats, re.M)
-    same('events', sorted(row[:2] for row in rows), [(str(number), name) for number, name, _meaning in meanings.EVENTS[1:]])
+    same('events', sorted(row[:2] for row in rows),
+         [(str(number), name) for number, name, _meaning in meanings.EVENTS[1:]])
     held('events', [([name], said) for _number, name, said in rows],
          {name: meaning for _number, name, meaning in meanings.EVENTS})
 
@@ -303,7 +304,8 @@ def the_code_means_the_same(_program):
         code = text_of('crates/' + path)
         numbers = re.findall(r'^ +%s::(\w+) => (\d+),' % name, code, re.M)
         same(path, [(int(number), one) for one, number in numbers], [row[:2] for row in table])
-        comments = re.findall(r'((?:^    ///.*\n)+)    (\w+)(?:\(.*\))?,', part(code, 'enum %s {\n' % name, '\n}'), re.M)
+        cases = part(code, 'enum %s {\n' % name, '\n}')
+        comments = re.findall(r'((?:^    ///.*\n)+)    (\w+)(?:\(.*\))?,', cases, re.M)
         same(path, [one for _said, one in comments], [row[1] for row in table])
         held(path, [([one], re.sub(r'^ *///', '', said, flags=re.M)) for said, one in comments],
              {one: meaning for _number, one, meaning in table})
@@ -316,7 +318,8 @@ def the_header_and_the_package_mean_the_same(_program):
     header = {name: (int(number), said) for name, number, said in
               re.findall(r'FIBS_STATUS_(\w+) = (\d+),?(?:[ \n]*/\*(.*?)\*/)?', text_of('include/fibs.h'), re.S)}
     package = {name: (int(number), said) for name, said, number in
-               re.findall(r'^class (\w+)\(.*\):\n    """(.*?)"""\n    status = (\d+)', text_of('python/fibs/errors.py'), re.M)}
+               re.findall(r'^class (\w+)\(.*\):\n    """(.*?)"""\n    status = (\d+)',
+                          text_of('python/fibs/errors.py'), re.M)}
     page = part(text_of('docs/C.md'), '## Statuses', '\n## ')
     for family, prefix, table in meanings.FAMILIES:
         for number, name, meaning in table:

@@ -1,7 +1,7 @@
 """The library for C beside the reference: what it says of lines, and what a script makes a client hand out.
 
-`show` prints what the library says of lines as `fibs show` prints it. `Beside` is the reference's client, which also gives
-all that comes to it to a client of the library (the package for Python), and holds what that answers to its own.
+`show` prints what the library says of lines as `fibs show` prints it. `Beside` is the reference's client. It also gives
+all that it receives to a client of the library (the package for Python), and compares the answers with its own.
 """
 
 from props import reference

@@ -63,7 +63,11 @@ REFUSALS = [
 ]
 
 # The same of the faults of a plain command or a login, of a board without a position, of a field, and of a directory.
-FAULTS = [(1, 'BadName', r'\bname\b'), (2, 'BadText', r'text.*(empty|printable)'), (3, 'TooLong', r'text.*(400|too many)')]
+FAULTS = [
+    (1, 'BadName', r'\bname\b'),
+    (2, 'BadText', r'text.*(empty|printable)'),
+    (3, 'TooLong', r'text.*(400|too many)'),
+]
 
 POSITIONS = [
     (1, 'NotYou', r'`You`|watch'),

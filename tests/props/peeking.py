@@ -43,6 +43,7 @@ def options(job):
         if not is_listening(one):
             seconds, micros = struct.unpack('ll', one.getsockopt(socket.SOL_SOCKET, socket.SO_RCVTIMEO, 16))
             found.append((bool(one.getsockopt(socket.IPPROTO_TCP, socket.TCP_NODELAY)),
-                          bool(one.getsockopt(socket.SOL_SOCKET, socket.SO_KEEPALIVE)), 1000 * seconds + micros // 1000))
+                          bool(one.getsockopt(socket.SOL_SOCKET, socket.SO_KEEPALIVE)),
+                          1000 * seconds + micros // 1000))
         one.close()
     return sorted(found)

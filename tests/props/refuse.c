@@ -1,7 +1,7 @@
-/* Loaded before a program's own libraries (LD_PRELOAD), this refuses one of its allocations: the one whose number, counted
-   from 1, the variable REFUSED gives. At the refusal it makes the file that REFUSED_TOLD names. If INTERRUPTED is set, each
-   second write to a socket is as one that a signal interrupts, the first among them. It needs no header and no library but
-   the C library of a running program, so that the kit's own compiler builds it. */
+/* Loaded before a program's own libraries (LD_PRELOAD), this refuses one of its allocations. The variable REFUSED gives
+   its number, counted from 1. At the refusal it makes the file that REFUSED_TOLD names. If INTERRUPTED is set, every
+   second write to a socket, from the first on, fails as if a signal interrupted it. It needs no header and no library
+   but the C library of a running program, so that the kit's own compiler builds it. */
 typedef __SIZE_TYPE__ size_t;
 
 void *__libc_malloc(size_t size);

@@ -1,5 +1,5 @@
-"""Positions: the phase of a board, what may be decided on it, and when the game has gone on. Worked boards with plays are in
-fibs_position_tests."""
+"""Positions: the phase of a board, what may be decided on it, and when the game has gone on. fibs_position_tests has
+worked boards with plays."""
 
 import sys
 from collections import namedtuple

@@ -1,8 +1,8 @@
 #!/usr/bin/env python3
 """Tests examples/fibs_server: python3 -B tests/server
 
-Scripted clients play whole matches, and each board is checked by the rules as tests/props/reference.py has them; then comes
-what the server says to each command. Prints a line for each case; the last line is 'N passed, M failed'.
+Scripted clients play whole matches, and each board is checked by the rules as tests/props/reference.py has them; then
+comes what the server says to each command. Prints a line for each case; the last line is 'N passed, M failed'.
 """
 
 import concurrent.futures

@@ -1,7 +1,7 @@
 """Scripted clients for the tests of the server, and the server that they talk to.
 
-A client reads each line by tests/props/reference.py, which has the formats and the rules once more, and decides by the board
-alone, as docs/FORMATS.md has its phases. What a line is to be is checked as it comes.
+A client reads each line by tests/props/reference.py, which has the formats and the rules of its own, and decides by
+the board alone, as docs/FORMATS.md has its phases. Each line is checked as it comes.
 """
 
 import os

@@ -128,8 +128,8 @@ def what_is_malformed_is_shown(server):
 
 @with_server
 def a_flood_does_not_hold_a_typed_line(server):
-    """Of a server that sends lines with no pause and no end, so that both are always ready: what is typed goes out within a
-    second."""
+    """Of a server that sends lines with no pause and no end, so that both are always ready: what is typed goes out
+    within a second."""
     ann = greeted(server)
     over = threading.Event()
     lines = b''.join(b'13 eve line %d of many, without a pause\r\n' % number for number in range(1000))

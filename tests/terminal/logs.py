@@ -51,7 +51,8 @@ def each_line_as_it_came_and_what_was_sent(server):
                  b'5 bob - - 1 0 15x0', b'roll', b'pip')
     same('the password', PASSWORD.encode() in held, False)
     same('what was sent, the commands of the client itself first',
-         [line[2:] for line in held.split(b'\n') if line.startswith(b'> ')], [b'set boardstyle 3', b'board', b'roll', b'pip'])
+         [line[2:] for line in held.split(b'\n') if line.startswith(b'> ')],
+         [b'set boardstyle 3', b'board', b'roll', b'pip'])
     same('what was not sent', b'dance' in held, False)
     ann.type('quit')
     ann.ends(0)

@@ -106,7 +106,8 @@ def at_most_thirty_rows_a_turn():
 def the_game_of_the_docs():
     """It was recorded: its turns take at most 30 rows too, from the login to the end."""
     page = (ROOT / 'docs' / 'GAME.md').read_text().split('```')[1].split('\n')[1:-1]
-    same('it is whole', (page[0].startswith('connected to '), any(ENDED.fullmatch(line) for line in page)), (True, True))
+    same('it is whole', (page[0].startswith('connected to '), any(ENDED.fullmatch(line) for line in page)),
+         (True, True))
     rows = [len(turn) for turn in turns(page)]
     same('turns were counted', len(rows) > 3, True)
     same('turns of more than 30 rows', [count for count in rows if count > 30], [])
