@@ -21,7 +21,7 @@ C_ARCHIVE := crates/fibs_c/out/libfibs_c.a
 KIT_ARCHIVE = $(dir $(shell rt doc))c/liblibc_c.a
 
 .PHONY: all lib test quick fmt dist install install-program install-surface install-lib \
-	install-program-files install-lib-files dist-files bench clean help $(CRATES)
+	install-program-files install-lib-files dist-files bench bench-more clean help $(CRATES)
 
 all: ## proves and builds the program: bin/fibs, with bin/fibs-play beside it
 	@scripts/tools build
@@ -121,7 +121,11 @@ bin/plain_show: bench/plain_show.rs
 	mkdir -p bin
 	rustc -O -o $@ $<
 
-bench: all lib $(PEER) ## measures the program beside others, in ratios
+bench: all $(PEER) ## measures: one table of goals and figures, beside other programs
+	scripts/prove fibs_bench
+	bench/table bin/fibs crates/fibs_bench/out/fibs_bench "$(PEER)" $(ROUNDS)
+
+bench-more: all lib $(PEER) ## measures each part on its own, the libraries for C and Python too
 	scripts/prove fibs_bench
 	PEER=$(PEER) bench/show bin/fibs $(MEGABYTES) $(ROUNDS)
 	bench/loops crates/fibs_bench/out/fibs_bench $(MEGABYTES) $(ROUNDS)
