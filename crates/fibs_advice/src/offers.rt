@@ -112,7 +112,7 @@ fn hint_words(roll: bool, double: bool, accept: bool, reject: bool) -> &'static 
     }
 }
 
-/// Appends what may be decided, and how it is typed; nothing if nothing may be.
+/// Appends what may be decided, and how it is typed; appends nothing if nothing may be decided.
 pub fn append_offers(offers: &Offers, text: &mut Vec<u8>) -> Result<(), AllocError>
     ensures { OnOk result (text.new.items ≡ text.old.items ++ hint_text offers.now) }
 {

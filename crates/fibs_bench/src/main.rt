@@ -218,7 +218,7 @@ fn hear_input(rt: &HostRuntime, client: &mut Client, by_turns: bool) -> io::Resu
     Ok(count)
 }
 
-/// A client that has a connection.
+/// Makes a client that has a connection.
 fn online() -> Option<Client> {
     let login = Login::new(b"ann", b"secret").ok()?;
     let mut client = Client::new(login);

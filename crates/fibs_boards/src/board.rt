@@ -20,8 +20,8 @@ use fibs_fields::fixed::append;
 use fibs_fields::name::Name;
 use std::alloc::AllocError;
 
-/// A board as the server shows it in board style 3: two names, and 50 numbers of which each is one that its field may
-/// have.
+/// A board as the server shows it in board style 3: two names, and 50 numbers, each one that its field
+/// may have.
 ///
 /// Field 1 is the word `board`, fields 2 and 3 are the names of the player and of the opponent. The other fields are
 /// numbers, which `field` gives and `with` changes: 4 match length; 5, 6 scores; 7 to 32 places 0 to 25; 33 turn; 34 to
@@ -86,7 +86,7 @@ impl Board {
     /// Appends the line that says the board, without a line end. `print` gives a text by value; this makes no
     /// copy of one.
     ///
-    /// A refusal of memory leaves `out` as it was.
+    /// If memory runs out, `out` stays as it was.
     pub fn print_into(&self, out: &mut Vec<u8>) -> Result<(), AllocError>
         ensures appended { OnOk result (out.new.items ≡ out.old.items ++ spelling (fields_of self.now)) }
         ensures refused { OnErr result (out.new.items ≡ out.old.items) }
@@ -109,7 +109,7 @@ impl Board {
         )
     }
 
-    /// The player's name, `You` if one plays oneself.
+    /// The player's name, `You` in the user's own game.
     pub fn player(&self) -> Name<'_>
         ensures value { name_bytes result ≡ (fields_of self.now).player }
         ensures valid { is_name (fields_of self.now).player ≡ true }

@@ -41,14 +41,14 @@ fn check_fields(line: &[u8]) -> Result<&[u8], FieldFault>
 ///
 /// No board is made, and nothing is printed: a line that says a board is its spelling, but for the spaces at its end.
 pub fn check_board(line: &[u8]) -> Result<&[u8], FieldFault>
-    // What is given is printed for the board that the line says.
+    // The text given is what is printed for the board that the line says.
     ensures found { IfOk (line_checked result)
         (λ text. (b : BoardFields) × BoardText b line.now × (text ≡ spelling b)) }
-    // Of each line that says a board it is given.
+    // It is given for each line that says a board.
     ensures only { (b : BoardFields) → BoardText b line.now → line_checked result ≡ Ok (spelling b) }
     // The fault is that of the first wrong field.
     ensures wrong { IfErr (line_checked result) (λ e. Wrong line.now e.field e.fault) }
-    // Of each line with a wrong field it is given.
+    // It is given for each line with a wrong field.
     ensures least { (e : FieldFault) → Wrong line.now e.field e.fault → line_checked result ≡ Err e }
 {
     check_fields(line)

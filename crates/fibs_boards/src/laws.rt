@@ -18,7 +18,7 @@ pub fn print_reads_back(board: &Board) -> Result<Board, FieldFault>
     Board::read(board.print().as_slice())
 }
 
-/// Two boards have one spelling exactly if they are one.
+/// Two boards have the same spelling exactly if they are equal.
 pub fn spellings_tell_boards()
     ensures { (a b : BoardFields) → IsBoard a → IsBoard b → (spelling a ≡ spelling b) ↔ (a ≡ b) }
 {}
@@ -53,12 +53,12 @@ pub fn each_line_is_one_board_or_wrong()
         Wrong line k f → Wrong line m g → (k ≡ m) × (f ≡ g) }
 {}
 
-/// The fields of each board are a board.
+/// The fields of each board meet the definition of a board.
 pub fn boards_are_valid()
     ensures { (board : Board) → IsBoard (fields_of board) }
 {}
 
-/// The test of boards says yes of boards, and of nothing else.
+/// The test of boards is true of boards, and of nothing else.
 pub fn is_board_is_exact()
     ensures { (b : BoardFields) → (is_board b ≡ true) ↔ IsBoard b }
 {}

@@ -11,7 +11,7 @@ use fibs_records::kinds::LineKind;
 use fibs_records::status::field_fault_status;
 use fibs_records::text::hand_out;
 
-/// What a line is that was not cut; if it is a board, its fields too.
+/// What a line that was not cut is; if it is a board, its fields too.
 #[unsafe(no_mangle)]
 pub extern "C" fn fibs_read_board(line: &[u8], board: &mut BoardRecord) -> LineKind
     ensures kind { result ≡ told_kind (reading_value line.now) }

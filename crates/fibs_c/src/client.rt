@@ -48,7 +48,7 @@ pub extern "C" fn fibs_client_new(
     }
 }
 
-/// Gives the client's memory back. The handle then holds none; one that held none stays as it is.
+/// Gives the client's memory back. The handle then holds nothing; a handle that held nothing stays as it is.
 #[unsafe(no_mangle)]
 pub extern "C" fn fibs_client_free(alloc: Global, client: &mut ClientHandle)
     ensures { client.new.value ≡ None }
@@ -142,7 +142,7 @@ pub extern "C" fn fibs_client_plain(
 }
 
 /// The connection is lost: nothing of it is kept. Gives the decision that waited, with its board, or one of kind 0 if
-/// none did. It is never sent again by itself.
+/// none waited. The client never sends it again by itself.
 #[unsafe(no_mangle)]
 pub extern "C" fn fibs_client_lose(
     alloc: Global,

@@ -36,7 +36,7 @@ pub extern "C" fn fibs_directory_new(alloc: Global, directory: &mut DirectoryHan
     }
 }
 
-/// Gives the directory's memory back. The handle then holds none; one that held none stays as it is.
+/// Gives the directory's memory back. The handle then holds nothing; a handle that held nothing stays as it is.
 #[unsafe(no_mangle)]
 pub extern "C" fn fibs_directory_free(alloc: Global, directory: &mut DirectoryHandle)
     ensures { directory.new.value ≡ None }
@@ -98,7 +98,7 @@ pub extern "C" fn fibs_directory_clear(alloc: Global, directory: &mut DirectoryH
     })
 }
 
-/// The field of this number of what the server said of a player.
+/// The field of this number in what the server said of a player.
 fn player_part(player: &Player, number: usize) -> Option<FieldPart<'_>>
     ensures { option_map part_value result ≡ option_map told_field (field_at number (player_value player.now).fields) }
 {
@@ -157,7 +157,7 @@ pub extern "C" fn fibs_directory_field(
     })
 }
 
-/// The same of the player of a name.
+/// The same for the player of a name.
 #[unsafe(no_mangle)]
 pub extern "C" fn fibs_directory_field_of(
     alloc: Global,

@@ -18,8 +18,8 @@ pub struct Broken;
 
 /// Carries the bytes of one connection after another between the client and the server.
 ///
-/// What it is given is what arrives: a call that answers `Ok` took the same bytes out at the other end. What a carrier
-/// does beside its answer no contract can say; whether it can fail at all is `may_break`.
+/// What it is given is what arrives: a call that answers `Ok` took the same bytes out at the other end. No contract
+/// can say what else a carrier does; `may_break` says whether it can fail at all.
 pub trait Carrier: Drop {
     /// A call of it may fail.
     ghost may_break: { Bool };

@@ -100,7 +100,7 @@ pub fn checked_name(name: &[u8]) -> Result<&str, PlainFault>
     }
 }
 
-/// Whether it is one or more bytes of 32 to 126.
+/// True for one or more bytes from 32 to 126.
 fn is_printed(text: &[u8]) -> bool
     ensures { result ≡ is_printed text.now }
 {

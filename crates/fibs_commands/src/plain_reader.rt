@@ -117,7 +117,7 @@ fn read_joining(rest: Option<&[u8]>) -> Option<Plain<'_>>
     }
 }
 
-/// What a user turns over.
+/// What a user toggles.
 #[tactic(auto, unfolding(crate::specs::PlainReading::toggle_in))]
 fn read_toggle<'a>(rest: Option<&[u8]>) -> Option<Plain<'a>>
     ensures { option_map plain_value result ≡ toggle_in (seen rest.entry) }

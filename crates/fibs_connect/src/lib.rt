@@ -32,8 +32,8 @@ use fibs_typed::typed_lines::TypedLines;
 /// The first line of `typed` is the password. If it or the name has a fault, `err` is given `fault NUMBER NAME`, and
 /// the status is 3. Else it connects to the host, a name or an address, logs in, and answers each line that is typed:
 /// `open` connects again, `players` lists the players that are known, `quit` ends, and all others are turns of the
-/// client (`exchange`), which an empty line takes without a word. If no connection can be made it says so, and goes
-/// on. At the end of the lines, and after `quit`, the status is 0. A read of the server waits for half a second.
+/// client (`exchange`); an empty line is a turn without a typed line. If no connection can be made it says so, and
+/// goes on. At the end of the lines, and after `quit`, the status is 0. A read of the server waits for half a second.
 ///
 /// It reads at most 1,000,000,000 times, and at most 1024 bytes at once.
 ///

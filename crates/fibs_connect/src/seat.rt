@@ -106,7 +106,7 @@ impl<S: Link + Drop> Seat<S> {
         }
     }
 
-    /// Writes the login on a new connection, of whose players nothing is known yet.
+    /// Writes the login on a new connection. No player of it is known yet.
     fn log_in<F: Front>(&mut self, mut stream: S, front: &mut F) -> Result<(), ExchangeFault>
         requires { FitsStream self.old.client false }
         ensures fits { OnOk result (FitsStream self.new.client (is_there self.new.stream)) }
@@ -134,7 +134,7 @@ impl<S: Link + Drop> Seat<S> {
         }
     }
 
-    /// Sends a line to the server as it is, and hears the server. The client does not learn of it.
+    /// Sends a line to the server as it is, past the client, and hears the server.
     fn pass<F: Front>(&mut self, line: &[u8], front: &mut F) -> Result<(), ExchangeFault>
         requires { FitsStream self.old.client (is_there self.old.stream) }
         ensures fits { OnOk result (FitsStream self.new.client (is_there self.new.stream)) }

@@ -16,13 +16,13 @@ use indexmap::IndexMap;
 use std::alloc::{AllocError, Global};
 use std::marker::Model;
 
-/// How many names a directory holds at most. The definitions have the same number once more.
+/// How many names a directory holds at most. The definitions have the same number, as `directory_limit`.
 const MOST_PLAYERS: usize = 4096;
 
 /// The players that the server listed in messages 5, until it reported their logout in a message 8.
 ///
-/// They are in the order in which each was first listed since the last logout of that name. What is kept of a player
-/// is the last message. The map hashes by a fixed seed, so that each run goes alike.
+/// They are in the order in which each was first listed since the last logout of that name. Only the last message about
+/// a player is kept. The map hashes by a fixed seed, so that each run is the same.
 #[derive(Drop)]
 pub struct Directory {
     players: IndexMap<Vec<u8>, Player>,

@@ -31,7 +31,7 @@ pub struct Player {
     pub hostname: Vec<u8>,
     /// The program that the player uses, `-` if it is not known.
     pub client: Vec<u8>,
-    /// The address of mail, `-` for none.
+    /// The email address, `-` for none.
     pub email: Vec<u8>,
 }
 

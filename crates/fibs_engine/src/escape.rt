@@ -93,8 +93,8 @@ fn append_runs(bytes: &[u8], text: &mut Vec<u8>) -> Result<(), AllocError>
     write_escaped(bytes, text).map_err(|_| AllocError)
 }
 
-/// Appends the bytes, each that is not shown as it is by its escape. If none is, which is the rule, it appends all
-/// at once.
+/// Appends the bytes, each that is not shown as it is by its escape. Mostly there is none to escape: then it
+/// appends all at once.
 pub fn append_escaped(bytes: &[u8], text: &mut Vec<u8>) -> Result<(), AllocError>
     ensures { OnOk result (text.new.items ≡ text.old.items ++ escaped bytes.now) }
 {
@@ -105,7 +105,7 @@ pub fn append_escaped(bytes: &[u8], text: &mut Vec<u8>) -> Result<(), AllocError
     }
 }
 
-/// Escapes the bytes of the text from `start` on. If none needs it, which is the rule, the text stays as it is.
+/// Escapes the bytes of the text from `start` on. Mostly none needs it: then the text stays as it is.
 pub fn escape_from(alloc: Global, start: usize, text: &mut Vec<u8>) -> Result<(), AllocError>
     requires { start ≤ length text.old.items }
     ensures { OnOk result (text.new.items ≡ take start text.old.items ++ escaped (drop start text.old.items)) }

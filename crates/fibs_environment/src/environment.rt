@@ -5,7 +5,7 @@ use jiff::tz::{SystemTimeZone, TimeZoneDatabase};
 use jiff::{Error, Timestamp};
 use std::env;
 
-/// The columns of a terminal that does not tell them.
+/// The columns of a terminal if the environment does not say them.
 const COLUMNS: usize = 80;
 
 /// Whether a variable is there, and is not empty.
@@ -59,7 +59,7 @@ fn is_utf8(rt: &HostRuntime) -> bool {
     false
 }
 
-/// How many seconds the clock of the place is ahead of UTC; 0 if it does not tell.
+/// How many seconds local time is ahead of UTC; 0 if that is not known.
 fn offset(rt: &HostRuntime) -> i32 {
     match offset_now(rt) {
         Ok(seconds) => seconds,

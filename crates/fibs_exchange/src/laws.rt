@@ -2,13 +2,13 @@
 ghost use Rattle.fibs_exchange.specs.Turns.NoteLaw.{TurnsLeaveNoPlayer};
 ghost use Rattle.fibs_exchange.specs.Turns.PrintLaw.{TurnsPrintTheirActs};
 
-/// A turn prints the lines of its acts, and besides these none but lines that begin with `directory `.
+/// A turn prints the lines of its acts, and besides these only lines that begin with `directory `.
 #[tactic(auto, using(crate::proofs::TurnLemmas::Printed::turns_print_their_acts))]
 pub fn turns_print_their_acts()
     ensures { TurnsPrintTheirActs }
 {}
 
-/// What a turn leaves in hand at a failed write has no message that tells of players.
+/// What a turn leaves undone at a failed write has no message about players.
 pub fn turns_leave_no_player()
     ensures { TurnsLeaveNoPlayer }
 {}

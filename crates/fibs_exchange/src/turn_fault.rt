@@ -1,4 +1,4 @@
-//! Why a part of a turn goes no further.
+//! Why a part of a turn stopped.
 ghost use Rattle.std.specs.Prelude.{◌≡◌};
 ghost use Rattle.fibs_exchange.specs.declared.turn_fault.TurnFault.TheVariants.{Stream, Output};
 

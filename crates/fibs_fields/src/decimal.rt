@@ -164,8 +164,8 @@ fn two_bytes(first: u8, last: u8) -> Option<i64>
     }
 }
 
-/// The number of a canonical decimal of any length. One that is too large for any field is cut off at a number that is
-/// so too.
+/// The number of a canonical decimal of any length. A number that is too large for any field is replaced by another
+/// one that is too large for any.
 #[inline(never)]
 fn long_decimal(text: &[u8]) -> Option<i64>
     ensures { result ≡ option_map capped (decimal_value text.now) }

@@ -15,7 +15,7 @@ pub fn faults_are_themselves(a: Fault, b: Fault) -> bool
     a == b
 }
 
-/// Two wrong fields are equal exactly if they have one number and one fault.
+/// Two wrong fields are equal exactly if their numbers and their faults are.
 pub fn field_faults_are_their_parts(a: &FieldFault, b: &FieldFault) -> bool
     ensures { IsTrue result ↔ (a.now ≡ b.now) }
 {

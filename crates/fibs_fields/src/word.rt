@@ -1,4 +1,4 @@
-//! The parts of a message that are no names.
+//! The parts of a message that are not names.
 
 ghost use Rattle.std.specs.Prelude.{◌≡◌, ◌==◌, ◌↔◌, codes, not, true, IsTrue, IsSome, IfSome};
 ghost use Rattle.std.specs.List.{list_all};

@@ -1,4 +1,4 @@
-//! Why a front end goes no further.
+//! Why a front end stopped.
 ghost use Rattle.std.specs.Prelude.{◌≡◌};
 ghost use Rattle.fibs_front.specs.declared.fault.FrontFault.TheVariants.{Output};
 ghost use Rattle.fibs_engine.specs.declared.fault.EngineFault.TheVariants.{Device};
@@ -7,7 +7,7 @@ use fibs_engine::fault::EngineFault;
 use fibs_engine::writing::Broken;
 use thiserror::Error;
 
-/// Why a front end goes no further.
+/// Why a front end stopped.
 #[derive(Clone, Copy, Debug, PartialEq, Eq, Error)]
 pub enum FrontFault {
     /// What was to be printed could not be written.

@@ -8,10 +8,10 @@ use crate::said::Said;
 
 /// A front end: everything that happens is reported to it, one thing after another.
 pub trait Front {
-    // From the one the other has come by being told these things, in this order.
+    // From the first state it has come to the second as these things were reported, in this order.
     ghost tells: { Self → List SaidValue → Self → Type 0 };
 
-    /// Tells one thing.
+    /// Reports one thing.
     fn tell(&mut self, said: &Said<'_>) -> Result<(), FrontFault>
         ensures { OnOk result (tells self.old (said_of said.now ∷ []) self.new) };
 

@@ -13,7 +13,7 @@ use fibs_lines::{LIMIT, Line};
 use fibs_messages::Reading;
 use std::io::Write;
 
-/// How many bytes a line of the server has mostly, and a board always: no more than these.
+/// Most lines of the server have at most so many bytes, and every board has.
 const SHORT_LINE: usize = 512;
 
 /// Room for such a line as it is printed, with its line end: after `message ` each of its bytes may be escaped.
@@ -42,7 +42,7 @@ fn append_said<const N: usize>(
     }
 }
 
-/// Appends a line: of one that was cut the kept bytes.
+/// Appends a line: if it was cut, its kept bytes.
 fn append_kept<const N: usize>(
     line: &Line<'_>,
     reading: &Reading<'_>,

@@ -21,8 +21,8 @@ use std::io::Write;
 /// The line of a player: a name has at most 64 bytes.
 type PlayerLine = ArrayVec<u8, 128>;
 
-/// A front end that prints a line for each thing that it is told. It prints none for a connection that is made or for a
-/// line that is sent as it is, and no reason if no connection can be made.
+/// A front end that prints a line for each thing that is reported to it. It prints none for a connection that is made
+/// or for a line that is sent as it is, and no reason if no connection can be made.
 #[derive(Drop)]
 pub struct Plain<'a, W: Write> {
     /// Where it prints.

@@ -17,7 +17,7 @@ pub enum Said<'a> {
     Heard(&'a Line<'a>, &'a Reading<'a>),
     /// The phase of the board that the line says.
     Phase(Phase),
-    /// The board is shown after this decision, which waited for it.
+    /// The board confirms this decision, which waited for it.
     Confirmed(&'a Outstanding),
     /// A command was sent.
     Sent(&'a CommandText),

@@ -1,4 +1,4 @@
-//! What a line is that the user types.
+//! What a line that the user types is.
 ghost use Rattle.std.specs.Prelude.{◌≡◌};
 ghost use Rattle.fibs_session.specs.History.Machine.{Talk, shown_now};
 ghost use Rattle.fibs_session.specs.Calls.Standing.{StandsAfter};
@@ -81,7 +81,7 @@ fn is_known(typed: &Typed<'_>) -> bool
 }
 
 /// Whether a typed line is a decision at the board shown, a plain command, or a standing order or its withdrawal. Any
-/// other is reported as unknown.
+/// other line is reported as unknown.
 pub fn is_command(client: &Client, text: &[u8]) -> bool
     ensures { (t : Talk) → StandsAfter client.now t → result ≡ is_command (typed_now t text.now) }
 {

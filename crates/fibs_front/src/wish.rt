@@ -13,7 +13,7 @@ pub enum Wish {
     Players,
     /// To end.
     Quit,
-    /// Nothing that can be: the line is too long.
+    /// Nothing that can be done: the line is too long.
     TooLong,
     /// To hear the server.
     Listen,

@@ -1,4 +1,4 @@
-//! The words by which a front end is asked.
+//! Front ends at which a player types.
 ghost use Rattle.std.specs.Prelude.{◌≡◌, OnOk, IfOk, List, [], ℕ, refl};
 ghost use Rattle.fibs_front.specs.Wishes.{WishValue, wish_value, wish_of};
 
@@ -10,7 +10,7 @@ use crate::wish::{Wish, wish_of};
 use fibs_session::{Client, Directory};
 use std::io::Write;
 
-/// A front end at which one types: it says what a typed line asks for.
+/// A front end at which a player types: it says what a typed line asks for.
 pub trait Words: Front {
     // What a typed line may ask for.
     ghost asks: { Self → List ℕ → WishValue → Type 0 };

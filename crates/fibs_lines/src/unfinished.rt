@@ -15,7 +15,7 @@ pub(crate) const ROOM: usize = LIMIT + 1;
 
 /// What is kept of the stream since its last line end.
 ///
-/// A CR, the limit and the prompts are looked at when the line ends, and not before.
+/// A CR, the limit and the prompts are dealt with when the line ends, and not before.
 #[derive(Drop)]
 pub(crate) struct Unfinished {
     pub(crate) telnet: Telnet,

@@ -1,16 +1,16 @@
-//! A connection whose other end is gone without a word is seen to be over.
+//! TCP keep-alive: a connection whose other end has gone silently is found to be over.
 ghost use Rattle.libc.specs.Net.{SockOption};
 
 use libc::net as c;
 use std::os::fd::RawFd;
 
-/// After how many quiet seconds the other end is asked whether it is there.
+/// After how many quiet seconds the system probes the other end.
 const QUIET_SECONDS: i32 = 60;
 
-/// How many seconds there are between two questions.
+/// How many seconds there are between two probes.
 const BETWEEN_SECONDS: i32 = 15;
 
-/// After how many questions without an answer the connection is over.
+/// After how many probes without an answer the connection is over.
 const QUESTIONS: i32 = 4;
 
 /// Sets an option of a socket to a number. If it can't be set it stays as it is.
@@ -22,7 +22,7 @@ fn set(fd: RawFd, level: i32, name: i32, number: i32)
     let _done = unsafe { c::setsockopt(fd, level, name, &value, 4) };
 }
 
-/// Asks for these questions, so that a connection without another end is over within two minutes.
+/// Asks for these probes, so that a connection whose other end is gone is over within two minutes.
 pub fn keep_alive(fd: RawFd) {
     set(fd, c::IPPROTO_TCP, c::TCP_KEEPIDLE, QUIET_SECONDS);
     set(fd, c::IPPROTO_TCP, c::TCP_KEEPINTVL, BETWEEN_SECONDS);

@@ -42,7 +42,7 @@ pub struct Server<'a, N: Net<Stream = TcpStream>> {
 }
 
 impl<'a, N: Net<Stream = TcpStream>> Server<'a, N> {
-    /// The server at this place.
+    /// The server at a place, over a net.
     pub fn new(net: &'a N, place: Place<'a>) -> Server<'a, N> {
         Server { net, place }
     }

@@ -16,7 +16,7 @@ const SENT: &[u8] = b"> ";
 const SENT_ROOM: usize = 4200;
 
 /// A stream with a log: each line as it came, without telnet's commands and prompts, and after `> ` each
-/// line that was sent, but for the first, which is the login. A log that can't be written any more is left as it is.
+/// line that was sent, but for the first, which is the login. A log that can no longer be written is left as it is.
 #[derive(Drop)]
 pub struct Logged<S: Link + Drop, W: Write + Drop> {
     stream: S,
@@ -55,7 +55,7 @@ impl<S: Link + Drop, W: Write + Drop> Logged<S, W> {
         }
     }
 
-    /// Keeps the lines that more bytes end which were sent.
+    /// Keeps the lines that end in more bytes that were sent.
     fn keep_sent(&mut self, bytes: &[u8]) {
         for byte in bytes {
             match *byte {
@@ -122,7 +122,7 @@ pub fn open(rt: &HostRuntime, path: &str) -> io::Result<File> {
     OpenOptions::new().append(true).create(true).open(rt, path)
 }
 
-/// A server of whose connections a log is kept, if one is asked for.
+/// A server whose connections have a log, if one is asked for.
 #[derive(Drop)]
 pub struct LoggedServer<'a, D: Dial + Drop> {
     server: D,

@@ -8,10 +8,10 @@ use std::io;
 use std::io::{ErrorKind, Read, Write};
 use std::net::{Net, TcpStream};
 
-/// How often a server is read before what was typed meanwhile is looked at.
+/// How often a server is read before the program looks at what was typed meanwhile.
 const READS_AT_ONCE: u32 = 64;
 
-/// For how many milliseconds a server is waited for that asks for the login: it was sent, and the answer is on its way.
+/// How many milliseconds to wait for a server that asks for the login: it was sent, and the answer is on its way.
 const LOGIN_MILLIS: u64 = 2000;
 
 /// What a server prints when it waits for a login.
@@ -98,7 +98,7 @@ impl<S: Link + Drop> Link for Paced<S> {
     }
 }
 
-/// Whether a read was answered by nothing.
+/// Whether a read gave nothing.
 fn is_quiet(kind: ErrorKind) -> bool {
     kind == ErrorKind::WouldBlock || kind == ErrorKind::TimedOut
 }

@@ -32,8 +32,8 @@ fn layers_below()
     fibs_history::laws::a_due_order_says();
 }
 
-/// After every list of events that may be, from every good first board on and for every login, the headline holds.
-/// Beside it: the server of the world never meets a stale line.
+/// After every list of events none of which is refused, from every good first board on and for every login, the
+/// headline holds. Also, the server of the world never meets a stale line.
 pub fn headline()
     ensures headline { HeadlineHolds }
     ensures stale { NothingServedIsStale }
@@ -50,8 +50,8 @@ pub fn joint_statement()
     layers_below();
 }
 
-/// While the user decides on the server's board, an event that is accepted leaves that board, or one decision takes
-/// effect on it, and the board becomes another game.
+/// While the user decides on the server's board, an event that is accepted leaves that board as it is, or one decision
+/// takes effect on it, and the board becomes one of another game.
 pub fn one_step()
     ensures { OneStep }
 {
@@ -59,8 +59,8 @@ pub fn one_step()
     fibs_position::laws::effect_is_good();
 }
 
-/// Over every list of events no two decisions take effect on one game, on whatever connections, unless a board of the
-/// server's own comes between them.
+/// Over every list of events no two decisions take effect on boards of the same game, on whatever connections, unless a
+/// board of the server's own comes between them.
 pub fn once()
     ensures { OnceHolds }
 {

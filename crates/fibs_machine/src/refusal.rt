@@ -1,4 +1,4 @@
-//! Why an event may not be.
+//! Why an event is refused.
 
 ghost use Rattle.std.specs.Prelude.{◌≡◌, Some};
 ghost use Rattle.fibs_machine.specs.declared.refusal.WorldRefusal.TheVariants.{Memory};
@@ -6,8 +6,8 @@ ghost use Rattle.fibs_machine.specs.declared.refusal.WorldRefusal.TheVariants.{M
 use std::alloc::AllocError;
 use std::fmt;
 
-/// Why an event may not be. Of several the first of the event's line is named, and `Memory` only
-/// if no other holds.
+/// Why an event is refused. Of several reasons the first of the event's line is named, and `Memory` only if no other
+/// holds.
 #[derive(Clone, Copy, Debug, PartialEq, Eq)]
 pub enum WorldRefusal {
     /// There was no memory for what the event adds.

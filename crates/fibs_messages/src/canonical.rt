@@ -82,7 +82,7 @@ fn tail_len(text: &[u8]) -> Option<usize>
     Some(text.len())
 }
 
-/// How long the text is that ends a line. An empty one is printed without its space.
+/// How long the text that ends a line is. An empty text is printed without its space.
 fn text_len(text: &[u8]) -> Option<usize>
     ensures { IfSome result (λ len. Begins a_text text.now len) }
 {
@@ -202,7 +202,7 @@ fn all_stand(kinds: &[FieldKind], fields: Option<&[u8]>) -> bool
 /// The canonical line of the message that a line says, if that is the line itself, or the line without the spaces
 /// at its end, and is seen to be so at once: no message is made of it.
 ///
-/// None promises nothing.
+/// None says nothing about the line.
 pub fn canonical_line(line: &[u8]) -> Option<&[u8]>
     ensures { IfSome result (λ text. (m : MessageValue) × MessageText m line.now × (text.now ≡ canonical m)) }
 {

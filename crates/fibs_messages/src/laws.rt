@@ -42,7 +42,7 @@ pub fn who_infos_are_their_fields(a: &WhoInfo<'_>, b: &WhoInfo<'_>) -> bool
     *a == *b
 }
 
-/// Two messages are equal exactly if they have one number and the same fields.
+/// Two messages are equal exactly if they have the same number and the same fields.
 pub fn messages_are_their_fields(a: &Message<'_>, b: &Message<'_>) -> bool
     ensures { IsTrue result ↔ (message_of a.now ≡ message_of b.now) }
 {
@@ -95,7 +95,7 @@ pub fn flags_are_the_fields()
     ensures { (info : OwnInfo) → FlagsAreTheFields info }
 {}
 
-/// The canonical line of a message says it, and messages with one canonical line are one.
+/// The canonical line of a message says it, and messages with the same canonical line are equal.
 pub fn canonical_lines_say_messages()
     ensures says { (m : MessageValue) → IsMessage m → MessageText m (canonical m) }
     ensures tells { (l m : MessageValue) → IsMessage l → IsMessage m → canonical l ≡ canonical m → l ≡ m }

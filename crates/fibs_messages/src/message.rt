@@ -75,7 +75,7 @@ pub struct WhoInfo<'a> {
     pub hostname: Word<'a>,
     /// The program that the player uses, `-` if it is not known.
     pub client: Word<'a>,
-    /// The address of mail, `-` for none.
+    /// The email address, `-` for none.
     pub email: Tail<'a>,
 }
 

@@ -170,7 +170,7 @@ fn append_whole(out: &mut Vec<u8>, message: &Message<'_>) -> Result<(), AllocErr
 /// Appends the canonical line of a message, without a line end: its number, and each field after one space. A rating
 /// has two digits after its point; an empty text is written as nothing, without its space.
 ///
-/// A refusal of memory leaves `out` as it was.
+/// If memory runs out, `out` stays as it was.
 pub fn print_message(
     _alloc: Global,
     message: &Message<'_>,

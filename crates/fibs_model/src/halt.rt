@@ -6,7 +6,7 @@ use fibs_carrier::Broken;
 use fibs_machine::WorldRefusal;
 use std::alloc::AllocError;
 
-/// Why an event that may be is not done.
+/// Why an event that is not refused is not done.
 #[derive(Clone, Copy, Debug, PartialEq, Eq)]
 pub(crate) enum Halt {
     /// There was no memory for what the event adds.
@@ -38,7 +38,7 @@ impl From<Broken> for Halt {
 /// Why an event is not done.
 #[derive(Clone, Copy, Debug, PartialEq, Eq)]
 pub enum Stop {
-    /// The event may not be, or there was no memory for what it adds.
+    /// The event is refused, or there was no memory for what it adds.
     Refused(WorldRefusal),
     /// The carrier failed.
     Broken,

@@ -7,6 +7,6 @@ use fibs_machine::WorldRefusal;
 pub struct RunEnd {
     /// The events that were accepted, all of them before the one that was not.
     pub done: usize,
-    /// Why the next event may not be; None if all were accepted.
+    /// Why the next event is refused; None if all were accepted.
     pub refusal: Option<WorldRefusal>,
 }

@@ -22,7 +22,7 @@ fn two_digits(filler: u8, n: u8) -> [u8; 2]
     [first, b'0' + n % 10]
 }
 
-/// What is seen of `n` checkers at a height.
+/// What is drawn of `n` checkers at a height.
 fn level(letter: u8, n: u8, height: u8) -> Cell
     requires { n < 100 }
     ensures { result ≡ level letter n height }
@@ -37,7 +37,7 @@ fn level(letter: u8, n: u8, height: u8) -> Cell
     [b' ', letter, b' ']
 }
 
-/// What is seen at a height of a place with so many checkers of the player, or so many of the opponent.
+/// What is drawn at a height of a place with so many checkers of the player, or so many of the opponent.
 pub fn stack(own: u8, other: u8, height: u8) -> Cell
     requires own { own < 100 }
     requires other { other < 100 }

@@ -11,7 +11,7 @@ use fibs_position::{Direction, Position};
 use std::io;
 use std::io::Write;
 
-/// What is seen at a height of a place.
+/// What is drawn at a height of a place.
 #[tactic(auto, unfolding(crate::specs::Picture::stands))]
 fn draw_place<W: Write>(position: &Position, height: u8, place: u8, out: &mut W) -> io::Result<()>
     requires low { 1 ≤ place }
@@ -25,7 +25,7 @@ fn draw_place<W: Write>(position: &Position, height: u8, place: u8, out: &mut W)
     )
 }
 
-/// What is seen at a height of six places.
+/// What is drawn at a height of six places.
 #[tactic(auto, unfolding(crate::specs::Picture::stacks))]
 fn draw_places<W: Write>(
     position: &Position,
@@ -47,7 +47,7 @@ fn draw_places<W: Write>(
     draw_place(position, height, half.along(first, 5), out)
 }
 
-/// What is seen at a height of a bar.
+/// What is drawn at a height of a bar.
 fn draw_bar<W: Write>(position: &Position, half: Half, height: u8, out: &mut W) -> io::Result<()>
     ensures { OnOk result (Appends (W.contents out.old) (W.contents out.new)
         (bar (position_value position.now).standing.checkers half height)) }

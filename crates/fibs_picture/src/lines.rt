@@ -20,7 +20,7 @@ use fibs_position::Position;
 use std::io;
 use std::io::Write;
 
-/// What FIBS writes for the length of a match without end.
+/// What FIBS writes for the length of an unlimited match.
 const UNLIMITED: i32 = 9999;
 
 /// An edge, and beside it a letter and a name.

@@ -88,7 +88,7 @@ fn deed(phase: Phase, accepts: bool, doubles: bool) -> &'static [u8]
     }
 }
 
-/// Nothing speaks against a decision of the player.
+/// There is no reason against a decision of the player.
 fn may(position: &Position, decision: &Decision) -> bool
     ensures { result ≡ may (position_value position.now) (decision_of decision.now) }
 {

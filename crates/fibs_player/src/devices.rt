@@ -24,11 +24,11 @@ use std::net::{Net, TcpListener, TcpStream};
 use std::os::fd::AsRawFd;
 use std::time::Duration;
 
-/// For how many milliseconds a server is to be quiet before the next line is read at a terminal, since the wait for
-/// what comes next hears the server too.
+/// How many milliseconds a server has to be quiet before the next line is read at a terminal. It is short, since the
+/// server is also heard while the program waits for that line.
 const TERMINAL_MILLIS: u64 = 20;
 
-/// How many bytes of a password's line are read: more than any has that is taken.
+/// How many bytes of a password's line are read: more than a valid password has.
 const MOST_PASSWORD: u64 = 4098;
 
 /// What is printed if the password file can't be read.

@@ -11,7 +11,7 @@ use fibs_lines::{Line, Lines};
 use fibs_messages::{Reading, read};
 use std::io::Read;
 
-/// What a line is. One that was cut is a text.
+/// What a line is. A line that was cut is a text.
 fn reading<'a>(line: &Line<'a>) -> Reading<'a> {
     if line.cut {
         return Reading::Text(line.bytes);
@@ -39,7 +39,7 @@ fn tell_portion<F: Front>(
 }
 
 /// Reports each line that is read to a front end, up to the reader's end, and answers how many bytes follow the last
-/// line end. It reads at most so often, and at most 1024 bytes at once.
+/// line end. It reads at most `reads` times, and at most 1024 bytes at once.
 ///
 /// Errors: `Device` if a read fails, the reader does not end, or the front end fails.
 pub fn show_on<R: Read, F: Front>(

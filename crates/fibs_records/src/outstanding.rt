@@ -17,7 +17,7 @@ pub struct OutstandingRecord {
     pub decision: DecisionRecord,
 }
 
-/// Tells a decision with its board.
+/// Writes a decision with its board.
 pub fn put_outstanding(out: &mut OutstandingRecord, told: &Outstanding)
     ensures { IsAskAs out.new (ask_of told.now) }
 {

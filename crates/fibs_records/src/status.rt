@@ -1,7 +1,7 @@
 //! What a call answers: 0, or why it did not do it.
 //!
-//! A status is a family's hundred and the number of the refusal or fault in it. The family 0 are the client's refusals,
-//! so that these are by their own numbers.
+//! A status is the sum of a family's hundred and the number of the refusal or fault. The client's refusals are the
+//! family 0, so that they have their own numbers.
 
 ghost use Rattle.std.specs.Prelude.{◌≡◌, ◌+◌, ◌/◌, ◌%◌};
 ghost use Rattle.fibs_commands.specs.PlainFaults.{plain_fault_number};
@@ -25,19 +25,19 @@ pub const DONE: u32 = 0;
 /// No board on which the user plays was shown, as a client refuses a decision then.
 pub const NO_BOARD: u32 = 5;
 
-/// What is not allowed on a board is named by the numbers of the client's refusals, which are this above its own.
+/// Reasons for which a board does not allow a decision have the numbers of the client's refusals: their own plus this.
 const DISALLOWED: u32 = 6;
 
-/// The faults of a plain command and of a login are above this.
+/// The faults of a plain command and of a login are this plus their number.
 const PLAIN_FAULTS: u32 = 100;
 
-/// The faults of a board that has no position are above this.
+/// The faults of a board that has no position are this plus their number.
 const POSITION_FAULTS: u32 = 200;
 
-/// The faults of a field are above this.
+/// The faults of a field are this plus their number.
 const FIELD_FAULTS: u32 = 300;
 
-/// The faults of a directory are above this.
+/// The faults of a directory are this plus their number.
 const DIRECTORY_FAULTS: u32 = 400;
 
 /// Memory ran out, in whatever call.
@@ -52,10 +52,10 @@ pub const HELD: u32 = 502;
 /// The room is too short.
 pub const SHORT: u32 = 503;
 
-/// What was given is no decision.
+/// The record is not a decision.
 pub const NO_DECISION: u32 = 504;
 
-/// The text is no command.
+/// The text is not a command.
 pub const NO_COMMAND: u32 = 505;
 
 /// There is no field of this number.

@@ -24,7 +24,7 @@ fn read_count(text: &[u8]) -> Option<usize>
     Some(count as usize)
 }
 
-/// The number of a die. Which numbers are dice is not said by the line.
+/// The number of a die. The line does not say which numbers are dice.
 fn read_die(text: &[u8]) -> Option<u8>
     ensures { result ≡ decimal_up_to 255 text.now }
 {

@@ -12,7 +12,7 @@ use std::alloc::Global;
 use std::io::Read;
 
 /// Reads a script to the reader's end, in reads of at most as many bytes as `portion` has room for. None if it has
-/// more than 1,048,576 bytes: of those it reads no more than it needs to know it.
+/// more than 1,048,576 bytes: then it stops as soon as it knows that.
 ///
 /// Each read but the last gives a byte, so there are at most 1,048,577.
 pub fn read_script<R: Read>(

@@ -118,8 +118,8 @@ impl Entry {
         }
     }
 
-    /// The entry of a line that the client heard. Whatever was noted before it, just this is noted of it, and after
-    /// it, if a standing order rolls at it, the roll (`of_roll`).
+    /// The entry of a line that the client heard. Whatever was noted before it, only this is noted of it, and
+    /// after it, if a standing order rolls at it, the roll (`of_roll`).
     pub fn of_reading(conn: usize, reading: &Reading<'_>) -> Option<Entry>
         ensures { (before : List L.Entry) → (heard conn before (reading_of reading.now)).entries
             ≡ entries_of result ++ roll_entries conn (reading_of reading.now)

@@ -4,7 +4,7 @@ use fibs_messages::Board;
 use fibs_position::Decision;
 use fibs_session::Plain;
 
-/// What may happen in the world, with all that is chosen in it. `WorldRefusal` says what may not be.
+/// What may happen in the world, with all that is chosen in it. `WorldRefusal` says why an event is refused.
 #[derive(Clone, Copy, Debug, PartialEq, Eq)]
 pub enum Event<'a> {
     /// The client opens a connection; its login goes on the new connection's wire.
@@ -22,7 +22,7 @@ pub enum Event<'a> {
     Serve {
         /// The connection, from 1.
         conn: usize,
-        /// The dice, should the line be a roll.
+        /// The dice, if the line is a roll.
         dice: [u8; 2],
     },
     /// The server's board becomes this one, and is sent.

@@ -75,7 +75,7 @@ impl Served {
 ///
 /// Connections are numbered from 1. The first line of a connection is its login; from then on nothing of an older
 /// connection is served. Every later line that is a decision in the numbers of the board is carried out if `effect`
-/// carries it out. What is sent to the connections is not the server's: see `fibs_machine::laws::headline`.
+/// carries it out. The world, and not the server, sends on the connections.
 #[derive(Drop)]
 pub struct Server {
     board: Board,

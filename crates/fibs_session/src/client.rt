@@ -43,11 +43,11 @@ use std::marker::Model;
 /// sent.
 ///
 /// It opens and loses connections with `open` and `lose`; `feed` takes what the server sends, `decide`, `plain`,
-/// `order_roll` and `withdraw_roll` what the user says. What it answers is a function of what has happened alone. No
-/// call takes memory.
+/// `order_roll` and `withdraw_roll` what the user says. Its answers are a function only of what has happened. No call
+/// takes memory.
 ///
-/// A proof of a caller learns nothing of the client after `feed`, whose answer borrows it: such a caller takes the two
-/// halves of `feed`, `read` and then `got`.
+/// The answer of `feed` borrows the client, and after that the proof of a caller learns nothing of the client. A caller
+/// with a contract calls the two halves of `feed`, `read` and then `got`.
 #[derive(Drop)]
 pub struct Client {
     lines: Lines,
@@ -125,8 +125,8 @@ impl Client {
     }
 
     /// Gives a standing order to roll, which is in force until it is withdrawn or the connection ends. It hands out
-    /// nothing itself: `feed` then hands out `roll` at each board at which it is due. When it is due, and refused as by
-    /// `Session::order_roll`.
+    /// nothing itself: `feed` then hands out `roll` at each board at which it is due. `Session::order_roll` says when
+    /// it is due, and when it is refused.
     pub fn order_roll(&mut self) -> Result<(), Refusal>
         ensures does { Does self.old self.new Order [] }
         ensures refusal { (t : Talk) → StandsAfter self.old t → result_err result ≡ order_refusal t.log }

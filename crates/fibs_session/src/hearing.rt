@@ -51,7 +51,7 @@ impl Reply {
     }
 }
 
-/// The reading of a line. One that was cut is a text.
+/// The reading of a line. A line that was cut is a text.
 pub(crate) fn read_line<'a>(line: &Line<'a>) -> Reading<'a>
     ensures { reading_of result ≡ line_reading (value_of line.now) }
 {
@@ -67,7 +67,7 @@ pub(crate) fn read_line<'a>(line: &Line<'a>) -> Reading<'a>
 pub(crate) fn is_unheard(line: &Line<'_>) -> bool
     ensures { result ≡ true → (v : SessionValue) → line_fields v (line_reading (value_of line.now)) ≡ unheard v }
 {
-    // A board line is the longest, and has no number to be looked for.
+    // A board line is the longest, and there is no number to look for.
     if line.cut || is_board_line(line.bytes) {
         return false;
     }
@@ -152,7 +152,7 @@ impl Session {
     }
 
     /// A board that has a position was heard. It is shown and confirms, and only then is the standing order asked: a
-    /// decision that it confirms waits no longer.
+    /// decision that it confirms no longer waits.
     #[inline(always)]
     fn note_shown(&mut self, heard: &ShownBoard) -> Reply
         ensures fields { let v = with_board (session_of self.old) (fields_of heard.now.board) in

@@ -1,4 +1,4 @@
-//! What a line asks for that is typed at a terminal.
+//! What a line that is typed at a terminal asks for.
 ghost use Rattle.std.specs.Prelude.{IfOk};
 ghost use Rattle.fibs_front.specs.Wishes.{wish_value};
 ghost use Rattle.fibs_terminal.specs.Asking.{AsksInBounds, KnownStays, SendsUntaken};
@@ -79,7 +79,7 @@ fn set_line(line: &mut TypedLine, bytes: &[u8]) {
 }
 
 impl<'a, C: Clock + Drop> Screen<'a, C> {
-    /// What a line asks for. It is spelled out, if the client does not know it as it is.
+    /// What a line asks for. It is respelled if the client does not know it as it is.
     pub(crate) fn wish(
         &mut self,
         client: &Client,
@@ -103,7 +103,7 @@ impl<'a, C: Clock + Drop> Screen<'a, C> {
         self.wish_unknown(client, directory, line)
     }
 
-    /// What a line asks for that the client does not know.
+    /// What a line that the client does not know asks for.
     fn wish_unknown(
         &mut self,
         client: &Client,
@@ -132,7 +132,7 @@ impl<'a, C: Clock + Drop> Screen<'a, C> {
         }
     }
 
-    /// Spells a line out, if the client then knows it, or if it then begins with a word of the terminal.
+    /// Respells a line, if the client then knows it, or if it then begins with a word of the terminal.
     fn spell(&mut self, client: &Client, line: &mut TypedLine) -> Result<(), AllocError> {
         if is_own(line.as_slice()) {
             return Ok(());
@@ -204,7 +204,7 @@ impl<'a, C: Clock + Drop> Screen<'a, C> {
         }
     }
 
-    /// Keeps the words of a player from the screen.
+    /// Hides what a player says.
     fn gag(&mut self, name: &[u8]) -> Result<(), AllocError> {
         if self.memory.gag(self.alloc, name)? {
             self.say(name)?;
@@ -214,7 +214,7 @@ impl<'a, C: Clock + Drop> Screen<'a, C> {
         }
     }
 
-    /// Shows the words of a player again.
+    /// Shows again what a player says.
     fn ungag(&mut self, name: &[u8]) -> Result<(), AllocError> {
         if self.memory.ungag(name) {
             append_shown(name, self.settings.utf8, &mut self.text)?;
@@ -224,7 +224,7 @@ impl<'a, C: Clock + Drop> Screen<'a, C> {
         }
     }
 
-    /// Keeps shouts from the screen, and who comes and goes, or shows them again.
+    /// Hides shouts, and who comes and goes, or shows them again.
     fn set_quiet(&mut self, quiet: bool) -> Result<(), AllocError> {
         self.memory.quiet = quiet;
         if quiet {

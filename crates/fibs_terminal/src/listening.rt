@@ -1,4 +1,4 @@
-//! What a terminal says of what the server sends.
+//! What a terminal shows of what the server sends.
 
 use crate::screen::Screen;
 use fibs_fields::name::Name;
@@ -111,7 +111,8 @@ impl<'a, C: Clock + Drop> Screen<'a, C> {
         self.show_row(bytes)
     }
 
-    /// Whether a message is kept from the screen: its player is gagged, or it is a shout or a coming while it is quiet.
+    /// Whether a message is hidden: its player is gagged, or the screen is quiet and it is a shout, a login or a
+    /// logout.
     fn is_kept(&self, message: &Message<'_>) -> bool {
         match message {
             Message::Shouts { name, .. }

@@ -1,4 +1,4 @@
-//! What a terminal remembers: what is the screen's alone.
+//! What a terminal remembers: only what the client does not know.
 
 use fibs_boards::board::Board;
 use fibs_fields::name::Name;
@@ -19,7 +19,7 @@ pub struct Memory {
     pub advised: bool,
     /// Whether the next board is to be drawn whole, since the user has asked for it.
     pub asked: bool,
-    /// Whether shouts are kept from the screen, and who comes and goes.
+    /// Whether shouts are hidden, and who comes and goes.
     pub quiet: bool,
     /// The board that was drawn last.
     pub drawn: Option<Board>,
@@ -37,7 +37,7 @@ pub struct Memory {
     pub said: Vec<u8>,
     /// Which rule the move breaks that was typed last, if it breaks one.
     pub rule: Vec<u8>,
-    /// Whose words are kept from the screen.
+    /// The players whose words are hidden.
     pub gagged: Vec<Vec<u8>>,
 }
 
@@ -78,7 +78,7 @@ impl Memory {
         self.said.clear();
     }
 
-    /// Whether the words of a player are kept from the screen.
+    /// Whether the words of a player are hidden.
     pub fn is_gagged(&self, name: &[u8]) -> bool {
         for gagged in &self.gagged {
             if gagged.as_slice() == name {
@@ -88,7 +88,7 @@ impl Memory {
         false
     }
 
-    /// Keeps the words of a player from the screen. False if it is no name.
+    /// Hides the words of a player. False if it is not a name.
     pub fn gag(&mut self, alloc: Global, name: &[u8]) -> Result<bool, AllocError> {
         if Name::new(name).is_none() {
             return Ok(false);

@@ -79,7 +79,7 @@ fn height_of(row: usize) -> usize {
     }
 }
 
-/// Whether the checker that is seen at a height of a place has come there by the opponent's last move: those that have
+/// Whether the checker that is drawn at a height of a place has come there by the opponent's last move: those that have
 /// come are the innermost ones.
 fn has_come(place: u8, row: usize, position: &Position, came: &Came) -> bool {
     if place < 1 || place > 24 {
@@ -101,7 +101,7 @@ enum Mark {
     None,
 }
 
-/// The mark of a byte: a checker of the player's on a place, or a die of his, or a checker that has come.
+/// The mark of a byte: a checker of the player on a place, a die of the player, or a checker that has come.
 fn mark_of(
     byte: u8,
     row: usize,

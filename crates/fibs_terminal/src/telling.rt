@@ -75,7 +75,7 @@ impl<'a, C: Clock + Drop> Screen<'a, C> {
         self.say(b"; open tries again\n")
     }
 
-    /// What the server has answered to a decision counts no more.
+    /// What the server has answered to a decision no longer counts.
     fn forget_answer(&mut self) {
         self.memory.answered = false;
         self.memory.advised = false;

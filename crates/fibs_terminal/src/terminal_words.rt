@@ -1,4 +1,4 @@
-//! A terminal is typed at.
+//! A terminal at which a player types.
 ghost use Rattle.std.specs.Prelude.{OnOk, IfOk};
 ghost use Rattle.fibs_front.specs.Wishes.{wish_value};
 ghost use Rattle.fibs_terminal.specs.Asking.{AsksInBounds, KnownStays, SendsUntaken};
@@ -20,7 +20,7 @@ impl<W: Write + Drop, C: Clock + Drop> Words for Terminal<'_, W, C> {
 
     fn rest(&mut self, client: &Client, _directory: &Directory) -> Result<(), FrontFault>
         ensures told { OnOk result (Grown (W.contents self.old.out) (W.contents self.new.out)) }
-        // What it says may be typed is so, by the history.
+        // It names only what the client takes, by the history.
         ensures hint { OnOk result (ShowsOffers client.now self.old.screen.memory
             (W.contents self.old.out) (W.contents self.new.out)) }
     {

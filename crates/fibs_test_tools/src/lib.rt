@@ -1,4 +1,4 @@
-//! What the tests of the engines share: text without memory, streams and devices of memory, and what an engine came to.
+//! What the tests of the engines share: text without memory, streams and devices in memory, and how an engine ended.
 #![tactic(auto)]
 
 pub mod devices;

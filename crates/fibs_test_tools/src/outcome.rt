@@ -1,4 +1,4 @@
-//! What an engine comes to, for the tests.
+//! How an engine ends, for the tests.
 
 use crate::text::{Text, text_of};
 use fibs_engine::fault::EngineFault;

@@ -1,4 +1,4 @@
-//! A stream in memory that tells its bytes, for the tests.
+//! A stream in memory, whose bytes the prover knows, for the tests.
 ghost use Rattle.std.specs.Prelude.{◌≡◌, Some, []};
 ghost use Rattle.std.specs.Io.{ReadsAtMost, WritesAtMost};
 ghost use Rattle.std.specs.Io.KnownBytes.{ReadConsumes, WriteAppends};

@@ -111,7 +111,7 @@ impl TypedLines {
         Ok(found)
     }
 
-    /// The same, and one byte more of the line may be kept.
+    /// The same; one byte more of the line may be kept.
     fn read_to_end<R: Read>(
         &mut self,
         reader: &mut R,

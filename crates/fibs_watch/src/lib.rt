@@ -1,5 +1,5 @@
-//! The seat of a person at a terminal: the server is heard while nothing is typed. If it speaks while no line is begun,
-//! an empty line is put in.
+//! The server is heard while a person types nothing at a terminal: if it speaks while no line is begun, an empty line
+//! is inserted.
 #![tactic(auto)]
 
 pub mod laws;

@@ -9,7 +9,7 @@ use std::io::BufRead;
 
 /// The first line of what a reader gives, with a line end, whether or not it has one.
 ///
-/// No more than that line is taken of the reader. Errors: those of the reader, and that memory runs out.
+/// It reads no more than that line. Errors: those of the reader, and if memory runs out.
 #[tactic(auto, using(crate::proofs::FirstLineLemmas::before_through))]
 pub fn first_line<R: BufRead>(alloc: Global, source: &mut R) -> io::Result<Vec<u8>>
     ensures { IfOk result (λ line.

@@ -106,7 +106,7 @@ pub fn typed_move(text: &[u8], direction: Direction) -> Option<Play> {
     Some(play)
 }
 
-/// The step among some from a place, that goes no further than another place, which is not yet used.
+/// The step among some that starts at a place, goes no further than another place, and is not used yet.
 fn next_step(steps: &[Step], used: &[bool; MOST_STEPS], source: u8, target: u8) -> Option<usize> {
     for place in 0..steps.len().min(MOST_STEPS) {
         if !used[place] && steps[place].source() == source && steps[place].target() >= target {

@@ -59,7 +59,7 @@ fn long_word(word: &[u8]) -> &[u8] {
     }
 }
 
-/// The legal move of the board that is shown which was typed, if it was one only.
+/// The legal move of the board shown that was typed, if only one can be meant.
 fn meant(alloc: Global, client: &Client, typed: &Play) -> Result<Play, AllocError> {
     if is_taken(client, &Decision::Move(*typed)) {
         return Ok(*typed);
@@ -131,7 +131,7 @@ fn append_plain(
     }
 }
 
-/// Appends how a line is spelled that the client does not know. What is sent to people stays as it is, but for the
+/// Appends the spelling of a line that the client does not know. What is sent to people stays as it is, but for the
 /// spaces at its front and the case of its first word.
 ///
 /// Errors: if memory runs out.

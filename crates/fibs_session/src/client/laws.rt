@@ -8,12 +8,12 @@ pub use fibs_history::laws::{
     pieces_take_from_the_entries_owed, pieces_take_from_what_is_owed,
 };
 
-/// What a server notes says nothing to a client.
+/// What a server notes changes nothing for a client.
 pub fn servers_entries_are_silent()
     ensures { ServersEntriesAreSilent }
 {}
 
-/// A call leaves a client after its list of inputs with the call's.
+/// A call appends its input to the list of inputs by which a client is reached.
 pub fn inputs_go_on()
     ensures { InputsGoOn }
 {}
