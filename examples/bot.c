@@ -1,7 +1,11 @@
 /* Logs in at a server and plays its first legal play until the match is over: bot HOST PORT NAME. The password is the
- * first line of standard input. It prints each phase, and each command that it sends except the login. If the
- * connection is lost it opens another one, and the game goes on as the server has it. Its status is 0 if the match was
- * played out, else 4. cc -Iinclude -o bot examples/bot.c lib/libfibs.a */
+ * first line of standard input.
+ *
+ * It prints each phase, and each command that it sends except the login. If the connection is lost it opens another,
+ * and the game goes on as the server has it. The status is 0 if the match was played out, else 4.
+ *
+ *     cc -Iinclude -o bot examples/bot.c lib/libfibs.a
+ */
 #define _POSIX_C_SOURCE 200809L
 #include "fibs.h"
 

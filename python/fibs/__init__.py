@@ -5,10 +5,9 @@
         if line.kind == fibs.BOARD:
             print(line.board.phase.name, [str(play) for play in fibs.plays(line.text)])
 
-It uses the library for C of Liftplum, whose functions are proved, and the standard library alone. What a
-server sends is bytes; a text of one's own may be a str too. A call that is not done raises an Error, one for each
-reason. It has no thread and no socket of its own. A Client, a Lines and a Directory are each used by one thread at a
-time.
+It uses only the library for C of Liftplum, whose functions are proved, and the standard library. What a server
+sends is bytes; a text of your own may also be a str. A call that can't be done raises an Error, one for each reason.
+The package has no thread and no socket of its own. Use each Client, Lines and Directory from one thread at a time.
 """
 
 from . import _library
@@ -25,7 +24,7 @@ from .errors import (AlreadyOpen, AlreadyOrdered, BadCommand, BadName, BadText, 
 
 TEXT, MESSAGE, BOARD, MALFORMED = Kind.TEXT, Kind.MESSAGE, Kind.BOARD, Kind.MALFORMED
 
-# The length of a match without an end.
+# The length of an unlimited match.
 UNLIMITED = 9999
 
 # How many bytes of a line are kept.

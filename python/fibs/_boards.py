@@ -11,7 +11,7 @@ from ._texts import Text, Word, bytes_of, told_text
 from .errors import Refused, TooManyOther, TooManyOwn, check
 
 class Phase(Word):
-    """What a player does on a board."""
+    """What a player may do on a board."""
 
     OVER = 1
     ANSWER_DOUBLE = 2
@@ -114,12 +114,12 @@ class Board:
 
     @property
     def checkers(self) -> Tuple[int, ...]:
-        """The player's checkers by place, in the own numbering: off at 0, the bar at 25. TooManyOwn."""
+        """The player's checkers by place, in own numbers: off at 0, the bar at 25. TooManyOwn."""
         return self._side(self.colour, self.direction == 1, self.off, TooManyOwn)
 
     @property
     def opponent_checkers(self) -> Tuple[int, ...]:
-        """The opponent's checkers by place, in the opponent's own numbering: off at 0, the bar at 25. TooManyOther."""
+        """The opponent's checkers by place, in the opponent's own numbers: off at 0, the bar at 25. TooManyOther."""
         return self._side(-self.colour, self.direction == -1, self.opponent_off, TooManyOther)
 
     def _side(self, colour: int, is_up: bool, off: int, fault: type) -> Tuple[int, ...]:
@@ -134,7 +134,7 @@ class Board:
 
     @property
     def phase(self) -> Phase:
-        """What the player does. One of NoPosition."""
+        """What the player may do. One of NoPosition."""
         return phase(self)
 
     def plays(self) -> List[Decision]:
@@ -161,7 +161,7 @@ def print_board(board: BoardLine) -> bytes:
 
 
 def phase(board: BoardLine) -> Phase:
-    """What the player does on a board. One of NoPosition or NotABoard."""
+    """What the player may do on a board. One of NoPosition or NotABoard."""
     line, number = _line_of(board), c_uint8()
     check(_library.lib.fibs_phase(line, len(line), byref(number)))
     return Phase(number.value)

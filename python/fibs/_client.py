@@ -17,7 +17,8 @@ from .errors import check
 class Heard(NamedTuple):
     """A line that the client heard.
 
-    confirmed is the decision that waited, if the line confirms it. send is what is to be sent at once, often nothing.
+    confirmed is the decision that waited, if the line confirms it. send is what you have to send at once, often
+    nothing.
     rolled is true if a standing order rolls at this line: the roll is in send.
     """
 
@@ -39,8 +40,8 @@ def _decision_of(record: Any) -> Optional[Decision]:
 
 
 class Client:
-    """A client, connection after connection. It owns no socket: what the server sends goes into feed, and what each
-    call hands out is to be sent at once, in order.
+    """A client, connection after connection. It opens no socket: give feed what the server sends, and send at once
+    what each call hands out, in order.
 
         with fibs.Client('ann', 'secret') as client, socket.create_connection(('fibs.com', 4321)) as server:
             server.sendall(client.open())
@@ -48,9 +49,9 @@ class Client:
                 for heard in client.feed(piece):
                     server.sendall(heard.send)
 
-    A decision waits from decide() until a board of another game is shown, and until then each other one is refused.
-    It is never sent again by itself: lose() tells what a lost connection left open. One of Refused; BadName, BadText,
-    TooLong.
+    A decision waits from decide() until a board of another game is shown; until then each other one is refused. The
+    client never sends it again by itself: lose() gives the decision that a lost connection left open. One of
+    Refused; BadName, BadText, TooLong.
     """
 
     def __init__(self, name: Text, password: Text) -> None:
@@ -59,7 +60,7 @@ class Client:
         check(self._client.status)
         self._wire, self._heard = _library.Wire(), _library.Heard()
         self._text = ctypes.create_string_buffer(_library.MAX_LINE)
-        # what came and is not heard yet: all after a place of these bytes, which begin at an address
+        # what came and is not heard yet: the bytes after a place of these, which begin at an address
         self._data, self._start, self._place = b'', 0, 0
 
     def close(self) -> None:
@@ -77,13 +78,13 @@ class Client:
         return bytes(memoryview(self._wire.bytes)[:self._wire.len])
 
     def open(self) -> bytes:
-        """A connection is made: the login. AlreadyOpen."""
+        """A connection was made: gives the login. AlreadyOpen."""
         return self._sent(_library.lib.fibs_client_open(self._client.at, byref(self._wire)))
 
     def feed(self, piece: Bytes) -> Iterator[Heard]:
-        """What is heard of a piece of what the server sent, line by line. A line is heard when it is taken from the
-        iterator: what it hands out is to be sent, and may be answered by decide(), before the next one is taken. What
-        is not taken is heard first at the next feed. Without a connection all bytes are dropped. Closed."""
+        """Hears a piece of what the server sent, line by line. A line is heard when you take it from the iterator: send
+        what it hands out, and decide() if you like, before you take the next one. The next feed first hears what you
+        have not taken. Without a connection all bytes are dropped. Closed."""
         data = piece_of(piece)
         if self._place < len(self._data):
             data = self._data[self._place:] + data
@@ -103,7 +104,7 @@ class Client:
                 yield Heard(line, _decision_of(heard.confirmed), sent, heard.rolled == 1)
 
     def decide(self, decision: Decision) -> bytes:
-        """The user decides: the command, and the decision waits from then on. One of Refused; NoDecision."""
+        """The user decides: gives the command, and the decision waits from then on. One of Refused; NoDecision."""
         return self._sent(_library.lib.fibs_client_decide(self._client.at, byref(record_of(decision)),
                                                           byref(self._wire)))
 
@@ -114,8 +115,8 @@ class Client:
         return self._sent(_library.lib.fibs_client_plain(self._client.at, data, len(data), byref(self._wire)))
 
     def order_roll(self) -> None:
-        """Gives a standing order for this connection: at each board on which only a roll can be decided the client
-        rolls by itself. Offline, AlreadyOrdered."""
+        """Gives a standing order for this connection: at each new board on which the user is to roll and may not
+        double the client rolls by itself. Offline, AlreadyOrdered."""
         check(_library.lib.fibs_client_order_roll(self._client.at))
 
     def withdraw_roll(self) -> None:
@@ -130,8 +131,8 @@ class Client:
         return found.value == 1
 
     def lose(self) -> Optional[Outstanding]:
-        """The connection ended: nothing of it is kept. The decision that waited, with its board, or None. It is never
-        sent again by itself."""
+        """The connection ended: nothing of it is kept. The decision that waited, with its board, or None. The client
+        never sends it again by itself."""
         waited = _library.Outstanding()
         check(_library.lib.fibs_client_lose(self._client.at, byref(waited)))
         self._data, self._start, self._place = b'', 0, 0

@@ -24,7 +24,7 @@ class DecisionKind(Word):
 
 
 class Step(NamedTuple):
-    """A step of one checker, in the player's own numbering, in which he goes down: 25 is the bar, 0 is off."""
+    """A step of one checker, in own numbers, in which the player goes down: 25 is the bar, 0 is off."""
 
     source: int
     target: int
@@ -41,7 +41,7 @@ class Decision(NamedTuple):
 
     @classmethod
     def move(cls, steps: Iterable[Tuple[int, int]]) -> Decision:
-        """A play of these steps, each a source and a target in the player's own numbering."""
+        """A play of these steps, each a source and a target in own numbers."""
         return cls(DecisionKind.MOVE, tuple(Step(*step) for step in steps))
 
     @classmethod

@@ -11,7 +11,7 @@ from .errors import NoPlayer, check
 
 
 class Player(NamedTuple):
-    """A player, by the twelve fields of message 5: `-` is no opponent, none watched, no client and no email. rating
+    """A player, by the twelve fields of message 5: `-` means no opponent, none watched, no client or no email. rating
     is in hundredths, idle in seconds, login in seconds since 1970."""
 
     name: bytes
@@ -32,7 +32,7 @@ _FIELDS = range(1, len(Player._fields) + 1)
 
 
 class Directory:
-    """The players of messages 5 and 8: each as the last message 5 has him, in the order in which the server first
+    """The players of messages 5 and 8: each as the last message 5 has it, in the order in which the server first
     listed them. At most 4096."""
 
     def __init__(self) -> None:
@@ -50,7 +50,7 @@ class Directory:
         self.close()
 
     def note(self, line: Text) -> None:
-        """Takes note of a line that was not cut: message 5 sets the player of its name, message 8 takes him out, and
+        """Takes note of a line that was not cut: message 5 sets the player of its name, message 8 takes it out, and
         every other line changes nothing. Full."""
         data = bytes_of(line)
         check(_library.lib.fibs_directory_note(self._directory.at, data, len(data)))
@@ -75,7 +75,7 @@ class Directory:
         return (self[place] for place in range(len(self)))
 
     def __contains__(self, player: Union[Text, Player]) -> bool:
-        """True if a player of this name is listed, or just this player."""
+        """True if a player of this name is listed; of a Player, if it is listed as it is."""
         if isinstance(player, Player):
             return self.get(player.name) == player
         return self.get(player) is not None

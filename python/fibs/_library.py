@@ -1,4 +1,4 @@
-"""libfibs as Python sees it: where it is found, how its records lie, what its functions take and answer.
+"""libfibs as Python sees it: where it is found, the layout of its records, what its functions take and answer.
 
 What follows the names and layouts of include/fibs.h is here and nowhere else in the package.
 """
@@ -16,7 +16,7 @@ from typing import Any
 VERSION = '0.2.0'
 SONAME = 'libfibs.so.0.2'
 
-# The statuses that are no exceptions of this package's own.
+# The statuses for which this package has no exception of its own.
 DONE, NO_BOARD, MEMORY, SHORT, NO_COMMAND, NO_FIELD, NOTHING_WAITS, NO_PLAYER = 0, 5, 401, 503, 505, 506, 507, 508
 
 # The kind of a line that is a board.
@@ -180,7 +180,7 @@ def _path() -> str:
 
 
 def _load() -> Any:
-    """The library. Its calls keep the interpreter's lock: they are short, and none runs beside another one."""
+    """The library. Its calls keep the interpreter's lock: they are short, and no two run at once."""
     path = _path()
     try:
         library = ctypes.PyDLL(path)

@@ -35,7 +35,7 @@ class Line(NamedTuple):
 
     number is that of a message, also of a malformed one, else 0. field and fault are the first wrong field of a
     malformed line, counted from 1, and what is wrong with it; else 0 and None. cut is true if the line had more than
-    MAX_LINE bytes, of which the first are kept: such a line is a text.
+    MAX_LINE bytes: only the first are kept, and such a line is a text.
     """
 
     text: bytes
@@ -52,7 +52,7 @@ class Line(NamedTuple):
 
     @property
     def fields(self) -> Tuple[Value, ...]:
-        """The fields of a message; none of any other line."""
+        """The fields of a message; no fields if the line is anything else."""
         return fields(self.text) if self.kind == Kind.MESSAGE else ()
 
 
@@ -62,12 +62,12 @@ _new = tuple.__new__
 
 
 def line_of(text: bytes, kind: Any, cut: bool) -> Line:
-    """A line of these bytes, as the library says what it is."""
+    """A line of these bytes, with what the library says that it is."""
     return _new(Line, (text, _KINDS[kind.kind], kind.number, kind.field, _FAULTS[kind.fault], cut))
 
 
 def read(text: Text) -> Line:
-    """What a line is that was not cut, without its line end."""
+    """What a line is. It was not cut, and is without its line end."""
     data = bytes_of(text)
     return line_of(data, _library.lib.fibs_read(data, len(data)), False)
 
@@ -85,12 +85,12 @@ def fields(text: Text) -> Tuple[Value, ...]:
 
 
 class Lines:
-    """The lines of a stream: of bytes, of a binary file or of whatever has a read(size).
+    """The lines of a stream: of bytes, of a binary file or of any object that has a read(size).
 
         for line in fibs.Lines(open('session.log', 'rb')):
             print(line.kind.name, line.text)
 
-    Without a stream it is fed by hand: feed(piece) gives the lines that end in the piece, however the bytes of the
+    Without a stream you feed it: feed(piece) gives the lines that end in the piece, however the bytes of the
     stream are cut. close(), or a `with`, gives its memory back; the stream stays open.
     """
 
@@ -124,7 +124,7 @@ class Lines:
         return next(self._iterator)
 
     def _through(self, stream: Any) -> Iterator[Line]:
-        """The lines of the stream. After a break the iteration goes on with the next line."""
+        """The lines of the stream. After a break a new loop goes on with the next line."""
         for piece in _pieces(stream):
             yield from self.feed(piece)
 

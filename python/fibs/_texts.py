@@ -13,7 +13,7 @@ from .errors import check
 # Bytes of a server.
 Bytes = Union[bytes, bytearray, memoryview]
 
-# A text that is handed in: a str is taken by its bytes in UTF-8.
+# A text that is passed in: of a str its bytes in UTF-8 are taken.
 Text = Union[str, Bytes]
 
 # The value of a field of a message: a name, a word or a text as bytes, a flag, a number, a rating in hundredths.
@@ -40,7 +40,7 @@ def bytes_of(text: Text) -> bytes:
 
 
 def piece_of(piece: Bytes) -> bytes:
-    """The bytes of a piece of what a server sent, which is no str."""
+    """The bytes of a piece of what a server sent. It can't be a str."""
     if isinstance(piece, bytes):
         return piece
     if isinstance(piece, (bytearray, memoryview)):

@@ -1,4 +1,4 @@
-"""What the library answers to a call that it does not do: an exception for each status, by name.
+"""An exception for each status by which the library refuses a call, by name.
 
 Memory that runs out is Python's own MemoryError, a value of a wrong type its TypeError.
 """
@@ -26,7 +26,7 @@ class Error(Exception):
 
 
 class Refused(Error):
-    """A client does not do so now; it is as it was."""
+    """A client refuses this now; it is as it was."""
 
 
 class AlreadyOpen(Refused):
@@ -128,7 +128,7 @@ class TooManyOther(NoPosition):
 
 
 class NotABoard(Error, ValueError):
-    """The line says no board."""
+    """The line is not a board."""
 
 
 class FieldMissing(NotABoard):
@@ -177,12 +177,12 @@ class Short(Error):
 
 
 class NoDecision(Error, ValueError):
-    """The decision is not valid: a kind that there is not, more than 4 steps, or a step that no checker can make."""
+    """The decision is not valid: an unknown kind, more than 4 steps, or a step that no checker can make."""
     status = 504
 
 
 class NoCommand(Error, ValueError):
-    """The text is no command."""
+    """The text is not a command."""
     status = 505
 
 
@@ -218,7 +218,7 @@ BY_STATUS = _named(Error)
 
 
 def check(status: int) -> None:
-    """Raises what a status says, if it is not that all is done."""
+    """Raises the exception of a status, unless it says that the call was done."""
     if status == _library.DONE:
         return
     if status == _library.MEMORY:
