@@ -1,4 +1,4 @@
-"""A player within the server, for one who has no second client at hand: it plays, and has habits that can be chosen."""
+"""A player within the server, for users without a second client: it plays, and has habits that can be chosen."""
 
 import asyncio
 import re

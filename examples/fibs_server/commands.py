@@ -146,7 +146,7 @@ class Commands:
         self.begin(inviting[-1], player)
 
     def begin(self, inviting, player):
-        """The match begins to which one was invited."""
+        """Begins the match to which a player was invited."""
         room, points = self.room, inviting.invited[1]
         names = frozenset((inviting.name, player.name))
         for one in (inviting, player):
@@ -232,7 +232,7 @@ class Commands:
         self.says(player, self.room.find(name), text)
 
     def says(self, player, other, text):
-        """One says something to another."""
+        """A player says something to another one."""
         if player.name in other.gagged:
             raise Against("** %s won't listen to you." % other.name)
         other.hears(12, player.name, '%s says: ' % player.name, text)

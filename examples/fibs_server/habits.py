@@ -20,11 +20,11 @@ class Habits:
     shows_resignations: bool = False
     # the board says that a player may double even if the rules of the match forbid it
     loose_flags: bool = False
-    # commands that are refused so many times, by a text alone, though they are right
+    # valid commands that are refused so many times, by a text alone
     refuses: dict = field(default_factory=dict)
     # a game goes on after its player's connection breaks
     keeps_games: bool = False
-    # who plays O, and who goes from 24 to 1, is by chance
+    # who plays O, and who goes from 24 to 1, is random
     mixed_sides: bool = False
     # each change of a player is reported by a line 5 and a line 6
     tells_changes: bool = True
@@ -55,7 +55,7 @@ class Habits:
         return (colour, -colour), (direction, -direction)
 
     def refuses_now(self, command):
-        """True if the server refuses this right command, this time."""
+        """True if the server refuses this valid command, this time."""
         if not self.refuses.get(command):
             return False
         self.refuses[command] -= 1

@@ -1,4 +1,4 @@
-"""A match between two sides, 0 and 1: its score, its cube and its game. It knows the rules, and nobody to talk to."""
+"""A match between two sides, 0 and 1: its score, its cube and its game. It knows the rules, and no players."""
 
 import rules
 
@@ -14,7 +14,7 @@ class Against(Exception):
 
 
 class Match:
-    """A match to so many points, UNLIMITED for one without an end. `colours` are 1 for O and -1 for X, `directions` -1
+    """A match to so many points, or UNLIMITED. `colours` are 1 for O and -1 for X, `directions` -1
     for the side that goes from 24 to 1."""
 
     def __init__(self, names, length, colours=(1, -1), directions=(-1, 1), crawford=True):
@@ -29,7 +29,7 @@ class Match:
     # -- games -----------------------------------------------------------------------------------------------------
 
     def begins(self):
-        """A new game. Who begins it is told by `opens`."""
+        """A new game. `opens` says who begins it."""
         self.position = list(rules.beginning())
         self.turn = self.dice = None
         self.cube, self.owner = 1, None

@@ -1,4 +1,4 @@
-"""The players: what is known of each account, and what he is doing now."""
+"""The players: each account, and what its player does now."""
 
 import time
 
@@ -67,7 +67,7 @@ class Player:
 
     @property
     def opponent(self):
-        """The name of the one with whom he plays."""
+        """The opponent's name."""
         return self.table.other(self).name if self.table else None
 
     # -- what he is told -------------------------------------------------------------------------------------------

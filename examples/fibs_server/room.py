@@ -1,4 +1,4 @@
-"""The room: who is there, the tables, the saved matches, and how one comes and goes."""
+"""The room: who is there, the tables, the saved matches, and how players come and go."""
 
 import time
 
@@ -60,7 +60,7 @@ class Room:
         return [(next(iter(names - {player.name})), match) for names, match in self.saved.items()
                 if player.name in names]
 
-    # -- how one comes ---------------------------------------------------------------------------------------------
+    # -- how players come ------------------------------------------------------------------------------------------
 
     def opened(self, link):
         """A connection was made."""
@@ -145,7 +145,7 @@ class Room:
             if one is not player and one.is_on('notify'):
                 one.hears(number, player.name, '', '%s %s' % (player.name, how))
 
-    # -- how one goes ----------------------------------------------------------------------------------------------
+    # -- how players go --------------------------------------------------------------------------------------------
 
     def lost(self, link):
         """A connection has ended by itself."""

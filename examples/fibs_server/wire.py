@@ -1,4 +1,4 @@
-"""A connection: lines in, lines out, with the manners of a bad one if it is asked for."""
+"""A connection: lines in, lines out. It behaves badly if that is asked for."""
 
 import asyncio
 import re

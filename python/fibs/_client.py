@@ -18,8 +18,7 @@ class Heard(NamedTuple):
     """A line that the client heard.
 
     confirmed is the decision that waited, if the line confirms it. send is what you have to send at once, often
-    nothing.
-    rolled is true if a standing order rolls at this line: the roll is in send.
+    nothing. rolled is true if a standing order rolls at this line: the roll is in send.
     """
 
     line: Line
