@@ -30,7 +30,7 @@ static void is(const char *what, fibs_status wanted, fibs_status got, unsigned m
     fill();
 }
 
-/* The same of a call that hands out for the server: if it is refused the wire is empty, and its bytes stay. */
+/* The same for a call that hands out for the server: if it is refused the wire is empty, and its bytes stay. */
 static void sends(const char *what, fibs_status wanted, fibs_status got, unsigned members) {
     bool is_empty = out.wire.len == 0 && memcmp(out.wire.bytes, pattern.wire.bytes, sizeof out.wire.bytes) == 0;
     check(out.wire.len <= FIBS_MAX_WIRE && (got == FIBS_STATUS_DONE || is_empty), what);

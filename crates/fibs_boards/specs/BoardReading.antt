@@ -13,7 +13,7 @@ abbrev pub pieces_of : Option (List ℕ) → List (List ℕ)
 pieces_of None = []
 pieces_of (Some rest) = pieces rest
 
--- the same of what is left of a line
+-- the same for what is left of a line
 abbrev pub pieces_left : Left → List (List ℕ)
 pieces_left l = pieces_of l.rest
 

@@ -35,7 +35,7 @@ pub record DoesOnWire (old new : ClientValue) (i : InputValue) (wire : Wire) : T
   pub stands : (t : Talk) → StandsAfter old t → StandsAfter new (step t i).talk
   pub hands : (t : Talk) → StandsAfter old t → Holds wire (wire_of (step t i).send)
 
--- the same of an input at which the machine hands out nothing
+-- the same for an input at which the machine hands out nothing
 pub record DoesUnsaid (old new : ClientValue) (i : InputValue) : Type 0 where
   pub stands : (t : Talk) → StandsAfter old t → StandsAfter new (step t i).talk
   pub hands_none : (t : Talk) → StandsAfter old t → [] ≡ wire_of (step t i).send

@@ -65,7 +65,7 @@ IsPlayerField None number field field' old new status = (status ≡ 508) × (new
 IsPlayerField (Some m) number field field' old new status =
     IsMaybeField (field_at number m.fields) field field' old new status
 
--- of the player at a place, and the directory is as it was
+-- a field of the player at a place, and the directory is as it was
 abbrev pub IsPlayerAt : Option (List MessageValue) → Option (List MessageValue) → ℕ → ℕ → FieldRecord → FieldRecord
     → List ℕ → List ℕ → ℕ → Type 0
 IsPlayerAt None d place number field field' old new status =
@@ -73,7 +73,7 @@ IsPlayerAt None d place number field field' old new status =
 IsPlayerAt (Some d) d' place number field field' old new status =
     (d' ≡ Some d) × IsPlayerField (slice_get d place) number field field' old new status
 
--- of the player of a name, and the directory is as it was
+-- a field of the player of a name, and the directory is as it was
 abbrev pub IsPlayerOf : Option (List MessageValue) → Option (List MessageValue) → List ℕ → ℕ → FieldRecord
     → FieldRecord → List ℕ → List ℕ → ℕ → Type 0
 IsPlayerOf None d name number field field' old new status =

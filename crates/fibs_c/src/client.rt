@@ -74,7 +74,7 @@ fn hand_out_command(wire: &mut Wire, answer: &Result<CommandText, Refusal>) -> u
     }
 }
 
-/// The same of a plain command.
+/// The same for a plain command.
 fn hand_out_plain(wire: &mut Wire, answer: &Result<CommandText, PlainRefusal>) -> u32
     ensures wire { Holds wire.new (wire_of (handed answer.now)) }
     ensures refused { result ≢ 0 → IsEmptied wire.old wire.new }

@@ -41,7 +41,7 @@ fn heard_at_once(alloc: Global, input: &[u8]) -> Outcome {
 }
 
 /// If a note is refused, the conversation says so and goes on: it never ends because memory ran out, and it knows the
-/// players of whom note was taken.
+/// players that were noted.
 #[test]
 fn conversations_go_on_under_refused_memory(rt: HostRuntime) {
     let input = joined(&[HEARD[0].0, HEARD[1].0, HEARD[2].0, HEARD[3].0]);

@@ -69,7 +69,7 @@ abbrev pub text_in : Kind → ℕ → ℕ → Option (List ℕ) → Result (List
 text_in k i c None = if may_be_absent k then Ok ([], left c None) else fault_of_field i Missing
 text_in k i c (Some s) = if takes_rest k then Ok (s, left c None) else Ok (before c s, left c (after c s))
 
--- the same of what is left of a line
+-- the same for what is left of a line
 unfoldable pub text_at : Kind → ℕ → Left → Result (List ℕ × Left) FieldFault
 text_at k i l = text_in k i l.separator l.rest
 
@@ -96,7 +96,7 @@ abbrev pub end_in : ℕ → Option (List ℕ) → Result (List FieldValue) Field
 end_in i None = Ok []
 end_in i (Some s) = fault_of_field i Extra
 
--- the same of what is left of a line
+-- the same for what is left of a line
 unfoldable pub end_at : ℕ → Left → Result (List FieldValue) FieldFault
 end_at i l = end_in i l.rest
 

@@ -54,7 +54,7 @@ pub same_read_line : (a b : ReadLine) → a.bytes ≡ b.bytes → a.cut ≡ b.cu
 unfolding made
 same_read_line a b e f = ap (λ x. made x a.cut) e ∙ ap (made b.bytes) f
 
--- the same of the record, at any limit
+-- the same for the record, at any limit
 abbrev pub read_line : ℕ → List ℕ → Bool → ReadLine
 read_line limit line over =
     record { bytes = without_prompts (take limit line); cut = over || nat_lt limit (length line) }

@@ -81,7 +81,7 @@ rest_of s = after_last is_line_end (plain s)
 abbrev pub value_of : Line → ReadLine
 value_of line = record { bytes = line.bytes.now; cut = line.cut }
 
--- the same of a line that may be there
+-- the same for a line that may be there
 abbrev pub line_value : Option Line → Option ReadLine
 line_value None = None
 line_value (Some line) = Some (value_of line)

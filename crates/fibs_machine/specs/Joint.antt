@@ -15,7 +15,7 @@ use Rattle.fibs_machine.specs.Server.{user_decides, decision_in, command}
 use Rattle.fibs_machine.specs.Wires.{Link, next_line}
 use Rattle.fibs_machine.specs.World.{World}
 
--- of the bytes put on a wire to the client: those delivered, those still on it, those dropped at a loss
+-- the bytes put on a wire to the client: those delivered, those still on it, those dropped at a loss
 pub record Carried (put : List ℕ) (is_open : Bool) (link : Link) : Type 0 where
   pub dropped : List ℕ
   -- they are all bytes that were put on it, in their order
@@ -93,7 +93,7 @@ pub record Left (c : ℕ) (unserved : Option Ask) (w : World) : Type 0 where
   pub are_lines : AreLines (w.links c).asked lines
   pub at_most_this : AtMostThis (nat_eq (open_now w.log) c) w.board unserved lines
 
--- of what was sent on a connection at most the last was not served
+-- at most the last of what was sent on a connection was not served
 pub record LastUnserved (c : ℕ) (acts : List Act) (w : World) : Type 0 where
   pub unserved : Option Ask
   pub all : sent c w.log ≡ served c w.log ++ at_most_one unserved

@@ -56,7 +56,7 @@ abbrev pub number_or_0 : Result ℤ Fault → ℤ
 number_or_0 (Ok z) = z
 number_or_0 (Err f) = pos 0
 
--- the same of all fields
+-- the same for all fields
 abbrev pub numbers_in : List Values → List (List ℕ) → List ℤ
 numbers_in (v ∷ vs) (p ∷ ps) = number_or_0 (number_in v p) ∷ numbers_in vs ps
 numbers_in vs ps = []

@@ -58,7 +58,7 @@ crossings_from login w (e ∷ es) = crossings_of w e ++ crossings_from login (af
 unfoldable pub crossings : List ℕ → BoardFields → List Event → List Crossing
 crossings login first events = crossings_from login (start first) events
 
--- at first there are none, and each event adds its own, in the world after those before it
+-- at first there are no crossings, and each event adds its own, in the world after the events before it
 pub record CrossingsJoin : Type 0 where
   pub at_first : (login : List ℕ) (first : BoardFields) → crossings login first [] ≡ []
   pub one_more : (login : List ℕ) (first : BoardFields) (events : List Event) (e : Event)

@@ -33,7 +33,7 @@ pub record RoomForPiece (client : ClientValue) (conn : ℕ) (piece : List ℕ) (
   pub entries : len + entries_owed talk (count_by is_line_end piece) ≤ capacity
   pub commands : owed talk (count_by is_line_end piece) ≤ bytes
 
--- the same of the next n bytes on a connection
+-- the same for the next n bytes on a connection
 pub record RoomForNext (client : ClientValue) (conn n : ℕ) (links : List C.Link) (len capacity : ℕ) : Type 0 where
   pub talk : Talk
   pub talks : IsTalking client conn talk
@@ -46,7 +46,7 @@ pub record HearsPiece (old new : ClientValue) (conn : ℕ) (bytes : List ℕ) (l
   pub writes : Writes old new (Piece bytes) wire more
   pub noted : (t : Talk) → IsTalking old conn t → log ≡ t.log → later ≡ (step t (Piece bytes)).talk.log
 
--- the same of the next n bytes on a connection
+-- the same for the next n bytes on a connection
 pub record HearsNext (old new : ClientValue) (conn n : ℕ) (before after : List LinkValue) (log later : List Entry)
     : Type 0 where
   pub asked : List ℕ

@@ -39,7 +39,7 @@ abbrev pub Agrees : Option WorldRefusal → Option WorldRefusal → Type 0
 Agrees None answer = answer ≡ None
 Agrees (Some why) answer = Tells why answer
 
--- the same of an event that goes over a carrier, which breaks only if the table refuses nothing
+-- the same for an event that goes over a carrier, which breaks only if the table refuses nothing
 abbrev pub Halts : Option Stop → Option WorldRefusal → Type 0
 Halts None answer = answer ≡ None
 Halts (Some (Refused why)) answer = Tells why answer
@@ -56,7 +56,7 @@ Stops None w left = left ≡ []
 Stops (Some why) w [] = ⊥
 Stops (Some why) w (e ∷ later) = Tells why (refusal w e)
 
--- the same of a run over a carrier, which may also have broken there
+-- the same for a run over a carrier, which may also have broken there
 abbrev pub HaltsAt : Option Stop → World → List Event → Type 0
 HaltsAt None w left = left ≡ []
 HaltsAt (Some stop) w [] = ⊥

@@ -61,7 +61,7 @@ other_off b = natural (field_of b 47)
 abbrev pub own_placed : BoardFields → ℕ
 own_placed b = sum (own_on_places b) + own_off b
 
--- the same of the other side
+-- the same for the other side
 abbrev pub other_placed : BoardFields → ℕ
 other_placed b = sum (other_on_places b) + other_off b
 

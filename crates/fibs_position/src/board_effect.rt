@@ -1,4 +1,4 @@
-//! What becomes of a board when the server carries a decision out.
+//! The board after the server carries a decision out.
 
 ghost use Rattle.std.specs.Prelude.{◌≡◌, ◌↔◌, ◌≤◌, ◌≤ℤ◌, ◌&&◌, not, ℕ, List, pos, negsuc, true, IsTrue, Some};
 ghost use Rattle.std.specs.Prelude.{option_map, slice_index, ◌==◌, if◌then◌else◌, neg_ℤ};

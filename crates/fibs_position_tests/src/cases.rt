@@ -1,4 +1,4 @@
-//! A board with the view of its player and what becomes of it, and the test of such cases.
+//! A board with the view of its player and its later boards, and the test of such cases.
 
 ghost use Rattle.std.specs.Prelude.{◌≤◌};
 

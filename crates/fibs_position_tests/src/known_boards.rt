@@ -1,4 +1,4 @@
-//! A few boards that are known whole: what each position is, and what becomes of it.
+//! A few boards that are known completely: their positions, and their later boards.
 
 use crate::cases::{Case, check};
 use crate::choices::Choice;

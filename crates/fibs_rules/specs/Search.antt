@@ -57,7 +57,7 @@ longest_tried p [] top = 0
 longest_tried p (die ∷ dice) top =
     best_of (λ source q. suc (longest_tried q dice (next_top die dice source))) p die top
 
--- the same of one die and others, from a place up to n
+-- the same for one die and others, from a place up to n
 unfoldable pub longest_by : Checkers → ℕ → List ℕ → ℕ → ℕ
 longest_by p die dice n = best_of (λ source q. suc (longest_tried q dice (next_top die dice source))) p die n
 

@@ -46,7 +46,7 @@ abbrev pub ReadsScript : Option ℕ → List (List ℕ) → Type 0
 ReadsScript None lines = (b : BoardFields) × (events : List Event) × SayScript lines b events
 ReadsScript (Some number) lines = FirstUnreadable lines number
 
--- of the lines after the first all say events, or this is the number of the first that does not
+-- all lines after the first say events, or this is the number of the first line that does not
 abbrev pub ReadsEvents : Option ℕ → List (List ℕ) → Type 0
 ReadsEvents None lines = (events : List Event) × SayEvents lines events
 ReadsEvents (Some number) lines =

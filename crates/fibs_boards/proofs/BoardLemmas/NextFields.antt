@@ -130,7 +130,7 @@ next_wrong read kind i (Some s) e kinds reads h = wrong_read read kind i s (read
 by_colons : (l : Left) → l.separator ≡ 58 → left 58 l.rest ≡ l
 by_colons l colon = λ i. left (sym colon i) l.rest
 
--- the same of what is left, where it is parted by colons
+-- the same for what is left, where it is parted by colons
 pub was_read : {A : Type 0} (read : List ℕ → Result A Fault) (kind : Kind) (i : ℕ) (l m : Left) (x : A)
     → Reads read kind → l.separator ≡ 58 → next_at read i l ≡ Ok (x, m) → WasRead read kind i l x m
 was_read read kind i l m x reads colon h =

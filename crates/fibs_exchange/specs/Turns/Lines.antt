@@ -45,7 +45,7 @@ heard_act line r send confirmed rolled = record {
   notes = messages_in r;
 }
 
--- the same of what the client has taken
+-- the same for what the client has taken
 abbrev pub taken_act : TakenValue → Act
 taken_act t = heard_act t.line t.reading t.send t.confirmed t.rolled
 

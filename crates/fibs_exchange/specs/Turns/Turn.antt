@@ -46,7 +46,7 @@ abbrev pub Extent : Progress → List ℕ → List ℕ → List ℕ → Type 0
 Extent Whole stream fed rest = rest ≡ []
 Extent Broken stream fed rest = EndsALine stream fed × (0 < length fed)
 
--- of these bytes a front was fed to a client reached by t, and what its lines call for was done
+-- a front of these bytes was fed to a client reached by t, and what its lines call for was done
 pub record Talked {F : Type 0} (Tells : F → List SaidValue → F → Type 0) (t : Talk) (new : ClientValue)
     (bytes : List ℕ) (a b : Outside F) (p : Progress) : Type 0 where
   pub fed : List ℕ
@@ -110,7 +110,7 @@ Turned = TurnedBy Accounts
 
 -- ---- a print that fails
 
--- of these bytes a front that ends a line was fed to a client reached by t, and its commands were written
+-- a front of these bytes that ends a line was fed to a client reached by t, and its commands were written
 pub record FedToALine (t : Talk) (new : ClientValue) (bytes : List ℕ) (wrote now : Option (List ℕ)) : Type 0 where
   pub fed : List ℕ
   pub rest : List ℕ

@@ -31,7 +31,7 @@ typed_act t typed_order = only_tell (order_told ordered_said (order_refusal t.lo
 typed_act t typed_withdrawal = only_tell (order_told withdrawn_said (withdraw_refusal t.log))
 typed_act t typed_none = only_tell unknown_said
 
--- the same of a line that may have been typed
+-- the same for a line that may have been typed
 
 abbrev pub talk_after : Talk → Option (List ℕ) → Talk
 talk_after t None = t

@@ -71,7 +71,7 @@ noted_has kept found =
     (ap is_eq (tied_itself checkers_total found.leads))))
     (greater (kept found.leads) found.play, refl, greater_found (kept found.leads) found.play)
 
--- the same of a whole list that is noted
+-- the same for a whole list that is noted
 pub all_from : (found : List Reach) (kept : Kept) (q : Checkers) (steps : List Hop)
     → fold noted kept found q ≡ Some steps → (kept q ≡ Some steps) ⊎ In (reach steps q) found
 all_from [] kept q steps h = inl h

@@ -12,7 +12,7 @@ pub record SessionDoes (old new : SessionValue) (i : InputValue) (send : List (L
   pub stands : (t : Talk) → SessionStandsAfter old t → SessionStandsAfter new (step t i).talk
   pub hands : (t : Talk) → SessionStandsAfter old t → send ≡ (step t i).send
 
--- the same of a whole line
+-- the same for a whole line
 pub record SessionHears (old new : SessionValue) (l : ReadLine) (send : List (List ℕ)) (confirmed : Option Ask)
     (rolled : Bool) : Type 0 where
   pub stands : (t : Talk) → SessionStandsAfter old t → SessionStandsAfter new (hears t (line_heard t l)).talk
@@ -20,7 +20,7 @@ pub record SessionHears (old new : SessionValue) (l : ReadLine) (send : List (Li
   pub confirms : (t : Talk) → SessionStandsAfter old t → confirmed ≡ (line_heard t l).confirmed
   pub rolls : (t : Talk) → SessionStandsAfter old t → rolled ≡ (line_heard t l).rolled
 
--- the same of a client
+-- the same for a client
 pub record Does (old new : ClientValue) (i : InputValue) (send : List (List ℕ)) : Type 0 where
   pub stands : (t : Talk) → StandsAfter old t → StandsAfter new (step t i).talk
   pub hands : (t : Talk) → StandsAfter old t → send ≡ (step t i).send

@@ -95,7 +95,7 @@ answer_of v d =
     else (if plays_itself v.flags then Some ServerPlays
     else if_board allows (is_some v.waiting) d v.shown))
 
--- of the session that shows the board
+-- whether a standing order is due for the session that shows the board
 unfoldable pub due_of : SessionValue → BoardFields → Bool
 due_of v b =
     v.ordered && (int_eq (field_of b 39) (pos 0) && (is_to_roll (phase_of b) && is_none (answer_of v roll)))
