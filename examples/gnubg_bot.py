@@ -301,7 +301,7 @@ class Bot:
             self.command('bye')
 
     def read(self, text):
-        """A text may be an invitation, or say what becomes of the match."""
+        """A text may be an invitation, or say how the match goes on."""
         if re.fullmatch(r'%s wants to (resume|play) .* with you\.' % re.escape(self.other), text):
             self.command('join ' + self.other)
         elif re.match(r"Type 'join' if you want to play the next game", text):

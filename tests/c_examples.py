@@ -1,7 +1,7 @@
 #!/usr/bin/env python3
 """Compiles and runs the examples of include/fibs.h and of docs/C.md, after `make lib`.
 
-The example at the head of the header plays with a server that says what is wanted here; the program of docs/C.md is
+The example at the head of the header plays with a server that this test scripts; the program of docs/C.md is
 built over an installed library, as the page says: by pkg-config, over the archive, and by CMake. The last line is
 `N passed, M failed`.
 """
@@ -17,7 +17,7 @@ import tempfile
 ROOT = pathlib.Path(__file__).resolve().parent.parent
 STRICT = '-std=c11 -D_POSIX_C_SOURCE=200809L -Wall -Wextra -Wpedantic -Wconversion -Wsign-conversion -Werror'.split()
 
-# A caller of the header's example: the server's end of a socket has what is to be heard, and keeps what is sent.
+# A caller of the header's example: the server's end of a socket has what the client hears, and keeps what it sends.
 CALLER = r'''
 #include "fibs.h"
 

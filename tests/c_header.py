@@ -1,5 +1,5 @@
 #!/usr/bin/env python3
-"""Holds include/fibs.h to the library for C: c_header.py ARCHIVE
+"""Compares include/fibs.h with the library for C: c_header.py ARCHIVE
 
 Each exported function of crates/fibs_c has its declaration, with the same parameters in the same order and types of
 the same layout; each record of it and of crates/fibs_records has the same fields in the same order; each enumerator
@@ -17,7 +17,7 @@ ROOT = pathlib.Path(__file__).resolve().parent.parent
 SOURCES = sorted(path for crate in ('fibs_c', 'fibs_records')
                  for path in (ROOT / 'crates' / crate / 'src').glob('*.rt'))
 
-# What the header calls the records.
+# The header's names of the records.
 RECORDS = {'LinesHandle': 'fibs_lines', 'ClientHandle': 'fibs_client', 'DirectoryHandle': 'fibs_directory',
            'FedLine': 'fibs_fed', 'LineKind': 'fibs_kind', 'ToldLine': 'fibs_line', 'Told': 'fibs_told',
            'BoardRecord': 'fibs_board', 'FieldRecord': 'fibs_field', 'PlayStep': 'fibs_step',
@@ -27,7 +27,7 @@ RECORDS = {'LinesHandle': 'fibs_lines', 'ClientHandle': 'fibs_client', 'Director
 NUMBERS = {'u8': 'uint8_t', 'u16': 'uint16_t', 'u32': 'uint32_t', 'u64': 'uint64_t', 'i32': 'int32_t',
            'usize': 'size_t', 'bool': 'bool', '*mut u8': 'void *'}
 
-# The header's names of fields that are called otherwise there.
+# The header's names of fields that have another name in the library.
 FIELDS = {'numbers': 'number'}
 
 
@@ -97,7 +97,7 @@ def declared(one):
 
 
 def header():
-    """The same of the header."""
+    """The same for the header."""
     text = without_comments((ROOT / 'include' / 'fibs.h').read_text())
     limits = {name: int(number) for name, number in re.findall(r'#define (FIBS_\w+) (\d+)', text)}
     limits.update(re.findall(r'#define (FIBS_\w+) "(.*?)"', text))

@@ -1,9 +1,9 @@
 #!/usr/bin/env python3
 """Plays examples/bot.c against a server whose connection breaks in the middle of the match: c_match.py COMMAND..
 
-COMMAND is the bot, which a tool that watches it may run. The bot has to play the match to its end, by the plays that
-it is shown: the connection is lost once while a roll waits, of which the server has heard, and once in the middle of
-a board's line. Prints `N passed, M failed`.
+COMMAND is the bot, or a tool that watches it and the bot. The bot has to play the match to its end, on the boards that
+it is shown. The connection is lost once while a roll waits that the server has received, and once in the middle of a
+board's line. Prints `N passed, M failed`.
 """
 
 import subprocess

@@ -2,8 +2,8 @@
 """Tests the built program's `connect` on real sockets: tests/connect.py PROGRAM
 
 It plays both ends: it types what a player types, and is the server. It goes on when a line was printed, and not by
-the clock, so that a busy machine changes nothing; one case sees how long a quiet server is waited for, with a wide
-window. Prints a line for each case, and then `N passed, M failed`.
+the clock, so that a busy machine changes nothing. One case measures how long the program waits for a quiet server,
+with a wide window. Prints a line for each case, and then `N passed, M failed`.
 """
 
 import concurrent.futures
@@ -32,7 +32,7 @@ STYLE = 'set boardstyle 3'
 
 
 class Failed(Exception):
-    """What came is not what was to come."""
+    """What came is not what had to come."""
 
 
 def same(what, found, wanted):
@@ -42,7 +42,7 @@ def same(what, found, wanted):
 
 
 class Player:
-    """The program, and one who types at it."""
+    """The program, and a player who types at it."""
 
     # Those that were begun.
     running = []
@@ -457,7 +457,7 @@ def a_server_that_says_nothing(server):
 
 
 def a_quiet_server_is_waited_for_half_a_second(server):
-    """Each command leaves at once, and a server that is gone without a word is asked after."""
+    """Each command leaves at once, and the system probes a silent server."""
     player = logged_in(server)
     found = peeking.options(player.program.pid)
     if found is None:

@@ -109,7 +109,7 @@ def wide_sides(rng):
 
 
 def good_board(rng, phase=None, is_wide=False):
-    """A board of one who plays himself, mostly with 15 checkers each, in a phase that is mostly the user's."""
+    """A board of the user's own game, mostly with 15 checkers each, in a phase in which mostly the user decides."""
     own = own_checkers(rng)
     other = other_checkers(rng, own)
     if is_wide:
@@ -457,11 +457,11 @@ def lose(rng, model):
 
 
 def wishes(model):
-    """What may be done next in this state, and how often."""
+    """What may be done next in this state, each with its weight."""
     client, ready = model.client, any(b'\r\n' in c.up and c.number >= model.logged_in for c in model.connections)
     common = {told: 3, 'plain': 3, click: 2, 'repeat': 1, 'own': 1 if model.board.phase() in reference.DECIDED else 30}
     if not client.connection:
-        # The last two may not be, and end the script; so does serving if no line arrived.
+        # The last two are refused, and end the script; so does serving if no line arrived.
         return {'open': 60, serve: 25 if ready else 1, **common, deliver: 0.5, lose: 0.5}
     common.update({lose: 4, serve: 50 if ready else 0, deliver: 20 if client.connection.down else 2})
     if client.connection.number == model.logged_in or not ready:

@@ -1,9 +1,9 @@
 #!/usr/bin/env python3
 """Tests the built program's `connect` against hostile servers: tests/hostile.py PROGRAM
 
-Whatever the server does, the program holds little memory, answers each typed line, sends nothing twice and nothing that
-was not called for, and ends as its documents say. As in connect.py, each step waits for a line or for the end of a
-connection, and none for the clock. Prints a line for each case, and then `N passed, M failed`.
+Whatever the server does, the program holds little memory, answers each typed line, sends nothing twice and nothing
+that it should not send, and ends as its documents say. As in connect.py, each step waits for a line or for the end of
+a connection, and never for the clock. Prints a line for each case, and then `N passed, M failed`.
 """
 
 import concurrent.futures
@@ -62,7 +62,7 @@ def at_once(trial, rows):
 
 
 def sending(send, *arguments):
-    """Sends beside what follows, since no more is sent than is read."""
+    """Sends while the test goes on, since no more is sent than is read."""
     sender = threading.Thread(target=send, args=arguments, daemon=True)
     sender.start()
     return sender
@@ -509,7 +509,7 @@ def prompts_as_far_as_a_line_is_kept(_server):
     ])
 
 
-# -- boards that are none of the player's ----------------------------------------------------------------------------
+# -- boards of other players' games ----------------------------------------------------------------------------------
 
 def too_many_checkers():
     """A board with one checker too many of the player."""

@@ -1,7 +1,7 @@
 #!/usr/bin/env python3
 """Tests that the built program's `loop` plays over real sockets: tests/loop.py PROGRAM
 
-It lets the program open few files alone, looks where it listens, and comes to its port as a stranger before the
+It lets the program open only a few files, looks where it listens, and connects to its port as a stranger before the
 program's own client does. Prints a line for each case, and then `N passed, M failed`.
 """
 
@@ -33,7 +33,7 @@ LISTENS = '0A'
 
 
 class Failed(Exception):
-    """What came is not what was to come."""
+    """What came is not what had to come."""
 
 
 def same(what, found, wanted):
@@ -120,7 +120,7 @@ def listening(program):
 
 
 def waiting_loop():
-    """The program while it waits for its script, and its port."""
+    """The program, which waits for its script, and its port."""
     program = subprocess.Popen([PROGRAM, 'loop'], stdin=subprocess.PIPE, stdout=subprocess.PIPE, stderr=subprocess.PIPE)
     try:
         found = listening(program)
@@ -150,7 +150,7 @@ def two_that_listen_at_the_same_time():
 # -- a stranger ------------------------------------------------------------------------------------------------------
 
 def came_to(port, said):
-    """A connection to the port, on which these bytes were said."""
+    """A connection to the port, on which these bytes were sent."""
     stranger = socket.create_connection(('127.0.0.1', port), PATIENCE)
     stranger.sendall(said)
     return stranger

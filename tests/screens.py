@@ -66,7 +66,7 @@ os.environ.update(FIBS=PROGRAM, HOME=HOME.name, RLWRAP_HOME=HOME.name, LC_ALL='C
 
 
 def board_of(opponent='bob', length=1, places=None, dice=(0, 0), cube=1, doublers=(0, 0)):
-    """A board line of one who plays O, from 24 down to 1."""
+    """A board line of a player who plays O, from 24 down to 1."""
     places = places or [0, -2, 0, 0, 0, 0, 5, 0, 3, 0, 0, 0, -5, 5, 0, 0, 0, -3, 0, -5, 0, 0, 0, 0, 2, 0]
     fields = ['board', 'You', opponent, length, 0, 0, *places, 1, *dice, 0, 0, cube, *doublers, 0, 1, -1, 0, 25]
     return ':'.join(str(field) for field in [*fields, 0, 0, 0, 0, 0, 0, 0, 0])

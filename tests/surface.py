@@ -1,5 +1,5 @@
 #!/usr/bin/env python3
-"""Holds what a player sees of the program to one list: tests/surface.py [PROGRAM]
+"""Compares what a player sees of the program with one list: tests/surface.py [PROGRAM]
 
 The man page, the help (the texts of tests/help, to which tests/program holds the program), the completions and
 docs/PLAYING.md have the same subcommands, options, typed lines, refusals and statuses, and say the same of each: what

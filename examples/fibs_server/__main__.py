@@ -77,7 +77,7 @@ def parser():
     add = line.add_argument
     add('port', nargs='?', type=int, default=0, help='0, or none: a free one, which is printed')
     add('--host', default='127.0.0.1', help='the address on which it listens')
-    add('--seed', type=int, default=0, help='what is by chance is the same for the same number')
+    add('--seed', type=int, default=0, help='the same number gives the same dice and plays')
     add('--log', action='store_true', help='print what each player types, and who comes and goes')
     group = line.add_argument_group('players')
     add = group.add_argument

@@ -342,7 +342,7 @@ class Table:
                                         % self.match.names[side])
 
     def leave(self, side, own='** You terminated the game. The game was saved.'):
-        """`leave`, or what comes of a connection that ends: the match is saved."""
+        """`leave`, or the connection has ended: the match is saved."""
         others = '** Player %s has left the game. The game was saved.' % self.match.names[side]
         self.tell(side, own, others)
         self.room.save(self.match)

@@ -140,7 +140,7 @@ static const char *const COMING_AND_GOING[] = {
     "8 carl carl logs out.",
 };
 
-/* Players of whom the directory grows several times. */
+/* So many players that the directory grows several times. */
 static const char *const NEWCOMERS[] = {
     "5 a - - 1 0 1500 0 3 1 h - -", "5 b - - 1 0 1500 0 3 1 h - -", "5 c - - 1 0 1500 0 3 1 h - -",
     "5 d - - 1 0 1500 0 3 1 h - -", "5 e - - 1 0 1500 0 3 1 h - -", "5 f - - 1 0 1500 0 3 1 h - -",

@@ -516,7 +516,7 @@ class Connection:
         return line
 
 class Refused(Exception):
-    """An event that may not be: its number and name."""
+    """An event that is refused: its number and name."""
 
 class Replay:
     """The server, the wires and the client; every method `do_..` is an event of a script."""
@@ -646,7 +646,7 @@ def moved(board, steps):
 # ---- Scripts ------------------------------------------------------------------------------------------------------
 
 LARGEST_SCRIPT = 1048576
-# The most that each number of an event may be.
+# The largest value of each number of an event.
 LIMITS = {b'deliver': [4294967295], b'lose': [4294967295], b'serve': [4294967295, 255, 255]}
 
 def script_lines(script):
@@ -717,7 +717,7 @@ def replay(script):
     return b''.join(line + b'\n' for line in model.log) + last.encode() + b'\n', status
 
 def loop(script):
-    """Over sockets the same comes of a script."""
+    """Over sockets a script has the same result."""
     return replay(script)
 
 def main():

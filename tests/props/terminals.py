@@ -228,7 +228,7 @@ def begin(words):
 
 
 def shell(orders, reports, words):
-    """Runs one job. It hands a hangup on, unless it was told not to, and reports what becomes of the job."""
+    """Runs one job. It hands a hangup on, unless it was told not to, and reports how the job ends."""
     for number in OF_THE_JOB:
         signal.signal(number, signal.SIG_IGN)
     fcntl.ioctl(0, termios.TIOCSCTTY, 0)

@@ -288,7 +288,7 @@ def unready():
 
 
 def handles_are_given_back_once(counts):
-    """Whatever becomes of a value, in a Python that says all it has against it."""
+    """All that can happen to a value, in a Python that reports every warning."""
     script = """import copy, gc, fibs
 for make in (lambda: fibs.Client('ann', 'secret'), fibs.Lines, fibs.Directory):
     try:

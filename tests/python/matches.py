@@ -18,7 +18,7 @@ import matchfiles
 from props.package import ROOT, fibs
 
 POINTS = 7
-# Who plays which side is by chance, lines come in pieces and with prompts, some commands that are right are refused;
+# Who plays which side is random, lines come in pieces and with prompts, some valid commands are refused;
 # new players are not ready, and are played for by the server.
 SERVER = ['--seed', '3', '--mixed-sides', '--portions', '200', '--prompts', '--refuse', 'roll', '--refuse', 'move',
           '--set', 'automove=1', '--set', 'greedy=1', '--set', 'ready=0']

@@ -157,7 +157,7 @@ class Client:
 
 
 class Gambler(Client):
-    """A client that plays by itself: it decides on each new board, by chance, and checks what the board says."""
+    """A client that plays by itself: it decides at random on each new board, and checks what the board says."""
 
     def __init__(self, port, name, seed, doubles=0.0, resigns=0.0):
         self.chance = random.Random('%s %s' % (seed, name))

@@ -1,4 +1,4 @@
-"""The rules of the server beside those of tests/props/reference.py, on positions by chance."""
+"""The rules of the server beside those of tests/props/reference.py, on random positions."""
 
 import importlib.util
 import random

@@ -169,7 +169,7 @@ BETWEEN_HALVES = [
     ('deliver 10000', 'shown 1 {MUST_ROLL}', 'sent 1 {MUST_ROLL} roll', 'shown 1 {MUST_ROLL}'),
 ]
 
-# What may not be doubled is rolled, whatever the cube shows.
+# If the user may not double, the order rolls, whatever the cube shows.
 AT_THE_LIMIT = [
     ('order roll', 'ordered 1'),
     ('deliver 10000', 'shown 1 {CUBE_AT_LIMIT}', 'sent 1 {CUBE_AT_LIMIT} roll', 'shown 1 {CUBE_AT_LIMIT}'),

@@ -1,14 +1,14 @@
 """Histories of the world, worked out by hand: each event of a script of `fibs replay` beside what it adds to the log.
 
-A word in braces is a board or a message of boards.py. An event that may not be adds nothing, and stands beside its
-refusal: the events after it go on without it. A second click, a lost play and a cut one are told in fibs_replay_tests.
+A word in braces is a board or a message of boards.py. An event that is refused adds nothing, and has its refusal
+beside it: the events after it go on without it. fibs_replay_tests has a second click, a lost play and a cut one.
 """
 
 import subprocess
 
 from boards import NAMED
 
-# What may not be, in the order in which it is named.
+# What is refused, in the order in which it is named.
 REFUSED = [
     ('own {ONE_STEP}', 'refused 6 UserDecides'),
     ('own {OF_OTHERS}', 'refused 8 BadBoard'),

@@ -98,7 +98,7 @@ impl World {
         }
     }
 
-    /// Does one event, or says why it may not be: the first refusal of the event's line, and `Memory` only if no
+    /// Does one event, or says why it is refused: the first refusal of the event's line, and `Memory` only if no
     /// other holds. A refused event changes nothing.
     pub fn step(&mut self, event: &Event<'_>) -> Result<(), WorldRefusal>
         ensures refusal { (name password : List ℕ) (first : BoardFields) (events : List E.Event) →
@@ -161,7 +161,7 @@ impl World {
         }
     }
 
-    /// Does the events, one after another, up to the first that may not be; says how many it did, and why it stopped.
+    /// Does the events, one after another, up to the first that is refused; says how many it did, and why it stopped.
     ///
     /// The world is then reached by the events before and those done. Of this whole list the headline holds, and that
     /// no two decisions took effect on one game unless a board of the server's own came between them.

@@ -76,7 +76,7 @@ fn clicked_twice() -> [Event<'static>; 14] {
     ]
 }
 
-/// A run does the events before the first that may not be. Step by step each of them is taken, and the log is the same.
+/// A run does the events before the first that is refused. Step by step each of them is taken, and the log is the same.
 #[test]
 fn a_run_stops_at_a_line_that_is_not_there(rt: HostRuntime) -> Result<(), Fail> {
     let events = clicked_twice();

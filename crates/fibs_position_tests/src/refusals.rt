@@ -1,4 +1,4 @@
-//! What stays if memory is refused, and what becomes of boards that have no position or another player.
+//! What stays as it was if memory is refused, and the answers to boards that have no position or another player.
 
 use crate::rows::{ROWS, position};
 use fibs_messages::Board;

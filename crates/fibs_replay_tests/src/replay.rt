@@ -327,7 +327,7 @@ static UNREADABLE: [Row; 6] = [
     (&[OTHER, b"\nopen\n\n"], 3, b"script 3\n"),
 ];
 
-/// Scripts of few events, most of them with one that may not be.
+/// Scripts of few events, most of them with one that is refused.
 static SHORT: [Row; 16] = [
     (&[ROLL], 0, b"end 0\n"),
     (&[ROLL, b"\r\nopen\r\n"], 0, b"opened 1\nend 1\n"),

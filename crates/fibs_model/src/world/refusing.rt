@@ -1,4 +1,4 @@
-//! Which events may not be.
+//! Which events are refused.
 
 ghost use Rattle.std.specs.Prelude.{◌≡◌, ℕ, List, length, slice_index};
 ghost use Rattle.fibs_model.specs.Calls.{serve_refusal};
@@ -15,7 +15,7 @@ use fibs_position::is_die;
 use fibs_server::{Event, own_refusal};
 use fibs_wires::wire::{is_board_text, whole_line};
 
-/// Why a line of a connection may not be served.
+/// Why it is refused to serve a line of a connection.
 #[tactic(auto, unfolding(crate::specs::Calls::serve_refusal))]
 fn serve_refusal(
     links: &[Link],
@@ -39,7 +39,7 @@ fn serve_refusal(
 }
 
 impl World {
-    /// Why the event may not be. That memory may run out is no part of it.
+    /// Why the event is refused. That memory may run out is no part of it.
     pub(super) fn refusal(&self, event: &Event<'_>) -> Option<WorldRefusal>
         ensures { (login : List ℕ) (w : W.World) → StandsFor self.now login w →
             result ≡ refusal w (event_of event.now) }

@@ -11,7 +11,7 @@ use fibs_carrier::Carrier;
 use fibs_server::Event;
 
 impl World {
-    /// Does an event that may be.
+    /// Does an event that is not refused.
     pub(super) fn take<C: Carrier>(
         &mut self,
         carrier: &mut C,
