@@ -98,7 +98,7 @@ module _ (s t : List ℕ) (a : AtLineStart s) where
   pub telnet_of-append_start : telnet_of (s ++ t) ≡ telnet_of t
   telnet_of-append_start = telnet_of-append s t ∙ ap (λ k. telnet_along k t) a.no_command ∙ sym (telnet_of-along t)
 
--- what follows a line's start is read as if it stood alone
+-- what follows a line's start is read as if it were alone
 pub line_start_reads_alone : LineStartReadsAlone
 line_start_reads_alone s t a = record {
   lines = lines_of-append s t a;
@@ -151,7 +151,7 @@ line_end_is_a_line_start t = record {
   no_rest = rest_of-is (with_line_end t) ∙ ap after_end (plain-append t (13 ∷ 10 ∷ [])) ∙ ended (plain t) (telnet_of t);
 }
 
--- what follows CR LF is read as if it stood alone
+-- what follows CR LF is read as if it were alone
 pub what_follows_a_line_end_reads_alone : WhatFollowsALineEndReadsAlone
 what_follows_a_line_end_reads_alone t s = line_start_reads_alone (with_line_end t) s (line_end_is_a_line_start t)
 

@@ -83,7 +83,7 @@ telnet_along-append : (t : Telnet) (s u : List ℕ) → telnet_along t (s ++ u) 
 telnet_along-append t [] u = refl
 telnet_along-append t (b ∷ s) u = telnet_along-append (telnet_after t b) s u
 
--- what a stream gives when it goes on depends on its telnet state alone
+-- what a stream gives when it goes on depends only on its telnet state
 pub plain-append : (s u : List ℕ) → plain (s ++ u) ≡ plain s ++ data_along (telnet_of s) u
 plain-append s u =
     rw (plain-along, telnet_of-along s, plain-along s) (data_along-append Data s u)

@@ -1,4 +1,4 @@
--- What one event notes, and what becomes of the server's board: a decision is carried out, or the board is left.
+-- What one event notes, and the server's board after it: a decision is carried out, or the board stays as it is.
 use Rattle.std.proofs.Common.{◌≡◌, ◌⊎◌, inl, inr, ℕ, ◌+◌, Bool, true, false, List, [], ◌∷◌, ◌++◌, Option, Some, None}
 use Rattle.std.proofs.Common.{nat_eq, refl, sym, ◌∙◌, ap, subst, append-nil, append_assoc}
 use Rattle.std.specs.Prelude.{nat_lt, take}

@@ -1,4 +1,4 @@
--- Why a picture tells its board, and fits a terminal.
+-- Why a picture determines its board, and fits a terminal.
 pub mod Pips
 pub mod Parts
 pub mod Columns

@@ -1,4 +1,4 @@
--- The machine values of a handle: what is owned tells them, and is made of nothing.
+-- The machine values of a handle: what is owned determines them.
 use Rattle.std.proofs.Common.{◌≡◌, ℕ, List, [], ◌∷◌, ◌++◌, refl, ◌∙◌, lit<}
 use Rattle.std.specs.Prelude.{Option, None, Some}
 use seplogic.Ra.Ura.{Ura}

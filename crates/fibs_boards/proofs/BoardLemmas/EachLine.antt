@@ -27,7 +27,7 @@ use Rattle.fibs_fields.proofs.FieldLemmas.Spaces.{spaces_after}
 use Rattle.fibs_fields.proofs.NumberLemmas.Spelled.{number_in_spelled}
 use Rattle.fibs_boards.proofs.BoardLemmas.FieldTable.{all_narrow}
 
--- no fault in all is none here and none later
+-- if there is no fault in all, there is none here and none later
 no_fault : (n : ℕ) (o : Option Fault) (later : Option FieldFault) → fault_or n o later ≡ None
     → (o ≡ None) × (later ≡ None)
 no_fault n None later h = (refl, h)

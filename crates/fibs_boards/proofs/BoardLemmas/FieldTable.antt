@@ -15,7 +15,7 @@ is_narrow : Values → Bool
 is_narrow (Between low high) = nat_lt (mag low) (2 ^ 31) && nat_lt (mag high) (2 ^ 31)
 is_narrow (Either one other) = nat_lt (mag one) (2 ^ 31) && nat_lt (mag other) (2 ^ 31)
 
--- the test tells
+-- the test decides it
 narrow_from : (values : Values) → is_narrow values ≡ true → IsNarrow values
 unfolding is_narrow
 narrow_from (Between low high) h =

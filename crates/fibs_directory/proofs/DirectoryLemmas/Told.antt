@@ -21,7 +21,7 @@ module _ (name : List ℕ) (ms : List MessageValue) (m : MessageValue) where
   pub last_told-logout : logs_out name m ≡ true → last_told name (ms ++ m ∷ []) ≡ None
   last_told-logout e = ap (λ l. last_or None (filter (tells name) l)) (after_last-end (logs_out name) ms m e)
 
-  -- a message that is neither of the two tells nothing of the name
+  -- a message that is neither of the two says nothing of the name
   pub last_told-other : logs_out name m ≡ false
       → tells name m ≡ false → last_told name (ms ++ m ∷ []) ≡ last_told name ms
   last_told-other e f =

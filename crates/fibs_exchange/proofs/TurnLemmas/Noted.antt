@@ -1,4 +1,4 @@
--- No line that calls for commands is a message that tells of players.
+-- No line that is answered by commands is a message about players.
 use Rattle.std.proofs.Common.{◌≡◌, ◌≢◌, ℕ, Bool, true, false, if◌then◌else◌, nat_eq, List, [], ◌∷◌, ◌++◌, Option, None}
 use Rattle.std.proofs.Common.{Some, refl, sym, ap, subst, ◌∙◌}
 use Rattle.std.proofs.Common.{arith}
@@ -20,7 +20,7 @@ use Rattle.fibs_exchange.specs.Turns.Script.{InHand, acts_of}
 use Rattle.fibs_exchange.specs.Turns.NoteLaw.{TellsNothing, TurnsLeaveNoPlayer}
 use Rattle.fibs_exchange.proofs.TurnLemmas.Typed.{typed_notes}
 
--- an act that writes something has no message that tells of players
+-- an act that writes something has no message about players
 abbrev Telling : Act → Type 0
 Telling act = act.writes ≢ [] → AllByRecursion TellsNothing act.notes
 

@@ -43,7 +43,7 @@ use Rattle.fibs_exchange.specs.Turns.Script.{Done, directory_told, done_told, ac
 use Rattle.fibs_exchange.specs.Turns.Turn.{end_acts}
 use Rattle.fibs_exchange.specs.Turns.PrintLaw.{is_directory_line, without_directory, lines_of_acts, TurnsPrintTheirActs}
 
--- whether it tells that the directory took no note
+-- whether it says that the directory took no note
 abbrev is_unnoted : SaidValue → Bool
 is_unnoted (heard_said line r) = false
 is_unnoted (phase_said phase) = false

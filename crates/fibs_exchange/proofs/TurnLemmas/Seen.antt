@@ -48,7 +48,7 @@ module _ {F G : Type 0} {Tells : F → List SaidValue → F → Type 0} {Gains :
     quiet = d.quiet;
   }
 
--- a turn of which an account is kept behind a reference: if that is the same at the end, so is what its writer holds
+-- a turn whose account is kept behind a reference: if the reference is the same at the end, so is what its writer holds
 pub turn_accounted : {F W : Type 0} (out : F → MutBor W) (contents : W → Option (List ℕ)) (t : Talk) (new : ClientValue)
     (typed left still wrote now : Option (List ℕ)) (players known : List MessageValue) (a b : F) (e : Ending) (x : W)
     → ((out b).ghost_name ≡ (out a).ghost_name → x ≡ (out b).now)

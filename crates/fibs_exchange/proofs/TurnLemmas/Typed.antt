@@ -69,7 +69,7 @@ typed_stays t typed_order = orders t (Ordered (open_now t.log)) (order_refusal t
 typed_stays t typed_withdrawal = orders t (Withdrawn (open_now t.log)) (withdraw_refusal t.log) (λ o. refl)
 typed_stays t typed_none = stays_itself t
 
--- it tells the directory nothing
+-- it gives the directory no message
 
 answer_notes : (why : Option SaidValue) (send : List (List ℕ)) → (answer_act why send).notes ≡ []
 answer_notes None send = refl

@@ -19,7 +19,7 @@ without_spaces_at line n within after before =
     let is = suffix_len_is (λ c. c == 32) line n 0 within after before in
     ap (λ m. take m line) (omega (arith, is))
 
--- a text of spaces alone
+-- a text that has only spaces
 pub all_spaces : (xs : List ℕ) → ((k : ℕ) → k < length xs → (get_or xs k 0 == 32) ≡ true)
     → xs ≡ replicate (length xs) 32
 all_spaces [] h = refl

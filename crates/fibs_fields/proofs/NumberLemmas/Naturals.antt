@@ -36,7 +36,7 @@ decimal_value-natural (suc n) limit =
     plain_value (decimal (suc n)) (written_positive (suc n) (omega arith) limit)
     ∙ ap (λ m. Some (pos m)) (digits_value-decimal own (suc n) limit)
 
--- a number below 0 is none above it
+-- a number below 0 is not above it
 neg_is_no_pos : (d n : ℕ) → 0 < d → neg_ℤ (pos d) ≡ pos n → ⊥
 neg_is_no_pos zero n above e = omega arith
 neg_is_no_pos (suc d) n above e = cc

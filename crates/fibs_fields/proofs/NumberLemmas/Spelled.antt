@@ -34,7 +34,7 @@ pub record Positive (ds : List ℕ) : Type 0 where
   pub lead : get_or ds 0 0 ≢ 48
   pub digits : list_all is_ascii_digit ds ≡ true
 
--- the test tells
+-- the test decides it
 pub positive_parts : (ds : List ℕ) → is_positive ds ≡ true → Positive ds
 positive_parts ds p =
     let parts = and_parts (nat_lt 0 (length ds) && not (get_or ds 0 0 == 48)) (list_all is_ascii_digit ds) p in

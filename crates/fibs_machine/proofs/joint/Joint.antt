@@ -134,7 +134,7 @@ pub view_path : {a a' : List Board} {b b' c c' : List Ask} {d d' e e' : Bool} {l
     (record { seen = a'; sends = b'; takes = c'; spent = d'; moved = e'; link = l' })
 view_path h1 h2 h3 h4 h5 h6 = cc
 
--- entries that are not of c leave its view alone, and so do changes of other wires
+-- entries that are not of c do not change its view, and neither do changes of other wires
 pub same_view : (w : World) (w' : World) (es : List Entry) (c : ℕ) → w'.log ≡ w.log ++ es → shown c es ≡ []
     → sent c es ≡ [] → took c es ≡ [] → w'.links c ≡ w.links c
     → view w' c ≡ view w c

@@ -200,7 +200,7 @@ one_good : (b : Board) (z : Bool) → is_good b ≡ true → AllPass (one_if z b
 one_good b true h = (h, tt)
 one_good b false h = tt
 
--- what holds of a plain entry alone
+-- what holds of a single plain entry
 plain_told : (log : List Entry) (e : Entry) → IsPlain e
     → Called None log (e ∷ []) × NoneUndone (e ∷ []) × AllFit log (e ∷ [])
     × ((c : ℕ) → (sent c (e ∷ []) ≡ []) × (took c (e ∷ []) ≡ []) × AllPass (shown c (e ∷ [])))

@@ -50,7 +50,7 @@ module _ (law : Lawful) where
   gained_is : (a b : List ℕ) (ls : List Line) → lines_of (a ++ b) ≡ lines_of a ++ ls → gained a b ≡ ls
   gained_is a b ls h = ap (drop (length (lines_of a))) h ∙ drop-append_seam (lines_of a) ls
 
-  -- what follows whole lines is read as if it stood alone
+  -- what follows whole lines is read as if it were alone
   whole_then : (ts : List (List ℕ)) (y : List ℕ)
       → lines_of (flat_map on_wire ts ++ y) ≡ lines_of (flat_map on_wire ts) ++ lines_of y
   whole_then [] y = ap (λ l. l ++ lines_of y) (sym law.empty.0)

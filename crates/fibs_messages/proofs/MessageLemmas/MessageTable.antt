@@ -51,12 +51,12 @@ table_sound = refl
 kinds_sound : (n : ℕ) → is_sound n (kinds_of n) ≡ true
 kinds_sound n = rows_sound table n table_sound
 
--- the test of no field tells
+-- the test of no field decides it
 nil_is : (ks : List Kind) → is_nil ks ≡ true → ks ≡ []
 nil_is [] e = refl
 nil_is (k ∷ ks) e = absurd cc
 
--- the test of the last field tells
+-- the test of the last field decides it
 TextLast-from : (ks : List Kind) → text_last ks ≡ true → TextLast ks
 TextLast-from [] e = tt
 TextLast-from (k ∷ ks) e =

@@ -1,4 +1,4 @@
--- The cells of a half tell what is in it.
+-- The cells of a half determine what is in it.
 use Rattle.std.proofs.Common.{◌≡◌, ◌*◌, ◌==◌, ◌&&◌, ◌++◌, ℕ, Bool, true, false}
 use Rattle.std.proofs.Common.{cond}
 use Rattle.std.proofs.Common.{List, [], ◌∷◌, length, refl, sym, ◌∙◌, arith, nat_lt, append-nil}

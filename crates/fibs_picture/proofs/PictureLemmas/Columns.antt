@@ -1,4 +1,4 @@
--- The five cells of a place tell its checkers: they can be read back.
+-- The five cells of a place determine its checkers: they can be read back.
 use Rattle.std.proofs.Common.{◌≡◌, ◌⊎◌, ◌<◌, ◌≤◌, ◌+◌, ◌-◌, ◌*◌, ◌==◌, ◌&&◌, ◌++◌, ℕ, zero, suc, Bool, true, false}
 use Rattle.std.proofs.Common.{cond}
 use Rattle.std.proofs.Common.{List, refl, sym, ◌∙◌, ap, arith, inl, inr, nat_lt}
@@ -82,7 +82,7 @@ reads n h =
       other_other = is-equal _ _ t.3;
     }
 
--- a place holds checkers of one side alone, and few of them
+-- a place holds checkers of one side only, and few of them
 pub record OneSide (own other : ℕ) : Type 0 where
   pub either : (own ≡ 0) ⊎ (other ≡ 0)
   pub few_own : own < 16

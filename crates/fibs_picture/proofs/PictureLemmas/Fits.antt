@@ -87,7 +87,7 @@ stack-printed : (own other height : ℕ) → own < 100 → other < 100 → print
 stack-printed own other height h k = printed-cond (own == 0) _ _
     (level-printed other_letter other height refl k) (level-printed own_letter own height refl h)
 
--- no place holds more checkers than two digits tell
+-- no place holds more checkers than two digits can say
 record IsFew (c : Checkers) : Type 0 where
   own : (k : ℕ) → slice_index c.own k < 100
   other : (k : ℕ) → slice_index c.other k < 100

@@ -1,4 +1,4 @@
--- The lines of a half tell what is in it.
+-- The lines of a half determine what is in it.
 use Rattle.std.proofs.Common.{◌≡◌, ◌++◌, ℕ, List, length}
 use Rattle.std.proofs.Common.{codes, refl, sym, ◌∙◌, ap, arith}
 use Rattle.std.specs.Prelude.{slice_index}
@@ -107,7 +107,7 @@ pub record SameHalf (c d : Checkers) (h : Half) : Type 0 where
   pub fourth : SameLayer c d h 4
   pub fifth : SameLayer c d h 5
 
--- the places of a board hold checkers of one side alone
+-- the places of a board hold checkers of one side only
 abbrev pub Sided : Checkers → List ℕ → Type 0
 Sided c places = AllOf (λ p. OneSide (slice_index c.own p) (slice_index c.other p)) places
 
@@ -145,7 +145,7 @@ other-bar-tells c d s t e =
     (columns-tell 0 (slice_index c.other 0) 0 (slice_index d.other 0) s t
     (five _ _ _ _ _ _ _ _ _ _ e.first.bars e.second.bars e.third.bars e.fourth.bars e.fifth.bars)).1
 
--- ---- the edge tells the direction
+-- ---- the edge determines the direction
 
 -- the second byte of the lower edge's first label: 2 of 12, or 3 of 13
 edge-read : (d : Direction) (p : PositionValue) → p.direction ≡ d

@@ -1,4 +1,4 @@
--- What a board's fields may be: each place holds checkers of one side alone, and few of them.
+-- What a board's fields may be: each place holds checkers of one side only, and few of them.
 use Rattle.std.proofs.Common.{◌≡◌, ◌⊎◌, ◌<◌, ◌≤◌, ℕ, zero, suc, refl, sym, subst}
 use Rattle.std.proofs.Common.{arith, inl, inr, lit≤}
 use Rattle.std.specs.Prelude.{ℤ, pos, negsuc, neg_ℤ, ◌≤ℤ◌}

@@ -1,4 +1,4 @@
--- A picture tells its board: line by line, and in the lines place by place.
+-- A picture determines its board: line by line, and in the lines place by place.
 use Rattle.std.proofs.Common.{◌≡◌, ◌⊎◌, ◌<◌, ◌≤◌, ◌+◌, ◌-◌, ◌*◌, ◌^◌, ◌++◌, ℕ, zero, suc, true, List, [], ◌∷◌}
 use Rattle.std.proofs.Common.{length, codes}
 use Rattle.std.proofs.Common.{refl, sym, ◌∙◌, ap, subst, arith, append-nil, lit<, lit≤, map, sum}
@@ -480,7 +480,7 @@ same-lower a b e = let p = position_of a in let q = position_of b in record {
   };
 }
 
--- ---- what a picture tells
+-- ---- what a picture determines
 
 pair-same : (w x y z : ℤ) → w ≡ y → x ≡ z → w ∷ x ∷ [] ≡ y ∷ z ∷ []
 pair-same w x y z e f = cc

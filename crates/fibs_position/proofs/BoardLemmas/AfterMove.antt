@@ -195,7 +195,7 @@ moved_field ranges b q n board high =
 placed_is : (b : BoardFields) (q : Checkers) → placed b q ≡ map (place_says b q) (range_with_len 1 24)
 placed_is b q = ap (map (place_says b q)) places_are
 
--- a field that is none of the places is left by them
+-- a field that is not one of the places stays as it is
 beside : (b : BoardFields) (q : Checkers) (first long n : ℕ) (z : ℤ) → 1 ≤ first → first + long ≤ 25 → 32 ≤ n
     → changed (map (place_says b q) (range_with_len first long)) n z ≡ z
 beside b q first zero n z low top above = refl

@@ -77,7 +77,7 @@ pub changed_append : (xs ys : List (ℕ × ℤ)) (m : ℕ) (z : ℤ) → changed
 changed_append [] ys m z = refl
 changed_append (x ∷ xs) ys m z = changed_append xs ys m (cond (eqb (x.0 - 4) (m - 4)) x.1 z)
 
--- the changes name fields from a first to a last alone
+-- the changes name only fields from a first to a last
 abbrev pub between : ℕ → ℕ → List (ℕ × ℤ) → Bool
 between low high changes = list_all (λ (c : ℕ × ℤ). nat_le low c.0 && nat_le c.0 high) changes
 

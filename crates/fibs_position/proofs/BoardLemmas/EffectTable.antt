@@ -137,7 +137,7 @@ effect_exact exact b d dice after = (
   λ h. under (good b) (carried b d dice) (good_from exact b h.0) ∙ carried_complete b d dice after h.1,
 )
 
--- on a good board the table tells
+-- on a good board the table decides it
 pub effect_good : (b : BoardFields) (d : DecisionValue) (dice : List ℕ) → good b ≡ true
     → effect_of b d dice ≡ carried b d dice
 unfolding effect_of

@@ -14,7 +14,7 @@ use Rattle.fibs_position.specs.Laws.{GoodIsExact}
 abbrev pub BoardTest : Type 0
 BoardTest = (b : BoardFields) → (is_board b ≡ true) ↔ IsBoard b
 
--- what a test of two numbers tells
+-- what a test of two numbers decides
 le_tells : (a b : ℕ) → nat_le a b ≡ true → a ≤ b
 le_tells a b h = grind (arith, nat_tests)
 
@@ -55,6 +55,6 @@ good_from test b h =
 pub good_fails : BoardTest → (b : BoardFields) → ¬ IsGood b → good b ≡ false
 good_fails test b h = elim (cases_Bool (good b)) [ inl t ↦ absurd (h (good_tells test b t)) | inr f ↦ f ]
 
--- the test tells exactly the good boards
+-- the test is true of exactly the good boards
 pub good_is_exact : BoardTest → GoodIsExact
 good_is_exact test b = (good_tells test b, good_from test b)

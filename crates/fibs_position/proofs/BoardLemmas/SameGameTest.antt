@@ -52,7 +52,7 @@ game_from : (a b : BoardFields) → game_part a ≡ game_part b → same_game a 
 unfolding same_game
 game_from a b e = subst (λ p. same_part (game_part a) p ≡ true) e (part_same (game_part a))
 
--- what tells whether two boards have one game part is the test
+-- the test decides whether two boards have the same game part
 pub same_as_test : (t : Bool) (a b : BoardFields) → (IsTrue t ↔ (game_part a ≡ game_part b)) → t ≡ same_game a b
 same_as_test t a b h = same_from_decides t (same_game a b) h (game_tells a b, game_from a b)
 

@@ -1,4 +1,4 @@
--- The function of refusals is the table: the tests of a decision tell its rules.
+-- The function of refusals is the table: the tests of a decision decide its rules.
 use Rattle.std.proofs.Common.{◌≡◌, ◌⊎◌, inl, inr, Bool, true, false, Some, None, cond, refl, ap, ◌∙◌}
 use Rattle.std.specs.Prelude.{pos, ◌↔◌, ◌&&◌, not, int_le}
 use Rattle.std.specs.Bool.{Decides}
@@ -43,7 +43,7 @@ user_to p small (inl h) = inl ((phase_exact p AnswerDouble small).1 h)
 user_to p small (inr (inl h)) = inr (inl ((phase_exact p RollOrDouble small).1 h))
 user_to p small (inr (inr h)) = inr (inr ((phase_exact p Move small).1 h))
 
--- the test of the phase tells whether the user decides
+-- the test of the phase is true exactly if the user decides
 pub user_decides : (p : PositionValue) → SmallDice p.standing → Decides (decides (phase_in p)) (UserDecides p)
 user_decides p small = let d = deciding (phase_in p) in (λ e. user_from p small (d.0 e), λ h. d.1 (user_to p small h))
 
@@ -56,7 +56,7 @@ IsOneFor reject phase = phase ≡ AnswerDouble
 IsOneFor (move steps) phase = phase ≡ Move
 IsOneFor (resign stake) phase = (phase ≡ RollOrDouble) ⊎ (phase ≡ Move)
 
--- the test of a kind holds of its phases alone
+-- the test of a kind holds only of its phases
 for_sound : (d : DecisionValue) (phase : Phase) → is_for d phase ≡ true → IsOneFor d phase
 for_sound roll RollOrDouble e = refl
 for_sound double RollOrDouble e = refl
@@ -67,7 +67,7 @@ for_sound (resign stake) RollOrDouble e = inl refl
 for_sound (resign stake) Move e = inr refl
 for_sound d phase e = absurd (false≢true e)
 
--- if it holds of one phase alone, it tells whether a position is in it
+-- if it holds of only one phase, it decides whether a position is in it
 one_decides : (p : PositionValue) (d : DecisionValue) (phase : Phase) → SmallDice p.standing
     → ((other : Phase) → is_for d other ≡ true → other ≡ phase) → is_for d phase ≡ true
     → Decides (is_for d (phase_in p)) (InPhase p phase)

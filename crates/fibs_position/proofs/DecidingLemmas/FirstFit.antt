@@ -22,7 +22,7 @@ skip_first fits y ys x not_y h = (
   λ f. elim f [ inl both ↦ absurd (not_y both.0) | inr later ↦ h.1 later.1 ],
 )
 
--- what a search by tests finds, if each test tells the fact
+-- what a search by tests finds, if each test decides the fact
 by_test : {A : Type 0} (t : Bool) (Q : Type 0) → Decides t Q → (y x : A) (o : Option A) (R : Type 0) → (o ≡ Some x) ↔ R
     → (cond t (Some y) o ≡ Some x) ↔ ((Q × (x ≡ y)) ⊎ (¬ Q × R))
 by_test true Q d y x o R h = (

@@ -46,7 +46,7 @@ board_dice ranges b board =
 pub can_move_decides : (p : Standing) → SmallDice p → Decides (can_move p) (CanMove p)
 can_move_decides p small = (can_sound p small.first small.second, can_complete p)
 
--- each line's test tells whether the line fits
+-- each line's test is true exactly if the line fits
 fits_decides : (p : PositionValue) → SmallDice p.standing → (phase : Phase)
     → Decides (phase_fits p phase) (PhaseFits p phase)
 fits_decides p small Over = Decides-int_eq p.turn (pos 0)

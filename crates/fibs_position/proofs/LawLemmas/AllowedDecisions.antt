@@ -18,7 +18,7 @@ use Rattle.fibs_position.proofs.BoardLemmas.GoodTest.{BoardTest, good_tells, goo
 use Rattle.fibs_position.proofs.BoardLemmas.SameGameTest.{same_game_is_exact}
 use Rattle.fibs_position.proofs.LawLemmas.CarriedOut.{allowed_is, allowed_carried, effect_is, effect_good_differs}
 
--- if a first reason is none, it is no reason
+-- if there is no first reason, there is no reason
 first_test : (p : Bool) (x : Disallowed) (o : Option Disallowed) → cond (not p) (Some x) o ≡ None → p ≡ true
 first_test true x o h = refl
 first_test false x o h = absurd cc

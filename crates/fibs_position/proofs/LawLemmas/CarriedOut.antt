@@ -68,7 +68,7 @@ not_over b phase apart h =
     later_first (PhaseFits (position_of b)) Over (AnswerDouble ∷ OpponentActs ∷ RollOrDouble ∷ Move ∷ Passing ∷ [])
     phase apart h
 
--- numbers that are not apart are one
+-- numbers that do not differ are equal
 stable : (x y : ℤ) → ¬ (x ≢ y) → x ≡ y
 stable x y h = elim (int_eq x y) as (λ t. (t ≡ true → x ≡ y) → (x ≡ y → t ≡ true) → x ≡ y) [
   | true ↦ λ yes_of _. yes_of refl

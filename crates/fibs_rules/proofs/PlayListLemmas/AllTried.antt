@@ -103,7 +103,7 @@ backward_sound p x l r free =
     ordered p (held_of p.second p.first) x l r (dice_held p.second p.first r l) (most_short p l r).1 free
     (λ ms e. or_right _ _ e) (λ dice front q run. (dice, part_from_swapped p.first p.second dice front, run))
 
--- and by the larger die alone
+-- and by only the larger die
 forced_sound : (p : Standing) (x : Reach) → p.first ≤ 6 → p.second ≤ 6 → most_of p ≡ 1 → larger_first p ≡ true
     → In x (reaches p.checkers (max p.first p.second ∷ []) 25 []) → Leads p x.play x.leads
 forced_sound p x l r one larger h =
@@ -231,7 +231,7 @@ tried_single : (p q : Checkers) (die : ℕ) (steps : List Hop) → Run p (die �
 tried_single p q die [] run = absurd run
 tried_single p q die (step ∷ steps) (r, one, run) = (one.source.1, tt)
 
--- by the larger die alone, each legal play is tried
+-- by only the larger die, each legal play is tried
 forced_complete : (p : Standing) (steps : List Hop) (q : Checkers) → p.first ≤ 6 → p.second ≤ 6 → length steps ≡ 1
     → larger_first p ≡ true → Leads p steps q
     → In (reach steps q) (reaches p.checkers (max p.first p.second ∷ []) 25 [])

@@ -95,7 +95,7 @@ pub greater_itself : (found : List Hop) → greater (Some found) found ≡ found
 greater_itself found =
     cond_both (is_lt (play_cmp found found)) found found (λ r. r ≡ found) (λ e. refl) (λ e. refl)
 
--- a test that fails tells it
+-- what follows if the test fails
 pub not_greater : (o : Ordering) → is_gt o ≡ false → o ≢ Greater
 not_greater o e g = absurd (false≢true (sym e ∙ ap is_gt g))
 

@@ -32,7 +32,7 @@ lower_first low high xs ys lt =
     (cond-true _ _ _ (lt-ltb low.source high.source lt)) in
     ap (λ o. is_gt (ordering_then o (play_cmp xs ys))) first
 
--- with the same first step the others tell
+-- with the same first step the others decide
 same_first : (step : Hop) (xs ys : List Hop) → is_gt (play_cmp xs ys) ≡ false
     → is_gt (play_cmp (step ∷ xs) (step ∷ ys)) ≡ false
 same_first step xs ys e = ap (λ o. is_gt (ordering_then o (play_cmp xs ys))) (tied_itself hop_total step) ∙ e

@@ -21,7 +21,7 @@ pub all_from_zero : (xs : List ℕ) → ((s : ℕ) → get_or xs s 0 ≡ 0) → 
 all_from_zero [] h = refl
 all_from_zero (x ∷ xs) h = let e = all_from_zero xs (λ s. h (suc s)) in let z : x ≡ 0 = h 0 in grind (arith, nat_tests)
 
--- what the test of empty places tells
+-- what the test of empty places decides
 pub zero_above : (p : Checkers) (k : ℕ) → is_empty_from p k ≡ true → (s : ℕ) → k ≤ s → slice_index p.own s ≡ 0
 zero_above p k h s le =
     let e : get_or (drop k p.own) (s - k) 0 ≡ 0 = zero_from_all (drop k p.own) h (s - k) in
@@ -123,7 +123,7 @@ open_is p to h =
     elim (cases_lt 0 to)
     [ inl pos ↦ or_left _ _ (lt-ltb _ _ (h pos)) | inr none ↦ or_right _ _ (eq-eqb to 0 (omega arith)) ]
 
--- what the test of sources tells
+-- what the test of sources decides
 is_source_true : (from : ℕ) → is_source from ≡ true → (0 < from) × (from ≤ 25)
 is_source_true from e =
     let (l, r) = and_parts (nat_lt 0 from) (nat_le from 25) e in (ltb-true 0 from l, leb-true from 25 r)

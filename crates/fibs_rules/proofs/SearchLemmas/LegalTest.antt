@@ -98,7 +98,7 @@ playable p die lo hi pos =
     let l = r.long in
     plays_die p r.to die r.steps (single_run p r.to die r.used r.rest r.steps r.run r.front (omega (arith, l)))
 
--- what the test of two dice tells
+-- what the test of two dice decides
 pub two_from : (a b : ℕ) → are_two a b ≡ true → (0 < a) × (0 < b) × (a ≢ b)
 two_from a b e =
     let (l, f) = and_parts (nat_lt 0 a) (nat_lt 0 b && not (a == b)) e in
@@ -109,7 +109,7 @@ two_from a b e =
 pub two_is : (a b : ℕ) → 0 < a → 0 < b → a ≢ b → are_two a b ≡ true
 two_is a b l r apart = and_from _ _ (lt-ltb 0 a l) (and_from _ _ (lt-ltb 0 b r) (not_from_false _ (ne_eqb a b apart)))
 
--- what the test of the larger die tells
+-- what the test of the larger die decides
 pub larger_from : (p : Standing) → larger_first p ≡ true
     → IsLarger p (max p.first p.second) × (0 < longest p.checkers (max p.first p.second ∷ []))
 larger_from p e =
