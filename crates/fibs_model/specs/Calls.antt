@@ -12,8 +12,8 @@ use Rattle.fibs_position.specs.BoardEffect.{is_die}
 use Rattle.fibs_machine.specs.Server.{ServerValue}
 use Rattle.fibs_model.specs.WireLinks.{more_asked, more_coming, taken}
 use Rattle.fibs_machine.specs.Wires.{next_line}
-use Rattle.fibs_server.specs.ServerOf.{after_line}
-pub use Rattle.fibs_server.specs.ServerOf.{served_entries, is_answered}
+use Rattle.fibs_model_server.specs.ServerOf.{after_line}
+pub use Rattle.fibs_model_server.specs.ServerOf.{served_entries, is_answered}
 use Rattle.fibs_model.specs.declared.world.link.Link as C
 use Rattle.fibs_machine.specs.declared.refusal.WorldRefusal.{WorldRefusal}
 use Rattle.fibs_machine.specs.declared.refusal.WorldRefusal.TheVariants.{NoSuchConnection, BadDice, NothingToServe}

@@ -14,9 +14,9 @@ pub use Rattle.fibs_machine.specs.Joint
 pub use Rattle.fibs_machine.specs.Laws
 -- what is given to a carrier; the server, events and entries of the program; a wire
 pub use Rattle.fibs_carrier.specs.Carrying
-pub use Rattle.fibs_server.specs.ServerOf
-pub use Rattle.fibs_server.specs.EventOf
-pub use Rattle.fibs_server.specs.EntryOf
+pub use Rattle.fibs_model_server.specs.ServerOf
+pub use Rattle.fibs_model_server.specs.EventOf
+pub use Rattle.fibs_model_server.specs.EntryOf
 pub use Rattle.fibs_wires.specs.WireOf
 pub mod Clients
 pub mod LinksOf

@@ -4,7 +4,7 @@ use Rattle.fibs_session.specs.Calls.Standing.{ClientValue, StandsAfter}
 use Rattle.fibs_history.specs.Log.{Entry}
 use Rattle.fibs_history.specs.Words.{open_now}
 use Rattle.fibs_machine.specs.Talks.{IsWorld}
-use Rattle.fibs_server.specs.EntryOf.{entry_of}
+use Rattle.fibs_model_server.specs.EntryOf.{entry_of}
 use Rattle.fibs_machine.specs.Events.{Event}
 use Rattle.fibs_model.specs.LinksOf.{LinkValue, kept_of, seen, link_at}
 use Rattle.fibs_machine.specs.Refusals.{refusal}

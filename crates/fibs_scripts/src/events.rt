@@ -3,7 +3,7 @@ ghost use Rattle.std.specs.Prelude.{◌≡◌, ◌↔◌, Some, IfSome, IfNone, 
 ghost use Rattle.fibs_boards.specs.Board.{BoardText};
 ghost use Rattle.fibs_fields.specs.Decimal.{decimal_up_to};
 ghost use Rattle.fibs_boards.specs.StoredBoard.{fields_of};
-ghost use Rattle.fibs_server.specs.EventOf.{event_of};
+ghost use Rattle.fibs_model_server.specs.EventOf.{event_of};
 ghost use Rattle.fibs_machine.specs.Events.{Event as EventValue};
 ghost use Rattle.fibs_scripts.specs.EventLines.{SaysEvent};
 ghost use Rattle.fibs_scripts.specs.EventReading.{alone_in, board_in, event_in, joined_in, of_roll};
@@ -13,7 +13,7 @@ ghost use Rattle.fibs_scripts.specs.Scripts.{IsNoBoard, IsNoEvent};
 use crate::laws::events_are_exact;
 use fibs_messages::{Board, read_decimal, split};
 use fibs_position::Direction;
-use fibs_server::Event;
+use fibs_model_server::Event;
 use fibs_session::{read_command, read_plain};
 
 /// The number of a connection, or how many bytes.

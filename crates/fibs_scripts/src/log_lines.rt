@@ -6,7 +6,7 @@ ghost use Rattle.arrayvec.specs.ArrayVec.{array_vec_len};
 ghost use Rattle.fibs_boards.specs.Board.{spelling};
 ghost use Rattle.fibs_boards.specs.StoredBoard.{fields_of};
 ghost use Rattle.fibs_session.specs.Calls.SessionOf.{ask_of};
-ghost use Rattle.fibs_server.specs.EntryOf.{entry_of};
+ghost use Rattle.fibs_model_server.specs.EntryOf.{entry_of};
 ghost use Rattle.fibs_scripts.specs.LogLines.{answer_text, ask_text, entry_line, flag_text, of_connection};
 ghost use Rattle.fibs_scripts.specs.LogLines.{line_bytes, unconfirmed_text};
 ghost use Rattle.fibs_scripts.specs.Limits.{ask_len, board_len, entry_len, flag_len, number_len, write_len};
@@ -16,7 +16,7 @@ use crate::limits::WRITE_LEN;
 use arrayvec::ArrayVec;
 use fibs_engine::fixed::append;
 use fibs_messages::Board;
-use fibs_server::Entry;
+use fibs_model_server::Entry;
 use fibs_session::{Outstanding, Refusal};
 use itoa::Buffer;
 

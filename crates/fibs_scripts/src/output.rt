@@ -1,6 +1,6 @@
 //! What is written for a script: the lines of the log, and a last line.
 ghost use Rattle.std.specs.Prelude.{◌≡◌, ◌≤◌, ◌++◌, length, map};
-ghost use Rattle.fibs_server.specs.EntryOf.{entry_of};
+ghost use Rattle.fibs_model_server.specs.EntryOf.{entry_of};
 ghost use Rattle.fibs_engine.specs.Writing.{Wrote, progress_of};
 ghost use Rattle.fibs_scripts.specs.Limits.{write_len};
 ghost use Rattle.fibs_scripts.specs.LogLines.{log_text};
@@ -13,7 +13,7 @@ use arrayvec::ArrayVec;
 use fibs_engine::fixed::append;
 use fibs_engine::writing::{Broken, write_bytes};
 use fibs_machine::WorldRefusal;
-use fibs_server::Entry;
+use fibs_model_server::Entry;
 use itoa::Buffer;
 use std::io::Write;
 

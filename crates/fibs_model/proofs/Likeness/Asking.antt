@@ -17,8 +17,8 @@ use Rattle.fibs_history.specs.Machine as M
 use Rattle.fibs_session.specs.Calls.ClientLaws.{ServersEntriesAreSilent}
 use Rattle.fibs_session.specs.Calls.Standing.{StandsAfter}
 use Rattle.fibs_session.specs.Calls.Doing.{Does}
-use Rattle.fibs_server.specs.EntryOf.{entry_of}
-use Rattle.fibs_server.specs.declared.entry.Entry as C
+use Rattle.fibs_model_server.specs.EntryOf.{entry_of}
+use Rattle.fibs_model_server.specs.declared.entry.Entry as C
 use Rattle.fibs_machine.specs.Talks.{input_of}
 use Rattle.fibs_machine.specs.Refusals.{refusal}
 use Rattle.fibs_model.specs.Calls.{ask_links, click_entries, unless_refused}

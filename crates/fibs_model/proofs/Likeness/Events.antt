@@ -11,8 +11,8 @@ use Rattle.fibs_machine.specs.Events.{Event}
 use Rattle.fibs_machine.specs.Refusals.{refusal}
 use Rattle.fibs_machine.specs.World.{World, after, talk_of}
 use Rattle.fibs_model.specs.WorldOf.{WorldValue, StandsFor, IsKept, world_of, Goes, May}
-use Rattle.fibs_server.specs.EntryOf.{entry_of}
-use Rattle.fibs_server.specs.declared.entry.Entry as C
+use Rattle.fibs_model_server.specs.EntryOf.{entry_of}
+use Rattle.fibs_model_server.specs.declared.entry.Entry as C
 use Rattle.fibs_model.specs.declared.world.World.TheInside.{Inside}
 use Rattle.fibs_model.proofs.Following.{client_follows}
 use Rattle.fibs_machine.proofs.Projection.{talk_is_projected}

@@ -24,7 +24,7 @@ use Rattle.fibs_history.specs.MachineLaws.{PiecesJoin, EmptyPieceIsNothing}
 use Rattle.fibs_history.specs.Owing.{owed_on, owed, entries_owed, lines_in}
 use Rattle.fibs_history.specs.Owing.{PiecesTakeFromWhatIsOwed, PiecesTakeFromTheEntriesOwed}
 use Rattle.fibs_history.specs.Words.{open_now}
-use Rattle.fibs_server.specs.EntryOf.{roll_entries}
+use Rattle.fibs_model_server.specs.EntryOf.{roll_entries}
 use Rattle.fibs_model.specs.HearingOf.{HearsPiece, IsTalking, RoomForLine, RoomForPiece}
 use Rattle.fibs_history.proofs.Lists.{other_number}
 use Rattle.fibs_history.proofs.Past.{open_append}

@@ -10,12 +10,12 @@ use Rattle.fibs_session.specs.Calls.ClientLaws.{ServersEntriesAreSilent}
 use Rattle.fibs_session.specs.Calls.Standing.{StandsAfter}
 use Rattle.fibs_machine.specs.Server.{ServerValue}
 use Rattle.fibs_model.specs.Calls.{send_links, TakesNext}
-use Rattle.fibs_server.specs.EntryOf.{entry_of}
-use Rattle.fibs_server.specs.declared.entry.Entry as C
+use Rattle.fibs_model_server.specs.EntryOf.{entry_of}
+use Rattle.fibs_model_server.specs.declared.entry.Entry as C
 use Rattle.fibs_machine.specs.Events.{Serve}
 use Rattle.fibs_model.specs.LinksOf.{LinkValue, kept_of, link_at}
 use Rattle.fibs_machine.specs.Server.{Served, Stale, LoggedIn, Took, Undone, Answered}
-use Rattle.fibs_server.specs.ServerOf.{after_line, served_entries, is_answered}
+use Rattle.fibs_model_server.specs.ServerOf.{after_line, served_entries, is_answered}
 use Rattle.fibs_machine.specs.Wires as whole
 use Rattle.fibs_machine.specs.Wires.{next_line}
 use Rattle.fibs_model.specs.WireLinks.{taken}

@@ -6,7 +6,7 @@ ghost use Rattle.fibs_position.specs.DecisionValue.{decision_of};
 ghost use Rattle.fibs_session.specs.Calls.SessionOf.{refusal_in};
 ghost use Rattle.fibs_commands.specs.PlainOf.{plain_value};
 ghost use Rattle.fibs_model.specs.Calls.{click_entries};
-ghost use Rattle.fibs_server.specs.EntryOf.{entry_of};
+ghost use Rattle.fibs_model_server.specs.EntryOf.{entry_of};
 ghost use Rattle.fibs_machine.specs.Events as E;
 ghost use Rattle.fibs_model.specs.WorldOf.{May, Goes};
 
@@ -14,7 +14,7 @@ use super::World;
 use super::links::{COMMAND, hand_out, make_room};
 use fibs_messages::Board;
 use fibs_position::Decision;
-use fibs_server::Entry;
+use fibs_model_server::Entry;
 use fibs_session::{CommandText, Plain, Refusal};
 use std::alloc::AllocError;
 

@@ -4,7 +4,7 @@ ghost use Rattle.std.specs.Prelude.{◌≡◌, ◌≤◌, ◌<◌, ◌+◌, ◌*
 ghost use Rattle.std.specs.Prelude.{vec_len, vec_capacity, if◌then◌else◌, IfSome, true, OnOk, OnErr, IsErrOf};
 ghost use Rattle.fibs_lines.specs.Lines.{is_line_end};
 ghost use Rattle.fibs_model.specs.Crossings.{crossings_in};
-ghost use Rattle.fibs_server.specs.EntryOf.{entry_of};
+ghost use Rattle.fibs_model_server.specs.EntryOf.{entry_of};
 ghost use Rattle.fibs_machine.specs.Events as E;
 ghost use Rattle.fibs_model.specs.HearingOf.{HearsPiece, HearsNext, RoomForPiece, RoomForNext};
 ghost use Rattle.fibs_model.specs.LinksOf.{seen, link_at};
@@ -17,7 +17,7 @@ use super::link::Link;
 use super::links::make_room;
 use crate::halt::Halt;
 use fibs_carrier::Carrier;
-use fibs_server::Entry;
+use fibs_model_server::Entry;
 use fibs_session::Client;
 use fibs_wires::wire::line_ends;
 use std::alloc::AllocError;

@@ -7,11 +7,11 @@ ghost use Rattle.fibs_session.specs.Calls.SessionOf.{texts_of};
 ghost use Rattle.fibs_history.specs.Hearing.{heard};
 ghost use Rattle.fibs_history.specs.Log as L;
 ghost use Rattle.fibs_history.specs.Machine.{wire_of};
-ghost use Rattle.fibs_server.specs.EntryOf.{entry_of, entries_of};
+ghost use Rattle.fibs_model_server.specs.EntryOf.{entry_of, entries_of};
 ghost use Rattle.fibs_model.specs.HearingOf.{HearsPiece, RoomForLine, RoomForPiece};
 
 use fibs_messages::Reading;
-use fibs_server::Entry;
+use fibs_model_server::Entry;
 use fibs_session::{AnswerText, Client};
 use fibs_wires::wire::Wire;
 

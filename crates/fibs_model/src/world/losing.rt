@@ -10,7 +10,7 @@ use super::crossing::hang_up;
 use super::links::cut;
 use crate::halt::Halt;
 use fibs_carrier::Carrier;
-use fibs_server::Entry;
+use fibs_model_server::Entry;
 
 impl World {
     /// The open connection ends: of the bytes on their way to the server the first `kept` stay.

@@ -10,7 +10,7 @@ use super::link::Link;
 use super::links::COMMAND;
 use crate::halt::Halt;
 use fibs_carrier::Carrier;
-use fibs_server::Entry;
+use fibs_model_server::Entry;
 use fibs_wires::wire::Wire;
 
 impl World {

@@ -2,7 +2,7 @@
 
 ghost use Rattle.std.specs.Prelude.{◌≡◌, ℕ, List, length, slice_index};
 ghost use Rattle.fibs_model.specs.Calls.{serve_refusal};
-ghost use Rattle.fibs_server.specs.EventOf.{event_of};
+ghost use Rattle.fibs_model_server.specs.EventOf.{event_of};
 ghost use Rattle.fibs_model.specs.LinksOf.{seen, link_at};
 ghost use Rattle.fibs_machine.specs.Refusals.{refusal};
 ghost use Rattle.fibs_machine.specs.World as W;
@@ -12,7 +12,7 @@ use super::World;
 use super::link::Link;
 use fibs_machine::WorldRefusal;
 use fibs_position::is_die;
-use fibs_server::{Event, own_refusal};
+use fibs_model_server::{Event, own_refusal};
 use fibs_wires::wire::{is_board_text, whole_line};
 
 /// Why it is refused to serve a line of a connection.

@@ -7,7 +7,7 @@ ghost use Rattle.fibs_model.specs.Calls.{send_links, TakesLine, TakesNext};
 ghost use Rattle.fibs_model.specs.Crossings.{crossings_in};
 ghost use Rattle.fibs_machine.specs.Events as E;
 ghost use Rattle.fibs_model.specs.LinksOf.{seen, link_at, RoomToClient};
-ghost use Rattle.fibs_server.specs.ServerOf.{is_answered, served_of};
+ghost use Rattle.fibs_model_server.specs.ServerOf.{is_answered, served_of};
 ghost use Rattle.fibs_machine.specs.Wires.{next_line};
 ghost use Rattle.fibs_model.specs.WorldOf.{May, Goes};
 
@@ -18,7 +18,7 @@ use super::link::Link;
 use super::links::{BOARD, make_room, send_line};
 use crate::halt::Halt;
 use fibs_carrier::Carrier;
-use fibs_server::{Served, Server};
+use fibs_model_server::{Served, Server};
 use fibs_wires::wire::whole_line;
 
 /// The server takes the next line of a connection.

@@ -14,7 +14,7 @@ use Rattle.fibs_model.specs.Runs.{AllAccepted, after_all, MayBe, world_after}
 use Rattle.fibs_model.specs.World.{World, start, after}
 use Rattle.fibs_model.specs.WorldCalls.{Tells, Halts, HaltsAt}
 use Rattle.fibs_model.specs.WorldOf.{WorldValue}
-use Rattle.fibs_server.specs.declared.event.Event.{Event as ProgramEvent}
+use Rattle.fibs_model_server.specs.declared.event.Event.{Event as ProgramEvent}
 use Rattle.fibs_model.specs.declared.halt.Stop.{Stop}
 use Rattle.fibs_model.specs.declared.halt.Stop.TheVariants as S
 use Rattle.fibs_machine.specs.declared.refusal.WorldRefusal.{WorldRefusal}

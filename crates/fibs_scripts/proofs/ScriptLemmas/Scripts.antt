@@ -3,9 +3,9 @@ use Rattle.std.proofs.Common.{◌≡◌, ◌↔◌, ℕ, ◌+◌, true, List, []
 use Rattle.std.proofs.Common.{ap, sym, ◌∙◌, subst, arith, append_assoc, length-append}
 use Rattle.std.specs.Option.{is_some}
 use Rattle.fibs_boards.specs.Board.{BoardFields, BoardText}
-use Rattle.fibs_server.specs.EventOf.{event_of}
+use Rattle.fibs_model_server.specs.EventOf.{event_of}
 use Rattle.fibs_machine.specs.Events.{Event}
-use Rattle.fibs_server.specs.declared.event.Event.{Event as ProgramEvent}
+use Rattle.fibs_model_server.specs.declared.event.Event.{Event as ProgramEvent}
 use Rattle.fibs_scripts.specs.EventLines.{SaysEvent}
 use Rattle.fibs_scripts.specs.Scripts.{SayEvents, IsNoBoard, FirstUnreadable, no_line, no_board, no_event}
 use Rattle.fibs_scripts.specs.Scripts.{ReadsScript, ReadsEvents}

@@ -1,5 +1,5 @@
 use Rattle.std.proofs.Common.{◌≡◌, ◌++◌, ◌∙◌, map, sym, subst}
-use Rattle.fibs_server.specs.EntryOf.{entry_of}
+use Rattle.fibs_model_server.specs.EntryOf.{entry_of}
 use Rattle.fibs_scripts.specs.LogLines.{log_text}
 use Rattle.fibs_engine.specs.Writing.{Wrote, progress_of}
 use Rattle.fibs_scripts.proofs.ScriptLemmas.Outputs.{broken_on, entry_passed, entry_broken, all_passed}

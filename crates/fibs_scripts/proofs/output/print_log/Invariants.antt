@@ -1,5 +1,5 @@
 use Rattle.std.proofs.Common.{map, take}
-use Rattle.fibs_server.specs.EntryOf.{entry_of}
+use Rattle.fibs_model_server.specs.EntryOf.{entry_of}
 use Rattle.fibs_scripts.specs.LogLines.{log_text}
 use Rattle.fibs_scripts.specs.Passing.{Passed}
 use Rattle.fibs_scripts.proofs.output.print_log.Given as goal

@@ -1,5 +1,5 @@
 use Rattle.std.proofs.Common.{map, refl, ap, arith}
-use Rattle.fibs_server.specs.EntryOf.{entry_of}
+use Rattle.fibs_model_server.specs.EntryOf.{entry_of}
 use Rattle.fibs_machine.specs.Events.{Deliver}
 use Rattle.fibs_model.specs.WorldOf.{world_of}
 use Rattle.fibs_model.proofs.Likeness.Events.{kept_on, goes_seen, may_seen}

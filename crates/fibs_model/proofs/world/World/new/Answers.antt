@@ -2,7 +2,7 @@ use Rattle.std.proofs.Common.{map, refl, ap, arith}
 use Rattle.std.specs.Prelude.{is_ok}
 use Rattle.fibs_boards.specs.StoredBoard.{fields_of}
 use Rattle.fibs_commands.specs.LoginOf.{login_of, name_of, password_of}
-use Rattle.fibs_server.specs.EntryOf.{entry_of}
+use Rattle.fibs_model_server.specs.EntryOf.{entry_of}
 use Rattle.fibs_model.specs.LinksOf.{link_of}
 use Rattle.fibs_machine.specs.World.{start}
 use Rattle.fibs_model.proofs.Likeness.Beginning.{new_stands, new_after, refused}

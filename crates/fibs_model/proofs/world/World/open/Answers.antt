@@ -5,7 +5,7 @@ use Rattle.fibs_session.specs.Calls.SessionOf.{handed}
 use Rattle.fibs_history.specs.Log.{Opened}
 use Rattle.fibs_history.specs.Machine as M
 use Rattle.fibs_history.specs.Machine.{on_wire}
-use Rattle.fibs_server.specs.EntryOf.{entry_of}
+use Rattle.fibs_model_server.specs.EntryOf.{entry_of}
 use Rattle.fibs_machine.specs.Events.{Open}
 use Rattle.fibs_model.specs.LinksOf.{link_of}
 use Rattle.fibs_model.specs.WorldOf.{world_of}

@@ -1,5 +1,5 @@
 use Rattle.std.proofs.Common.{◌++◌, map, refl, ap, ◌∙◌, arith}
-use Rattle.fibs_server.specs.EntryOf.{entry_of}
+use Rattle.fibs_model_server.specs.EntryOf.{entry_of}
 use Rattle.fibs_machine.specs.Events.{Order}
 use Rattle.fibs_model.specs.WorldOf.{world_of}
 use Rattle.fibs_model.proofs.Likeness.Asking.{ordered_stands, noted_after}

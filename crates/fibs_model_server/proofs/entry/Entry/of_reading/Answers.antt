@@ -1,8 +1,8 @@
 use Rattle.std.proofs.Common.{◌≡◌, ◌++◌, sym, subst, ◌∙◌, append-nil}
 use Rattle.fibs_messages.specs.Line.{reading_of}
 use Rattle.fibs_history.specs.Hearing.{heard}
-use Rattle.fibs_server.specs.EntryOf.{entries_of, roll_entries}
-use Rattle.fibs_server.proofs.entry.Entry.of_reading.Goals as goal
+use Rattle.fibs_model_server.specs.EntryOf.{entries_of, roll_entries}
+use Rattle.fibs_model_server.proofs.entry.Entry.of_reading.Goals as goal
 
 pub returns-in-Numbered : goal.returns-in-Numbered
 returns-in-Numbered c = λ before.

@@ -3,8 +3,8 @@ use Rattle.std.specs.Result.{result_err}
 use Rattle.fibs_boards.specs.StoredBoard.{fields_of}
 use Rattle.fibs_position.specs.First.{IsFirst}
 use Rattle.fibs_position.specs.GoodBoard.{HasFault, faults}
-use Rattle.fibs_server.proofs.Outcomes.{error_is}
-use Rattle.fibs_server.proofs.server.Server.new.Goals as goal
+use Rattle.fibs_model_server.proofs.Outcomes.{error_is}
+use Rattle.fibs_model_server.proofs.server.Server.new.Goals as goal
 
 pub returns-in-Err-clause-fault : goal.returns-in-Err-clause-fault
 returns-in-Err-clause-fault c = λ f.

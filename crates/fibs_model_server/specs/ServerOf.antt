@@ -5,8 +5,8 @@ use Rattle.fibs_position.specs.DecisionValue.{decision_of}
 use Rattle.fibs_history.specs.Log as L
 use Rattle.fibs_machine.specs.Server as V
 use Rattle.fibs_machine.specs.Server.{ServerValue}
-use Rattle.fibs_server.specs.declared.server.Served.{Served}
-use Rattle.fibs_server.specs.declared.server.Served.TheVariants as S
+use Rattle.fibs_model_server.specs.declared.server.Served.{Served}
+use Rattle.fibs_model_server.specs.declared.server.Served.TheVariants as S
 
 -- a line with its dice
 abbrev pub taken_line : ℕ → Bool → List ℕ → List ℕ → V.TakenLine

@@ -7,8 +7,8 @@ use Rattle.fibs_position.specs.DecisionValue.{decision_of, roll}
 use Rattle.fibs_history.specs.Log as V
 use Rattle.fibs_history.specs.Words.{one_if}
 use Rattle.fibs_session.specs.Calls.SessionOf.{ask_of}
-use Rattle.fibs_server.specs.declared.entry.Entry.{Entry}
-use Rattle.fibs_server.specs.declared.entry.Entry.TheVariants as E
+use Rattle.fibs_model_server.specs.declared.entry.Entry.{Entry}
+use Rattle.fibs_model_server.specs.declared.entry.Entry.TheVariants as E
 
 -- what was noted, in the words of the history
 abbrev pub entry_of : Entry → V.Entry

@@ -1,7 +1,7 @@
 use Rattle.std.proofs.Common.{ap}
 use Rattle.std.specs.Prelude.{option_map}
 use Rattle.fibs_boards.specs.StoredBoard.{fields_of}
-use Rattle.fibs_server.proofs.server.Server.obey.Goals as goal
+use Rattle.fibs_model_server.proofs.server.Server.obey.Goals as goal
 
 pub unwrap-self-inside-requires : goal.unwrap-self-inside-requires
 unwrap-self-inside-requires c =

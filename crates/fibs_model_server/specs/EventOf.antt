@@ -4,8 +4,8 @@ use Rattle.fibs_boards.specs.StoredBoard.{fields_of}
 use Rattle.fibs_position.specs.DecisionValue.{decision_of}
 use Rattle.fibs_commands.specs.PlainOf.{plain_value}
 use Rattle.fibs_machine.specs.Events as V
-use Rattle.fibs_server.specs.declared.event.Event.{Event}
-use Rattle.fibs_server.specs.declared.event.Event.TheVariants as E
+use Rattle.fibs_model_server.specs.declared.event.Event.{Event}
+use Rattle.fibs_model_server.specs.declared.event.Event.TheVariants as E
 
 -- what happens, with no address in it
 abbrev pub event_of : Event → V.Event

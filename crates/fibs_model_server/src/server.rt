@@ -35,8 +35,8 @@ pub enum Served {
 }
 
 impl Served {
-    ghost use Rattle.fibs_server.specs.EntryOf.{entries_of};
-    ghost use Rattle.fibs_server.specs.ServerOf.{is_answered, served_entries, served_of};
+    ghost use Rattle.fibs_model_server.specs.EntryOf.{entries_of};
+    ghost use Rattle.fibs_model_server.specs.ServerOf.{is_answered, served_entries, served_of};
 
     /// The server answers the line by its board.
     pub fn is_answered(self) -> bool
@@ -99,7 +99,7 @@ impl Model for Server {
 }
 
 impl Server {
-    ghost use Rattle.fibs_server.specs.ServerOf.{served_of, after_line, taken_line};
+    ghost use Rattle.fibs_model_server.specs.ServerOf.{served_of, after_line, taken_line};
 
     /// A server with a good board, and no connection logged in. Any other board is refused, with the first of its
     /// faults.

@@ -100,7 +100,7 @@ pub enum Entry {
 }
 
 impl Entry {
-    ghost use Rattle.fibs_server.specs.EntryOf.{entries_of, roll_entries};
+    ghost use Rattle.fibs_model_server.specs.EntryOf.{entries_of, roll_entries};
 
     /// The entry of a message that the client heard.
     fn of_message(conn: usize, message: &Message<'_>) -> Option<Entry>
