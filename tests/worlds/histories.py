@@ -203,7 +203,7 @@ FLAGS = [
         ('roll', 'roll'),
         ('toggle greedy', 'NotOn'),
     ]),
-    ('what was turned off is not turned over again on the connection', [
+    ('what was turned off is not toggled again on the connection', [
         ('open', 'login fibs_client 1008 ann secret'),
         ('line {INFO_BOTH}', 'board'),
         ('toggle greedy', 'toggle greedy'),

@@ -1,7 +1,7 @@
-//! Tests of the rules, of positions and of commands: worked rows of positions, values that no board line shows, what
-//! a board is for its player, what becomes of it, a slow search beside the list of plays, and what is said to the
-//! server. More turns, more that a player may decide, and when the game has gone on are in `tests/rows/positions.py`
-//! and `plays.py`.
+//! Tests of the rules, of positions and of commands: worked rows of positions, values that no board line shows, what a
+//! board is for its player, the boards after decisions, a slow search compared with the list of plays, and the commands
+//! to the server. `tests/rows/positions.py` and `plays.py` have more turns, more that a player may decide, and when the
+//! game has gone on.
 #![tactic(auto)]
 
 #[cfg(test)]
