@@ -1,4 +1,5 @@
-//! The behaviour of `fibs show` in plain Rust over std alone, without proofs: `bench/show` compares `fibs show` with it.
+//! The behaviour of `fibs show` in plain Rust over std alone, without proofs. `bench/show` compares `fibs show` with
+//! it.
 //! Built by `rustc -O`; it reads standard input and writes standard output, and its output is that of `fibs show`.
 
 use std::fmt::Write as _;

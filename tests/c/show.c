@@ -2,8 +2,8 @@
  * show -n [MORE].
  *
  * Lines come by fibs_lines_feed with -1, else by fibs_read_lines, with MORE room than one line needs and few rows, so
- * that a piece takes several calls. Messages are printed from their fields, boards by fibs_print_board, and its text has
- * to be that of the record.
+ * that a piece takes several calls. Messages are printed from their fields, boards by fibs_print_board, and its text
+ * has to be that of the record.
  */
 #include "fibs.h"
 
