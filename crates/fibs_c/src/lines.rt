@@ -50,7 +50,7 @@ pub extern "C" fn fibs_lines_new(alloc: Global, lines: &mut LinesHandle) -> u32
     }
 }
 
-/// Gives the reader's memory back. The handle then holds none; one that held none stays as it is.
+/// Gives the reader's memory back. The handle then holds nothing; a handle that held nothing stays as it is.
 #[unsafe(no_mangle)]
 pub extern "C" fn fibs_lines_free(alloc: Global, lines: &mut LinesHandle)
     ensures { lines.new.value ≡ None }

@@ -191,7 +191,7 @@ joining_reads (Some rest) plain h = go (after 32 rest) refl h
         (subst (ReadsAs (codes "join " ++ before 32 rest)) made (reads_join_with (before_without 32 rest)))
     go (Some more) e f = absurd cc
 
--- what a user turns over
+-- what a user toggles
 toggle_reads : (o : Option (List ℕ)) (plain : PlainValue) → toggle_in o ≡ Some plain
     → ReadsAs (codes "toggle" ++ from 32 o) plain
 unfolding toggle_in

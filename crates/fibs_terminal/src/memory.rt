@@ -99,7 +99,7 @@ impl Memory {
         Ok(true)
     }
 
-    /// Shows the words of a player again. False if they were shown.
+    /// Shows again what a player says. False if they were shown.
     pub fn ungag(&mut self, name: &[u8]) -> bool {
         let before = self.gagged.len();
         self.gagged.retain(|gagged| gagged.as_slice() != name);
