@@ -27,7 +27,7 @@ fn are_digits(text: &[u8]) -> bool
 pub fn digit_run(text: &[u8]) -> usize
     ensures { result ≡ prefix_len is_ascii_digit text.now }
 {
-    // A colon is no digit either.
+    // No digit is a colon, so nothing is left out.
     run_of(text, b'0', b'9', b':')
 }
 

@@ -1,4 +1,4 @@
-//! How far the bytes of a class reach.
+//! How many bytes of a class a text begins with, which is seen by comparing 16 bytes at once.
 
 ghost use Rattle.std.specs.Prelude.{◌≡◌, ◌<◌, IfSome, length, map, slice_index};
 ghost use Rattle.std.specs.List.{prefix_len};
@@ -17,7 +17,7 @@ fn is_between(byte: u8, low: u8, high: u8, except: u8) -> bool
     byte >= low && byte <= high && byte != except
 }
 
-/// The bits of the bytes that are not: the lowest is that of the first.
+/// A mask whose bit k is set if byte k of the window is below `low`, above `high`, or `except`.
 #[inline(always)]
 fn outside(window: u8x16, low: u8, high: u8, except: u8) -> u64
     ensures { result ≡ mask_l (map (is_outside low high except) window) }

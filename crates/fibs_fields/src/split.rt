@@ -20,8 +20,10 @@ pub fn one_before(text: &[u8], byte: u8) -> Option<(u8, &[u8])>
     }
 }
 
-/// Where the first `byte` of a text is. Nearly all fields end in the first window.
-#[inline(always)]
+/// Where the first `byte` of a text is. Nearly all fields end within 16 bytes.
+///
+/// It is not inlined, so that the loops over short fields stay small.
+#[inline(never)]
 fn place_of(text: &[u8], byte: u8) -> Option<usize>
     ensures { IsFirstByte (is_byte byte) text.now result }
 {
