@@ -1,6 +1,6 @@
 //! Lines that are spelled as they are printed.
 
-ghost use Rattle.std.specs.Prelude.{◌≡◌, ◌≤◌, ◌++◌, length, take, true, IfSome, Some, None};
+ghost use Rattle.std.specs.Prelude.{◌≡◌, ◌≤◌, ◌++◌, length, take, true, IfSome, OnSome, Some, None};
 ghost use Rattle.fibs_fields.specs.Field.{a_flag, a_name, a_number, a_rating, a_tail, a_text, a_word};
 ghost use Rattle.fibs_fields.specs.Split.{seen};
 ghost use Rattle.fibs_messages.specs.Message.{IsNumber, MessageText, MessageValue, canonical, kinds_of};
@@ -62,6 +62,7 @@ fn name_len(text: &[u8]) -> Option<usize>
 }
 
 /// How long the word at the front of a text is.
+#[inline(always)]
 fn word_len(text: &[u8]) -> Option<usize>
     ensures { IfSome result (λ len. Begins a_word text.now len) }
 {
@@ -73,8 +74,10 @@ fn word_len(text: &[u8]) -> Option<usize>
 }
 
 /// How long the tail is that a text is.
+#[inline(always)]
 fn tail_len(text: &[u8]) -> Option<usize>
-    ensures { IfSome result (λ len. Begins a_tail text.now len) }
+    ensures begins { IfSome result (λ len. Begins a_tail text.now len) }
+    ensures whole { IfSome result (λ len. len ≡ length text.now) }
 {
     if text.is_empty() || text[text.len() - 1] == b' ' {
         return None;
@@ -83,6 +86,7 @@ fn tail_len(text: &[u8]) -> Option<usize>
 }
 
 /// How long the text that ends a line is. An empty text is printed without its space.
+#[inline(always)]
 fn text_len(text: &[u8]) -> Option<usize>
     ensures { IfSome result (λ len. Begins a_text text.now len) }
 {
@@ -93,6 +97,7 @@ fn text_len(text: &[u8]) -> Option<usize>
 }
 
 /// How long the flag at the front of a text is.
+#[inline(always)]
 fn flag_len(text: &[u8]) -> Option<usize>
     ensures { IfSome result (λ len. Begins a_flag text.now len) }
 {
@@ -120,6 +125,7 @@ fn decimal_len(text: &[u8], most: usize) -> Option<usize>
 }
 
 /// How long the number at the front of a text is, if it has 19 digits at most. 64 bits hold each of these.
+#[inline(always)]
 fn number_len(text: &[u8]) -> Option<usize>
     ensures { IfSome result (λ len. Begins a_number text.now len) }
 {
@@ -128,6 +134,7 @@ fn number_len(text: &[u8]) -> Option<usize>
 
 /// How long the rating at the front of a text is, if it has two digits after its point and 7 at most before it. 32
 /// bits hold each of these.
+#[inline(always)]
 fn rating_len(text: &[u8]) -> Option<usize>
     ensures { IfSome result (λ len. Begins a_rating text.now len) }
 {
@@ -199,6 +206,57 @@ fn all_stand(kinds: &[FieldKind], fields: Option<&[u8]>) -> bool
     rest.is_none()
 }
 
+/// What comes after the next field and its space, if it is one of this kind and spelled as it is printed.
+#[inline(always)]
+fn past(kind: FieldKind, text: &[u8]) -> Option<&[u8]>
+    ensures { IfSome result (λ rest. Stands (kind_seen kind) (Some text.now) (Some rest.now)) }
+{
+    let len = field_len(kind, text)?;
+    if len < text.len() && text[len] == b' ' {
+        Some(&text[len + 1..])
+    } else {
+        None
+    }
+}
+
+/// Something if the fields are those of who info, and each is spelled as it is printed. None promises nothing.
+///
+/// Each text is named by the field with which it begins. A server sends this message for every player who is there, and
+/// it has twelve fields, so their kinds are not looked up one by one.
+#[inline(always)]
+fn who_info_stands(name: &[u8]) -> Option<()>
+    ensures { OnSome result (AllStand (kinds_of 5) (Some name.now) None) }
+{
+    let opponent = past(Name, name)?;
+    let watching = past(Name, opponent)?;
+    let ready = past(Name, watching)?;
+    let away = past(Flag, ready)?;
+    let rating = past(Flag, away)?;
+    let experience = past(Rating, rating)?;
+    let idle = past(Number, experience)?;
+    let login = past(Number, idle)?;
+    let hostname = past(Number, login)?;
+    let client = past(Word, hostname)?;
+    let email = past(Word, client)?;
+    tail_len(email)?;
+    Some(())
+}
+
+/// Whether the fields are those of this message, and each is spelled as it is printed.
+#[inline(always)]
+fn fields_stand(number: u8, fields: Option<&[u8]>) -> bool
+    requires { IsNumber number }
+    ensures { result ≡ true → AllStand (kinds_of number) (seen fields.entry) None }
+{
+    if number != 5 {
+        return all_stand(kinds_of(number), fields);
+    }
+    match fields {
+        Some(text) => who_info_stands(text).is_some(),
+        None => false,
+    }
+}
+
 /// The canonical line of the message that a line says, if that is the line itself, or the line without the spaces
 /// at its end, and is seen to be so at once: no message is made of it.
 ///
@@ -206,9 +264,9 @@ fn all_stand(kinds: &[FieldKind], fields: Option<&[u8]>) -> bool
 pub fn canonical_line(line: &[u8]) -> Option<&[u8]>
     ensures { IfSome result (λ text. (m : MessageValue) × MessageText m line.now × (text.now ≡ canonical m)) }
 {
-    let number = number_of(split(line, b' ').0)?;
+    let number = number_of(line)?;
     let kept = kept(number, line);
-    if all_stand(kinds_of(number), split(kept, b' ').1) {
+    if fields_stand(number, split(kept, b' ').1) {
         Some(kept)
     } else {
         None

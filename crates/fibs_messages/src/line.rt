@@ -14,7 +14,6 @@ use crate::number::{number_of, rest_of};
 use crate::reader::read_message;
 use fibs_boards::board::Board;
 use fibs_fields::fault::{Fault, FieldFault};
-use fibs_fields::split::split;
 
 /// What a line of the server is.
 #[derive(Clone, Copy, Debug, PartialEq, Eq)]
@@ -95,7 +94,7 @@ fn beginning_of(line: &[u8]) -> Beginning
     if is_board_line(line) {
         return Beginning::Board;
     }
-    match number_of(split(line, b' ').0) {
+    match number_of(line) {
         Some(number) => Beginning::Number(number),
         None => Beginning::Other,
     }
@@ -106,7 +105,7 @@ pub fn message_number(line: &[u8]) -> Option<u8>
     ensures number { (n : ℕ) → (result ≡ Some n) ↔ HasNumber line.now n }
     ensures reading { IfSome result (λ n. IsOfNumber n (reading_value line.now)) }
 {
-    number_of(split(line, b' ').0)
+    number_of(line)
 }
 
 /// Reads a line that was not cut, without its line end and its prompts.

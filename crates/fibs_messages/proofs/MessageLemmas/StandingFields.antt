@@ -1,6 +1,7 @@
 -- If each field of a line is as it is printed, the line is the canonical line of its message.
 use Rattle.std.proofs.Common.{◌≡◌, ◌∙◌, ℕ, suc, ◌+◌, ◌<◌, List, [], ◌∷◌, ◌++◌, decimal, length, get_or, take, drop}
-use Rattle.std.proofs.Common.{replicate, Option, Some, None, refl, sym, ap, arith, append_assoc}
+use Rattle.std.proofs.Common.{replicate, Option, Some, None, refl, sym, ap, ap₂, arith}
+use Rattle.std.proofs.Common.{append_assoc}
 use Rattle.std.proofs.Common.{take-append-drop}
 use Rattle.std.proofs.Common.{add-one}
 use Rattle.std.specs.List.{flat_map, AllByRecursion}
@@ -70,6 +71,17 @@ one_more_stands ks k o p q all this = record {
   valid = values_more all.values this.value all.valid this.valid;
   text = all.text ∙ (ap (λ (s : List ℕ). flat_map canonical_field all.values ++ s) this.text
       ∙ printed_more all.values this.value (after_space q));
+}
+
+-- a field is as it is printed, and so are those after it
+pub stands_before : {k : Kind} {ks : List Kind} {o p q : Option (List ℕ)} → Stands k o p → AllStand ks p q
+    → AllStand (k ∷ ks) o q
+stands_before {q = q} this all = record {
+  values = this.value ∷ all.values;
+  kinds = ap₂ (λ (x : Kind) (xs : List Kind). x ∷ xs) this.kind all.kinds;
+  valid = (this.valid, all.valid);
+  text = this.text ∙ (ap (λ (s : List ℕ). canonical_field this.value ++ s) all.text
+      ∙ sym (append_assoc (canonical_field this.value) (flat_map canonical_field all.values) (after_space q)));
 }
 
 -- what is left with its space is what is put after

@@ -1,12 +1,11 @@
-use Rattle.std.proofs.Common.{sym, ap, ◌∙◌}
-use Rattle.fibs_messages.specs.Message.{number_word}
+use Rattle.std.proofs.Common.{sym}
 use Rattle.fibs_messages.proofs.LineLemmas.ReadingValues.{has_one_number, reads_any_number}
 use Rattle.fibs_messages.proofs.line.message_number.Goals as goal
 
 pub returns-clause-number : goal.returns-clause-number
 returns-clause-number c =
-    has_one_number c.args.line.now _ (sym (c.number_of.ensures.value ∙ ap number_word c.split.ensures.before))
+    has_one_number c.args.line.now _ (sym c.number_of.ensures.value)
 
 pub returns-clause-reading : goal.returns-clause-reading
 returns-clause-reading c =
-    reads_any_number c.args.line.now _ (sym (c.number_of.ensures.value ∙ ap number_word c.split.ensures.before))
+    reads_any_number c.args.line.now _ (sym c.number_of.ensures.value)
