@@ -4,6 +4,7 @@ use Rattle.fibs_lines.specs.Lines.{ReadLine, lines_of, value_of}
 use Rattle.fibs_lines.specs.Standing.{AtLineStart}
 use Rattle.fibs_lines.specs.declared.line.Line.{Line}
 use Rattle.fibs_lines.specs.declared.lines.Fed.{Fed}
+use Rattle.fibs_lines.specs.declared.lines.WholeLine.{WholeLine}
 
 -- the line that was lent, if one was
 abbrev pub lent_lines : Option Line → List ReadLine
@@ -18,3 +19,7 @@ pub record Feeds (s piece : List ℕ) (fed : Fed) : Type 0 where
   pub shortest : (n : ℕ) → n < fed.used → lines_of (s ++ take n piece) ≡ lines_of s
   pub whole : IsNone fed.line → fed.used ≡ length piece
   pub starts : IsSome fed.line → AtLineStart (s ++ take fed.used piece)
+
+-- the answer of `feed` that a line is which is whole in the piece
+abbrev pub fed_of : WholeLine → Fed
+fed_of whole = record { used = whole.used; line = Some whole.line }

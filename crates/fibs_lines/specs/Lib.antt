@@ -3,6 +3,7 @@ pub mod Lines
 pub mod Standing
 pub mod LinesValue
 pub mod Feeding
+pub mod Literal
 pub mod StreamLaws
 -- What only private functions say.
 pub mod Progress

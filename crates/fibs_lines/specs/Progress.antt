@@ -1,7 +1,8 @@
 -- How the reading loop goes on. No public contract rests on this file.
-use Rattle.std.specs.Prelude.{◌≡◌, ℕ, ◌+◌, ◌<◌, Bool, false, ◌||◌, ◌==◌, nat_lt, List, [], ◌∷◌, ◌++◌, length, take}
-use Rattle.std.specs.Prelude.{slice_index}
+use Rattle.std.specs.Prelude.{◌≡◌, ℕ, ◌+◌, ◌<◌, ◌≤◌, Bool, true, false, ◌||◌, ◌==◌, nat_lt, List, [], ◌∷◌, ◌++◌, length}
+use Rattle.std.specs.Prelude.{take, slice_index, ◌⊎◌}
 use Rattle.fibs_lines.specs.Lines.{kept_limit, rest_of, lines_of}
+use Rattle.fibs_lines.specs.Literal.{is_literal}
 use Rattle.fibs_lines.specs.Standing.{telnet_of}
 use Rattle.fibs_lines.specs.declared.telnet.Telnet.{Telnet}
 use Rattle.fibs_lines.specs.declared.telnet.Telnet.TheVariants.{Data}
@@ -44,3 +45,14 @@ ends_run x = x == 10 || x == 255
 abbrev pub IsRun : List ℕ → Type 0
 IsRun [] = Unit {0}
 IsRun (x ∷ q) = (ends_run x ≡ false) × IsRun q
+
+-- the first n bytes are literal
+pub record IsLiteralTo (bytes : List ℕ) (n : ℕ) : Type 0 where
+  pub in_range : n ≤ length bytes
+  pub each : (k : ℕ) → k < n → is_literal (slice_index bytes k) ≡ true
+
+-- at this place of piece a line ends whose text is the first len bytes, by LF alone or by CR LF
+pub record IsEndAfter (piece : List ℕ) (len at : ℕ) : Type 0 where
+  pub in_range : at < length piece
+  pub end : slice_index piece at ≡ 10
+  pub follows : (at ≡ len) ⊎ ((at ≡ len + 1) × (slice_index piece len ≡ 13))

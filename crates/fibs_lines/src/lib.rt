@@ -14,13 +14,14 @@
 pub mod laws;
 mod line;
 mod lines;
+mod literal;
 mod prompts;
 mod sent;
 mod telnet;
 mod unfinished;
 
 pub use line::{Line, without_return};
-pub use lines::{Fed, Lines};
+pub use lines::{Fed, Lines, WholeLine};
 pub use sent::sent_line;
 
 /// How many bytes of a line are kept. The definitions have the same number, as `kept_limit`.

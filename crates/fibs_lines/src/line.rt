@@ -1,7 +1,8 @@
 //! A line that was read, as it is lent.
 
-ghost use Rattle.std.specs.Prelude.{◌≡◌};
+ghost use Rattle.std.specs.Prelude.{◌≡◌, ◌≤◌, length, IfSome};
 ghost use Rattle.std.specs.Str.Lines.{strip_carriage_return};
+ghost use Rattle.fibs_lines.specs.Progress.{IsEndAfter};
 
 use crate::LIMIT;
 use crate::prompts::prompts_len;
@@ -24,6 +25,20 @@ pub fn without_return(bytes: &[u8]) -> &[u8]
         return &bytes[..len - 1];
     }
     bytes
+}
+
+/// The place at which a line ends whose text is the first `len` bytes of `piece`, if LF or CR LF comes after them.
+pub(crate) fn end_after(piece: &[u8], len: usize) -> Option<usize>
+    requires { len ≤ length piece.now }
+    ensures { IfSome result (λ at. IsEndAfter piece.now len at) }
+{
+    if len < piece.len() && piece[len] == b'\n' {
+        return Some(len);
+    }
+    if len + 1 < piece.len() && piece[len] == b'\r' && piece[len + 1] == b'\n' {
+        return Some(len + 1);
+    }
+    None
 }
 
 impl<'a> Line<'a> {

@@ -1,13 +1,17 @@
 //! The lines of a byte stream that comes in pieces.
 
-ghost use Rattle.std.specs.Prelude.{◌≡◌, ◌+◌, ◌<◌, ◌≤◌, ℕ, List, [], ◌++◌, length, take, min};
+ghost use Rattle.std.specs.Prelude.{◌≡◌, ◌+◌, ◌<◌, ◌≤◌, ℕ, true, false, List, [], ◌++◌, length, take, min, IfSome};
+ghost use Rattle.std.specs.Bool.{OnTrue};
+ghost use Rattle.std.specs.List.{list_all};
 ghost use Rattle.std.specs.Borrow.{sem};
 ghost use Rattle.std.specs.Io.BufRead.{Rests};
 ghost use Rattle.fibs_lines.specs.Lines.{kept_limit, rest_of};
 ghost use Rattle.fibs_lines.specs.LinesValue.{StandsAfter};
 
 use crate::LIMIT;
-use crate::line::Line;
+use crate::line::{Line, end_after};
+use crate::literal::literal_len;
+use crate::telnet::Telnet;
 use crate::unfinished::Unfinished;
 use std::marker::Model;
 
@@ -29,6 +33,15 @@ pub struct Fed<'a> {
     pub used: usize,
     /// The line that ends with them, if one does.
     pub line: Option<Line<'a>>,
+}
+
+/// A line that is whole in a piece, lent from there.
+#[derive(Clone, Copy, Debug, PartialEq, Eq)]
+pub struct WholeLine<'a> {
+    /// How many bytes of the piece it has, with its line end.
+    pub used: usize,
+    /// The line.
+    pub line: Line<'a>,
 }
 
 impl Model for Lines {
@@ -53,8 +66,9 @@ impl Default for Lines {
 
 impl Lines {
     ghost use Rattle.fibs_lines.specs.contracts.lines.Lines.{the_row};
-    ghost use Rattle.fibs_lines.specs.Feeding.{Feeds};
+    ghost use Rattle.fibs_lines.specs.Feeding.{Feeds, fed_of};
     ghost use Rattle.fibs_lines.specs.Lines.{line_value};
+    ghost use Rattle.fibs_lines.specs.Literal.{is_literal};
 
     /// The reader of a stream that begins.
     pub fn new() -> Lines
@@ -96,6 +110,43 @@ impl Lines {
                     line: Some(self.unfinished.line()),
                 }
             }
+        }
+    }
+
+    /// True if nothing is kept of an unfinished line or command.
+    fn keeps_nothing(&self) -> bool
+        ensures { OnTrue result ((self.now.telnet ≡ Telnet.Data) × (self.now.front ≡ []) × (self.now.over ≡ false)) }
+    {
+        if self.unfinished.telnet != Telnet::Data {
+            return false;
+        }
+        self.lent || (self.unfinished.front.is_empty() && !self.unfinished.over)
+    }
+
+    /// The line that `piece` begins with, lent from the piece, if it ends in the piece too, its bytes are from 32 to
+    /// 126 and no `\`, and nothing unfinished comes before it. It is what `feed` would lend, and the reader stays as
+    /// it is: go on after its `used` bytes.
+    ///
+    /// None promises nothing: call `feed`.
+    pub fn whole_line<'a>(&self, piece: &'a [u8]) -> Option<WholeLine<'a>>
+        ensures in_range { IfSome result (λ whole. whole.used ≤ length piece.now) }
+        ensures progress { IfSome result (λ whole. 0 < whole.used) }
+        ensures feeds { IfSome result (λ whole. (s : List ℕ) → StandsAfter self.now s
+            → Feeds s piece.now (fed_of whole)) }
+        ensures stands { IfSome result (λ whole. (s : List ℕ) → StandsAfter self.now s
+            → StandsAfter self.now (s ++ take whole.used piece.now)) }
+        ensures literal { IfSome result (λ whole. list_all is_literal whole.line.bytes.now ≡ true) }
+    {
+        if !self.keeps_nothing() {
+            return None;
+        }
+        let len = literal_len(piece);
+        match end_after(piece, len) {
+            None => None,
+            Some(at) => Some(WholeLine {
+                used: at + 1,
+                line: Line::limited(&piece[..len], false),
+            }),
         }
     }
 

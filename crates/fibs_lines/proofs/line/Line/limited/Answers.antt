@@ -1,4 +1,4 @@
-use Rattle.std.proofs.Common.{◌≡◌, ℕ, List, take, ap, ◌∙◌, arith}
+use Rattle.std.proofs.Common.{◌≡◌, take, ap, ◌∙◌, arith}
 use Rattle.std.proofs.lemmas.List.{take_rest}
 use Rattle.fibs_lines.specs.Lines.{kept_limit, without_prompts}
 use Rattle.fibs_lines.proofs.ReturnLemmas.{same_read_line, take_at_limit}

@@ -1,0 +1,6 @@
+use Rattle.fibs_lines.specs.Progress.{IsLiteralTo}
+use Rattle.fibs_lines.proofs.literal.literal_from.Given as goal
+
+-- all that was gone through is literal
+abbrev pub invariant-loop-at : goal.invariant-loop-at
+invariant-loop-at l = IsLiteralTo l.bytes l.at
