@@ -11,4 +11,5 @@ pub mod Checked
 pub mod BoardProp
 pub mod BoardReading
 pub mod Numerals
+pub mod RightNumbers
 pub mod StoredBytes

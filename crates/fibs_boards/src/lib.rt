@@ -7,5 +7,6 @@ mod field_ranges;
 pub mod fields;
 pub mod laws;
 mod print;
+mod quick;
 mod read;
 mod stored_name;

@@ -52,7 +52,7 @@ pub record WasRead {A : Type 0} (read : List ℕ → Result A Fault) (kind : Kin
   pub next : IsNext kind i l text m
 
 -- one answer has one value and one rest
-pair_same : {A : Type 0} (x y : A) (l m : Left) → ◌≡◌ {A = Result (A × Left) FieldFault} (Ok (x, l)) (Ok (y, m))
+pub pair_same : {A : Type 0} (x y : A) (l m : Left) → ◌≡◌ {A = Result (A × Left) FieldFault} (Ok (x, l)) (Ok (y, m))
     → (x ≡ y) × (l ≡ m)
 pair_same {A = A} x y l m h =
     let same : ◌≡◌ {A = A × Left} (x, l) (y, m) = cc in
