@@ -5,11 +5,8 @@ pub mod Printed
 -- The boards of the program as these.
 pub mod StoredBoard
 pub mod StoredParts
--- What checking a line answered.
-pub mod Checked
 -- What only private functions and proofs say; on the reading of boards rests `reading_value` of fibs_messages too.
 pub mod BoardProp
 pub mod BoardReading
 pub mod Numerals
-pub mod RightNumbers
 pub mod StoredBytes

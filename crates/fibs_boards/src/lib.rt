@@ -2,11 +2,9 @@
 #![tactic(auto)]
 
 pub mod board;
-pub mod check;
 mod field_ranges;
 pub mod fields;
 pub mod laws;
 mod print;
-mod quick;
-mod read;
+pub mod read;
 mod stored_name;

@@ -13,7 +13,6 @@ mod reader;
 
 pub use canonical::canonical_line;
 pub use fibs_boards::board::Board;
-pub use fibs_boards::check::check_board;
 pub use fibs_fields::decimal::read_decimal;
 pub use fibs_fields::fault::{Fault, FieldFault};
 pub use fibs_fields::name::Name;

@@ -2,7 +2,8 @@
 
 use arrayvec::ArrayVec;
 use fibs_messages::laws::{print_reads_back, prints_tell_boards};
-use fibs_messages::{Board, Fault, FieldFault, Name, check_board, read_decimal, split};
+use fibs_board_lines::check::check_board;
+use fibs_messages::{Board, Fault, FieldFault, Name, read_decimal, split};
 
 /// A board line as the server sends it.
 const LINE: &[u8] =

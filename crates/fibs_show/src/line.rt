@@ -13,8 +13,9 @@ ghost use Rattle.fibs_show.specs.Show.{ShownLine};
 use fibs_engine::escape::{append_escaped, escape_from};
 use fibs_engine::malformed::malformed_text;
 use fibs_lines::Line;
+use fibs_board_lines::check::check_board;
 use fibs_messages::{
-    Board, Fault, Message, Reading, canonical_line, check_board, is_board_line, message_number,
+    Board, Fault, Message, Reading, canonical_line, is_board_line, message_number,
     print_message, read,
 };
 use itoa::{Buffer, Integer};

@@ -1,0 +1,2 @@
+-- Numbers of a board's line.
+pub mod RightNumbers
