@@ -1,6 +1,6 @@
 //! Lines that are spelled as they are printed.
 
-ghost use Rattle.std.specs.Prelude.{◌≡◌, ◌≤◌, ◌++◌, length, take, true, IfSome, OnSome, Some, None};
+ghost use Rattle.std.specs.Prelude.{◌≡◌, ◌≤◌, [], ◌∷◌, ◌++◌, length, take, true, IfSome, OnSome, Some, None};
 ghost use Rattle.fibs_fields.specs.Field.{a_flag, a_name, a_number, a_rating, a_tail, a_text, a_word};
 ghost use Rattle.fibs_fields.specs.Split.{seen};
 ghost use Rattle.fibs_messages.specs.Message.{IsNumber, MessageText, MessageValue, canonical, kinds_of};
@@ -88,7 +88,8 @@ fn tail_len(text: &[u8]) -> Option<usize>
 /// How long the text that ends a line is. An empty text is printed without its space.
 #[inline(always)]
 fn text_len(text: &[u8]) -> Option<usize>
-    ensures { IfSome result (λ len. Begins a_text text.now len) }
+    ensures begins { IfSome result (λ len. Begins a_text text.now len) }
+    ensures whole { IfSome result (λ len. len ≡ length text.now) }
 {
     if text.is_empty() {
         return None;
@@ -242,18 +243,34 @@ fn who_info_stands(name: &[u8]) -> Option<()>
     Some(())
 }
 
+/// Whether the fields of a message are a name and a text.
+#[tactic(auto, unfolding(crate::specs::Message::table))]
+fn has_name_and_text(number: u8) -> bool
+    ensures { result ≡ true → kinds_of number ≡ a_name ∷ a_text ∷ [] }
+{
+    matches!(number, 7 | 8 | 12 | 13 | 14 | 15 | 16)
+}
+
+/// The same as `who_info_stands`, of a name and a text.
+#[inline(always)]
+fn name_and_text_stand(name: &[u8]) -> Option<()>
+    ensures { OnSome result (AllStand (a_name ∷ a_text ∷ []) (Some name.now) None) }
+{
+    let text = past(Name, name)?;
+    text_len(text)?;
+    Some(())
+}
+
 /// Whether the fields are those of this message, and each is spelled as it is printed.
 #[inline(always)]
 fn fields_stand(number: u8, fields: Option<&[u8]>) -> bool
     requires { IsNumber number }
     ensures { result ≡ true → AllStand (kinds_of number) (seen fields.entry) None }
 {
-    if number != 5 {
-        return all_stand(kinds_of(number), fields);
-    }
     match fields {
-        Some(text) => who_info_stands(text).is_some(),
-        None => false,
+        Some(text) if number == 5 => who_info_stands(text).is_some(),
+        Some(text) if has_name_and_text(number) => name_and_text_stand(text).is_some(),
+        _ => all_stand(kinds_of(number), fields),
     }
 }
 

@@ -3,5 +3,5 @@ use Rattle.std.proofs.lemmas.Bool.Decides.{nat_tests}
 use Rattle.fibs_messages.proofs.MessageLemmas.BeginningFields.{text_begins}
 use Rattle.fibs_messages.proofs.canonical.text_len.Goals as goal
 
-pub returns : goal.returns
-returns c = text_begins c.args.text.now (grind (arith, nat_tests, c.is_empty.ensures, c.if-is_empty.false))
+pub returns-clause-begins : goal.returns-clause-begins
+returns-clause-begins c = text_begins c.args.text.now (grind (arith, nat_tests, c.is_empty.ensures, c.if-is_empty.false))
