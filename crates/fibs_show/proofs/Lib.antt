@@ -1,2 +1,3 @@
 pub mod ShowLemmas
+pub mod LiteralMessages
 pub mod PlaysLemmas

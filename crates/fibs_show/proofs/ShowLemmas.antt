@@ -1,8 +1,10 @@
 -- The lines that are printed, one after the other.
 use Rattle.std.proofs.Common.{◌≡◌, ℕ, ◌≤◌, List, [], ◌∷◌, ◌++◌, Bool, true, false, Option, None, Some, Result, Ok, Err}
-use Rattle.std.proofs.Common.{OnOk, refl, sym, ap, subst, ◌∙◌, append_assoc, append-nil, take, drop, take-append-drop}
-use Rattle.std.proofs.Common.{length, codes, is_ok, if◌then◌else◌, ◌≢◌, min, arith, ◌<◌, ◌+◌, ◌*◌, length-append}
-use Rattle.std.proofs.Common.{not, true≢false, is_some}
+use Rattle.std.proofs.Common.{OnOk, refl, sym, ap, subst, ◌∙◌, append_assoc, append-nil, take}
+use Rattle.std.proofs.Common.{length, codes, ◌≢◌, min, arith, ◌<◌, ◌+◌, ◌*◌, length-append}
+use Rattle.std.proofs.Common.{not, true≢false, is_some, ◌||◌}
+use Rattle.std.specs.List.{list_all, list_any}
+use Rattle.std.proofs.lemmas.Bool.{and_parts}
 use Rattle.std.specs.Prelude.{◌↔◌}
 use Rattle.std.proofs.lemmas.List.{length-take}
 use Rattle.std.proofs.Math.Nat.{mul-le-mul_right}
@@ -12,12 +14,14 @@ use Rattle.fibs_lines.specs.Lines.{ReadLine, lines_of, rest_of, kept_limit}
 use Rattle.fibs_lines.specs.StreamLaws.{EmptyStreamHasNoLine}
 use Rattle.fibs_lines.specs.LinesValue.{LinesValue, StandsAfter}
 use Rattle.fibs_lines.specs.Lines.{value_of}
+use Rattle.fibs_lines.specs.Literal.{is_literal}
 use Rattle.fibs_lines.specs.Feeding.{Feeds, lent_lines}
 use Rattle.fibs_lines.specs.declared.lines.Fed.{Fed}
 use Rattle.fibs_lines.specs.declared.line.Line.{Line}
 use Rattle.fibs_messages.specs.Line.{ReadingValue, IsReading}
 use Rattle.fibs_messages.specs.Message.{HasNumber, IsNumbered}
-use Rattle.fibs_engine.specs.Escape.{escaped}
+use Rattle.fibs_engine.specs.Escape.{escaped, is_escaped}
+use Rattle.fibs_engine.proofs.EscapeLemmas.{escaped_plain}
 use Rattle.fibs_engine.specs.Readings.{reading_text}
 use Rattle.fibs_show.specs.Show.{ShownAs, ShownLine, ShownLines, ShowText, WroteLinesOf, WroteRead}
 use Rattle.fibs_show.specs.Show.{WroteFront, WroteAll, unfinished_text}
@@ -60,6 +64,21 @@ no_number line None none is absent exact w = none_some w.0 ((exact w.0).1 w.1)
     none_some n e = cc
 no_number line (Some n) none is absent exact w = true≢false (is ∙ ap not absent)
 
+-- a literal byte is shown as it is
+literal_shown : (b : ℕ) → is_literal b ≡ true → is_escaped b ≡ false
+literal_shown b h = grind arith
+
+-- so are literal bytes
+none_escaped : (bytes : List ℕ) → list_all is_literal bytes ≡ true → list_any is_escaped bytes ≡ false
+none_escaped [] h = refl
+none_escaped (b ∷ bytes) h =
+    let parts = and_parts (is_literal b) (list_all is_literal bytes) h in
+    ap (λ x. x || list_any is_escaped bytes) (literal_shown b parts.0) ∙ none_escaped bytes parts.1
+
+-- the text of literal bytes is their own
+pub literal_escaped : (bytes : List ℕ) → list_all is_literal bytes ≡ true → escaped bytes ≡ bytes
+literal_escaped bytes h = escaped_plain bytes (none_escaped bytes h)
+
 -- a line's text and its end are appended
 pub line_more : (before mid after shown : List ℕ) → mid ≡ before ++ shown → after ≡ mid ++ (10 ∷ [])
     → after ≡ before ++ (shown ++ (10 ∷ []))
@@ -95,24 +114,28 @@ shows_nothing lines = record {
   gains = λ s h. ap lines_of (append-nil s) ∙ sym (append-nil (lines_of s));
 }
 
--- a further part of the portion was fed
-pub shows_more : (old mid now : LinesValue) (front rest added text : List ℕ) (fed : Fed) → Shows old mid front added
-    → ((s : List ℕ) → StandsAfter mid s → StandsAfter now (s ++ take fed.used rest))
-    → ((s : List ℕ) → StandsAfter mid s → Feeds s rest fed)
-    → ShownLent fed.line text → Shows old now (front ++ take fed.used rest) (added ++ text)
+-- a piece was fed up to its next line end, or whole
+pub shows_fed : (old now : LinesValue) (piece text : List ℕ) (fed : Fed)
+    → ((s : List ℕ) → StandsAfter old s → StandsAfter now (s ++ take fed.used piece))
+    → ((s : List ℕ) → StandsAfter old s → Feeds s piece fed)
+    → ShownLent fed.line text → Shows old now (take fed.used piece) text
 unfolding ShownLent
-shows_more old mid now front rest added text fed before moves feeds lent =
-    let part : List ℕ = take fed.used rest in
-    record {
-      gained = before.gained ++ lent_lines fed.line;
-      shown = shown_append before.gained (lent_lines fed.line) added text before.shown lent;
-      stands = λ s h. subst (StandsAfter now) (append_assoc s front part) (moves (s ++ front) (before.stands s h));
-      gains = λ s h.
-          ap lines_of (sym (append_assoc s front part))
-          ∙ (feeds (s ++ front) (before.stands s h)).gains
-          ∙ ap (λ l. l ++ lent_lines fed.line) (before.gains s h)
-          ∙ append_assoc (lines_of s) before.gained (lent_lines fed.line);
-    }
+shows_fed old now piece text fed moves feeds lent =
+    record { gained = lent_lines fed.line; shown = lent; stands = moves; gains = λ s h. (feeds s h).gains }
+
+-- a further part of the portion was read
+pub shows_more : (old mid now : LinesValue) (front part added text : List ℕ) → Shows old mid front added
+    → Shows mid now part text → Shows old now (front ++ part) (added ++ text)
+shows_more old mid now front part added text before next = record {
+  gained = before.gained ++ next.gained;
+  shown = shown_append before.gained next.gained added text before.shown next.shown;
+  stands = λ s h. subst (StandsAfter now) (append_assoc s front part) (next.stands (s ++ front) (before.stands s h));
+  gains = λ s h.
+      ap lines_of (sym (append_assoc s front part))
+      ∙ next.gains (s ++ front) (before.stands s h)
+      ∙ ap (λ l. l ++ next.gained) (before.gains s h)
+      ∙ append_assoc (lines_of s) before.gained next.gained;
+}
 
 -- what the loop over portions keeps after so many reads of at most `size` bytes: the bytes that were read, what is
 -- printed for their lines, and that this was written

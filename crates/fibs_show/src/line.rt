@@ -1,6 +1,8 @@
 //! One line of text for each line of the server.
-ghost use Rattle.std.specs.Prelude.{◌≡◌, ◌++◌, ◌∷◌, [], ℕ, List, codes, OnOk};
+ghost use Rattle.std.specs.Prelude.{◌≡◌, ◌++◌, ◌∷◌, [], ℕ, List, codes, OnOk, true};
+ghost use Rattle.std.specs.List.{list_all};
 ghost use Rattle.fibs_lines.specs.Lines.{value_of};
+ghost use Rattle.fibs_lines.specs.Literal.{is_literal};
 ghost use Rattle.fibs_boards.specs.Board.{spelling};
 ghost use Rattle.fibs_messages.specs.Line.{IsBoardLine, IsReading, ReadingValue, malformed_line};
 ghost use Rattle.fibs_messages.specs.Message.{canonical};
@@ -64,12 +66,27 @@ fn append_board(board: &Board, text: &mut Vec<u8>) -> Result<(), AllocError>
     board.print_into(text)
 }
 
+/// Appends bytes, each that is not shown as it is by its escape. Literal bytes are not searched for one.
+#[inline(always)]
+fn append_bytes(bytes: &[u8], literal: bool, text: &mut Vec<u8>) -> Result<(), AllocError>
+    requires { literal ≡ true → list_all is_literal bytes.now ≡ true }
+    ensures { OnOk result (text.new.items ≡ text.old.items ++ escaped bytes.now) }
+{
+    if literal {
+        text.extend_from_slice(bytes)
+    } else {
+        append_escaped(bytes, text)
+    }
+}
+
 /// Appends what is printed for a text.
-fn append_text(bytes: &[u8], text: &mut Vec<u8>) -> Result<(), AllocError>
+#[inline(always)]
+fn append_text(bytes: &[u8], literal: bool, text: &mut Vec<u8>) -> Result<(), AllocError>
+    requires { literal ≡ true → list_all is_literal bytes.now ≡ true }
     ensures { OnOk result (text.new.items ≡ text.old.items ++ (codes "text " ++ escaped bytes.now)) }
 {
     text.extend_from_slice(b"text ")?;
-    append_escaped(bytes, text)
+    append_bytes(bytes, literal, text)
 }
 
 /// Appends what is printed for a board line. A line that says a board is copied.
@@ -85,11 +102,13 @@ fn append_board_line(line: &[u8], text: &mut Vec<u8>) -> Result<(), AllocError>
 }
 
 /// Appends what is printed for a message, by its canonical line.
-fn append_canonical(canonical: &[u8], text: &mut Vec<u8>) -> Result<(), AllocError>
+#[inline(always)]
+fn append_canonical(canonical: &[u8], literal: bool, text: &mut Vec<u8>) -> Result<(), AllocError>
+    requires { literal ≡ true → list_all is_literal canonical.now ≡ true }
     ensures { OnOk result (text.new.items ≡ text.old.items ++ (codes "message " ++ escaped canonical.now)) }
 {
     text.extend_from_slice(b"message ")?;
-    append_escaped(canonical, text)
+    append_bytes(canonical, literal, text)
 }
 
 /// Appends what is printed for a line that is read for it. It is not inlined, since room for what is read is cleared
@@ -104,7 +123,7 @@ fn append_read(alloc: Global, line: &[u8], text: &mut Vec<u8>) -> Result<(), All
     match read(line) {
         Reading::Numbered(message) => append_message(alloc, &message, text),
         Reading::Board(board) => append_board(&board, text),
-        Reading::Text(bytes) => append_text(bytes, text),
+        Reading::Text(bytes) => append_text(bytes, false, text),
         Reading::Malformed {
             number,
             field,
@@ -114,7 +133,14 @@ fn append_read(alloc: Global, line: &[u8], text: &mut Vec<u8>) -> Result<(), All
 }
 
 /// Appends what is printed for a line that was not cut. Nearly all lines of a server are spelled as they are printed.
-fn append_reading(alloc: Global, line: &[u8], text: &mut Vec<u8>) -> Result<(), AllocError>
+#[inline(always)]
+fn append_reading(
+    alloc: Global,
+    line: &[u8],
+    literal: bool,
+    text: &mut Vec<u8>,
+) -> Result<(), AllocError>
+    requires { literal ≡ true → list_all is_literal line.now ≡ true }
     ensures { OnOk result ((reading : ReadingValue) × IsReading line.now reading
         × (text.new.items ≡ text.old.items ++ reading_text reading)) }
 {
@@ -122,12 +148,35 @@ fn append_reading(alloc: Global, line: &[u8], text: &mut Vec<u8>) -> Result<(), 
         return append_board_line(line, text);
     }
     if message_number(line).is_none() {
-        return append_text(line, text);
+        return append_text(line, literal, text);
     }
     match canonical_line(line) {
-        Some(canonical) => append_canonical(canonical, text),
+        Some(canonical) => append_canonical(canonical, literal, text),
         None => append_read(alloc, line, text),
     }
+}
+
+/// Appends what is printed for a line, and a line end. The bytes of a line that is `literal` are not searched for one
+/// to escape.
+#[inline(always)]
+fn append_shown(
+    alloc: Global,
+    line: &Line<'_>,
+    literal: bool,
+    text: &mut Vec<u8>,
+) -> Result<(), AllocError>
+    requires { literal ≡ true → list_all is_literal line.now.bytes.now ≡ true }
+    ensures { OnOk result ((shown : List ℕ) × ShownLine (value_of line.now) shown
+        × (text.new.items ≡ text.old.items ++ (shown ++ (10 ∷ [])))) }
+{
+    if line.cut {
+        text.extend_from_slice(b"cut ")?;
+        append_bytes(line.bytes, literal, text)?;
+    } else {
+        append_reading(alloc, line.bytes, literal, text)?;
+    }
+    text.push(b'\n')?;
+    Ok(())
 }
 
 /// Appends what is printed for a line, and a line end.
@@ -135,12 +184,18 @@ pub fn append_line(alloc: Global, line: &Line<'_>, text: &mut Vec<u8>) -> Result
     ensures { OnOk result ((shown : List ℕ) × ShownLine (value_of line.now) shown
         × (text.new.items ≡ text.old.items ++ (shown ++ (10 ∷ [])))) }
 {
-    if line.cut {
-        text.extend_from_slice(b"cut ")?;
-        append_escaped(line.bytes, text)?;
-    } else {
-        append_reading(alloc, line.bytes, text)?;
-    }
-    text.push(b'\n')?;
-    Ok(())
+    append_shown(alloc, line, false, text)
+}
+
+/// The same for a line of literal bytes, none of which is escaped.
+pub fn append_literal_line(
+    alloc: Global,
+    line: &Line<'_>,
+    text: &mut Vec<u8>,
+) -> Result<(), AllocError>
+    requires { list_all is_literal line.now.bytes.now ≡ true }
+    ensures { OnOk result ((shown : List ℕ) × ShownLine (value_of line.now) shown
+        × (text.new.items ≡ text.old.items ++ (shown ++ (10 ∷ [])))) }
+{
+    append_shown(alloc, line, true, text)
 }

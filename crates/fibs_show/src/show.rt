@@ -1,13 +1,13 @@
 //! `fibs show`: prints what each line of a stream says.
-ghost use Rattle.std.specs.Prelude.{◌≡◌, ◌≤◌, ◌<◌, ◌*◌, ◌⊎◌, ◌++◌, ℕ, List, [], length, IfOk, OnOk, IfErr, IsErrOf};
-ghost use Rattle.std.specs.Prelude.{MatchResult};
+ghost use Rattle.std.specs.Prelude.{◌≡◌, ◌≤◌, ◌<◌, ◌*◌, ◌⊎◌, ◌++◌, ℕ, List, [], length, take, IfOk, OnOk, IfErr};
+ghost use Rattle.std.specs.Prelude.{IsErrOf, MatchResult};
 ghost use Rattle.std.specs.Io.KnownBytes.{Appends, IsAtEnd};
 ghost use Rattle.fibs_show.specs.Show.{unfinished_text, WroteAll, WroteRead, WroteLines, WroteLinesOf, WroteFront};
 ghost use Rattle.fibs_engine.specs.Reads.{LostAtLeast, LostAtMost};
 ghost use Rattle.fibs_show.specs.Shows.{EndsText, Shows};
 ghost use Rattle.fibs_engine.specs.Writing.{GainedFront};
 
-use crate::line::{append_line, append_number};
+use crate::line::{append_line, append_literal_line, append_number};
 use fibs_engine::fault::EngineFault;
 use fibs_engine::limits::{MOST_INPUT_READS, READ_PORTION};
 use fibs_engine::status::Status;
@@ -165,6 +165,51 @@ fn append_unfinished(held: usize, text: &mut Vec<u8>) -> Result<(), AllocError>
     Ok(())
 }
 
+/// Appends what is printed for the next line of a piece, if the piece ends it, and answers how many bytes were read.
+/// It goes through the reader's own buffer.
+#[inline(never)]
+fn append_fed(
+    alloc: Global,
+    lines: &mut Lines,
+    piece: &[u8],
+    text: &mut Vec<u8>,
+) -> Result<usize, AllocError>
+    requires { 0 < length piece.now }
+    ensures range { IfOk result (λ used. (0 < used) × (used ≤ length piece.now)) }
+    ensures shows { IfOk result (λ used. (added : List ℕ) × (text.new.items ≡ text.old.items ++ added)
+        × Shows lines.old lines.new (take used piece.now) added) }
+{
+    let fed = lines.feed(piece);
+    let used = fed.used;
+    match fed.line {
+        Some(line) => append_line(alloc, &line, text)?,
+        None => {}
+    }
+    Ok(used)
+}
+
+/// The same. A line that is whole in the piece is printed from there, which nearly all lines of a server are.
+#[inline(never)]
+fn append_next(
+    alloc: Global,
+    lines: &mut Lines,
+    piece: &[u8],
+    text: &mut Vec<u8>,
+) -> Result<usize, AllocError>
+    requires { 0 < length piece.now }
+    ensures range { IfOk result (λ used. (0 < used) × (used ≤ length piece.now)) }
+    ensures shows { IfOk result (λ used. (added : List ℕ) × (text.new.items ≡ text.old.items ++ added)
+        × Shows lines.old lines.new (take used piece.now) added) }
+{
+    match lines.whole_line(piece) {
+        Some(whole) => {
+            append_literal_line(alloc, &whole.line, text)?;
+            Ok(whole.used)
+        }
+        None => append_fed(alloc, lines, piece, text),
+    }
+}
+
 /// Appends what is printed for each line that the portion ends.
 fn append_portion(
     alloc: Global,
@@ -177,12 +222,7 @@ fn append_portion(
 {
     let mut rest = portion;
     while !rest.is_empty() {
-        let fed = lines.feed(rest);
-        let used = fed.used;
-        match fed.line {
-            Some(line) => append_line(alloc, &line, text)?,
-            None => {}
-        }
+        let used = append_next(alloc, lines, rest, text)?;
         rest = &rest[used..];
     }
     Ok(())
