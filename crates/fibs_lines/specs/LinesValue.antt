@@ -40,5 +40,5 @@ kept_line front over = limited (strip_carriage_return front) over
 -- the bytes of a line that was lent stay where they are until the next call, and count as gone
 abbrev pub lines_value : Unfinished → Bool → LinesValue
 lines_value u lent =
-    if lent then record { telnet = u.telnet; front = []; over = false; line = Some (kept_line u.front.items u.over) }
-    else record { telnet = u.telnet; front = u.front.items; over = u.over; line = None }
+    if lent then record { telnet = u.telnet; front = []; over = false; line = Some (kept_line u.front u.over) }
+    else record { telnet = u.telnet; front = u.front; over = u.over; line = None }

@@ -17,7 +17,7 @@ pub record Kept : Type 0 where
 
 -- the fields of an `Unfinished`
 abbrev pub kept : Unfinished → Kept
-kept u = record { telnet = u.telnet; front = u.front.items; over = u.over }
+kept u = record { telnet = u.telnet; front = u.front; over = u.over }
 
 -- this is kept after the stream s
 pub record KeptAfter (v : Kept) (s : List ℕ) : Type 0 where

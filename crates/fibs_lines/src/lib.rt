@@ -11,6 +11,7 @@
 //! `Lines` is the reader. `laws` states what holds of every stream, for proofs in the crates above.
 #![tactic(auto)]
 
+mod front;
 pub mod laws;
 mod line;
 mod lines;

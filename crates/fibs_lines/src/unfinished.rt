@@ -4,14 +4,10 @@ ghost use Rattle.std.specs.Prelude.{true, false, IfNone, IfSome, ◌≡◌, ◌+
 ghost use Rattle.std.specs.Prelude.{◌++◌, ◌∷◌, [], slice_index, ◌≢◌};
 ghost use Rattle.fibs_lines.specs.Progress.{IsRun, ends_run};
 
-use crate::LIMIT;
+use crate::front::{Front, ROOM};
 use crate::line::Line;
 use crate::telnet::Telnet;
-use arrayvec::ArrayVec;
 use memchr::memchr2;
-
-/// One byte more than a line's, since it may be the CR before a line end.
-pub(crate) const ROOM: usize = LIMIT + 1;
 
 /// What is kept of the stream since its last line end.
 ///
@@ -20,7 +16,7 @@ pub(crate) const ROOM: usize = LIMIT + 1;
 pub(crate) struct Unfinished {
     pub(crate) telnet: Telnet,
     /// The first bytes.
-    pub(crate) front: ArrayVec<u8, ROOM>,
+    pub(crate) front: Front,
     /// Whether there are more.
     pub(crate) over: bool,
 }
@@ -80,7 +76,7 @@ impl Unfinished {
     {
         Unfinished {
             telnet: Telnet::Data,
-            front: ArrayVec::new(),
+            front: Front::new(),
             over: false,
         }
     }
@@ -103,7 +99,7 @@ impl Unfinished {
 
     /// The line that has ended here.
     pub(crate) fn line(&self) -> Line<'_>
-        ensures { value_of result ≡ kept_line self.now.front.items self.now.over }
+        ensures { value_of result ≡ kept_line self.now.front self.now.over }
     {
         Line::from_front(self.front.as_slice(), self.over)
     }
@@ -111,16 +107,15 @@ impl Unfinished {
     /// Keeps what there is room for of `run`.
     fn keep(&mut self, run: &[u8])
         ensures telnet { self.new.telnet ≡ self.old.telnet }
-        ensures front { self.new.front.items ≡
-            self.old.front.items ++ take (ROOM - length self.old.front.items) run.now }
-        ensures over { self.new.over ≡ (self.old.over || nat_lt (ROOM - length self.old.front.items) (length run.now)) }
+        ensures front { self.new.front ≡ self.old.front ++ take (ROOM - length self.old.front) run.now }
+        ensures over { self.new.over ≡ (self.old.over || nat_lt (ROOM - length self.old.front) (length run.now)) }
     {
-        let room = self.front.remaining_capacity();
+        let room = self.front.room();
         if run.len() > room {
-            let _ = self.front.try_extend_from_slice(&run[..room]);
+            self.front.append(&run[..room]);
             self.over = true;
         } else {
-            let _ = self.front.try_extend_from_slice(run);
+            self.front.append(run);
         }
     }
 
