@@ -20,6 +20,6 @@ pub record Feeds (s piece : List ℕ) (fed : Fed) : Type 0 where
   pub whole : IsNone fed.line → fed.used ≡ length piece
   pub starts : IsSome fed.line → AtLineStart (s ++ take fed.used piece)
 
--- the answer of `feed` that a line is which is whole in the piece
+-- what `feed` would answer for a line that is whole in the piece
 abbrev pub fed_of : WholeLine → Fed
 fed_of whole = record { used = whole.used; line = Some whole.line }
