@@ -7,6 +7,7 @@ with a wide window. Prints a line for each case, and then `N passed, M failed`.
 """
 
 import concurrent.futures
+import contextlib
 import os
 import queue
 import signal
@@ -457,13 +458,13 @@ def a_server_that_says_nothing(server):
 
 
 def a_quiet_server_is_waited_for_half_a_second(server):
-    """Each command leaves at once, and the system probes a silent server."""
+    """Each command leaves at once, and a server that is gone without a word is known to be gone within two minutes."""
     player = logged_in(server)
     found = peeking.options(player.program.pid)
     if found is None:
         print('        the system does not show what is set of its sockets: not tried', flush=True)
     else:
-        same('at once, asked after, milliseconds', found, [(True, True, 500)])
+        same('at once, seconds, milliseconds', found, [(True, 120, 500)])
     began = time.monotonic()
     player.type_bytes(b'\n\n\n\ndance\n')
     same('printed', player.line(), 'unknown\n')
@@ -506,16 +507,21 @@ def stopped_while_a_line_is_waited_for(server):
     player.quits()
 
 
-def stopped_while_it_connects(_server):
-    with socket.socket() as door:
+@contextlib.contextmanager
+def a_door_that_nobody_opens():
+    """A listener whose queue is full, so that the next connection is not answered until one of them is accepted."""
+    with socket.socket() as door, socket.socket() as one, socket.socket() as other:
         door.bind(('127.0.0.1', 0))
         door.listen(0)
-        # Two connections fill the queue, so that the next one is not answered until one of them is accepted.
-        fillers = [socket.socket() for _ in range(2)]
-        for filler in fillers:
+        for filler in one, other:
             filler.setblocking(False)
             filler.connect_ex(door.getsockname())
         time.sleep(0.2)
+        yield door
+
+
+def stopped_while_it_connects(_server):
+    with a_door_that_nobody_opens() as door:
         player = Player(door.getsockname()[1])
         stop_and_continue(player)
         door.settimeout(PATIENCE)
@@ -532,8 +538,17 @@ def stopped_while_it_connects(_server):
         player.sees('unknown')
         player.quits()
         taken.close()
-        for filler in fillers:
-            filler.close()
+
+
+def an_address_that_does_not_answer(_server):
+    """It is given up after ten seconds."""
+    with a_door_that_nobody_opens() as door:
+        began = time.monotonic()
+        same('the run', run(['127.0.0.1', str(door.getsockname()[1]), 'ann'], b'secret\nroll\n'),
+             (0, 'no connection\nrefused 2 Offline\n', ''))
+        took = time.monotonic() - began
+        if not 9 < took < 40:
+            raise Failed('it was given up after %.1f s' % took)
 
 
 def stopped_while_it_writes(server):
@@ -629,7 +644,7 @@ CASES = [
     a_server_that_closes_at_once, a_server_that_resets_the_connection, a_connection_that_ends_within_a_line,
     a_line_that_comes_byte_by_byte, a_flood_of_lines, a_line_of_megabytes, a_server_that_says_nothing,
     a_quiet_server_is_waited_for_half_a_second, stopped_while_the_server_is_heard, stopped_while_a_line_is_waited_for,
-    stopped_while_it_connects, stopped_while_it_writes,
+    stopped_while_it_connects, an_address_that_does_not_answer, stopped_while_it_writes,
     long_and_odd_lines, a_line_that_is_typed_in_parts, output_that_cannot_be_written, input_that_cannot_be_read,
 ]
 

@@ -171,6 +171,19 @@ def a_stranger_who_stays_is_taken_for_the_client():
         program.communicate()
 
 
+def a_stranger_who_says_other_bytes_of_the_same_length():
+    """What comes is compared with what was sent, and not counted."""
+    program, port = waiting_loop()
+    stranger = came_to(port, LOGIN[::-1])
+    try:
+        out, err = program.communicate(script('open', 'serve 1 1 1'), PATIENCE)
+        same('loop', (program.returncode, out, err), (4, b'opened 1\n', b'fibs: device\n'))
+    finally:
+        stranger.close()
+        program.kill()
+        program.communicate()
+
+
 def a_stranger_who_says_nothing_and_leaves():
     program, port = waiting_loop()
     came_to(port, b'').close()
@@ -188,7 +201,7 @@ def waits_in_vain(program):
     if found is None:
         print('        the system does not show what is set of its sockets: not tried', flush=True)
     else:
-        same('at once, asked after, milliseconds', found, [(True, False, 10000)] * 2)
+        same('at once, seconds, milliseconds', found, [(True, 0, 10000)] * 2)
 
 
 def a_stranger_who_says_nothing_and_stays():
@@ -225,8 +238,8 @@ def everything(stranger):
 CASES = [
     a_connection_for_which_no_file_may_be_opened, a_listener_alone_for_a_script_that_opens_nothing,
     both_ends_closed_at_each_loss, a_listener_of_this_machine_alone, two_that_listen_at_the_same_time,
-    a_stranger_who_stays_is_taken_for_the_client, a_stranger_who_says_nothing_and_leaves,
-    a_stranger_who_says_nothing_and_stays,
+    a_stranger_who_stays_is_taken_for_the_client, a_stranger_who_says_other_bytes_of_the_same_length,
+    a_stranger_who_says_nothing_and_leaves, a_stranger_who_says_nothing_and_stays,
 ]
 
 

@@ -32,9 +32,18 @@ def is_listening(one):
     return bool(one.getsockopt(socket.SOL_SOCKET, socket.SO_ACCEPTCONN))
 
 
+def known_to_be_gone(one):
+    """Within how many seconds it is known of a socket's other end that is gone without a word; 0 if it is never asked."""
+    if not one.getsockopt(socket.SOL_SOCKET, socket.SO_KEEPALIVE):
+        return 0
+    quiet, between, questions = (one.getsockopt(socket.IPPROTO_TCP, name)
+                                 for name in (socket.TCP_KEEPIDLE, socket.TCP_KEEPINTVL, socket.TCP_KEEPCNT))
+    return quiet + between * questions
+
+
 def options(job):
-    """Of each connection that another process has open: whether its bytes leave at once, whether its other end is asked
-    after, and for how many milliseconds a read waits. None if the system does not let them be seen."""
+    """Of each connection that another process has open: whether its bytes leave at once, within how many seconds its other
+    end is known to be gone, and for how many milliseconds a read waits. None if the system does not let them be seen."""
     sockets = sockets_of(job)
     if sockets is None:
         return None
@@ -43,7 +52,6 @@ def options(job):
         if not is_listening(one):
             seconds, micros = struct.unpack('ll', one.getsockopt(socket.SOL_SOCKET, socket.SO_RCVTIMEO, 16))
             found.append((bool(one.getsockopt(socket.IPPROTO_TCP, socket.TCP_NODELAY)),
-                          bool(one.getsockopt(socket.SOL_SOCKET, socket.SO_KEEPALIVE)),
-                          1000 * seconds + micros // 1000))
+                          known_to_be_gone(one), 1000 * seconds + micros // 1000))
         one.close()
     return sorted(found)

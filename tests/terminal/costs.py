@@ -103,7 +103,7 @@ def what_is_set_of_the_connection(server):
     if found is None:
         print('        the system does not show what is set of its sockets: not tried', flush=True)
     else:
-        same('at once, asked after, milliseconds', found, [(True, True, 20)])
+        same('at once, seconds, milliseconds', found, [(True, 120, 20)])
     ann.close()
 
 

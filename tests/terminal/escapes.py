@@ -2,11 +2,12 @@
 
 import random
 import socket
+import tempfile
 import threading
 import time
 
 import people  # noqa: F401
-from people import Failed, PATIENCE, PROGRAM, Person, same
+from people import Failed, PATIENCE, PROGRAM, Person, Terminal, same
 from props.server import OWN_INFO, Server
 
 WELCOME = '1 ann 1041253132 localhost'
@@ -208,6 +209,99 @@ def nothing_typed_is_lost_when_a_line_comes(server):
     ann.close()
 
 
+@with_server
+def the_server_is_heard_after_a_stop(server):
+    """Ctrl-Z while nothing is typed, and fg: a line of the server is shown though still nothing is typed."""
+    ann = greeted(server)
+    ann.shown(0.5)
+    ann.type_bytes(b'\x1a')
+    ann.is_stopped()
+    ann.to_the_foreground()
+    ann.shown(0.5)
+    server.send('12 bob still here')
+    ann.reads('bob says: still here', seconds=10)
+    ann.close()
+
+
+@with_server
+def a_server_that_is_slow_to_log_in(server):
+    """It has asked for the login before it reads the one that was sent: that is no wrong password yet."""
+    ann = Person(server.port)
+    server.accept()
+    server.send_bytes(b'Welcome to a slow one.\r\nlogin: ')
+    same('the login', server.line().split(' ')[:2], ['login', 'fibs_client'])
+    time.sleep(0.8)
+    server.send('', WELCOME)
+    ann.reads('Welcome, ann')
+    same('what is wrong', [line for line in ann.lines() if 'Not logged in' in line], [])
+    ann.close()
+
+
+# What is set in the environment, and what is shown then: whether letters are bold, what a letter of another script is,
+# and at what time the user was here last.
+BOLD, AS_IT_IS, ESCAPED, THEN = '\x1b[1m', '\xc3\xa9', '\\xc3\\xa9', '12:58'
+ENVIRONMENTS = [
+    ({'TERM': None}, False, ESCAPED, THEN),
+    ({'TERM': 'xterm', 'NO_COLOR': ''}, True, ESCAPED, THEN),
+    ({'TERM': 'xterm', 'NO_COLOR': '1'}, False, ESCAPED, THEN),
+    ({'LC_ALL': 'C', 'LC_CTYPE': 'C.UTF-8', 'LANG': 'C.UTF-8'}, False, ESCAPED, THEN),
+    ({'LC_ALL': '', 'LC_CTYPE': '', 'LANG': 'C.UTF-8'}, False, AS_IT_IS, THEN),
+    ({'LC_ALL': 'en_US.utf8'}, False, AS_IT_IS, THEN),
+    ({'TZ': 'XYZ-5'}, False, ESCAPED, '17:58'),
+    ({'COLUMNS': '0'}, False, ESCAPED, THEN),
+]
+
+
+@with_server
+def what_the_environment_says(server):
+    for more, bold, letter, clock in ENVIRONMENTS:
+        ann = greeted(server, **more)
+        server.send(BOARD)
+        ann.hint()
+        server.send_bytes('12 bob caf\u00e9\r\n'.encode())
+        ann.reads('bob says: caf')
+        shown = ann.screen()
+        last = next(line for line in ann.lines() if line.startswith('Welcome, ann'))
+        same('with %r' % more, (BOLD in shown, 'caf' + letter in shown, ', %s, from' % clock in last, ' O You' in shown),
+             (bold, True, True, True))
+        ann.type('quit')
+        ann.ends(0)
+        ann.close()
+
+
+def a_password_that_is_typed():
+    """It is asked for, if what is typed comes from a terminal."""
+    server = Server()
+    terminal = Terminal([PROGRAM, 'connect', '127.0.0.1', str(server.port), 'ann'], FIBS_QUIET='1')
+    terminal.sees('password: ')
+    terminal.type('secret')
+    server.accept()
+    same('the login', server.line(), 'login fibs_client 1008 ann secret')
+    terminal.close()
+    server.close()
+
+
+def what_show_says_at_a_terminal():
+    """What is left over at the end of its input; what is too long is a text; and an input that can't be read."""
+    rows = [
+        (b'12 bob hi\nhalf', ['bob says: hi\n', 'unfinished 4\n'], [], 0),
+        (b'12 bob hi\n', ['bob says: hi\n'], ['unfinished'], 0),
+        (b'12 bob ' + b'a' * 16384 + b'\n', ['12 bob aaa'], ['says'], 0),
+        (None, ['fibs: device\n'], [], 4),
+    ]
+    for given, wanted, never, status in rows:
+        with tempfile.NamedTemporaryFile() as file:
+            file.write(given or b'')
+            file.flush()
+            terminal = Terminal(['sh', '-c', 'exec "$0" show < "$1"', PROGRAM, '/' if given is None else file.name])
+            terminal.ends(status)
+            shown = terminal.screen()
+            same('shown of %.20r' % given, ([text in shown for text in wanted], [text in shown for text in never]),
+                 ([True] * len(wanted), [False] * len(never)))
+            terminal.close()
+
+
 SCENES = [a_million_lines, letters_of_other_scripts, what_is_malformed_is_shown, a_flood_does_not_hold_a_typed_line,
           a_host_of_which_one_address_alone_answers, lines_that_are_pasted_are_all_answered,
-          nothing_typed_is_lost_when_a_line_comes]
+          nothing_typed_is_lost_when_a_line_comes, the_server_is_heard_after_a_stop, a_server_that_is_slow_to_log_in,
+          what_the_environment_says, a_password_that_is_typed, what_show_says_at_a_terminal]

@@ -89,4 +89,21 @@ def the_login_is_kept_without_its_password(server):
     same('a log that is a folder', (done.returncode, len(done.stderr.splitlines())), (4, 1))
 
 
-SCENES = [each_line_as_it_came_and_what_was_sent, the_login_is_kept_without_its_password]
+@with_server
+def a_log_that_is_full(server):
+    """What can't be written any more is left out, and the game goes on."""
+    ann = Person(server.port, words=('--log', '/dev/full'))
+    server.accept()
+    server.line()
+    server.send(WELCOME, OWN)
+    ann.reads('Welcome, ann')
+    ann.type('say hi')
+    for wanted in 'set boardstyle 3', 'board', 'say hi':
+        same('received', server.line(), wanted)
+    ann.type('quit')
+    ann.ends(0)
+    ann.close()
+
+
+SCENES = [each_line_as_it_came_and_what_was_sent, the_login_is_kept_without_its_password,
+          a_log_that_is_full]
