@@ -1,14 +1,13 @@
 //! Turns of a client with a stream in memory.
 use super::connected::{Kind, Seat, is_made_of, kind_of, opened};
-use fibs_links::link::Link;
 use fibs_exchange::{Ending, ExchangeFault, exchange};
 use fibs_messages::{Reading, read as read_line};
 use fibs_session::{Client, Directory, Login};
 use fibs_test_tools::devices::FailsOnce;
 use fibs_test_tools::pipe::{After, FAULT, Pipe, QUIET};
+use fibs_test_tools::stumbling::Stumbles;
 use fibs_test_tools::text::{Text, joined, text_of};
-use std::io;
-use std::io::{ErrorKind, Read, Write};
+use std::io::ErrorKind;
 use std::process::Abort;
 
 const END: &[u8] = b"\r\n";
@@ -510,39 +509,6 @@ fn a_directory_that_is_full_says_so(rt: HostRuntime) {
     assert_eq!(rt; seat.directory.len(), 4096);
 }
 
-/// A stream with one write that fails. It takes bytes before and after it.
-#[derive(Drop)]
-struct Stumbles<'a> {
-    input: Pipe<'a>,
-    output: FailsOnce,
-}
-
-impl Read for Stumbles<'_> {
-    fn read(&mut self, buf: &mut [u8]) -> io::Result<usize> {
-        self.input.read(buf)
-    }
-}
-
-impl Write for Stumbles<'_> {
-    fn write(&mut self, buf: &[u8]) -> io::Result<usize> {
-        self.output.write(buf)
-    }
-
-    fn flush(&mut self) -> io::Result<()> {
-        self.output.flush()
-    }
-}
-
-impl Link for Stumbles<'_> {
-    fn receive(&mut self, buf: &mut [u8]) -> io::Result<usize> {
-        self.read(buf)
-    }
-
-    fn transmit(&mut self, buf: &[u8]) -> io::Result<usize> {
-        self.write(buf)
-    }
-}
-
 /// Commands that lines of the server call for.
 const COMMANDS: [&[u8]; 3] = [
     b"set boardstyle 3\r\n",
@@ -575,11 +541,16 @@ fn a_command_is_one_write(rt: HostRuntime) {
     assert_eq!(rt; stream.output.writes(), 4);
 }
 
-/// After a write that fails no other is made, though the stream would take it, and also if a signal interrupted it.
+/// After a write that fails or takes nothing no other is made, though the stream would take it, and also if a signal
+/// interrupted it.
 #[test]
 fn nothing_is_sent_after_a_write_that_fails(rt: HostRuntime) {
     let input = joined(&[WELCOME, END, INFO_WITHOUT_BOARDS, END]);
-    for error in [ErrorKind::BrokenPipe, ErrorKind::Interrupted] {
+    for error in [
+        Some(ErrorKind::BrokenPipe),
+        Some(ErrorKind::Interrupted),
+        None,
+    ] {
         for before in 0..COMMANDS.len() {
             let mut client = opened(&rt);
             let mut directory = Directory::new(rt.alloc());
@@ -612,4 +583,31 @@ fn a_stream_may_wait_between_any_two_bytes(rt: HostRuntime) {
         seat.hears(&rt, &[&READY[at..at + 1]]);
     }
     seat.assert_did(&rt, "one byte a turn", &[SENT], &[PRINTED]);
+}
+
+/// After a line that can't be printed no other is, though the writer would take it: after that of a typed line, and
+/// after each of the server's lines.
+#[test]
+fn nothing_is_printed_after_a_print_that_fails(rt: HostRuntime) {
+    for error in [Some(ErrorKind::BrokenPipe), None] {
+        for before in 0..5 {
+            let mut client = opened(&rt);
+            let mut directory = Directory::new(rt.alloc());
+            let mut pipe = Pipe::new(READY, 1000, QUIET, 100);
+            let mut out = FailsOnce::of_kind(error, before, 1000);
+            let typed = b"dance".as_slice();
+            let outcome = exchange(
+                &mut client,
+                &mut directory,
+                Some(&mut pipe),
+                Some(typed),
+                &mut out,
+            );
+            assert!(rt;
+                matches!(outcome, Err(ExchangeFault::Output)),
+                "after {before} lines"
+            );
+            assert_eq!(rt; out.writes(), before + 1);
+        }
+    }
 }

@@ -6,6 +6,8 @@ mod connected;
 #[cfg(test)]
 mod exchange;
 #[cfg(test)]
+mod flushing;
+#[cfg(test)]
 mod orders;
 #[cfg(test)]
 mod printing;

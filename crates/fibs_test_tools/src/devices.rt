@@ -34,11 +34,11 @@ impl Read for Endless {
     }
 }
 
-/// A writer with one write that fails. It takes bytes before and after it, and counts its writes.
+/// A writer with one write that fails or takes nothing. It takes bytes before and after it, and counts its writes.
 #[derive(Drop)]
 pub struct FailsOnce {
     before: usize,
-    error: ErrorKind,
+    error: Option<ErrorKind>,
     failed: bool,
     most: usize,
     writes: usize,
@@ -48,11 +48,11 @@ pub struct FailsOnce {
 impl FailsOnce {
     /// A writer that takes at most `most` bytes at once, and fails after so many writes.
     pub fn new(before: usize, most: usize) -> FailsOnce {
-        FailsOnce::of_kind(ErrorKind::BrokenPipe, before, most)
+        FailsOnce::of_kind(Some(ErrorKind::BrokenPipe), before, most)
     }
 
-    /// The same; the write fails with an error of this kind.
-    pub fn of_kind(error: ErrorKind, before: usize, most: usize) -> FailsOnce {
+    /// The same; the write fails with an error of this kind, or takes nothing if there is none.
+    pub fn of_kind(error: Option<ErrorKind>, before: usize, most: usize) -> FailsOnce {
         FailsOnce {
             before,
             error,
@@ -79,7 +79,10 @@ impl Write for FailsOnce {
         self.writes = self.writes.saturating_add(1);
         if self.before == 0 && !self.failed {
             self.failed = true;
-            return Err(io::Error::from(self.error));
+            return match self.error {
+                Some(kind) => Err(io::Error::from(kind)),
+                None => Ok(0),
+            };
         }
         self.before = self.before.saturating_sub(1);
         let most = self

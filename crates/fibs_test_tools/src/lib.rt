@@ -2,6 +2,8 @@
 #![tactic(auto)]
 
 pub mod devices;
+pub mod named;
 pub mod outcome;
 pub mod pipe;
+pub mod stumbling;
 pub mod text;
