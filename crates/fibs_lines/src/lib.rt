@@ -11,9 +11,9 @@
 //! `Lines` is the reader. `laws` states what holds of every stream, for proofs in the crates above.
 #![tactic(auto)]
 
-mod front;
 pub mod laws;
 mod line;
+mod line_buffer;
 mod lines;
 mod literal;
 mod prompts;

@@ -4,7 +4,7 @@ ghost use Rattle.std.specs.Prelude.{true, false, IfNone, IfSome, ◌≡◌, ◌+
 ghost use Rattle.std.specs.Prelude.{◌++◌, ◌∷◌, [], slice_index, ◌≢◌};
 ghost use Rattle.fibs_lines.specs.Progress.{IsRun, ends_run};
 
-use crate::front::{Front, ROOM};
+use crate::line_buffer::{LineBuffer, ROOM};
 use crate::line::Line;
 use crate::telnet::Telnet;
 use memchr::memchr2;
@@ -16,7 +16,7 @@ use memchr::memchr2;
 pub(crate) struct Unfinished {
     pub(crate) telnet: Telnet,
     /// The first bytes.
-    pub(crate) front: Front,
+    pub(crate) front: LineBuffer,
     /// Whether there are more.
     pub(crate) over: bool,
 }
@@ -76,7 +76,7 @@ impl Unfinished {
     {
         Unfinished {
             telnet: Telnet::Data,
-            front: Front::new(),
+            front: LineBuffer::new(),
             over: false,
         }
     }

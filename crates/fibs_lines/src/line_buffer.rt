@@ -10,25 +10,25 @@ pub(crate) const ROOM: usize = LIMIT + 1;
 
 /// At most `ROOM` bytes, which need no work to be forgotten: an `ArrayVec` would write over each.
 #[derive(Drop)]
-pub(crate) struct Front {
+pub(crate) struct LineBuffer {
     bytes: [u8; ROOM],
     len: usize,
 }
 
-impl Model for Front {
+impl Model for LineBuffer {
     ghost Value = { List ℕ };
 
-    ghost view = { λ front. take front.len front.bytes };
+    ghost view = { λ buffer. take buffer.len buffer.bytes };
 
-    ghost invariant = { λ front. front.len ≤ 16385 };
+    ghost invariant = { λ buffer. buffer.len ≤ 16385 };
 }
 
-impl Front {
+impl LineBuffer {
     /// No byte.
-    pub(crate) fn new() -> Front
+    pub(crate) fn new() -> LineBuffer
         ensures { result ≡ [] }
     {
-        Front {
+        LineBuffer {
             bytes: [0; ROOM],
             len: 0,
         }
