@@ -1,8 +1,8 @@
 //! Conversations, with streams in memory and on real sockets.
 
-use fibs_links::dial::Dial;
 use fibs_connect::{converse, converse_with};
 use fibs_engine::fault::EngineFault;
+use fibs_links::dial::Dial;
 use fibs_test_tools::devices::Endless;
 use fibs_test_tools::outcome::Outcome;
 use fibs_test_tools::pipe::{After, FAULT, Pipe, QUIET};

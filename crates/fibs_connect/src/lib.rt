@@ -11,21 +11,21 @@ ghost use Rattle.fibs_engine.specs.Reads.{LostAtMost};
 mod players;
 mod seat;
 
-use fibs_links::dial::{Dial, Place, READ_MILLIS, Server};
 use fibs_engine::fault::EngineFault;
 use fibs_engine::limits::{MOST_INPUT_READS, READ_PORTION};
 use fibs_engine::status::Status;
 use fibs_front::plain::Plain;
 use fibs_front::printing::print_reason;
-use fibs_typed::typed_line::TypedLine;
 use fibs_front::words::Words;
+use fibs_links::dial::{Dial, Place, READ_MILLIS, Server};
 use fibs_session::{Login, PlainFault};
+use fibs_typed::typed_line::TypedLine;
+use fibs_typed::typed_lines::TypedLines;
 use seat::{Going, Seat};
 use std::alloc::Global;
 use std::io::{Read, Write};
 use std::net::{Net, TcpStream};
 use std::time::Duration;
-use fibs_typed::typed_lines::TypedLines;
 
 /// Talks with a server for a player.
 ///

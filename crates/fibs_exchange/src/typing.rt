@@ -13,12 +13,12 @@ ghost use Rattle.fibs_exchange.specs.Turns.Typing.{typed_step, typed_act};
 ghost use Rattle.fibs_engine.specs.Writing.{Whole};
 
 use crate::ExchangeFault;
-use fibs_links::link::Link;
 use crate::sending::send_command;
 use crate::turn_fault::TurnFault;
 use fibs_front::front::Front;
 use fibs_front::said::Said;
 use fibs_front::typing::{Typed, read_typed};
+use fibs_links::link::Link;
 use fibs_session::{Client, CommandText};
 
 /// What the client answers to a typed line.

@@ -4,8 +4,8 @@ ghost use Rattle.std.specs.Prelude.{true, false, IfNone, IfSome, ◌≡◌, ◌+
 ghost use Rattle.std.specs.Prelude.{◌++◌, ◌∷◌, [], slice_index, ◌≢◌};
 ghost use Rattle.fibs_lines.specs.Progress.{IsRun, ends_run};
 
-use crate::line_buffer::{LineBuffer, ROOM};
 use crate::line::Line;
+use crate::line_buffer::{LineBuffer, ROOM};
 use crate::telnet::Telnet;
 use memchr::memchr2;
 

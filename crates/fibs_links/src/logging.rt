@@ -1,9 +1,9 @@
 //! Connections with a log.
 
-use arrayvec::ArrayVec;
 use crate::dial::Dial;
-use fibs_engine::writing::{Broken, write_bytes};
 use crate::link::Link;
+use arrayvec::ArrayVec;
+use fibs_engine::writing::{Broken, write_bytes};
 use fibs_lines::Lines;
 use std::fs::{File, OpenOptions};
 use std::io;

@@ -1,8 +1,8 @@
 //! What of boards, names and numbers the library for C does not show. Worked lines are read in tests/rows.
 
 use arrayvec::ArrayVec;
-use fibs_messages::laws::{print_reads_back, prints_tell_boards};
 use fibs_board_lines::check::check_board;
+use fibs_messages::laws::{print_reads_back, prints_tell_boards};
 use fibs_messages::{Board, Fault, FieldFault, Name, read_decimal, split};
 
 /// A board line as the server sends it.

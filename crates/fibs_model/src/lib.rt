@@ -8,8 +8,8 @@ mod world;
 
 pub use fibs_carrier::{Broken, Carrier, InMemory, Way};
 pub use fibs_machine::WorldRefusal;
-pub use fibs_position::is_die;
 pub use fibs_model_server::{Entry, Event, Served, Server};
+pub use fibs_position::is_die;
 pub use fibs_wires::wire;
 pub use fibs_wires::wire::is_board_text;
 pub use halt::Stop;

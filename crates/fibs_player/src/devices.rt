@@ -1,17 +1,17 @@
 //! The program on its devices: what a person types and sees. If standard output is a pipe or a file, it gets the plain
 //! account.
 
-use fibs_environment::terminal_settings;
 use crate::playing::play;
 use crate::showing::show_on;
 use arrayvec::ArrayVec;
 use fibs_connect::converse_at;
-use fibs_links::dial::{Place, READ_MILLIS};
 use fibs_engine::fault::EngineFault;
 use fibs_engine::fixed::{append, append_number};
 use fibs_engine::limits::MOST_INPUT_READS;
 use fibs_engine::status::Status;
 use fibs_engine::writing::write_bytes;
+use fibs_environment::terminal_settings;
+use fibs_links::dial::{Place, READ_MILLIS};
 use fibs_messages::Board;
 use fibs_position::Position;
 use fibs_terminal::{Terminal, append_picture};
@@ -75,7 +75,13 @@ pub fn draw(rt: &HostRuntime, line: &[u8]) -> Result<(), EngineFault> {
         Ok(board) => match Position::of(&board) {
             Ok(position) => {
                 let mut text = Vec::new(alloc);
-                append_picture(alloc, &board, &position, &terminal_settings(rt, "", 0), &mut text)?;
+                append_picture(
+                    alloc,
+                    &board,
+                    &position,
+                    &terminal_settings(rt, "", 0),
+                    &mut text,
+                )?;
                 write_bytes(text.as_slice(), &mut rt.stdout())?;
                 Ok(())
             }

@@ -12,8 +12,8 @@ ghost use Rattle.fibs_scripts.specs.Scripts.{IsNoBoard, IsNoEvent};
 
 use crate::laws::events_are_exact;
 use fibs_messages::{Board, read_decimal, split};
-use fibs_position::Direction;
 use fibs_model_server::Event;
+use fibs_position::Direction;
 use fibs_session::{read_command, read_plain};
 
 /// The number of a connection, or how many bytes.

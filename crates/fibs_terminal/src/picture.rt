@@ -8,10 +8,10 @@ ghost use Rattle.fibs_terminal.specs.Drawings.{DrawsBoard, is_plain};
 use crate::came::{Came, nothing_came};
 use bstr::ByteSlice;
 use fibs_boards::board::Board;
+use fibs_environment::Settings;
 use fibs_picture::draw;
 use fibs_position::{Phase, Position};
 use fibs_wording::messages::front;
-use fibs_environment::Settings;
 use std::alloc::{AllocError, Global};
 
 /// The columns of the widest picture.

@@ -3,7 +3,6 @@
 use fibs_front::fault::FrontFault;
 use fibs_front::front::Front;
 use fibs_front::said::Said;
-use fibs_typed::typed_line::TypedLine;
 use fibs_front::typing::{Typed, read_typed};
 use fibs_front::wish::Wish;
 use fibs_front::words::Words;
@@ -11,6 +10,7 @@ use fibs_messages::Reading;
 use fibs_position::phase_of;
 use fibs_session::{Client, CommandText, Directory, Login};
 use fibs_terminal::{Settings, Terminal};
+use fibs_typed::typed_line::TypedLine;
 use std::alloc::Global;
 use std::io;
 use std::io::{ErrorKind, Write};

@@ -7,9 +7,9 @@ ghost use Rattle.fibs_fields.specs.Split.{before, after};
 ghost use Rattle.fibs_typed.specs.Typing.{kept_typed, rest_or_nothing};
 ghost use Rattle.fibs_typed.specs.Reading.{ahead, FitsDevice, TakesLine, SpendsReads};
 
+use crate::typed_line::{KEPT, TypedLine};
 use fibs_engine::fault::EngineFault;
 use fibs_engine::limits::READ_PORTION;
-use crate::typed_line::{KEPT, TypedLine};
 use fibs_fields::split::split;
 use fibs_lines::without_return;
 use std::io::Read;

@@ -1,8 +1,8 @@
 //! The words of messages.
 
 use crate::dates::{append_date, append_time};
-use fibs_environment::Settings;
 use crate::shown::append_shown;
+use fibs_environment::Settings;
 use fibs_messages::{Message, OwnInfo, WhoInfo};
 use itoa::Buffer;
 use std::alloc::AllocError;

@@ -11,8 +11,8 @@ ghost use Rattle.fibs_model.specs.WorldOf.{StandsFor};
 use super::World;
 use super::link::Link;
 use fibs_machine::WorldRefusal;
-use fibs_position::is_die;
 use fibs_model_server::{Event, own_refusal};
+use fibs_position::is_die;
 use fibs_wires::wire::{is_board_text, whole_line};
 
 /// Why it is refused to serve a line of a connection.
