@@ -4,6 +4,7 @@ use fibs_connect::{converse, converse_with};
 use fibs_engine::fault::EngineFault;
 use fibs_links::dial::Dial;
 use fibs_test_tools::devices::Endless;
+use fibs_test_tools::named::Named;
 use fibs_test_tools::outcome::Outcome;
 use fibs_test_tools::pipe::{After, FAULT, Pipe, QUIET};
 use fibs_test_tools::text::{Text, text_of};
@@ -232,8 +233,10 @@ fn typed_lines_without_end_end(rt: HostRuntime) {
 }
 
 /// How a conversation over sockets ends, and what is printed on both writers.
-fn conversed_at<N: Net<Stream = TcpStream> + AllocGlobal>(
-    rt: &N,
+fn conversed_at<N: Net<Stream = TcpStream>>(
+    net: &N,
+    alloc: Global,
+    host: &str,
     port: u16,
     typed: &[u8],
 ) -> Outcome {
@@ -241,14 +244,7 @@ fn conversed_at<N: Net<Stream = TcpStream> + AllocGlobal>(
     let mut out = Pipe::new(b"", 1, After::End, 100);
     let mut err = Pipe::new(b"", 1, After::End, 100);
     let ending = converse(
-        rt,
-        rt.alloc(),
-        "127.0.0.1",
-        port,
-        b"ann",
-        &mut typed,
-        &mut out,
-        &mut err,
+        net, alloc, host, port, b"ann", &mut typed, &mut out, &mut err,
     );
     Outcome {
         ending,
@@ -265,7 +261,13 @@ fn free_port<N: Net>(rt: &N) -> io::Result<u16> {
 
 #[test]
 fn a_port_where_nothing_listens_gives_no_connection(rt: HostRuntime) -> Result<(), Fail> {
-    let outcome = conversed_at(&rt, free_port(&rt)?, b"secret\nroll\nquit\n");
+    let outcome = conversed_at(
+        &rt,
+        rt.alloc(),
+        "127.0.0.1",
+        free_port(&rt)?,
+        b"secret\nroll\nquit\n",
+    );
     let wanted = b"no connection\nrefused 2 Offline\n";
     assert!(rt;
         outcome.is(Ok(0), wanted, b""),
@@ -295,7 +297,7 @@ fn read_whole(stream: &mut TcpStream) -> io::Result<Text> {
 fn a_socket_is_given_the_login_and_no_more(rt: HostRuntime) -> Result<(), Fail> {
     let listener = TcpListener::bind(&rt, "127.0.0.1:0")?;
     let port = listener.local_addr()?.port();
-    let outcome = conversed_at(&rt, port, b"secret\n\nquit\n");
+    let outcome = conversed_at(&rt, rt.alloc(), "127.0.0.1", port, b"secret\n\nquit\n");
     assert!(rt;
         outcome.is(Ok(0), b"", b""),
         "a socket, at {}: {:?}",
@@ -307,5 +309,31 @@ fn a_socket_is_given_the_login_and_no_more(rt: HostRuntime) -> Result<(), Fail> 
         read_whole(&mut far)?.as_slice(),
         b"login fibs_client 1008 ann secret\r\n".as_slice()
     );
+    Ok(())
+}
+
+/// Of two addresses of a name nobody listens at one, whichever it is: the other one is given the login.
+#[test]
+fn each_address_of_a_name_is_tried(rt: HostRuntime) -> Result<(), Fail> {
+    let listener = TcpListener::bind(&rt, "127.0.0.1:0")?;
+    let there = listener.local_addr()?;
+    let mut nobody = there;
+    nobody.set_port(free_port(&rt)?);
+    for addresses in [[there, nobody], [nobody, there]] {
+        let net = Named::new(&rt, addresses);
+        let outcome = conversed_at(
+            &net,
+            rt.alloc(),
+            "fibs.example",
+            there.port(),
+            b"secret\nquit\n",
+        );
+        assert!(rt; outcome.is(Ok(0), b"", b""), "{addresses:?}: {outcome:?}");
+        let (mut far, _peer) = listener.accept()?;
+        assert_eq!(rt;
+            read_whole(&mut far)?.as_slice(),
+            b"login fibs_client 1008 ann secret\r\n".as_slice()
+        );
+    }
     Ok(())
 }

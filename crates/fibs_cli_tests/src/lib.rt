@@ -6,6 +6,8 @@ mod connect;
 #[cfg(test)]
 mod flushing;
 #[cfg(test)]
+mod once;
+#[cfg(test)]
 mod program;
 #[cfg(test)]
 mod refused_notes;

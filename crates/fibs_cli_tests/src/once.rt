@@ -1,0 +1,114 @@
+//! Devices that fail once: what failed is not tried again by itself.
+
+use fibs_connect::converse_with;
+use fibs_links::dial::Dial;
+use fibs_test_tools::devices::FailsOnce;
+use fibs_test_tools::outcome::Outcome;
+use fibs_test_tools::pipe::{After, Pipe, QUIET};
+use fibs_test_tools::stumbling::Stumbles;
+use std::alloc::Global;
+use std::io;
+use std::io::{ErrorKind, Read};
+
+/// How a conversation ends, and what is printed on both writers.
+fn conversed<D: Dial>(alloc: Global, door: &mut D, typed: &mut impl Read) -> Outcome {
+    let mut out = Pipe::new(b"", 1, After::End, 512);
+    let mut err = Pipe::new(b"", 1, After::End, 512);
+    let ending = converse_with(door, alloc, b"ann", 1000, typed, &mut out, &mut err);
+    Outcome::new(ending, out.output(), err.output())
+}
+
+/// A server whose connections fail at the second write, or take nothing by it.
+#[derive(Drop)]
+struct StumblingDoor {
+    error: Option<ErrorKind>,
+}
+
+impl Dial for StumblingDoor {
+    type Stream = Stumbles<'static>;
+
+    fn dial(&mut self) -> Result<Stumbles<'static>, ErrorKind> {
+        Ok(Stumbles {
+            input: Pipe::new(b"", 1, QUIET, 0),
+            output: FailsOnce::of_kind(self.error, 1, 20),
+        })
+    }
+}
+
+/// A login of which a part was written is not written once more: the server would read both as one line.
+#[test]
+fn a_login_is_written_once(rt: HostRuntime) {
+    for error in [Some(ErrorKind::BrokenPipe), None] {
+        let mut door = StumblingDoor { error };
+        let mut typed = Pipe::new(b"secret\nroll\n", 100, After::End, 0);
+        let outcome = conversed(rt.alloc(), &mut door, &mut typed);
+        assert!(rt;
+            outcome.is(Ok(0), b"lost\nrefused 2 Offline\n", b""),
+            "{outcome:?}"
+        );
+    }
+}
+
+/// A server that does not answer at first.
+#[derive(Drop)]
+struct LateDoor {
+    answers: bool,
+}
+
+impl Dial for LateDoor {
+    type Stream = Pipe<'static>;
+
+    fn dial(&mut self) -> Result<Pipe<'static>, ErrorKind> {
+        let answers = self.answers;
+        self.answers = true;
+        if answers {
+            Ok(Pipe::new(b"", 1, QUIET, 100))
+        } else {
+            Err(ErrorKind::ConnectionRefused)
+        }
+    }
+}
+
+#[test]
+fn a_connection_is_tried_when_it_is_asked_for(rt: HostRuntime) {
+    let mut door = LateDoor { answers: false };
+    let mut typed = Pipe::new(b"secret\nroll\nopen\nroll\n", 100, After::End, 0);
+    let outcome = conversed(rt.alloc(), &mut door, &mut typed);
+    let wanted = b"no connection\nrefused 2 Offline\nrefused 3 NotReady\n";
+    assert!(rt; outcome.is(Ok(0), wanted, b""), "{outcome:?}");
+}
+
+/// A reader that ends, and gives more if it is asked again, as a terminal does.
+#[derive(Drop)]
+struct EndsOnce<'a> {
+    before: &'a [u8],
+    ended: bool,
+    after: &'a [u8],
+}
+
+impl Read for EndsOnce<'_> {
+    fn read(&mut self, buf: &mut [u8]) -> io::Result<usize> {
+        if !self.before.is_empty() {
+            return self.before.read(buf);
+        }
+        if !self.ended {
+            self.ended = true;
+            return Ok(0);
+        }
+        self.after.read(buf)
+    }
+}
+
+/// What is typed is over at its first end.
+#[test]
+fn nothing_is_read_after_the_end_of_what_is_typed(rt: HostRuntime) {
+    let mut door = LateDoor { answers: true };
+    let mut typed = EndsOnce {
+        before: b"secret\n",
+        ended: false,
+        after: b"roll\n",
+    };
+    let outcome = conversed(rt.alloc(), &mut door, &mut typed);
+    assert!(rt; outcome.is(Ok(0), b"", b""), "{outcome:?}");
+    assert_eq!(rt; typed.after, b"roll\n".as_slice());
+}
