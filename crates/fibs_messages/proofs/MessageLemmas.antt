@@ -1,5 +1,4 @@
 -- Messages: their table, their fields, their lines.
-pub mod BeginningFields
 pub mod CanonicalLines
 pub mod FieldTexts
 pub mod Fronts
@@ -9,4 +8,3 @@ pub mod MessageReadings
 pub mod MessageTable
 pub mod NumberWords
 pub mod Rows
-pub mod StandingFields

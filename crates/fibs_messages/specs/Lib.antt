@@ -7,4 +7,3 @@ pub mod Line
 pub mod Bits
 pub mod LineReading
 pub mod Settings
-pub mod Standing

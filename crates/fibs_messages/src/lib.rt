@@ -2,16 +2,14 @@
 //! printed.
 #![tactic(auto)]
 
-mod canonical;
 mod field;
 pub mod laws;
 mod line;
 mod message;
-mod number;
+pub mod number;
 mod print;
 mod reader;
 
-pub use canonical::canonical_line;
 pub use fibs_boards::board::Board;
 pub use fibs_fields::decimal::read_decimal;
 pub use fibs_fields::fault::{Fault, FieldFault};

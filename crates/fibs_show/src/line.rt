@@ -16,8 +16,9 @@ use fibs_board_lines::check::check_board;
 use fibs_engine::escape::{append_escaped, escape_from};
 use fibs_engine::malformed::malformed_text;
 use fibs_lines::Line;
+use fibs_message_lines::canonical_line;
 use fibs_messages::{
-    Board, Fault, Message, Reading, canonical_line, is_board_line, message_number, print_message,
+    Board, Fault, Message, Reading, is_board_line, message_number, print_message,
     read,
 };
 use itoa::{Buffer, Integer};

@@ -1,0 +1,3 @@
+-- Fields at the front of a text, and whole lines of them.
+pub mod BeginningFields
+pub mod StandingFields
