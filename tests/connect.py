@@ -14,6 +14,7 @@ import signal
 import socket
 import subprocess
 import sys
+import tempfile
 import threading
 import time
 
@@ -360,9 +361,15 @@ def passwords_and_names_that_are_none(server):
 
 
 def the_longest_password(server):
-    same('the run', run(['127.0.0.1', str(server.port), 'ann'], b'a' * 64 + b'\r\n'), (0, '', ''))
-    server.accept()
-    same('received', server.line(), 'login fibs_client 1008 ann ' + 'a' * 64)
+    """As it is typed, and from a file."""
+    longest = b'a' * 64 + b'\r\n'
+    with tempfile.NamedTemporaryFile() as file:
+        file.write(longest)
+        file.flush()
+        for words, typed in ([], longest), (['--password-file', file.name], b''):
+            same('the run', run([*words, '127.0.0.1', str(server.port), 'ann'], typed), (0, '', ''))
+            server.accept()
+            same('received', server.line(), 'login fibs_client 1008 ann ' + 'a' * 64)
 
 
 # -- what a server sends ---------------------------------------------------------------------------------------------
