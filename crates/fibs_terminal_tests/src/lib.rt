@@ -4,12 +4,18 @@
 #[cfg(test)]
 mod conversations;
 #[cfg(test)]
+mod flushing;
+#[cfg(test)]
 mod passwords;
 #[cfg(test)]
 mod reading;
 #[cfg(test)]
+mod remembering;
+#[cfg(test)]
 mod seats;
 #[cfg(test)]
 mod spellings;
+#[cfg(test)]
+mod watching;
 #[cfg(test)]
 mod wordings;
