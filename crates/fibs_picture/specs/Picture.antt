@@ -10,7 +10,8 @@ use Rattle.fibs_boards.specs.Board.{BoardFields, field_of}
 use Rattle.fibs_rules.specs.Checkers.{Checkers}
 use Rattle.fibs_position.specs.Allowed.{refusal_of}
 use Rattle.fibs_position.specs.DecisionValue.{DecisionValue, accept, double}
-use Rattle.fibs_position.specs.OwnView.{natural, turn, colour}
+use Rattle.fibs_fields.specs.FieldReading.{natural}
+use Rattle.fibs_position.specs.OwnView.{turn, colour}
 use Rattle.fibs_position.specs.Phases.{phase_in}
 use Rattle.fibs_position.specs.PositionValue.{PositionValue, position_of}
 use Rattle.fibs_position.specs.declared.direction.Direction.{Direction}

@@ -2,7 +2,7 @@
 ghost use Rattle.std.specs.Prelude.{◌≡◌, ◌≤◌};
 ghost use Rattle.fibs_boards.specs.Board.{field_of};
 ghost use Rattle.fibs_boards.specs.StoredBoard.{fields_of};
-ghost use Rattle.fibs_position.specs.OwnView.{natural};
+ghost use Rattle.fibs_fields.specs.FieldReading.{natural};
 ghost use Rattle.fibs_picture.specs.Picture.{is_one};
 
 use fibs_boards::board::Board;

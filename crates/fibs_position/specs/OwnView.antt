@@ -1,8 +1,9 @@
 -- A board as its player sees it (FIBS board style 3; the standard rules of backgammon).
-use Rattle.std.specs.Prelude.{◌≡◌, ◌==◌, ◌&&◌, ◌+◌, ◌-◌, ℕ, ℤ, pos, negsuc, neg_ℤ, Bool, List, [], ◌∷◌, ◌++◌, map, sum}
+use Rattle.std.specs.Prelude.{◌≡◌, ◌==◌, ◌&&◌, ◌+◌, ◌-◌, ℕ, ℤ, pos, neg_ℤ, Bool, List, [], ◌∷◌, ◌++◌, map, sum}
 use Rattle.std.specs.Prelude.{if◌then◌else◌}
 use Rattle.std.specs.Ordering.{int_eq}
 use Rattle.std.specs.List.{range_with_len}
+use Rattle.fibs_fields.specs.FieldReading.{natural}
 use Rattle.fibs_boards.specs.Board.{BoardFields, field_of}
 use Rattle.fibs_rules.specs.Checkers.{Checkers}
 use Rattle.fibs_rules.specs.Runs.{Standing}
@@ -19,11 +20,6 @@ colour b = field_of b 42
 -- the field of a place
 abbrev pub place_field : BoardFields → ℕ → ℕ
 place_field b place = 7 + line_place (direction_of b) place
-
--- a number, and 0 for one below 0
-abbrev pub natural : ℤ → ℕ
-natural (pos n) = n
-natural (negsuc n) = 0
 
 -- the checkers of a colour on a place with this value: O's are counted by positive numbers, X's by negative ones
 abbrev pub checkers_of : ℤ → ℤ → ℕ

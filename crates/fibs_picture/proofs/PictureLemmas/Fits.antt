@@ -20,7 +20,8 @@ use Rattle.fibs_fields.specs.Name.{is_name, is_name_byte}
 use Rattle.fibs_rules.specs.Checkers.{Checkers}
 use Rattle.fibs_position.specs.DecisionValue.{accept, double}
 use Rattle.fibs_position.specs.GoodBoard.{IsGood}
-use Rattle.fibs_position.specs.OwnView.{own_view, natural, turn, colour}
+use Rattle.fibs_fields.specs.FieldReading.{natural}
+use Rattle.fibs_position.specs.OwnView.{own_view, turn, colour}
 use Rattle.fibs_position.specs.Phases.{phase_in}
 use Rattle.fibs_position.specs.PositionValue.{PositionValue, position_of}
 use Rattle.fibs_position.specs.declared.direction.Direction.{Direction}

@@ -16,7 +16,7 @@ use lib.Signed.{mag}
 use Rattle.fibs_boards.specs.Board.{BoardFields, field_of, field_values, can_have}
 use Rattle.fibs_fields.specs.Name.{is_name, is_name_byte}
 use Rattle.fibs_position.specs.DecisionValue.{accept, double}
-use Rattle.fibs_position.specs.OwnView.{natural}
+use Rattle.fibs_fields.specs.FieldReading.{natural}
 use Rattle.fibs_position.specs.Phases.{phase_in}
 use Rattle.fibs_position.specs.PositionValue.{PositionValue}
 use Rattle.fibs_position.specs.declared.phase.Phase.{Phase}

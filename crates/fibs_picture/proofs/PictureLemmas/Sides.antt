@@ -6,7 +6,8 @@ use Rattle.std.proofs.lemmas.Int.{ints}
 use Rattle.fibs_boards.specs.Board.{BoardFields, IsBoard, field_of}
 use Rattle.fibs_boards.specs.FieldRanges.{FieldRanges}
 use Rattle.fibs_position.specs.DirectionOf.{direction_of, line_place}
-use Rattle.fibs_position.specs.OwnView.{natural, checkers_of, stand_on, colour, place_field}
+use Rattle.fibs_fields.specs.FieldReading.{natural}
+use Rattle.fibs_position.specs.OwnView.{checkers_of, stand_on, colour, place_field}
 use Rattle.fibs_position.specs.declared.direction.Direction.{Direction}
 use Rattle.fibs_position.specs.declared.direction.Direction.TheVariants.{Down, Up}
 use Rattle.fibs_picture.proofs.PictureLemmas.Columns.{OneSide}

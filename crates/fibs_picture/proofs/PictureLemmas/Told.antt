@@ -15,7 +15,8 @@ use Rattle.fibs_boards.specs.FieldRanges.{FieldRanges}
 use Rattle.fibs_rules.specs.Checkers.{Checkers}
 use Rattle.fibs_position.specs.GoodBoard.{IsGood}
 use Rattle.fibs_position.specs.OwnView.{own_view, places, stand_on, own_on_places, other_on_places}
-use Rattle.fibs_position.specs.OwnView.{own_off, other_off, own_placed, other_placed, colour, turn, natural}
+use Rattle.fibs_fields.specs.FieldReading.{natural}
+use Rattle.fibs_position.specs.OwnView.{own_off, other_off, own_placed, other_placed, colour, turn}
 use Rattle.fibs_position.specs.PositionValue.{PositionValue, position_of}
 use Rattle.fibs_picture.specs.Picture.{line, upper_lines, lower_lines, drawn, picture, edge, layer, named}
 use Rattle.fibs_picture.specs.Picture.{score, off, pips, own_pips, other_pips, own_pips_on, other_pips_on, dice}

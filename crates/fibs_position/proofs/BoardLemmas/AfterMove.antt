@@ -18,7 +18,7 @@ use Rattle.fibs_position.specs.declared.direction.Direction.TheVariants.{Down, U
 use Rattle.fibs_position.specs.DirectionOf.{direction_of, line_place}
 use Rattle.fibs_position.specs.OwnView.{colour, place_field, checkers_of, stand_on, on_places, own_on_places}
 use Rattle.fibs_position.specs.OwnView.{other_on_places, own_placed, other_placed, own_off, other_off, own_view}
-use Rattle.fibs_position.specs.OwnView.{natural}
+use Rattle.fibs_fields.specs.FieldReading.{natural}
 use Rattle.fibs_position.specs.GoodBoard.{IsGood}
 use Rattle.fibs_position.specs.BoardEffect.{value_of, place_says, placed, after_move}
 use Rattle.fibs_rules.proofs.RuleLemmas.CheckerCounts.{count_le, shifted_le, hit_le, hit_place, range_le, places_le}

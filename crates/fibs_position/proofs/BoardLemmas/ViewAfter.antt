@@ -8,7 +8,8 @@ use Rattle.fibs_boards.specs.FieldRanges.{FieldRanges}
 use Rattle.fibs_position.specs.declared.direction.Direction.TheVariants.{Down, Up}
 use Rattle.fibs_position.specs.DirectionOf.{direction_of, line_place}
 use Rattle.fibs_position.specs.OwnView.{colour, place_field, checkers_of, stand_on, on_places, own_placed, other_placed}
-use Rattle.fibs_position.specs.OwnView.{own_off, other_off, natural}
+use Rattle.fibs_fields.specs.FieldReading.{natural}
+use Rattle.fibs_position.specs.OwnView.{own_off, other_off}
 use Rattle.fibs_position.specs.GoodBoard.{IsGood}
 use Rattle.fibs_position.specs.BoardEffect.{set_fields}
 use Rattle.fibs_position.proofs.BoardLemmas.SetFields.{places_are}

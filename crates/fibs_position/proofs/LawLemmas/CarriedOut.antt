@@ -10,7 +10,8 @@ use Rattle.fibs_boards.specs.Board.{BoardFields, IsBoard, field_of, can_have, fi
 use Rattle.fibs_boards.specs.FieldRanges.{FieldRanges}
 use Rattle.fibs_position.specs.First.{IsFirst}
 use Rattle.fibs_position.specs.GoodBoard.{IsGood}
-use Rattle.fibs_position.specs.OwnView.{turn, colour, natural, standing_of}
+use Rattle.fibs_fields.specs.FieldReading.{natural}
+use Rattle.fibs_position.specs.OwnView.{turn, colour, standing_of}
 use Rattle.fibs_position.specs.PositionValue.{position_of}
 use Rattle.fibs_position.specs.GamePart.{Differ}
 use Rattle.fibs_position.specs.DecisionValue.{roll, double, accept, reject, move, resign}

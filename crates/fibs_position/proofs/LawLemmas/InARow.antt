@@ -4,7 +4,8 @@ use Rattle.std.specs.Prelude.{ℤ, pos, neg_ℤ, ◌+ℤ◌, ◌==◌, slice_ind
 use Rattle.fibs_boards.specs.Board.{BoardFields, IsBoard, field_of}
 use Rattle.fibs_boards.specs.FieldRanges.{FieldRanges}
 use Rattle.fibs_rules.specs.Hop.{Hop}
-use Rattle.fibs_position.specs.OwnView.{turn, colour, natural, NoDice}
+use Rattle.fibs_fields.specs.FieldReading.{natural}
+use Rattle.fibs_position.specs.OwnView.{turn, colour, NoDice}
 use Rattle.fibs_position.specs.DecisionValue.{DecisionValue, roll, double, accept, reject, move, resign}
 use Rattle.fibs_position.specs.BoardEffect.{HasTurn, Effect, rolled, turn_given, accepted, rejected, after_move}
 use Rattle.fibs_position.specs.Laws.{NoThreeInARow}
