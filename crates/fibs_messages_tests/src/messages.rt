@@ -1,7 +1,7 @@
 //! Messages as they are printed, and words and tails by themselves. Worked lines are read in tests/rows.
 
-use fibs_messages::laws::{canonical_lines_read_back, messages_are_well_formed};
 use fibs_message_lines::canonical_line;
+use fibs_messages::laws::{canonical_lines_read_back, messages_are_well_formed};
 use fibs_messages::{Reading, Tail, Word, print_message, read};
 use std::alloc::{AllocError, Global};
 use std::process::Abort;

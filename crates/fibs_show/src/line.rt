@@ -18,8 +18,7 @@ use fibs_engine::malformed::malformed_text;
 use fibs_lines::Line;
 use fibs_message_lines::canonical_line;
 use fibs_messages::{
-    Board, Fault, Message, Reading, is_board_line, message_number, print_message,
-    read,
+    Board, Fault, Message, Reading, is_board_line, message_number, print_message, read,
 };
 use itoa::{Buffer, Integer};
 use std::alloc::{AllocError, Global};

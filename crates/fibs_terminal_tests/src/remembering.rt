@@ -1,7 +1,7 @@
 //! What a terminal remembers, and for how long.
 
 use crate::seats::{Step, plain_settings, shown};
-use fibs_terminal::Settings;
+use fibs_environment::Settings;
 use std::alloc::Global;
 use std::test::Fail;
 

@@ -1,5 +1,6 @@
 //! A client and a terminal, to which a server's lines and typed lines are given.
 
+use fibs_environment::Settings;
 use fibs_front::fault::FrontFault;
 use fibs_front::front::Front;
 use fibs_front::said::Said;
@@ -9,7 +10,7 @@ use fibs_front::words::Words;
 use fibs_messages::Reading;
 use fibs_position::phase_of;
 use fibs_session::{Client, CommandText, Directory, Login};
-use fibs_terminal::{Settings, Terminal};
+use fibs_terminal::Terminal;
 use fibs_typed::typed_line::TypedLine;
 use std::alloc::Global;
 use std::io;
