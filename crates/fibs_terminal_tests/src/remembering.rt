@@ -266,7 +266,11 @@ bob's turn.\n",
 ];
 
 /// What is shown of the first board, and of steps after it.
-fn shown_after(alloc: Global, settings: Settings<'_>, steps: &[Step<'_>]) -> Result<Vec<u8>, Fail> {
+fn shown_after(
+    alloc: Global,
+    settings: Settings<'static>,
+    steps: &[Step<'static>],
+) -> Result<Vec<u8>, Fail> {
     let mut all = Vec::from_slice(
         alloc,
         &[
