@@ -5,7 +5,7 @@ ghost use Rattle.std.specs.Prelude.{◌≡◌, ◌*◌, IfOk, IfErr};
 ghost use Rattle.std.specs.Io.KnownBytes.{Appends, Keeps};
 ghost use Rattle.fibs_connect.specs.Converse.Ending.{Conversed, EndsWell, login_fault_line};
 ghost use Rattle.fibs_typed.specs.Reading.{SpendsReads};
-ghost use Rattle.fibs_front.specs.Lines.{line_bytes};
+ghost use Rattle.fibs_engine.specs.Printing.{line_bytes};
 ghost use Rattle.fibs_engine.specs.Reads.{LostAtMost};
 
 mod players;

@@ -15,11 +15,8 @@ use Rattle.fibs_session.specs.History.Refusals.{refusal_number, refusal_name, pl
 use Rattle.fibs_session.specs.History.Asked.{asked_text}
 use Rattle.fibs_session.specs.History.Words.{Ask}
 use Rattle.fibs_engine.specs.Escape.{escaped}
+use Rattle.fibs_engine.specs.Printing.{line_bytes}
 use Rattle.fibs_engine.specs.Readings.{reading_text}
-
--- a printed line ends with a byte 10
-abbrev pub line_bytes : List ℕ → List ℕ
-line_bytes line = line ++ 10 ∷ []
 
 -- printed lines, one after another
 abbrev pub text_of_lines : List (List ℕ) → List ℕ

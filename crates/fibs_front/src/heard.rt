@@ -3,7 +3,8 @@ ghost use Rattle.std.specs.Prelude.{◌≡◌, ◌++◌, OnOk};
 ghost use Rattle.std.specs.Io.KnownBytes.{Appends};
 ghost use Rattle.fibs_lines.specs.Lines.{value_of};
 ghost use Rattle.fibs_messages.specs.Line.{reading_of};
-ghost use Rattle.fibs_front.specs.Lines.{line_bytes, said_text, heard_text};
+ghost use Rattle.fibs_engine.specs.Printing.{line_bytes};
+ghost use Rattle.fibs_front.specs.Lines.{said_text, heard_text};
 
 use crate::fault::FrontFault;
 use crate::printing::{append_labelled, print};

@@ -4,8 +4,9 @@ ghost use Rattle.std.specs.Io.KnownBytes.{Appends};
 ghost use Rattle.fibs_fields.specs.Field.{RatingField, canonical_text};
 ghost use Rattle.fibs_directory.specs.Directory.View.{player_value};
 ghost use Rattle.fibs_session.specs.Calls.SessionOf.{ask_of};
+ghost use Rattle.fibs_engine.specs.Printing.{line_bytes};
 ghost use Rattle.fibs_front.specs.Account.{printed_of};
-ghost use Rattle.fibs_front.specs.Lines.{line_bytes, confirmed_line, unnoted_line, lost_line, player_line, plain_label};
+ghost use Rattle.fibs_front.specs.Lines.{confirmed_line, unnoted_line, lost_line, player_line, plain_label};
 ghost use Rattle.fibs_front.specs.SaidOf.{said_of};
 
 use crate::fault::FrontFault;

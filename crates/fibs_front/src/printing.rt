@@ -3,7 +3,8 @@ ghost use Rattle.std.specs.Prelude.{◌≡◌, ◌≤◌, ◌+◌, ◌++◌, len
 ghost use Rattle.std.specs.Io.KnownBytes.{Appends};
 ghost use Rattle.fibs_commands.specs.TextOf.{text_of};
 ghost use Rattle.fibs_engine.specs.Escape.{escaped};
-ghost use Rattle.fibs_front.specs.Lines.{line_bytes, reason_line};
+ghost use Rattle.fibs_engine.specs.Printing.{line_bytes};
+ghost use Rattle.fibs_front.specs.Lines.{reason_line};
 
 use crate::fault::FrontFault;
 use arrayvec::{ArrayString, ArrayVec};

@@ -8,10 +8,7 @@ use Rattle.fibs_session.specs.History.Log.{Entry, Opened, LoggedIn, Welcomed, In
 use Rattle.fibs_session.specs.History.Log.{Undone, Lost, Ordered, Withdrawn}
 use Rattle.fibs_session.specs.History.Refusals.{refusal_name}
 use Rattle.fibs_session.specs.History.Words.{Ask}
-
--- a line as it is written: with a byte 10
-abbrev pub line_bytes : List ℕ → List ℕ
-line_bytes line = line ++ 10 ∷ []
+use Rattle.fibs_engine.specs.Printing.{line_bytes}
 
 -- a word, and the number of a connection
 abbrev pub of_connection : List ℕ → ℕ → List ℕ

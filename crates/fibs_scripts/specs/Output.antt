@@ -12,7 +12,8 @@ use Rattle.fibs_machine.specs.Refusals.{refusal}
 use Rattle.fibs_machine.specs.Runs.{MayBe, world_after}
 use Rattle.fibs_engine.specs.Reads.{LostAtMost}
 use Rattle.fibs_engine.specs.Writing.{GainedFront}
-use Rattle.fibs_scripts.specs.LogLines.{line_bytes, log_text}
+use Rattle.fibs_engine.specs.Printing.{line_bytes}
+use Rattle.fibs_scripts.specs.LogLines.{log_text}
 use Rattle.fibs_scripts.specs.Scripts.{script_limit, script_lines, SayScript, FirstUnreadable, ReadsScript}
 use Rattle.fibs_scripts.specs.declared.script.Script.{Script}
 use Rattle.fibs_scripts.specs.declared.script.Script.TheVariants.{Readable, Unreadable}

@@ -7,8 +7,9 @@ ghost use Rattle.fibs_boards.specs.Board.{spelling};
 ghost use Rattle.fibs_boards.specs.StoredBoard.{fields_of};
 ghost use Rattle.fibs_session.specs.Calls.SessionOf.{ask_of};
 ghost use Rattle.fibs_model_server.specs.EntryOf.{entry_of};
+ghost use Rattle.fibs_engine.specs.Printing.{line_bytes};
 ghost use Rattle.fibs_scripts.specs.LogLines.{answer_text, ask_text, entry_line, flag_text, of_connection};
-ghost use Rattle.fibs_scripts.specs.LogLines.{line_bytes, unconfirmed_text};
+ghost use Rattle.fibs_scripts.specs.LogLines.{unconfirmed_text};
 ghost use Rattle.fibs_scripts.specs.Limits.{ask_len, board_len, entry_len, flag_len, number_len, write_len};
 ghost use Rattle.fibs_scripts.specs.Limits.{answer_len, said_len};
 

@@ -15,11 +15,12 @@ use Rattle.fibs_position.specs.declared.phase.Phase.{Phase}
 use Rattle.fibs_position.specs.Names.{phase_name, position_fault_name}
 use Rattle.fibs_position.specs.declared.position_fault.PositionFault.{PositionFault}
 use Rattle.fibs_commands.specs.Commands.{command_of}
+use Rattle.fibs_engine.specs.Printing.{line_bytes}
 use Rattle.fibs_engine.specs.Readings.{reading_text}
 
 -- a play's command, in the numbers of a player whose checkers go this way, and a line end
 abbrev pub play_line : Direction → List Hop → List ℕ
-play_line direction play = command_of direction (move play) ++ (10 ∷ [])
+play_line direction play = line_bytes (command_of direction (move play))
 
 -- `phase` and its name, then each play, each on a line of its own
 abbrev pub listing : Phase → Direction → List (List Hop) → List ℕ

@@ -23,13 +23,14 @@ use Rattle.fibs_directory.specs.declared.fault.DirectoryFault.{DirectoryFault}
 use Rattle.fibs_exchange.specs.declared.Ending.{Ending}
 use Rattle.fibs_exchange.specs.declared.Ending.TheVariants.{Quiet, Lost}
 use Rattle.fibs_engine.specs.Escape.{escaped}
+use Rattle.fibs_engine.specs.Printing.{line_bytes}
 use Rattle.fibs_position.specs.Phases.{phase_of}
 use Rattle.fibs_front.specs.Told.{SaidValue, heard_said, phase_said, confirmed_said, sent_said, ordered_said}
 use Rattle.fibs_front.specs.Told.{withdrawn_said, refused_said, not_sent_said, unknown_said, lost_said}
 use Rattle.fibs_front.specs.Told.{unnoted_said, rolled_said, no_connection_said, player_said, opened_said, passed_said}
 use Rattle.fibs_front.specs.Account.{lines_of, printed_of, account_of}
 use Rattle.fibs_exchange.specs.Turns.Acts.{Act, answer_act}
-use Rattle.fibs_front.specs.Lines.{text_of_lines, line_bytes, lost_line}
+use Rattle.fibs_front.specs.Lines.{text_of_lines, lost_line}
 use Rattle.fibs_exchange.specs.Turns.Lines.{phase_told, confirmed_told, rolled_told, line_act, line_acts}
 use Rattle.fibs_front.specs.Lines.{said_text, heard_text}
 use Rattle.fibs_exchange.specs.Turns.Lines.{piece_acts}

@@ -10,7 +10,8 @@ use Rattle.std.proofs.KnownBytes.{Appends-nil, Appends-trans}
 use Rattle.fibs_session.specs.History.Log as L
 use Rattle.fibs_model_server.specs.EntryOf.{entry_of}
 use Rattle.fibs_model_server.specs.declared.entry.Entry.{Entry}
-use Rattle.fibs_scripts.specs.LogLines.{entry_line, line_bytes, log_text}
+use Rattle.fibs_engine.specs.Printing.{line_bytes}
+use Rattle.fibs_scripts.specs.LogLines.{entry_line, log_text}
 use Rattle.fibs_engine.specs.Writing.{GainedFront, Wrote, progress_of}
 use Rattle.fibs_engine.specs.declared.writing.Broken as declared
 use Rattle.fibs_scripts.specs.Passing.{Passed}
