@@ -8,7 +8,7 @@ use Rattle.std.proofs.lemmas.Bool.{and_parts}
 use Rattle.std.specs.Prelude.{◌↔◌}
 use Rattle.std.proofs.lemmas.List.{length-take}
 use Rattle.std.proofs.Math.Nat.{mul-le-mul_right}
-use Rattle.std.specs.Io.KnownBytes.{Appends, Consumes, Keeps}
+use Rattle.std.specs.Io.KnownBytes.{Appends, Consumes}
 use Rattle.std.proofs.KnownBytes.{Consumes-nil, Appends-nil, Consumes-trans, Appends-trans}
 use Rattle.fibs_lines.specs.Lines.{ReadLine, lines_of, rest_of, kept_limit}
 use Rattle.fibs_lines.specs.StreamLaws.{EmptyStreamHasNoLine}
@@ -23,12 +23,11 @@ use Rattle.fibs_messages.specs.Message.{HasNumber, IsNumbered}
 use Rattle.fibs_engine.specs.Escape.{escaped, is_escaped}
 use Rattle.fibs_engine.proofs.EscapeLemmas.{escaped_plain}
 use Rattle.fibs_engine.specs.Readings.{reading_text}
-use Rattle.fibs_show.specs.Show.{ShownAs, ShownLine, ShownLines, ShowText, WroteLinesOf, WroteRead}
+use Rattle.fibs_show.specs.Show.{ShownAs, ShownLine, ShownLines, ShowText, WroteLinesOf}
 use Rattle.fibs_show.specs.Show.{WroteFront, WroteAll, unfinished_text}
 use Rattle.fibs_show.specs.Shows.{Shows, EndsText}
 use Rattle.fibs_engine.specs.Reads.{LostAtMost}
 use Rattle.fibs_engine.specs.Writing.{GainedFront}
-use Rattle.fibs_engine.proofs.ReadLemmas.{kept_consumes}
 use Rattle.fibs_engine.proofs.WriteLemmas.{front_after, front_of_more}
 
 -- a line that was cut
@@ -95,10 +94,6 @@ shown_append (l ∷ ls) ms x y a b =
 -- what one call of `feed` lent, and what was appended for it
 pub ShownLent : Option Line → List ℕ → Type 0
 ShownLent line text = ShownLines (lent_lines line) text
-
-pub lent_none : ShownLent None []
-unfolding ShownLent
-lent_none = refl
 
 pub lent_some : (line : Line) (text : List ℕ) → ShownLine (value_of line) text
     → ShownLent (Some line) (text ++ (10 ∷ []))
@@ -203,13 +198,6 @@ pub passed_part : (left still less held now : Option (List ℕ)) (lines : LinesV
     → Consumes still less piece → WroteLinesOf p.stream piece left less held now
 passed_part left still less held now lines text piece reads size p took =
     (p.shown, Consumes-trans left still less p.stream piece p.took took, p.says, p.wrote)
-
--- all the lines of what was read are written
-pub passed_read : (left still less held now : Option (List ℕ)) (lines : LinesValue) (text : List ℕ) (reads size : ℕ)
-    → Passed left still held now lines text reads size
-    → Keeps still less → WroteRead left less held now
-passed_read left still less held now lines text reads size p kept =
-    (p.stream, passed_part left still less held now lines text [] reads size p (kept_consumes still less kept))
 
 -- a write of the lines of a portion failed
 pub passed_front : (left still less held now more : Option (List ℕ)) (lines after : LinesValue)

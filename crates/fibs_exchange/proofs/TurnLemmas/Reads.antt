@@ -1,11 +1,10 @@
 -- How much one turn reads.
-use Rattle.std.proofs.Common.{◌≡◌, ◌≤◌, ◌<◌, ◌*◌, ◌+◌, ◌++◌, ℕ, List, [], Option, arith, length, take}
+use Rattle.std.proofs.Common.{◌≡◌, ◌≤◌, ◌<◌, ◌*◌, ◌+◌, ◌++◌, ℕ, List, Option, arith, length, take}
 use Rattle.std.proofs.Common.{mul-le-mul_right}
 use Rattle.std.proofs.lemmas.List.{length-append, length-take}
 use Rattle.std.specs.Io.KnownBytes.{Consumes, Keeps}
 use Rattle.std.proofs.KnownBytes.{Consumes-kept, Consumes-trans}
 use Rattle.fibs_engine.specs.Reads.{LostAtMost}
-use Rattle.fibs_engine.proofs.ReadLemmas.{kept_consumes}
 
 -- a portion more makes one more read
 pub more_read : (made size : ℕ) (read : List ℕ) (count : ℕ) (portion : List ℕ) → length read ≤ made * size
@@ -34,7 +33,3 @@ few_and_portion made reads size a b c d read count portion took few fits whole m
     few_reads (made + 1) reads size a d (read ++ take count portion)
     (Consumes-kept a c d (read ++ take count portion) (Consumes-trans a b c read (take count portion) took more) kept)
     (more_read made size read count portion few whole) (omega (arith, fits))
-
--- what is left before a part that reads nothing is left at its beginning
-pub few_later : (most : ℕ) (a b c : Option (List ℕ)) → Keeps a b → LostAtMost most b c → LostAtMost most a c
-few_later most a b c kept few = (few.0, few.1, Consumes-trans a b c [] few.0 (kept_consumes a b kept) few.2)

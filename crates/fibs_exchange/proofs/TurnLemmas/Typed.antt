@@ -1,11 +1,9 @@
 -- What a typed line leaves as it is.
 use Rattle.std.proofs.Common.{◌≡◌, ℕ, not, nat_eq, List, [], ◌∷◌, Option}
 use Rattle.std.proofs.Common.{None, Some, refl, sym, ap, subst, ◌∙◌, append-nil}
-use Rattle.std.specs.Prelude.{option_map}
 use Rattle.std.specs.Io.KnownBytes.{Appends}
 use Rattle.fibs_boards.specs.Board.{BoardFields}
 use Rattle.fibs_position.specs.DecisionValue.{DecisionValue}
-use Rattle.fibs_commands.specs.TextOf.{text_of}
 use Rattle.arrayvec.specs.ArrayString.{ArrayString as CommandText}
 use Rattle.fibs_commands.specs.PlainCommands.{PlainValue}
 use Rattle.fibs_history.specs.declared.refusal.Refusal.{Refusal}
@@ -83,18 +81,6 @@ typed_notes t typed_withdrawal = refl
 typed_notes t typed_none = refl
 
 -- ---- the answer of a call
-
--- a command that is handed out
-pub sent_act : {E : Type 0} (say : E → SaidValue) (why : Option E) (command : CommandText) (send : List (List ℕ))
-    → None ≡ why → text_of command ∷ [] ≡ send
-    → answer_act None (text_of command ∷ []) ≡ answer_act (option_map say why) send
-sent_act say why command send e f = ap (answer_act None) f ∙ ap (λ w. answer_act (option_map say w) send) e
-
--- a refusal
-pub refused_act : {E : Type 0} (say : E → SaidValue) (why : Option E) (reason : E) (send : List (List ℕ))
-    → Some reason ≡ why
-    → answer_act (Some (say reason)) [] ≡ answer_act (option_map say why) send
-refused_act say why reason send e = ap (λ w. answer_act (option_map say w) send) e
 
 -- offline no command is handed out
 pub no_command : {E : Type 0} (why : E) (command : CommandText) → None ≡ Some why → ⊥

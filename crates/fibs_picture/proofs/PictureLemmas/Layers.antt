@@ -12,15 +12,11 @@ use Rattle.fibs_picture.specs.Picture.{six, left_first, right_first, labels, sta
 use Rattle.fibs_picture.specs.declared.half.Half.{Half}
 use Rattle.fibs_picture.specs.declared.half.Half.TheVariants as half
 use Rattle.fibs_picture.proofs.PictureLemmas.Parts.{parts-tell}
-use Rattle.fibs_picture.proofs.PictureLemmas.Columns.{OneSide, columns-tell}
+use Rattle.fibs_picture.proofs.PictureLemmas.Columns.{OneSide}
 use Rattle.fibs_picture.proofs.PictureLemmas.Cells.{AllOf, length-stack, cells-alone-tell, length-cells, SameAt}
 use Rattle.fibs_picture.proofs.PictureLemmas.Cells.{heights-tell}
 
 -- ---- widths
-
-pub length-labels : (d : Direction) (h : Half) (first : ℕ) → length (labels d (six h first)) ≡ 18
-unfolding labels label
-length-labels d h first = refl
 
 pub length-edge : (p : PositionValue) (h : Half) → length (edge p h) ≡ 47
 unfolding edge labels label
@@ -132,18 +128,6 @@ right-tells c d h s t e = heights-tell (λ p. slice_index c.own p) (λ p. slice_
 five : (a a' b b' c c' d d' e e' : List ℕ) → a ≡ a' → b ≡ b' → c ≡ c' → d ≡ d' → e ≡ e'
     → a ++ (b ++ (c ++ (d ++ e))) ≡ a' ++ (b' ++ (c' ++ (d' ++ e')))
 five a a' b b' c c' d d' e e' p q r s t = cc
-
-pub own-bar-tells : (c d : Checkers) → OneSide (slice_index c.own 25) 0 → OneSide (slice_index d.own 25) 0
-    → SameHalf c d half.Upper → slice_index c.own 25 ≡ slice_index d.own 25
-own-bar-tells c d s t e =
-    (columns-tell (slice_index c.own 25) 0 (slice_index d.own 25) 0 s t
-    (five _ _ _ _ _ _ _ _ _ _ e.first.bars e.second.bars e.third.bars e.fourth.bars e.fifth.bars)).0
-
-pub other-bar-tells : (c d : Checkers) → OneSide 0 (slice_index c.other 0) → OneSide 0 (slice_index d.other 0)
-    → SameHalf c d half.Lower → slice_index c.other 0 ≡ slice_index d.other 0
-other-bar-tells c d s t e =
-    (columns-tell 0 (slice_index c.other 0) 0 (slice_index d.other 0) s t
-    (five _ _ _ _ _ _ _ _ _ _ e.first.bars e.second.bars e.third.bars e.fourth.bars e.fifth.bars)).1
 
 -- ---- the edge determines the direction
 

@@ -1,5 +1,5 @@
 -- What a board's fields may be: each place holds checkers of one side only, and few of them.
-use Rattle.std.proofs.Common.{◌≡◌, ◌⊎◌, ◌<◌, ◌≤◌, ℕ, zero, suc, refl, sym, subst}
+use Rattle.std.proofs.Common.{◌≡◌, ◌⊎◌, ◌≤◌, ℕ, zero, suc, refl, sym, subst}
 use Rattle.std.proofs.Common.{arith, inl, inr, lit≤}
 use Rattle.std.specs.Prelude.{ℤ, pos, negsuc, neg_ℤ, ◌≤ℤ◌}
 use Rattle.std.proofs.lemmas.Int.{ints}
@@ -49,10 +49,3 @@ one-side ranges b board place h =
     let range = (ranges.place n (field_of b n) low high).0 (ranges.held b n board (omega arith) (omega arith)) in
     let side = (ranges.side 42 (colour b) (lit≤ tt) (lit≤ tt)).0 (ranges.held b 42 board (lit≤ tt) (lit≤ tt)) in
     sides (colour b) (field_of b n) side range.0 range.1
-
--- those on a bar
-pub bar-side : (n : ℕ) → n < 16 → OneSide n 0
-bar-side n h = record { either = inr refl; few_own = h; few_other = omega arith }
-
-pub other-bar-side : (n : ℕ) → n < 16 → OneSide 0 n
-other-bar-side n h = record { either = inl refl; few_own = omega arith; few_other = h }

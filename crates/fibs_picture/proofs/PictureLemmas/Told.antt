@@ -28,7 +28,7 @@ use Rattle.fibs_picture.specs.declared.half.Half.TheVariants as half
 use Rattle.fibs_picture.proofs.PictureLemmas.Parts.{lacks, lacks-append, decimal-lacks, Alike, lines-tell}
 use Rattle.fibs_picture.proofs.PictureLemmas.Columns.{OneSide}
 use Rattle.fibs_picture.proofs.PictureLemmas.Cells.{AllOf}
-use Rattle.fibs_picture.proofs.PictureLemmas.Sides.{one-side, bar-side, other-bar-side}
+use Rattle.fibs_picture.proofs.PictureLemmas.Sides.{one-side}
 use Rattle.fibs_picture.proofs.PictureLemmas.Notes.{Within, match-within, own-score-within, other-score-within}
 use Rattle.fibs_picture.proofs.PictureLemmas.Notes.{number-tells, number-lacks}
 use Rattle.fibs_picture.proofs.PictureLemmas.Notes.{named-lacks, named-tells, turn_words-lacks, turn_words-tell}
@@ -106,14 +106,6 @@ lower-right-sided : FieldRanges → (b : BoardFields) → IsBoard b → Sided (o
 unfolding own_view places
 lower-right-sided r b board = let at = sided-at r b board in
     (at 6 (lit≤ tt), (at 5 (lit≤ tt), (at 4 (lit≤ tt), (at 3 (lit≤ tt), (at 2 (lit≤ tt), (at 1 (lit≤ tt), tt))))))
-
-own-bar-sided : (b : BoardFields) → OneSide (slice_index (own_view b).own 25) 0
-unfolding own_view places
-own-bar-sided b = bar-side (15 - own_placed b) (omega arith)
-
-other-bar-sided : (b : BoardFields) → OneSide 0 (slice_index (own_view b).other 0)
-unfolding own_view
-other-bar-sided b = other-bar-side (15 - other_placed b) (omega arith)
 
 -- what two boards have to agree in, for their arrangements to be one
 record SamePlaces (a b : BoardFields) : Type 0 where

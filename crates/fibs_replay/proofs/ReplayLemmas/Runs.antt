@@ -27,7 +27,7 @@ use Rattle.fibs_scripts.specs.Output.{script_login, unread_text, end_text, refus
 use Rattle.fibs_scripts.specs.Output.{refused, to_the_end, LogOf, Replayed}
 use Rattle.fibs_scripts.specs.Output.{LoggedInPart, ReplayFailed, ReplayedInPart, ReadWhole, ReadLines}
 use Rattle.fibs_replay.specs.Running.{StandsFrom, RanTo, Broke, RunPrinted, PrintedFor}
-use Rattle.fibs_scripts.specs.Scripts.{script_limit, script_lines, SayEvents, SayScript, IsNoEvent}
+use Rattle.fibs_scripts.specs.Scripts.{script_limit, script_lines, SayEvents, SayScript}
 use Rattle.fibs_scripts.specs.declared.script.Script.TheVariants.{Unreadable}
 use Rattle.fibs_scripts.proofs.ScriptLemmas.Scripts.{ReadsLine}
 
@@ -193,17 +193,6 @@ rest_readable lines rest line is said = go (subst Readable is said)
     go : Readable (line ∷ rest) → Readable rest
     go h = cut h.0 h.1
 
-pub none_unread : (lines rest : List (List ℕ)) (line : List ℕ) → lines ≡ line ∷ rest → Readable lines → IsNoEvent line
-    → ⊥
-none_unread lines rest line is said none = go (subst Readable is said)
-  where
-    cut : (events : List Event) → SayEvents (line ∷ rest) events → ⊥
-    cut [] h = h
-    cut (e ∷ events) h = none e h.0
-
-    go : Readable (line ∷ rest) → ⊥
-    go h = cut h.0 h.1
-
 -- what is printed for the script
 
 -- a text that is for the script was printed
@@ -332,20 +321,6 @@ printed_run may_break script first events world noted done (Some (S.Refused why)
               (ran.cut ∙ ap (λ l. ran.before ++ l) e) ran.may_be ran.count told.0 same_log told.1
         ]
 
--- a reason other than that memory ran out is printed
-pub other_reason : (why : WorldRefusal) (done : ℕ) (log : List ℕ) (r : Result ℕ EngineFault)
-    (held now : Option (List ℕ)) → (why ≡ W.Memory → ⊥)
-    → Printed 3 (log ++ refused_text done why) r held now → RunPrinted (Some (S.Refused why)) done log r held now
-other_reason W.Memory done log r held now other h = absurd (other refl)
-other_reason W.AlreadyOpen done log r held now other h = h
-other_reason W.NotOpen done log r held now other h = h
-other_reason W.NoSuchConnection done log r held now other h = h
-other_reason W.NothingToServe done log r held now other h = h
-other_reason W.UserDecides done log r held now other h = h
-other_reason W.BoardAsText done log r held now other h = h
-other_reason W.BadBoard done log r held now other h = h
-other_reason W.BadDice done log r held now other h = h
-
 -- the first board
 
 -- what the lines say, with the board that was read
@@ -381,14 +356,6 @@ pub good_first : GoodIsExact → (b : BoardFields) → None ≡ (if good b then 
 good_first exact b h = (exact b).0 (taken_first (good b) h)
 
 -- a script that is not run
-
-pub unread_done : (r : Result ℕ EngineFault) (number : ℕ) (left still held now : Option (List ℕ)) (text : List ℕ)
-    → ReadLines (Unreadable number) left still → text ≡ unread_text number → Printed 3 text r held now
-    → IfOk r (λ status. Replayed status left still held now)
-unread_done (Ok status) number left still held now text read is h =
-    let for : ReplayText read.0 text 3 = subst (λ t. ReplayText read.0 t 3) (sym is) read.3 in
-    (read.0, text, read.1, read.2, subst (ReplayText read.0 text) (sym h.0) for, h.1)
-unread_done (Err why) number left still held now text read is h = tt
 
 pub unread_failed : (r : Result ℕ EngineFault) (number : ℕ) (left still held now : Option (List ℕ)) (text : List ℕ)
     → ReadLines (Unreadable number) left still → text ≡ unread_text number → Printed 3 text r held now

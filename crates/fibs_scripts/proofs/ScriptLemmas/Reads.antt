@@ -1,22 +1,12 @@
 -- How many bytes of a script are read, and what is known of a script that is not run.
 use Rattle.std.proofs.Common.{◌≡◌, ◌≤◌, ◌+◌, ◌++◌, ℕ, List, Option, None, Some, arith, inl, inr, length, take}
 use Rattle.std.proofs.lemmas.List.{length-append, length-take}
-use Rattle.std.specs.Io.KnownBytes.{Consumes, Keeps}
-use Rattle.std.proofs.KnownBytes.{Consumes-kept, Consumes-trans}
+use Rattle.std.specs.Io.KnownBytes.{Consumes}
+use Rattle.std.proofs.KnownBytes.{Consumes-trans}
 use Rattle.fibs_engine.specs.Reads.{LostAtMost}
 use Rattle.fibs_scripts.specs.Output.{too_long, unreadable, ReadWhole, ReadLines}
 use Rattle.fibs_scripts.specs.Scripts.{script_lines, FirstUnreadable}
 use Rattle.fibs_scripts.specs.declared.script.Script.TheVariants.{Unreadable}
-
--- a read that gave nothing
-pub few_kept : (most : ℕ) (a b c : Option (List ℕ)) (read : List ℕ) → Consumes a b read → length read ≤ most → Keeps b c
-    → LostAtMost most a c
-few_kept most a b c read took few kept = (read, few, Consumes-kept a b c read took kept)
-
--- a read that gave nothing new, and its bytes are known
-pub few_known : (most : ℕ) (a b : Option (List ℕ)) (read : List ℕ) → Consumes a b read → length read ≤ most
-    → LostAtMost most a b
-few_known most a b read took few = (read, few, took)
 
 -- a read that gave bytes
 pub few_more : (most size : ℕ) (a b c : Option (List ℕ)) (read : List ℕ) (count : ℕ) (portion : List ℕ)

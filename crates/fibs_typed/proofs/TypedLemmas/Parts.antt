@@ -21,11 +21,6 @@ pub record Parts (start now : Option (List ℕ)) (line : List ℕ) : Type 0 wher
   pub kept : line ≡ take 4098 part
   pub took : Consumes start now part
 
--- nothing yet
-pub parts_nothing : (start : Option (List ℕ)) (line : List ℕ) → line ≡ [] → Parts start start line
-parts_nothing None line e = record { part = []; endless = refl; kept = e; took = tt }
-parts_nothing (Some typed) line e = record { part = []; endless = refl; kept = e; took = refl }
-
 -- more that waited is kept
 more_kept : (start now : Option (List ℕ)) (line run new : List ℕ) (k : Parts start now line)
     → new ≡ line ++ take (4098 - length line) run → new ≡ take 4098 (k.part ++ run)

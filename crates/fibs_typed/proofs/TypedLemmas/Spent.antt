@@ -1,27 +1,12 @@
 -- How many reads are spent, call by call.
-use Rattle.std.proofs.Common.{◌≡◌, ◌≤◌, ◌+◌, ◌*◌, ℕ, List, [], ◌++◌, length, take, Option, arith, length-append}
-use Rattle.std.proofs.Common.{length-take}
-use Rattle.std.specs.Io.KnownBytes.{Consumes, Keeps}
-use Rattle.std.proofs.KnownBytes.{Consumes-nil, Consumes-trans, Consumes-kept}
+use Rattle.std.proofs.Common.{◌≡◌, ◌+◌, ◌*◌, ℕ, List, [], ◌++◌, Option, arith, length-append}
+use Rattle.std.proofs.KnownBytes.{Consumes-nil, Consumes-trans}
 use Rattle.fibs_engine.specs.Reads.{LostAtMost}
 use Rattle.fibs_typed.specs.Reading.{TypedValue, SpendsReads}
 
 -- no read was made
 pub spends_nothing : (a b : TypedValue) (left : Option (List ℕ)) → b.reads ≡ a.reads → SpendsReads a b left left
 spends_nothing a b left same = ([], omega (arith, same), Consumes-nil left)
-
--- a read gave nothing
-pub spends_one : (a b : TypedValue) (left still : Option (List ℕ)) → b.reads ≤ a.reads → Keeps left still
-    → SpendsReads a b left still
-spends_one a b left still less kept =
-    ([], omega (arith, less), Consumes-kept left left still [] (Consumes-nil left) kept)
-
--- a read gave a portion
-pub spends_portion : (a b : TypedValue) (left still : Option (List ℕ)) (count : ℕ) (portion : List ℕ)
-    → b.reads + 1 ≤ a.reads → length portion ≤ 1024 → Consumes left still (take count portion)
-    → SpendsReads a b left still
-spends_portion a b left still count portion less fits took =
-    (take count portion, omega (arith, less, fits, length-take count portion), took)
 
 -- a call that makes no read leaves them as they are
 pub spends_kept : (a b c : TypedValue) (left still : Option (List ℕ)) → SpendsReads a b left still
