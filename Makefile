@@ -9,6 +9,7 @@ SHARE = $(PREFIX)/share
 MEGABYTES ?= 50
 ROUNDS ?= 5
 PEER ?= $(if $(shell command -v rustc),bin/plain_show)
+PEERS := $(PEER) $(if $(shell command -v rustc),bin/plain_plays)
 BUILT := crates/fibs/out/fibs
 CRATES := $(shell sed -nE 's/^([a-z0-9_]+)( [^:]*)?:.*/\1/p' crates.txt)
 
@@ -117,11 +118,11 @@ install-lib-files:
 		> $(DESTDIR)$(PREFIX)/lib/cmake/fibs/fibs-config-version.cmake
 	install -m 644 docs/C.md docs/FORMATS.md CHANGELOG.md examples/bot.c $(DESTDIR)$(SHARE)/doc/fibs
 
-bin/plain_show: bench/plain_show.rs
+bin/plain_%: bench/plain_%.rs
 	mkdir -p bin
 	rustc -O -o $@ $<
 
-bench: all $(PEER) ## measures: one table of goals and figures, beside other programs
+bench: all $(PEERS) ## measures: one table of goals and figures, beside other programs
 	scripts/prove fibs_bench
 	bench/table bin/fibs crates/fibs_bench/out/fibs_bench "$(PEER)" $(ROUNDS)
 
