@@ -309,6 +309,16 @@ def no_server():
     ann.close()
 
 
+def no_such_name():
+    """The name of the server has no address, since it is misspelled: that is said."""
+    ann = Person(4321, host='nowhere.invalid')
+    ann.reads('no connection to nowhere.invalid:4321: no address is known; open tries again')
+    ann.type('quit')
+    ann.ends(0)
+    ann.was_not_refused()
+    ann.close()
+
+
 SCENES = [
     a_resignation_that_is_declined_and_offered_again, a_resignation_that_is_declined_and_a_new_connection,
     a_resignation_that_is_declined_and_a_move_as_it_is, a_move_crosses_the_opponents_drop,
@@ -316,4 +326,5 @@ SCENES = [
     the_same_first_board_in_the_next_match, the_opponents_resignation_is_accepted,
     the_opponents_resignation_is_rejected, what_the_client_takes_is_not_sent_as_it_is, a_double_of_the_opponent,
     a_wrong_password, a_wrong_password_at_rest, a_connection_that_ends, no_server,
+    no_such_name,
 ]

@@ -1,5 +1,7 @@
 //! Connections to a server.
 
+ghost use Rattle.std.specs.Prelude.{◌≡◌, ◌≢◌};
+
 use crate::alive::keep_alive;
 use crate::link::Link;
 use std::io;
@@ -51,12 +53,13 @@ impl<'a, N: Net<Stream = TcpStream>> Server<'a, N> {
 impl<N: Net<Stream = TcpStream>> Dial for Server<'_, N> {
     type Stream = TcpStream;
 
-    /// A socket to the first of the host's addresses that answers. If none does, why the last does not.
+    /// A socket to the first of the host's addresses that answers. If none does, why the last does not; `NotFound` if it
+    /// has none.
     fn dial(&mut self) -> Result<TcpStream, ErrorKind> {
         let Place { host, port, quiet } = self.place;
         let addresses = match (host, port).to_socket_addrs(self.net) {
             Ok(addresses) => addresses,
-            Err(error) => return Err(error.kind()),
+            Err(error) => return Err(lookup_failure(error.kind())),
         };
         let mut why = ErrorKind::NotFound;
         for address in addresses {
@@ -66,6 +69,18 @@ impl<N: Net<Stream = TcpStream>> Dial for Server<'_, N> {
             }
         }
         Err(why)
+    }
+}
+
+/// Why the addresses of a name can't be told: there are none, unless memory ran out. What a system says of a name that
+/// it does not know has no kind of its own.
+fn lookup_failure(kind: ErrorKind) -> ErrorKind
+    ensures memory { kind ≡ ErrorKind.OutOfMemory → result ≡ ErrorKind.OutOfMemory }
+    ensures none { kind ≢ ErrorKind.OutOfMemory → result ≡ ErrorKind.NotFound }
+{
+    match kind {
+        ErrorKind::OutOfMemory => ErrorKind::OutOfMemory,
+        _ => ErrorKind::NotFound,
     }
 }
 

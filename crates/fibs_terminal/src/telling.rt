@@ -70,8 +70,12 @@ impl<'a, C: Clock + Drop> Screen<'a, C> {
         self.say(b":")?;
         self.say(Buffer::new().format(self.settings.port).as_bytes())?;
         self.say(b": ")?;
-        let reason = why.to_string(self.alloc)?;
-        self.say(reason.as_bytes())?;
+        if why == ErrorKind::NotFound {
+            self.say(b"no address is known")?;
+        } else {
+            let reason = why.to_string(self.alloc)?;
+            self.say(reason.as_bytes())?;
+        }
         self.say(b"; open tries again\n")
     }
 
