@@ -1,7 +1,8 @@
 /* Loaded before a program's own libraries (LD_PRELOAD), this refuses one of its allocations. The variable REFUSED gives
    its number, counted from 1. At the refusal it makes the file that REFUSED_TOLD names. If INTERRUPTED is set, every
-   second write to a socket, from the first on, fails as if a signal interrupted it. It needs no header and no library
-   but the C library of a running program, so that the kit's own compiler builds it. */
+   second write to a socket, from the first on, fails as if a signal interrupted it; if HALVED is set, each takes half of
+   its bytes. It needs no header and no library but the C library of a running program, so that the kit's own compiler
+   builds it. */
 typedef __SIZE_TYPE__ size_t;
 
 void *__libc_malloc(size_t size);
@@ -50,5 +51,5 @@ long send(int socket, const void *bytes, size_t size, int flags) {
         *__errno_location() = INTERRUPTED_CALL;
         return -1;
     }
-    return __send(socket, bytes, size, flags);
+    return __send(socket, bytes, getenv("HALVED") ? (size + 1) / 2 : size, flags);
 }

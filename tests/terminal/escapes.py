@@ -281,6 +281,28 @@ def a_password_that_is_typed():
     server.close()
 
 
+def a_password_that_is_asked_for_beside_the_output():
+    """What goes to a file has no prompt in it."""
+    server = Server()
+    with tempfile.NamedTemporaryFile() as file:
+        run = ['sh', '-c', 'exec "$0" connect 127.0.0.1 "$1" ann > "$2"', PROGRAM, str(server.port), file.name]
+        terminal = Terminal(run, FIBS_QUIET='1')
+        terminal.sees('password: ')
+        terminal.type('secret')
+        server.accept()
+        same('the login', server.line(), 'login fibs_client 1008 ann secret')
+        server.send('12 bob hi')
+        end = time.monotonic() + PATIENCE
+        while not (written := file.read()).endswith(b'hi\n') and time.monotonic() < end:
+            file.seek(0)
+            time.sleep(0.01)
+        same('what the file has', (b'password' in written, written[-3:]), (False, b'hi\n'))
+        terminal.type('quit')
+        terminal.ends(0)
+        terminal.close()
+    server.close()
+
+
 def what_show_says_at_a_terminal():
     """What is left over at the end of its input; what is too long is a text; and an input that can't be read."""
     rows = [
@@ -304,4 +326,5 @@ def what_show_says_at_a_terminal():
 SCENES = [a_million_lines, letters_of_other_scripts, what_is_malformed_is_shown, a_flood_does_not_hold_a_typed_line,
           a_host_of_which_one_address_alone_answers, lines_that_are_pasted_are_all_answered,
           nothing_typed_is_lost_when_a_line_comes, the_server_is_heard_after_a_stop, a_server_that_is_slow_to_log_in,
-          what_the_environment_says, a_password_that_is_typed, what_show_says_at_a_terminal]
+          what_the_environment_says, a_password_that_is_typed, a_password_that_is_asked_for_beside_the_output,
+          what_show_says_at_a_terminal]
