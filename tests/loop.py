@@ -67,7 +67,6 @@ def a_connection_for_which_no_file_may_be_opened():
     for most in range(STREAMS + LISTENER, STREAMS + LISTENER + ENDS):
         same('replay with %d files' % most, run('replay', opens, most), (0, 'opened 1\nlost 1\nend 2\n', ''))
         same('loop with %d files' % most, run('loop', opens, most), (4, '', 'fibs: device\n'))
-    same('loop without a listener', run('loop', script('repeat'), STREAMS), (4, '', 'fibs: device\n'))
 
 
 def a_listener_alone_for_a_script_that_opens_nothing():
