@@ -2,9 +2,12 @@
 use Rattle.std.specs.Prelude.{ℕ, zero, suc, ◌-◌, ◌<◌, ◌≤◌, ◌==◌, ◌&&◌, max, List, [], ◌∷◌, ◌++◌, take, Option, Some}
 use Rattle.std.specs.Prelude.{None, if◌then◌else◌, option_map}
 use Rattle.std.specs.declared.cmp.Ordering.{Ordering}
-use Rattle.std.specs.Ordering.{ordering_then, is_lt, is_eq, nat_cmp}
-use Rattle.std.specs.Cmp.Lexicographic.{slice_cmp}
-use Rattle.std.specs.BTreeMap.{BTreeMap, get}
+use Rattle.std.specs.Ordering.{is_lt}
+use Rattle.std.specs.Cmp.Lexicographic.{pointwise}
+use Rattle.std.specs.Prelude.{nat_eq, Bool, true, ◌≡◌, IsTrue}
+use Rattle.std.proofs.lemmas.Slice.Eq.{bytes_eq-Decides}
+use Rattle.std.proofs.lemmas.Bool.{and_parts}
+use Rattle.std.specs.HashMap.{HashMap, get}
 use Rattle.fibs_rules.specs.Hop.{Hop}
 use Rattle.fibs_rules.specs.Checkers.{Checkers}
 use Rattle.fibs_rules.specs.OneChecker.{one_of}
@@ -66,9 +69,17 @@ abbrev pub greater : Option (List Hop) → List Hop → List Hop
 greater None found = found
 greater (Some kept) found = if is_lt (play_cmp kept found) then found else kept
 
--- the order of arrangements, as they are kept in a map
-abbrev pub checkers_cmp : Checkers → Checkers → Ordering
-checkers_cmp p q = ordering_then (slice_cmp nat_cmp p.own q.own) (slice_cmp nat_cmp p.other q.other)
+-- arrangements are equal, as a map tells them apart
+abbrev pub checkers_eq : Checkers → Checkers → Bool
+checkers_eq p q = pointwise nat_eq p.own q.own && pointwise nat_eq p.other q.other
+
+-- equal ones have the same counts
+pub same_bytes : (p q : Checkers) → IsTrue (checkers_eq p q) → (p.own ∷ p.other ∷ []) ≡ (q.own ∷ q.other ∷ [])
+same_bytes p q e =
+    let (a, b) = and_parts (pointwise nat_eq p.own q.own) (pointwise nat_eq p.other q.other) e in
+    let own = (bytes_eq-Decides p.own q.own).0 a in
+    let other = (bytes_eq-Decides p.other q.other).0 b in
+    cc
 
 -- a play for each arrangement that is reached
 abbrev pub Kept : Type 0
@@ -81,11 +92,11 @@ nothing q = None
 -- after one more is found, the greater is kept for the arrangement that it leads to
 abbrev pub noted : Kept → Reach → Kept
 noted kept found q =
-    if is_eq (checkers_cmp found.leads q) then Some (greater (kept q) found.play) else kept q
+    if checkers_eq found.leads q then Some (greater (kept q) found.play) else kept q
 
 -- what a map keeps
-abbrev pub kept_in : BTreeMap Checkers Play → Kept
-kept_in m q = option_map hops_of (get checkers_cmp m q)
+abbrev pub kept_in : {S : Type 0} → HashMap Checkers Play S → Kept
+kept_in m q = option_map hops_of (get checkers_eq m q)
 
 -- the runs of the greatest length that are tried in one order of the dice
 abbrev pub all_in_order : Standing → ℕ → ℕ → List Reach

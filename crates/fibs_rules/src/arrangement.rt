@@ -1,6 +1,7 @@
 //! The checkers of both sides.
 
-ghost use Rattle.std.specs.Prelude.{◌≡◌, ◌+◌, ◌-◌, ◌*◌, ◌<◌, ◌≤◌, ◌==◌, ◌↔◌, sum, map, length, slice_index};
+ghost use Rattle.std.specs.Prelude.{◌≡◌, ◌+◌, ◌-◌, ◌*◌, ◌<◌, ◌≤◌, ◌==◌, ◌↔◌, ◌∷◌, [], sum, map, length};
+ghost use Rattle.std.specs.Prelude.{slice_index};
 ghost use Rattle.std.specs.Prelude.{IsSome, IfSome};
 ghost use Rattle.std.specs.List.{list_all};
 ghost use Rattle.fibs_rules.specs.Hop.{hop_of};
@@ -9,6 +10,7 @@ ghost use Rattle.fibs_rules.specs.OneChecker.{can_leave, one_of};
 ghost use Rattle.fibs_rules.specs.LaxPlays.{lax_one, lax_of};
 
 use crate::step::Step;
+use std::hash::{Hash, Hasher};
 use std::marker::Model;
 
 /// The checkers of both sides, fifteen each, in the player's own numbering.
@@ -29,6 +31,20 @@ impl Model for Arrangement {
     ghost invariant = { λ a. (sum a.own ≡ 15) × (sum a.other ≡ 15) };
 
     ghost inverse = { λ p. record { own = p.own; other = p.other } };
+}
+
+/// The counts of each side, each list in one write.
+impl Hash for Arrangement {
+    ghost use Rattle.fibs_rules.specs.Search.{same_bytes};
+
+    ghost hash_input = { λ p. p.own ∷ p.other ∷ [] };
+
+    ghost respects_eq = { λ p q e. same_bytes p q e };
+
+    fn hash<H: Hasher>(&self, state: &mut H) {
+        state.write(&self.own);
+        state.write(&self.other);
+    }
 }
 
 /// How many checkers there are.

@@ -4,9 +4,9 @@ ghost use Rattle.std.specs.Prelude.{◌≡◌, ◌+◌, ◌≤◌, length, OnOk,
 ghost use Rattle.std.specs.List.{fold};
 ghost use Rattle.std.specs.List.Sorted.{IsSortedBy};
 ghost use Rattle.std.specs.Ordering.{is_lt};
-ghost use Rattle.std.specs.BTreeMap.{IsOrdered, values};
+ghost use Rattle.std.specs.HashMap.{IsUnique, values};
 ghost use Rattle.fibs_rules.specs.PlayValue.{hops_of};
-ghost use Rattle.fibs_rules.specs.Search.{AreDice, checkers_cmp, kept_in, greater, noted, reaches};
+ghost use Rattle.fibs_rules.specs.Search.{AreDice, checkers_eq, kept_in, greater, noted, reaches};
 ghost use Rattle.fibs_rules.specs.LegalPlays.{play_cmp};
 
 use crate::arrangement::Arrangement;
@@ -15,10 +15,10 @@ use crate::search::next_top;
 use crate::step::Step;
 use std::alloc::{AllocError, Global};
 use std::cmp::Ordering;
-use std::collections::BTreeMap;
+use std::collections::HashMap;
 
 /// The greatest play found so far for each arrangement that is reached.
-pub(crate) type Kept = BTreeMap<Arrangement, Play>;
+pub(crate) type Kept = HashMap<Arrangement, Play>;
 
 /// How two plays compare: by their first steps, then by their second, and so on.
 fn order(a: &Play, b: &Play) -> Ordering
@@ -90,7 +90,7 @@ fn sort(plays: &mut [Play])
 pub(crate) fn descending(alloc: Global, kept: &Kept) -> Result<Vec<Play>, AllocError>
     ensures plays { IfOk result (λ v. IsPermutation (values kept.now) v.items
         × IsSortedBy (λ a b. is_lt (play_cmp (hops_of b) (hops_of a))) v.items) }
-    ensures ordered { IsOrdered checkers_cmp kept.now }
+    ensures unique { IsUnique checkers_eq kept.now }
 {
     let mut plays: Vec<Play> = kept.values().copied().collect(alloc)?;
     sort(&mut plays);

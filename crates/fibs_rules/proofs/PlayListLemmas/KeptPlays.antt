@@ -2,33 +2,37 @@
 use Rattle.std.proofs.Common.{◌≡◌, ◌⊎◌, inl, inr, ℕ, List, [], ◌∷◌, Option, Some, true, false, refl, sym, ap, subst}
 use Rattle.std.proofs.Common.{◌∙◌}
 use Rattle.std.specs.List.{fold}
-use Rattle.std.specs.Ordering.{is_gt, is_eq, nat_cmp}
-use Rattle.std.specs.Cmp.{IsTotalOrder, Equal-is}
-use Rattle.std.specs.Cmp.Lexicographic.{slice_cmp}
-use Rattle.std.proofs.lemmas.Bool.{cond_both, cond-true}
-use Rattle.std.proofs.lemmas.Cmp.{upto, then_total, on_total, nat_list_cmp_total, tied_itself}
-use Rattle.std.proofs.lemmas.Map.Lookups.{CmpEqualImpliesEq, exact_pairs, exact_bytes}
+use Rattle.std.specs.Ordering.{is_gt}
+use Rattle.std.specs.Prelude.{nat_eq}
+use Rattle.std.specs.Cmp.{IsEquivalence, decided}
+use Rattle.std.specs.Cmp.Lexicographic.{pointwise}
+use Rattle.std.proofs.lemmas.Bool.{cond_both, cond-true, and_parts, and_from}
+use Rattle.std.proofs.lemmas.Cmp.{upto}
+use Rattle.std.proofs.lemmas.Slice.Eq.{bytes_eq-Decides}
 use Rattle.fibs_rules.specs.Hop.{Hop}
 use Rattle.fibs_rules.specs.Checkers.{Checkers}
 use Rattle.fibs_rules.specs.LegalPlays.{play_cmp}
-use Rattle.fibs_rules.specs.Search.{Reach, Kept, checkers_cmp, greater, noted}
+use Rattle.fibs_rules.specs.Search.{Reach, Kept, checkers_eq, greater, noted}
 use Rattle.fibs_rules.proofs.PlayListLemmas.PlayOrder.{play_total, greater_kept, greater_found, greater_which}
 use Rattle.fibs_rules.proofs.PlayListLemmas.Reaches.{In}
 use Rattle.fibs_rules.proofs.PlayListLemmas.AllTried.{reach}
 
--- the order of arrangements is total
-pub checkers_total : IsTotalOrder checkers_cmp
-checkers_total = then_total (on_total (λ c. c.own) nat_list_cmp_total) (on_total (λ c. c.other) nat_list_cmp_total)
+-- arrangements that pass the test are one
+pub same_checkers : (p q : Checkers) → checkers_eq p q ≡ true → p ≡ q
+same_checkers p q e =
+    let (own, other) = and_parts (pointwise nat_eq p.own q.own) (pointwise nat_eq p.other q.other) e in
+    λ i. record { own = (bytes_eq-Decides p.own q.own).0 own i; other = (bytes_eq-Decides p.other q.other).0 other i }
 
--- arrangements that are level are one
-pub checkers_exact : CmpEqualImpliesEq checkers_cmp
-checkers_exact p q e =
-    ap (λ (c : List ℕ × List ℕ). record { own = c.0; other = c.1 })
-    (exact_pairs (slice_cmp nat_cmp) (slice_cmp nat_cmp) exact_bytes exact_bytes (p.own, p.other) (q.own, q.other) e)
+-- each passes it with itself
+pub itself_eq : (p : Checkers) → checkers_eq p p ≡ true
+itself_eq p =
+    and_from (pointwise nat_eq p.own p.own) (pointwise nat_eq p.other p.other)
+    ((bytes_eq-Decides p.own p.own).1 refl) ((bytes_eq-Decides p.other p.other).1 refl)
 
--- so are those that pass the test
-pub same_checkers : (p q : Checkers) → is_eq (checkers_cmp p q) ≡ true → p ≡ q
-same_checkers p q e = checkers_exact p q ((Equal-is (checkers_cmp p q)).0 e)
+-- so the test is an equality
+pub checkers_equiv : IsEquivalence checkers_eq
+checkers_equiv = decided checkers_eq
+    (λ p q. (same_checkers p q, λ e. subst (λ c. checkers_eq p c ≡ true) e (itself_eq p)))
 
 -- what is kept is no less than this play
 abbrev pub NoLess : Option (List Hop) → List Hop → Type 0
@@ -38,7 +42,7 @@ NoLess kept steps = (best : List Hop) × (kept ≡ Some best) × (is_gt (play_cm
 noted_from : (kept : Kept) (found : Reach) (q : Checkers) (steps : List Hop) → noted kept found q ≡ Some steps
     → (kept q ≡ Some steps) ⊎ (reach steps q ≡ found)
 noted_from kept found q steps =
-    cond_both (is_eq (checkers_cmp found.leads q)) (Some (greater (kept q) found.play)) (kept q)
+    cond_both (checkers_eq found.leads q) (Some (greater (kept q) found.play)) (kept q)
     (λ o. o ≡ Some steps → (kept q ≡ Some steps) ⊎ (reach steps q ≡ found))
     (λ e h. elim (greater_which (kept q) found.play) [
       | inl old ↦ inl (old ∙ h)
@@ -54,7 +58,7 @@ noted_from kept found q steps =
 noted_keeps : (kept : Kept) (found : Reach) (q : Checkers) (steps : List Hop) → NoLess (kept q) steps
     → NoLess (noted kept found q) steps
 noted_keeps kept found q steps (best, is, no_less) =
-    cond_both (is_eq (checkers_cmp found.leads q)) (Some (greater (kept q) found.play)) (kept q)
+    cond_both (checkers_eq found.leads q) (Some (greater (kept q) found.play)) (kept q)
     (λ o. NoLess o steps)
     (λ e. (
       greater (kept q) found.play,
@@ -67,8 +71,7 @@ noted_keeps kept found q steps (best, is, no_less) =
 noted_has : (kept : Kept) (found : Reach) → NoLess (noted kept found found.leads) found.play
 noted_has kept found =
     subst (λ o. NoLess o found.play)
-    (sym (cond-true (is_eq (checkers_cmp found.leads found.leads)) _ _
-    (ap is_eq (tied_itself checkers_total found.leads))))
+    (sym (cond-true (checkers_eq found.leads found.leads) _ _ (itself_eq found.leads)))
     (greater (kept found.leads) found.play, refl, greater_found (kept found.leads) found.play)
 
 -- the same for a whole list that is noted

@@ -2,30 +2,31 @@
 use Rattle.std.proofs.Common.{◌≡◌, ◌+◌, ◌<◌, ◌≤◌, inl, inr, List, [], ◌∷◌, length, map, get_or, Option, Some, None}
 use Rattle.std.proofs.Common.{false, refl, sym, ap, subst, ◌∙◌, arith}
 use Rattle.std.specs.Prelude.{option_map}
-use Rattle.std.specs.declared.cmp.Ordering.TheVariants.{Greater, Less}
+use Rattle.std.specs.declared.cmp.Ordering.TheVariants.{Greater}
+use Rattle.std.specs.Cmp.{IsEquivalence}
 use Rattle.std.specs.List.{fold, Contains, IsDistinct, AllAdjacentBelow}
 use Rattle.std.specs.List.Sorted.{IsPermutation, IsSortedBy}
-use Rattle.std.specs.BTreeMap.{BTreeMap, IsOrdered, get, keys, values}
+use Rattle.std.specs.HashMap.{HashMap, IsUnique, get, keys, values}
 use Rattle.std.specs.Ordering.{is_lt, is_gt}
 use Rattle.std.proofs.lemmas.Bool.{cases_Bool}
 use Rattle.std.proofs.lemmas.List.{get_or-map, length-map}
 use Rattle.std.proofs.lemmas.List.Elements.{Contains-get_or}
 use Rattle.std.proofs.lemmas.List.Sorted.{Contains-permutation, IsPermutation-sym}
 use Rattle.std.proofs.lemmas.Map.Keys.{IsDistinct-IsPermutation, IsDistinct-from_apart, apart_from_distinct}
-use Rattle.std.proofs.lemmas.Map.Keys.{Less-from_sorted}
 use Rattle.std.proofs.lemmas.Map.Made.{Contains-from_values_of, Contains-values_of}
-use Rattle.std.proofs.lemmas.Map.Views.{btree_map_get_iff}
-use Rattle.std.proofs.lemmas.Cmp.{upto, tied_itself}
+use Rattle.std.proofs.lemmas.Map.Views.{hash_map_get_iff}
+use Rattle.std.proofs.lemmas.Cmp.{upto}
 use Rattle.fibs_rules.specs.Hop.{Hop}
 use Rattle.fibs_rules.specs.PlayValue.{hops_of}
-use Rattle.fibs_rules.specs.Search.{checkers_cmp, kept_in, nothing, noted, all_of}
+use Rattle.fibs_rules.specs.Search.{checkers_eq, kept_in, nothing, noted, all_of}
 use Rattle.fibs_rules.specs.declared.play.Play.{Play}
 use Rattle.fibs_rules.specs.Checkers.{Checkers}
 use Rattle.fibs_rules.specs.Runs.{Run, Standing}
 use Rattle.fibs_rules.specs.LegalPlays.{play_cmp, Leads, IsGreatest, PlayList}
 use Rattle.fibs_rules.proofs.PlayListLemmas.PlayOrder.{play_total, not_greater, gt_from, play_same, above, level}
 use Rattle.fibs_rules.proofs.PlayListLemmas.PlayOrder.{level_flips, level_same}
-use Rattle.fibs_rules.proofs.PlayListLemmas.KeptPlays.{NoLess, checkers_total, checkers_exact, all_from, all_have}
+use Rattle.fibs_rules.proofs.PlayListLemmas.KeptPlays.{NoLess, checkers_equiv, same_checkers, itself_eq}
+use Rattle.fibs_rules.proofs.PlayListLemmas.KeptPlays.{all_from, all_have}
 use Rattle.fibs_rules.proofs.PlayListLemmas.AllTried.{reach, all_sound, all_complete, run_one}
 
 -- a play of which this is the value
@@ -63,8 +64,8 @@ descends (x ∷ plays) order apart = λ k d h.
     rw (get_or-map hops_of (x ∷ plays) k x d (omega arith), get_or-map hops_of (x ∷ plays) (k + 1) x d lt)
     (above _ (order k x (omega arith) lt) (apart_from_distinct level (x ∷ plays) k (k + 1) x apart (omega arith) lt))
 
-module _ (p : Standing) (kept : BTreeMap Checkers Play) (l : p.first ≤ 6) (r : p.second ≤ 6)
-    (ordered : IsOrdered checkers_cmp kept) (keeps : kept_in kept ≡ fold noted nothing (all_of p)) where
+module _ {S : Type 0} (p : Standing) (kept : HashMap Checkers Play S) (l : p.first ≤ 6) (r : p.second ≤ 6)
+    (unique : IsUnique checkers_eq kept) (keeps : kept_in kept ≡ fold noted nothing (all_of p)) where
   -- a play that is kept for an arrangement is legal, and leads there
   kept_leads : (q : Checkers) (steps : List Hop) → kept_in kept q ≡ Some steps → Leads p steps q
   kept_leads q steps e =
@@ -86,7 +87,7 @@ module _ (p : Standing) (kept : BTreeMap Checkers Play) (l : p.first ≤ 6) (r :
   -- the play of an entry is kept for its arrangement
   entry_kept : (q : Checkers) (play : Play) → Contains kept.entries (q, play) → kept_in kept q ≡ Some (hops_of play)
   entry_kept q play m =
-      ap (option_map hops_of) ((btree_map_get_iff checkers_total checkers_exact kept ordered q play).1 m)
+      ap (option_map hops_of) ((hash_map_get_iff checkers_equiv same_checkers kept unique q play).1 m)
 
   -- it is the greatest of those that lead there
   entry_greatest : (q : Checkers) (play : Play) → Contains kept.entries (q, play) → IsGreatest p (hops_of play)
@@ -103,8 +104,8 @@ module _ (p : Standing) (kept : BTreeMap Checkers Play) (l : p.first ≤ 6) (r :
   greatest_kept : (steps : List Hop) → IsGreatest p steps → Contains (map hops_of (values kept)) steps
   greatest_kept steps g =
       let (best, is, no_less) = kept_covers steps g.to g.leads in
-      let (play, found, value) = play_of (get checkers_cmp kept g.to) best is in
-      let entry = (btree_map_get_iff checkers_total checkers_exact kept ordered g.to play).0 found in
+      let (play, found, value) = play_of (get checkers_eq kept g.to) best is in
+      let entry = (hash_map_get_iff checkers_equiv same_checkers kept unique g.to play).0 found in
       let other : Leads p best g.to = kept_leads g.to best is in
       let same : steps ≡ best = play_same steps best no_less (gt_from _ (g.greatest best other)) in
       subst (Contains (map hops_of (values kept))) (value ∙ sym same)
@@ -128,12 +129,12 @@ module _ (p : Standing) (kept : BTreeMap Checkers Play) (l : p.first ≤ 6) (r :
       let low : i < length kept.entries = omega (arith, high, before) in
       let a : Checkers × Play = get_or kept.entries i e in
       let b : Checkers × Play = get_or kept.entries j e in
-      let less : checkers_cmp a.0 b.0 ≡ Less =
+      let differ : checkers_eq a.0 b.0 ≡ false =
       rw (
         get_or-map (λ (x : Checkers × Play). x.0) kept.entries i e p.checkers low,
         get_or-map (λ (x : Checkers × Play). x.0) kept.entries j e p.checkers high,
       )
-      at (Less-from_sorted checkers_cmp (keys kept) i j p.checkers ordered before (omega (arith, high, as_long))) in
+      at (apart_from_distinct checkers_eq (keys kept) i j p.checkers unique before (omega (arith, high, as_long))) in
       rw (
         get_or-map (λ (x : Checkers × Play). x.1) kept.entries i e d low,
         get_or-map (λ (x : Checkers × Play). x.1) kept.entries j e d high,
@@ -143,30 +144,29 @@ module _ (p : Standing) (kept : BTreeMap Checkers Play) (l : p.first ≤ 6) (r :
             let same : a.0 ≡ b.0 =
             one_arrangement a.0 b.0 a.1 b.1 (Contains-get_or kept.entries i e low)
             (Contains-get_or kept.entries j e high) (level_same a.1 b.1 alike) in
-            let tied = tied_itself checkers_total a.0 in
-            let never = sym tied ∙ ap (checkers_cmp a.0) same ∙ less in
+            let never = sym (itself_eq a.0) ∙ ap (checkers_eq a.0) same ∙ differ in
             absurd cc
         | inr apart ↦ apart
       ]))
 
 -- the plays of the map, sorted, are those of the rules, in descending order
-pub listed : (p : Standing) (kept : BTreeMap Checkers Play) (plays : List Play) → p.first ≤ 6 → p.second ≤ 6
-    → IsOrdered checkers_cmp kept → kept_in kept ≡ fold noted nothing (all_of p) → IsPermutation (values kept) plays
+pub listed : {S : Type 0} (p : Standing) (kept : HashMap Checkers Play S) (plays : List Play) → p.first ≤ 6 → p.second ≤ 6
+    → IsUnique checkers_eq kept → kept_in kept ≡ fold noted nothing (all_of p) → IsPermutation (values kept) plays
     → IsSortedBy (λ (a b : Play). is_lt (play_cmp (hops_of b) (hops_of a))) plays → PlayList p (map hops_of plays)
-listed p kept plays l r ordered keeps moves order = record {
+listed p kept plays l r unique keeps moves order = record {
   each = λ steps. (
     λ h.
         let (play, m, value) = play_in plays steps h in
         let n = Contains-permutation plays (values kept) play (IsPermutation-sym _ _ moves) m in
         let (q, entry) = Contains-from_values_of kept.entries play n in
-        subst (IsGreatest p) value (entry_greatest p kept l r ordered keeps q play entry),
+        subst (IsGreatest p) value (entry_greatest p kept l r unique keeps q play entry),
     λ g.
-        let (play, m, value) = play_in (values kept) steps (greatest_kept p kept l r ordered keeps steps g) in
+        let (play, m, value) = play_in (values kept) steps (greatest_kept p kept l r unique keeps steps g) in
         subst (Contains (map hops_of plays)) value
         (value_in plays play (Contains-permutation (values kept) plays play moves m)),
   );
   descending =
       descends plays order
       (IsDistinct-IsPermutation level level_flips (values kept) plays moves
-      (values_apart p kept l r ordered keeps));
+      (values_apart p kept l r unique keeps));
 }

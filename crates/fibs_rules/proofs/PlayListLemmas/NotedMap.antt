@@ -1,13 +1,12 @@
 -- A map in which the greater play was written for an arrangement.
 use Rattle.std.proofs.Common.{◌≡◌, List, [], Option, Some, None, refl, sym, ap, ◌∙◌, cond}
 use Rattle.std.specs.Prelude.{option_map, unwrap_or}
-use Rattle.std.specs.BTreeMap.{BTreeMap, get, is_at}
+use Rattle.std.specs.HashMap.{HashMap, get}
 use Rattle.std.specs.Map.{lookup}
-use Rattle.std.specs.Ordering.{is_eq}
 use Rattle.std.proofs.lemmas.Bool.{cond_both, cond-true, cond-false}
 use Rattle.fibs_rules.specs.Checkers.{Checkers}
 use Rattle.fibs_rules.specs.PlayValue.{hops_of}
-use Rattle.fibs_rules.specs.Search.{checkers_cmp, greater, nothing, noted, kept_in}
+use Rattle.fibs_rules.specs.Search.{checkers_eq, greater, nothing, noted, kept_in}
 use Rattle.fibs_rules.specs.declared.play.Play.{Play}
 use Rattle.fibs_rules.proofs.PlayListLemmas.PlayOrder.{greater_itself}
 use Rattle.fibs_rules.proofs.PlayListLemmas.AllTried.{reach}
@@ -20,22 +19,22 @@ greater_or None found = greater_itself (hops_of found)
 greater_or (Some old) found = refl
 
 -- a map whose entries have the greater of what was there and what is found
-pub written : (before : BTreeMap Checkers Play) (entries : List (Checkers × Play)) (k : Checkers)
+pub written : {S : Type 0} (before : HashMap Checkers Play S) (entries : List (Checkers × Play)) (k : Checkers)
     (best new found : Play)
-    → best ≡ unwrap_or (get checkers_cmp before k) found
+    → best ≡ unwrap_or (get checkers_eq before k) found
     → hops_of new ≡ greater (Some (hops_of best)) (hops_of found)
-    → ((q : Checkers) → lookup (is_at (checkers_cmp q)) entries
-    ≡ cond (is_eq (checkers_cmp k q)) (Some new) (get checkers_cmp before q))
-    → (λ q. option_map hops_of (lookup (is_at (checkers_cmp q)) entries))
+    → ((q : Checkers) → lookup (checkers_eq q) entries
+    ≡ cond (checkers_eq k q) (Some new) (get checkers_eq before q))
+    → (λ q. option_map hops_of (lookup (checkers_eq q) entries))
     ≡ noted (kept_in before) (reach (hops_of found) k)
 written before entries k best new found b n updates =
-    let one : hops_of new ≡ greater (option_map hops_of (get checkers_cmp before k)) (hops_of found) =
-    n ∙ ap (λ (p : Play). greater (Some (hops_of p)) (hops_of found)) b ∙ greater_or (get checkers_cmp before k) found
+    let one : hops_of new ≡ greater (option_map hops_of (get checkers_eq before k)) (hops_of found) =
+    n ∙ ap (λ (p : Play). greater (Some (hops_of p)) (hops_of found)) b ∙ greater_or (get checkers_eq before k) found
     in
-    let at : (q : Checkers) → option_map hops_of (lookup (is_at (checkers_cmp q)) entries)
+    let at : (q : Checkers) → option_map hops_of (lookup (checkers_eq q) entries)
     ≡ noted (kept_in before) (reach (hops_of found) k) q =
     λ q. ap (option_map hops_of) (updates q)
-    ∙ cond_both (is_eq (checkers_cmp k q)) (Some new) (get checkers_cmp before q)
+    ∙ cond_both (checkers_eq k q) (Some new) (get checkers_eq before q)
     (λ o. option_map hops_of o ≡ noted (kept_in before) (reach (hops_of found) k) q)
     (λ e. ap Some one ∙ ap (λ c. Some (greater (kept_in before c) (hops_of found))) (same_checkers k q e)
     ∙ sym (cond-true _ _ _ e))
@@ -43,5 +42,5 @@ written before entries k best new found b n updates =
     λ i q. at q i
 
 -- an empty map keeps nothing
-pub kept_none : (m : BTreeMap Checkers Play) → m.entries ≡ [] → kept_in m ≡ nothing
-kept_none m e = ap (λ es q. option_map hops_of (lookup (is_at (checkers_cmp q)) es)) e
+pub kept_none : {S : Type 0} (m : HashMap Checkers Play S) → m.entries ≡ [] → kept_in m ≡ nothing
+kept_none m e = ap (λ es q. option_map hops_of (lookup (checkers_eq q) es)) e

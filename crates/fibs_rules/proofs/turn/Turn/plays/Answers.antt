@@ -10,5 +10,5 @@ returns c =
     let p = c.args.self.now in
     IfOk-weaker c.descending.result _ (λ v. PlayList p (map hops_of v.items))
     (λ v e. listed p c.in_ok-kept.kept v.items c.in_ok-kept.ensures.first c.in_ok-kept.ensures.second
-    c.descending.ensures.ordered c.in_ok-kept.ensures.kept e.0 e.1)
+    c.descending.ensures.unique c.in_ok-kept.ensures.kept e.0 e.1)
     c.descending.ensures.plays
