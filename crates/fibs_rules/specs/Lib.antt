@@ -8,4 +8,6 @@ pub mod LegalPlays
 pub mod LaxPlays
 pub mod Laws
 -- What only private functions and proofs say.
+pub mod Reached
+pub mod ReachedValue
 pub mod Search

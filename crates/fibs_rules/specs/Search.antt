@@ -1,12 +1,7 @@
 -- What the code computes as it collects the plays. Only proofs use this file: no public clause rests on it.
 use Rattle.std.specs.Prelude.{ℕ, zero, suc, ◌-◌, ◌<◌, ◌≤◌, ◌==◌, ◌&&◌, max, List, [], ◌∷◌, ◌++◌, take, Option, Some}
 use Rattle.std.specs.Prelude.{None, if◌then◌else◌, option_map}
-use Rattle.std.specs.declared.cmp.Ordering.{Ordering}
 use Rattle.std.specs.Ordering.{is_lt}
-use Rattle.std.specs.Cmp.Lexicographic.{pointwise}
-use Rattle.std.specs.Prelude.{nat_eq, Bool, true, ◌≡◌, IsTrue}
-use Rattle.std.proofs.lemmas.Slice.Eq.{bytes_eq-Decides}
-use Rattle.std.proofs.lemmas.Bool.{and_parts}
 use Rattle.std.specs.HashMap.{HashMap, get}
 use Rattle.fibs_rules.specs.Hop.{Hop}
 use Rattle.fibs_rules.specs.Checkers.{Checkers}
@@ -14,7 +9,10 @@ use Rattle.fibs_rules.specs.OneChecker.{one_of}
 use Rattle.fibs_rules.specs.Runs.{Standing, held_of, best_of, most_of}
 use Rattle.fibs_rules.specs.LegalPlays.{play_cmp, are_two, larger_first}
 use Rattle.fibs_rules.specs.PlayValue.{hops_of}
+use Rattle.fibs_rules.specs.Reached.{checkers_eq}
+use Rattle.fibs_rules.specs.ReachedValue.{reached_eq}
 use Rattle.fibs_rules.specs.declared.play.Play.{Play}
+use Rattle.fibs_rules.specs.declared.reached.Reached.{Reached}
 
 -- dice of a cube
 abbrev pub AreDice : List ℕ → Type 0
@@ -69,18 +67,6 @@ abbrev pub greater : Option (List Hop) → List Hop → List Hop
 greater None found = found
 greater (Some kept) found = if is_lt (play_cmp kept found) then found else kept
 
--- arrangements are equal, as a map tells them apart
-abbrev pub checkers_eq : Checkers → Checkers → Bool
-checkers_eq p q = pointwise nat_eq p.own q.own && pointwise nat_eq p.other q.other
-
--- equal ones have the same counts
-pub same_bytes : (p q : Checkers) → IsTrue (checkers_eq p q) → (p.own ∷ p.other ∷ []) ≡ (q.own ∷ q.other ∷ [])
-same_bytes p q e =
-    let (a, b) = and_parts (pointwise nat_eq p.own q.own) (pointwise nat_eq p.other q.other) e in
-    let own = (bytes_eq-Decides p.own q.own).0 a in
-    let other = (bytes_eq-Decides p.other q.other).0 b in
-    cc
-
 -- a play for each arrangement that is reached
 abbrev pub Kept : Type 0
 Kept = Checkers → Option (List Hop)
@@ -95,8 +81,8 @@ noted kept found q =
     if checkers_eq found.leads q then Some (greater (kept q) found.play) else kept q
 
 -- what a map keeps
-abbrev pub kept_in : {S : Type 0} → HashMap Checkers Play S → Kept
-kept_in m q = option_map hops_of (get checkers_eq m q)
+abbrev pub kept_in : {S : Type 0} → HashMap Reached Play S → Kept
+kept_in m q = option_map hops_of (get reached_eq m (record { at = q }))
 
 -- the runs of the greatest length that are tried in one order of the dice
 abbrev pub all_in_order : Standing → ℕ → ℕ → List Reach

@@ -1,7 +1,6 @@
 //! The checkers of both sides.
 
-ghost use Rattle.std.specs.Prelude.{◌≡◌, ◌+◌, ◌-◌, ◌*◌, ◌<◌, ◌≤◌, ◌==◌, ◌↔◌, ◌∷◌, [], sum, map, length};
-ghost use Rattle.std.specs.Prelude.{slice_index};
+ghost use Rattle.std.specs.Prelude.{◌≡◌, ◌+◌, ◌-◌, ◌*◌, ◌<◌, ◌≤◌, ◌==◌, ◌↔◌, sum, map, length, slice_index};
 ghost use Rattle.std.specs.Prelude.{IsSome, IfSome};
 ghost use Rattle.std.specs.List.{list_all};
 ghost use Rattle.fibs_rules.specs.Hop.{hop_of};
@@ -10,7 +9,6 @@ ghost use Rattle.fibs_rules.specs.OneChecker.{can_leave, one_of};
 ghost use Rattle.fibs_rules.specs.LaxPlays.{lax_one, lax_of};
 
 use crate::step::Step;
-use std::hash::{Hash, Hasher};
 use std::marker::Model;
 
 /// The checkers of both sides, fifteen each, in the player's own numbering.
@@ -31,20 +29,6 @@ impl Model for Arrangement {
     ghost invariant = { λ a. (sum a.own ≡ 15) × (sum a.other ≡ 15) };
 
     ghost inverse = { λ p. record { own = p.own; other = p.other } };
-}
-
-/// The counts of each side, each list in one write.
-impl Hash for Arrangement {
-    ghost use Rattle.fibs_rules.specs.Search.{same_bytes};
-
-    ghost hash_input = { λ p. p.own ∷ p.other ∷ [] };
-
-    ghost respects_eq = { λ p q e. same_bytes p q e };
-
-    fn hash<H: Hasher>(&self, state: &mut H) {
-        state.write(&self.own);
-        state.write(&self.other);
-    }
 }
 
 /// How many checkers there are.
@@ -102,6 +86,14 @@ impl Arrangement {
         self.other[usize::from(place)]
     }
 
+    /// The counts of both sides.
+    pub(crate) fn counts(&self) -> (&[u8; 26], &[u8; 26])
+        ensures own { result.0.now ≡ self.now.own }
+        ensures other { result.1.now ≡ self.now.other }
+    {
+        (&self.own, &self.other)
+    }
+
     /// No own checker is at this place or above it.
     fn is_empty_from(&self, place: u8) -> bool
         requires { place ≤ 26 }
@@ -151,7 +143,22 @@ impl Arrangement {
 
     /// The arrangement after one own checker went from a place by a die. None if the rules
     /// forbid it.
+    #[inline(always)]
     pub(crate) fn one(&self, from: u8, die: u8) -> Option<Self>
+        requires from { from ≤ 25 }
+        requires placed { 0 < from }
+        requires die { 0 < die }
+        ensures { result ≡ one_of self.now from die }
+    {
+        if self.own[from as usize] == 0 {
+            return None;
+        }
+        self.one_occupied(from, die)
+    }
+
+    /// The same, from any place; most places are empty, and are passed over before the call.
+    #[inline(never)]
+    fn one_occupied(&self, from: u8, die: u8) -> Option<Self>
         requires from { from ≤ 25 }
         requires placed { 0 < from }
         requires die { 0 < die }

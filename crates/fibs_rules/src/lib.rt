@@ -5,6 +5,7 @@ mod arrangement;
 pub mod laws;
 mod play;
 mod plays;
+mod reached;
 mod search;
 mod step;
 mod turn;

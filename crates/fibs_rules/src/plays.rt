@@ -6,11 +6,13 @@ ghost use Rattle.std.specs.List.Sorted.{IsSortedBy};
 ghost use Rattle.std.specs.Ordering.{is_lt};
 ghost use Rattle.std.specs.HashMap.{IsUnique, values};
 ghost use Rattle.fibs_rules.specs.PlayValue.{hops_of};
-ghost use Rattle.fibs_rules.specs.Search.{AreDice, checkers_eq, kept_in, greater, noted, reaches};
+ghost use Rattle.fibs_rules.specs.Search.{AreDice, kept_in, greater, noted, reaches};
 ghost use Rattle.fibs_rules.specs.LegalPlays.{play_cmp};
+ghost use Rattle.fibs_rules.specs.ReachedValue.{reached_eq};
 
 use crate::arrangement::Arrangement;
 use crate::play::Play;
+use crate::reached::Reached;
 use crate::search::next_top;
 use crate::step::Step;
 use std::alloc::{AllocError, Global};
@@ -18,7 +20,7 @@ use std::cmp::Ordering;
 use std::collections::HashMap;
 
 /// The greatest play found so far for each arrangement that is reached.
-pub(crate) type Kept = HashMap<Arrangement, Play>;
+pub(crate) type Kept = HashMap<Reached, Play>;
 
 /// How two plays compare: by their first steps, then by their second, and so on.
 fn order(a: &Play, b: &Play) -> Ordering
@@ -43,7 +45,7 @@ fn note(kept: &mut Kept, leads: &Arrangement, found: Play) -> Result<(), AllocEr
     ensures ok { OnOk result (kept_in kept.new
         ≡ noted (kept_in kept.old) (record { play = hops_of found; leads = leads.now })) }
 {
-    let best = kept.entry(*leads)?.or_insert(found);
+    let best = kept.entry(Reached { at: *leads })?.or_insert(found);
     *best = greater(*best, found);
     Ok(())
 }
@@ -90,7 +92,7 @@ fn sort(plays: &mut [Play])
 pub(crate) fn descending(alloc: Global, kept: &Kept) -> Result<Vec<Play>, AllocError>
     ensures plays { IfOk result (λ v. IsPermutation (values kept.now) v.items
         × IsSortedBy (λ a b. is_lt (play_cmp (hops_of b) (hops_of a))) v.items) }
-    ensures unique { IsUnique checkers_eq kept.now }
+    ensures unique { IsUnique reached_eq kept.now }
 {
     let mut plays: Vec<Play> = kept.values().copied().collect(alloc)?;
     sort(&mut plays);

@@ -3,36 +3,16 @@ use Rattle.std.proofs.Common.{◌≡◌, ◌⊎◌, inl, inr, ℕ, List, [], ◌
 use Rattle.std.proofs.Common.{◌∙◌}
 use Rattle.std.specs.List.{fold}
 use Rattle.std.specs.Ordering.{is_gt}
-use Rattle.std.specs.Prelude.{nat_eq}
-use Rattle.std.specs.Cmp.{IsEquivalence, decided}
-use Rattle.std.specs.Cmp.Lexicographic.{pointwise}
-use Rattle.std.proofs.lemmas.Bool.{cond_both, cond-true, and_parts, and_from}
+use Rattle.std.proofs.lemmas.Bool.{cond_both, cond-true}
 use Rattle.std.proofs.lemmas.Cmp.{upto}
-use Rattle.std.proofs.lemmas.Slice.Eq.{bytes_eq-Decides}
 use Rattle.fibs_rules.specs.Hop.{Hop}
 use Rattle.fibs_rules.specs.Checkers.{Checkers}
 use Rattle.fibs_rules.specs.LegalPlays.{play_cmp}
-use Rattle.fibs_rules.specs.Search.{Reach, Kept, checkers_eq, greater, noted}
+use Rattle.fibs_rules.specs.Search.{Reach, Kept, greater, noted}
+use Rattle.fibs_rules.specs.Reached.{checkers_eq, same_checkers, itself_eq}
 use Rattle.fibs_rules.proofs.PlayListLemmas.PlayOrder.{play_total, greater_kept, greater_found, greater_which}
 use Rattle.fibs_rules.proofs.PlayListLemmas.Reaches.{In}
 use Rattle.fibs_rules.proofs.PlayListLemmas.AllTried.{reach}
-
--- arrangements that pass the test are one
-pub same_checkers : (p q : Checkers) → checkers_eq p q ≡ true → p ≡ q
-same_checkers p q e =
-    let (own, other) = and_parts (pointwise nat_eq p.own q.own) (pointwise nat_eq p.other q.other) e in
-    λ i. record { own = (bytes_eq-Decides p.own q.own).0 own i; other = (bytes_eq-Decides p.other q.other).0 other i }
-
--- each passes it with itself
-pub itself_eq : (p : Checkers) → checkers_eq p p ≡ true
-itself_eq p =
-    and_from (pointwise nat_eq p.own p.own) (pointwise nat_eq p.other p.other)
-    ((bytes_eq-Decides p.own p.own).1 refl) ((bytes_eq-Decides p.other p.other).1 refl)
-
--- so the test is an equality
-pub checkers_equiv : IsEquivalence checkers_eq
-checkers_equiv = decided checkers_eq
-    (λ p q. (same_checkers p q, λ e. subst (λ c. checkers_eq p c ≡ true) e (itself_eq p)))
 
 -- what is kept is no less than this play
 abbrev pub NoLess : Option (List Hop) → List Hop → Type 0

@@ -6,11 +6,13 @@ use Rattle.std.specs.Map.{lookup}
 use Rattle.std.proofs.lemmas.Bool.{cond_both, cond-true, cond-false}
 use Rattle.fibs_rules.specs.Checkers.{Checkers}
 use Rattle.fibs_rules.specs.PlayValue.{hops_of}
-use Rattle.fibs_rules.specs.Search.{checkers_eq, greater, nothing, noted, kept_in}
+use Rattle.fibs_rules.specs.Search.{greater, nothing, noted, kept_in}
+use Rattle.fibs_rules.specs.Reached.{checkers_eq, same_checkers}
+use Rattle.fibs_rules.specs.ReachedValue.{reached_eq}
 use Rattle.fibs_rules.specs.declared.play.Play.{Play}
+use Rattle.fibs_rules.specs.declared.reached.Reached.{Reached}
 use Rattle.fibs_rules.proofs.PlayListLemmas.PlayOrder.{greater_itself}
 use Rattle.fibs_rules.proofs.PlayListLemmas.AllTried.{reach}
-use Rattle.fibs_rules.proofs.PlayListLemmas.KeptPlays.{same_checkers}
 
 -- the greater of what was there, or else of the play itself, and the play
 greater_or : (old : Option Play) (found : Play)
@@ -19,22 +21,22 @@ greater_or None found = greater_itself (hops_of found)
 greater_or (Some old) found = refl
 
 -- a map whose entries have the greater of what was there and what is found
-pub written : {S : Type 0} (before : HashMap Checkers Play S) (entries : List (Checkers × Play)) (k : Checkers)
+pub written : {S : Type 0} (before : HashMap Reached Play S) (entries : List (Reached × Play)) (k : Checkers)
     (best new found : Play)
-    → best ≡ unwrap_or (get checkers_eq before k) found
+    → best ≡ unwrap_or (get reached_eq before (record { at = k })) found
     → hops_of new ≡ greater (Some (hops_of best)) (hops_of found)
-    → ((q : Checkers) → lookup (checkers_eq q) entries
-    ≡ cond (checkers_eq k q) (Some new) (get checkers_eq before q))
-    → (λ q. option_map hops_of (lookup (checkers_eq q) entries))
+    → ((q : Checkers) → lookup (reached_eq (record { at = q })) entries
+    ≡ cond (checkers_eq k q) (Some new) (get reached_eq before (record { at = q })))
+    → (λ q. option_map hops_of (lookup (reached_eq (record { at = q })) entries))
     ≡ noted (kept_in before) (reach (hops_of found) k)
 written before entries k best new found b n updates =
-    let one : hops_of new ≡ greater (option_map hops_of (get checkers_eq before k)) (hops_of found) =
-    n ∙ ap (λ (p : Play). greater (Some (hops_of p)) (hops_of found)) b ∙ greater_or (get checkers_eq before k) found
+    let one : hops_of new ≡ greater (option_map hops_of (get reached_eq before (record { at = k }))) (hops_of found) =
+    n ∙ ap (λ (p : Play). greater (Some (hops_of p)) (hops_of found)) b ∙ greater_or (get reached_eq before (record { at = k })) found
     in
-    let at : (q : Checkers) → option_map hops_of (lookup (checkers_eq q) entries)
+    let at : (q : Checkers) → option_map hops_of (lookup (reached_eq (record { at = q })) entries)
     ≡ noted (kept_in before) (reach (hops_of found) k) q =
     λ q. ap (option_map hops_of) (updates q)
-    ∙ cond_both (checkers_eq k q) (Some new) (get checkers_eq before q)
+    ∙ cond_both (checkers_eq k q) (Some new) (get reached_eq before (record { at = q }))
     (λ o. option_map hops_of o ≡ noted (kept_in before) (reach (hops_of found) k) q)
     (λ e. ap Some one ∙ ap (λ c. Some (greater (kept_in before c) (hops_of found))) (same_checkers k q e)
     ∙ sym (cond-true _ _ _ e))
@@ -42,5 +44,5 @@ written before entries k best new found b n updates =
     λ i q. at q i
 
 -- an empty map keeps nothing
-pub kept_none : {S : Type 0} (m : HashMap Checkers Play S) → m.entries ≡ [] → kept_in m ≡ nothing
-kept_none m e = ap (λ es q. option_map hops_of (lookup (checkers_eq q) es)) e
+pub kept_none : {S : Type 0} (m : HashMap Reached Play S) → m.entries ≡ [] → kept_in m ≡ nothing
+kept_none m e = ap (λ es q. option_map hops_of (lookup (reached_eq (record { at = q })) es)) e
