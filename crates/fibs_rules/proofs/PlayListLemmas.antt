@@ -2,6 +2,7 @@
 pub mod VisitLoop
 pub mod PlayOrder
 pub mod Reaches
+pub mod FallingPlays
 pub mod AllTried
 pub mod BothOrders
 pub mod KeptPlays

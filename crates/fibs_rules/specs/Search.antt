@@ -41,16 +41,17 @@ abbrev pub next_top : ℕ → List ℕ → ℕ → ℕ
 next_top die [] source = 25
 next_top die (next ∷ dice) source = if next == die then source else 25
 
--- the runs by just these dice that are tried, the first step from a place up to top, after the steps of a play
+-- the runs by just these dice that are tried, after the steps of a play: the first step from a place up to top, and
+-- each from no higher place than the one before, since two steps may be played in either order
 abbrev pub reaches : Checkers → List ℕ → ℕ → List Hop → List Reach
 reaches p [] top play = record { play = play; leads = p } ∷ []
 reaches p (die ∷ dice) top play =
-    reach_by (λ hop q. reaches q dice (next_top die dice hop.source) (play ++ hop ∷ [])) p die top
+    reach_by (λ hop q. reaches q dice hop.source (play ++ hop ∷ [])) p die top
 
 -- the reaches of one die and others, from a place up to n
 unfoldable pub reaches_by : Checkers → ℕ → List ℕ → List Hop → ℕ → List Reach
 reaches_by p die dice play n =
-    reach_by (λ hop q. reaches q dice (next_top die dice hop.source) (play ++ hop ∷ [])) p die n
+    reach_by (λ hop q. reaches q dice hop.source (play ++ hop ∷ [])) p die n
 
 -- how many of these dice can be played one after another by what is tried, the first step from a place up to top
 abbrev pub longest_tried : Checkers → List ℕ → ℕ → ℕ

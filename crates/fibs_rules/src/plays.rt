@@ -13,7 +13,6 @@ ghost use Rattle.fibs_rules.specs.ReachedValue.{reached_eq};
 use crate::arrangement::Arrangement;
 use crate::play::Play;
 use crate::reached::Reached;
-use crate::search::next_top;
 use crate::step::Step;
 use std::alloc::{AllocError, Global};
 use std::cmp::Ordering;
@@ -52,7 +51,8 @@ fn note(kept: &mut Kept, leads: &Arrangement, found: Play) -> Result<(), AllocEr
 
 #[tactic(auto, using(crate::proofs::PlayListLemmas::VisitLoop::reaches_none, crate::proofs::PlayListLemmas::VisitLoop::reaches_more, crate::proofs::PlayListLemmas::VisitLoop::reaches_start))]
 /// Notes each play that goes on from a play by just these dice, its next step from a place up to
-/// `top`.
+/// `top`, and each later one from no higher place than the one before. Two steps may be played in
+/// either order, and the higher source first makes the greater play.
 pub(crate) fn visit(
     kept: &mut Kept,
     p: &Arrangement,
@@ -74,7 +74,7 @@ pub(crate) fn visit(
     for place in 0..top {
         if let Some(next) = p.one(place + 1, die) {
             let longer = play.with(Step::by(place + 1, die));
-            visit(kept, &next, rest, next_top(die, rest, place + 1), longer)?;
+            visit(kept, &next, rest, place + 1, longer)?;
         }
     }
     Ok(())

@@ -1,6 +1,6 @@
 -- The runs that are tried are legal, and each arrangement that a legal play reaches is reached by the greatest such
 -- play.
-use Rattle.std.proofs.Common.{◌≡◌, ℕ, ◌≤◌, inl, inr, max, List, [], ◌∷◌, ◌++◌, length, take, drop, Bool, true}
+use Rattle.std.proofs.Common.{◌≡◌, ◌≢◌, ◌⊎◌, ◌<◌, ℕ, ◌≤◌, inl, inr, max, List, [], ◌∷◌, ◌++◌, length, take, drop, Bool, true}
 use Rattle.std.proofs.Common.{false, refl, sym, ap, subst, ◌∙◌, arith, cond, eq-eqb}
 use Rattle.std.proofs.Common.{length-append, length-take-le, take-append-drop, take_all}
 use Rattle.std.specs.Prelude.{◌&&◌, ◌==◌}
@@ -18,10 +18,11 @@ use Rattle.fibs_rules.proofs.RuleLemmas.DiceParts.{IsFront, front_from_part, par
 use Rattle.fibs_rules.proofs.RuleLemmas.DiceParts.{dice_held, held_long, alike}
 use Rattle.fibs_rules.proofs.SearchLemmas.FollowSteps.{dice_front}
 use Rattle.fibs_rules.proofs.SearchLemmas.LegalTest.{follows_complete, legal_sound, legal_complete, two_is}
-use Rattle.fibs_rules.proofs.SearchLemmas.LegalTest.{larger_from, part_of_larger, playable, in_order}
+use Rattle.fibs_rules.proofs.SearchLemmas.LegalTest.{larger_from, part_of_larger, playable, in_order, two_from}
 use Rattle.fibs_rules.proofs.PlayListLemmas.PlayOrder.{itself}
-use Rattle.fibs_rules.proofs.PlayListLemmas.Reaches.{In, in_left, in_right, in_cases, Tried, reaches_sound}
+use Rattle.fibs_rules.proofs.PlayListLemmas.Reaches.{In, in_left, in_right, in_cases, Falls, reaches_sound}
 use Rattle.fibs_rules.proofs.PlayListLemmas.Reaches.{reaches_complete}
+use Rattle.fibs_rules.proofs.PlayListLemmas.FallingPlays.{AllAre, front_all, held_alike, falls_alike, two_fall, two_held}
 use Rattle.fibs_rules.proofs.RuleLemmas.HighestFirst.{fallen, front_dice}
 
 -- the arrangement after these steps
@@ -175,34 +176,86 @@ covered_left xs ys x (y, h, e, g) = (y, in_left y xs ys h, e, g)
 covered_right : (xs ys : List Reach) (x : Reach) → Covered ys x → Covered (xs ++ ys) x
 covered_right xs ys x (y, h, e, g) = (y, in_right y xs ys h, e, g)
 
--- a longest run by a front of the dice in one order is covered
-front_covered : (p : Standing) (a b : ℕ) (dice : List ℕ) (steps : List Hop) (q : Checkers) → a ≤ 6 → b ≤ 6
-    → length steps ≡ most_of p → IsFront dice (held_of a b) → Run p.checkers dice steps q
-    → Covered (all_in_order p a b) (reach steps q)
-front_covered p a b dice steps q l r long front run =
-    let n = sym (run_long p.checkers q dice steps run) ∙ long in
-    let ok = front_dice dice front.0 (subst AreDice (sym front.1) (dice_held a b l r)) in
-    let f = fallen p.checkers q dice steps ok run in
-    let found = reaches_complete p.checkers q dice 25 [] f.play f.run f.tried in (
-      reach f.play q,
-      subst (λ ds. In (reach f.play q) (reaches p.checkers ds 25 []))
-          (front_taken dice (held_of a b) (most_of p) front n) found,
+-- a longest run that falls, by a front of the dice in one order, covers what it is no less than
+fall_covers : (p : Standing) (a b : ℕ) (dice : List ℕ) (steps play : List Hop) (q : Checkers)
+    → length play ≡ most_of p → IsFront dice (held_of a b) → Run p.checkers dice play q → Falls 25 play
+    → is_gt (play_cmp steps play) ≡ false → Covered (all_in_order p a b) (reach steps q)
+fall_covers p a b dice steps play q long front run falls no_less =
+    let n = sym (run_long p.checkers q dice play run) ∙ long in
+    let found = reaches_complete p.checkers q dice 25 [] play run falls in (
+      reach play q,
+      subst (λ ds. In (reach play q) (reaches p.checkers ds 25 [])) (front_taken dice (held_of a b) (most_of p) front n)
+          found,
       refl,
-      f.no_less,
+      no_less,
     )
 
+-- a longest run by a front of equal dice is covered
+front_covered : (p : Standing) (a b : ℕ) (dice : List ℕ) (steps : List Hop) (q : Checkers) → a ≤ 6 → b ≤ 6
+    → are_two a b ≡ false → length steps ≡ most_of p → IsFront dice (held_of a b) → Run p.checkers dice steps q
+    → Covered (all_in_order p a b) (reach steps q)
+front_covered p a b dice steps q l r one long front run =
+    let ok = front_dice dice front.0 (subst AreDice (sym front.1) (dice_held a b l r)) in
+    let f = fallen p.checkers q dice steps ok run in
+    let (die, all) = held_alike a b one in
+    let alike = front_all die dice front.0 (subst (AllAre die) (sym front.1) all) in
+    let as_long : length f.play ≡ most_of p =
+    run_long p.checkers q dice f.play f.run ∙ sym (run_long p.checkers q dice steps run) ∙ long in
+    fall_covers p a b dice steps f.play q as_long front f.run
+    (falls_alike p.checkers q die dice 25 f.play alike f.run f.tried) f.no_less
+
+-- so is one by a front of two different ones
+pair_covered : (p : Standing) (a b : ℕ) (dice : List ℕ) (steps : List Hop) (q : Checkers) → 0 < a → 0 < b → a ≢ b
+    → length steps ≡ most_of p → IsFront dice (held_of a b) → Run p.checkers dice steps q
+    → Covered (all_in_order p a b) (reach steps q) ⊎ Covered (all_in_order p b a) (reach steps q)
+pair_covered p a b [] [] q l r apart long front run =
+    inl (fall_covers p a b [] [] [] q long front run tt (itself []))
+pair_covered p a b [] (step ∷ steps) q l r apart long front run = absurd run
+pair_covered p a b (d ∷ dice) [] q l r apart long front run = absurd run
+pair_covered p a b (d ∷ []) (step ∷ []) q l r apart long front run =
+    inl (fall_covers p a b (d ∷ []) (step ∷ []) (step ∷ []) q long front run (let (s, one, e) = run in one.source.1, tt)
+    (itself (step ∷ [])))
+pair_covered p a b (d ∷ []) (step ∷ next ∷ steps) q l r apart long front (s, one, run) = absurd run
+pair_covered p a b (d ∷ e ∷ dice) (step ∷ []) q l r apart long front (s, one, run) = absurd run
+pair_covered p a b (d ∷ e ∷ []) (step ∷ next ∷ []) q l r apart long front run =
+    let both : d ∷ e ∷ front.0 ≡ a ∷ b ∷ [] = front.1 ∙ two_held a b l r apart in
+    let first : d ≡ a = cc in
+    let second : e ≡ b = cc in
+    let turned : IsFront (e ∷ d ∷ []) (held_of b a) =
+    ([], (λ i. second i ∷ first i ∷ []) ∙ sym (two_held b a r l (λ s. apart (sym s)))) in
+    elim (
+    two_fall p.checkers q d e step next (subst (λ k. 0 < k) (sym first) l) (subst (λ k. 0 < k) (sym second) r) run
+    ) [
+      | inl falls ↦
+          inl (fall_covers p a b (d ∷ e ∷ []) (step ∷ next ∷ []) (step ∷ next ∷ []) q long front run falls
+          (itself (step ∷ next ∷ [])))
+      | inr (run_too, falls, no_less) ↦
+          inr (fall_covers p b a (e ∷ d ∷ []) (step ∷ next ∷ []) (next ∷ step ∷ []) q long turned run_too falls no_less)
+    ]
+pair_covered p a b (d ∷ e ∷ []) (step ∷ next ∷ more ∷ steps) q l r apart long front (s, one, (t, two, run)) = absurd run
+pair_covered p a b (d ∷ e ∷ f ∷ dice) steps q l r apart long front run =
+    let both : d ∷ e ∷ f ∷ dice ++ front.0 ≡ a ∷ b ∷ [] = front.1 ∙ two_held a b l r apart in
+    let three : f ∷ dice ++ front.0 ≡ [] = cc in
+    absurd cc
+
 -- so is one by two different dice
-two_is_covered : (p : Standing) (steps : List Hop) (q : Checkers) → p.first ≤ 6 → p.second ≤ 6
+two_is_covered : (p : Standing) (steps : List Hop) (q : Checkers) → are_two p.first p.second ≡ true
     → length steps ≡ most_of p → RunOf p.checkers (held p) steps q
     → Covered (all_in_order p p.first p.second ++ all_in_order p p.second p.first) (reach steps q)
-two_is_covered p steps q l r long (dice, part, run) =
+two_is_covered p steps q two long (dice, part, run) =
+    let forward : List Reach = all_in_order p p.first p.second in
+    let backward : List Reach = all_in_order p p.second p.first in
+    let (l, r, apart) = two_from p.first p.second two in
     elim (front_from_part p.first p.second dice part) [
-      | inl front ↦
-          covered_left (all_in_order p p.first p.second) (all_in_order p p.second p.first) (reach steps q)
-          (front_covered p p.first p.second dice steps q l r long front run)
+      | inl front ↦ elim (pair_covered p p.first p.second dice steps q l r apart long front run) [
+        | inl c ↦ covered_left forward backward (reach steps q) c
+        | inr c ↦ covered_right forward backward (reach steps q) c
+      ]
       | inr front ↦
-          covered_right (all_in_order p p.first p.second) (all_in_order p p.second p.first) (reach steps q)
-          (front_covered p p.second p.first dice steps q r l long front run)
+          elim (pair_covered p p.second p.first dice steps q r l (λ s. apart (sym s)) long front run) [
+            | inl c ↦ covered_right forward backward (reach steps q) c
+            | inr c ↦ covered_left forward backward (reach steps q) c
+          ]
     ]
 
 -- and one by equal dice, or by one
@@ -212,8 +265,9 @@ one_is_covered : (p : Standing) (steps : List Hop) (q : Checkers) → p.first �
 one_is_covered p steps q l r one long (dice, part, run) =
     let turned = alike p.first p.second (λ l r apart. both_ways _ one (two_is p.first p.second l r apart)) in
     elim (front_from_part p.first p.second dice part) [
-      | inl front ↦ front_covered p p.first p.second dice steps q l r long front run
-      | inr front ↦ front_covered p p.first p.second dice steps q l r long (subst (IsFront dice) turned front) run
+      | inl front ↦ front_covered p p.first p.second dice steps q l r one long front run
+      | inr front ↦
+          front_covered p p.first p.second dice steps q l r one long (subst (IsFront dice) turned front) run
     ]
 
 -- if there is no such rule, each longest run is covered
@@ -223,13 +277,14 @@ free_complete p steps q l r long run =
     let forward : List Reach = all_in_order p p.first p.second in
     cond_both (are_two p.first p.second) (forward ++ all_in_order p p.second p.first) forward
     (λ xs. Covered xs (reach steps q))
-    (λ e. two_is_covered p steps q l r long run)
+    (λ e. two_is_covered p steps q e long run)
     (λ e. one_is_covered p steps q l r e long run)
 
--- a step by one die is tried
-tried_single : (p q : Checkers) (die : ℕ) (steps : List Hop) → Run p (die ∷ []) steps q → Tried 25 (die ∷ []) steps
-tried_single p q die [] run = absurd run
-tried_single p q die (step ∷ steps) (r, one, run) = (one.source.1, tt)
+-- a step by one die falls
+falls_single : (p q : Checkers) (die : ℕ) (steps : List Hop) → Run p (die ∷ []) steps q → Falls 25 steps
+falls_single p q die [] run = absurd run
+falls_single p q die (step ∷ []) (r, one, run) = (one.source.1, tt)
+falls_single p q die (step ∷ next ∷ steps) (r, one, run) = absurd run
 
 -- by only the larger die, each legal play is tried
 forced_complete : (p : Standing) (steps : List Hop) (q : Checkers) → p.first ≤ 6 → p.second ≤ 6 → length steps ≡ 1
@@ -242,7 +297,7 @@ forced_complete p steps q l r one larger (legal, (dice, part, run)) =
     let (to, by) = legal.larger die is.0 one (playable p.checkers die (omega (arith, g.0)) (omega arith) is.1) in
     let same : to ≡ q = run_one p.checkers to q (die ∷ []) dice steps by run in
     subst (λ c. In (reach steps c) (reaches p.checkers (die ∷ []) 25 [])) same
-    (reaches_complete p.checkers to (die ∷ []) 25 [] steps by (tried_single p.checkers to die steps by))
+    (reaches_complete p.checkers to (die ∷ []) 25 [] steps by (falls_single p.checkers to die steps by))
 
 -- for all that is legal something no less is found
 pub all_complete : (p : Standing) (steps : List Hop) (q : Checkers) → p.first ≤ 6 → p.second ≤ 6 → Leads p steps q

@@ -79,8 +79,8 @@ reaches_sound p [] top play x ok (inl e) =
 reaches_sound p [] top play x ok (inr h) = absurd h
 reaches_sound p (die ∷ dice) top play x ok h =
     let (from, q, found, more) =
-    in_reach_by (λ hop q. reaches q dice (next_top die dice hop.source) (play ++ hop ∷ [])) p die top x h in
-    let (steps, is, run) = reaches_sound q dice (next_top die dice from) (play ++ hop_by from die ∷ []) x ok.2 more in (
+    in_reach_by (λ hop q. reaches q dice hop.source (play ++ hop ∷ [])) p die top x h in
+    let (steps, is, run) = reaches_sound q dice from (play ++ hop_by from die ∷ []) x ok.2 more in (
       hop_by from die ∷ steps,
       is ∙ append_assoc play (hop_by from die ∷ []) steps,
       (q, one_sound p q from die (omega (arith, ok.1)) found, run),
@@ -92,24 +92,29 @@ Tried top [] steps = Unit {0}
 Tried top (die ∷ dice) [] = Unit {0}
 Tried top (die ∷ dice) (step ∷ steps) = (step.source ≤ top) × Tried (next_top die dice step.source) dice steps
 
--- each run that is tried is reached
+-- each step is from no higher place than the one before
+abbrev pub Falls : ℕ → List Hop → Type 0
+Falls top [] = Unit {0}
+Falls top (step ∷ steps) = (step.source ≤ top) × Falls step.source steps
+
+-- each run whose steps fall is reached
 pub reaches_complete : (p q : Checkers) (dice : List ℕ) (top : ℕ) (play steps : List Hop) → Run p dice steps q
-    → Tried top dice steps → In (record { play = play ++ steps; leads = q }) (reaches p dice top play)
-reaches_complete p q [] top play [] run tried = inl (λ i. record { play = append-nil play i; leads = sym run i })
-reaches_complete p q [] top play (step ∷ steps) run tried = absurd run
-reaches_complete p q (die ∷ dice) top play [] run tried = absurd run
-reaches_complete p q (die ∷ dice) top play (step ∷ steps) (r, one, run) (low, tried) =
+    → Falls top steps → In (record { play = play ++ steps; leads = q }) (reaches p dice top play)
+reaches_complete p q [] top play [] run falls = inl (λ i. record { play = append-nil play i; leads = sym run i })
+reaches_complete p q [] top play (step ∷ steps) run falls = absurd run
+reaches_complete p q (die ∷ dice) top play [] run falls = absurd run
+reaches_complete p q (die ∷ dice) top play (step ∷ steps) (r, one, run) (low, falls) =
     let (at, found) = one_complete p r step.source step.target die one in
     let hop : step ≡ hop_by step.source die = λ i. record { source = step.source; target = at i } in
-    let next : ℕ = next_top die dice step.source in
-    let ih = reaches_complete r q dice next (play ++ step ∷ []) steps run tried in
+    let next : ℕ = step.source in
+    let ih = reaches_complete r q dice next (play ++ step ∷ []) steps run falls in
     let here : In (record { play = (play ++ step ∷ []) ++ steps; leads = q })
     (reaches r dice next (play ++ hop_by step.source die ∷ [])) =
     subst
     (λ s. In (record { play = (play ++ step ∷ []) ++ steps; leads = q }) (reaches r dice next (play ++ s ∷ []))) hop
     ih in
     let all =
-    reach_by_in (λ hop q. reaches q dice (next_top die dice hop.source) (play ++ hop ∷ [])) p r die step.source top
+    reach_by_in (λ hop q. reaches q dice hop.source (play ++ hop ∷ [])) p r die step.source top
     (record { play = (play ++ step ∷ []) ++ steps; leads = q }) one.source.0 low found here in
     subst (λ ms. In (record { play = ms; leads = q }) (reaches p (die ∷ dice) top play))
     (append_assoc play (step ∷ []) steps) all

@@ -6,7 +6,7 @@ use Rattle.std.proofs.lemmas.List.Sums.{fold-append}
 use Rattle.fibs_rules.specs.Hop.{Hop}
 use Rattle.fibs_rules.specs.Checkers.{Checkers}
 use Rattle.fibs_rules.specs.OneChecker.{one_of}
-use Rattle.fibs_rules.specs.Search.{Kept, onward, reach_by, next_top, reaches, reaches_by, noted}
+use Rattle.fibs_rules.specs.Search.{Kept, onward, reach_by, reaches, reaches_by, noted}
 use Rattle.fibs_rules.proofs.SearchLemmas.LongestLoop.{rest_whole}
 
 -- without a die the play is reached
@@ -35,23 +35,23 @@ hop_by from die = record { source = from; target = from - die }
 reaches_next : (p : Checkers) (die : ℕ) (dice : List ℕ) (play : List Hop) (n : ℕ) (o : Option Checkers)
     → one_of p (n + 1) die ≡ o
     → reaches_by p die dice play (n + 1) ≡ reaches_by p die dice play n
-    ++ onward (λ q. reaches q dice (next_top die dice (n + 1)) (play ++ hop_by (n + 1) die ∷ [])) o
+    ++ onward (λ q. reaches q dice (n + 1) (play ++ hop_by (n + 1) die ∷ [])) o
 unfolding reaches_by reach_by
 reaches_next p die dice play n o e =
     rw (add-one n)
-    (ap (λ o. reach_by (λ hop q. reaches q dice (next_top die dice hop.source) (play ++ hop ∷ [])) p die n
-    ++ onward (λ q. reaches q dice (next_top die dice (suc n)) (play ++ hop_by (suc n) die ∷ [])) o)
+    (ap (λ o. reach_by (λ hop q. reaches q dice hop.source (play ++ hop ∷ [])) p die n
+    ++ onward (λ q. reaches q dice (suc n) (play ++ hop_by (suc n) die ∷ [])) o)
     (rw (add-one n) at e))
 
 -- a step from it is gone on with
 visit_some : (kept : Kept) (p q : Checkers) (die : ℕ) (dice : List ℕ) (play : List Hop) (n : ℕ)
     → one_of p (n + 1) die ≡ Some q
     → fold noted kept (reaches_by p die dice play (n + 1)) ≡ fold noted (fold noted kept (reaches_by p die dice play n))
-    (reaches q dice (next_top die dice (n + 1)) (play ++ hop_by (n + 1) die ∷ []))
+    (reaches q dice (n + 1) (play ++ hop_by (n + 1) die ∷ []))
 visit_some kept p q die dice play n e =
     ap (fold noted kept) (reaches_next p die dice play n (Some q) e)
     ∙ fold-append noted kept (reaches_by p die dice play n)
-    (reaches q dice (next_top die dice (n + 1)) (play ++ hop_by (n + 1) die ∷ []))
+    (reaches q dice (n + 1) (play ++ hop_by (n + 1) die ∷ []))
 
 -- if there is none, nothing comes after
 pub visit_skip : (kept : Kept) (p : Checkers) (die : ℕ) (dice : List ℕ) (play : List Hop) (n : ℕ)
@@ -68,20 +68,15 @@ room_left play longer hop dice e some room =
 
 -- so the loop keeps what it is to keep
 pub visited : (kept before after : Kept) (p q : Checkers) (die : ℕ) (dice : List ℕ) (play longer : List Hop)
-    (hop : Hop) (n top : ℕ) → one_of p (n + 1) die ≡ Some q
+    (hop : Hop) (n : ℕ) → one_of p (n + 1) die ≡ Some q
     → hop ≡ hop_by (n + 1) die → longer ≡ play ++ hop ∷ []
-    → top ≡ next_top die (take (length dice - 1) (drop 1 dice)) (n + 1)
     → before ≡ fold noted kept (reaches_by p die (drop 1 dice) play n)
-    → after ≡ fold noted before (reaches q (take (length dice - 1) (drop 1 dice)) top longer)
+    → after ≡ fold noted before (reaches q (take (length dice - 1) (drop 1 dice)) (n + 1) longer)
     → after ≡ fold noted kept (reaches_by p die (drop 1 dice) play (n + 1))
-visited kept before after p q die dice play longer hop n top o h l t b a =
-    a ∙ ap (λ k. fold noted before (reaches q (take (length dice - 1) (drop 1 dice)) k longer)) t
-    ∙ ap
-    (λ xs. fold noted xs
-    (reaches q (take (length dice - 1) (drop 1 dice)) (next_top die (take (length dice - 1) (drop 1 dice)) (n + 1))
-    longer)) b
-    ∙ ap (λ ds. fold noted (fold noted kept (reaches_by p die (drop 1 dice) play n))
-    (reaches q ds (next_top die ds (n + 1)) longer)) (rest_whole dice)
+visited kept before after p q die dice play longer hop n o h l b a =
+    a ∙ ap (λ xs. fold noted xs (reaches q (take (length dice - 1) (drop 1 dice)) (n + 1) longer)) b
+    ∙ ap (λ ds. fold noted (fold noted kept (reaches_by p die (drop 1 dice) play n)) (reaches q ds (n + 1) longer))
+    (rest_whole dice)
     ∙ ap (λ ms. fold noted (fold noted kept (reaches_by p die (drop 1 dice) play n))
-    (reaches q (drop 1 dice) (next_top die (drop 1 dice) (n + 1)) ms)) (l ∙ ap (λ s. play ++ s ∷ []) h)
+    (reaches q (drop 1 dice) (n + 1) ms)) (l ∙ ap (λ s. play ++ s ∷ []) h)
     ∙ sym (visit_some kept p q die (drop 1 dice) play n o)

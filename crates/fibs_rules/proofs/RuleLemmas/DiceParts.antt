@@ -61,7 +61,7 @@ pub data Held (a b : ℕ) : Type 0 where
   equal : 0 < a → held_of a b ≡ a ∷ a ∷ a ∷ a ∷ [] → held_of b a ≡ a ∷ a ∷ a ∷ a ∷ [] → Held a b
 
 -- what the dice held are
-held : (a b : ℕ) → Held a b
+pub held : (a b : ℕ) → Held a b
 held a b = elim (cases_eq a b) [
   | inl same ↦
       elim (cases_eq a 0) [

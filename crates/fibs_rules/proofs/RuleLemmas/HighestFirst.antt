@@ -24,7 +24,7 @@ pub record Fallen (p q : Checkers) (dice : List ℕ) (top : ℕ) (than : List Ho
   pub no_less : is_gt (play_cmp than play) ≡ false
 
 -- a play that begins lower is not above
-lower_first : (low high : Hop) (xs ys : List Hop) → low.source < high.source
+pub lower_first : (low high : Hop) (xs ys : List Hop) → low.source < high.source
     → is_gt (play_cmp (low ∷ xs) (high ∷ ys)) ≡ false
 lower_first low high xs ys lt =
     let first : hop_cmp low high ≡ Less =
@@ -38,7 +38,7 @@ same_first : (step : Hop) (xs ys : List Hop) → is_gt (play_cmp xs ys) ≡ fals
 same_first step xs ys e = ap (λ o. is_gt (ordering_then o (play_cmp xs ys))) (tied_itself hop_total step) ∙ e
 
 -- before an equal die the next step is from no higher place
-top_equal : (die next : ℕ) (dice : List ℕ) (source : ℕ) → next ≡ die → next_top die (next ∷ dice) source ≡ source
+pub top_equal : (die next : ℕ) (dice : List ℕ) (source : ℕ) → next ≡ die → next_top die (next ∷ dice) source ≡ source
 top_equal die next dice source same = cond-true _ _ _ (eq-eqb next die same)
 
 -- before another die it is from any place

@@ -1,4 +1,4 @@
--- Two steps by one die, the second from a higher place, may be played in the other order.
+-- Two steps, the second from a higher place, may be played in the other order.
 use Rattle.std.proofs.Common.{◌≡◌, ◌≢◌, ℕ, ◌+◌, ◌<◌, ◌≤◌, ◌⊎◌, inl, inr, List, length, get_or}
 use Rattle.std.proofs.Common.{Bool, true, false, refl, sym, ap, subst, ◌∙◌, arith}
 use Rattle.std.specs.Prelude.{◌&&◌, ◌==◌, nat_lt, slice_index}
@@ -145,25 +145,46 @@ goes_whole p f t g d lt a occ = elim a.how [
   ]
 ]
 
--- the second of two such steps moves on the board
-second_moves : (p : Checkers) (f t g u d : ℕ) → f < g → g ≤ 25 → Low p f t d → Goes (moved p f t) g u d
-    → (0 < slice_index p.own g) × (u + d ≡ g) × (0 < u)
-second_moves p f t g u d lt hi a (inl h) =
+-- a place above another has its checkers after a step from there
+still_above : (p : Checkers) (f t g : ℕ) → f < g → t < f → 0 < slice_index p.own f
+    → 0 < slice_index (moved p f t).own g → 0 < slice_index p.own g
+still_above p f t g lt below occ o = let same = moved_above p f t g lt below occ in omega (arith, same, o)
+
+-- if all are home after a step from below another checker, all were before
+home_before : (p : Checkers) (f t g : ℕ) → f < g → t < f → 0 < slice_index p.own f
+    → 0 < slice_index (moved p f t).own g → AllHome (moved p f t) → AllHome p
+home_before p f t g lt below occ o home s far =
+    let near : g ≤ 6 =
+    elim (cases_lt 6 g) [ inl past ↦ (let z = home g past in absurd (omega (arith, z, o))) | inr near ↦ near ] in
+    let same = moved_above p f t s (omega (arith, near)) below occ in
+    let z = home s far in
+    omega (arith, same, z)
+
+-- the second of two such steps can be made before the first
+second_goes : (p : Checkers) (f t g u d e : ℕ) → f < g → g ≤ 25 → Low p f t d → Goes (moved p f t) g u e
+    → (0 < slice_index p.own g) × Goes p g u e
+second_goes p f t g u d e lt hi a (inl h) =
     let same = moved_above p f t 25 (omega arith) a.below a.occupied in let b = a.bar in let c = h.barred in
     absurd (omega (arith, same, b, c))
-second_moves p f t g u d lt hi a (inr (inl h)) =
-    let same = moved_above p f t g lt a.below a.occupied in let o = h.occupied in
-    (omega (arith, same, o), h.onto, h.on_board)
-second_moves p f t g u d lt hi a (inr (inr (inl h))) =
-    let same = moved_above p f t g lt a.below a.occupied in let o = h.occupied in let e = h.exact in
-    let whole = (goes_whole p f t g d lt a (omega (arith, same, o))).0 in absurd (omega (arith, whole, e))
-second_moves p f t g u d lt hi a (inr (inr (inr h))) =
-    let same = moved_above p f t g lt a.below a.occupied in let o = h.occupied in let e = h.larger in
-    let whole = (goes_whole p f t g d lt a (omega (arith, same, o))).0 in absurd (omega (arith, whole, e))
+second_goes p f t g u d e lt hi a (inr (inl h)) =
+    let occ = still_above p f t g lt a.below a.occupied h.occupied in
+    (occ, inr (inl (record { bar_empty = a.bar; occupied = occ; onto = h.onto; on_board = h.on_board })))
+second_goes p f t g u d e lt hi a (inr (inr (inl h))) =
+    let occ = still_above p f t g lt a.below a.occupied h.occupied in
+    let home = home_before p f t g lt a.below a.occupied h.occupied h.home in
+    (occ, inr (inr (inl (record { home = home; occupied = occ; exact = h.exact; off = h.off }))))
+second_goes p f t g u d e lt hi a (inr (inr (inr h))) =
+    let occ = still_above p f t g lt a.below a.occupied h.occupied in
+    let home = home_before p f t g lt a.below a.occupied h.occupied h.home in
+    let none : (s : ℕ) → g < s → slice_index p.own s ≡ 0 =
+    λ s past.
+    let same = moved_above p f t s (omega arith) a.below a.occupied in let z = h.highest s past in
+    omega (arith, same, z) in
+    (occ, inr (inr (inr (record { home = home; occupied = occ; larger = h.larger; highest = none; off = h.off }))))
 
 -- the first step after the second
 first_after : (p : Checkers) (f t g u d : ℕ) → 0 < d → f < g → g < 25 → Low p f t d → 0 < slice_index p.own g
-    → u + d ≡ g → Goes p f t d → Goes (moved p g u) f t d
+    → u < g → Goes p f t d → Goes (moved p g u) f t d
 first_after p f t g u d die lt hi a occ onto goes = let whole = goes_whole p f t g d lt a occ in elim whole.1 [
   | inl w ↦ inr (inl (record { bar_empty = at_bar; occupied = still; onto = whole.0; on_board = w }))
   | inr w ↦ let x = whole.0 in let y = w.0 in
@@ -194,52 +215,87 @@ first_after p f t g u d die lt hi a occ onto goes = let whole = goes_whole p f t
           | inr near ↦ at s ∙ shift_else (slice_index p.own s) s g u n (omega arith) ∙ z
         ]
 
+-- two hits swap, also on one place
+hits_any : (ys : List ℕ) (t u : ℕ) → hit (hit ys t) u ≡ hit (hit ys u) t
+hits_any ys t u = elim (cases_eq t u) [
+  | inl e ↦ subst (λ k. hit (hit ys t) k ≡ hit (hit ys k) t) e refl
+  | inr n ↦ hit_swap ys t u n
+]
+
 -- both orders lead to one arrangement
-swapped : (p : Checkers) (f t g u d : ℕ) → 0 < d → f < g → Low p f t d → 0 < slice_index p.own g → u + d ≡ g → t ≢ u
+swapped : (p : Checkers) (f t g u d : ℕ) → f < g → Low p f t d → 0 < slice_index p.own g → u < g
     → moved (moved p f t) g u ≡ moved (moved p g u) f t
-swapped p f t g u d die lt a occ onto apart =
+swapped p f t g u d lt a occ down =
     let lf = stands p.own f a.occupied in
     let lg = stands p.own g occ in
     let below = a.below in
     let own =
     shifted_swap p.own f t g u (omega (arith, below)) (omega arith) (omega arith) lf (omega (arith, lf, below)) lg
     (omega (arith, lg)) a.occupied occ in
-    let other = hit_swap p.other t u apart in
+    let other = hits_any p.other t u in
     λ i. record { own = own i; other = other i }
 
+-- a place is open before a hit if it is after it, or was hit
+open_first : (ys : List ℕ) (t u : ℕ) → (0 < t → get_or ys t 0 < 2) → (0 < u → get_or (hit ys t) u 0 < 2) → 0 < u
+    → get_or ys u 0 < 2
+open_first ys t u one two pos = elim (cases_eq t u) [
+  | inl e ↦ subst (λ k. 0 < k → get_or ys k 0 < 2) e one pos
+  | inr n ↦ let x = two pos in let y = hit_else ys t u (λ e. n (sym e)) pos in omega (arith, x, y)
+]
+
+-- and is open after the other hit
+open_second : (ys : List ℕ) (t u : ℕ) → (0 < t → get_or ys t 0 < 2) → (0 < u → get_or (hit ys t) u 0 < 2) → 0 < t
+    → get_or (hit ys u) t 0 < 2
+open_second ys t u one two pos = elim (cases_eq t u) [
+  | inl e ↦ subst (λ k. get_or (hit ys k) t 0 < 2) e
+      (subst (λ k. 0 < k → get_or (hit ys t) k 0 < 2) (sym e) two pos)
+  | inr n ↦ let x = one pos in let y = hit_else ys u t n pos in omega (arith, x, y)
+]
+
+-- a step goes down
+goes_down : (p : Checkers) (g u e : ℕ) → 0 < e → 0 < g → Goes p g u e → u < g
+goes_down p g u e die pos (inl h) = let x = h.onto in let y = h.from_bar in omega (arith, x, y)
+goes_down p g u e die pos (inr (inl h)) = let x = h.onto in omega (arith, x)
+goes_down p g u e die pos (inr (inr (inl h))) = let x = h.off in omega (arith, x)
+goes_down p g u e die pos (inr (inr (inr h))) = let x = h.off in omega (arith, x)
+
 -- the second step can be played first, and then the first
-steps_swap_at : (p q : Checkers) (f t g u d : ℕ) → 0 < d → f < g → One p f t d (moved p f t) → One (moved p f t) g u d q
-    → (other : Checkers) × One p g u d other × One other f t d q
-steps_swap_at p q f t g u d die lt one two =
+steps_swap_at : (p q : Checkers) (f t g u d e : ℕ) → 0 < d → 0 < e → f < g → One p f t d (moved p f t)
+    → One (moved p f t) g u e q → (other : Checkers) × One p g u e other × One other f t d q
+steps_swap_at p q f t g u d e die next lt one two =
     let s = one.source in let s2 = two.source in
     let a = low p f t d die s.0 (omega (arith, s2)) one.goes in
-    let (occ, onto, pos) = second_moves p f t g u d lt s2.1 a two.goes in
-    let bar = a.bar in let below = a.below in
+    let (occ, goes) = second_goes p f t g u d e lt s2.1 a two.goes in
+    let bar = a.bar in
     let hi : g < 25 =
     elim (cases_eq g 25) [
       | inl e ↦ let x : slice_index p.own g ≡ 0 = subst (λ k. slice_index p.own k ≡ 0) (sym e) bar in
           absurd (omega (arith, x, occ))
       | inr n ↦ omega (arith, s2)
     ] in
-    let whole = (goes_whole p f t g d lt a occ).0 in let apart : u ≢ t = omega (arith, whole, onto) in
-    let there : t ≢ u = λ e. apart (sym e) in (
+    let down = goes_down p g u e next s2.0 goes in (
       moved p g u,
       record {
         source = s2;
-        goes = inr (inl (record { bar_empty = bar; occupied = occ; onto = onto; on_board = pos }));
-        free = λ h. let x = two.free h in let y = hit_else p.other t u apart h in omega (arith, x, y);
+        goes = goes;
+        free = open_first p.other t u one.free two.free;
         leads = refl;
       },
       record {
         source = s;
-        goes = first_after p f t g u d die lt hi a occ onto one.goes;
-        free = λ h. let x = one.free h in let y = hit_else p.other u t there h in omega (arith, x, y);
-        leads = two.leads ∙ swapped p f t g u d die lt a occ onto there;
+        goes = first_after p f t g u d die lt hi a occ down one.goes;
+        free = open_second p.other t u one.free two.free;
+        leads = two.leads ∙ swapped p f t g u d lt a occ down;
       },
     )
 
+-- so two steps swap, whatever the dice
+pub dice_swap : (p r q : Checkers) (f t g u d e : ℕ) → 0 < d → 0 < e → f < g → One p f t d r → One r g u e q
+    → (other : Checkers) × One p g u e other × One other f t d q
+dice_swap p r q f t g u d e die next lt one two =
+    steps_swap_at p q f t g u d e die next lt (subst (λ c. One p f t d c) one.leads one)
+    (subst (λ c. One c g u e q) one.leads two)
+
 -- so the law holds
 pub steps_swap : StepsSwap
-steps_swap p r q f t g u d die lt one two =
-    steps_swap_at p q f t g u d die lt (subst (λ c. One p f t d c) one.leads one)
-    (subst (λ c. One c g u d q) one.leads two)
+steps_swap p r q f t g u d die lt one two = dice_swap p r q f t g u d d die die lt one two

@@ -14,7 +14,7 @@ visit-requires t c =
       (
         room_left (hops_of c.args.play) (hops_of c.with-longer.result) (hop_of c.by.result) c.args.dice.now
             c.with-longer.ensures some c.requires.room,
-        (dice_rest c.args.dice.now c.requires.dice, c.next_top.ensures.high),
+        (dice_rest c.args.dice.now c.requires.dice, search rules),
       ),
     )
 
@@ -28,8 +28,8 @@ loop-place-preserved t c =
           rw w.kept-is
           (visited kept (kept_in c.loop-place.kept) (kept_in w.visit.new.kept) c.args.p.now
           w.in-Some.next die c.args.dice.now play
-          (hops_of w.with-longer.result) (hop_of w.by.result) c.loop-place.place w.next_top.result
-          (sym w.in-Some.ensures) w.by.ensures w.with-longer.ensures w.next_top.ensures.value c.loop-place.invariant
+          (hops_of w.with-longer.result) (hop_of w.by.result) c.loop-place.place
+          (sym w.in-Some.ensures) w.by.ensures w.with-longer.ensures c.loop-place.invariant
           w.in_ok-visit.ensures.ok)
       | in_default w ↦
           rw w.kept-is
