@@ -1,7 +1,8 @@
 //! The checkers of both sides.
 
 ghost use Rattle.std.specs.Prelude.{◌≡◌, ◌+◌, ◌-◌, ◌*◌, ◌<◌, ◌≤◌, ◌==◌, ◌↔◌, sum, map, length, slice_index};
-ghost use Rattle.std.specs.Prelude.{IsSome, IfSome};
+ghost use Rattle.std.specs.Prelude.{IsSome, IfSome, Some, None};
+ghost use Rattle.std.specs.Bool.{OnTrue, OnFalse};
 ghost use Rattle.std.specs.List.{list_all};
 ghost use Rattle.fibs_rules.specs.Hop.{hop_of};
 ghost use Rattle.fibs_rules.specs.Checkers.{Checkers, moved, is_empty_from, is_open};
@@ -111,21 +112,20 @@ impl Arrangement {
     }
 
     /// The arrangement after one own checker went from a place to another.
-    fn moved(&self, from: u8, to: u8) -> Self
+    pub(crate) fn moved(&self, from: u8, to: u8) -> Self
         requires from { from ≤ 25 }
         requires occupied { 0 < slice_index self.now.own from }
         requires to { to ≤ 24 }
         ensures { result ≡ moved self.now from to }
     {
-        let mut own = self.own;
-        own[from as usize] -= 1;
-        own[to as usize] += 1;
-        let mut other = self.other;
-        if 0 < to && other[to as usize] == 1 {
-            other[to as usize] -= 1;
-            other[0] += 1;
+        let mut next = *self;
+        next.own[from as usize] -= 1;
+        next.own[to as usize] += 1;
+        if 0 < to && next.other[to as usize] == 1 {
+            next.other[to as usize] -= 1;
+            next.other[0] += 1;
         }
-        Arrangement { own, other }
+        next
     }
 
     /// A checker may leave this place by this die, wherever it comes to.
@@ -141,32 +141,31 @@ impl Arrangement {
                 || (self.is_empty_from(7) && (from == die || self.is_empty_from(from + 1))))
     }
 
+    /// One own checker may go from a place by a die. Most places are empty, and are passed over first.
+    #[inline(always)]
+    pub(crate) fn may_go(&self, from: u8, die: u8) -> bool
+        requires from { from ≤ 25 }
+        requires placed { 0 < from }
+        requires die { 0 < die }
+        ensures goes { OnTrue result (one_of self.now from die ≡ Some (moved self.now from (from - die))) }
+        ensures stays { OnFalse result (one_of self.now from die ≡ None) }
+        ensures occupied { OnTrue result (0 < slice_index self.now.own from) }
+    {
+        0 < self.own[from as usize]
+            && self.can_leave(from, die)
+            && self.is_open(from.saturating_sub(die))
+    }
+
     /// The arrangement after one own checker went from a place by a die. None if the rules
     /// forbid it.
-    #[inline(always)]
     pub(crate) fn one(&self, from: u8, die: u8) -> Option<Self>
         requires from { from ≤ 25 }
         requires placed { 0 < from }
         requires die { 0 < die }
         ensures { result ≡ one_of self.now from die }
     {
-        if self.own[from as usize] == 0 {
-            return None;
-        }
-        self.one_occupied(from, die)
-    }
-
-    /// The same, from any place; most places are empty, and are passed over before the call.
-    #[inline(never)]
-    fn one_occupied(&self, from: u8, die: u8) -> Option<Self>
-        requires from { from ≤ 25 }
-        requires placed { 0 < from }
-        requires die { 0 < die }
-        ensures { result ≡ one_of self.now from die }
-    {
-        let to = from.saturating_sub(die);
-        if self.can_leave(from, die) && self.is_open(to) {
-            Some(self.moved(from, to))
+        if self.may_go(from, die) {
+            Some(self.moved(from, from.saturating_sub(die)))
         } else {
             None
         }

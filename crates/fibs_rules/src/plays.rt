@@ -72,19 +72,22 @@ pub(crate) fn visit(
     let die = dice[0];
     let rest = &dice[1..];
     for place in 0..top {
-        if let Some(next) = p.one(place + 1, die) {
-            let longer = play.with(Step::by(place + 1, die));
-            visit(kept, &next, rest, place + 1, longer)?;
+        let from = place + 1;
+        if p.may_go(from, die) {
+            let next = p.moved(from, from.saturating_sub(die));
+            let longer = play.with(Step::by(from, die));
+            visit(kept, &next, rest, from, longer)?;
         }
     }
     Ok(())
 }
 
-/// Puts the greatest play first.
+/// Puts the greatest play first. The search finds the least first, so most of it is done by turning them round.
 fn sort(plays: &mut [Play])
     ensures same { IsPermutation plays.old plays.new }
     ensures sorted { IsSortedBy (λ a b. is_lt (play_cmp (hops_of b) (hops_of a))) plays.new }
 {
+    plays.reverse();
     plays.sort_unstable_by(|a, b| order(b, a));
 }
 

@@ -42,8 +42,10 @@ fn longest_from(p: &Arrangement, dice: &[u8], top: u8) -> u8
         if best as usize == dice.len() {
             return best;
         }
-        if let Some(next) = p.one(place + 1, die) {
-            best = best.max(1 + longest_from(&next, rest, next_top(die, rest, place + 1)));
+        let from = place + 1;
+        if p.may_go(from, die) {
+            let next = p.moved(from, from.saturating_sub(die));
+            best = best.max(1 + longest_from(&next, rest, next_top(die, rest, from)));
         }
     }
     best

@@ -17,6 +17,9 @@ use crate::step::Step;
 use std::alloc::{AllocError, Global};
 use std::marker::Model;
 
+/// For how many plays room is made at once: few positions have more, but by equal dice.
+const USUAL: usize = 36;
+
 /// An arrangement, and the two dice shown, each 1 to 6, or 0 for none.
 #[derive(Clone, Copy, Debug)]
 pub struct Turn {
@@ -219,8 +222,8 @@ impl Turn {
         ensures first { self.now.first ≤ 6 }
         ensures second { self.now.second ≤ 6 }
     {
-        let mut kept = Kept::new(alloc);
         let most = self.most();
+        let mut kept = Kept::with_capacity(alloc, USUAL)?;
         if most == 1 && self.larger_first() {
             visit(
                 &mut kept,

@@ -10,7 +10,7 @@ returns-clause-kept c =
     let a = c.self.inside.first in
     let b = c.self.inside.second in
     let free : Free p = search rules in
-    let none = kept_none c.new-kept.result c.new-kept.ensures.empty in
+    let none = kept_none c.in_ok-kept.kept c.in_ok-kept.ensures.empty in
     elim c.if-are_two.branch [
       | then-are_two+in_ok-visit_order-2 w ↦
           rw w.kept-is
