@@ -17,6 +17,7 @@ use crate::step::Step;
 use std::alloc::{AllocError, Global};
 use std::cmp::Ordering;
 use std::collections::HashMap;
+use std::collections::hash_map::Entry;
 
 /// The greatest play found so far for each arrangement that is reached.
 pub(crate) type Kept = HashMap<Reached, Play>;
@@ -44,8 +45,15 @@ fn note(kept: &mut Kept, leads: &Arrangement, found: Play) -> Result<(), AllocEr
     ensures ok { OnOk result (kept_in kept.new
         ≡ noted (kept_in kept.old) (record { play = hops_of found; leads = leads.now })) }
 {
-    let best = kept.entry(Reached { at: *leads })?.or_insert(found);
-    *best = greater(*best, found);
+    match kept.entry(Reached { at: *leads })? {
+        Entry::Occupied(spot) => {
+            let best = spot.into_mut();
+            *best = greater(*best, found);
+        }
+        Entry::Vacant(spot) => {
+            let _best = spot.insert(found);
+        }
+    }
     Ok(())
 }
 

@@ -11,28 +11,17 @@ use Rattle.fibs_rules.specs.Reached.{checkers_eq, same_checkers}
 use Rattle.fibs_rules.specs.ReachedValue.{reached_eq}
 use Rattle.fibs_rules.specs.declared.play.Play.{Play}
 use Rattle.fibs_rules.specs.declared.reached.Reached.{Reached}
-use Rattle.fibs_rules.proofs.PlayListLemmas.PlayOrder.{greater_itself}
 use Rattle.fibs_rules.proofs.PlayListLemmas.AllTried.{reach}
-
--- the greater of what was there, or else of the play itself, and the play
-greater_or : (old : Option Play) (found : Play)
-    → greater (Some (hops_of (unwrap_or old found))) (hops_of found) ≡ greater (option_map hops_of old) (hops_of found)
-greater_or None found = greater_itself (hops_of found)
-greater_or (Some old) found = refl
 
 -- a map whose entries have the greater of what was there and what is found
 pub written : {S : Type 0} (before : HashMap Reached Play S) (entries : List (Reached × Play)) (k : Checkers)
-    (best new found : Play)
-    → best ≡ unwrap_or (get reached_eq before (record { at = k })) found
-    → hops_of new ≡ greater (Some (hops_of best)) (hops_of found)
+    (new found : Play)
+    → hops_of new ≡ greater (option_map hops_of (get reached_eq before (record { at = k }))) (hops_of found)
     → ((q : Checkers) → lookup (reached_eq (record { at = q })) entries
     ≡ cond (checkers_eq k q) (Some new) (get reached_eq before (record { at = q })))
     → (λ q. option_map hops_of (lookup (reached_eq (record { at = q })) entries))
     ≡ noted (kept_in before) (reach (hops_of found) k)
-written before entries k best new found b n updates =
-    let one : hops_of new ≡ greater (option_map hops_of (get reached_eq before (record { at = k }))) (hops_of found) =
-    n ∙ ap (λ (p : Play). greater (Some (hops_of p)) (hops_of found)) b ∙ greater_or (get reached_eq before (record { at = k })) found
-    in
+written before entries k new found one updates =
     let at : (q : Checkers) → option_map hops_of (lookup (reached_eq (record { at = q })) entries)
     ≡ noted (kept_in before) (reach (hops_of found) k) q =
     λ q. ap (option_map hops_of) (updates q)

@@ -90,11 +90,6 @@ greater_which (Some kept) found =
     cond_both (is_lt (play_cmp kept found)) found kept (λ r. (Some kept ≡ Some r) ⊎ (r ≡ found)) (λ e. inr refl)
     (λ e. inl refl)
 
--- the greater of a play and itself is that play
-pub greater_itself : (found : List Hop) → greater (Some found) found ≡ found
-greater_itself found =
-    cond_both (is_lt (play_cmp found found)) found found (λ r. r ≡ found) (λ e. refl) (λ e. refl)
-
 -- what follows if the test fails
 pub not_greater : (o : Ordering) → is_gt o ≡ false → o ≢ Greater
 not_greater o e g = absurd (false≢true (sym e ∙ ap is_gt g))
