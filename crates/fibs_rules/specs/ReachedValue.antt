@@ -1,5 +1,5 @@
--- The keys of the program's map. Only proofs and private functions use this file.
-use Rattle.std.specs.Prelude.{◌≡◌, ◌∷◌, [], Bool, true, IsTrue}
+-- The keys of the map of plays. Only private functions and proofs use this file: no public clause rests on it.
+use Rattle.std.specs.Prelude.{◌≡◌, ◌∷◌, [], Bool, IsTrue}
 use Rattle.std.specs.Cmp.{IsEquivalence, on_equiv}
 use Rattle.fibs_rules.specs.Reached.{checkers_eq, same_checkers, checkers_equiv}
 use Rattle.fibs_rules.specs.declared.reached.Reached.{Reached}

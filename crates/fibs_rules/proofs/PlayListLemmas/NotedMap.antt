@@ -1,6 +1,6 @@
 -- A map in which the greater play was written for an arrangement.
-use Rattle.std.proofs.Common.{◌≡◌, List, [], Option, Some, None, refl, sym, ap, ◌∙◌, cond}
-use Rattle.std.specs.Prelude.{option_map, unwrap_or}
+use Rattle.std.proofs.Common.{◌≡◌, List, [], Some, sym, ap, ◌∙◌, cond}
+use Rattle.std.specs.Prelude.{option_map}
 use Rattle.std.specs.HashMap.{HashMap, get}
 use Rattle.std.specs.Map.{lookup}
 use Rattle.std.proofs.lemmas.Bool.{cond_both, cond-true, cond-false}
