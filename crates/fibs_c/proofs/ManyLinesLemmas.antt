@@ -1,6 +1,6 @@
 -- Lines that were read one after another: their texts come after each other, and a later one leaves the earlier as
 -- they are.
-use Rattle.std.proofs.Common.{◌≡◌, ◌≢◌, ◌<◌, ◌≤◌, ◌+◌, ◌-◌, ◌⊎◌, inl, inr, ℕ, suc, zero, Bool, not, true, false, List, [], ◌∷◌, ◌++◌, length, take, drop, map, refl, sym, ap, subst, ◌∙◌, arith, append_assoc, slice_set, length-set, length-drop, if◌then◌else◌}
+use Rattle.std.proofs.Common.{◌≡◌, ◌≢◌, ◌<◌, ◌≤◌, ◌+◌, ◌-◌, ℕ, Bool, not, true, false, List, [], ◌∷◌, ◌++◌, length, take, drop, map, refl, sym, ap, subst, ◌∙◌, arith, append_assoc, slice_set, length-set, length-drop, if◌then◌else◌}
 use borrow.Rule.Slice.PartMut.{mid_of, post_of, put_mid, same_len_mid}
 use Rattle.std.proofs.lemmas.Bool.{ne_eqb}
 use Rattle.std.proofs.lemmas.List.{take-take, drop-take, take_more_set, map-append, append-nil, take_all, drop_all, drop_at, drop-drop, drop-set-lt}
@@ -36,17 +36,6 @@ none_read v piece rows text = record {
   rest_of_rows = refl;
   rest_of_text = refl;
 }
-
--- if there was room for a line and a row, something of the piece was read
-pub has_begun : (used count bytes piece rows text : ℕ) → (used ≡ 0 → (count ≡ 0) × (bytes ≡ 0))
-    → (piece ≤ used) ⊎ ((rows ≤ count) ⊎ (text < bytes + kept_limit))
-    → kept_limit ≤ text → 0 < rows → 0 < piece → 0 < used
-has_begun (suc used) count bytes piece rows text begun ends room row some = omega arith
-has_begun zero count bytes piece rows text begun (inl read) room row some = absurd (omega (arith, read, some))
-has_begun zero count bytes piece rows text begun (inr (inl full)) room row some =
-    absurd (omega (arith, full, row, (begun refl).0))
-has_begun zero count bytes piece rows text begun (inr (inr short)) room row some =
-    absurd (omega (arith, short, room, (begun refl).1))
 
 -- two texts with the same front have the same bytes there
 same_bytes : (t u : List ℕ) (b i n : ℕ) → take b t ≡ take b u → i + n ≤ b → take n (drop i t) ≡ take n (drop i u)

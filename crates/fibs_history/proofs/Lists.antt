@@ -1,6 +1,6 @@
 -- Facts on lists and tests.
 use Rattle.std.proofs.Common.{◌≡◌, ℕ, Bool, true, false, ◌&&◌, List, [], ◌∷◌, ◌++◌, Option, Some, None, nat_eq}
-use Rattle.std.proofs.Common.{flat_map, refl, sym, ◌∙◌, ap, inl, inr, ◌⊎◌, append-nil, true≢false}
+use Rattle.std.proofs.Common.{flat_map, refl, sym, ◌∙◌, ap, inl, inr, append-nil, true≢false}
 use Rattle.std.proofs.lemmas.List.Concat.{flat_map-append}
 use Rattle.std.proofs.lemmas.Bool.Decides.{eqb_tells}
 use Rattle.fibs_history.specs.Words.{one_if, is_empty, last, each}
@@ -21,10 +21,6 @@ pub last_snoc : {A : Type 0} (xs : List A) (x : A) → last (xs ++ x ∷ []) ≡
 last_snoc [] x = refl
 last_snoc (y ∷ []) x = refl
 last_snoc (y ∷ z ∷ zs) x = last_snoc (z ∷ zs) x
-
-pub last_cons : {A : Type 0} (x : A) (xs : List A) → is_empty xs ≡ false → last (x ∷ xs) ≡ last xs
-last_cons x [] h = absurd (true≢false h)
-last_cons x (y ∷ ys) h = refl
 
 -- a list that has a last element is the elements before it, and that
 pub before_last : {A : Type 0} (xs : List A) (v : A) → last xs ≡ Some v → is_empty xs ≡ false
@@ -50,10 +46,6 @@ and_right false b h = absurd (true≢false (sym h))
 pub and_both : (a b : Bool) → a ≡ true → b ≡ true → (a && b) ≡ true
 and_both a b h k = rw (h, k) refl
 
-pub and_either : (a b : Bool) → (a && b) ≡ false → (a ≡ false) ⊎ (b ≡ false)
-and_either true b h = inr h
-and_either false b h = inl refl
-
 pub each_append : {A : Type 0} (p : A → Bool) (xs ys : List A) → each p (xs ++ ys) ≡ (each p xs && each p ys)
 each_append p [] ys = refl
 each_append p (x ∷ xs) ys = step (p x) _ _ _ (each_append p xs ys)
@@ -61,10 +53,6 @@ each_append p (x ∷ xs) ys = step (p x) _ _ _ (each_append p xs ys)
     step : (a b c d : Bool) → b ≡ (c && d) → (a && b) ≡ ((a && c) && d)
     step true b c d h = h
     step false b c d h = refl
-
-pub each_snoc : {A : Type 0} (p : A → Bool) (xs : List A) (x : A)
-    → each p xs ≡ true → p x ≡ true → each p (xs ++ x ∷ []) ≡ true
-each_snoc p xs x h k = each_append p xs (x ∷ []) ∙ and_both _ _ h (and_both _ _ k refl)
 
 pub each_last : {A : Type 0} (p : A → Bool) (x : A) (xs : List A) (v : A)
     → each p (x ∷ xs) ≡ true → last (x ∷ xs) ≡ Some v → p v ≡ true

@@ -45,21 +45,6 @@ abbrev pub HeadIs : ℕ → List ℕ → Type 0
 HeadIs c [] = Unit {0}
 HeadIs c (b ∷ s) = b ≡ c
 
--- what is put after begins with the byte
-pub behind-head : (c : ℕ) (o : Option (List ℕ)) → HeadIs c (behind c o)
-behind-head c None = tt
-behind-head c (Some s) = refl
-
--- and is opened again
-pub opened-behind : (c : ℕ) (o : Option (List ℕ)) → opened (behind c o) ≡ o
-opened-behind c None = refl
-opened-behind c (Some s) = refl
-
--- what begins with the byte is put after again
-pub behind-opened : (c : ℕ) (s : List ℕ) → HeadIs c s → behind c (opened s) ≡ s
-behind-opened c [] h = refl
-behind-opened c (b ∷ s) h = ap (λ (x : ℕ). x ∷ s) (sym h)
-
 -- the two parts are the text
 pub before-behind : (c : ℕ) (s : List ℕ) → before c s ++ behind c (after c s) ≡ s
 before-behind c [] = refl

@@ -1,11 +1,8 @@
 -- If each field of a line is as it is printed, the line is the canonical line of its message.
-use Rattle.std.proofs.Common.{◌≡◌, ◌∙◌, ℕ, suc, ◌+◌, ◌<◌, List, [], ◌∷◌, ◌++◌, decimal, length, get_or, take, drop}
+use Rattle.std.proofs.Common.{◌≡◌, ◌∙◌, ℕ, ◌+◌, List, [], ◌∷◌, ◌++◌, decimal, length, take}
 use Rattle.std.proofs.Common.{replicate, Option, Some, None, refl, sym, ap, ap₂, arith}
 use Rattle.std.proofs.Common.{append_assoc}
-use Rattle.std.proofs.Common.{take-append-drop}
-use Rattle.std.proofs.Common.{add-one}
 use Rattle.std.specs.List.{flat_map, AllByRecursion}
-use Rattle.std.proofs.Math.Seq.{drop-cons}
 use Rattle.std.proofs.lemmas.List.{append-nil, map-append, take_all}
 use Rattle.fibs_fields.specs.Field.{Kind, FieldValue, kind_of, IsValue}
 use Rattle.fibs_fields.specs.Split.{before, after}
@@ -20,16 +17,6 @@ use Rattle.fibs_messages.proofs.MessageLemmas.NumberWords.{number_sound}
 -- a text that ends with a field
 pub ends_after : (text : List ℕ) (n : ℕ) → n ≡ length text → text ≡ take n text ++ after_space None
 ends_after text n is = sym (append-nil (take n text) ∙ take_all n text (omega arith))
-
--- a text that goes on after a field and its space
-pub goes_on_after : (text rest : List ℕ) (n : ℕ) → n < length text → get_or text n 0 ≡ 32 → rest ≡ drop (n + 1) text
-    → text ≡ take n text ++ after_space (Some rest)
-goes_on_after text rest n within space is =
-    sym (take-append-drop n text)
-    ∙ ap (λ (s : List ℕ). take n text ++ s)
-    (drop-cons text n 0 within
-    ∙ (ap (λ (c : ℕ). c ∷ drop (suc n) text) space
-    ∙ ap (λ (s : List ℕ). 32 ∷ s) (ap (λ (k : ℕ). drop k text) (sym (add-one n)) ∙ sym is)))
 
 -- a field that begins a text, and what is after it
 pub field_stands : (k : Kind) (text : List ℕ) (n : ℕ) (rest : Option (List ℕ)) → Begins k text n

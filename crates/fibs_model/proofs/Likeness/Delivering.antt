@@ -11,7 +11,7 @@ use Rattle.fibs_session.specs.Calls.Doing.{Does}
 use Rattle.fibs_session.specs.Calls.Standing.{ClientValue}
 use Rattle.fibs_history.specs.Hearing.{Heard, heard, line_reading}
 use Rattle.fibs_history.specs.Log.{Entry}
-use Rattle.fibs_history.specs.Machine.{Talk, Piece, step, gained, on_wire, wire_of, ordered_now}
+use Rattle.fibs_history.specs.Machine.{Talk, Piece, step, gained, wire_of}
 use Rattle.fibs_history.specs.Machine as M
 use Rattle.fibs_session.specs.Calls.ClientLaws.{ServersEntriesAreSilent}
 use Rattle.fibs_history.specs.Owing.{owed, entries_owed}
@@ -97,11 +97,6 @@ heeds_all c (l ∷ ls) w =
 pub world_talks : (v : WorldValue) (login : List ℕ) (w : World) → StandsFor v login w
     → IsTalking v.client v.current (talk_of login w)
 world_talks v login w s = record { stands = s.client; is_open = sym s.current }
-
-pub deliver_open : (v : WorldValue) (login : List ℕ) (w : World) (n : ℕ) → StandsFor v login w → May v (Deliver n)
-    → 0 < v.current
-deliver_open v login w n s may = let some =
-    is_open NotOpen (open_now w.log) (may login w s) in omega (arith, some, s.current)
 
 -- if there is room for what the next bytes of a connection may add, there is for what that piece may
 pub room_next : (links : List C.Link) (c : ℕ) (l : C.Link) → 0 < c → c ≤ length links → l ≡ get_or links (c - 1) l

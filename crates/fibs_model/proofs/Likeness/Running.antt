@@ -1,8 +1,8 @@
 -- Several events in a row.
-use Rattle.std.proofs.Common.{◌≡◌, ◌<◌, ◌≤◌, ◌+◌, ℕ, List, [], ◌∷◌, ◌++◌, Some, length, take, drop, map, get_or, zero}
+use Rattle.std.proofs.Common.{◌≡◌, ◌<◌, ◌+◌, ℕ, List, [], ◌∷◌, ◌++◌, Some, length, take, drop, map, get_or, zero}
 use Rattle.std.proofs.Common.{suc, sym, ap, subst, ◌∙◌, arith, append_assoc, add-one}
 use Rattle.std.proofs.Math.Seq.{drop-cons}
-use Rattle.std.proofs.lemmas.List.{length-map, drop_all, get_or-map}
+use Rattle.std.proofs.lemmas.List.{length-map, get_or-map}
 use Rattle.fibs_boards.specs.Board.{BoardFields}
 use Rattle.fibs_machine.specs.Events.{Event}
 use Rattle.fibs_machine.specs.Headline.{Headline}
@@ -49,10 +49,6 @@ module _ {X A : Type 0} (f : X → A) (xs : List X) (i : ℕ) (x : X) (is : x �
 
     pub left_more : drop i (map f xs) ≡ f x ∷ drop (i + 1) (map f xs)
     left_more = drop_more (map f xs) i (f x) at_place (omega (arith, within, length-map xs f))
-
--- all are done
-pub all_done : {X A : Type 0} (f : X → A) (xs : List X) (i : ℕ) → length xs ≤ i → drop i (map f xs) ≡ []
-all_done f xs i h = drop_all i (map f xs) (omega (arith, h, length-map xs f))
 
 -- an event was accepted
 pub stands_next : (v : WorldValue) (name password : List ℕ) (first : BoardFields) (before done next : List Event)

@@ -1,15 +1,13 @@
 -- One event after others.
 use Rattle.std.proofs.Common.{◌≡◌, ℕ, Bool, true, false, not, ◌&&◌, ◌||◌, List, [], ◌∷◌, ◌++◌, Option, Some, None}
-use Rattle.std.proofs.Common.{nat_eq, nat_lt, if◌then◌else◌, is_some, refl, sym, ap, subst, ◌∙◌, append-nil}
+use Rattle.std.proofs.Common.{nat_eq, nat_lt, if◌then◌else◌, is_some, refl, sym, subst, append-nil}
 use Rattle.fibs_boards.specs.Board.{BoardFields}
 use Rattle.fibs_position.specs.GoodBoard.{good}
 use Rattle.fibs_history.specs.Words.{open_now}
 use Rattle.fibs_commands.specs.Logins.{login_text}
 use Rattle.fibs_history.specs.Machine.{on_wire}
 use Rattle.fibs_lines.specs.Lines.{lines_of}
-use Rattle.fibs_model.specs.Calls.{serve_refusal}
 use Rattle.fibs_machine.specs.Events.{Event, Open, Click, Plain, Deliver, Lose, Serve, Own, Repeat, Text, Order, Withdraw}
-use Rattle.fibs_model.specs.LinksOf.{LinkValue, link_at}
 use Rattle.fibs_machine.specs.Refusals.{refusal, is_board_text}
 use Rattle.fibs_machine.specs.Runs.{AllAccepted, MayBe, after_all, world_after}
 use Rattle.fibs_position.specs.BoardEffect.{is_die}
@@ -63,19 +61,6 @@ tells UserDecides answer t e = sym e
 tells BoardAsText answer t e = sym e
 tells BadBoard answer t e = sym e
 tells BadDice answer t e = sym e
-
--- the table of a Serve, by the program's wires
-pub serve_agrees : (v : WorldValue) (login : List ℕ) (w : World) (c d1 d2 : ℕ) → StandsFor v login w
-    → serve_refusal v.links v.server.logged_in c d1 d2 ≡ refusal w (Serve c d1 d2)
-serve_agrees v login w c d1 d2 s =
-    ap (λ n. table n v.server.logged_in (link_at v.links c)) s.count
-    ∙ ap (λ n. table w.count n (link_at v.links c)) s.logged_in ∙ ap (table w.count w.logged_in) (sym (s.links c))
-  where
-    table : ℕ → ℕ → LinkValue → Option WorldRefusal
-    table count logged_in l =
-        if nat_eq c 0 || nat_lt count c then Some NoSuchConnection
-        else (if not (is_die d1 && is_die d2) then Some BadDice
-        else (if nat_lt c logged_in || not (is_some (next_line l.asked)) then Some NothingToServe else None))
 
 -- One event more.
 

@@ -1,26 +1,10 @@
 -- The first element of a list for which a fact holds.
-use Rattle.std.proofs.Common.{◌≡◌, Bool, true, false, cond, List, [], ◌∷◌, ◌++◌, ◌⊎◌, inl, inr, Option, Some, Err, sym}
+use Rattle.std.proofs.Common.{◌≡◌, Bool, true, false, cond, List, [], ◌∷◌, ◌++◌, ◌⊎◌, inl, inr, Option, Some, sym}
 use Rattle.std.proofs.Common.{ap, refl}
-use Rattle.std.specs.Prelude.{◌↔◌, Result, find}
+use Rattle.std.specs.Prelude.{◌↔◌, find}
 use Rattle.std.specs.Bool.{Decides}
 use Rattle.std.proofs.lemmas.Bool.{false≢true}
 use Rattle.fibs_position.specs.First.{IsFirst}
-
--- if the fact holds of the head, the head is found
-pub err_first : {X A : Type 0} (fits : A → Type 0) (y : A) (ys : List A) (x : A) → fits y
-    → (◌≡◌ {A = Result X A} (Err y) (Err x)) ↔ IsFirst fits (y ∷ ys) x
-err_first fits y ys x h = (
-  λ e. inl (h, cc),
-  λ f. elim f [ inl both ↦ ap Err (sym both.1) | inr later ↦ absurd (later.0 h) ],
-)
-
--- if it doesn't, one of the others is
-pub skip_first : {P A : Type 0} (fits : A → Type 0) (y : A) (ys : List A) (x : A) → ¬ fits y → P ↔ IsFirst fits ys x
-    → P ↔ IsFirst fits (y ∷ ys) x
-skip_first fits y ys x not_y h = (
-  λ p. inr (not_y, h.0 p),
-  λ f. elim f [ inl both ↦ absurd (not_y both.0) | inr later ↦ h.1 later.1 ],
-)
 
 -- what a search by tests finds, if each test decides the fact
 by_test : {A : Type 0} (t : Bool) (Q : Type 0) → Decides t Q → (y x : A) (o : Option A) (R : Type 0) → (o ≡ Some x) ↔ R

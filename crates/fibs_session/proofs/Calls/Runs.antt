@@ -1,39 +1,14 @@
 -- How calls of a client make up a run.
 use Rattle.std.proofs.Common.{◌≡◌, ◌<◌, ◌≤◌, ◌+◌, suc, ℕ, ◌-◌, map, get_or, add-one, List, [], ◌∷◌, ◌++◌, length, take}
-use Rattle.std.proofs.Common.{drop, Option, None, sym, ap, subst, ◌∙◌, arith, append_assoc, append-nil}
+use Rattle.std.proofs.Common.{drop, sym, ap, subst, ◌∙◌, arith, append_assoc, append-nil}
 use Rattle.std.proofs.lemmas.List.{take-append-drop, length-drop, take_all}
 use Rattle.std.proofs.Math.Seq.{drop-cons}
 use Rattle.std.proofs.Math.ListN.{drop_of_length-le}
 use Rattle.std.proofs.lemmas.List.Concat.{flat_map-append}
 use Rattle.fibs_history.specs.Machine.{Talk, InputValue, Piece, step, run, on_wire, wire_of}
-use Rattle.fibs_history.specs.MachineLaws.{PiecesJoin, EmptyPieceIsNothing}
+use Rattle.fibs_history.specs.MachineLaws.{PiecesJoin}
 use Rattle.fibs_session.specs.Calls.Standing.{ClientValue, StandsAfter}
-use Rattle.fibs_session.specs.Calls.Doing.{Does}
-use Rattle.fibs_session.specs.Calls.Feeding.{commands_of}
-use Rattle.fibs_session.specs.Calls.SessionOf.{TakenValue}
 use Rattle.fibs_session.specs.Calls.Writing.{Writes}
-
--- the commands of what was taken are appended
-pub heard_writes : (old new : ClientValue) (i : InputValue) (x y : List ℕ) (t : Option TakenValue)
-    → Does old new i (commands_of t) → y ≡ x ++ wire_of (commands_of t) → Writes old new i x y
-heard_writes old new i x y t d e = record { send = commands_of t; does = d; written = e }
-
--- nothing was taken
-pub silent_writes : (old new : ClientValue) (i : InputValue) (x : List ℕ) (t : Option TakenValue)
-    → Does old new i (commands_of t) → t ≡ None → Writes old new i x x
-silent_writes old new i x t d e =
-    heard_writes old new i x x t d (sym (append-nil x) ∙ ap (λ o. x ++ wire_of (commands_of o)) (sym e))
-
--- nothing was read
-pub nothing_written : EmptyPieceIsNothing → (c : ClientValue) (x : List ℕ) → Writes c c (Piece []) x x
-nothing_written law c x = record {
-  send = [];
-  does = record {
-    stands = λ t at. subst (λ s. StandsAfter c s.talk) (sym (law t)) at;
-    hands = λ t at. ap (λ s. s.send) (sym (law t));
-  };
-  written = sym (append-nil x);
-}
 
 -- two pieces are one
 pub joined : PiecesJoin → (a b c : ClientValue) (p q x y z : List ℕ)
