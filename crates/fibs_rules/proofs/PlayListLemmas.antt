@@ -1,6 +1,7 @@
 -- The list of plays.
 pub mod VisitLoop
 pub mod PlayOrder
+pub mod PlayNumbers
 pub mod Reaches
 pub mod FallingPlays
 pub mod AllTried

@@ -11,3 +11,4 @@ pub mod Laws
 pub mod Reached
 pub mod ReachedValue
 pub mod Search
+pub mod PlayNumber

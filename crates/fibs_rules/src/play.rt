@@ -6,6 +6,7 @@ ghost use Rattle.std.specs.List.{list_all};
 ghost use Rattle.fibs_rules.specs.Hop.{hop_of, is_blank};
 
 use crate::step::Step;
+use std::cmp::Ordering;
 use std::fmt;
 
 /// A list of 0 to 4 steps, as many as one roll of the dice can give.
@@ -22,6 +23,8 @@ pub struct Play {
 
 impl Play {
     ghost use Rattle.fibs_rules.specs.PlayValue.{hops_of};
+    ghost use Rattle.fibs_rules.specs.PlayNumber.{number_from};
+    ghost use Rattle.fibs_rules.specs.LegalPlays.{play_cmp};
 
     /// The play of no step.
     pub fn new() -> Play
@@ -53,6 +56,27 @@ impl Play {
         }
         *self = self.with(step);
         true
+    }
+
+    /// The places of the four steps, in use or not, as the bytes of a number, the first step's highest.
+    fn number(&self) -> u64
+        ensures { result ≡ number_from 0 self.now.steps }
+    {
+        let [a, b, c, d] = self.steps;
+        u64::from_be_bytes([
+            a.source, a.target, b.source, b.target, c.source, c.target, d.source, d.target,
+        ])
+    }
+
+    /// How two plays compare: by their first steps, then by their second, and so on.
+    pub(crate) fn order(&self, other: &Play) -> Ordering
+        ensures { result ≡ play_cmp (hops_of self.now) (hops_of other.now) }
+    {
+        if self.len == other.len {
+            self.number().cmp(&other.number())
+        } else {
+            self.steps().cmp(other.steps())
+        }
     }
 
     /// The play with one more step.

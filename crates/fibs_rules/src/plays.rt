@@ -15,25 +15,17 @@ use crate::play::Play;
 use crate::reached::Reached;
 use crate::step::Step;
 use std::alloc::{AllocError, Global};
-use std::cmp::Ordering;
 use std::collections::HashMap;
 use std::collections::hash_map::Entry;
 
 /// The greatest play found so far for each arrangement that is reached.
 pub(crate) type Kept = HashMap<Reached, Play>;
 
-/// How two plays compare: by their first steps, then by their second, and so on.
-fn order(a: &Play, b: &Play) -> Ordering
-    ensures { result ≡ play_cmp (hops_of a.now) (hops_of b.now) }
-{
-    a.steps().cmp(b.steps())
-}
-
 /// The greater of a play that is kept and one that is found.
 fn greater(kept: Play, found: Play) -> Play
     ensures { hops_of result ≡ greater (Some (hops_of kept)) (hops_of found) }
 {
-    if order(&kept, &found).is_lt() {
+    if kept.order(&found).is_lt() {
         found
     } else {
         kept
@@ -96,7 +88,7 @@ fn sort(plays: &mut [Play])
     ensures sorted { IsSortedBy (λ a b. is_lt (play_cmp (hops_of b) (hops_of a))) plays.new }
 {
     plays.reverse();
-    plays.sort_unstable_by(|a, b| order(b, a));
+    plays.sort_unstable_by(|a, b| b.order(a));
 }
 
 /// The plays that are kept, the greatest first.

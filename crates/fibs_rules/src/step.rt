@@ -8,8 +8,8 @@ ghost use Rattle.std.specs.Prelude.{◌≡◌, ◌-◌, ◌<◌, ◌≤◌, ◌�
 /// Steps are ordered by source, then by target.
 #[derive(Clone, Copy, Debug, PartialEq, Eq, PartialOrd, Ord)]
 pub struct Step {
-    source: u8,
-    target: u8,
+    pub(crate) source: u8,
+    pub(crate) target: u8,
     pub ghost valid: { (0 < source) × (source ≤ 25) × (target ≤ 24) },
 }
 

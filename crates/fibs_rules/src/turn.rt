@@ -17,9 +17,6 @@ use crate::step::Step;
 use std::alloc::{AllocError, Global};
 use std::marker::Model;
 
-/// For how many plays room is made at once: few positions have more, but by equal dice.
-const USUAL: usize = 36;
-
 /// An arrangement, and the two dice shown, each 1 to 6, or 0 for none.
 #[derive(Clone, Copy, Debug)]
 pub struct Turn {
@@ -216,6 +213,11 @@ impl Turn {
         )
     }
 
+    /// For how many plays room is made at once: few positions have more.
+    fn room(&self) -> usize {
+        if self.are_two() { 36 } else { 72 }
+    }
+
     /// The greatest play for each arrangement that a legal play reaches.
     fn collected(&self, alloc: Global) -> Result<Kept, AllocError>
         ensures kept { IfOk result (λ m. kept_in m ≡ fold noted nothing (all_of self.now)) }
@@ -223,7 +225,7 @@ impl Turn {
         ensures second { self.now.second ≤ 6 }
     {
         let most = self.most();
-        let mut kept = Kept::with_capacity(alloc, USUAL)?;
+        let mut kept = Kept::with_capacity(alloc, self.room())?;
         if most == 1 && self.larger_first() {
             visit(
                 &mut kept,
