@@ -1,5 +1,5 @@
--- Arrangements as a map tells them apart. Only private functions and proofs use this
--- file: no public clause rests on it.
+-- Arrangements as a map tells them apart. Only private functions and proofs use this file: no public clause rests on
+-- it.
 use Rattle.std.specs.Prelude.{◌≡◌, ◌&&◌, nat_eq, Bool, true}
 use Rattle.std.proofs.Common.{refl, subst}
 use Rattle.std.specs.Cmp.{IsEquivalence, decided}

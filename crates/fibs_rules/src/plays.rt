@@ -82,7 +82,7 @@ pub(crate) fn visit(
     Ok(())
 }
 
-/// Puts the greatest play first. The search finds the least first, so most of it is done by turning them round.
+/// Puts the greatest play first. The search finds the lower plays first: reversed, the list is almost in order.
 fn sort(plays: &mut [Play])
     ensures same { IsPermutation plays.old plays.new }
     ensures sorted { IsSortedBy (λ a b. is_lt (play_cmp (hops_of b) (hops_of a))) plays.new }

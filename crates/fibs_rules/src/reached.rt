@@ -12,7 +12,8 @@ pub(crate) struct Reached {
     pub(crate) at: Arrangement,
 }
 
-/// The arrangements have the same counts. Not inlined: a caller would take the key apart byte by byte.
+/// The arrangements have the same counts. It is not inlined, since the code that a call of it in a map becomes would
+/// then take each key apart byte by byte.
 #[inline(never)]
 fn same(a: &Arrangement, b: &Arrangement) -> bool
     ensures { result ≡ checkers_eq a.now b.now }
@@ -39,7 +40,7 @@ impl Eq for Reached {
     ghost laws = { reached_equiv };
 }
 
-/// The counts of a side are one write.
+/// The counts of each side are hashed in one write.
 impl Hash for Reached {
     ghost use Rattle.fibs_rules.specs.ReachedValue.{same_counts};
 
