@@ -11,6 +11,9 @@ from props.server import OWN_INFO
 
 OWN = OWN_INFO % 'ann'
 
+# A long line, which the server gets as it is.
+LONG = 'pip ' + 'x' * 2000
+
 
 def holds(path, *texts):
     """Waits until a file holds these, in their order, while the program still runs. What it holds."""
@@ -42,17 +45,17 @@ def each_line_as_it_came_and_what_was_sent(server):
         server.send_bytes(line + b'\r\n')
     ann.reads('caf')
     ann.type('roll')
-    ann.type('send pip')
+    ann.type('send ' + LONG)
     ann.type('dance')
-    for wanted in 'set boardstyle 3', 'board', 'roll', 'pip':
+    for wanted in 'set boardstyle 3', 'board', 'roll', LONG:
         same('received', server.line(), wanted)
     # it is there before the game is over, and after what was there
     held = holds(path, b'what was there before\n', WELCOME.encode(), OWN.encode(), BOARD.encode(), b'12 bob \x1b[2J ',
-                 b'5 bob - - 1 0 15x0', b'roll', b'pip')
+                 b'5 bob - - 1 0 15x0', b'roll', LONG.encode())
     same('the password', PASSWORD.encode() in held, False)
     same('what was sent, the commands of the client itself first',
          [line[2:] for line in held.split(b'\n') if line.startswith(b'> ')],
-         [b'set boardstyle 3', b'board', b'roll', b'pip'])
+         [b'set boardstyle 3', b'board', b'roll', LONG.encode()])
     same('what was not sent', b'dance' in held, False)
     ann.type('quit')
     ann.ends(0)
@@ -90,6 +93,25 @@ def the_login_is_kept_without_its_password(server):
 
 
 @with_server
+def two_connections_in_one_log(server):
+    """The login of the second is left out too, and half a line of the first is no part of it."""
+    path = os.path.join(ROOM.name, 'log of two connections')
+    ann = Person(server.port, words=('--log', path))
+    for typed in 'open', 'quit':
+        server.accept()
+        same('the login', server.line(), 'login fibs_client 1008 ann ' + PASSWORD)
+        server.send(WELCOME)
+        same('the first command', server.line(), 'set boardstyle 3')
+        server.send_bytes(b'half a li')
+        server.drop()
+        ann.reads('lost')
+        ann.type(typed)
+    ann.ends(0)
+    ann.close()
+    same('the log', pathlib.Path(path).read_text(), (WELCOME + '\n> set boardstyle 3\n') * 2)
+
+
+@with_server
 def a_log_that_is_full(server):
     """What can't be written any more is left out, and the game goes on."""
     ann = Person(server.port, words=('--log', '/dev/full'))
@@ -106,4 +128,4 @@ def a_log_that_is_full(server):
 
 
 SCENES = [each_line_as_it_came_and_what_was_sent, the_login_is_kept_without_its_password,
-          a_log_that_is_full]
+          two_connections_in_one_log, a_log_that_is_full]
