@@ -6,6 +6,8 @@ mod connect;
 #[cfg(test)]
 mod flushing;
 #[cfg(test)]
+mod nobody;
+#[cfg(test)]
 mod once;
 #[cfg(test)]
 mod program;

@@ -1,14 +1,20 @@
 //! Devices that fail once: what failed is not tried again by itself.
 
+use crate::nobody::Nobody;
 use fibs_connect::converse_with;
-use fibs_links::dial::Dial;
+use fibs_links::dial::{Dial, Place, Server};
+use fibs_links::logging::LoggedServer;
+use fibs_links::pacing::PacedServer;
 use fibs_test_tools::devices::FailsOnce;
 use fibs_test_tools::outcome::Outcome;
 use fibs_test_tools::pipe::{After, Pipe, QUIET};
 use fibs_test_tools::stumbling::Stumbles;
 use std::alloc::Global;
+use std::cell::Cell;
 use std::io;
 use std::io::{ErrorKind, Read};
+use std::test::Fail;
+use std::time::Duration;
 
 /// How a conversation ends, and what is printed on both writers.
 fn conversed<D: Dial>(alloc: Global, door: &mut D, typed: &mut impl Read) -> Outcome {
@@ -76,6 +82,25 @@ fn a_connection_is_tried_when_it_is_asked_for(rt: HostRuntime) {
     let outcome = conversed(rt.alloc(), &mut door, &mut typed);
     let wanted = b"no connection\nrefused 2 Offline\nrefused 3 NotReady\n";
     assert!(rt; outcome.is(Ok(0), wanted, b""), "{outcome:?}");
+}
+
+/// If no address of a name answers, each was tried once, and the last says why; with a log and at a terminal too.
+#[test]
+fn each_address_is_tried_once_and_the_last_says_why(rt: HostRuntime) -> Result<(), Fail> {
+    let tries = Cell::new((0, None));
+    let net = Nobody::new(["192.0.2.1:1".parse()?, "192.0.2.1:2".parse()?], &tries);
+    let place = Place {
+        host: "fibs.example",
+        port: 4321,
+        quiet: Duration::from_millis(20),
+    };
+    let mut plain = Server::new(&net, place);
+    let mut paced = PacedServer::new(Server::new(&net, place), 20);
+    let mut logged = LoggedServer::new(Server::new(&net, place), &rt, None);
+    let whys = [plain.dial().err(), paced.dial().err(), logged.dial().err()];
+    assert_eq!(rt; whys, [Some(ErrorKind::ConnectionRefused); 3]);
+    assert_eq!(rt; tries.get().0, 6);
+    Ok(())
 }
 
 /// A reader that ends, and gives more if it is asked again, as a terminal does.
