@@ -1,10 +1,10 @@
-/* Loaded before a program's own libraries (LD_PRELOAD), this refuses one of its allocations. The variable REFUSED gives
-   its number, counted from 1. At the refusal it makes the file that REFUSED_TOLD names. If INTERRUPTED is set, every
-   second write to a socket, from the first on, fails as if a signal interrupted it. If HALVED is set, each write to a
-   socket or a file takes half of its bytes. If CALLS is set, each call that makes, joins or writes to a socket is noted
-   in the file of this name, and the one whose number CALL_REFUSED gives fails, as if no file or no port were left, or
-   the other end were gone. It needs no header and no library but the C library of a running program, so that the kit's
-   own compiler builds it. */
+/* Loaded before a program's own libraries (LD_PRELOAD), this refuses one of its allocations. The variable REFUSED
+   gives its number, counted from 1. At the refusal it makes the file that REFUSED_TOLD names. If INTERRUPTED is set,
+   every second write to a socket, from the first on, fails as if a signal interrupted it. If HALVED is set, each write
+   to a socket or a file takes half of its bytes. If CALLS is set, each call that makes, sets, joins or writes to a
+   socket is noted in the file of this name, and the one whose number CALL_REFUSED gives fails, as if no file, no port
+   or no room were left, or the other end were gone. It needs no header and no library but the C library of a running
+   program, so that the kit's own compiler builds it. */
 typedef __SIZE_TYPE__ size_t;
 
 void *__libc_malloc(size_t size);
@@ -19,6 +19,7 @@ int *__errno_location(void);
 
 enum { WRITE_AND_CREATE = 0101, APPEND = 02000, OWNER_ONLY = 0600 };
 enum { INTERRUPTED_CALL = 4, NO_FILE_LEFT = 24, ADDRESS_IN_USE = 98, NO_ADDRESS_LEFT = 99, CONNECTION_GONE = 104 };
+enum { NO_ROOM_LEFT = 105 };
 
 /* Of a name, what it stands for in the libraries behind this one. */
 #define NEXT ((void *)-1L)
@@ -105,3 +106,5 @@ CALL(bind, ADDRESS_IN_USE, (int file, const void *address, unsigned size), (file
 CALL(listen, ADDRESS_IN_USE, (int file, int most), (file, most))
 CALL(connect, NO_ADDRESS_LEFT, (int file, const void *address, unsigned size), (file, address, size))
 CALL(accept4, NO_FILE_LEFT, (int file, void *address, unsigned *size, int flags), (file, address, size, flags))
+CALL(setsockopt, NO_ROOM_LEFT, (int file, int level, int name, const void *value, unsigned size),
+     (file, level, name, value, size))
