@@ -21,7 +21,7 @@ C_ARCHIVE := crates/fibs_c/out/libfibs_c.a
 # the heap of the toolchain's library, over malloc, realloc and free
 KIT_ARCHIVE = $(dir $(shell rt doc))c/liblibc_c.a
 
-.PHONY: all lib test quick fmt dist install install-program install-surface install-lib \
+.PHONY: all lib test edits quick fmt dist install install-program install-surface install-lib \
 	install-program-files install-lib-files dist-files bench bench-more clean help $(CRATES)
 
 all: ## proves and builds the program: bin/fibs, with bin/fibs-play beside it
@@ -39,6 +39,9 @@ lib: ## proves and builds the library for C: lib/libfibs.a, lib/libfibs.so and l
 test: ## passes all tests: the proofs, the edits that must fail, the tests of what was built
 	@scripts/tools test
 	@tests/run
+
+edits: ## tries the edits that the prover must refuse, over what make and make lib built
+	@tests/edits
 
 quick: ## what needs no proof, on what make and make lib built, in three minutes at most
 	@tests/quick
