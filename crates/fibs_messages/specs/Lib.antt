@@ -6,4 +6,5 @@ pub mod Line
 -- What only private functions and proofs say; on the reading of a line rests `reading_value` too.
 pub mod Bits
 pub mod LineReading
+pub mod Rated
 pub mod Settings

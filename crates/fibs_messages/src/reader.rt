@@ -1,11 +1,12 @@
 //! Reads the fields of numbered messages.
 #![tactic(auto, unfolding(crate::specs::Message::table))]
 
-ghost use Rattle.std.specs.Prelude.{◌≡◌, [], ◌∷◌, IfOk};
+ghost use Rattle.std.specs.Prelude.{◌≡◌, ◌≤◌, [], ◌∷◌, IfOk};
 ghost use Rattle.fibs_fields.specs.Field.{NameField, TextField, a_name, a_text};
 ghost use Rattle.fibs_fields.specs.FieldReading.{Gives, fields_at, left, left_of};
 ghost use Rattle.fibs_fields.specs.Split.{seen};
-ghost use Rattle.fibs_messages.specs.Message.{IsNumber, kinds_of, message_of, own_info_fields, who_info_fields};
+ghost use Rattle.fibs_messages.specs.Message.{IsNumber, kinds_of, message_of};
+ghost use Rattle.fibs_messages.specs.Rated.{rated_info_fields, rated_info_kinds};
 ghost use Rattle.fibs_messages.specs.Settings.{last_settings_fields, last_settings_kinds};
 ghost use Rattle.fibs_messages.specs.Settings.{later_settings_fields, later_settings_kinds};
 ghost use Rattle.fibs_fields.specs.Bytes.{name_bytes};
@@ -14,7 +15,7 @@ use crate::message::{Message, OwnInfo, WhoInfo};
 use fibs_fields::fault::FieldFault;
 use fibs_fields::name::Name;
 use fibs_fields::reader::Fields;
-use fibs_fields::word::Word;
+use fibs_fields::word::{Tail, Word};
 
 #[inline(never)]
 fn welcome(rest: Option<&[u8]>) -> Result<Message<'_>, FieldFault>
@@ -88,8 +89,9 @@ fn later_settings(mut fields: Fields<'_>) -> Result<LaterSettings<'_>, FieldFaul
 }
 
 #[inline(never)]
-fn own_info(rest: Option<&[u8]>) -> Result<OwnInfo<'_>, FieldFault>
-    ensures { Gives own_info_fields result (fields_at (kinds_of 2) 1 (left 32 (seen rest.entry))) }
+fn own_info(rest: Option<&[u8]>) -> Result<Message<'_>, FieldFault>
+    ensures number { IfOk result (λ m. (message_of m).number ≡ 2) }
+    ensures fields { Gives (λ m. (message_of m).fields) result (fields_at (kinds_of 2) 1 (left 32 (seen rest.entry))) }
 {
     let mut fields = Fields::new(rest, b' ');
     let name = fields.name(1)?;
@@ -102,7 +104,7 @@ fn own_info(rest: Option<&[u8]>) -> Result<OwnInfo<'_>, FieldFault>
     let crawford = fields.flag(8)?;
     let double = fields.flag(9)?;
     let later = later_settings(fields)?;
-    Ok(OwnInfo {
+    Ok(Message::OwnInfo(OwnInfo {
         name,
         allowpip,
         autoboard,
@@ -124,20 +126,25 @@ fn own_info(rest: Option<&[u8]>) -> Result<OwnInfo<'_>, FieldFault>
         report: later.last.report,
         silent: later.last.silent,
         timezone: later.last.timezone,
-    })
+    }))
 }
 
-#[inline(never)]
-fn who_info(rest: Option<&[u8]>) -> Result<WhoInfo<'_>, FieldFault>
-    ensures { Gives who_info_fields result (fields_at (kinds_of 5) 1 (left 32 (seen rest.entry))) }
+/// What message 5 says of a player from the rating on.
+#[derive(Drop)]
+struct RatedInfo<'a> {
+    rating: u32,
+    experience: u64,
+    idle: u64,
+    login: u64,
+    hostname: Word<'a>,
+    client: Word<'a>,
+    email: Tail<'a>,
+}
+
+fn rated_info(mut fields: Fields<'_>) -> Result<RatedInfo<'_>, FieldFault>
+    ensures { Gives rated_info_fields result (fields_at rated_info_kinds 6 (left_of fields.entry)) }
 {
-    let mut fields = Fields::new(rest, b' ');
-    let info = WhoInfo {
-        name: fields.name(1)?,
-        opponent: fields.name(2)?,
-        watching: fields.name(3)?,
-        ready: fields.flag(4)?,
-        away: fields.flag(5)?,
+    let info = RatedInfo {
         rating: fields.rating(6)?,
         experience: fields.number(7)?,
         idle: fields.number(8)?,
@@ -148,6 +155,34 @@ fn who_info(rest: Option<&[u8]>) -> Result<WhoInfo<'_>, FieldFault>
     };
     fields.end(13)?;
     Ok(info)
+}
+
+#[inline(never)]
+fn who_info(rest: Option<&[u8]>) -> Result<Message<'_>, FieldFault>
+    ensures number { IfOk result (λ m. (message_of m).number ≡ 5) }
+    ensures fields { Gives (λ m. (message_of m).fields) result (fields_at (kinds_of 5) 1 (left 32 (seen rest.entry))) }
+{
+    let mut fields = Fields::new(rest, b' ');
+    let name = fields.name(1)?;
+    let opponent = fields.name(2)?;
+    let watching = fields.name(3)?;
+    let ready = fields.flag(4)?;
+    let away = fields.flag(5)?;
+    let rated = rated_info(fields)?;
+    Ok(Message::WhoInfo(WhoInfo {
+        name,
+        opponent,
+        watching,
+        ready,
+        away,
+        rating: rated.rating,
+        experience: rated.experience,
+        idle: rated.idle,
+        login: rated.login,
+        hostname: rated.hostname,
+        client: rated.client,
+        email: rated.email,
+    }))
 }
 
 fn name_and_text(rest: Option<&[u8]>) -> Result<(Name<'_>, &[u8]), FieldFault>
@@ -198,6 +233,89 @@ fn text_alone(rest: Option<&[u8]>) -> Result<&[u8], FieldFault>
     Ok(text)
 }
 
+/// Message 3 or 4: the message of the day begins or ends.
+fn message_of_the_day(number: u8, rest: Option<&[u8]>) -> Result<Message<'_>, FieldFault>
+    requires { (3 ≤ number) × (number ≤ 4) }
+    ensures number { IfOk result (λ m. (message_of m).number ≡ number) }
+    ensures fields { Gives (λ m. (message_of m).fields) result
+        (fields_at (kinds_of number) 1 (left 32 (seen rest.entry))) }
+{
+    nothing(rest)?;
+    Ok(match number {
+        3 => Message::MotdBegin,
+        _ => Message::MotdEnd,
+    })
+}
+
+/// Message 6: a list of players has ended.
+fn who_info_end(rest: Option<&[u8]>) -> Result<Message<'_>, FieldFault>
+    ensures number { IfOk result (λ m. (message_of m).number ≡ 6) }
+    ensures fields { Gives (λ m. (message_of m).fields) result (fields_at (kinds_of 6) 1 (left 32 (seen rest.entry))) }
+{
+    nothing(rest)?;
+    Ok(Message::WhoInfoEnd)
+}
+
+/// Message 7 or 8: a player logs in or out.
+fn logged(number: u8, rest: Option<&[u8]>) -> Result<Message<'_>, FieldFault>
+    requires { (7 ≤ number) × (number ≤ 8) }
+    ensures number { IfOk result (λ m. (message_of m).number ≡ number) }
+    ensures fields { Gives (λ m. (message_of m).fields) result
+        (fields_at (kinds_of number) 1 (left 32 (seen rest.entry))) }
+{
+    let (name, text) = name_and_text(rest)?;
+    Ok(match number {
+        7 => Message::Login { name, text },
+        _ => Message::Logout { name, text },
+    })
+}
+
+/// Message 10 or 11: what became of a message that the user left.
+fn left_message(number: u8, rest: Option<&[u8]>) -> Result<Message<'_>, FieldFault>
+    requires { (10 ≤ number) × (number ≤ 11) }
+    ensures number { IfOk result (λ m. (message_of m).number ≡ number) }
+    ensures fields { Gives (λ m. (message_of m).fields) result
+        (fields_at (kinds_of number) 1 (left 32 (seen rest.entry))) }
+{
+    let name = name_alone(rest)?;
+    Ok(match number {
+        10 => Message::MessageDelivered { name },
+        _ => Message::MessageSaved { name },
+    })
+}
+
+/// A message from 12 to 16: who speaks or is spoken to, and the text.
+fn said(number: u8, rest: Option<&[u8]>) -> Result<Message<'_>, FieldFault>
+    requires { (12 ≤ number) × (number ≤ 16) }
+    ensures number { IfOk result (λ m. (message_of m).number ≡ number) }
+    ensures fields { Gives (λ m. (message_of m).fields) result
+        (fields_at (kinds_of number) 1 (left 32 (seen rest.entry))) }
+{
+    let (name, text) = name_and_text(rest)?;
+    Ok(match number {
+        12 => Message::Says { name, text },
+        13 => Message::Shouts { name, text },
+        14 => Message::Whispers { name, text },
+        15 => Message::Kibitzes { name, text },
+        _ => Message::YouSay { name, text },
+    })
+}
+
+/// A message from 17 to 19: what the user said to many.
+fn said_by_user(number: u8, rest: Option<&[u8]>) -> Result<Message<'_>, FieldFault>
+    requires { (17 ≤ number) × (number ≤ 19) }
+    ensures number { IfOk result (λ m. (message_of m).number ≡ number) }
+    ensures fields { Gives (λ m. (message_of m).fields) result
+        (fields_at (kinds_of number) 1 (left 32 (seen rest.entry))) }
+{
+    let text = text_alone(rest)?;
+    Ok(match number {
+        17 => Message::YouShout { text },
+        18 => Message::YouWhisper { text },
+        _ => Message::YouKibitz { text },
+    })
+}
+
 /// The message with a number from 1 to 19, from what follows the number and a space.
 pub fn read_message(number: u8, rest: Option<&[u8]>) -> Result<Message<'_>, FieldFault>
     requires { IsNumber number }
@@ -205,66 +323,17 @@ pub fn read_message(number: u8, rest: Option<&[u8]>) -> Result<Message<'_>, Fiel
     ensures fields { Gives (λ m. (message_of m).fields) result
         (fields_at (kinds_of number) 1 (left 32 (seen rest.entry))) }
 {
-    Ok(match number {
-        1 => welcome(rest)?,
-        2 => Message::OwnInfo(own_info(rest)?),
-        3 => {
-            nothing(rest)?;
-            Message::MotdBegin
-        }
-        4 => {
-            nothing(rest)?;
-            Message::MotdEnd
-        }
-        5 => Message::WhoInfo(who_info(rest)?),
-        6 => {
-            nothing(rest)?;
-            Message::WhoInfoEnd
-        }
-        7 => {
-            let (name, text) = name_and_text(rest)?;
-            Message::Login { name, text }
-        }
-        8 => {
-            let (name, text) = name_and_text(rest)?;
-            Message::Logout { name, text }
-        }
-        9 => message_received(rest)?,
-        10 => Message::MessageDelivered {
-            name: name_alone(rest)?,
-        },
-        11 => Message::MessageSaved {
-            name: name_alone(rest)?,
-        },
-        12 => {
-            let (name, text) = name_and_text(rest)?;
-            Message::Says { name, text }
-        }
-        13 => {
-            let (name, text) = name_and_text(rest)?;
-            Message::Shouts { name, text }
-        }
-        14 => {
-            let (name, text) = name_and_text(rest)?;
-            Message::Whispers { name, text }
-        }
-        15 => {
-            let (name, text) = name_and_text(rest)?;
-            Message::Kibitzes { name, text }
-        }
-        16 => {
-            let (name, text) = name_and_text(rest)?;
-            Message::YouSay { name, text }
-        }
-        17 => Message::YouShout {
-            text: text_alone(rest)?,
-        },
-        18 => Message::YouWhisper {
-            text: text_alone(rest)?,
-        },
-        19 => Message::YouKibitz {
-            text: text_alone(rest)?,
-        },
+    match number {
+        1 => welcome(rest),
+        2 => own_info(rest),
+        3 | 4 => message_of_the_day(number, rest),
+        5 => who_info(rest),
+        6 => who_info_end(rest),
+        7 | 8 => logged(number, rest),
+        9 => message_received(rest),
+        10 | 11 => left_message(number, rest),
+        12..=16 => said(number, rest),
+        17..=19 => said_by_user(number, rest),
         _ => unreachable!(),
-    })
+    }
 }
