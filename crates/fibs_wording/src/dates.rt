@@ -1,5 +1,6 @@
 //! Dates and times in words.
 
+use crate::pieces::{append_all, append_number};
 use itoa::Buffer;
 use jiff::Timestamp;
 use jiff::civil::DateTime;
@@ -30,11 +31,6 @@ fn shown_at(seconds: u64, offset: i32) -> Option<DateTime> {
     let timestamp = Timestamp::from_second(seconds as i64).ok()?;
     let offset = Offset::from_seconds(offset).ok()?;
     Some(offset.to_datetime(timestamp))
-}
-
-/// Appends a number.
-fn append_number(number: u64, text: &mut Vec<u8>) -> Result<(), AllocError> {
-    text.extend_from_slice(Buffer::new().format(number).as_bytes())
 }
 
 /// Appends a number by two digits or more.
@@ -75,11 +71,19 @@ pub fn append_date(seconds: u64, offset: i32, text: &mut Vec<u8>) -> Result<(), 
     let Some(shown) = shown_at(seconds, offset) else {
         return append_number(seconds, text);
     };
-    append_number(small(shown.day()), text)?;
-    text.extend_from_slice(b" ")?;
-    text.extend_from_slice(month_name(shown.month()))?;
-    text.extend_from_slice(b" ")?;
-    append_number(u64::from(shown.year().unsigned_abs()), text)?;
-    text.extend_from_slice(b", ")?;
+    let mut day = Buffer::new();
+    let mut year = Buffer::new();
+    append_all(
+        &[
+            day.format(small(shown.day())).as_bytes(),
+            b" ",
+            month_name(shown.month()),
+            b" ",
+            year.format(u64::from(shown.year().unsigned_abs()))
+                .as_bytes(),
+            b", ",
+        ],
+        text,
+    )?;
     append_time(seconds, offset, text)
 }

@@ -13,13 +13,18 @@ const NAME_COLUMNS: usize = 26;
 /// The columns of a name and a rating.
 const RATED_COLUMNS: usize = 36;
 
-/// Appends the row of a player: his name, his rating, and what he does.
-pub fn append_row(player: &Player, text: &mut Vec<u8>) -> Result<(), AllocError> {
+/// Appends the name and the rating of a player, in their columns.
+fn append_rated(player: &Player, text: &mut Vec<u8>) -> Result<(), AllocError> {
     let start = text.len();
     text.extend_from_slice(front(player.name.as_slice()))?;
     pad_from(start, NAME_COLUMNS, text)?;
     append_rating(player.rating, text)?;
-    pad_from(start, RATED_COLUMNS, text)?;
+    pad_from(start, RATED_COLUMNS, text)
+}
+
+/// Appends the row of a player: his name, his rating, and what he does.
+pub fn append_row(player: &Player, text: &mut Vec<u8>) -> Result<(), AllocError> {
+    append_rated(player, text)?;
     append_state(
         front(player.opponent.as_slice()),
         front(player.watching.as_slice()),

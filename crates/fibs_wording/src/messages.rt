@@ -1,16 +1,11 @@
 //! The words of messages.
 
 use crate::dates::{append_date, append_time};
+use crate::pieces::{append_all, append_number};
 use crate::shown::append_shown;
 use fibs_environment::Settings;
 use fibs_messages::{Message, OwnInfo, WhoInfo};
-use itoa::Buffer;
 use std::alloc::AllocError;
-
-/// Appends a number.
-fn append_number(number: u64, text: &mut Vec<u8>) -> Result<(), AllocError> {
-    text.extend_from_slice(Buffer::new().format(number).as_bytes())
-}
 
 /// Appends a rating, which is in hundredths.
 pub fn append_rating(rating: u32, text: &mut Vec<u8>) -> Result<(), AllocError> {
@@ -20,51 +15,82 @@ pub fn append_rating(rating: u32, text: &mut Vec<u8>) -> Result<(), AllocError> 
     text.extend_from_slice(&[b'.', tenths, hundredths])
 }
 
-/// Appends a word and a space before it, if it holds.
-fn append_if(holds: bool, word: &[u8], text: &mut Vec<u8>) -> Result<(), AllocError> {
-    if holds {
-        text.extend_from_slice(b" ")?;
-        text.extend_from_slice(word)?;
+/// Appends the names of the settings that are on, each after a space.
+fn append_on(settings: &[(bool, &[u8])], text: &mut Vec<u8>) -> Result<(), AllocError> {
+    for (on, name) in settings {
+        if *on {
+            append_all(&[b" ", *name], text)?;
+        }
     }
     Ok(())
 }
 
 /// Appends which settings are on, first half of the alphabet.
 fn append_first_settings(info: &OwnInfo<'_>, text: &mut Vec<u8>) -> Result<(), AllocError> {
-    append_if(info.allowpip, b"allowpip", text)?;
-    append_if(info.autoboard, b"autoboard", text)?;
-    append_if(info.autodouble, b"autodouble", text)?;
-    append_if(info.automove, b"automove", text)?;
-    append_if(info.away, b"away", text)?;
-    append_if(info.bell, b"bell", text)?;
-    append_if(info.crawford, b"crawford", text)?;
-    append_if(info.double, b"double", text)?;
-    append_if(info.greedy, b"greedy", text)
+    let settings: [(bool, &[u8]); 9] = [
+        (info.allowpip, b"allowpip"),
+        (info.autoboard, b"autoboard"),
+        (info.autodouble, b"autodouble"),
+        (info.automove, b"automove"),
+        (info.away, b"away"),
+        (info.bell, b"bell"),
+        (info.crawford, b"crawford"),
+        (info.double, b"double"),
+        (info.greedy, b"greedy"),
+    ];
+    append_on(&settings, text)
 }
 
 /// Appends which settings are on, second half of the alphabet.
 fn append_last_settings(info: &OwnInfo<'_>, text: &mut Vec<u8>) -> Result<(), AllocError> {
-    append_if(info.moreboards, b"moreboards", text)?;
-    append_if(info.moves, b"moves", text)?;
-    append_if(info.notify, b"notify", text)?;
-    append_if(info.ratings, b"ratings", text)?;
-    append_if(info.ready, b"ready", text)?;
-    append_if(info.report, b"report", text)?;
-    append_if(info.silent, b"silent", text)
+    let settings: [(bool, &[u8]); 7] = [
+        (info.moreboards, b"moreboards"),
+        (info.moves, b"moves"),
+        (info.notify, b"notify"),
+        (info.ratings, b"ratings"),
+        (info.ready, b"ready"),
+        (info.report, b"report"),
+        (info.silent, b"silent"),
+    ];
+    append_on(&settings, text)
+}
+
+/// Appends who the user is, and what he has reached.
+fn append_user(info: &OwnInfo<'_>, text: &mut Vec<u8>) -> Result<(), AllocError> {
+    append_all(&[b"You are ", info.name.bytes(), b", rated "], text)?;
+    append_rating(info.rating, text)?;
+    text.extend_from_slice(b", experience ")?;
+    append_number(info.experience, text)
 }
 
 /// Appends the settings of the user.
 fn append_own(info: &OwnInfo<'_>, text: &mut Vec<u8>) -> Result<(), AllocError> {
-    text.extend_from_slice(b"You are ")?;
-    text.extend_from_slice(info.name.bytes())?;
-    text.extend_from_slice(b", rated ")?;
-    append_rating(info.rating, text)?;
-    text.extend_from_slice(b", experience ")?;
-    append_number(info.experience, text)?;
+    append_user(info, text)?;
     text.extend_from_slice(b".\nOn:")?;
     append_first_settings(info, text)?;
     text.extend_from_slice(b"\n   ")?;
     append_last_settings(info, text)
+}
+
+/// What a player does: whom he plays or watches, or whether he is ready.
+fn state_words<'a>(
+    opponent: &'a [u8],
+    watching: &'a [u8],
+    ready: bool,
+    away: bool,
+) -> [&'a [u8]; 3] {
+    let also: &[u8] = if away { b", away" } else { b"" };
+    if opponent != b"-".as_slice() {
+        [b"plays ", opponent, also]
+    } else if watching != b"-".as_slice() {
+        [b"watches ", watching, also]
+    } else if away {
+        [b"away", b"", b""]
+    } else if ready {
+        [b"ready", b"", b""]
+    } else {
+        [b"not ready", b"", b""]
+    }
 }
 
 /// Appends what a player does: whom he plays or watches, or whether he is ready.
@@ -75,29 +101,12 @@ pub fn append_state(
     away: bool,
     text: &mut Vec<u8>,
 ) -> Result<(), AllocError> {
-    if opponent != b"-".as_slice() {
-        text.extend_from_slice(b"plays ")?;
-        text.extend_from_slice(opponent)?;
-    } else if watching != b"-".as_slice() {
-        text.extend_from_slice(b"watches ")?;
-        text.extend_from_slice(watching)?;
-    } else if away {
-        return text.extend_from_slice(b"away");
-    } else if ready {
-        return text.extend_from_slice(b"ready");
-    } else {
-        return text.extend_from_slice(b"not ready");
-    }
-    if away {
-        text.extend_from_slice(b", away")?;
-    }
-    Ok(())
+    append_all(&state_words(opponent, watching, ready, away), text)
 }
 
 /// Appends a player in one row: at most the first 24 bytes of a name.
 pub fn append_player(info: &WhoInfo<'_>, text: &mut Vec<u8>) -> Result<(), AllocError> {
-    text.extend_from_slice(front(info.name.bytes()))?;
-    text.extend_from_slice(b" (")?;
+    append_all(&[front(info.name.bytes()), b" ("], text)?;
     append_rating(info.rating, text)?;
     text.extend_from_slice(b"): ")?;
     append_state(
@@ -116,18 +125,16 @@ pub fn front(name: &[u8]) -> &[u8] {
 
 /// Appends a line of talk: when, who, and what.
 fn append_talk(
-    words: &[&[u8]; 3],
+    who: &[u8],
+    verb: &[u8],
+    whom: &[u8],
     said: &[u8],
     now: u64,
     settings: &Settings<'_>,
     text: &mut Vec<u8>,
 ) -> Result<(), AllocError> {
     append_time(now, settings.offset, text)?;
-    text.extend_from_slice(b" ")?;
-    text.extend_from_slice(words[0])?;
-    text.extend_from_slice(words[1])?;
-    text.extend_from_slice(words[2])?;
-    text.extend_from_slice(b": ")?;
+    append_all(&[b" ", who, verb, whom, b": "], text)?;
     append_shown(said, settings.utf8, text)
 }
 
@@ -142,8 +149,7 @@ fn append_coming(
     if !said.is_empty() {
         return append_shown(said, settings.utf8, text);
     }
-    text.extend_from_slice(name)?;
-    text.extend_from_slice(words)
+    append_all(&[name, words], text)
 }
 
 /// Appends a message that was left.
@@ -154,8 +160,7 @@ fn append_left(
     settings: &Settings<'_>,
     text: &mut Vec<u8>,
 ) -> Result<(), AllocError> {
-    text.extend_from_slice(sender)?;
-    text.extend_from_slice(b" left a message on ")?;
+    append_all(&[sender, b" left a message on "], text)?;
     append_date(time, settings.offset, text)?;
     text.extend_from_slice(b": ")?;
     append_shown(said, settings.utf8, text)
@@ -169,9 +174,7 @@ fn append_welcome(
     settings: &Settings<'_>,
     text: &mut Vec<u8>,
 ) -> Result<(), AllocError> {
-    text.extend_from_slice(b"Welcome, ")?;
-    text.extend_from_slice(name)?;
-    text.extend_from_slice(b". Last login: ")?;
+    append_all(&[b"Welcome, ", name, b". Last login: "], text)?;
     append_date(last_login, settings.offset, text)?;
     text.extend_from_slice(b", from ")?;
     append_shown(last_host, settings.utf8, text)?;
@@ -180,27 +183,27 @@ fn append_welcome(
 
 /// Appends a message that arrived or is kept.
 fn append_delivery(words: &[u8], name: &[u8], text: &mut Vec<u8>) -> Result<(), AllocError> {
-    text.extend_from_slice(words)?;
-    text.extend_from_slice(name)?;
-    text.extend_from_slice(b".")
+    append_all(&[words, name, b"."], text)
 }
 
-/// Appends what someone else says.
-fn append_said(
-    name: &[u8],
-    verb: &[u8],
-    said: &[u8],
-    now: u64,
-    settings: &Settings<'_>,
-    text: &mut Vec<u8>,
-) -> Result<(), AllocError> {
-    append_talk(&[name, verb, b""], said, now, settings, text)
+/// The verb of talk; nothing if a message is not talk.
+fn verb_of(message: &Message<'_>) -> &'static [u8] {
+    match message {
+        Message::Says { .. } => b" says",
+        Message::Shouts { .. } => b" shouts",
+        Message::Whispers { .. } => b" whispers",
+        Message::Kibitzes { .. } => b" kibitzes",
+        Message::YouSay { .. } => b" say to ",
+        Message::YouShout { .. } => b" shout",
+        Message::YouWhisper { .. } => b" whisper",
+        Message::YouKibitz { .. } => b" kibitz",
+        _ => b"",
+    }
 }
 
-/// Appends a message in words, without its line end. The time now is in seconds since 1970.
-pub fn append_message(
+/// Appends a message that is not talk.
+fn append_notice(
     message: &Message<'_>,
-    now: u64,
     settings: &Settings<'_>,
     text: &mut Vec<u8>,
 ) -> Result<(), AllocError> {
@@ -232,35 +235,49 @@ pub fn append_message(
         Message::MessageSaved { name } => {
             append_delivery(b"Your message is kept for ", name.bytes(), text)
         }
-        Message::Says { name, text: said } => {
-            append_said(name.bytes(), b" says", said, now, settings, text)
-        }
-        Message::Shouts { name, text: said } => {
-            append_said(name.bytes(), b" shouts", said, now, settings, text)
-        }
-        Message::Whispers { name, text: said } => {
-            append_said(name.bytes(), b" whispers", said, now, settings, text)
-        }
-        Message::Kibitzes { name, text: said } => {
-            append_said(name.bytes(), b" kibitzes", said, now, settings, text)
-        }
-        Message::YouSay { name, text: said } => {
+        // Talk is not appended here.
+        _ => Ok(()),
+    }
+}
+
+/// Appends a message in words, without its line end. The time now is in seconds since 1970.
+pub fn append_message(
+    message: &Message<'_>,
+    now: u64,
+    settings: &Settings<'_>,
+    text: &mut Vec<u8>,
+) -> Result<(), AllocError> {
+    match message {
+        Message::Says { name, text: said }
+        | Message::Shouts { name, text: said }
+        | Message::Whispers { name, text: said }
+        | Message::Kibitzes { name, text: said } => {
             append_talk(
-                &[b"You", b" say to ", name.bytes()],
+                name.bytes(),
+                verb_of(message),
+                b"",
                 said,
                 now,
                 settings,
                 text,
             )
         }
-        Message::YouShout { text: said } => {
-            append_talk(&[b"You", b" shout", b""], said, now, settings, text)
+        Message::YouSay { name, text: said } => {
+            append_talk(
+                b"You",
+                verb_of(message),
+                name.bytes(),
+                said,
+                now,
+                settings,
+                text,
+            )
         }
-        Message::YouWhisper { text: said } => {
-            append_talk(&[b"You", b" whisper", b""], said, now, settings, text)
+        Message::YouShout { text: said }
+        | Message::YouWhisper { text: said }
+        | Message::YouKibitz { text: said } => {
+            append_talk(b"You", verb_of(message), b"", said, now, settings, text)
         }
-        Message::YouKibitz { text: said } => {
-            append_talk(&[b"You", b" kibitz", b""], said, now, settings, text)
-        }
+        _ => append_notice(message, settings, text),
     }
 }

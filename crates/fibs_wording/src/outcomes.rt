@@ -2,6 +2,7 @@
 ghost use Rattle.std.specs.Prelude.{◌≤◌};
 
 use crate::messages::front;
+use crate::pieces::append_all;
 use fibs_messages::Board;
 use itoa::Buffer;
 use std::alloc::AllocError;
@@ -20,11 +21,6 @@ const OTHER_OFF: usize = 47;
 
 /// The match length that means an unlimited match.
 const UNLIMITED: i32 = 9999;
-
-/// Appends a number.
-fn append_number(number: i32, text: &mut Vec<u8>) -> Result<(), AllocError> {
-    text.extend_from_slice(Buffer::new().format(number).as_bytes())
-}
 
 /// A field of a board, 0 if it is not from 4 to 53.
 fn field(board: &Board, number: usize) -> i32 {
@@ -84,31 +80,48 @@ fn append_points(points: i32, cube: i32, text: &mut Vec<u8>) -> Result<(), Alloc
     if points <= 0 {
         return text.extend_from_slice(b" the game");
     }
-    text.extend_from_slice(b" the game")?;
-    text.extend_from_slice(win_words(points, cube))?;
-    text.extend_from_slice(b", and ")?;
-    append_number(points, text)?;
-    text.extend_from_slice(if points == 1 { b" point" } else { b" points" })
+    let unit: &[u8] = if points == 1 { b" point" } else { b" points" };
+    append_all(
+        &[
+            b" the game",
+            win_words(points, cube),
+            b", and ",
+            Buffer::new().format(points).as_bytes(),
+            unit,
+        ],
+        text,
+    )
 }
 
-/// Appends the score.
+/// Appends the points of both sides.
+fn append_scores(board: &Board, text: &mut Vec<u8>) -> Result<(), AllocError> {
+    let mut own = Buffer::new();
+    let mut other = Buffer::new();
+    append_all(
+        &[
+            b". You ",
+            own.format(field(board, OWN_SCORE)).as_bytes(),
+            b", ",
+            front(board.opponent().bytes()),
+            b" ",
+            other.format(field(board, OTHER_SCORE)).as_bytes(),
+        ],
+        text,
+    )
+}
+
+/// Appends the score, and the length of the match.
 fn append_score(board: &Board, text: &mut Vec<u8>) -> Result<(), AllocError> {
-    text.extend_from_slice(b". You ")?;
-    append_number(field(board, OWN_SCORE), text)?;
-    text.extend_from_slice(b", ")?;
-    text.extend_from_slice(front(board.opponent().bytes()))?;
-    text.extend_from_slice(b" ")?;
-    append_number(field(board, OTHER_SCORE), text)?;
+    append_scores(board, text)?;
     let length = field(board, MATCH_LENGTH);
     if length != UNLIMITED {
-        text.extend_from_slice(b" of ")?;
-        append_number(length, text)?;
+        append_all(&[b" of ", Buffer::new().format(length).as_bytes()], text)?;
     }
     text.extend_from_slice(b".")
 }
 
-/// Appends how the game of a board has ended, by the board that was shown before it. The board says that it is over.
-pub fn append_outcome(
+/// Appends who has won, and by what.
+fn append_winner(
     before: Option<&Board>,
     board: &Board,
     text: &mut Vec<u8>,
@@ -117,14 +130,22 @@ pub fn append_outcome(
     match who_won(before, board) {
         Winner::Own => {
             text.extend_from_slice(b"You win")?;
-            append_points(gained(before, board, OWN_SCORE), cube, text)?;
+            append_points(gained(before, board, OWN_SCORE), cube, text)
         }
         Winner::Other => {
-            text.extend_from_slice(front(board.opponent().bytes()))?;
-            text.extend_from_slice(b" wins")?;
-            append_points(gained(before, board, OTHER_SCORE), cube, text)?;
+            append_all(&[front(board.opponent().bytes()), b" wins"], text)?;
+            append_points(gained(before, board, OTHER_SCORE), cube, text)
         }
-        Winner::Unknown => text.extend_from_slice(b"The game is over")?,
+        Winner::Unknown => text.extend_from_slice(b"The game is over"),
     }
+}
+
+/// Appends how the game of a board has ended, by the board that was shown before it. The board says that it is over.
+pub fn append_outcome(
+    before: Option<&Board>,
+    board: &Board,
+    text: &mut Vec<u8>,
+) -> Result<(), AllocError> {
+    append_winner(before, board, text)?;
     append_score(board, text)
 }

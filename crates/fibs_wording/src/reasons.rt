@@ -1,5 +1,6 @@
 //! Why something was not done, in words. The number and the name follow in brackets.
 
+use crate::pieces::append_all;
 use fibs_messages::Fault;
 use fibs_session::{DirectoryFault, PlainFault, PlainRefusal, Refusal};
 use itoa::Buffer;
@@ -59,12 +60,17 @@ fn append_reason(
     name: &[u8],
     text: &mut Vec<u8>,
 ) -> Result<(), AllocError> {
-    text.extend_from_slice(words)?;
-    text.extend_from_slice(b" [")?;
-    text.extend_from_slice(Buffer::new().format(number).as_bytes())?;
-    text.extend_from_slice(b" ")?;
-    text.extend_from_slice(name)?;
-    text.extend_from_slice(b"]")
+    append_all(
+        &[
+            words,
+            b" [",
+            Buffer::new().format(number).as_bytes(),
+            b" ",
+            name,
+            b"]",
+        ],
+        text,
+    )
 }
 
 /// Appends why a decision was refused.
@@ -111,6 +117,14 @@ fn fault_words(fault: Fault) -> &'static [u8] {
     }
 }
 
+/// What a line is that can't be read: number 0 is that of a board line.
+fn unread_words(number: u8) -> &'static [u8] {
+    match number {
+        0 => b"A board that can't be read: field ",
+        _ => b"A message that can't be read: field ",
+    }
+}
+
 /// Appends that a line is malformed: what it is, and what is wrong with it.
 pub fn append_malformed(
     number: u8,
@@ -118,11 +132,9 @@ pub fn append_malformed(
     fault: Fault,
     text: &mut Vec<u8>,
 ) -> Result<(), AllocError> {
-    if number == 0 {
-        text.extend_from_slice(b"A board that can't be read: field ")?;
-    } else {
-        text.extend_from_slice(b"A message that can't be read: field ")?;
-    }
-    text.extend_from_slice(Buffer::new().format(field).as_bytes())?;
+    append_all(
+        &[unread_words(number), Buffer::new().format(field).as_bytes()],
+        text,
+    )?;
     append_reason(fault_words(fault), number, fault.name().as_bytes(), text)
 }
