@@ -5,7 +5,7 @@ ghost use Rattle.fibs_position.specs.PositionValue.{position_of, position_value}
 
 use crate::came::{Came, came_since, nothing_came};
 use crate::picture::append_marked;
-use crate::screen::Screen;
+use crate::screen::{Screen, append_all};
 use fibs_boards::board::Board;
 use fibs_position::{Phase, Position};
 use fibs_wording::messages::front;
@@ -159,8 +159,7 @@ impl<'a, C: Clock + Drop> Screen<'a, C> {
         if row.is_empty() || row.as_slice() == self.memory.said.as_slice() {
             return Ok(());
         }
-        self.text.extend_from_slice(row.as_slice())?;
-        self.say(b"\n")
+        self.say_all(&[row.as_slice(), b"\n"])
     }
 }
 
@@ -189,8 +188,15 @@ fn append_opponents_turn(board: &Board, row: &mut Vec<u8>) -> Result<(), AllocEr
 
 /// Appends two dice.
 fn append_dice(first: i32, second: i32, row: &mut Vec<u8>) -> Result<(), AllocError> {
-    row.extend_from_slice(Buffer::new().format(first).as_bytes())?;
-    row.extend_from_slice(b" and ")?;
-    row.extend_from_slice(Buffer::new().format(second).as_bytes())?;
-    row.extend_from_slice(b".")
+    let mut one = Buffer::new();
+    let mut other = Buffer::new();
+    append_all(
+        &[
+            one.format(first).as_bytes(),
+            b" and ",
+            other.format(second).as_bytes(),
+            b".",
+        ],
+        row,
+    )
 }

@@ -34,27 +34,26 @@ enum Own {
     Send,
 }
 
+/// The words of the terminal.
+const OWN_WORDS: [(&[u8], Own); 8] = [
+    (b"help", Own::Help),
+    (b"plays", Own::Plays),
+    (b"players", Own::Players),
+    (b"gag", Own::Gag),
+    (b"ungag", Own::Ungag),
+    (b"quiet", Own::Quiet),
+    (b"loud", Own::Loud),
+    (b"send", Own::Send),
+];
+
 /// The word of the terminal that a word is, if it is one.
 fn own_word(word: &[u8]) -> Option<Own> {
-    if word == b"help".as_slice() {
-        Some(Own::Help)
-    } else if word == b"plays".as_slice() {
-        Some(Own::Plays)
-    } else if word == b"players".as_slice() {
-        Some(Own::Players)
-    } else if word == b"gag".as_slice() {
-        Some(Own::Gag)
-    } else if word == b"ungag".as_slice() {
-        Some(Own::Ungag)
-    } else if word == b"quiet".as_slice() {
-        Some(Own::Quiet)
-    } else if word == b"loud".as_slice() {
-        Some(Own::Loud)
-    } else if word == b"send".as_slice() {
-        Some(Own::Send)
-    } else {
-        None
+    for (name, own) in &OWN_WORDS {
+        if *name == word {
+            return Some(*own);
+        }
     }
+    None
 }
 
 /// Whether a line is a word of the conversation, or begins with a word of the terminal.
@@ -177,8 +176,7 @@ impl<'a, C: Clock + Drop> Screen<'a, C> {
             Own::Players => append_players(self.alloc, directory, &mut self.text),
             Own::Gag => self.gag(rest),
             Own::Ungag => self.ungag(rest),
-            Own::Quiet => self.set_quiet(true),
-            Own::Loud => self.set_quiet(false),
+            Own::Quiet | Own::Loud => self.set_quiet(own == Own::Quiet),
             Own::Send => self.say(b"send LINE: LINE goes to the server as it is, unchecked.\n"),
         }
     }
@@ -207,8 +205,7 @@ impl<'a, C: Clock + Drop> Screen<'a, C> {
     /// Hides what a player says.
     fn gag(&mut self, name: &[u8]) -> Result<(), AllocError> {
         if self.memory.gag(self.alloc, name)? {
-            self.say(name)?;
-            self.say(b" is gagged on this screen: ungag ends it.\n")
+            self.say_all(&[name, b" is gagged on this screen: ungag ends it.\n"])
         } else {
             self.say(b"gag NAME: whose words are kept from the screen.\n")
         }

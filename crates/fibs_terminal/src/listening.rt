@@ -4,7 +4,7 @@ use crate::screen::Screen;
 use fibs_fields::name::Name;
 use fibs_fields::split::split;
 use fibs_lines::Line;
-use fibs_messages::{Fault, Message, Reading};
+use fibs_messages::{Fault, Message, Reading, WhoInfo};
 use fibs_position::Phase;
 use fibs_wording::lists::append_count;
 use fibs_wording::messages::{append_message, append_player};
@@ -90,12 +90,18 @@ impl<'a, C: Clock + Drop> Screen<'a, C> {
         if is_answer(said) {
             self.memory.answered = true;
         }
-        if let Some(name) = resigner(said) {
-            self.memory.resigner.clear();
-            self.memory.resigner.extend_from_slice(name)?;
-            self.ring()?;
-        }
+        self.note_resigner(said)?;
         self.show_row(said)
+    }
+
+    /// Keeps who offers to resign, if a text says that, and rings the bell.
+    fn note_resigner(&mut self, said: &[u8]) -> Result<(), AllocError> {
+        let Some(name) = resigner(said) else {
+            return Ok(());
+        };
+        self.memory.resigner.clear();
+        self.memory.resigner.extend_from_slice(name)?;
+        self.ring()
     }
 
     /// Hears a line that can't be read: it is shown too.
@@ -145,22 +151,20 @@ impl<'a, C: Clock + Drop> Screen<'a, C> {
             return Ok(());
         }
         match message {
-            Message::WhoInfo(info) => {
-                self.memory.listed = self.memory.listed.saturating_add(1);
-                self.memory.change.clear();
-                append_player(info, &mut self.memory.change)
-            }
-            Message::WhoInfoEnd => self.hear_list_end(),
-            Message::Welcome { .. } => {
-                self.memory.logging_in = false;
-                self.say_message(message)
-            }
-            Message::Says { .. } | Message::MessageReceived { .. } => {
-                self.ring()?;
-                self.say_message(message)
-            }
-            _ => self.say_message(message),
+            Message::WhoInfo(info) => return self.hear_player(info),
+            Message::WhoInfoEnd => return self.hear_list_end(),
+            Message::Welcome { .. } => self.memory.logging_in = false,
+            Message::Says { .. } | Message::MessageReceived { .. } => self.ring()?,
+            _ => {}
         }
+        self.say_message(message)
+    }
+
+    /// A player was listed.
+    fn hear_player(&mut self, info: &WhoInfo<'_>) -> Result<(), AllocError> {
+        self.memory.listed = self.memory.listed.saturating_add(1);
+        self.memory.change.clear();
+        append_player(info, &mut self.memory.change)
     }
 
     /// Says a message in words.

@@ -6,6 +6,7 @@ ghost use Rattle.fibs_position.specs.PositionValue.{position_of, position_value}
 ghost use Rattle.fibs_terminal.specs.Drawings.{DrawsBoard, is_plain};
 
 use crate::came::{Came, nothing_came};
+use crate::screen::append_all;
 use bstr::ByteSlice;
 use fibs_boards::board::Board;
 use fibs_environment::Settings;
@@ -155,22 +156,22 @@ fn append_row(
     text.extend_from_slice(b"\n")
 }
 
-/// Appends a row in fewer columns: the opponent has his name, and a cube few words.
-fn append_short(row: &[u8], opponent: &[u8], short: &mut Vec<u8>) -> Result<(), AllocError> {
+/// A row in fewer columns, in pieces: the opponent has his name, and a cube few words.
+fn short_row<'a>(row: &'a [u8], opponent: &'a [u8]) -> [&'a [u8]; 3] {
     if let Some(before) = row.strip_suffix(b"the opponent's turn") {
-        short.extend_from_slice(before)?;
-        short.extend_from_slice(opponent)?;
-        short.extend_from_slice(b"'s turn")
+        [before, opponent, b"'s turn"]
     } else if let Some(before) = row.strip_suffix(b"the opponent's") {
-        short.extend_from_slice(before)?;
-        short.extend_from_slice(opponent)?;
-        short.extend_from_slice(b"'s")
+        [before, opponent, b"'s"]
     } else if let Some(before) = row.strip_suffix(b"in the middle") {
-        short.extend_from_slice(before)?;
-        short.extend_from_slice(b"free")
+        [before, b"free", b""]
     } else {
-        short.extend_from_slice(row)
+        [row, b"", b""]
     }
+}
+
+/// Appends a row in fewer columns.
+fn append_short(row: &[u8], opponent: &[u8], short: &mut Vec<u8>) -> Result<(), AllocError> {
+    append_all(&short_row(row, opponent), short)
 }
 
 /// Whether a row of a picture is shown: the words below the board only if the user can't move, since the hint has the

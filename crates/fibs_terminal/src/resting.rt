@@ -64,12 +64,14 @@ impl<'a, C: Clock + Drop> Screen<'a, C> {
         }
         self.memory.advised = true;
         let command = asked.command();
-        self.say(command.as_bytes())?;
-        self.say(b" was sent and nothing has changed: if ")?;
-        self.say(front(asked.board.opponent().bytes()))?;
-        self.say(b" declined\nor the server refused, send ")?;
-        self.say(command.as_bytes())?;
-        self.say(b"; or bye and open.\n")
+        self.say_all(&[
+            command.as_bytes(),
+            b" was sent and nothing has changed: if ",
+            front(asked.board.opponent().bytes()),
+            b" declined\nor the server refused, send ",
+            command.as_bytes(),
+            b"; or bye and open.\n",
+        ])
     }
 
     /// Says that the user is not logged in, if the server asks for a login though one was sent.
@@ -78,8 +80,7 @@ impl<'a, C: Clock + Drop> Screen<'a, C> {
             return Ok(());
         }
         self.memory.logging_in = false;
-        self.say(refusal_words(Refusal::NotReady))?;
-        self.say(b"\n")
+        self.say_all(&[refusal_words(Refusal::NotReady), b"\n"])
     }
 
     /// Says what may be decided, if a board has come since that was said; else that the login was refused, if it was.

@@ -8,6 +8,14 @@ use std::time::Clock;
 /// The byte that rings the bell.
 const BELL: u8 = 7;
 
+/// Appends pieces, one after another.
+pub fn append_all(pieces: &[&[u8]], text: &mut Vec<u8>) -> Result<(), AllocError> {
+    for piece in pieces {
+        text.extend_from_slice(piece)?;
+    }
+    Ok(())
+}
+
 /// What is remembered, and the text that is to be written next.
 #[derive(Drop)]
 pub struct Screen<'a, C: Clock + Drop> {
@@ -42,6 +50,11 @@ impl<'a, C: Clock + Drop> Screen<'a, C> {
     /// Appends words to what is written next.
     pub fn say(&mut self, words: &[u8]) -> Result<(), AllocError> {
         self.text.extend_from_slice(words)
+    }
+
+    /// Appends pieces to what is written next.
+    pub fn say_all(&mut self, pieces: &[&[u8]]) -> Result<(), AllocError> {
+        append_all(pieces, &mut self.text)
     }
 
     /// Rings the bell.

@@ -11,6 +11,16 @@ use std::alloc::AllocError;
 use std::io::ErrorKind;
 use std::time::Clock;
 
+/// What is said of a roll by order, of an order, of its end, and of a line that is unknown.
+fn fixed_words(said: &Said<'_>) -> &'static [u8] {
+    match said {
+        Said::Rolled => b"sent roll, as ordered\n",
+        Said::Ordered => b"ordered: the client rolls if you may not double\n",
+        Said::Withdrawn => b"withdrawn: you roll yourself\n",
+        _ => b"unknown: help lists the words\n",
+    }
+}
+
 impl<'a, C: Clock + Drop> Screen<'a, C> {
     /// Hears one thing, and makes the text that is written for it.
     pub fn hear(&mut self, said: &Said<'_>) -> Result<(), AllocError> {
@@ -28,16 +38,15 @@ impl<'a, C: Clock + Drop> Screen<'a, C> {
                 Ok(())
             }
             Said::Sent(command) => self.hear_sent(command),
-            Said::Rolled => self.say(b"sent roll, as ordered\n"),
             Said::Passed(line) => self.say_passed(line),
-            Said::Ordered => self.say(b"ordered: the client rolls if you may not double\n"),
-            Said::Withdrawn => self.say(b"withdrawn: you roll yourself\n"),
             Said::Refused(why) => self.say_refused(*why),
             Said::NotSent(why) => {
                 append_not_sent(*why, &mut self.text)?;
                 self.say(b"\n")
             }
-            Said::Unknown => self.say(b"unknown: help lists the words\n"),
+            Said::Rolled | Said::Ordered | Said::Withdrawn | Said::Unknown => {
+                self.say(fixed_words(said))
+            }
             Said::Lost(waited) => self.hear_lost(waited),
             Said::Unnoted(why) => {
                 append_unnoted(*why, &mut self.text)?;
@@ -52,30 +61,34 @@ impl<'a, C: Clock + Drop> Screen<'a, C> {
         self.memory.forget_boards();
         self.memory.logging_in = true;
         self.say(b"connected to ")?;
-        self.say_place()
+        self.say_place(b"\n")
     }
 
-    /// Shows the address of the server.
-    fn say_place(&mut self) -> Result<(), AllocError> {
-        self.say(self.settings.host)?;
-        self.say(b":")?;
-        self.say(Buffer::new().format(self.settings.port).as_bytes())?;
-        self.say(b"\n")
+    /// Shows the address of the server, and what follows it.
+    fn say_place(&mut self, end: &[u8]) -> Result<(), AllocError> {
+        let mut port = Buffer::new();
+        self.say_all(&[
+            self.settings.host,
+            b":",
+            port.format(self.settings.port).as_bytes(),
+            end,
+        ])
+    }
+
+    /// Says why no connection can be made.
+    fn say_why(&mut self, why: ErrorKind) -> Result<(), AllocError> {
+        if why == ErrorKind::NotFound {
+            return self.say(b"no address is known");
+        }
+        let reason = why.to_string(self.alloc)?;
+        self.say(reason.as_bytes())
     }
 
     /// Says that no connection can be made, and why.
     fn say_no_connection(&mut self, why: ErrorKind) -> Result<(), AllocError> {
         self.say(b"no connection to ")?;
-        self.say(self.settings.host)?;
-        self.say(b":")?;
-        self.say(Buffer::new().format(self.settings.port).as_bytes())?;
-        self.say(b": ")?;
-        if why == ErrorKind::NotFound {
-            self.say(b"no address is known")?;
-        } else {
-            let reason = why.to_string(self.alloc)?;
-            self.say(reason.as_bytes())?;
-        }
+        self.say_place(b": ")?;
+        self.say_why(why)?;
         self.say(b"; open tries again\n")
     }
 
@@ -89,9 +102,7 @@ impl<'a, C: Clock + Drop> Screen<'a, C> {
     fn hear_sent(&mut self, command: &CommandText) -> Result<(), AllocError> {
         self.forget_answer();
         self.memory.asked = command.as_bytes() == b"board".as_slice();
-        self.say(b"sent ")?;
-        self.say(command.as_bytes())?;
-        self.say(b"\n")
+        self.say_all(&[b"sent ", command.as_bytes(), b"\n"])
     }
 
     /// Says that a line was sent as it is.
@@ -117,8 +128,10 @@ impl<'a, C: Clock + Drop> Screen<'a, C> {
         self.memory.forget_boards();
         self.ring()?;
         if let Some(asked) = waited {
-            self.say(asked.command().as_bytes())?;
-            self.say(b" may have reached the server or not\n")?;
+            self.say_all(&[
+                asked.command().as_bytes(),
+                b" may have reached the server or not\n",
+            ])?;
         }
         self.say(b"lost: open connects again, quit ends\n")
     }
