@@ -5,11 +5,12 @@ ghost use Rattle.fibs_position.specs.PositionValue.{position_of, position_value}
 
 use crate::came::{Came, came_since, nothing_came};
 use crate::picture::append_marked;
-use crate::screen::{Screen, append_all};
+use crate::screen::Screen;
 use fibs_boards::board::Board;
 use fibs_position::{Phase, Position};
 use fibs_wording::messages::front;
 use fibs_wording::outcomes::append_outcome;
+use fibs_wording::pieces::append_all;
 use itoa::Buffer;
 use std::alloc::AllocError;
 use std::time::Clock;

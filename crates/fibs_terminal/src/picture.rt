@@ -6,13 +6,13 @@ ghost use Rattle.fibs_position.specs.PositionValue.{position_of, position_value}
 ghost use Rattle.fibs_terminal.specs.Drawings.{DrawsBoard, is_plain};
 
 use crate::came::{Came, nothing_came};
-use crate::screen::append_all;
 use bstr::ByteSlice;
 use fibs_boards::board::Board;
 use fibs_environment::Settings;
 use fibs_picture::draw;
 use fibs_position::{Phase, Position};
 use fibs_wording::messages::front;
+use fibs_wording::pieces::append_all;
 use std::alloc::{AllocError, Global};
 
 /// The columns of the widest picture.

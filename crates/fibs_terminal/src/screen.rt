@@ -2,19 +2,12 @@
 
 use crate::memory::Memory;
 use fibs_environment::Settings;
+use fibs_wording::pieces::append_all;
 use std::alloc::{AllocError, Global};
 use std::time::Clock;
 
 /// The byte that rings the bell.
 const BELL: u8 = 7;
-
-/// Appends pieces, one after another.
-pub fn append_all(pieces: &[&[u8]], text: &mut Vec<u8>) -> Result<(), AllocError> {
-    for piece in pieces {
-        text.extend_from_slice(piece)?;
-    }
-    Ok(())
-}
 
 /// What is remembered, and the text that is to be written next.
 #[derive(Drop)]

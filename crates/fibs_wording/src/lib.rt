@@ -6,6 +6,6 @@ pub mod help;
 pub mod lists;
 pub mod messages;
 pub mod outcomes;
-mod pieces;
+pub mod pieces;
 pub mod reasons;
 pub mod shown;

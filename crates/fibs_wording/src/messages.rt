@@ -235,8 +235,14 @@ fn append_notice(
         Message::MessageSaved { name } => {
             append_delivery(b"Your message is kept for ", name.bytes(), text)
         }
-        // Talk is not appended here.
-        _ => Ok(()),
+        Message::Says { .. }
+        | Message::Shouts { .. }
+        | Message::Whispers { .. }
+        | Message::Kibitzes { .. }
+        | Message::YouSay { .. }
+        | Message::YouShout { .. }
+        | Message::YouWhisper { .. }
+        | Message::YouKibitz { .. } => Ok(()),
     }
 }
 
