@@ -4,6 +4,7 @@ use arrayvec::ArrayVec;
 use fibs_board_lines::check::check_board;
 use fibs_messages::laws::{print_reads_back, prints_tell_boards};
 use fibs_messages::{Board, Fault, FieldFault, Name, read_decimal, split};
+use std::test::Fail;
 
 /// A board line as the server sends it.
 const LINE: &[u8] =
@@ -30,93 +31,131 @@ fn is_copied(line: &[u8]) -> bool {
     }
 }
 
-#[test]
-fn a_line_is_copied_without_its_spaces(rt: HostRuntime) {
-    assert!(rt; is_copied(LINE));
-    assert!(rt; is_copied(line_with(53, b"0   ").as_slice()));
-    assert!(rt; !is_copied(line_with(53, b"1").as_slice()));
-    for (field, text) in [(1, b"boar".as_slice()), (2, b""), (7, b"-0"), (52, b"0 ")] {
-        let line = line_with(field, text);
-        let fault = check_board(line.as_slice()).err();
-        assert!(rt; fault == Board::read(line.as_slice()).err(), "{field}");
-        assert!(rt; fault.map(|wrong| wrong.field) == Some(field), "{field}");
+/// Whether the line says no board, whoever reads it, since this field is wrong.
+fn is_wrong_at(line: &[u8], field: usize) -> bool {
+    match (check_board(line), Board::read(line)) {
+        (Err(wrong), Err(found)) => wrong == found && wrong.field == field,
+        _ => false,
     }
 }
 
+/// Texts for the last field, and whether the line is copied then.
+static ENDS: [(&[u8], bool); 3] = [(b"0", true), (b"0   ", true), (b"1", false)];
+
+/// Fields, and texts that are wrong there.
+static WRONG: [(usize, &[u8]); 4] = [(1, b"boar"), (2, b""), (7, b"-0"), (52, b"0 ")];
+
 #[test]
-fn changes_one_field(rt: HostRuntime) {
-    let Ok(board) = Board::read(LINE) else {
-        assert!(rt; false, "the line is read");
-        return;
-    };
-    let Some(turned) = board.with(33, -1) else {
-        assert!(rt; false, "the turn changes");
-        return;
-    };
-    assert_eq!(rt; turned.print().as_slice(), line_with(33, b"-1").as_slice());
-    assert!(rt; !prints_tell_boards(&board, &turned));
-    assert!(rt; prints_tell_boards(&board, &board));
-    assert_eq!(rt; print_reads_back(&board), Ok(board));
-    assert!(rt; board != turned);
-    for (field, number) in [
-        (3, 0),
-        (54, 0),
-        (0, 0),
-        (42, 0),
-        (44, 24),
-        (7, 16),
-        (7, -16),
-        (38, 0),
-    ] {
-        assert!(rt;
-            board.with(field, number).is_none(),
-            "field {field}, {number}"
-        );
+fn a_line_is_copied_without_its_spaces(rt: HostRuntime) {
+    for (end, copied) in &ENDS {
+        let line = line_with(53, end);
+        assert!(rt; is_copied(line.as_slice()) == *copied, "{end:?} at its end");
+    }
+    for (field, text) in &WRONG {
+        let line = line_with(*field, text);
+        assert!(rt; is_wrong_at(line.as_slice(), *field), "{field}");
     }
 }
+
+/// Fields, and numbers that a board can't have there.
+static REFUSED: [(usize, i32); 8] = [
+    (3, 0),
+    (54, 0),
+    (0, 0),
+    (42, 0),
+    (44, 24),
+    (7, 16),
+    (7, -16),
+    (38, 0),
+];
+
+fn board() -> Result<Board, Fail> {
+    Ok(Board::read(LINE).ok().ok_or("the line is read")?)
+}
+
+#[test]
+fn changes_one_field(rt: HostRuntime) -> Result<(), Fail> {
+    let board = board()?;
+    let turned = board.with(33, -1).ok_or("the turn changes")?;
+    let is_printed = turned.print().as_slice() == line_with(33, b"-1").as_slice();
+    assert!(rt; is_printed, "the field is printed");
+    let alike = [
+        prints_tell_boards(&board, &turned),
+        board == turned,
+        prints_tell_boards(&board, &board),
+        print_reads_back(&board) == Ok(board),
+    ];
+    assert_eq!(rt; alike, [false, false, true, true]);
+    Ok(())
+}
+
+#[test]
+fn changes_no_field_to_what_it_can_not_be(rt: HostRuntime) -> Result<(), Fail> {
+    let board = board()?;
+    for (field, number) in &REFUSED {
+        let is_refused = board.with(*field, *number).is_none();
+        assert!(rt; is_refused, "field {field}, {number}");
+    }
+    Ok(())
+}
+
+/// Lines that are no board, and what is wrong with them.
+static ABSENT: [(&str, usize, Fault); 4] = [
+    ("", 1, Fault::BadName),
+    ("boards:a", 1, Fault::BadName),
+    ("board", 2, Fault::Missing),
+    ("board  ", 2, Fault::Missing),
+];
 
 #[test]
 fn names_what_is_absent_or_surplus(rt: HostRuntime) {
-    let cases = [
-        (b"".as_slice(), 1, Fault::BadName),
-        (b"boards:a".as_slice(), 1, Fault::BadName),
-        (b"board".as_slice(), 2, Fault::Missing),
-        (b"board  ".as_slice(), 2, Fault::Missing),
-    ];
-    for (line, field, fault) in cases {
-        let wrong = FieldFault { field, fault };
-        assert_eq!(rt; Board::read(line), Err(wrong), "{:?}", line);
+    for (line, field, fault) in &ABSENT {
+        let wrong = FieldFault {
+            field: *field,
+            fault: *fault,
+        };
+        let is_wrong = Board::read(line.as_bytes()) == Err(wrong);
+        assert!(rt; is_wrong, "{line:?}");
     }
 }
 
+/// How many bytes a name has, and whether it is a dash, if the text is a name.
+fn name_of(text: &[u8]) -> Option<(usize, bool)> {
+    let name = Name::new(text)?;
+    Some((name.bytes().len(), name.is_dash()))
+}
+
+/// Texts, and what is known of each if it is a name.
+static NAMES: [(&[u8], Option<(usize, bool)>); 7] = [
+    (b"-", Some((1, true))),
+    (b"--", Some((2, false))),
+    (&[b'a'; 64], Some((64, false))),
+    (b"", None),
+    (&[b'a'; 65], None),
+    (b"a:b", None),
+    (b"a b", None),
+];
+
 #[test]
 fn names_have_1_to_64_bytes(rt: HostRuntime) {
-    assert_eq!(rt; Name::new(b"-").map(|name| name.is_dash()), Some(true));
-    assert_eq!(rt; Name::new(b"--").map(|name| name.is_dash()), Some(false));
-    assert_eq!(rt;
-        Name::new(&[b'a'; 64]).map(|name| name.bytes().len()),
-        Some(64)
-    );
-    assert!(rt; Name::new(b"").is_none());
-    assert!(rt; Name::new(&[b'a'; 65]).is_none());
-    assert!(rt; Name::new(b"a:b").is_none());
-    assert!(rt; Name::new(b"a b").is_none());
+    for (text, name) in &NAMES {
+        assert!(rt; name_of(text) == *name, "{text:?}");
+    }
 }
+
+/// Texts, the limit up to which each is read, and the number.
+static DECIMALS: [(&str, u64, Option<u64>); 4] = [
+    ("0", 0, Some(0)),
+    ("1", 0, None),
+    ("18446744073709551615", u64::MAX, Some(u64::MAX)),
+    ("18446744073709551616", u64::MAX, None),
+];
 
 #[test]
 fn a_decimal_up_to_a_limit_is_read(rt: HostRuntime) {
-    let cases: [(&str, u64, Option<u64>); 4] = [
-        ("0", 0, Some(0)),
-        ("1", 0, None),
-        ("18446744073709551615", u64::MAX, Some(u64::MAX)),
-        ("18446744073709551616", u64::MAX, None),
-    ];
-    for (text, limit, number) in cases {
-        assert_eq!(rt;
-            read_decimal(text.as_bytes(), limit),
-            number,
-            "{text} up to {limit}"
-        );
+    for (text, limit, number) in &DECIMALS {
+        let is_read = read_decimal(text.as_bytes(), *limit) == *number;
+        assert!(rt; is_read, "{text} up to {limit}");
     }
 }
 
@@ -130,41 +169,44 @@ fn appends_a_line_of_a_board_or_nothing(rt: HostRuntime) {
     if out.push(b'>').is_err() {
         return;
     }
-    let before = out.len();
-    match board.print_into(&mut out) {
-        Ok(()) => assert_eq!(rt; &out[before..], LINE),
-        Err(_) => assert_eq!(rt; out.len(), before),
-    }
+    let wanted = match board.print_into(&mut out) {
+        Ok(()) => LINE,
+        Err(_) => b"",
+    };
+    assert_eq!(rt; out.get(1..), Some(wanted));
 }
+
+/// Texts, and their parts before and after the first space.
+static SPLIT: [(&str, &[u8], Option<&[u8]>); 6] = [
+    ("move 24-18", b"move", Some(b"24-18")),
+    ("a b c", b"a", Some(b"b c")),
+    ("ab ", b"ab", Some(b"")),
+    (" x", b"", Some(b"x")),
+    ("roll", b"roll", None),
+    ("", b"", None),
+];
 
 #[test]
 fn splits_at_the_first_byte(rt: HostRuntime) {
-    let cases: [(&str, &str, Option<&str>); 6] = [
-        ("move 24-18", "move", Some("24-18")),
-        ("a b c", "a", Some("b c")),
-        ("ab ", "ab", Some("")),
-        (" x", "", Some("x")),
-        ("roll", "roll", None),
-        ("", "", None),
-    ];
-    for (text, front, rest) in cases {
-        let (before, after) = split(text.as_bytes(), b' ');
-        assert_eq!(rt; before, front.as_bytes(), "before the space of {text}");
-        assert_eq!(rt; after, rest.map(str::as_bytes), "after the space of {text}");
+    for (text, front, rest) in &SPLIT {
+        let are_parts = split(text.as_bytes(), b' ') == (*front, *rest);
+        assert!(rt; are_parts, "at the space of {text:?}");
     }
 }
 
+/// Faults with their names and numbers.
+static FAULTS: [(Fault, &str, u8); 5] = [
+    (Fault::Missing, "Missing", 1),
+    (Fault::Extra, "Extra", 2),
+    (Fault::NotANumber, "NotANumber", 3),
+    (Fault::OutOfRange, "OutOfRange", 4),
+    (Fault::BadName, "BadName", 5),
+];
+
 #[test]
 fn faults_have_names_and_numbers(rt: HostRuntime) {
-    let cases = [
-        (Fault::Missing, "Missing", 1),
-        (Fault::Extra, "Extra", 2),
-        (Fault::NotANumber, "NotANumber", 3),
-        (Fault::OutOfRange, "OutOfRange", 4),
-        (Fault::BadName, "BadName", 5),
-    ];
-    for (fault, name, number) in cases {
-        assert_eq!(rt; fault.name(), name);
-        assert_eq!(rt; fault.number(), number);
+    for (fault, name, number) in &FAULTS {
+        let is_told = (fault.name(), fault.number()) == (*name, *number);
+        assert!(rt; is_told, "{name}");
     }
 }

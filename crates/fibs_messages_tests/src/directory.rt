@@ -1,8 +1,8 @@
 //! Directories: a worked row, and what the library for C does not show. The rest is in tests/rows and tests/c.
 
-use arrayvec::ArrayVec;
 use fibs_directory::{Directory, DirectoryFault};
 use fibs_messages::{Reading, read};
+use std::process::Abort;
 use std::test::Fail;
 
 /// A directory takes note of a message.
@@ -24,9 +24,12 @@ fn has(directory: &Directory, names: &[&[u8]]) -> bool {
     directory.len() == names.len()
 }
 
+/// Message 5 of a player.
+const ANN: &[u8] = b"5 ann - - 1 0 1500.00 0 3 1040515752 host - -";
+
 /// A message, and the names in the directory after it.
 static NOTED: [(&[u8], &[&[u8]]); 6] = [
-    (b"5 ann - - 1 0 1500.00 0 3 1040515752 host - -", &[b"ann"]),
+    (ANN, &[b"ann"]),
     (
         b"5 bob - - 1 0 1500.00 0 3 1040515752 host - -",
         &[b"ann", b"bob"],
@@ -36,81 +39,84 @@ static NOTED: [(&[u8], &[&[u8]]); 6] = [
         &[b"ann", b"bob"],
     ),
     (b"8 ann ann logs out.", &[b"bob"]),
-    (
-        b"5 ann - - 1 0 1500.00 0 3 1040515752 host - -",
-        &[b"bob", b"ann"],
-    ),
+    (ANN, &[b"bob", b"ann"]),
     (b"8 carl carl logs out.", &[b"bob", b"ann"]),
 ];
+
+/// Whether note is taken of a message, and the directory has just these names then.
+fn is_noted(directory: &mut Directory, line: &[u8], names: &[&[u8]]) -> Result<bool, Fail> {
+    Ok(note(directory, line)? == Ok(()) && has(directory, names))
+}
 
 /// A known name keeps its place; one that comes again after its logout goes last.
 #[test]
 fn names_are_in_the_order_in_which_they_came(rt: HostRuntime) -> Result<(), Fail> {
     let mut directory = Directory::new(rt.alloc());
     for (line, names) in &NOTED {
-        assert_eq!(rt; note(&mut directory, line)?, Ok(()), "{line:?}");
-        assert!(rt; has(&directory, names), "{line:?}");
+        assert!(rt; is_noted(&mut directory, line, names)?, "{line:?}");
     }
     Ok(())
 }
 
 /// Message 5 of a player whose name has these two bytes, counted from a semicolon.
-fn line_of(first: u8, second: u8) -> ArrayVec<u8, 64> {
-    let mut line = ArrayVec::new();
-    let _room = line.try_extend_from_slice(b"5 ");
-    let _room = line.try_push(b';'.wrapping_add(first));
-    let _room = line.try_push(b';'.wrapping_add(second));
-    let _room = line.try_extend_from_slice(b" - - 1 0 1500 0 3 1040515752 host - -");
+fn line_of(first: u8, second: u8) -> [u8; 41] {
+    let mut line = *b"5 .. - - 1 0 1500 0 3 1040515752 host - -";
+    line[2] = b';'.wrapping_add(first);
+    line[3] = b';'.wrapping_add(second);
     line
+}
+
+/// Note is taken of 64 players whose names have this first byte.
+fn note_names(rt: &impl Abort, directory: &mut Directory, first: u8) -> Result<(), Fail> {
+    for second in 0..64 {
+        let noted = note(directory, &line_of(first, second))?;
+        assert!(rt; noted == Ok(()), "{first} {second}");
+    }
+    Ok(())
+}
+
+/// Note is taken of 4096 players.
+fn fill(rt: &impl Abort, directory: &mut Directory) -> Result<(), Fail> {
+    for first in 0..64 {
+        note_names(rt, directory, first)?;
+    }
+    Ok(())
 }
 
 /// There is room for 4096 names. With ample memory each is taken, and a known one is taken also then.
 #[test]
 fn a_name_too_many_is_refused(rt: HostRuntime) -> Result<(), Fail> {
     let mut directory = Directory::new(rt.alloc());
-    for first in 0..64 {
-        for second in 0..64 {
-            let noted = note(&mut directory, line_of(first, second).as_slice())?;
-            assert_eq!(rt; noted, Ok(()), "{first} {second}");
-        }
-    }
-    let one_more = NOTED[0].0;
-    assert_eq!(rt; note(&mut directory, one_more)?, Err(DirectoryFault::Full));
-    assert_eq!(rt; directory.len(), 4096);
-    assert_eq!(rt; note(&mut directory, line_of(0, 7).as_slice())?, Ok(()));
+    fill(&rt, &mut directory)?;
+    let is_full = note(&mut directory, ANN)? == Err(DirectoryFault::Full);
+    assert!(rt; is_full && directory.len() == 4096, "one more");
+    let is_known = note(&mut directory, &line_of(0, 7))? == Ok(());
+    assert!(rt; is_known, "a known one");
+    Ok(())
+}
+
+/// Whether a directory is empty at first, with a player, and when it was cleared.
+fn are_empty(directory: &mut Directory) -> Result<[bool; 3], Fail> {
+    let first = directory.is_empty();
+    note(directory, ANN)?.ok().ok_or("no note is taken")?;
+    let of_one_player = directory.is_empty();
+    directory.clear();
+    Ok([first, of_one_player, directory.is_empty()])
+}
+
+#[test]
+fn a_directory_is_empty_until_a_player_comes(rt: HostRuntime) -> Result<(), Fail> {
+    let mut directory = Directory::new(rt.alloc());
+    let empty = are_empty(&mut directory)?;
+    assert_eq!(rt; empty, [true, false, true]);
     Ok(())
 }
 
 #[test]
-fn a_directory_is_empty_until_a_player_comes(rt: HostRuntime) {
-    let mut directory = Directory::new(rt.alloc());
-    assert!(rt; directory.is_empty(), "new");
-    let Reading::Numbered(message) = read(b"5 ann - - 1 0 1500.00 0 3 1040515752 host - -") else {
-        assert!(rt; false, "the line is a message");
-        return;
-    };
-    assert_eq!(rt; directory.note(&message), Ok(()));
-    assert!(rt; !directory.is_empty(), "of one player");
-    directory.clear();
-    assert!(rt; directory.is_empty(), "clear");
-}
-
-#[test]
 fn faults_are_told_by_their_numbers_and_names(rt: HostRuntime) -> Result<(), Fail> {
-    let alloc = rt.alloc();
-    assert_eq!(rt; DirectoryFault::Memory.number(), 1);
-    assert_eq!(rt; DirectoryFault::Full.number(), 2);
-    let rows = [
-        (format!(in alloc; "{}", DirectoryFault::Memory)?, "Memory"),
-        (format!(in alloc; "{:?}", DirectoryFault::Full)?, "Full"),
-        (format!(in alloc; "{:>6}", DirectoryFault::Full)?, "  Full"),
-        (
-            format!(in alloc; "{:<8}.", DirectoryFault::Memory)?,
-            "Memory  .",
-        ),
-    ];
-    for (text, wanted) in &rows {
-        assert_eq!(rt; text.as_str(), *wanted);
-    }
+    let (memory, full) = (DirectoryFault::Memory, DirectoryFault::Full);
+    assert_eq!(rt; [memory.number(), full.number()], [1, 2]);
+    let texts = format!(in rt.alloc(); "{memory}, {full:?}, {full:>6}, {memory:<8}.")?;
+    assert_eq!(rt; texts.as_str(), "Memory, Full,   Full, Memory  .");
     Ok(())
 }

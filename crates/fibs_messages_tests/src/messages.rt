@@ -7,20 +7,36 @@ use std::alloc::{AllocError, Global};
 use std::process::Abort;
 use std::test::Fail;
 
-/// Lines of messages, and what is printed for them if that is another line.
-static PRINTED: [(&[u8], &[u8]); 30] = [
+/// The line of a message, and what is printed for it if that is another line.
+type Row = (&'static [u8], &'static [u8]);
+
+const WELCOME: Row = (b"1 myself 1041253132 192.168.1.308", b"");
+
+const OWN_INFO: Row = (
+    b"2 myself 1 1 0 0 0 0 1 1 2396 0 1 0 1 3457.85 0 0 0 0 0 Australia/Melbourne",
+    b"",
+);
+
+const WHO_INFO: Row = (
+    b"5 someplayer mgnu_advanced - 0 0 1912.15 827 8 1040515752 192.168.143.5 3DFiBs -",
+    b"",
+);
+
+const WHO_INFO_RESPELLED: Row = (
+    b"5 bob - - 1 0 1500 0 3 1040515752 host - -",
+    b"5 bob - - 1 0 1500.00 0 3 1040515752 host - -",
+);
+
+/// Messages of a login.
+static LOGIN: [Row; 4] = [WELCOME, OWN_INFO, WHO_INFO, WHO_INFO_RESPELLED];
+
+static PRINTED: [Row; 30] = [
     // Lines of the CLIP specification, which are printed as they came.
-    (b"1 myself 1041253132 192.168.1.308", b""),
-    (
-        b"2 myself 1 1 0 0 0 0 1 1 2396 0 1 0 1 3457.85 0 0 0 0 0 Australia/Melbourne",
-        b"",
-    ),
+    WELCOME,
+    OWN_INFO,
     (b"3", b""),
     (b"4", b""),
-    (
-        b"5 someplayer mgnu_advanced - 0 0 1912.15 827 8 1040515752 192.168.143.5 3DFiBs -",
-        b"",
-    ),
+    WHO_INFO,
     (b"6", b""),
     (b"7 someplayer someplayer logs in.", b""),
     (b"8 someplayer someplayer drops connection.", b""),
@@ -45,10 +61,7 @@ static PRINTED: [(&[u8], &[u8]); 30] = [
     (b"18 Hello and hope you enjoy watching this game.", b""),
     (b"19 Are you sure those dice aren't loaded?", b""),
     // Other spellings.
-    (
-        b"5 bob - - 1 0 1500 0 3 1040515752 host - -",
-        b"5 bob - - 1 0 1500.00 0 3 1040515752 host - -",
-    ),
+    WHO_INFO_RESPELLED,
     (
         b"5 bob - - 1 0 0.5 0 3 1040515752 host -  a b  ",
         b"5 bob - - 1 0 0.50 0 3 1040515752 host -  a b",
@@ -76,9 +89,14 @@ fn is_copied_as(line: &[u8], canonical: Option<&[u8]>) -> bool {
     }
 }
 
+/// All of these lines.
+fn printed() -> &'static [Row; 30] {
+    &PRINTED
+}
+
 #[test]
 fn lines_of_the_specification_are_copied(rt: HostRuntime) {
-    for (line, _) in &PRINTED[..19] {
+    for (line, _) in &printed()[..19] {
         assert!(rt; is_copied_as(line, Some(line)), "{line:?}");
     }
 }
@@ -111,16 +129,39 @@ fn other_spellings_are_not_copied(rt: HostRuntime) {
     }
 }
 
+/// How many bytes a word has, and whether it is a dash, if the text is a word.
+fn word_of(text: &[u8]) -> Option<(usize, bool)> {
+    let word = Word::new(text)?;
+    Some((word.bytes().len(), word.is_dash()))
+}
+
+/// The same of a tail.
+fn tail_of(text: &[u8]) -> Option<(usize, bool)> {
+    let tail = Tail::new(text)?;
+    Some((tail.bytes().len(), tail.is_dash()))
+}
+
+/// Texts, and what is known of each if it is a word, and if it is a tail.
+static TEXTS: [(&str, Option<(usize, bool)>, Option<(usize, bool)>); 6] = [
+    ("-", Some((1, true)), Some((1, true))),
+    ("a:b", Some((3, false)), Some((3, false))),
+    ("a b", None, Some((3, false))),
+    (" a b", None, Some((4, false))),
+    ("a ", None, None),
+    ("", None, None),
+];
+
 #[test]
 fn words_and_tails(rt: HostRuntime) {
-    assert_eq!(rt; Word::new(b"-").map(|word| word.is_dash()), Some(true));
-    assert_eq!(rt; Word::new(b"a:b").map(|word| word.bytes().len()), Some(3));
-    assert!(rt; Word::new(b"").is_none());
-    assert!(rt; Word::new(b"a b").is_none());
-    assert_eq!(rt; Tail::new(b"-").map(|tail| tail.is_dash()), Some(true));
-    assert_eq!(rt; Tail::new(b" a b").map(|tail| tail.bytes().len()), Some(4));
-    assert!(rt; Tail::new(b"").is_none());
-    assert!(rt; Tail::new(b"a ").is_none());
+    for (text, word, tail) in &TEXTS {
+        assert!(rt; word_of(text.as_bytes()) == *word, "the word {text:?}");
+        assert!(rt; tail_of(text.as_bytes()) == *tail, "the tail {text:?}");
+    }
+}
+
+/// What is printed for the line of a row.
+fn printed_of(row: &Row) -> &'static [u8] {
+    if row.1.is_empty() { row.0 } else { row.1 }
 }
 
 /// Appends what is printed for the line of a message.
@@ -131,36 +172,50 @@ fn append_printed(alloc: Global, line: &[u8], out: &mut Vec<u8>) -> Result<(), A
     }
 }
 
+/// Appends what is printed for each of these lines.
+fn append_all(alloc: Global, lines: &[Row], out: &mut Vec<u8>) -> Result<(), AllocError> {
+    for (line, _) in lines {
+        append_printed(alloc, line, out)?;
+    }
+    Ok(())
+}
+
+/// Whether the text is as one that was given some lines, and again after later lines were appended to both.
+fn is_as_given(
+    alloc: Global,
+    text: &mut Vec<u8>,
+    given: &[Row],
+    later: &[Row],
+) -> Result<bool, AllocError> {
+    let mut twin = Vec::new(alloc);
+    append_all(alloc, given, &mut twin)?;
+    let is_same = *text == twin;
+    append_all(alloc, later, text)?;
+    append_all(alloc, later, &mut twin)?;
+    Ok(is_same && *text == twin)
+}
+
+/// Appends what is printed for the line of a row. Says whether it is what is wanted.
+fn is_appended(alloc: Global, row: &Row, out: &mut Vec<u8>) -> Result<bool, AllocError> {
+    let before = out.len();
+    append_printed(alloc, row.0, out)?;
+    Ok(out.get(before..) == Some(printed_of(row)))
+}
+
 /// The lines of messages as they are printed in a row. If a growth is refused, the text is as one that was given the
 /// lines before it, and what is appended later is appended to both.
-fn assert_appended(
-    rt: &impl Abort,
-    alloc: Global,
-    lines: &[(&[u8], &[u8])],
-) -> Result<(), AllocError> {
+fn assert_appended(rt: &impl Abort, alloc: Global, lines: &[Row]) -> Result<(), AllocError> {
     let mut out = Vec::new(alloc);
     for at in 0..lines.len() {
-        let (line, canonical) = lines[at];
-        let before = out.len();
-        if append_printed(alloc, line, &mut out).is_err() {
-            let mut twin = Vec::new(alloc);
-            for (line, _) in &lines[..at] {
-                append_printed(alloc, line, &mut twin)?;
+        let line = lines[at].0;
+        match is_appended(alloc, &lines[at], &mut out) {
+            Ok(is_right) => assert!(rt; is_right, "{line:?}"),
+            Err(_refused) => {
+                let is_kept = is_as_given(alloc, &mut out, &lines[..at], &lines[at + 1..])?;
+                assert!(rt; is_kept, "{line:?} was refused");
+                return Ok(());
             }
-            assert_eq!(rt; out, twin, "after {line:?} was refused");
-            for (later, _) in &lines[at + 1..] {
-                append_printed(alloc, later, &mut out)?;
-                append_printed(alloc, later, &mut twin)?;
-                assert_eq!(rt; out, twin, "{later:?} after {line:?} was refused");
-            }
-            return Ok(());
         }
-        let wanted = if canonical.is_empty() {
-            line
-        } else {
-            canonical
-        };
-        assert_eq!(rt; out.get(before..), Some(wanted), "{line:?}");
     }
     Ok(())
 }
@@ -168,15 +223,22 @@ fn assert_appended(
 /// Messages of a login, one after another.
 #[test]
 fn lines_of_a_login_are_appended_under_refused_memory(rt: HostRuntime) -> Result<(), Fail> {
-    let lines = [PRINTED[0], PRINTED[1], PRINTED[4], PRINTED[19]];
-    Ok(assert_appended(&rt, rt.alloc(), &lines)?)
+    Ok(assert_appended(&rt, rt.alloc(), &LOGIN)?)
 }
 
 /// Each message twice, so that each of its fields meets a text that is full, and then a whole one.
 #[test]
 fn each_message_is_appended_under_refused_memory(rt: HostRuntime) -> Result<(), Fail> {
-    for row in &PRINTED {
+    for row in printed() {
         assert_appended(&rt, rt.alloc(), &[*row, *row])?;
+    }
+    Ok(())
+}
+
+/// Appends what is to be printed for each of these lines.
+fn append_wanted(lines: &[Row], out: &mut Vec<u8>) -> Result<(), AllocError> {
+    for row in lines {
+        out.extend_from_slice(printed_of(row))?;
     }
     Ok(())
 }
@@ -188,15 +250,8 @@ fn messages_are_appended_one_behind_another(rt: HostRuntime) -> Result<(), Fail>
     let mut out = Vec::new(alloc);
     let mut wanted = Vec::new(alloc);
     for _ in 0..40u32 {
-        for (line, canonical) in &PRINTED {
-            append_printed(alloc, line, &mut out)?;
-            let text = if canonical.is_empty() {
-                line
-            } else {
-                canonical
-            };
-            wanted.extend_from_slice(text)?;
-        }
+        append_all(alloc, printed(), &mut out)?;
+        append_wanted(printed(), &mut wanted)?;
     }
     assert_eq!(rt; out, wanted);
     Ok(())
@@ -204,11 +259,10 @@ fn messages_are_appended_one_behind_another(rt: HostRuntime) -> Result<(), Fail>
 
 /// What is printed of a message is read back as it.
 #[test]
-fn a_printed_message_is_read_back(rt: HostRuntime) {
-    let line = PRINTED[4].0;
+fn a_printed_message_is_read_back(rt: HostRuntime) -> Result<(), Fail> {
+    let line = WHO_INFO.0;
     let Reading::Numbered(message) = read(line) else {
-        assert!(rt; false, "the line is a message");
-        return;
+        return Err(Fail::from("the line is no message"));
     };
     messages_are_well_formed(&message);
     let is_read_back = match canonical_lines_read_back(line) {
@@ -216,4 +270,5 @@ fn a_printed_message_is_read_back(rt: HostRuntime) {
         _ => false,
     };
     assert!(rt; is_read_back);
+    Ok(())
 }

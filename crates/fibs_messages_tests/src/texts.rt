@@ -1,11 +1,11 @@
 //! Texts as they are sent, and the line that a reader lends between its calls.
 
 use fibs_lines::{Line, Lines, sent_line};
-use std::alloc::{AllocError, Allocator};
+use std::alloc::{AllocError, Global};
 use std::test::Fail;
 
 /// The byte `a` so many times.
-fn letters<A: Allocator>(count: usize, alloc: A) -> Result<Vec<u8, A>, AllocError> {
+fn letters(count: usize, alloc: Global) -> Result<Vec<u8>, AllocError> {
     let mut bytes = Vec::new(alloc);
     for _ in 0..count {
         bytes.push(b'a')?;
@@ -13,54 +13,77 @@ fn letters<A: Allocator>(count: usize, alloc: A) -> Result<Vec<u8, A>, AllocErro
     Ok(bytes)
 }
 
-/// A text that is sent is read as its line, if it has neither LF nor 255.
+/// Texts that are sent, and the line that each is read as, if it has neither LF nor 255.
+static SENT: [(&[u8], Option<&[u8]>); 8] = [
+    (b"", Some(b"")),
+    (b"a", Some(b"a")),
+    (b"a\r", Some(b"a\r")),
+    (b"a\rb", Some(b"a\rb")),
+    (b"> login: 5 a", Some(b"5 a")),
+    (b"a\nb", None),
+    (b"a\xff\xffb", None),
+    (b"\xff\xfb\x01a", None),
+];
+
+/// The bytes of the line that a text is read as.
+fn bytes_of(text: &[u8]) -> Option<&[u8]> {
+    Some(sent_line(text)?.bytes)
+}
+
 #[test]
-fn texts_as_they_are_sent(rt: HostRuntime) -> Result<(), Fail> {
-    let rows: [(&[u8], Option<&[u8]>); 8] = [
-        (b"", Some(b"")),
-        (b"a", Some(b"a")),
-        (b"a\r", Some(b"a\r")),
-        (b"a\rb", Some(b"a\rb")),
-        (b"> login: 5 a", Some(b"5 a")),
-        (b"a\nb", None),
-        (b"a\xff\xffb", None),
-        (b"\xff\xfb\x01a", None),
-    ];
-    for (text, read) in rows {
-        let line = sent_line(text).map(|line| line.bytes);
-        assert!(rt; line == read, "{text:?}");
+fn texts_as_they_are_sent(rt: HostRuntime) {
+    for (text, bytes) in &SENT {
+        assert!(rt; bytes_of(text) == *bytes, "{text:?}");
     }
-    let full = letters(16384, rt.alloc())?;
-    for (count, cut) in [(16384, false), (16385, true)] {
-        let long = letters(count, rt.alloc())?;
-        let line = sent_line(&long).ok_or("no line")?;
-        assert!(rt;
-            line.bytes == full.as_slice() && line.cut == cut,
-            "{count} bytes"
-        );
+}
+
+/// Whether so many letters are read as the first 16,384 of them, which are cut or not.
+fn are_limited(alloc: Global, count: usize, cut: bool) -> Result<bool, Fail> {
+    let long = letters(count, alloc)?;
+    let full = letters(16384, alloc)?;
+    let bytes = full.as_slice();
+    Ok(sent_line(&long) == Some(Line { bytes, cut }))
+}
+
+#[test]
+fn a_long_text_is_cut(rt: HostRuntime) -> Result<(), Fail> {
+    for (count, cut) in &[(16384, false), (16385, true)] {
+        assert!(rt; are_limited(rt.alloc(), *count, *cut)?, "{count} bytes");
     }
     Ok(())
 }
 
-/// The line of the latest call is lent by the call, and again until the next one.
+/// Pieces as they are fed, and the line that ends in each.
+static FED: [(&[u8], Option<Line<'static>>); 3] = [
+    (
+        b"one\r\n> two",
+        Some(Line {
+            bytes: b"one",
+            cut: false,
+        }),
+    ),
+    (b"> two", None),
+    (
+        b"\n",
+        Some(Line {
+            bytes: b"two",
+            cut: false,
+        }),
+    ),
+];
+
+/// Whether this line ends in a piece. It is lent by the call, and again until the next one.
+fn is_lent(lines: &mut Lines, piece: &[u8], line: Option<Line<'_>>) -> bool {
+    lines.feed(piece).line == line && lines.line() == line
+}
+
 #[test]
-fn the_latest_line_is_lent_again(rt: HostRuntime) -> Result<(), Fail> {
+fn the_latest_line_is_lent_again(rt: HostRuntime) {
     let mut lines = Lines::default();
     assert!(rt; lines.line().is_none(), "nothing has come");
-    let line = lines.feed(b"one\r\n> two").line.ok_or("no line")?;
-    assert_eq!(rt;
-        line,
-        Line {
-            bytes: b"one".as_slice(),
-            cut: false
-        }
-    );
-    assert_eq!(rt; lines.line().ok_or("no line")?.bytes, b"one".as_slice());
-    assert!(rt; lines.feed(b"> two").line.is_none());
-    assert!(rt; lines.line().is_none(), "no line ended");
-    let line = lines.feed(b"\n").line.ok_or("no line")?;
-    assert_eq!(rt; line.bytes, b"two".as_slice());
+    for (piece, line) in &FED {
+        assert!(rt; is_lent(&mut lines, piece, *line), "{piece:?}");
+    }
     lines.reset();
     assert!(rt; lines.line().is_none(), "reset after a line");
-    Ok(())
 }
