@@ -43,12 +43,35 @@ fn whole(bytes: &[u8]) -> Line<'_> {
     Line { bytes, cut: false }
 }
 
-/// A session hears a line and answers it by this one command.
-fn hear(rt: &impl Abort, session: &mut Session, line: &[u8], command: &str) -> Result<(), Fail> {
+/// The user's roll on the board of a line.
+fn roll_on(line: &[u8]) -> Result<Outstanding, Fail> {
+    Ok(Outstanding {
+        board: board_of(line)?,
+        decision: Decision::Roll,
+    })
+}
+
+/// Whether a session answers a line by this one command.
+fn hears_one(session: &mut Session, line: &[u8], command: &str) -> bool {
     let taken = session.line(&whole(line));
-    assert_eq!(rt; taken.send.len(), 1, "{command}");
-    let first = taken.send.as_slice().first().ok_or("no command")?;
-    assert_eq!(rt; first.as_str(), command);
+    match taken.send.as_slice() {
+        [one] => one.as_str() == command,
+        _ => false,
+    }
+}
+
+/// A session opens a connection, and rolls by a standing order. It answers each line by one command.
+fn roll_by_order(rt: &impl Abort, session: &mut Session) -> Result<(), Fail> {
+    session.open().ok().ok_or("open")?;
+    session.order_roll().ok().ok_or("order")?;
+    for (line, command) in &[
+        (WELCOME, "set boardstyle 3"),
+        (INFO, "board"),
+        (NO_DOUBLE, "roll"),
+    ] {
+        let is_alone = hears_one(session, line, command);
+        assert!(rt; is_alone, "{command}");
+    }
     Ok(())
 }
 
@@ -56,137 +79,198 @@ fn hear(rt: &impl Abort, session: &mut Session, line: &[u8], command: &str) -> R
 #[test]
 fn a_session_hears_whole_lines(rt: HostRuntime) -> Result<(), Fail> {
     let mut session = Session::new(login()?);
-    assert!(rt; session.open().is_ok());
-    assert_eq!(rt; session.order_roll(), Ok(()));
-    hear(&rt, &mut session, WELCOME, "set boardstyle 3")?;
-    hear(&rt, &mut session, INFO, "board")?;
-    hear(&rt, &mut session, NO_DOUBLE, "roll")?;
+    roll_by_order(&rt, &mut session)?;
+    let bad_name = PlainRefusal::Fault(PlainFault::BadName);
+    let answers = [
+        session.decide(&Decision::Roll).err() == Some(Refusal::Waiting),
+        session.plain(&Plain::Tell(b"b b", b"hi")).err() == Some(bad_name),
+        session.ordered(),
+        session.withdraw_roll() == Ok(()),
+    ];
     assert_eq!(rt;
-        session.decide(&Decision::Roll).err(),
-        Some(Refusal::Waiting)
+        answers,
+        [true; 4],
+        "a roll, a name with a space, and the order"
     );
-    let wrong = session.plain(&Plain::Tell(b"b b", b"hi")).err();
-    assert_eq!(rt; wrong, Some(PlainRefusal::Fault(PlainFault::BadName)));
-    assert!(rt; session.ordered());
-    assert_eq!(rt; session.withdraw_roll(), Ok(()));
-    let asked = Outstanding {
-        board: board_of(NO_DOUBLE)?,
-        decision: Decision::Roll,
-    };
-    assert!(rt; session.shown() == Some(&asked.board) && session.waiting() == Some(&asked));
+    let roll = roll_on(NO_DOUBLE)?;
+    let is_kept = session.shown() == Some(&roll.board) && session.waiting() == Some(&roll);
+    assert!(rt; is_kept, "the roll waits");
     let taken = session.line(&whole(TO_MOVE));
-    assert!(rt; taken.confirmed == Some(asked) && !taken.rolled);
-    assert!(rt; session.lose().is_none());
+    let is_confirmed = taken.confirmed == Some(roll) && !taken.rolled;
+    assert!(rt; is_confirmed, "the roll is confirmed");
+    assert!(rt; session.lose().is_none(), "nothing waits");
     Ok(())
 }
+
+/// A call of a client.
+enum Call {
+    Open,
+    Line(&'static [u8]),
+    Roll,
+    Order,
+    Withdraw,
+    Lose,
+}
+
+/// Makes a call. Says why it is refused; `Waiting` if a decision is lost.
+fn refusal_of(client: &mut Client, call: &Call) -> Option<Refusal> {
+    match call {
+        Call::Open => client.open().err(),
+        Call::Line(line) => {
+            feed_line(client, line);
+            None
+        }
+        Call::Roll => client.decide(&Decision::Roll).err(),
+        Call::Order => client.order_roll().err(),
+        Call::Withdraw => client.withdraw_roll().err(),
+        Call::Lose => match client.lose() {
+            Some(_) => Some(Refusal::Waiting),
+            None => None,
+        },
+    }
+}
+
+/// Each call is answered so, and an order is in force after it or not.
+fn assert_answered(rt: &impl Abort, client: &mut Client, calls: &[(Call, Option<Refusal>, bool)]) {
+    for (at, (call, why, ordered)) in calls.iter().enumerate() {
+        let refused = refusal_of(client, call);
+        assert_eq!(rt; refused, *why, "call {at}");
+        assert!(rt; client.ordered() == *ordered, "the order after call {at}");
+    }
+}
+
+/// Feeds a piece. Says how much of it is used, and whether a line ended.
+fn feed(client: &mut Client, piece: &[u8]) -> (usize, bool) {
+    let got = client.feed(piece);
+    (got.used, got.taken.is_some())
+}
+
+/// Feeds a piece. Says how much of it is used, if this text ends in it.
+fn feed_text(client: &mut Client, piece: &[u8], text: &[u8]) -> Option<usize> {
+    let got = client.feed(piece);
+    match &got.taken {
+        Some(taken) if taken.reading == Reading::Text(text) => Some(got.used),
+        _ => None,
+    }
+}
+
+/// Feeds a piece. Gives what the line that ends in it confirms.
+fn feed_confirming(client: &mut Client, piece: &[u8]) -> Option<Outstanding> {
+    let got = client.feed(piece);
+    match &got.taken {
+        Some(taken) => taken.confirmed,
+        None => None,
+    }
+}
+
+static ROLLED: [(Call, Option<Refusal>, bool); 2] = [
+    (Call::Line(TO_ROLL), None, false),
+    (Call::Roll, None, false),
+];
 
 /// How much of a piece is used: up to its first line end, or all of it. What confirms a decision has its board.
 #[test]
 fn a_piece_is_used_up_to_its_first_line_end(rt: HostRuntime) -> Result<(), Fail> {
     let mut client = ready()?;
-    let got = client.feed(b"[board]\r\nrest");
-    assert_eq!(rt; got.used, 9);
+    let used = feed_text(&mut client, b"[board]\r\nrest", b"[board]");
+    assert_eq!(rt; used, Some(9));
+    assert_answered(&rt, &mut client, &ROLLED);
+    let without_end = feed(&mut client, TO_MOVE);
+    let confirmed = feed_confirming(&mut client, b"\n");
     assert!(rt;
-        matches!(
-            got.taken.ok_or("no line")?.reading,
-            Reading::Text(b"[board]")
-        )
+        confirmed == Some(roll_on(TO_ROLL)?),
+        "the roll is confirmed"
     );
-    feed_line(&mut client, TO_ROLL);
-    assert!(rt; client.decide(&Decision::Roll).is_ok());
-    let got = client.feed(TO_MOVE);
-    assert!(rt;
-        got.used == TO_MOVE.len() && got.taken.is_none(),
-        "no line end"
-    );
-    let taken = client.feed(b"\n").taken.ok_or("no line")?;
-    let asked = Outstanding {
-        board: board_of(TO_ROLL)?,
-        decision: Decision::Roll,
-    };
-    assert!(rt; taken.confirmed == Some(asked));
-    assert!(rt; client.lose().is_none());
-    let got = client.feed(TO_ROLL);
-    assert!(rt; got.used == TO_ROLL.len() && got.taken.is_none(), "offline");
+    assert!(rt; client.lose().is_none(), "nothing waits");
+    let offline = feed(&mut client, TO_ROLL);
+    let wanted = [(TO_MOVE.len(), false), (TO_ROLL.len(), false)];
+    assert_eq!(rt; [without_end, offline], wanted);
     Ok(())
 }
+
+/// The front of a board's line, and its rest.
+const FRONT: &[u8] = b"board:You:bob:3:0:1:0:-2";
+
+const REST: &[u8] =
+    b":0:0:0:0:5:0:3:0:0:0:-5:5:0:0:0:-3:0:-5:0:0:0:0:2:0:1:0:0:0:0:1:1:1:0:1:-1:0:25:0:0:0:0:0:0:0:0\r\n";
+
+static REOPENED: [(Call, Option<Refusal>, bool); 2] = [
+    (Call::Lose, None, false),
+    (Call::Open, None, false),
+];
+
+static GREETED_LATE: [(Call, Option<Refusal>, bool); 4] = [
+    (Call::Roll, Some(Refusal::NotReady), false),
+    (Call::Line(WELCOME), None, false),
+    (Call::Line(INFO), None, false),
+    (Call::Roll, Some(Refusal::NoBoard), false),
+];
 
 /// Half a line is forgotten with its connection: its other half is a text on the next one.
 #[test]
 fn half_a_line_does_not_pass_into_the_next_connection(rt: HostRuntime) -> Result<(), Fail> {
     let mut client = ready()?;
     feed_line(&mut client, TO_ROLL);
-    assert!(rt; client.feed(b"board:You:bob:3:0:1:0:-2").taken.is_none());
-    assert!(rt; client.lose().is_none());
-    client.open().ok().ok_or("open")?;
-    let rest =
-        b":0:0:0:0:5:0:3:0:0:0:-5:5:0:0:0:-3:0:-5:0:0:0:0:2:0:1:0:0:0:0:1:1:1:0:1:-1:0:25:0:0:0:0:0:0:0:0\r\n";
-    let taken = client.feed(rest.as_slice()).taken.ok_or("no line")?;
-    assert!(rt; matches!(taken.reading, Reading::Text(_)));
-    assert!(rt; client.shown().is_none());
-    assert_eq!(rt;
-        client.decide(&Decision::Roll).err(),
-        Some(Refusal::NotReady)
-    );
-    feed_line(&mut client, WELCOME);
-    feed_line(&mut client, INFO);
-    assert_eq!(rt;
-        client.decide(&Decision::Roll).err(),
-        Some(Refusal::NoBoard)
-    );
+    assert!(rt; !feed(&mut client, FRONT).1, "no line has ended");
+    assert_answered(&rt, &mut client, &REOPENED);
+    let taken = client.feed(REST).taken.ok_or("no line")?;
+    assert!(rt; matches!(taken.reading, Reading::Text(_)), "a text");
+    assert!(rt; client.shown().is_none(), "no board is shown");
+    assert_answered(&rt, &mut client, &GREETED_LATE);
     Ok(())
 }
 
-/// A client opens a connection, and is greeted by these lines.
-fn greet(client: &mut Client, lines: &[&[u8]]) -> Result<(), Fail> {
-    client.open().ok().ok_or("open")?;
-    for line in lines {
-        feed_line(client, line);
-    }
-    Ok(())
-}
+static GREETED_BY_A_PLAYER: [(Call, Option<Refusal>, bool); 5] = [
+    (Call::Open, None, false),
+    (Call::Line(WELCOME), None, false),
+    (Call::Line(INFO_AUTOMOVE), None, false),
+    (Call::Line(TO_ROLL), None, false),
+    (Call::Roll, Some(Refusal::ServerPlays), false),
+];
+
+static GREETED_AGAIN: [(Call, Option<Refusal>, bool); 6] = [
+    (Call::Roll, Some(Refusal::ServerPlays), false),
+    (Call::Lose, None, false),
+    (Call::Open, None, false),
+    (Call::Line(WELCOME), None, false),
+    (Call::Line(INFO), None, false),
+    (Call::Line(TO_ROLL), None, false),
+];
 
 /// Where the server plays, the user does not decide, also after he has turned that off; on the next connection he does.
 #[test]
 fn where_the_server_plays_the_user_does_not_decide(rt: HostRuntime) -> Result<(), Fail> {
     let mut client = Client::new(login()?);
-    greet(&mut client, &[WELCOME, INFO_AUTOMOVE, TO_ROLL])?;
-    assert_eq!(rt;
-        client.decide(&Decision::Roll).err(),
-        Some(Refusal::ServerPlays)
-    );
+    assert_answered(&rt, &mut client, &GREETED_BY_A_PLAYER);
     let off = client
         .plain(&Plain::AutomoveOff)
         .ok()
         .ok_or("automove is on")?;
     assert_eq!(rt; off.as_str(), "toggle automove");
-    for plain in [Plain::AutomoveOff, Plain::GreedyOff] {
-        assert_eq!(rt; client.plain(&plain).err(), Some(PlainRefusal::NotOn));
+    for plain in &[Plain::AutomoveOff, Plain::GreedyOff] {
+        let refused = client.plain(plain).err();
+        assert!(rt; refused == Some(PlainRefusal::NotOn), "{plain:?}");
     }
-    assert_eq!(rt;
-        client.decide(&Decision::Roll).err(),
-        Some(Refusal::ServerPlays)
-    );
-    assert!(rt; client.lose().is_none());
-    greet(&mut client, &[WELCOME, INFO, TO_ROLL])?;
+    assert_answered(&rt, &mut client, &GREETED_AGAIN);
     let roll = client.decide(&Decision::Roll).ok().ok_or("roll")?;
     assert_eq!(rt; roll.as_str(), "roll");
     Ok(())
 }
 
+static ORDERED: [(Call, Option<Refusal>, bool); 6] = [
+    (Call::Withdraw, Some(Refusal::Offline), false),
+    (Call::Open, None, false),
+    (Call::Withdraw, Some(Refusal::NotOrdered), false),
+    (Call::Order, None, true),
+    (Call::Lose, None, false),
+    (Call::Open, None, false),
+];
+
 /// An order ends with its connection.
 #[test]
 fn a_new_connection_has_no_order(rt: HostRuntime) -> Result<(), Fail> {
     let mut client = Client::new(login()?);
-    assert_eq!(rt; client.withdraw_roll(), Err(Refusal::Offline));
-    greet(&mut client, &[])?;
-    assert_eq!(rt; client.withdraw_roll(), Err(Refusal::NotOrdered));
-    assert_eq!(rt; client.order_roll(), Ok(()));
-    assert!(rt; client.ordered());
-    assert!(rt; client.lose().is_none());
-    assert!(rt; !client.ordered());
-    greet(&mut client, &[])?;
-    assert!(rt; !client.ordered());
+    assert_answered(&rt, &mut client, &ORDERED);
     Ok(())
 }
 
@@ -236,51 +320,38 @@ fn runs_hand_out_their_commands_under_refused_memory(rt: HostRuntime) -> Result<
     Ok(())
 }
 
+/// Refusals with their numbers, and as `{}` and `{:?}` print them.
+static TOLD: [(Refusal, &str); 12] = [
+    (Refusal::AlreadyOpen, "1 AlreadyOpen AlreadyOpen"),
+    (Refusal::Offline, "2 Offline Offline"),
+    (Refusal::NotReady, "3 NotReady NotReady"),
+    (Refusal::ServerPlays, "4 ServerPlays ServerPlays"),
+    (Refusal::NoBoard, "5 NoBoard NoBoard"),
+    (Refusal::Waiting, "6 Waiting Waiting"),
+    (Refusal::NotYours, "7 NotYours NotYours"),
+    (Refusal::WrongKind, "8 WrongKind WrongKind"),
+    (Refusal::IllegalPlay, "9 IllegalPlay IllegalPlay"),
+    (Refusal::NotOn, "10 NotOn NotOn"),
+    (Refusal::AlreadyOrdered, "11 AlreadyOrdered AlreadyOrdered"),
+    (Refusal::NotOrdered, "12 NotOrdered NotOrdered"),
+];
+
+/// Refusals of commands that decide nothing, with their numbers and as `{}` prints them.
+static PLAIN_TOLD: [(PlainRefusal, &str); 3] = [
+    (PlainRefusal::Offline, "2 Offline"),
+    (PlainRefusal::NotOn, "10 NotOn"),
+    (PlainRefusal::Fault(PlainFault::BadText), "2 BadText"),
+];
+
 #[test]
 fn refusals_are_told_by_their_numbers_and_names(rt: HostRuntime) -> Result<(), Fail> {
-    let names = [
-        "AlreadyOpen",
-        "Offline",
-        "NotReady",
-        "ServerPlays",
-        "NoBoard",
-        "Waiting",
-        "NotYours",
-        "WrongKind",
-        "IllegalPlay",
-        "NotOn",
-        "AlreadyOrdered",
-        "NotOrdered",
-    ];
-    let refusals = [
-        Refusal::AlreadyOpen,
-        Refusal::Offline,
-        Refusal::NotReady,
-        Refusal::ServerPlays,
-        Refusal::NoBoard,
-        Refusal::Waiting,
-        Refusal::NotYours,
-        Refusal::WrongKind,
-        Refusal::IllegalPlay,
-        Refusal::NotOn,
-        Refusal::AlreadyOrdered,
-        Refusal::NotOrdered,
-    ];
-    let mut number = 0u8;
-    for (why, name) in refusals.iter().zip(names) {
-        number = number.saturating_add(1);
-        assert_eq!(rt; why.number(), number);
-        assert_eq!(rt; format!(in rt.alloc(); "{why}")?.as_str(), name);
-        assert_eq!(rt; format!(in rt.alloc(); "{why:?}")?.as_str(), name);
+    for (why, wanted) in &TOLD {
+        let told = format!(in rt.alloc(); "{} {why} {why:?}", why.number())?;
+        assert!(rt; told.as_str() == *wanted, "{wanted}: {told}");
     }
-    let plain = [
-        (PlainRefusal::Offline, 2u8, "Offline"),
-        (PlainRefusal::NotOn, 10, "NotOn"),
-        (PlainRefusal::Fault(PlainFault::BadText), 2, "BadText"),
-    ];
-    for (why, number, name) in plain {
-        assert_eq!(rt; why.number(), number);
-        assert_eq!(rt; format!(in rt.alloc(); "{why}")?.as_str(), name);
+    for (why, wanted) in &PLAIN_TOLD {
+        let told = format!(in rt.alloc(); "{} {why}", why.number())?;
+        assert!(rt; told.as_str() == *wanted, "{wanted}: {told}");
     }
     Ok(())
 }
@@ -288,54 +359,53 @@ fn refusals_are_told_by_their_numbers_and_names(rt: HostRuntime) -> Result<(), F
 /// A width is kept, so that refusals are in columns.
 #[test]
 fn refusals_are_padded_to_a_width(rt: HostRuntime) -> Result<(), Fail> {
-    let alloc = rt.alloc();
-    let rows = [
-        (format!(in alloc; "{:>10}", Refusal::NoBoard)?, "   NoBoard"),
-        (format!(in alloc; "{:<8}.", Refusal::NotOn)?, "NotOn   ."),
-        (
-            format!(in alloc; "{:^9}", PlainRefusal::NotOn)?,
-            "  NotOn  ",
-        ),
-        (
-            format!(in alloc; "{:>8}", PlainRefusal::Offline)?,
-            " Offline",
-        ),
-        (
-            format!(in alloc; "{:>10}", PlainRefusal::Fault(PlainFault::BadText))?,
-            "   BadText",
-        ),
-    ];
-    for (text, wanted) in &rows {
-        assert_eq!(rt; text.as_str(), *wanted);
-    }
+    let texts = format!(in rt.alloc(); "{:>10}|{:<8}|", Refusal::NoBoard, Refusal::NotOn)?;
+    assert_eq!(rt; texts.as_str(), "   NoBoard|NotOn   |");
+    let bad_text = PlainRefusal::Fault(PlainFault::BadText);
+    let texts = format!(in rt.alloc();
+        "{:^9}|{:>8}|{:>10}",
+        PlainRefusal::NotOn,
+        PlainRefusal::Offline,
+        bad_text
+    )?;
+    assert_eq!(rt; texts.as_str(), "  NotOn  | Offline|   BadText");
     Ok(())
 }
 
+/// Messages 1 and 2 with their line ends.
+const GREETING: &[u8] = b"1 ann 1041253132 localhost\r\n\
+    2 ann 1 1 0 0 0 0 1 1 10 0 1 0 1 1500.00 0 0 0 0 0 UTC\r\n";
+
 /// How many connections a long run opens.
-const CONNECTIONS_OF_A_RUN: usize = 200;
+const CONNECTIONS_OF_A_RUN: u32 = 200;
+
+/// A part so many times.
+fn repeated(alloc: Global, times: u32, part: &[u8]) -> Result<Vec<u8>, Fail> {
+    let mut bytes = Vec::new(alloc);
+    for _ in 0..times {
+        bytes.extend_from_slice(part)?;
+    }
+    Ok(bytes)
+}
+
+/// What is handed out on so many connections, on each of which this piece comes.
+fn run_connections(alloc: Global, piece: &[u8]) -> Result<Vec<u8>, Fail> {
+    let inputs = [Input::Open, Input::Piece(piece), Input::Lose];
+    let mut all = Vec::new(alloc);
+    for _ in 0..CONNECTIONS_OF_A_RUN {
+        all.extend_from_slice(&inputs)?;
+    }
+    Ok(run_client(alloc, login()?, all.as_slice())?)
+}
 
 /// However much comes and goes, a run with ample memory hands out all of it.
 #[test]
 fn a_long_run_hands_out_every_command(rt: HostRuntime) -> Result<(), Fail> {
-    let alloc = rt.alloc();
-    let mut piece = Vec::new(alloc);
-    let mut wanted = Vec::new(alloc);
-    for _ in 0..100u32 {
-        piece.extend_from_slice(WELCOME)?;
-        piece.extend_from_slice(b"\r\n")?;
-        piece.extend_from_slice(INFO)?;
-        piece.extend_from_slice(b"\r\n")?;
-    }
-    let inputs = [Input::Open, Input::Piece(piece.as_slice()), Input::Lose];
-    let mut all = Vec::new(alloc);
-    for _ in 0..CONNECTIONS_OF_A_RUN {
-        all.extend_from_slice(&inputs)?;
-        wanted.extend_from_slice(
-            b"login fibs_client 1008 ann secret\r\nset boardstyle 3\r\nboard\r\n",
-        )?;
-    }
+    let piece = repeated(rt.alloc(), 100, GREETING)?;
     assert!(rt; piece.len() > 8000, "a long piece");
-    let bytes = run_client(alloc, login()?, all.as_slice())?;
-    assert_eq!(rt; bytes.as_slice(), wanted.as_slice());
+    let answers = b"login fibs_client 1008 ann secret\r\nset boardstyle 3\r\nboard\r\n";
+    let wanted = repeated(rt.alloc(), CONNECTIONS_OF_A_RUN, answers)?;
+    let bytes = run_connections(rt.alloc(), piece.as_slice())?;
+    assert!(rt; bytes == wanted, "each command");
     Ok(())
 }

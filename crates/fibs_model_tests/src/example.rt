@@ -116,15 +116,15 @@ fn a_caller_opens_reads_clicks_loses_and_opens_again(rt: HostRuntime) -> Result<
         &mut wire,
     )?;
     let lost = client.lose().ok_or("the roll waited")?;
-    assert!(rt;
-        lost.decision == Decision::Roll,
-        "it is the user's to roll again"
-    );
     send(&client.open().ok().ok_or("open again")?, &mut wire)?;
     assert_eq!(rt;
         wire.as_slice(),
         b"login fibs_client 1008 ann secret\r\nset boardstyle 3\r\nboard\r\nroll\r\nlogin fibs_client 1008 ann secret\r\n".as_slice()
     );
-    assert_eq!(rt; screen.as_slice(), b"message\nmessage\nboard\n".as_slice());
+    assert_eq!(rt;
+        (lost.decision, screen.as_slice()),
+        (Decision::Roll, b"message\nmessage\nboard\n".as_slice()),
+        "it is the user's to roll again"
+    );
     Ok(())
 }

@@ -6,6 +6,7 @@ use fibs_model::{Served, Server, WorldRefusal};
 use fibs_position::{Decision, Direction, PositionFault};
 use fibs_session::decision_text;
 use std::alloc::Global;
+use std::process::Abort;
 use std::test::Fail;
 
 /// A line that the server takes.
@@ -187,21 +188,35 @@ fn server(line: &[u8]) -> Result<Server, Fail> {
     Ok(Server::new(board(line)?).ok().ok_or("not good")?)
 }
 
+/// The name of the answer to a line.
+fn answer(alloc: Global, server: &mut Server, line: Line) -> Result<String, Fail> {
+    let served = serve(server, line).ok_or("connection 0")?;
+    text_of(alloc, &served)
+}
+
+/// The lines of a case are answered so, and lead to these boards.
+fn assert_served(rt: &(impl Abort + AllocGlobal), case: &Case) -> Result<(), Fail> {
+    let mut server = server(case.begins)?;
+    assert!(rt; server.logged_in() == 0, "{}", case.name);
+    let mut at = 0_u32;
+    for (line, wanted, after) in case.lines {
+        at = at.saturating_add(1);
+        let told = answer(rt.alloc(), &mut server, *line)?;
+        assert!(rt;
+            told.as_str() == *wanted,
+            "{}, line {at}: {told}",
+            case.name
+        );
+        let same = *server.board() == board(after)?;
+        assert!(rt; same, "{}: the board after line {at}", case.name);
+    }
+    Ok(())
+}
+
 #[test]
 fn lines_are_served(rt: HostRuntime) -> Result<(), Fail> {
     for case in &CASES {
-        let name = case.name;
-        let mut server = server(case.begins)?;
-        assert_eq!(rt; server.logged_in(), 0, "{name}");
-        let mut at = 0_u32;
-        for (line, answer, after) in case.lines {
-            at = at.saturating_add(1);
-            let served = serve(&mut server, *line).ok_or("connection 0")?;
-            let told = text_of(rt.alloc(), &served)?;
-            assert_eq!(rt; told.as_str(), *answer, "{name}, line {at}");
-            let same = *server.board() == board(after)?;
-            assert!(rt; same, "{name}: the board after line {at}");
-        }
+        assert_served(&rt, case)?;
     }
     Ok(())
 }
@@ -213,73 +228,90 @@ fn only_good_boards_begin(rt: HostRuntime) -> Result<(), Fail> {
         ("one of others", OF_OTHERS, Some(PositionFault::NotYou)),
         ("16 checkers", TOO_MANY, Some(PositionFault::TooManyOwn)),
     ];
-    for (name, line, fault) in boards {
-        assert_eq!(rt; Server::new(board(line)?).err(), fault, "{name}");
+    for (name, line, fault) in &boards {
+        let refused = Server::new(board(line)?).err();
+        assert!(rt; refused == *fault, "{name}");
     }
     Ok(())
+}
+
+const DECIDES: Option<WorldRefusal> = Some(WorldRefusal::UserDecides);
+
+const BAD: Option<WorldRefusal> = Some(WorldRefusal::BadBoard);
+
+/// A board before, one that the server shows of its own, and why it is refused.
+type Own = (
+    &'static str,
+    &'static [u8],
+    &'static [u8],
+    Option<WorldRefusal>,
+);
+
+static OWN: [Own; 9] = [
+    ("to roll", TO_ROLL, ONE_STEP, DECIDES),
+    ("to move", ONE_STEP, ONE_STEP, DECIDES),
+    ("to answer a double", TO_ANSWER, TO_ROLL, DECIDES),
+    ("to roll, and a board of others", TO_ROLL, OF_OTHERS, BAD),
+    ("the opponent's turn", STEPPED, TO_ROLL, None),
+    (
+        "the opponent's turn, and a board of others",
+        STEPPED,
+        OF_OTHERS,
+        BAD,
+    ),
+    (
+        "the opponent's turn, and 16 checkers",
+        STEPPED,
+        TOO_MANY,
+        BAD,
+    ),
+    ("passing", PASSING, TO_ROLL, None),
+    ("over", BORNE_OFF, TO_ROLL, None),
+];
+
+/// Whether the server greets a login, answers its own board so, has the right board then, and is logged in still.
+fn shows_its_own(row: &Own) -> Result<[bool; 4], Fail> {
+    let (_, before, own, refusal) = *row;
+    let mut server = server(before)?;
+    let greets = server.serve(3, true, b"", [1, 1]) == Served::LoggedIn;
+    let is_answered = server.own(&board(own)?).err() == refusal;
+    let stands = if refusal.is_none() { own } else { before };
+    let is_shown = *server.board() == board(stands)?;
+    Ok([greets, is_answered, is_shown, server.logged_in() == 3])
 }
 
 #[test]
 fn boards_of_its_own_come_where_the_user_does_not_decide(rt: HostRuntime) -> Result<(), Fail> {
-    let decides = Some(WorldRefusal::UserDecides);
-    let bad = Some(WorldRefusal::BadBoard);
-    let boards = [
-        ("to roll", TO_ROLL, ONE_STEP, decides),
-        ("to move", ONE_STEP, ONE_STEP, decides),
-        ("to answer a double", TO_ANSWER, TO_ROLL, decides),
-        ("to roll, and a board of others", TO_ROLL, OF_OTHERS, bad),
-        ("the opponent's turn", STEPPED, TO_ROLL, None),
-        (
-            "the opponent's turn, and a board of others",
-            STEPPED,
-            OF_OTHERS,
-            bad,
-        ),
-        (
-            "the opponent's turn, and 16 checkers",
-            STEPPED,
-            TOO_MANY,
-            bad,
-        ),
-        ("passing", PASSING, TO_ROLL, None),
-        ("over", BORNE_OFF, TO_ROLL, None),
-    ];
-    for (name, before, own, refusal) in boards {
-        let mut server = server(before)?;
+    for row in &OWN {
+        let is_right = shows_its_own(row)?;
         assert_eq!(rt;
-            server.serve(3, true, b"", [1, 1]),
-            Served::LoggedIn,
-            "{name}"
+            is_right,
+            [true; 4],
+            "login, answer, board and connection: {}",
+            row.0
         );
-        assert_eq!(rt; server.own(&board(own)?).err(), refusal, "{name}");
-        let stands = if refusal.is_none() { own } else { before };
-        let same = *server.board() == board(stands)?;
-        assert!(rt; same, "{name}: the board after it");
-        assert_eq!(rt; server.logged_in(), 3, "{name}");
     }
     Ok(())
 }
 
+/// Refusals, with their numbers and names.
+static REFUSALS: [(WorldRefusal, &str); 9] = [
+    (WorldRefusal::Memory, "1 Memory"),
+    (WorldRefusal::AlreadyOpen, "2 AlreadyOpen"),
+    (WorldRefusal::NotOpen, "3 NotOpen"),
+    (WorldRefusal::NoSuchConnection, "4 NoSuchConnection"),
+    (WorldRefusal::NothingToServe, "5 NothingToServe"),
+    (WorldRefusal::UserDecides, "6 UserDecides"),
+    (WorldRefusal::BoardAsText, "7 BoardAsText"),
+    (WorldRefusal::BadBoard, "8 BadBoard"),
+    (WorldRefusal::BadDice, "9 BadDice"),
+];
+
 #[test]
 fn refusals_have_numbers_and_names(rt: HostRuntime) -> Result<(), Fail> {
-    let rows = [
-        (WorldRefusal::Memory, 1, "Memory"),
-        (WorldRefusal::AlreadyOpen, 2, "AlreadyOpen"),
-        (WorldRefusal::NotOpen, 3, "NotOpen"),
-        (WorldRefusal::NoSuchConnection, 4, "NoSuchConnection"),
-        (WorldRefusal::NothingToServe, 5, "NothingToServe"),
-        (WorldRefusal::UserDecides, 6, "UserDecides"),
-        (WorldRefusal::BoardAsText, 7, "BoardAsText"),
-        (WorldRefusal::BadBoard, 8, "BadBoard"),
-        (WorldRefusal::BadDice, 9, "BadDice"),
-    ];
-    for (refusal, number, name) in rows {
-        assert_eq!(rt; refusal.number(), number, "{name}");
-        assert_eq!(rt;
-            format!(in rt.alloc(); "{refusal}")?.as_str(),
-            name,
-            "{number}"
-        );
+    for (refusal, wanted) in &REFUSALS {
+        let told = format!(in rt.alloc(); "{} {refusal}", refusal.number())?;
+        assert!(rt; told.as_str() == *wanted, "{wanted}: {told}");
     }
     Ok(())
 }

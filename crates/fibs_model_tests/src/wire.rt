@@ -6,34 +6,38 @@ use std::alloc::Global;
 use std::process::Abort;
 use std::test::Fail;
 
+/// Bytes, and how long their first line is, if it is whole.
+static WHOLE: [(&[u8], Option<usize>); 9] = [
+    (b"", None),
+    (b"\r\n", Some(0)),
+    (b"board\r\nroll\r\n", Some(5)),
+    (b"mov", None),
+    (b"roll\r", None),
+    (b"roll\nboard\n", None),
+    (b"a\rb\r\n", Some(3)),
+    (b"a\r\r\n", Some(2)),
+    (b"\n\r\n", Some(1)),
+];
+
 #[test]
 fn whole_lines_end_at_the_first_cr_lf(rt: HostRuntime) {
-    let rows: [(&[u8], Option<usize>); 9] = [
-        (b"", None),
-        (b"\r\n", Some(0)),
-        (b"board\r\nroll\r\n", Some(5)),
-        (b"mov", None),
-        (b"roll\r", None),
-        (b"roll\nboard\n", None),
-        (b"a\rb\r\n", Some(3)),
-        (b"a\r\r\n", Some(2)),
-        (b"\n\r\n", Some(1)),
-    ];
-    for (bytes, len) in rows {
-        assert_eq!(rt; whole_line(bytes), len, "{bytes:?}");
+    for (bytes, len) in &WHOLE {
+        assert!(rt; whole_line(bytes) == *len, "{bytes:?}");
     }
 }
 
+/// Bytes, and how many line ends they have.
+static ENDS: [(&[u8], usize); 4] = [
+    (b"", 0),
+    (b"roll", 0),
+    (b"a\r\nb\r\n\xff\n", 3),
+    (b"\n\n\n\n\n\n\n\n\n\n\n\n\n\n\n\n\n", 17),
+];
+
 #[test]
 fn line_ends_are_counted(rt: HostRuntime) {
-    let rows: [(&[u8], usize); 4] = [
-        (b"", 0),
-        (b"roll", 0),
-        (b"a\r\nb\r\n\xff\n", 3),
-        (b"\n\n\n\n\n\n\n\n\n\n\n\n\n\n\n\n\n", 17),
-    ];
-    for (bytes, ends) in rows {
-        assert_eq!(rt; line_ends(bytes), ends, "{bytes:?}");
+    for (bytes, ends) in &ENDS {
+        assert!(rt; line_ends(bytes) == *ends, "{bytes:?}");
     }
 }
 
@@ -52,57 +56,69 @@ fn take(rt: &impl Abort, wire: &mut Wire, count: usize) {
     wire.take(count);
 }
 
+/// A text that is put on a wire, how many bytes are taken then, and what is left.
+static TAKEN: [(Option<&[u8]>, usize, &[u8]); 10] = [
+    (Some(b"move"), 0, b"move\r\n"),
+    (None, 1, b"ove\r\n"),
+    (None, 1, b"ve\r\n"),
+    (None, 1, b"e\r\n"),
+    (None, 1, b"\r\n"),
+    (None, 1, b"\n"),
+    (None, 1, b""),
+    (Some(b"board"), 1, b"oard\r\n"),
+    (Some(b"roll"), 0, b"oard\r\nroll\r\n"),
+    (None, 7, b"oll\r\n"),
+];
+
 #[test]
 fn bytes_that_were_taken_are_on_a_wire_no_longer(rt: HostRuntime) -> Result<(), Fail> {
     let mut wire = Wire::new(rt.alloc());
-    wire.reserve(6)?;
-    wire.put(b"move");
-    assert_eq!(rt; wire.next(3), b"mov".as_slice());
-    assert_eq!(rt; wire.next(7), b"move\r\n".as_slice());
-    let left: [&[u8]; 6] = [b"ove\r\n", b"ve\r\n", b"e\r\n", b"\r\n", b"\n", b""];
-    for bytes in left {
-        take(&rt, &mut wire, 1);
-        assert_eq!(rt; wire.bytes(), bytes);
+    for (text, count, left) in &TAKEN {
+        if let Some(text) = text {
+            wire.reserve(text.len() + 2)?;
+            wire.put(text);
+        }
+        take(&rt, &mut wire, *count);
+        assert_eq!(rt; wire.bytes(), *left);
     }
-    wire.reserve(7)?;
-    wire.put(b"board");
-    take(&rt, &mut wire, 1);
-    wire.reserve(6)?;
-    wire.put(b"roll");
-    assert_eq!(rt; wire.bytes(), b"oard\r\nroll\r\n".as_slice());
-    take(&rt, &mut wire, 7);
-    assert_eq!(rt; wire.bytes(), b"oll\r\n".as_slice());
     Ok(())
 }
+
+#[test]
+fn the_next_bytes_are_those_that_a_wire_has(rt: HostRuntime) -> Result<(), Fail> {
+    let mut wire = Wire::with_room(rt.alloc(), 6)?;
+    wire.put(b"move");
+    let next = (wire.next(3), wire.next(7));
+    assert_eq!(rt; next, (b"mov".as_slice(), b"move\r\n".as_slice()));
+    Ok(())
+}
+
+/// How many bytes are taken, how many a cut keeps then, and what is left.
+static CUT: [(usize, usize, &[u8]); 3] = [(1, 9, b"oll\r\n"), (1, 2, b"ll"), (0, 0, b"")];
 
 #[test]
 fn a_cut_leaves_the_first_bytes_on_their_way(rt: HostRuntime) -> Result<(), Fail> {
     let mut wire = Wire::with_room(rt.alloc(), 6)?;
     wire.put(b"roll");
-    take(&rt, &mut wire, 1);
-    wire.cut(9);
-    assert_eq!(rt; wire.bytes(), b"oll\r\n".as_slice());
-    take(&rt, &mut wire, 1);
-    wire.cut(2);
-    assert_eq!(rt; wire.bytes(), b"ll".as_slice());
-    wire.cut(0);
-    assert_eq!(rt; wire.bytes(), b"".as_slice());
+    for (count, kept, left) in &CUT {
+        take(&rt, &mut wire, *count);
+        wire.cut(*kept);
+        assert_eq!(rt; wire.bytes(), *left);
+    }
     Ok(())
 }
 
-/// A part so many times, and then a line.
-fn repeated(alloc: Global, times: u32, part: &[u8], line: &[u8]) -> Result<Vec<u8>, Fail> {
+/// The text of a good board with a part so many times before it, and another at its end.
+fn framed(alloc: Global, front: (u32, &[u8]), end: (u32, &[u8])) -> Result<Vec<u8>, Fail> {
     let mut text = Vec::new(alloc);
-    for _ in 0..times {
-        text.extend_from_slice(part)?;
+    for _ in 0..front.0 {
+        text.extend_from_slice(front.1)?;
     }
-    text.extend_from_slice(line)?;
+    text.extend_from_slice(TO_ROLL)?;
+    for _ in 0..end.0 {
+        text.extend_from_slice(end.1)?;
+    }
     Ok(text)
-}
-
-/// A line, and then some bytes.
-fn joined(alloc: Global, line: &[u8], more: &[u8]) -> Result<Vec<u8>, Fail> {
-    repeated(alloc, 1, line, more)
 }
 
 #[test]
@@ -120,50 +136,65 @@ fn texts_that_are_one_line_and_no_good_board_are_none(rt: HostRuntime) -> Result
         ("a line end that a command takes", b"\xff\n", false),
         ("a line end that an option takes", b"\xff\xfb\n", false),
     ];
-    for (name, text, is) in rows {
-        assert_eq!(rt; is_board_text(text), is, "{name}");
+    for (name, text, is) in &rows {
+        assert!(rt; is_board_text(text) == *is, "{name}");
     }
     Ok(())
 }
 
+/// No part.
+const NOTHING: (u32, &[u8]) = (0, b"");
+
+/// What is before the text of a good board, what is at its end, and whether that is a board.
+static FRAMED: [(&str, (u32, &[u8]), (u32, &[u8]), bool); 16] = [
+    ("spaces at its end", NOTHING, (1, b"  "), true),
+    ("a return more at its end", NOTHING, (1, b"\r"), false),
+    ("a line more at its end", NOTHING, (1, b"\n"), true),
+    (
+        "half a command at its end, which takes the return",
+        NOTHING,
+        (1, b"\xff"),
+        true,
+    ),
+    (
+        "half an option at its end, which takes the return",
+        NOTHING,
+        (1, b"\xff\xfd"),
+        true,
+    ),
+    ("the byte 255 at its end", NOTHING, (1, b"\xff\xff"), false),
+    ("a field more at its end", NOTHING, (1, b":0"), false),
+    ("4096 spaces at its end", NOTHING, (4096, b" "), true),
+    ("16265 spaces at its end", NOTHING, (16265, b" "), true),
+    ("16266 spaces at its end", NOTHING, (16266, b" "), false),
+    ("16384 spaces at its end", NOTHING, (16384, b" "), false),
+    ("after a prompt", (1, b"> "), NOTHING, true),
+    (
+        "after prompts of both kinds",
+        (3, b"login: > "),
+        NOTHING,
+        true,
+    ),
+    ("after a command", (2, b"\xff\xf1"), NOTHING, true),
+    (
+        "after prompts up to the limit",
+        (8132, b"> "),
+        NOTHING,
+        true,
+    ),
+    (
+        "after prompts beyond the limit",
+        (8133, b"> "),
+        NOTHING,
+        false,
+    ),
+];
+
 #[test]
 fn boards_are_seen_as_the_client_reads_them(rt: HostRuntime) -> Result<(), Fail> {
-    let ends: [(&str, &[u8], bool); 7] = [
-        ("spaces", b"  ", true),
-        ("a return more", b"\r", false),
-        ("a line more", b"\n", true),
-        ("half a command, which takes the return", b"\xff", true),
-        ("half an option, which takes the return", b"\xff\xfd", true),
-        ("the byte 255", b"\xff\xff", false),
-        ("a field more", b":0", false),
-    ];
-    for (name, more, is) in ends {
-        let text = joined(rt.alloc(), TO_ROLL, more)?;
-        assert_eq!(rt;
-            is_board_text(text.as_slice()),
-            is,
-            "with {name} at its end"
-        );
-    }
-    let fronts: [(&str, u32, &[u8], bool); 5] = [
-        ("a prompt", 1, b"> ", true),
-        ("prompts of both kinds", 3, b"login: > ", true),
-        ("a command", 2, b"\xff\xf1", true),
-        ("prompts up to the limit", 8132, b"> ", true),
-        ("prompts beyond the limit", 8133, b"> ", false),
-    ];
-    for (name, times, front, is) in fronts {
-        let text = repeated(rt.alloc(), times, front, TO_ROLL)?;
-        assert_eq!(rt; is_board_text(text.as_slice()), is, "after {name}");
-    }
-    for (spaces, is) in [(4096, true), (16265, true), (16266, false), (16384, false)] {
-        let more = repeated(rt.alloc(), spaces, b" ", b"")?;
-        let text = joined(rt.alloc(), TO_ROLL, &more)?;
-        assert_eq!(rt;
-            is_board_text(text.as_slice()),
-            is,
-            "with {spaces} spaces at its end"
-        );
+    for (name, front, end, is) in &FRAMED {
+        let text = framed(rt.alloc(), *front, *end)?;
+        assert!(rt; is_board_text(text.as_slice()) == *is, "{name}");
     }
     Ok(())
 }

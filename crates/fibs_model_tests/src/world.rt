@@ -7,6 +7,7 @@ use fibs_model::{Event, World, WorldRefusal};
 use fibs_position::Decision;
 use fibs_session::Login;
 use std::alloc::Global;
+use std::process::Abort;
 use std::test::Fail;
 
 const WELCOME: &[u8] = b"1 ann 1041253132 localhost";
@@ -39,13 +40,12 @@ fn a_text_of_two_lines_may_not_be(rt: HostRuntime) -> Result<(), Fail> {
 #[test]
 fn a_long_run_is_whole(rt: HostRuntime) -> Result<(), Fail> {
     let mut world = world(rt.alloc(), TO_ROLL)?;
-    let events = [Event::Repeat; 100];
-    let end = world.run(&events);
-    assert_eq!(rt; (end.done, end.refusal), (100, None));
-    let events = [Event::Click(Decision::Roll); 1000];
-    let end = world.run(&events);
-    assert_eq!(rt; (end.done, end.refusal), (1000, None));
-    assert_eq!(rt; world.log().len(), 1000);
+    let repeated = world.run(&[Event::Repeat; 100]);
+    let clicked = world.run(&[Event::Click(Decision::Roll); 1000]);
+    let are_whole = repeated.refusal.is_none() && clicked.refusal.is_none();
+    assert!(rt; are_whole, "none is refused");
+    let counts = [repeated.done, clicked.done, world.log().len()];
+    assert_eq!(rt; counts, [100, 1000, 1000]);
     Ok(())
 }
 
@@ -76,28 +76,31 @@ fn clicked_twice() -> [Event<'static>; 14] {
     ]
 }
 
+/// Takes the events before this place step by step, and then one that is refused.
+fn assert_stepwise(rt: &impl Abort, world: &mut World, events: &[Event<'_>], refused: usize) {
+    for (place, event) in events.iter().enumerate() {
+        let wanted = if place < refused {
+            Ok(())
+        } else {
+            Err(WorldRefusal::NothingToServe)
+        };
+        assert!(rt; world.step(event) == wanted, "event {place}");
+    }
+}
+
 /// A run does the events before the first that is refused. Step by step each of them is taken, and the log is the same.
 #[test]
 fn a_run_stops_at_a_line_that_is_not_there(rt: HostRuntime) -> Result<(), Fail> {
     let events = clicked_twice();
     let mut in_a_row = world(rt.alloc(), TO_ROLL)?;
     let end = in_a_row.run(&events);
-    assert_eq!(rt;
-        (end.done, end.refusal),
-        (13, Some(WorldRefusal::NothingToServe))
-    );
+    let is_refused = end.refusal == Some(WorldRefusal::NothingToServe);
+    assert!(rt; is_refused, "there is nothing to serve");
     let mut stepwise = world(rt.alloc(), TO_ROLL)?;
-    for (place, event) in events.iter().enumerate() {
-        let wanted = if place < 13 {
-            Ok(())
-        } else {
-            Err(WorldRefusal::NothingToServe)
-        };
-        assert_eq!(rt; stepwise.step(event), wanted, "event {place}");
-    }
-    assert_eq!(rt; in_a_row.log().len(), 12);
-    assert!(rt; in_a_row.log() == stepwise.log());
-    assert!(rt; in_a_row.shown() == Some(&board(TO_MOVE)?));
+    assert_stepwise(&rt, &mut stepwise, &events, 13);
+    assert!(rt; in_a_row.log() == stepwise.log(), "the logs");
+    assert_eq!(rt; [end.done, in_a_row.log().len()], [13, 12]);
+    assert!(rt; in_a_row.shown() == Some(&board(TO_MOVE)?), "the board");
     Ok(())
 }
 
@@ -131,8 +134,8 @@ fn a_run_goes_on_under_refused_memory(rt: HostRuntime) -> Result<(), Fail> {
         end = world.run(events.get(done..).ok_or("too many are done")?);
         done = done.saturating_add(end.done);
     }
-    assert_eq!(rt; (done, end.refusal), (14, None));
-    assert_eq!(rt; world.log().len(), 12);
-    assert!(rt; world.shown() == Some(&board(ROLLED)?));
+    assert!(rt; end.refusal.is_none(), "no event is refused");
+    assert_eq!(rt; [done, world.log().len()], [14, 12]);
+    assert!(rt; world.shown() == Some(&board(ROLLED)?), "the board");
     Ok(())
 }
