@@ -98,9 +98,17 @@ pub fn check(rt: &impl Abort, cases: &[Case]) -> Result<(), Fail> {
     for case in cases {
         let board = Board::read(case.board).ok().ok_or("board")?;
         let position = Position::of(&board).ok().ok_or("position")?;
-        assert!(rt; case.is_seen(&position), "the view: {}", case.name);
-        assert!(rt; case.is_told(&position), "the phase: {}", case.name);
-        assert!(rt; case.is_carried_out(&board)?, "the effect: {}", case.name);
+        let is_right = [
+            case.is_seen(&position),
+            case.is_told(&position),
+            case.is_carried_out(&board)?,
+        ];
+        assert_eq!(rt;
+            is_right,
+            [true; 3],
+            "view, phase and effect: {}",
+            case.name
+        );
     }
     Ok(())
 }

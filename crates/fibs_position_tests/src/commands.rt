@@ -2,41 +2,51 @@
 
 use fibs_commands::{Plain, PlainFault, decision_text, plain_text, read_plain};
 use fibs_position::{Decision, Direction, Stake};
+use std::test::Fail;
+
+/// Plain commands and their texts.
+static PRINTED: [(Plain<'static>, &str); 18] = [
+    (Plain::Board, "board"),
+    (Plain::Who, "who"),
+    (Plain::Say(b"hi"), "say hi"),
+    (Plain::Say(b" "), "say  "),
+    (Plain::Tell(b"bob", b"hi"), "tell bob hi"),
+    (Plain::Shout(b"hi all"), "shout hi all"),
+    (Plain::Whisper(b"~"), "whisper ~"),
+    (Plain::Kibitz(b"well played"), "kibitz well played"),
+    (
+        Plain::Message(b"bob", b"back at 9"),
+        "message bob back at 9",
+    ),
+    (Plain::Invite(b"bob", None), "invite bob"),
+    (Plain::Invite(b"bob", Some(5)), "invite bob 5"),
+    (Plain::Invite(b"bob", Some(65535)), "invite bob 65535"),
+    (Plain::Join(None), "join"),
+    (Plain::Join(Some(b"bob")), "join bob"),
+    (Plain::ToggleReady, "toggle ready"),
+    (Plain::AutomoveOff, "toggle automove"),
+    (Plain::GreedyOff, "toggle greedy"),
+    (Plain::Bye, "bye"),
+];
+
+/// Whether a plain command has this text.
+fn is_printed(plain: &Plain<'_>, text: &str) -> bool {
+    match plain_text(plain) {
+        Ok(command) => command.as_str() == text,
+        Err(_) => false,
+    }
+}
+
+/// Whether a line is read as this plain command.
+fn is_read(line: &[u8], plain: &Plain<'_>) -> bool {
+    read_plain(line) == Some(*plain)
+}
 
 #[test]
 fn plain_commands_are_printed(rt: HostRuntime) {
-    let rows: [(Plain<'_>, &str); 18] = [
-        (Plain::Board, "board"),
-        (Plain::Who, "who"),
-        (Plain::Say(b"hi"), "say hi"),
-        (Plain::Say(b" "), "say  "),
-        (Plain::Tell(b"bob", b"hi"), "tell bob hi"),
-        (Plain::Shout(b"hi all"), "shout hi all"),
-        (Plain::Whisper(b"~"), "whisper ~"),
-        (Plain::Kibitz(b"well played"), "kibitz well played"),
-        (
-            Plain::Message(b"bob", b"back at 9"),
-            "message bob back at 9",
-        ),
-        (Plain::Invite(b"bob", None), "invite bob"),
-        (Plain::Invite(b"bob", Some(5)), "invite bob 5"),
-        (Plain::Invite(b"bob", Some(65535)), "invite bob 65535"),
-        (Plain::Join(None), "join"),
-        (Plain::Join(Some(b"bob")), "join bob"),
-        (Plain::ToggleReady, "toggle ready"),
-        (Plain::AutomoveOff, "toggle automove"),
-        (Plain::GreedyOff, "toggle greedy"),
-        (Plain::Bye, "bye"),
-    ];
-    for (plain, text) in rows {
-        match plain_text(&plain) {
-            Ok(command) => assert_eq!(rt; command.as_str(), text),
-            Err(_) => assert!(rt; false, "a plain command has no text"),
-        }
-        assert!(rt;
-            read_plain(text.as_bytes()) == Some(plain),
-            "it is read back"
-        );
+    for (plain, text) in &PRINTED {
+        assert!(rt; is_printed(plain, text), "printed: {text}");
+        assert!(rt; is_read(text.as_bytes(), plain), "read back: {text}");
     }
 }
 
@@ -48,55 +58,52 @@ fn a_name_has_no_space(rt: HostRuntime) {
 }
 
 #[test]
-fn faults_have_numbers_and_names(rt: HostRuntime) -> Result<(), std::test::Fail> {
-    let rows = [
-        (PlainFault::BadName, 1, "BadName"),
-        (PlainFault::BadText, 2, "BadText"),
-        (PlainFault::TooLong, 3, "TooLong"),
-    ];
-    for (fault, number, name) in rows {
-        assert_eq!(rt; fault.number(), number, "{name}");
-        assert_eq!(rt;
-            format!(in rt.alloc(); "{fault}")?.as_str(),
-            name,
-            "printed"
-        );
+fn faults_have_numbers_and_names(rt: HostRuntime) -> Result<(), Fail> {
+    for (fault, told) in &[
+        (PlainFault::BadName, "1 BadName"),
+        (PlainFault::BadText, "2 BadText"),
+        (PlainFault::TooLong, "3 TooLong"),
+    ] {
+        let printed = format!(in rt.alloc(); "{} {fault}", fault.number())?;
+        assert!(rt; printed.as_str() == *told, "{told}: {printed}");
     }
     Ok(())
 }
 
+/// Lines, and the plain commands that they are read as.
+static READ: [(&[u8], Plain<'static>); 20] = [
+    (b"say", Plain::Say(b"")),
+    (b"say ", Plain::Say(b"")),
+    (b"say  x", Plain::Say(b" x")),
+    (b"say a  b ", Plain::Say(b"a  b ")),
+    (b"shout \xff\n", Plain::Shout(b"\xff\n")),
+    (b"tell", Plain::Tell(b"", b"")),
+    (b"tell ", Plain::Tell(b"", b"")),
+    (b"tell bob", Plain::Tell(b"bob", b"")),
+    (b"tell bob ", Plain::Tell(b"bob", b"")),
+    (b"tell  bob hi", Plain::Tell(b"", b"bob hi")),
+    (b"tell bob  hi", Plain::Tell(b"bob", b" hi")),
+    (b"tell b:b hi there", Plain::Tell(b"b:b", b"hi there")),
+    (b"message bob", Plain::Message(b"bob", b"")),
+    (b"invite", Plain::Invite(b"", None)),
+    (b"invite ", Plain::Invite(b"", None)),
+    (b"invite bob 0", Plain::Invite(b"bob", Some(0))),
+    (b"invite bob 65535", Plain::Invite(b"bob", Some(65535))),
+    (b"invite  7", Plain::Invite(b"", Some(7))),
+    (b"join", Plain::Join(None)),
+    (b"join ", Plain::Join(Some(b""))),
+];
+
 #[test]
 fn lines_are_read_as_plain_commands_by_their_fields(rt: HostRuntime) {
-    let rows: [(&[u8], Plain<'_>); 20] = [
-        (b"say", Plain::Say(b"")),
-        (b"say ", Plain::Say(b"")),
-        (b"say  x", Plain::Say(b" x")),
-        (b"say a  b ", Plain::Say(b"a  b ")),
-        (b"shout \xff\n", Plain::Shout(b"\xff\n")),
-        (b"tell", Plain::Tell(b"", b"")),
-        (b"tell ", Plain::Tell(b"", b"")),
-        (b"tell bob", Plain::Tell(b"bob", b"")),
-        (b"tell bob ", Plain::Tell(b"bob", b"")),
-        (b"tell  bob hi", Plain::Tell(b"", b"bob hi")),
-        (b"tell bob  hi", Plain::Tell(b"bob", b" hi")),
-        (b"tell b:b hi there", Plain::Tell(b"b:b", b"hi there")),
-        (b"message bob", Plain::Message(b"bob", b"")),
-        (b"invite", Plain::Invite(b"", None)),
-        (b"invite ", Plain::Invite(b"", None)),
-        (b"invite bob 0", Plain::Invite(b"bob", Some(0))),
-        (b"invite bob 65535", Plain::Invite(b"bob", Some(65535))),
-        (b"invite  7", Plain::Invite(b"", Some(7))),
-        (b"join", Plain::Join(None)),
-        (b"join ", Plain::Join(Some(b""))),
-    ];
-    for (line, plain) in rows {
-        assert!(rt; read_plain(line) == Some(plain), "{line:?}");
+    for (line, plain) in &READ {
+        assert!(rt; is_read(line, plain), "{line:?}");
     }
 }
 
 #[test]
-fn commands_are_displayed_as_their_texts(rt: HostRuntime) -> Result<(), std::test::Fail> {
-    let rows = [
+fn commands_are_displayed_as_their_texts(rt: HostRuntime) -> Result<(), Fail> {
+    for (decision, text) in &[
         (Decision::Roll, "roll"),
         (Decision::Double, "double"),
         (Decision::Accept, "accept"),
@@ -104,10 +111,10 @@ fn commands_are_displayed_as_their_texts(rt: HostRuntime) -> Result<(), std::tes
         (Decision::Resign(Stake::Normal), "resign n"),
         (Decision::Resign(Stake::Gammon), "resign g"),
         (Decision::Resign(Stake::Backgammon), "resign b"),
-    ];
-    for (decision, text) in rows {
-        let command = decision_text(&decision, Direction::Up);
-        assert_eq!(rt; format!(in rt.alloc(); "{command}")?.as_str(), text);
+    ] {
+        let command = decision_text(decision, Direction::Up);
+        let displayed = format!(in rt.alloc(); "{command}")?;
+        assert!(rt; displayed.as_str() == *text, "{text}: {displayed}");
     }
     Ok(())
 }
@@ -115,10 +122,8 @@ fn commands_are_displayed_as_their_texts(rt: HostRuntime) -> Result<(), std::tes
 #[test]
 fn texts_are_equal_where_their_bytes_are(rt: HostRuntime) {
     let roll = decision_text(&Decision::Roll, Direction::Down);
+    let roll_up = decision_text(&Decision::Roll, Direction::Up);
     let double = decision_text(&Decision::Double, Direction::Down);
-    assert!(rt;
-        roll == decision_text(&Decision::Roll, Direction::Up),
-        "one word in both directions"
-    );
+    assert!(rt; roll == roll_up, "one word in both directions");
     assert!(rt; roll != double, "two words");
 }

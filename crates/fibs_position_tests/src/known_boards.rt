@@ -117,16 +117,20 @@ fn a_roll_leads_to_the_board_shown_next(rt: HostRuntime) -> Result<(), Fail> {
     Ok(())
 }
 
+/// The board after a hit.
+fn hit(before: &Board) -> Result<Board, Fail> {
+    let play = Choice::Move(&[(24, 18)]).decision()?;
+    Ok(effect(before, &play, [1, 1]).ok_or("effect")?)
+}
+
 /// The checker that was hit is on the bar of the opponent.
 #[test]
 fn a_hit_checker_goes_to_the_bar(rt: HostRuntime) -> Result<(), Fail> {
     let before = Board::read(BEFORE_HIT).ok().ok_or("board")?;
-    let play = Choice::Move(&[(24, 18)]).decision()?;
-    let after = effect(&before, &play, [1, 1]).ok_or("effect")?;
-    assert_eq!(rt; after.field(32), before.field(32));
+    let after = hit(&before)?;
     let position = Position::of(&after).ok().ok_or("position")?;
-    assert_eq!(rt; position.other_bar(), 1);
-    assert_eq!(rt; position.own(18), 1);
-    assert_eq!(rt; position.other(18), 0);
+    let counts = [position.other_bar(), position.own(18), position.other(18)];
+    assert_eq!(rt; counts, [1, 1, 0]);
+    assert!(rt; after.field(32) == before.field(32), "field 32");
     Ok(())
 }

@@ -58,10 +58,13 @@ fn plays_are_listed_under_refused_memory(rt: HostRuntime) -> Result<(), Fail> {
         let asked = position(row.board)?;
         if asked.plays(rt.alloc()).is_err() {
             let twin = position(row.board)?;
-            assert!(rt; are_alike(&asked, &twin));
-            assert!(rt; answer_alike(&asked, &twin));
-            assert!(rt; lists(rt.alloc(), &asked, row.plays.len())?);
-            assert!(rt; lists(rt.alloc(), &twin, row.plays.len())?);
+            let alike = [
+                are_alike(&asked, &twin),
+                answer_alike(&asked, &twin),
+                lists(rt.alloc(), &asked, row.plays.len())?,
+                lists(rt.alloc(), &twin, row.plays.len())?,
+            ];
+            assert_eq!(rt; alike, [true; 4], "{}", row.name);
         }
     }
     Ok(())

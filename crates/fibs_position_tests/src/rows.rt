@@ -3,6 +3,7 @@
 use crate::choices::Choice;
 use fibs_messages::Board;
 use fibs_position::{Decision, Disallowed, Phase, Play, Position, Stake};
+use std::alloc::Global;
 use std::test::Fail;
 
 /// The steps of a play.
@@ -169,26 +170,34 @@ fn are_listed(position: &Position, plays: &[Play], wanted: &[Steps]) -> Result<b
     Ok(plays.len() == wanted.len())
 }
 
+/// How many of these answers are given, up to the first that is not.
+fn answered(position: &Position, answers: &[(Choice, Option<Disallowed>)]) -> Result<usize, Fail> {
+    for (at, (choice, why)) in answers.iter().enumerate() {
+        if position.allows(&choice.decision()?).err() != *why {
+            return Ok(at);
+        }
+    }
+    Ok(answers.len())
+}
+
+/// Whether the row's plays are listed.
+fn lists_plays(alloc: Global, position: &Position, row: &Row) -> Result<bool, Fail> {
+    let plays = position.plays(alloc)?;
+    are_listed(position, plays.as_slice(), row.plays)
+}
+
 #[test]
 fn positions_answer_as_worked_out(rt: HostRuntime) -> Result<(), Fail> {
     for row in &ROWS {
         let position = position(row.board)?;
-        assert_eq!(rt; position.phase(), row.phase, "{}", row.name);
-        assert_eq!(rt; position.most_dice(), row.most, "{}", row.name);
-        let plays = position.plays(rt.alloc())?;
-        assert!(rt;
-            are_listed(&position, plays.as_slice(), row.plays)?,
-            "{}",
-            row.name
-        );
-        for (choice, why) in row.answers {
-            assert_eq!(rt;
-                position.allows(&choice.decision()?).err(),
-                *why,
-                "{}",
-                row.name
-            );
-        }
+        let is_right = [
+            position.phase() == row.phase,
+            position.most_dice() == row.most,
+            lists_plays(rt.alloc(), &position, row)?,
+        ];
+        assert_eq!(rt; is_right, [true; 3], "phase, dice and plays: {}", row.name);
+        let count = answered(&position, row.answers)?;
+        assert!(rt; count == row.answers.len(), "answer {count}: {}", row.name);
     }
     Ok(())
 }

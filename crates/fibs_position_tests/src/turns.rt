@@ -35,37 +35,59 @@ fn arrangement(own: &[(usize, u8)], other: &[(usize, u8)]) -> Result<Arrangement
     Ok(Arrangement::new(counts(own, 0), counts(other, 25)).ok_or("counts")?)
 }
 
-/// The one play of a turn is that of no step, and none of the others is legal.
-fn stands_still(alloc: Global, turn: &Turn, refused: &[&[(u8, u8)]]) -> Result<bool, Fail> {
+/// A turn in which no checker can move, and plays that are not legal in it.
+struct Still {
+    name: &'static str,
+    own: &'static [(usize, u8)],
+    other: &'static [(usize, u8)],
+    dice: [u8; 2],
+    refused: &'static [&'static [(u8, u8)]],
+}
+
+static STILL: [Still; 2] = [
+    Still {
+        name: "no die is shown",
+        own: &[(24, 2)],
+        other: &[],
+        dice: [0, 0],
+        refused: &[&[(24, 23)]],
+    },
+    Still {
+        name: "no entry",
+        own: &[(25, 1), (6, 14)],
+        other: &[(19, 2), (20, 2), (21, 2), (22, 2), (23, 2), (24, 2)],
+        dice: [3, 1],
+        refused: &[&[(6, 5), (6, 3)], &[(25, 24)]],
+    },
+];
+
+/// The one play of a turn is that of no step.
+fn stands_still(alloc: Global, turn: &Turn) -> Result<bool, Fail> {
     let none = Play::new();
     let plays = turn.plays(alloc)?;
-    for found in &plays {
-        if *found != none {
-            return Ok(false);
-        }
-    }
-    for steps in refused {
+    let is_none = plays.as_slice() == [none].as_slice();
+    Ok(is_none && turn.is_legal(&none) && turn.most_dice() == 0 && !turn.can_move())
+}
+
+/// None of the plays is legal.
+fn are_refused(turn: &Turn, plays: &[&[(u8, u8)]]) -> Result<bool, Fail> {
+    for steps in plays {
         if turn.is_legal(&play(steps)?) {
             return Ok(false);
         }
     }
-    Ok(plays.len() == 1 && turn.is_legal(&none) && turn.most_dice() == 0 && !turn.can_move())
+    Ok(true)
 }
 
 /// Without a die that can be played there is a play still, which no list of a board has.
 #[test]
 fn where_no_checker_can_move_the_play_has_no_step(rt: HostRuntime) -> Result<(), Fail> {
-    let unthrown = Turn::new(arrangement(&[(24, 2)], &[])?, 0, 0);
-    assert!(rt;
-        stands_still(rt.alloc(), &unthrown, &[&[(24, 23)]])?,
-        "no die is shown"
-    );
-    let held = [(19, 2), (20, 2), (21, 2), (22, 2), (23, 2), (24, 2)];
-    let barred = Turn::new(arrangement(&[(25, 1), (6, 14)], &held)?, 3, 1);
-    assert!(rt;
-        stands_still(rt.alloc(), &barred, &[&[(6, 5), (6, 3)], &[(25, 24)]])?,
-        "no entry"
-    );
+    for row in &STILL {
+        let [one, other] = row.dice;
+        let turn = Turn::new(arrangement(row.own, row.other)?, one, other);
+        let is_right = stands_still(rt.alloc(), &turn)? && are_refused(&turn, row.refused)?;
+        assert!(rt; is_right, "{}", row.name);
+    }
     Ok(())
 }
 
@@ -73,23 +95,32 @@ fn where_no_checker_can_move_the_play_has_no_step(rt: HostRuntime) -> Result<(),
 fn a_play_has_four_steps(rt: HostRuntime) -> Result<(), Fail> {
     let mut play = Play::new();
     let step = Step::new(24, 18).ok_or("step")?;
-    for _ in 0..4 {
-        assert!(rt; play.push(step), "there is room");
-    }
+    let pushed = [
+        play.push(step),
+        play.push(step),
+        play.push(step),
+        play.push(step),
+    ];
     let full = play;
-    assert!(rt; !play.push(step), "there are four");
-    assert!(rt; play == full, "and four are left");
+    let fifth = play.push(step);
+    assert_eq!(rt; (pushed, fifth, play), ([true; 4], false, full));
     Ok(())
 }
 
-/// A step as the server carries it out, which asks for no dice.
+/// Where a step leads, as the server carries it out, which asks for no dice.
+fn leads_to(start: &Arrangement, source: u8, target: u8) -> Result<Option<Arrangement>, Fail> {
+    let step = Step::new(source, target).ok_or("step")?;
+    Ok(start.carried_out(&[step]))
+}
+
 #[test]
 fn carried_out(rt: HostRuntime) -> Result<(), Fail> {
     let start = arrangement(&[(24, 2)], &[(18, 1), (12, 2)])?;
     let hit = arrangement(&[(24, 1), (18, 1)], &[(0, 1), (12, 2)])?;
-    for (source, target, leads) in [(24, 18, Some(hit)), (24, 12, None), (20, 19, None)] {
-        let step = Step::new(source, target).ok_or("step")?;
-        assert!(rt; start.carried_out(&[step]) == leads, "{source} to {target}");
+    assert!(rt; leads_to(&start, 24, 18)? == Some(hit), "24 to 18");
+    for (source, target) in &[(24, 12), (20, 19)] {
+        let is_none = leads_to(&start, *source, *target)?.is_none();
+        assert!(rt; is_none, "{source} to {target}");
     }
     Ok(())
 }
