@@ -1,11 +1,13 @@
 //! A client at its connection, for the tests of turns.
-ghost use Rattle.std.specs.Prelude.{true};
-ghost use Rattle.fibs_exchange.specs.Turns.Turn.{FitsStream, still_given};
+ghost use Rattle.std.specs.Prelude.{◌≡◌, true};
+ghost use Rattle.fibs_exchange.specs.Turns.Turn.{FitsStream};
 
-use fibs_exchange::{Ending, exchange};
+use fibs_exchange::{Ending, ExchangeFault, exchange};
+use fibs_links::link::Link;
 use fibs_session::{Client, Directory, Login};
 use fibs_test_tools::pipe::{After, Pipe, QUIET};
 use fibs_test_tools::text::{TEXT_ROOM, Text, joined};
+use std::io::{ErrorKind, Write};
 use std::process::Abort;
 
 /// A client that has opened a connection.
@@ -21,17 +23,23 @@ pub fn opened(rt: &impl Abort) -> Client
 /// How a turn ended, in a word.
 #[derive(Clone, Copy, Debug, PartialEq, Eq)]
 pub enum Kind {
+    /// Nothing more has come yet.
     Quiet,
+    /// The connection is over.
     Lost,
+    /// The connection is over, and a decision was not confirmed on it.
     LostWaiting,
+    /// What is printed could not be written.
+    Unprinted,
 }
 
-pub fn kind_of(ending: &Ending) -> Kind {
-    match ending {
-        Ending::Quiet => Kind::Quiet,
-        Ending::Lost(None) => Kind::Lost,
-        Ending::Lost(Some(_)) => Kind::LostWaiting,
+/// These bytes, so many times.
+pub fn repeated(bytes: &[u8], times: usize) -> Text {
+    let mut text = Text::new();
+    for _ in 0..times {
+        let _fits = text.try_extend_from_slice(bytes);
     }
+    text
 }
 
 /// Whether the bytes are these parts, one after another.
@@ -44,6 +52,26 @@ pub fn is_made_of(bytes: &[u8], parts: &[&[u8]]) -> bool {
         }
     }
     rest.is_empty()
+}
+
+/// A turn after which the connection goes on. What the server sends is in parts.
+#[derive(Clone, Copy)]
+pub enum Step<'a> {
+    /// The server sends this.
+    Hears(&'a [&'a [u8]]),
+    /// A line is typed, and then the server sends this.
+    Types(&'a [u8], &'a [&'a [u8]]),
+}
+
+/// A last turn: what is typed, what the server sends, in parts, what follows that, how many bytes the stream takes, and
+/// how the turn ends.
+#[derive(Clone, Copy)]
+pub struct Last<'a> {
+    pub typed: Option<&'a [u8]>,
+    pub heard: &'a [&'a [u8]],
+    pub after: After,
+    pub room: usize,
+    pub kind: Kind,
 }
 
 /// A client on one connection, the players that it knows, and what it has sent and printed. A stream gives it at most
@@ -71,97 +99,125 @@ impl Seat {
         }
     }
 
-    /// One turn with a stream.
-    pub fn turn_on(&mut self, rt: &impl Abort, pipe: &mut Pipe<'_>, typed: Option<&[u8]>) -> Ending
-        requires { FitsStream self.old.client true }
-        ensures { FitsStream self.new.client (still_given result true) }
-    {
-        let mut out = Pipe::new(b"", 1, After::End, TEXT_ROOM);
-        let outcome = exchange(
-            &mut self.client,
-            &mut self.directory,
-            Some(pipe),
-            typed,
-            &mut out,
-        );
-        let _fits = self.printed.try_extend_from_slice(out.output());
-        outcome.expect(rt, "there is room for what is printed")
-    }
-
-    /// One turn: what is typed, what the server sends, in parts, what follows that, and how many bytes the stream
-    /// takes.
-    pub fn turn(
+    /// One turn with a stream and a writer. It notes nothing of what is sent and printed.
+    pub fn turn_on<S: Link, W: Write>(
         &mut self,
-        rt: &impl Abort,
+        stream: &mut S,
         typed: Option<&[u8]>,
-        parts: &[&[u8]],
-        after: After,
-        room: usize,
-    ) -> Ending
+        out: &mut W,
+    ) -> Kind
         requires { FitsStream self.old.client true }
-        ensures { FitsStream self.new.client (still_given result true) }
+        ensures { result ≡ Kind.Quiet → FitsStream self.new.client true }
     {
-        let input = joined(parts);
-        let mut pipe = Pipe::new(&input, self.most, after, room);
-        let ending = self.turn_on(rt, &mut pipe, typed);
-        let _fits = self.sent.try_extend_from_slice(pipe.output());
-        ending
-    }
-
-    /// A turn that ends so.
-    pub fn turn_to(
-        &mut self,
-        rt: &impl Abort,
-        kind: Kind,
-        typed: Option<&[u8]>,
-        parts: &[&[u8]],
-        after: After,
-        room: usize,
-    )
-        requires { FitsStream self.old.client true }
-    {
-        let ending = self.turn(rt, typed, parts, after, room);
-        assert_eq!(rt; kind_of(&ending), kind);
-    }
-
-    /// A turn after which the connection goes on.
-    fn quiet_turn(&mut self, rt: &impl Abort, typed: Option<&[u8]>, parts: &[&[u8]])
-        requires { FitsStream self.old.client true }
-        ensures { FitsStream self.new.client true }
-    {
-        match self.turn(rt, typed, parts, QUIET, 4096) {
-            Ending::Quiet => {}
-            Ending::Lost(_) => panic!(rt; "the turn is not quiet"),
+        let (client, directory) = (&mut self.client, &mut self.directory);
+        match exchange(client, directory, Some(stream), typed, out) {
+            Ok(Ending::Quiet) => Kind::Quiet,
+            Ok(Ending::Lost(None)) => Kind::Lost,
+            Ok(Ending::Lost(Some(_))) => Kind::LostWaiting,
+            Err(ExchangeFault::Output) => Kind::Unprinted,
         }
     }
 
-    /// What the server sends, before it is quiet.
-    pub fn hears(&mut self, rt: &impl Abort, parts: &[&[u8]])
+    /// One turn with a stream in memory. It notes what is printed.
+    pub fn turn_with(&mut self, pipe: &mut Pipe<'_>, typed: Option<&[u8]>) -> Kind
         requires { FitsStream self.old.client true }
-        ensures { FitsStream self.new.client true }
+        ensures { result ≡ Kind.Quiet → FitsStream self.new.client true }
     {
-        self.quiet_turn(rt, None, parts)
+        let mut out = Pipe::new(b"", 1, After::End, TEXT_ROOM);
+        let kind = self.turn_on(pipe, typed, &mut out);
+        let _fits = self.printed.try_extend_from_slice(out.output());
+        kind
     }
 
-    /// What is typed, and what the server sends then.
-    pub fn types(&mut self, rt: &impl Abort, typed: &[u8], parts: &[&[u8]])
+    /// One turn: what is typed, what the server sends, in parts, what follows that, and how many bytes the stream
+    /// takes. It notes what is sent and printed.
+    fn turn(&mut self, typed: Option<&[u8]>, parts: &[&[u8]], after: After, room: usize) -> Kind
+        requires { FitsStream self.old.client true }
+        ensures { result ≡ Kind.Quiet → FitsStream self.new.client true }
+    {
+        let input = joined(parts);
+        let mut pipe = Pipe::new(&input, self.most, after, room);
+        let kind = self.turn_with(&mut pipe, typed);
+        let _fits = self.sent.try_extend_from_slice(pipe.output());
+        kind
+    }
+
+    /// Takes a step. A read that comes after what the server sends fails so.
+    fn take(&mut self, rt: &impl Abort, step: Step<'_>, after: After)
         requires { FitsStream self.old.client true }
         ensures { FitsStream self.new.client true }
     {
-        self.quiet_turn(rt, Some(typed), parts)
+        let (typed, parts) = match step {
+            Step::Hears(parts) => (None, parts),
+            Step::Types(typed, parts) => (Some(typed), parts),
+        };
+        let kind = self.turn(typed, parts, after, 4096);
+        assert!(rt; matches!(kind, Kind::Quiet), "the turn is not quiet");
+    }
+
+    /// Takes steps one after another.
+    pub fn follow(&mut self, rt: &impl Abort, steps: &[Step<'_>], after: After)
+        requires { FitsStream self.old.client true }
+        ensures { FitsStream self.new.client true }
+    {
+        for step in steps {
+            self.take(rt, *step, after);
+        }
     }
 
     /// Asserts what was sent and printed in all, each in parts.
     pub fn assert_did(&self, rt: &impl Abort, name: &str, sent: &[&[u8]], printed: &[&[u8]]) {
         assert!(rt;
-            is_made_of(&self.sent, sent),
-            "{name}: sent {:?}",
-            self.sent.as_slice()
-        );
-        assert!(rt;
-            is_made_of(&self.printed, printed),
-            "{name}: printed {:?}",
+            is_made_of(&self.sent, sent) && is_made_of(&self.printed, printed),
+            "{name}: sent {:?}, printed {:?}",
+            self.sent.as_slice(),
             self.printed.as_slice()
         );
     }
+}
+
+/// Ways in which what the server sends is cut: how many bytes a read gives at most, and how one fails that finds
+/// nothing more.
+const CUTS: [(usize, After); 8] = [
+    (1, QUIET),
+    (2, QUIET),
+    (7, QUIET),
+    (1000, QUIET),
+    (1, After::Fails(ErrorKind::TimedOut)),
+    (2, After::Fails(ErrorKind::TimedOut)),
+    (7, After::Fails(ErrorKind::TimedOut)),
+    (1000, After::Fails(ErrorKind::TimedOut)),
+];
+
+/// Asserts what is sent and printed in a conversation, each in parts, and how its last turn ends, if there is one.
+pub fn assert_talk(
+    rt: &(impl Abort + AllocGlobal),
+    name: &str,
+    steps: &[Step<'_>],
+    last: Option<Last<'_>>,
+    sent: &[&[u8]],
+    printed: &[&[u8]],
+) {
+    for cut in CUTS {
+        assert_cut(rt, cut, name, steps, last, sent, printed);
+    }
+}
+
+/// The same if what the server sends is cut so.
+fn assert_cut(
+    rt: &(impl Abort + AllocGlobal),
+    (most, after): (usize, After),
+    name: &str,
+    steps: &[Step<'_>],
+    last: Option<Last<'_>>,
+    sent: &[&[u8]],
+    printed: &[&[u8]],
+) {
+    let mut seat = Seat::open(rt, most);
+    seat.follow(rt, steps, after);
+    if let Some(last) = last {
+        let kind = seat.turn(last.typed, last.heard, last.after, last.room);
+        assert_eq!(rt; kind, last.kind, "{name}");
+    }
+    seat.assert_did(rt, name, sent, printed);
 }

@@ -1,6 +1,6 @@
 //! Turns of a client with a stream in memory.
-use super::connected::{Kind, Seat, is_made_of, kind_of, opened};
-use fibs_exchange::{Ending, ExchangeFault, exchange};
+use super::connected::{Kind, Last, Seat, Step, assert_talk, is_made_of, repeated};
+use fibs_exchange::{Ending, exchange};
 use fibs_messages::{Reading, read as read_line};
 use fibs_session::{Client, Directory, Login};
 use fibs_test_tools::devices::FailsOnce;
@@ -45,21 +45,21 @@ const WATCHED: &[u8] =
     b"board:ann:bob:3:0:1:0:-2:0:0:0:0:5:0:3:0:0:0:-5:5:0:0:0:-3:0:-5:0:0:0:0:2:0";
 
 /// What the server sends until the client is ready, what is sent then, and what is printed.
-const READY: &[u8] = b"1 ann 1041253132 localhost\r\n\
+static READY: &[u8] = b"1 ann 1041253132 localhost\r\n\
     2 ann 1 1 0 0 0 0 1 1 10 0 1 0 1 1500.00 0 0 0 0 0 UTC\r\n\
     board:You:bob:3:0:1:0:-2:0:0:0:0:5:0:3:0:0:0:-5:5:0:0:0:-3:0:-5:0:0:0:0:2:0\
     :1:0:0:0:0:1:1:1:0:1:-1:0:25:0:0:0:0:0:0:0:0\r\n";
 
 const SENT: &[u8] = b"set boardstyle 3\r\nboard\r\n";
 
-const PRINTED: &[u8] = b"message 1 ann 1041253132 localhost\n\
+static PRINTED: &[u8] = b"message 1 ann 1041253132 localhost\n\
     message 2 ann 1 1 0 0 0 0 1 1 10 0 1 0 1 1500.00 0 0 0 0 0 UTC\n\
     board:You:bob:3:0:1:0:-2:0:0:0:0:5:0:3:0:0:0:-5:5:0:0:0:-3:0:-5:0:0:0:0:2:0\
     :1:0:0:0:0:1:1:1:0:1:-1:0:25:0:0:0:0:0:0:0:0\n\
     phase RollOrDouble\n";
 
 /// What the server sends, what is sent to it, and what is printed.
-static ANSWERED: [(&str, &[&[u8]], &[u8], &[&[u8]]); 7] = [
+static ANSWERED: [(&str, &[&[u8]], &[u8], &[&[u8]]); 6] = [
     (
         "a welcome",
         &[WELCOME, END],
@@ -79,7 +79,6 @@ static ANSWERED: [(&str, &[&[u8]], &[u8], &[&[u8]]); 7] = [
             LF,
         ],
     ),
-    ("a board of one who plays", &[READY], SENT, &[PRINTED]),
     (
         "a board of a game that is watched",
         &[WATCHED, TO_ROLL, END],
@@ -109,15 +108,22 @@ static ANSWERED: [(&str, &[&[u8]], &[u8], &[&[u8]]); 7] = [
 ];
 
 #[test]
+fn a_board_of_one_who_plays_is_printed(rt: HostRuntime) {
+    let steps = [Step::Hears(&[READY])];
+    assert_talk(
+        &rt,
+        "a board of one who plays",
+        &steps,
+        None,
+        &[SENT],
+        &[PRINTED],
+    );
+}
+
+#[test]
 fn lines_are_answered_and_printed(rt: HostRuntime) {
     for (name, parts, sent, printed) in &ANSWERED {
-        for most in [1, 2, 7, 1000] {
-            for after in [QUIET, After::Fails(ErrorKind::TimedOut)] {
-                let mut seat = Seat::open(&rt, most);
-                seat.turn_to(&rt, Kind::Quiet, None, parts, after, 4096);
-                seat.assert_did(&rt, name, &[sent], printed);
-            }
-        }
+        assert_talk(&rt, name, &[Step::Hears(parts)], None, &[sent], printed);
     }
 }
 
@@ -159,26 +165,26 @@ static NOT_SHOWN: [(&str, &[&[u8]], &[u8], &[&[u8]]); 2] = [
 #[test]
 fn a_board_within_a_line_is_not_shown(rt: HostRuntime) {
     for (name, parts, sent, printed) in &NOT_SHOWN {
-        for most in [1, 2, 7, 1000] {
-            let mut seat = Seat::open(&rt, most);
-            seat.hears(&rt, parts);
-            seat.types(&rt, b"roll", &[]);
-            seat.assert_did(&rt, name, &[sent], printed);
-        }
+        let steps = [Step::Hears(parts), Step::Types(b"roll", &[])];
+        assert_talk(&rt, name, &steps, None, &[sent], printed);
     }
 }
 
 #[test]
 fn a_line_may_come_in_three_turns(rt: HostRuntime) {
-    let mut seat = Seat::open(&rt, 1000);
-    seat.hears(&rt, &[b"1 ann 10412"]);
-    seat.hears(&rt, &[b"53132 local"]);
-    seat.hears(&rt, &[b"host\r\n"]);
-    seat.assert_did(
+    let steps = [
+        Step::Hears(&[b"1 ann 10412"]),
+        Step::Hears(&[b"53132 local"]),
+        Step::Hears(&[b"host\r\n"]),
+    ];
+    let printed = b"message 1 ann 1041253132 localhost\n";
+    assert_talk(
         &rt,
         "a line in three turns",
+        &steps,
+        None,
         &[b"set boardstyle 3\r\n"],
-        &[b"message 1 ann 1041253132 localhost\n"],
+        &[printed],
     );
 }
 
@@ -209,23 +215,27 @@ static TYPED: [(&[u8], &[u8], &[u8]); 19] = [
 #[test]
 fn typed_lines_are_answered(rt: HostRuntime) {
     for (typed, command, answer) in &TYPED {
-        for most in [1, 2, 7, 1000] {
-            let mut seat = Seat::open(&rt, most);
-            seat.hears(&rt, &[READY]);
-            seat.types(&rt, typed, &[b"hi\r\n"]);
-            seat.assert_did(
-                &rt,
-                "a typed line",
-                &[SENT, command],
-                &[PRINTED, answer, b"text hi\n"],
-            );
-        }
+        let steps = [Step::Hears(&[READY]), Step::Types(typed, &[b"hi\r\n"])];
+        let printed = [PRINTED, answer, b"text hi\n"];
+        assert_talk(
+            &rt,
+            "a typed line",
+            &steps,
+            None,
+            &[SENT, command],
+            &printed,
+        );
     }
 }
 
 #[test]
 fn a_decision_waits_for_its_board(rt: HostRuntime) {
-    let answers: &[&[u8]] = &[
+    let steps = [
+        Step::Hears(&[READY]),
+        Step::Types(b"roll", &[BOARD, TO_ROLL, END]),
+        Step::Types(b"roll", &[BOARD, ROLLED, END]),
+    ];
+    let printed: [&[u8]; 8] = [
         PRINTED,
         b"sent roll\n",
         BOARD,
@@ -235,31 +245,35 @@ fn a_decision_waits_for_its_board(rt: HostRuntime) {
         ROLLED,
         b"\nphase Move\nconfirmed roll\n",
     ];
-    for most in [1, 2, 7, 1000] {
-        let mut seat = Seat::open(&rt, most);
-        seat.hears(&rt, &[READY]);
-        seat.types(&rt, b"roll", &[BOARD, TO_ROLL, END]);
-        seat.types(&rt, b"roll", &[BOARD, ROLLED, END]);
-        seat.assert_did(
-            &rt,
-            "a decision that is confirmed",
-            &[SENT, b"roll\r\n"],
-            answers,
-        );
-    }
+    assert_talk(
+        &rt,
+        "a decision that is confirmed",
+        &steps,
+        None,
+        &[SENT, b"roll\r\n"],
+        &printed,
+    );
 }
 
 #[test]
 fn a_decision_that_waits_is_lost_with_its_connection(rt: HostRuntime) {
     for after in [After::End, FAULT] {
-        let mut seat = Seat::open(&rt, 7);
-        seat.hears(&rt, &[READY]);
-        seat.turn_to(&rt, Kind::LostWaiting, Some(b"roll"), &[], after, 4096);
-        seat.assert_did(
+        let last = Last {
+            typed: Some(b"roll"),
+            heard: &[],
+            after,
+            room: 4096,
+            kind: Kind::LostWaiting,
+        };
+        let printed = [PRINTED, b"sent roll\nlost roll\n"];
+        let steps = [Step::Hears(&[READY])];
+        assert_talk(
             &rt,
             "a decision that is lost",
+            &steps,
+            Some(last),
             &[SENT, b"roll\r\n"],
-            &[PRINTED, b"sent roll\nlost roll\n"],
+            &printed,
         );
     }
 }
@@ -283,7 +297,15 @@ static PLAYS: [(&[u8], Kind, &[u8], &[u8]); 2] = [
 /// Plays are typed and printed in the place numbers of the board shown, here that of a player who goes up.
 #[test]
 fn plays_are_in_the_numbers_of_the_board(rt: HostRuntime) {
+    let steps = [Step::Hears(&[WELCOME, END, INFO, END, GOING_UP, END])];
     for (typed, kind, sent, answer) in &PLAYS {
+        let last = Last {
+            typed: Some(*typed),
+            heard: &[],
+            after: FAULT,
+            room: 4096,
+            kind: *kind,
+        };
         let printed = [
             b"message ",
             WELCOME,
@@ -294,12 +316,7 @@ fn plays_are_in_the_numbers_of_the_board(rt: HostRuntime) {
             GOING_UP,
             answer,
         ];
-        for most in [1, 2, 7, 1000] {
-            let mut seat = Seat::open(&rt, most);
-            seat.hears(&rt, &[WELCOME, END, INFO, END, GOING_UP, END]);
-            seat.turn_to(&rt, *kind, Some(typed), &[], FAULT, 4096);
-            seat.assert_did(&rt, "a play", &[sent], &printed);
-        }
+        assert_talk(&rt, "a play", &steps, Some(last), &[sent], &printed);
     }
 }
 
@@ -307,16 +324,27 @@ fn plays_are_in_the_numbers_of_the_board(rt: HostRuntime) {
 #[test]
 fn each_write_that_fails_ends_the_connection(rt: HostRuntime) {
     let wanted: &[u8] = b"set boardstyle 3\r\ntoggle autoboard\r\nboard\r\n";
-    let input: &[&[u8]] = &[WELCOME, END, INFO_WITHOUT_BOARDS, END];
     for room in 0..wanted.len() {
-        let mut seat = Seat::open(&rt, 1000);
-        seat.turn_to(&rt, Kind::Lost, None, input, QUIET, room);
+        let last = Last {
+            typed: None,
+            heard: &[WELCOME, END, INFO_WITHOUT_BOARDS, END],
+            after: QUIET,
+            room,
+            kind: Kind::Lost,
+        };
         let printed: &[&[u8]] = if room < 18 {
             &[b"lost\n"]
         } else {
             &[b"message ", WELCOME, b"\nlost\n"]
         };
-        seat.assert_did(&rt, "a write that fails", &[&wanted[..room]], printed);
+        assert_talk(
+            &rt,
+            "a write that fails",
+            &[],
+            Some(last),
+            &[&wanted[..room]],
+            printed,
+        );
     }
 }
 
@@ -324,36 +352,57 @@ fn each_write_that_fails_ends_the_connection(rt: HostRuntime) {
 #[test]
 fn a_decision_that_is_not_written_is_lost(rt: HostRuntime) {
     for sent in [b"".as_slice(), b"r", b"ro", b"rol", b"roll", b"roll\r"] {
-        let mut seat = Seat::open(&rt, 1000);
-        seat.hears(&rt, &[READY]);
-        seat.turn_to(
-            &rt,
-            Kind::LostWaiting,
-            Some(b"roll"),
-            &[],
-            QUIET,
-            sent.len(),
-        );
-        seat.assert_did(
+        let last = Last {
+            typed: Some(b"roll"),
+            heard: &[],
+            after: QUIET,
+            room: sent.len(),
+            kind: Kind::LostWaiting,
+        };
+        let printed = [PRINTED, b"lost roll\n"];
+        let steps = [Step::Hears(&[READY])];
+        assert_talk(
             &rt,
             "a decision not written",
+            &steps,
+            Some(last),
             &[SENT, sent],
-            &[PRINTED, b"lost roll\n"],
+            &printed,
         );
     }
 }
 
 /// The stream ends, or a read fails, after each byte of a line.
+fn assert_cut_off(rt: &(impl Abort + AllocGlobal), line: &[u8], after: After) {
+    for length in 0..line.len() + 1 {
+        assert_lost_after(rt, &line[..length], after);
+    }
+}
+
+/// The connection is lost after these bytes, which end no line, and nothing else is printed.
+fn assert_lost_after(rt: &(impl Abort + AllocGlobal), bytes: &[u8], after: After) {
+    let last = Last {
+        typed: None,
+        heard: &[bytes],
+        after,
+        room: 4096,
+        kind: Kind::Lost,
+    };
+    assert_talk(
+        rt,
+        "a line that is cut off",
+        &[],
+        Some(last),
+        &[],
+        &[b"lost\n"],
+    );
+}
+
 #[test]
 fn each_read_that_fails_ends_the_connection(rt: HostRuntime) {
     for line in [WELCOME, INFO, OPENING, PLAYER] {
-        for length in 0..line.len() + 1 {
-            for after in [After::End, FAULT] {
-                let mut seat = Seat::open(&rt, 7);
-                seat.turn_to(&rt, Kind::Lost, None, &[&line[..length]], after, 4096);
-                seat.assert_did(&rt, "a line that is cut off", &[], &[b"lost\n"]);
-            }
-        }
+        assert_cut_off(&rt, line, After::End);
+        assert_cut_off(&rt, line, FAULT);
     }
 }
 
@@ -371,45 +420,53 @@ static READ_ERRORS: [(ErrorKind, Kind, &[u8]); 6] = [
 #[test]
 fn errors_of_reads_are_told_apart(rt: HostRuntime) {
     for (error, kind, printed) in &READ_ERRORS {
-        let mut seat = Seat::open(&rt, 7);
-        let after = After::Fails(*error);
-        seat.turn_to(&rt, *kind, None, &[b"hi\r\n"], after, 4096);
-        seat.assert_did(&rt, "a read that fails", &[], &[printed]);
+        let last = Last {
+            typed: None,
+            heard: &[b"hi\r\n"],
+            after: After::Fails(*error),
+            room: 4096,
+            kind: *kind,
+        };
+        assert_talk(&rt, "a read that fails", &[], Some(last), &[], &[printed]);
     }
 }
 
-/// Whether a turn up to the first board fails if so many bytes may be printed, what is printed, and whether the client
-/// shows a board then.
-fn printed_into(rt: &(impl Abort + AllocGlobal), room: usize) -> (bool, Text, bool) {
-    let mut client = opened(rt);
-    let mut directory = Directory::new(rt.alloc());
-    let mut pipe = Pipe::new(READY, 1000, QUIET, 100);
+/// How a turn ends if so many bytes may be printed, what is printed, and whether the client shows a board then.
+fn printed_into(rt: &(impl Abort + AllocGlobal), heard: &[u8], room: usize) -> (Kind, Text, bool) {
+    let mut seat = Seat::open(rt, 1000);
+    let mut pipe = Pipe::new(heard, 1000, QUIET, 100);
     let mut out = Pipe::new(b"", 1, After::End, room);
-    let outcome = exchange(&mut client, &mut directory, Some(&mut pipe), None, &mut out);
-    let failed = matches!(outcome, Err(ExchangeFault::Output));
-    (failed, text_of(out.output()), client.shown().is_some())
+    let kind = seat.turn_on(&mut pipe, None, &mut out);
+    (kind, text_of(out.output()), seat.client.shown().is_some())
 }
 
-/// The writer of the printed lines fails after each byte. The client has heard the lines up to the one that fails, so
-/// that it shows the board if the lines before it were printed.
+/// A turn up to the first board, if so many bytes may be printed. The client has heard the lines up to the one that
+/// fails, so that it shows the board if the lines before it were printed.
+fn assert_printed(
+    rt: &(impl Abort + AllocGlobal),
+    heard: &[u8],
+    wanted: &[u8],
+    before: usize,
+    room: usize,
+) {
+    let (kind, printed, shows) = printed_into(rt, heard, room);
+    let is_stopped = kind == Kind::Unprinted && room < wanted.len();
+    let is_whole = kind == Kind::Quiet && room == wanted.len();
+    let is_front = wanted.get(..room) == Some(printed.as_slice());
+    assert!(rt;
+        (is_stopped || is_whole) && is_front && shows == (before <= room),
+        "at {room}: {kind:?}, shows {shows}, printed {:?}",
+        printed.as_slice()
+    );
+}
+
+/// The writer of the printed lines fails after each byte.
 #[test]
 fn each_print_that_fails_stops_the_turn(rt: HostRuntime) {
     let before = WELCOME.len() + INFO.len() + 2 * b"message \n".len();
     for room in 0..PRINTED.len() + 1 {
-        let (failed, printed, shows) = printed_into(&rt, room);
-        assert_eq!(rt; failed, room < PRINTED.len(), "at {room}");
-        assert_eq!(rt; printed.as_slice(), &PRINTED[..room], "at {room}");
-        assert_eq!(rt; shows, before <= room, "at {room}");
+        assert_printed(&rt, READY, PRINTED, before, room);
     }
-}
-
-/// These bytes, so many times.
-fn repeated(bytes: &[u8], times: usize) -> Text {
-    let mut text = Text::new();
-    for _ in 0..times {
-        let _fits = text.try_extend_from_slice(bytes);
-    }
-    text
 }
 
 /// A line that was cut is no board.
@@ -417,7 +474,8 @@ fn repeated(bytes: &[u8], times: usize) -> Text {
 fn a_line_that_is_too_long_is_cut(rt: HostRuntime) {
     let prompts = repeated(b"> ", 8192);
     let mut seat = Seat::open(&rt, 1000);
-    seat.hears(&rt, &[&prompts, BOARD, TO_ROLL, END]);
+    let line = Step::Hears(&[&prompts, BOARD, TO_ROLL, END]);
+    seat.follow(&rt, &[line], QUIET);
     seat.assert_did(&rt, "a line that is cut", &[], &[b"cut \n"]);
     assert!(rt; seat.client.shown().is_none(), "no board is shown");
 }
@@ -429,19 +487,15 @@ fn a_turn_reads_4096_times(rt: HostRuntime) {
     let input = joined(&[&line, b"\nhi\n"]);
     let mut seat = Seat::open(&rt, 1);
     let mut pipe = Pipe::new(&input, 1, After::End, 0);
-    match seat.turn_on(&rt, &mut pipe, None) {
-        Ending::Quiet => {}
-        Ending::Lost(_) => panic!(rt; "the turn goes on"),
+    match seat.turn_with(&mut pipe, None) {
+        Kind::Quiet => {}
+        kind => panic!(rt; "the turn goes on, and is {kind:?}"),
     }
     seat.assert_did(&rt, "4096 bytes", &[], &[b"text ", &line, LF]);
-    let ending = seat.turn_on(&rt, &mut pipe, None);
-    assert!(rt; kind_of(&ending) == Kind::Lost);
-    seat.assert_did(
-        &rt,
-        "the rest",
-        &[],
-        &[b"text ", &line, b"\ntext hi\nlost\n"],
-    );
+    let kind = seat.turn_with(&mut pipe, None);
+    assert_eq!(rt; kind, Kind::Lost);
+    let printed = [b"text ", line.as_slice(), b"\ntext hi\nlost\n"];
+    seat.assert_did(&rt, "the rest", &[], &printed);
 }
 
 /// What is typed, and what is printed.
@@ -493,10 +547,9 @@ fn full_directory(rt: &(impl Abort + AllocGlobal)) -> Directory {
 fn a_directory_that_is_full_says_so(rt: HostRuntime) {
     let mut seat = Seat::open(&rt, 1000);
     seat.directory = full_directory(&rt);
-    seat.hears(
-        &rt,
-        &[b"5 p4096 - - 0 0 1500.00 0 0 0 host - -\r\n5 p7 - - 0 0 1500.00 0 0 0 host - -\r\n"],
-    );
+    let players =
+        b"5 p4096 - - 0 0 1500.00 0 0 0 host - -\r\n5 p7 - - 0 0 1500.00 0 0 0 host - -\r\n";
+    seat.follow(&rt, &[Step::Hears(&[players])], QUIET);
     seat.assert_did(
         &rt,
         "a directory that is full",
@@ -509,69 +562,84 @@ fn a_directory_that_is_full_says_so(rt: HostRuntime) {
     assert_eq!(rt; seat.directory.len(), 4096);
 }
 
-/// Commands that lines of the server call for.
-const COMMANDS: [&[u8]; 3] = [
+/// Lines of the server that call for commands, and these.
+static CALLING: &[&[u8]] = &[WELCOME, END, INFO_WITHOUT_BOARDS, END];
+
+static COMMANDS: [&[u8]; 3] = [
     b"set boardstyle 3\r\n",
     b"toggle autoboard\r\n",
     b"board\r\n",
 ];
 
-/// Each command leaves with its line end by one write: one that is typed, and those that the server's lines call for.
-#[test]
-fn a_command_is_one_write(rt: HostRuntime) {
-    let input = joined(&[WELCOME, END, INFO_WITHOUT_BOARDS, END]);
-    let mut client = opened(&rt);
-    let mut directory = Directory::new(rt.alloc());
+/// How a turn ends in which two lines of the server call for commands, what is sent, by how many writes, and whether
+/// the last line that is printed says that the connection is lost.
+#[derive(Drop)]
+struct Came {
+    kind: Kind,
+    sent: Text,
+    writes: usize,
+    says_lost: bool,
+}
+
+/// Such a turn, with a line that is typed, if there is one, on a stream that is written to so.
+fn came_of(
+    rt: &(impl Abort + AllocGlobal),
+    typed: Option<&[u8]>,
+    lines: &[&[u8]],
+    output: FailsOnce,
+) -> Came {
+    let input = joined(lines);
+    let mut seat = Seat::open(rt, 1000);
     let mut printed = Pipe::new(b"", 1, After::End, 512);
     let mut stream = Stumbles {
         input: Pipe::new(&input, 1000, QUIET, 0),
-        output: FailsOnce::new(1000, 1000),
+        output,
     };
-    let typed = b"tell bob hi".as_slice();
-    let outcome = exchange(
-        &mut client,
-        &mut directory,
-        Some(&mut stream),
-        Some(typed),
-        &mut printed,
+    let kind = seat.turn_on(&mut stream, typed, &mut printed);
+    Came {
+        kind,
+        sent: text_of(stream.output.output()),
+        writes: stream.output.writes(),
+        says_lost: printed.output().ends_with(b"lost\n"),
+    }
+}
+
+/// Each command leaves with its line end by one write: one that is typed, and those that the server's lines call for.
+#[test]
+fn a_command_is_one_write(rt: HostRuntime) {
+    let came = came_of(
+        &rt,
+        Some(b"tell bob hi"),
+        CALLING,
+        FailsOnce::new(1000, 1000),
     );
-    assert!(rt; matches!(outcome, Ok(Ending::Quiet)), "all is written");
     let sent = joined(&[b"tell bob hi\r\n", COMMANDS[0], COMMANDS[1], COMMANDS[2]]);
-    assert_eq!(rt; stream.output.output(), sent.as_slice());
-    assert_eq!(rt; stream.output.writes(), 4);
+    let wanted = (Kind::Quiet, sent.as_slice(), 4);
+    assert_eq!(rt; (came.kind, came.sent.as_slice(), came.writes), wanted);
+}
+
+/// After a write that fails, here after so many that don't, no other is made.
+fn assert_sent_before(rt: &(impl Abort + AllocGlobal), error: Option<ErrorKind>, before: usize) {
+    let came = came_of(rt, None, CALLING, FailsOnce::of_kind(error, before, 1000));
+    let is_front = before <= 3 && is_made_of(&came.sent, &COMMANDS[..before]);
+    let is_lost = came.kind == Kind::Lost && came.says_lost;
+    assert!(rt;
+        is_lost && is_front && came.writes == before.saturating_add(1),
+        "after {before} writes: {:?}, {} writes of {:?}",
+        came.kind,
+        came.writes,
+        came.sent.as_slice()
+    );
 }
 
 /// After a write that fails or takes nothing no other is made, though the stream would take it, and also if a signal
 /// interrupted it.
 #[test]
 fn nothing_is_sent_after_a_write_that_fails(rt: HostRuntime) {
-    let input = joined(&[WELCOME, END, INFO_WITHOUT_BOARDS, END]);
-    for error in [
-        Some(ErrorKind::BrokenPipe),
-        Some(ErrorKind::Interrupted),
-        None,
-    ] {
-        for before in 0..COMMANDS.len() {
-            let mut client = opened(&rt);
-            let mut directory = Directory::new(rt.alloc());
-            let mut printed = Pipe::new(b"", 1, After::End, 512);
-            let mut stream = Stumbles {
-                input: Pipe::new(&input, 1000, QUIET, 0),
-                output: FailsOnce::of_kind(error, before, 1000),
-            };
-            let outcome = exchange(
-                &mut client,
-                &mut directory,
-                Some(&mut stream),
-                None,
-                &mut printed,
-            );
-            let is_lost = matches!(outcome, Ok(Ending::Lost(None)));
-            let is_front = is_made_of(stream.output.output(), &COMMANDS[..before]);
-            let is_last = printed.output().ends_with(b"lost\n");
-            assert!(rt; is_lost && is_front && is_last, "after {before} writes");
-            assert_eq!(rt; stream.output.writes(), before + 1);
-        }
+    for before in 0..COMMANDS.len() {
+        assert_sent_before(&rt, Some(ErrorKind::BrokenPipe), before);
+        assert_sent_before(&rt, Some(ErrorKind::Interrupted), before);
+        assert_sent_before(&rt, None, before);
     }
 }
 
@@ -580,34 +648,32 @@ fn nothing_is_sent_after_a_write_that_fails(rt: HostRuntime) {
 fn a_stream_may_wait_between_any_two_bytes(rt: HostRuntime) {
     let mut seat = Seat::open(&rt, 1);
     for at in 0..READY.len() {
-        seat.hears(&rt, &[&READY[at..at + 1]]);
+        seat.follow(&rt, &[Step::Hears(&[&READY[at..at + 1]])], QUIET);
     }
     seat.assert_did(&rt, "one byte a turn", &[SENT], &[PRINTED]);
+}
+
+/// After a line that can't be printed, here after so many that can, no other is.
+fn assert_printed_before(
+    rt: &(impl Abort + AllocGlobal),
+    heard: &[u8],
+    error: Option<ErrorKind>,
+    before: usize,
+) {
+    let mut seat = Seat::open(rt, 1000);
+    let mut pipe = Pipe::new(heard, 1000, QUIET, 100);
+    let mut out = FailsOnce::of_kind(error, before, 1000);
+    let kind = seat.turn_on(&mut pipe, Some(b"dance"), &mut out);
+    let wanted = (Kind::Unprinted, before.saturating_add(1));
+    assert_eq!(rt; (kind, out.writes()), wanted, "after {before} lines");
 }
 
 /// After a line that can't be printed no other is, though the writer would take it: after that of a typed line, and
 /// after each of the server's lines.
 #[test]
 fn nothing_is_printed_after_a_print_that_fails(rt: HostRuntime) {
-    for error in [Some(ErrorKind::BrokenPipe), None] {
-        for before in 0..5 {
-            let mut client = opened(&rt);
-            let mut directory = Directory::new(rt.alloc());
-            let mut pipe = Pipe::new(READY, 1000, QUIET, 100);
-            let mut out = FailsOnce::of_kind(error, before, 1000);
-            let typed = b"dance".as_slice();
-            let outcome = exchange(
-                &mut client,
-                &mut directory,
-                Some(&mut pipe),
-                Some(typed),
-                &mut out,
-            );
-            assert!(rt;
-                matches!(outcome, Err(ExchangeFault::Output)),
-                "after {before} lines"
-            );
-            assert_eq!(rt; out.writes(), before + 1);
-        }
+    for before in 0..5 {
+        assert_printed_before(&rt, READY, Some(ErrorKind::BrokenPipe), before);
+        assert_printed_before(&rt, READY, None, before);
     }
 }

@@ -1,14 +1,13 @@
 //! What is printed is shown before a turn waits for the server.
 
-use super::connected::opened;
-use fibs_exchange::{Ending, ExchangeFault, exchange};
-use fibs_session::Directory;
+use super::connected::{Kind, Seat};
 use fibs_test_tools::pipe::{Pipe, QUIET};
 use std::io;
 use std::io::{ErrorKind, Write};
+use std::process::Abort;
 
 /// Lines of the server, which are read in some portions.
-const LINES: &[u8] =
+static LINES: &[u8] =
     b"1 ann 1041253132 localhost\r\nhello\r\n12 bob hi\r\n13 bob hi\r\nwelcome\r\n";
 
 /// A writer of which one flush fails after so many. It takes all bytes.
@@ -35,34 +34,38 @@ impl Write for Screen {
     }
 }
 
-/// A flush that fails stops the turn, whichever it is, and nothing is printed after it.
+/// Whether a turn comes to its end, if one flush fails after so many. That flush stops it, and nothing is printed after
+/// it.
+fn is_flushed(rt: &(impl Abort + AllocGlobal), before: u32) -> bool {
+    let mut seat = Seat::open(rt, 1000);
+    let mut pipe = Pipe::new(LINES, 10, QUIET, 100);
+    let mut screen = Screen {
+        before,
+        failed: false,
+        written: false,
+    };
+    let kind = seat.turn_on(&mut pipe, None, &mut screen);
+    let wanted = if screen.failed {
+        Kind::Unprinted
+    } else {
+        Kind::Quiet
+    };
+    assert_eq!(rt;
+        (kind, screen.written),
+        (wanted, false),
+        "after {before} flushes"
+    );
+    kind == Kind::Quiet
+}
+
+/// A flush that fails stops the turn, whichever it is.
 #[test]
 fn each_flush_that_fails_stops_the_turn(rt: HostRuntime) {
+    let mut stopped = 0u32;
     for before in 0..100 {
-        let mut client = opened(&rt);
-        let mut directory = Directory::new(rt.alloc());
-        let mut pipe = Pipe::new(LINES, 10, QUIET, 100);
-        let mut screen = Screen {
-            before,
-            failed: false,
-            written: false,
-        };
-        let outcome = exchange(
-            &mut client,
-            &mut directory,
-            Some(&mut pipe),
-            None,
-            &mut screen,
-        );
-        assert!(rt;
-            !screen.written,
-            "something is printed after {before} flushes"
-        );
-        if matches!(outcome, Ok(Ending::Quiet)) {
-            assert!(rt; !screen.failed && before > 5, "{before} flushes");
-            return;
+        if !is_flushed(&rt, before) {
+            stopped = stopped.saturating_add(1);
         }
-        assert!(rt; screen.failed && matches!(outcome, Err(ExchangeFault::Output)));
     }
-    assert!(rt; false, "there is no end of flushes");
+    assert!(rt; 5 < stopped && stopped < 100, "{stopped} flushes");
 }

@@ -1,14 +1,13 @@
 //! How the lines of a turn are printed.
-use super::connected::Seat;
-use fibs_exchange::{Ending, exchange};
+use super::connected::{Kind, Seat, Step, repeated};
 use fibs_test_tools::pipe::{After, Pipe, QUIET};
-use fibs_test_tools::text::{Text, joined};
+use fibs_test_tools::text::joined;
 use std::io;
 use std::io::Write;
 use std::process::Abort;
 
 /// What the server sends until the client is ready.
-const READY: &[u8] = b"1 ann 1041253132 localhost\r\n\
+static READY: &[u8] = b"1 ann 1041253132 localhost\r\n\
     2 ann 1 1 0 0 0 0 1 1 10 0 1 0 1 1500.00 0 0 0 0 0 UTC\r\n\
     board:You:bob:3:0:1:0:-2:0:0:0:0:5:0:3:0:0:0:-5:5:0:0:0:-3:0:-5:0:0:0:0:2:0\
     :1:0:0:0:0:1:1:1:0:1:-1:0:25:0:0:0:0:0:0:0:0\r\n";
@@ -21,7 +20,7 @@ const LINES: &[u8] = b"1 ann 1041253132 localhost\r\n\
     :1:6:2:0:0:1:1:1:0:1:-1:0:25:0:0:0:0:0:0:0:0\r\n";
 
 /// A writer that counts its writes and their bytes.
-#[derive(Debug, PartialEq, Eq, Drop)]
+#[derive(Drop)]
 struct Counts {
     writes: usize,
     bytes: usize,
@@ -39,29 +38,24 @@ impl Write for Counts {
     }
 }
 
-/// What a ready client prints in a turn: a line that is typed, and what the server sends.
+/// How often a ready client writes what it prints in a turn, and how many bytes: after a line that is typed, and what
+/// the server sends.
 fn counted(
     rt: &(impl Abort + AllocGlobal),
     typed: Option<&[u8]>,
     input: &[u8],
     after: After,
-) -> Counts {
+) -> (usize, usize) {
     let mut seat = Seat::open(rt, 1000);
-    seat.hears(rt, &[READY]);
+    seat.follow(rt, &[Step::Hears(&[READY])], QUIET);
     let mut pipe = Pipe::new(input, 1000, after, 100);
     let mut out = Counts {
         writes: 0,
         bytes: 0,
     };
-    let outcome = exchange(
-        &mut seat.client,
-        &mut seat.directory,
-        Some(&mut pipe),
-        typed,
-        &mut out,
-    );
-    let _ending: Ending = outcome.expect(rt, "all is printed");
-    out
+    let kind = seat.turn_on(&mut pipe, typed, &mut out);
+    assert!(rt; kind != Kind::Unprinted, "all is printed");
+    (out.writes, out.bytes)
 }
 
 /// What is typed, what the server sends, and what is printed.
@@ -89,33 +83,27 @@ fn lines_in(text: &[u8]) -> usize {
 #[test]
 fn a_printed_line_is_one_write(rt: HostRuntime) {
     for (typed, input, after, printed) in &PRINTED {
-        let wanted = Counts {
-            writes: lines_in(printed),
-            bytes: printed.len(),
-        };
+        let wanted = (lines_in(printed), printed.len());
         assert_eq!(rt; counted(&rt, *typed, input, *after), wanted, "{typed:?}");
     }
 }
 
-/// So many bytes that are escaped.
-fn escapes(count: usize) -> Text {
-    let mut text = Text::new();
-    for _ in 0..count {
-        let _fits = text.try_extend_from_slice(b"\x01");
-    }
-    text
+/// Asserts that a line of the server's is printed by one write of so many bytes: this front, and so many bytes that are
+/// escaped.
+fn assert_one_write(rt: &(impl Abort + AllocGlobal), front: &[u8], length: usize, bytes: usize) {
+    let line = joined(&[front, &repeated(b"\x01", length), b"\r\n"]);
+    assert_eq!(rt;
+        counted(rt, None, &line, QUIET),
+        (1, bytes),
+        "{bytes} bytes"
+    );
 }
 
 /// There is room for a line of any length, each of whose bytes is escaped.
 #[test]
 fn a_line_of_any_length_is_one_write(rt: HostRuntime) {
     for length in [0usize, 511, 512, 513, 600, 1000, 2000, 2057, 2058, 4096] {
-        let wanted = Counts {
-            writes: 1,
-            bytes: length.saturating_mul(4).saturating_add(6),
-        };
-        let input = joined(&[&escapes(length), b"\r\n"]);
-        assert_eq!(rt; counted(&rt, None, &input, QUIET), wanted, "{length} bytes");
+        assert_one_write(&rt, b"", length, length.saturating_mul(4).saturating_add(6));
     }
 }
 
@@ -123,15 +111,7 @@ fn a_line_of_any_length_is_one_write(rt: HostRuntime) {
 /// message.
 #[test]
 fn the_longest_line_is_one_write(rt: HostRuntime) {
-    let whole = joined(&[&escapes(16384), b"\r\n"]);
-    let cut = joined(&[&escapes(16385), b"\r\n"]);
-    let message = joined(&[b"13 eve ", &escapes(16377), b"\r\n"]);
-    for (input, bytes) in [
-        (&whole, 5 + 4 * 16384 + 1),
-        (&cut, 4 + 4 * 16384 + 1),
-        (&message, 8 + 7 + 4 * 16377 + 1),
-    ] {
-        let wanted = Counts { writes: 1, bytes };
-        assert_eq!(rt; counted(&rt, None, input, QUIET), wanted, "{bytes} bytes");
-    }
+    assert_one_write(&rt, b"", 16384, 5 + 4 * 16384 + 1);
+    assert_one_write(&rt, b"", 16385, 4 + 4 * 16384 + 1);
+    assert_one_write(&rt, b"13 eve ", 16377, 8 + 7 + 4 * 16377 + 1);
 }

@@ -2,8 +2,9 @@
 ghost use Rattle.std.specs.Prelude.{true};
 ghost use Rattle.fibs_exchange.specs.Turns.Turn.{FitsStream};
 
-use super::connected::Seat;
+use super::connected::{Seat, Step};
 use fibs_session::Directory;
+use fibs_test_tools::pipe::QUIET;
 use fibs_test_tools::text::{Text, joined};
 use std::alloc::{AllocError, Global};
 use std::process::Abort;
@@ -65,8 +66,8 @@ fn seat_after(rt: &(impl Abort + AllocGlobal), lines: &[(&[u8], &[u8])]) -> Seat
     ensures { FitsStream result.client true }
 {
     let mut seat = Seat::open(rt, 7);
-    for at in 0..lines.len() {
-        seat.hears(rt, &[lines[at].0]);
+    for heard in lines {
+        seat.follow(rt, &[Step::Hears(&[heard.0])], QUIET);
     }
     seat
 }
@@ -85,39 +86,46 @@ fn assert_alike(
     let mut wanted = Text::new();
     seat.printed.clear();
     twin.printed.clear();
-    for at in 0..lines.len() {
-        seat.hears(rt, &[lines[at].0]);
-        twin.hears(rt, &[lines[at].0]);
+    for heard in lines {
+        let (line, printed) = *heard;
+        let step = [Step::Hears(&[line])];
+        seat.follow(rt, &step, QUIET);
+        twin.follow(rt, &step, QUIET);
         let known = players_of(rt.alloc(), &seat.directory)?;
         assert!(rt; known == players_of(rt.alloc(), &twin.directory)?);
-        let _fits = wanted.try_extend_from_slice(lines[at].1);
+        let _fits = wanted.try_extend_from_slice(printed);
     }
-    seat.types(rt, b"roll", &[]);
-    twin.types(rt, b"roll", &[]);
+    let roll = [Step::Types(b"roll", &[])];
+    seat.follow(rt, &roll, QUIET);
+    twin.follow(rt, &roll, QUIET);
     let _fits = wanted.try_extend_from_slice(b"sent roll\n");
-    assert_eq!(rt; seat.printed, wanted);
-    assert_eq!(rt; twin.printed, wanted);
-    assert_eq!(rt; seat.sent, twin.sent);
+    assert_eq!(rt;
+        [&seat.printed, &twin.printed, &twin.sent],
+        [&wanted, &wanted, &seat.sent]
+    );
     assert!(rt; seat.sent.ends_with(b"\r\nroll\r\n"));
     Ok(())
 }
 
-/// If a note is refused, the turn says so after its line, and goes on as that of a client to which the line was not
-/// sent.
-#[test]
-fn turns_go_on_under_refused_memory(rt: HostRuntime) -> Result<(), Fail> {
-    let mut seat = Seat::open(&rt, 7);
-    for at in 0..HEARD.len() {
-        let (line, printed) = HEARD[at];
+/// A seat hears these lines. If a note is refused, the turn says so after its line, and goes on as that of a client to
+/// which the line was not sent.
+fn assert_goes_on(rt: &(impl Abort + AllocGlobal), lines: &[(&[u8], &[u8])]) -> Result<(), Fail> {
+    let mut seat = Seat::open(rt, 7);
+    for at in 0..lines.len() {
+        let (line, printed) = lines[at];
         seat.printed.clear();
-        seat.hears(&rt, &[line]);
+        seat.follow(rt, &[Step::Hears(&[line])], QUIET);
         if seat.printed.as_slice() != printed {
-            let wanted = joined(&[printed, REFUSED]);
-            assert_eq!(rt; seat.printed, wanted);
-            let mut twin = seat_after(&rt, &HEARD[..at]);
-            return assert_alike(&rt, &mut seat, &mut twin, &HEARD[at + 1..]);
+            assert_eq!(rt; seat.printed, joined(&[printed, REFUSED]));
+            let mut twin = seat_after(rt, &lines[..at]);
+            return assert_alike(rt, &mut seat, &mut twin, &lines[at + 1..]);
         }
     }
     assert_eq!(rt; seat.directory.len(), 2);
     Ok(())
+}
+
+#[test]
+fn turns_go_on_under_refused_memory(rt: HostRuntime) -> Result<(), Fail> {
+    assert_goes_on(&rt, &HEARD)
 }
