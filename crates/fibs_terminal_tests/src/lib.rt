@@ -6,6 +6,8 @@ mod conversations;
 #[cfg(test)]
 mod flushing;
 #[cfg(test)]
+mod lines;
+#[cfg(test)]
 mod passwords;
 #[cfg(test)]
 mod reading;

@@ -15,8 +15,12 @@ fn the_first_line_is_taken_and_no_more(rt: HostRuntime) -> Result<(), Fail> {
     for (text, line, rest) in rows {
         let mut source = text;
         let given = first_line(rt.alloc(), &mut source)?;
-        assert_eq!(rt; given.as_slice(), line);
-        assert_eq!(rt; source, rest);
+        let is_taken = given.as_slice() == line && source == rest;
+        assert!(rt;
+            is_taken,
+            "{text:?}: {:?}, and {source:?} is left",
+            given.as_slice()
+        );
     }
     Ok(())
 }

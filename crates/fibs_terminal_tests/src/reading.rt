@@ -5,33 +5,28 @@ use std::alloc::Global;
 use std::io::Read;
 use std::test::Fail;
 
-/// A watch by which the server comes first: each time that it is asked, up to so many times.
-#[derive(Drop)]
-struct Heard(u32);
-
-impl Watch for Heard {
-    fn first(&mut self) -> First {
-        if self.0 == 0 {
-            return First::Typed;
-        }
-        self.0 -= 1;
-        First::Heard
-    }
+/// When the server comes first.
+#[derive(Clone, Copy)]
+enum Server {
+    /// The next times that the watch is asked, so many.
+    Next(u32),
+    /// Each second time, from the next on if it is `true`.
+    InTurn(bool),
 }
 
-/// The server comes first at each second time.
-#[derive(Drop)]
-struct InTurn(bool);
-
-impl Watch for InTurn {
+impl Watch for Server {
     fn first(&mut self) -> First {
-        self.0 = !self.0;
-        if self.0 { First::Typed } else { First::Heard }
+        let (is_heard, then) = match *self {
+            Server::Next(times) => (times > 0, Server::Next(times.saturating_sub(1))),
+            Server::InTurn(next) => (next, Server::InTurn(!next)),
+        };
+        *self = then;
+        if is_heard { First::Heard } else { First::Typed }
     }
 }
 
 /// What is read of a text, in reads of at most three bytes.
-fn given<W: Watch + Drop>(alloc: Global, text: &[u8], watch: Option<W>) -> Result<Vec<u8>, Fail> {
+fn given(alloc: Global, text: &[u8], watch: Option<Server>) -> Result<Vec<u8>, Fail> {
     let mut reader = TypedOrHeard::new(text, watch);
     let mut given = Vec::new(alloc);
     let mut room = [0u8; 3];
@@ -45,24 +40,23 @@ fn given<W: Watch + Drop>(alloc: Global, text: &[u8], watch: Option<W>) -> Resul
     Ok(given)
 }
 
-#[test]
-fn an_empty_line_is_put_in_each_time_that_the_server_speaks(rt: HostRuntime) -> Result<(), Fail> {
-    let given = given(rt.alloc(), b"roll\nmove", Some(Heard(2)))?;
-    assert_eq!(rt; given.as_slice(), b"\n\nroll\nmove".as_slice());
-    Ok(())
-}
+/// What is typed, when the server speaks, and what is read: an empty line is put in each time that the server speaks,
+/// but not into a line; and without a watch a text is read as it is.
+static ROWS: [(&[u8], Option<Server>, &[u8]); 3] = [
+    (b"roll\nmove", Some(Server::Next(2)), b"\n\nroll\nmove"),
+    (
+        b"roll\nmove\n",
+        Some(Server::InTurn(false)),
+        b"roll\nmove\n\n",
+    ),
+    (b"\nroll\n\n", None, b"\nroll\n\n"),
+];
 
 #[test]
-fn no_empty_line_is_put_into_a_line(rt: HostRuntime) -> Result<(), Fail> {
-    let given = given(rt.alloc(), b"roll\nmove\n", Some(InTurn(false)))?;
-    assert_eq!(rt; given.as_slice(), b"roll\nmove\n\n".as_slice());
-    Ok(())
-}
-
-#[test]
-fn without_a_watch_a_text_is_read_as_it_is(rt: HostRuntime) -> Result<(), Fail> {
-    let nobody: Option<Heard> = None;
-    let given = given(rt.alloc(), b"\nroll\n\n", nobody)?;
-    assert_eq!(rt; given.as_slice(), b"\nroll\n\n".as_slice());
+fn an_empty_line_is_put_in_where_the_server_speaks(rt: HostRuntime) -> Result<(), Fail> {
+    for (text, server, wanted) in &ROWS {
+        let given = given(rt.alloc(), text, *server)?;
+        assert_eq!(rt; given.as_slice(), *wanted, "{text:?}");
+    }
     Ok(())
 }

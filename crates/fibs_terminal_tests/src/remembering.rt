@@ -1,39 +1,21 @@
 //! What a terminal remembers, and for how long.
 
-use crate::seats::{Step, plain_settings, shown};
+use crate::lines::{FIRST_BOARD, MOVED, POINT_MADE, TO_MOVE, TO_ROLL, WELCOME};
+use crate::seats::{Step, assert_ends, colour_settings, plain_settings, shown};
 use fibs_environment::Settings;
-use std::alloc::Global;
+use std::process::Abort;
 use std::test::Fail;
-
-/// The first messages of a connection.
-const WELCOME: &[u8] = b"1 ann 1041253132 localhost\r\n";
-
-const SETTINGS: &[u8] = b"2 ann 1 1 0 0 0 0 1 1 0 0 1 0 1 1500.00 0 0 none 0 0 UTC\r\n";
-
-/// A board before its roll, on which a double may be offered.
-const TO_ROLL: &[u8] =
-    b"board:You:bob:3:0:1:0:-2:0:0:0:0:5:0:3:0:0:0:-5:5:0:0:0:-3:0:-5:0:0:0:0:2:0:1:0:0:0:0:1:1:1:0:1:-1:0:25:0:0:0:0:2:0:0:0\r\n";
-
-/// The same board with dice.
-const TO_MOVE: &[u8] =
-    b"board:You:bob:3:0:1:0:-2:0:0:0:0:5:0:3:0:0:0:-5:5:0:0:0:-3:0:-5:0:0:0:0:2:0:1:6:2:0:0:1:1:1:0:1:-1:0:25:0:0:0:0:2:0:0:0\r\n";
 
 /// The first board against another opponent.
 const WITH_CAROL: &[u8] =
     b"board:You:carol:3:0:1:0:-2:0:0:0:0:5:0:3:0:0:0:-5:5:0:0:0:-3:0:-5:0:0:0:0:2:0:1:0:0:0:0:1:1:1:0:1:-1:0:25:0:0:0:0:2:0:0:0\r\n";
 
-/// A board on which the opponent has the turn; and the same if he may not double.
-const MOVED: &[u8] =
-    b"board:You:bob:3:0:1:0:-2:0:0:0:0:5:0:3:0:0:0:-5:5:0:0:0:-3:1:-5:0:0:0:0:1:0:-1:0:0:0:0:1:1:1:0:1:-1:0:25:0:0:0:0:0:0:0:0\r\n";
-
+/// A board on which the opponent has the turn, and may not double.
 const MOVED_BEFORE_A_ROLL: &[u8] =
     b"board:You:bob:3:0:1:0:-2:0:0:0:0:5:0:3:0:0:0:-5:5:0:0:0:-3:1:-5:0:0:0:0:1:0:-1:0:0:0:0:1:1:0:0:1:-1:0:25:0:0:0:0:0:0:0:0\r\n";
 
-/// A board after the opponent has moved from his 8 and his 6 to his 5; the same of another opponent; and one of so many
-/// checkers elsewhere that it was no move.
-const POINT_MADE: &[u8] =
-    b"board:You:bob:3:0:1:0:-2:0:0:0:0:5:0:3:0:0:0:-5:5:0:0:0:-2:0:-4:-2:0:0:0:2:0:1:0:0:0:0:1:1:1:0:1:-1:0:25:0:0:0:0:2:0:0:0\r\n";
-
+/// The board after the opponent's move, of another opponent; and one of so many checkers elsewhere that it was no
+/// move.
 const POINT_OF_CAROL: &[u8] =
     b"board:You:carol:3:0:1:0:-2:0:0:0:0:5:0:3:0:0:0:-5:5:0:0:0:-2:0:-4:-2:0:0:0:2:0:1:0:0:0:0:1:1:1:0:1:-1:0:25:0:0:0:0:2:0:0:0\r\n";
 
@@ -55,16 +37,23 @@ const GAME_OVER: &[u8] =
 /// What the server says of one who wants to resign.
 const RESIGNS: &[u8] = b"bob wants to resign. You will win 1 point.\r\n";
 
-/// A conversation, and the last rows that it shows, with what rings the bell.
-const SCENES: [(&[Step<'static>], &[u8]); 23] = [
-    // of a connection that is lost nothing is said, and of one before it neither
+/// The settings of a plain terminal with a bell.
+fn bell_settings() -> Settings<'static> {
+    Settings {
+        bell: true,
+        ..plain_settings()
+    }
+}
+
+/// Of a connection that is lost nothing is said, and of one before it neither.
+static LOST: [(&[Step<'static>], &str); 3] = [
     (
         &[Step::Hears(RESIGNS), Step::Loses, Step::Rests],
-        b"point.\n\x07lost: open connects again, quit ends\n",
+        "point.\n\x07lost: open connects again, quit ends\n",
     ),
     (
         &[Step::Hears(RESIGNS), Step::Loses, Step::Opens, Step::Rests],
-        b"quit ends\nconnected to fibs.com:4321\n",
+        "quit ends\nconnected to fibs.com:4321\n",
     ),
     (
         &[
@@ -73,9 +62,20 @@ const SCENES: [(&[Step<'static>], &[u8]); 23] = [
             Step::Opens,
             Step::Hears(b"6\r\n"),
         ],
-        b"quit ends\nconnected to fibs.com:4321\n",
+        "quit ends\nconnected to fibs.com:4321\n",
     ),
-    // a board is drawn again, and nobody was waited for
+];
+
+#[test]
+fn what_was_said_before_a_loss_is_forgotten(rt: HostRuntime) -> Result<(), Fail> {
+    for (steps, rows) in &LOST {
+        assert_ends(&rt, bell_settings(), &FIRST_BOARD, steps, rows)?;
+    }
+    Ok(())
+}
+
+/// A board is drawn again, and nobody was waited for.
+static DRAWN_AGAIN: [(&[Step<'static>], &str); 2] = [
     (
         &[
             Step::Loses,
@@ -83,7 +83,7 @@ const SCENES: [(&[Step<'static>], &[u8]); 23] = [
             Step::Hears(WELCOME),
             Step::Hears(TO_ROLL),
         ],
-        b"   O You\n You roll, or double, or resign.\n",
+        "   O You\n You roll, or double, or resign.\n",
     ),
     (
         &[
@@ -92,7 +92,7 @@ const SCENES: [(&[Step<'static>], &[u8]); 23] = [
             Step::Opens,
             Step::Hears(TO_ROLL),
         ],
-        b"connected to fibs.com:4321\n +13-14-15-16-17-18-+---+19-20-21-22-23-24-+   X bob
+        "connected to fibs.com:4321\n +13-14-15-16-17-18-+---+19-20-21-22-23-24-+   X bob
  | O           X    |   | X              O |     score 1
  | O           X    |   | X              O |     off   0
  | O           X    |   | X                |     pips  167
@@ -108,12 +108,32 @@ const SCENES: [(&[Step<'static>], &[u8]); 23] = [
  You roll, or double, or resign.
 ",
     ),
-    // an offer to resign is said once
-    (
-        &[Step::Hears(RESIGNS), Step::Rests, Step::Rests],
-        b"Your turn: roll, or double.\n\x07bob wants to resign. You will win 1 point.\nbob offers to resign: send accept, or send reject.\n",
-    ),
-    // what is quiet, and whose words are kept
+];
+
+#[test]
+fn a_board_is_drawn_again(rt: HostRuntime) -> Result<(), Fail> {
+    for (steps, rows) in &DRAWN_AGAIN {
+        assert_ends(&rt, bell_settings(), &FIRST_BOARD, steps, rows)?;
+    }
+    Ok(())
+}
+
+/// An offer to resign is said once.
+static RESIGNED: [(&[Step<'static>], &str); 1] = [(
+    &[Step::Hears(RESIGNS), Step::Rests, Step::Rests],
+    "Your turn: roll, or double.\n\x07bob wants to resign. You will win 1 point.\nbob offers to resign: send accept, or send reject.\n",
+)];
+
+#[test]
+fn an_offer_to_resign_is_said_once(rt: HostRuntime) -> Result<(), Fail> {
+    for (steps, rows) in &RESIGNED {
+        assert_ends(&rt, bell_settings(), &FIRST_BOARD, steps, rows)?;
+    }
+    Ok(())
+}
+
+/// What is quiet, and whose words are kept.
+static QUIET: [(&[Step<'static>], &str); 3] = [
     (
         &[
             Step::Types(b"quiet"),
@@ -124,7 +144,7 @@ const SCENES: [(&[Step<'static>], &[u8]); 23] = [
             Step::Hears(b"6\r\n"),
             Step::Hears(b"12 bob hi\r\n"),
         ],
-        b"quiet: no shouts, and not who comes and goes; loud shows them.\n\x0713:07 bob says: hi\n",
+        "quiet: no shouts, and not who comes and goes; loud shows them.\n\x0713:07 bob says: hi\n",
     ),
     (
         &[
@@ -134,7 +154,7 @@ const SCENES: [(&[Step<'static>], &[u8]); 23] = [
             Step::Hears(b"9 bob 1041253132 hi\r\n"),
             Step::Hears(b"7 bob bob logs in.\r\n"),
         ],
-        b"bob is gagged on this screen: ungag ends it.\n",
+        "bob is gagged on this screen: ungag ends it.\n",
     ),
     (
         &[
@@ -144,33 +164,55 @@ const SCENES: [(&[Step<'static>], &[u8]); 23] = [
             Step::Hears(b"12 carol hi\r\n"),
             Step::Hears(b"12 bob hi\r\n"),
         ],
-        b"bob is heard again.\n\x0713:07 bob says: hi\n",
+        "bob is heard again.\n\x0713:07 bob says: hi\n",
     ),
-    // the bell: at a turn after the opponent's, at a loss, at a message that was left; not at the opponent's turn
+];
+
+#[test]
+fn what_is_quiet_is_not_shown(rt: HostRuntime) -> Result<(), Fail> {
+    for (steps, rows) in &QUIET {
+        assert_ends(&rt, bell_settings(), &FIRST_BOARD, steps, rows)?;
+    }
+    Ok(())
+}
+
+/// The bell: at a turn after the opponent's, at a loss, at a message that was left; not at the opponent's turn.
+static RUNG: [(&[Step<'static>], &str); 4] = [
     (
         &[Step::Hears(MOVED)],
-        b"Your turn: roll, or double.\nbob's turn.\n",
+        "Your turn: roll, or double.\nbob's turn.\n",
     ),
     (
         &[Step::Hears(MOVED), Step::Hears(TO_ROLL), Step::Rests],
-        b"bob's turn.\n\x07Your turn: roll, or double.\n",
+        "bob's turn.\n\x07Your turn: roll, or double.\n",
     ),
     (
         &[Step::Loses],
-        b"Your turn: roll, or double.\n\x07lost: open connects again, quit ends\n",
+        "Your turn: roll, or double.\n\x07lost: open connects again, quit ends\n",
     ),
     (
         &[Step::Hears(b"9 carol 1041253132 see you\r\n")],
-        b"double.\n\x07carol left a message on 30 December 2002, 12:58: see you\n",
+        "double.\n\x07carol left a message on 30 December 2002, 12:58: see you\n",
     ),
-    // what the server says of a roll is no answer that leaves it undone; the same board is one, each time that it comes
+];
+
+#[test]
+fn the_bell_rings(rt: HostRuntime) -> Result<(), Fail> {
+    for (steps, rows) in &RUNG {
+        assert_ends(&rt, bell_settings(), &FIRST_BOARD, steps, rows)?;
+    }
+    Ok(())
+}
+
+/// What the server says of a roll is no answer that leaves it undone; the same board is one, each time that it comes.
+static ANSWERED: [(&[Step<'static>], &str); 2] = [
     (
         &[
             Step::Types(b"roll"),
             Step::Hears(b"You roll 6 and 2.\r\n"),
             Step::Rests,
         ],
-        b"sent roll\nYou roll 6 and 2.\n",
+        "sent roll\nYou roll 6 and 2.\n",
     ),
     (
         &[
@@ -180,14 +222,25 @@ const SCENES: [(&[Step<'static>], &[u8]); 23] = [
             Step::Hears(TO_ROLL),
             Step::Rests,
         ],
-        b"sent roll\n\
+        "sent roll\n\
             roll was sent and nothing has changed: if bob declined\nor the server refused, send roll; or bye and open.\n\
             roll was sent and nothing has changed: if bob declined\nor the server refused, send roll; or bye and open.\n",
     ),
-    // a board of another opponent is drawn; one that was asked for is drawn once; what it says is said once
+];
+
+#[test]
+fn a_roll_is_answered_by_what_the_server_says(rt: HostRuntime) -> Result<(), Fail> {
+    for (steps, rows) in &ANSWERED {
+        assert_ends(&rt, bell_settings(), &FIRST_BOARD, steps, rows)?;
+    }
+    Ok(())
+}
+
+/// A board of another opponent is drawn; one that was asked for is drawn once; what it says is said once.
+static BOARDS: [(&[Step<'static>], &str); 5] = [
     (
         &[Step::Hears(WITH_CAROL)],
-        b"   O You\n You roll, or double, or resign.\n",
+        "   O You\n You roll, or double, or resign.\n",
     ),
     (
         &[
@@ -195,7 +248,7 @@ const SCENES: [(&[Step<'static>], &[u8]); 23] = [
             Step::Hears(TO_ROLL),
             Step::Hears(MOVED),
         ],
-        b"sent board\n +13-14-15-16-17-18-+---+19-20-21-22-23-24-+   X bob
+        "sent board\n +13-14-15-16-17-18-+---+19-20-21-22-23-24-+   X bob
  | O           X    |   | X              O |     score 1
  | O           X    |   | X              O |     off   0
  | O           X    |   | X                |     pips  167
@@ -219,31 +272,51 @@ bob's turn.\n",
             Step::Hears(MOVED_BEFORE_A_ROLL),
             Step::Hears(MOVED_BEFORE_A_ROLL),
         ],
-        b"double.\nbob's turn.\nbob's turn.\n",
+        "double.\nbob's turn.\nbob's turn.\n",
     ),
     (
         &[
             Step::Hears(ENTRY_CLOSED),
             Step::Hears(b"You can't move.\r\n"),
         ],
-        b"double.\nYou can't move: the server passes for you.\n",
+        "double.\nYou can't move: the server passes for you.\n",
     ),
     (
         &[Step::Hears(GAME_OVER), Step::Hears(GAME_OVER)],
-        b"double.\nThe game is over. You 0, bob 1 of 3.\n",
+        "double.\nThe game is over. You 0, bob 1 of 3.\n",
     ),
-    // the rule that a move breaks is that of the last one
-    (
-        &[
-            Step::Types(b"roll"),
-            Step::Hears(TO_MOVE),
-            Step::Types(b"move 23-22"),
-            Step::Types(b"move 22-21"),
-        ],
-        b"You have no checker on 23. Legal: move 24-22 24-18 [9 IllegalPlay]\n\
+];
+
+#[test]
+fn a_board_is_shown_once(rt: HostRuntime) -> Result<(), Fail> {
+    for (steps, rows) in &BOARDS {
+        assert_ends(&rt, bell_settings(), &FIRST_BOARD, steps, rows)?;
+    }
+    Ok(())
+}
+
+/// The rule that a move breaks is that of the last one.
+static MOVES: [(&[Step<'static>], &str); 1] = [(
+    &[
+        Step::Types(b"roll"),
+        Step::Hears(TO_MOVE),
+        Step::Types(b"move 23-22"),
+        Step::Types(b"move 22-21"),
+    ],
+    "You have no checker on 23. Legal: move 24-22 24-18 [9 IllegalPlay]\n\
             You have no checker on 22. Legal: move 24-22 24-18 [9 IllegalPlay]\n",
-    ),
-    // each list is counted anew, and a player who comes alone is in a row
+)];
+
+#[test]
+fn the_rule_is_that_of_the_last_move(rt: HostRuntime) -> Result<(), Fail> {
+    for (steps, rows) in &MOVES {
+        assert_ends(&rt, bell_settings(), &FIRST_BOARD, steps, rows)?;
+    }
+    Ok(())
+}
+
+/// Each list is counted anew, and a player who comes alone is in a row.
+static LISTS: [(&[Step<'static>], &str); 2] = [
     (
         &[
             Step::Hears(b"5 bob - - 1 0 1623.45 0 0 1 host - -\r\n"),
@@ -252,7 +325,7 @@ bob's turn.\n",
             Step::Hears(b"5 dave - - 1 0 900.05 0 0 1 host - -\r\n"),
             Step::Hears(b"6\r\n"),
         ],
-        b"2 players: type players\ndave (900.05): ready\n",
+        "2 players: type players\ndave (900.05): ready\n",
     ),
     (
         &[
@@ -261,46 +334,20 @@ bob's turn.\n",
             Step::Hears(b"5 dave - - 1 0 900.05 0 0 1 host - -\r\n"),
             Step::Hears(b"6\r\n"),
         ],
-        b"bob (1623.45): ready\ndave (900.05): ready\n",
+        "bob (1623.45): ready\ndave (900.05): ready\n",
     ),
 ];
 
-/// What is shown of the first board, and of steps after it.
-fn shown_after(
-    alloc: Global,
-    settings: Settings<'static>,
-    steps: &[Step<'static>],
-) -> Result<Vec<u8>, Fail> {
-    let mut all = Vec::from_slice(
-        alloc,
-        &[
-            Step::Hears(WELCOME),
-            Step::Hears(SETTINGS),
-            Step::Hears(TO_ROLL),
-            Step::Rests,
-        ],
-    )?;
-    all.extend_from_slice(steps)?;
-    shown(alloc, settings, all.as_slice())
-}
-
 #[test]
-fn what_is_remembered_is_shown_when_it_is_to_be(rt: HostRuntime) -> Result<(), Fail> {
-    for (scene, rows) in &SCENES {
-        let settings = Settings {
-            bell: true,
-            ..plain_settings()
-        };
-        let text = shown_after(rt.alloc(), settings, scene)?;
-        let rows = str::from_utf8(rows)?;
-        let text = str::from_utf8(text.as_slice())?;
-        assert!(rt; text.ends_with(rows), "wanted {rows} after {text}");
+fn each_list_is_counted_anew(rt: HostRuntime) -> Result<(), Fail> {
+    for (steps, rows) in &LISTS {
+        assert_ends(&rt, bell_settings(), &FIRST_BOARD, steps, rows)?;
     }
     Ok(())
 }
 
 /// Boards after which nothing was the opponent's last move.
-const UNMARKED: [&[Step<'static>]; 3] = [
+static UNMARKED: [&[Step<'static>]; 3] = [
     &[Step::Hears(FIVE_MOVED)],
     &[Step::Hears(POINT_OF_CAROL)],
     &[
@@ -312,25 +359,38 @@ const UNMARKED: [&[Step<'static>]; 3] = [
     ],
 ];
 
+/// Asserts that the last board that is shown has no mark.
+fn assert_unmarked(rt: &(impl Abort + AllocGlobal), steps: &[Step<'_>]) -> Result<(), Fail> {
+    let text = shown(rt.alloc(), colour_settings(), &FIRST_BOARD, steps)?;
+    let text = str::from_utf8(text.as_slice())?;
+    let last = match text.rsplit_once("here again") {
+        Some((_, last)) => last,
+        None => text,
+    };
+    assert!(rt;
+        last.contains("O You") && !last.contains("\x1b[35m"),
+        "{last}"
+    );
+    Ok(())
+}
+
 #[test]
 fn what_is_no_last_move_is_not_marked(rt: HostRuntime) -> Result<(), Fail> {
-    for scene in &UNMARKED {
-        let settings = Settings {
-            colour: true,
-            ..plain_settings()
-        };
-        let text = shown_after(rt.alloc(), settings, scene)?;
-        let text = str::from_utf8(text.as_slice())?;
-        let last = match text.rsplit_once("here again") {
-            Some((_, last)) => last,
-            None => text,
-        };
-        assert!(rt;
-            last.contains("O You") && !last.contains("\x1b[35m"),
-            "{last}"
-        );
+    for steps in &UNMARKED {
+        assert_unmarked(&rt, steps)?;
     }
     Ok(())
+}
+
+/// The width of the widest row of a picture in a text.
+fn widest_row(text: &str) -> usize {
+    let mut widest = 0;
+    for row in text.lines() {
+        if row.starts_with(" +") || row.starts_with(" |") {
+            widest = row.len().max(widest);
+        }
+    }
+    widest
 }
 
 /// No row of a picture is wider than the terminal.
@@ -340,14 +400,12 @@ fn a_picture_is_cut_to_the_columns(rt: HostRuntime) -> Result<(), Fail> {
         columns: 60,
         ..plain_settings()
     };
-    let text = shown_after(rt.alloc(), settings, &[Step::Hears(LONG_NAME)])?;
-    let text = str::from_utf8(text.as_slice())?;
-    let mut widest = 0;
-    for row in text.lines() {
-        if row.starts_with(" +") || row.starts_with(" |") {
-            widest = row.len().max(widest);
-        }
-    }
-    assert_eq!(rt; widest, 60);
+    let text = shown(
+        rt.alloc(),
+        settings,
+        &FIRST_BOARD,
+        &[Step::Hears(LONG_NAME)],
+    )?;
+    assert_eq!(rt; widest_row(str::from_utf8(text.as_slice())?), 60);
     Ok(())
 }

@@ -15,6 +15,7 @@ use fibs_typed::typed_line::TypedLine;
 use std::alloc::Global;
 use std::io;
 use std::io::{ErrorKind, Write};
+use std::process::Abort;
 use std::test::Fail;
 use std::time::{Clock, Duration};
 
@@ -151,10 +152,28 @@ fn take_step<F: Words>(
     }
 }
 
-/// What the screen shows after steps, of a user who is connected.
-pub fn shown(alloc: Global, settings: Settings<'_>, steps: &[Step<'_>]) -> Result<Vec<u8>, Fail> {
+/// Takes steps one after another.
+fn take_steps<F: Words>(
+    client: &mut Client,
+    directory: &mut Directory,
+    steps: &[Step<'_>],
+    front: &mut F,
+) -> Result<(), FrontFault> {
+    for step in steps {
+        take_step(client, directory, *step, front)?;
+    }
+    Ok(())
+}
+
+/// What the screen shows after some steps and those after them, of a user who is connected.
+pub fn shown(
+    alloc: Global,
+    settings: Settings<'_>,
+    before: &[Step<'_>],
+    steps: &[Step<'_>],
+) -> Result<Vec<u8>, Fail> {
     let mut shown = Vec::new(alloc);
-    show_on(alloc, settings, steps, &mut shown)?;
+    show_on(alloc, settings, before, steps, &mut shown)?;
     Ok(shown)
 }
 
@@ -162,6 +181,7 @@ pub fn shown(alloc: Global, settings: Settings<'_>, steps: &[Step<'_>]) -> Resul
 pub fn show_on<W: Write + Drop>(
     alloc: Global,
     settings: Settings<'_>,
+    before: &[Step<'_>],
     steps: &[Step<'_>],
     out: W,
 ) -> Result<(), FrontFault> {
@@ -170,8 +190,55 @@ pub fn show_on<W: Write + Drop>(
     let _login = client.open();
     let mut directory = Directory::new(alloc);
     let mut terminal = Terminal::new(alloc, out, Stopped, settings);
-    for step in steps {
-        take_step(&mut client, &mut directory, *step, &mut terminal)?;
+    take_steps(&mut client, &mut directory, before, &mut terminal)?;
+    take_steps(&mut client, &mut directory, steps, &mut terminal)
+}
+
+/// Asserts what the screen shows after a step.
+pub fn assert_shows(
+    rt: &(impl Abort + AllocGlobal),
+    settings: Settings<'_>,
+    step: Step<'_>,
+    wanted: &str,
+) -> Result<(), Fail> {
+    let text = shown(rt.alloc(), settings, &[], &[step])?;
+    assert_eq!(rt; str::from_utf8(text.as_slice())?, wanted);
+    Ok(())
+}
+
+/// Asserts that what the screen shows after some steps and those after them ends by these rows.
+pub fn assert_ends(
+    rt: &(impl Abort + AllocGlobal),
+    settings: Settings<'_>,
+    before: &[Step<'_>],
+    steps: &[Step<'_>],
+    rows: &str,
+) -> Result<(), Fail> {
+    let text = shown(rt.alloc(), settings, before, steps)?;
+    let text = str::from_utf8(text.as_slice())?;
+    assert!(rt; text.ends_with(rows), "wanted {rows} after {text}");
+    Ok(())
+}
+
+/// Asserts that what the screen shows after steps has each of these rows.
+pub fn assert_has(
+    rt: &(impl Abort + AllocGlobal),
+    settings: Settings<'_>,
+    steps: &[Step<'_>],
+    rows: &[&str],
+) -> Result<(), Fail> {
+    let text = shown(rt.alloc(), settings, &[], steps)?;
+    let text = str::from_utf8(text.as_slice())?;
+    for row in rows {
+        assert!(rt; text.contains(*row), "wanted {row} in {text}");
     }
     Ok(())
+}
+
+/// The settings of a terminal of 80 columns, with colours.
+pub fn colour_settings() -> Settings<'static> {
+    Settings {
+        colour: true,
+        ..plain_settings()
+    }
 }

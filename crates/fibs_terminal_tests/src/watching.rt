@@ -14,26 +14,17 @@ use std::time::Duration;
 /// How many seconds a wait takes at most that is to end before.
 const PATIENCE: u64 = 10;
 
-/// Both ends of a new connection: that which the network makes, and that which a listener accepts.
+/// Both ends of a new connection: that which the network makes, in at most so long, and that which a listener accepts.
 fn connected<N: Net<Stream = TcpStream, Listener = TcpListener>>(
     net: &N,
+    most: Option<Duration>,
 ) -> io::Result<(TcpStream, TcpStream)> {
     let listener = TcpListener::bind(net, "127.0.0.1:0")?;
-    let near = TcpStream::connect(net, listener.local_addr()?)?;
-    let (far, _peer) = listener.accept()?;
-    Ok((near, far))
-}
-
-/// The same by a call with a limit of time.
-fn connected_in_time<N: Net<Stream = TcpStream, Listener = TcpListener>>(
-    net: &N,
-) -> io::Result<(TcpStream, TcpStream)> {
-    let listener = TcpListener::bind(net, "127.0.0.1:0")?;
-    let near = TcpStream::connect_timeout(
-        net,
-        &listener.local_addr()?,
-        Duration::from_secs(PATIENCE),
-    )?;
+    let address = listener.local_addr()?;
+    let near = match most {
+        None => TcpStream::connect(net, address)?,
+        Some(most) => TcpStream::connect_timeout(net, &address, most)?,
+    };
     let (far, _peer) = listener.accept()?;
     Ok((near, far))
 }
@@ -61,19 +52,18 @@ fn is_watched(
     Ok(is_quiet && !events.is_empty())
 }
 
-#[test]
-fn a_connection_is_watched(rt: HostRuntime) -> Result<(), Fail> {
-    let mut heard = Poll::new(&rt)?;
-    let (near, mut far) = connected(&WatchedNet::new(&rt, heard.registry()))?;
-    assert!(rt; is_watched(rt.alloc(), &mut heard, &near, &mut far)?);
-    Ok(())
+/// Whether a connection that is made, in at most so long, is watched.
+fn is_made_and_watched(rt: &HostRuntime, most: Option<Duration>) -> Result<bool, Fail> {
+    let mut heard = Poll::new(rt)?;
+    let (near, mut far) = connected(&WatchedNet::new(rt, heard.registry()), most)?;
+    is_watched(rt.alloc(), &mut heard, &near, &mut far)
 }
 
 #[test]
-fn a_connection_that_is_made_in_time_is_watched(rt: HostRuntime) -> Result<(), Fail> {
-    let mut heard = Poll::new(&rt)?;
-    let (near, mut far) = connected_in_time(&WatchedNet::new(&rt, heard.registry()))?;
-    assert!(rt; is_watched(rt.alloc(), &mut heard, &near, &mut far)?);
+fn a_connection_is_watched(rt: HostRuntime) -> Result<(), Fail> {
+    for most in [None, Some(Duration::from_secs(PATIENCE))] {
+        assert!(rt; is_made_and_watched(&rt, most)?, "{most:?}");
+    }
     Ok(())
 }
 
@@ -86,35 +76,37 @@ fn a_watched_network_finds_each_address(rt: HostRuntime) -> Result<(), Fail> {
     let named = Named::new(&rt, [first, second]);
     let net = WatchedNet::new(&named, heard.registry());
     let mut found = [first; 3];
-    assert_eq!(rt;
-        net.lookup_host("fibs.example", 4321, &mut found).ok(),
-        Some(2)
-    );
-    assert_eq!(rt; found[1], second);
+    let count = net.lookup_host("fibs.example", 4321, &mut found)?;
+    assert_eq!(rt; (count, found[1]), (2, second));
     Ok(())
+}
+
+/// What comes first of what is typed and what the server sends, if both are ready: at three times, and then after what is
+/// typed was read.
+fn seen_first(rt: &HostRuntime, heard_before: bool) -> Result<[First; 4], Fail> {
+    let heard = Poll::new(rt)?;
+    let (near, mut far) = connected(&WatchedNet::new(rt, heard.registry()), None)?;
+    let (mut typed, mut keys) = connected(rt, None)?;
+    let mut watch = PollWatch::new(rt, rt.alloc(), typed.as_raw_fd(), &heard)?;
+    if heard_before {
+        arrives(&mut far, &near)?;
+    }
+    arrives(&mut keys, &typed)?;
+    if !heard_before {
+        arrives(&mut far, &near)?;
+    }
+    // it is so as long as it is not read
+    let (first, second, third) = (watch.first(), watch.first(), watch.first());
+    typed.read_exact(&mut [0u8; 1])?;
+    Ok([first, second, third, watch.first()])
 }
 
 /// If both are ready, what is typed comes first, whichever of them was ready before the other.
 #[test]
 fn what_is_typed_comes_before_what_is_heard(rt: HostRuntime) -> Result<(), Fail> {
+    let wanted = [First::Typed, First::Typed, First::Typed, First::Heard];
     for heard_before in [true, false] {
-        let heard = Poll::new(&rt)?;
-        let (near, mut far) = connected(&WatchedNet::new(&rt, heard.registry()))?;
-        let (mut typed, mut keys) = connected(&rt)?;
-        let mut watch = PollWatch::new(&rt, rt.alloc(), typed.as_raw_fd(), &heard)?;
-        if heard_before {
-            arrives(&mut far, &near)?;
-            arrives(&mut keys, &typed)?;
-        } else {
-            arrives(&mut keys, &typed)?;
-            arrives(&mut far, &near)?;
-        }
-        // it is so as long as it is not read
-        for _ in 0..3 {
-            assert_eq!(rt; watch.first(), First::Typed);
-        }
-        typed.read_exact(&mut [0u8; 1])?;
-        assert_eq!(rt; watch.first(), First::Heard);
+        assert_eq!(rt; seen_first(&rt, heard_before)?, wanted, "{heard_before}");
     }
     Ok(())
 }
@@ -123,7 +115,7 @@ fn what_is_typed_comes_before_what_is_heard(rt: HostRuntime) -> Result<(), Fail>
 #[test]
 fn a_wait_that_fails_is_no_word_of_the_server(rt: HostRuntime) -> Result<(), Fail> {
     let heard = Poll::new(&rt)?;
-    let (typed, _keys) = connected(&rt)?;
+    let (typed, _keys) = connected(&rt, None)?;
     let mut watch = PollWatch::new(&rt, rt.alloc(), typed.as_raw_fd(), &heard)?;
     drop(typed);
     assert_eq!(rt; watch.first(), First::Typed);

@@ -1,52 +1,51 @@
 //! Messages, and their words.
 
-use crate::seats::{Step, plain_settings, shown};
+use crate::seats::{Step, assert_shows, plain_settings};
 use fibs_environment::Settings;
 use std::test::Fail;
 
 /// A line of the server, and what is shown of it.
-const LINES: [(&[u8], &[u8]); 16] = [
+static LINES: [(&[u8], &str); 16] = [
     (
         b"1 ann 1041253132 localhost\r\n",
-        b"Welcome, ann. Last login: 30 December 2002, 12:58, from localhost.\n",
+        "Welcome, ann. Last login: 30 December 2002, 12:58, from localhost.\n",
     ),
     (
         b"2 ann 1 1 0 0 0 0 1 1 0 0 1 0 1 1500.00 0 0 none 0 0 UTC\r\n",
-        b"You are ann, rated 1500.00, experience 0.\nOn: allowpip autoboard crawford double\n    moreboards notify\n",
+        "You are ann, rated 1500.00, experience 0.\nOn: allowpip autoboard crawford double\n    moreboards notify\n",
     ),
-    (b"12 bob hi\r\n", b"13:07 bob says: hi\n"),
-    (b"13 bob Anybody\\?\r\n", b"13:07 bob shouts: Anybody\\?\n"),
-    (b"15 bob \x1b[2J\r\n", b"13:07 bob kibitzes: \\x1b[2J\n"),
-    (b"16 bob yes\r\n", b"13:07 You say to bob: yes\n"),
-    (b"17 hello\r\n", b"13:07 You shout: hello\n"),
+    (b"12 bob hi\r\n", "13:07 bob says: hi\n"),
+    (b"13 bob Anybody\\?\r\n", "13:07 bob shouts: Anybody\\?\n"),
+    (b"15 bob \x1b[2J\r\n", "13:07 bob kibitzes: \\x1b[2J\n"),
+    (b"16 bob yes\r\n", "13:07 You say to bob: yes\n"),
+    (b"17 hello\r\n", "13:07 You shout: hello\n"),
     (
         b"9 carol 1041253132 see you\r\n",
-        b"carol left a message on 30 December 2002, 12:58: see you\n",
+        "carol left a message on 30 December 2002, 12:58: see you\n",
     ),
-    (b"10 carol\r\n", b"Your message reached carol.\n"),
-    (b"7 carol carol logs in.\r\n", b"carol logs in.\n"),
-    (b"8 carol\r\n", b"carol leaves.\n"),
-    (b"4\r\n", b""),
-    (b"5 bob - - 1 0 1623.45 0 0 1 host - -\r\n6\r\n", b""),
+    (b"10 carol\r\n", "Your message reached carol.\n"),
+    (b"7 carol carol logs in.\r\n", "carol logs in.\n"),
+    (b"8 carol\r\n", "carol leaves.\n"),
+    (b"4\r\n", ""),
+    (b"5 bob - - 1 0 1623.45 0 0 1 host - -\r\n6\r\n", ""),
     (
         b"12\r\n",
-        b"A message that can't be read: field 1 is missing [12 Missing]\n12\n",
+        "A message that can't be read: field 1 is missing [12 Missing]\n12\n",
     ),
     (
         b"board:\r\n",
-        b"A board that can't be read: field 2 is no name or word [0 BadName]\nboard:\n",
+        "A board that can't be read: field 2 is no name or word [0 BadName]\nboard:\n",
     ),
     (
         b"** You're \xc3\xa9 not playing.\r\n",
-        b"** You're \\xc3\\xa9 not playing.\n",
+        "** You're \\xc3\\xa9 not playing.\n",
     ),
 ];
 
 #[test]
 fn messages_are_worded(rt: HostRuntime) -> Result<(), Fail> {
-    for (line, row) in &LINES {
-        let text = shown(rt.alloc(), plain_settings(), &[Step::Hears(line)])?;
-        assert_eq!(rt; text.as_slice(), *row);
+    for (line, rows) in &LINES {
+        assert_shows(&rt, plain_settings(), Step::Hears(line), rows)?;
     }
     Ok(())
 }
@@ -59,9 +58,6 @@ fn letters_stand_as_they_are(rt: HostRuntime) -> Result<(), Fail> {
         ..plain_settings()
     };
     let line = "12 bob \u{e9}\u{202e}\u{9b}\u{4e2d}\r\n";
-    let step = Step::Hears(b"12 bob \xc3\xa9\xe2\x80\xae\xc2\x9b\xe4\xb8\xad\r\n");
-    let text = shown(rt.alloc(), settings, &[step])?;
-    let row = b"\x0713:07 bob says: \xc3\xa9\\xe2\\x80\\xae\\xc2\\x9b\xe4\xb8\xad\n";
-    assert_eq!(rt; text.as_slice(), row.as_slice(), "{line}");
-    Ok(())
+    let row = "\x0713:07 bob says: \u{e9}\\xe2\\x80\\xae\\xc2\\x9b\u{4e2d}\n";
+    assert_shows(&rt, settings, Step::Hears(line.as_bytes()), row)
 }
