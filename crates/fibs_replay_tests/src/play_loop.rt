@@ -2,13 +2,13 @@
 
 use super::replay::{
     LARGER, LOGS_IN, LOST_PLAY, NO_DOUBLE, ORDER_AFTER_THE_BOARD, OTHER, RESIGNATION, ROLL,
-    SECOND_CLICK, STANDING_ORDER, is_log_so_far, replayed,
+    SECOND_CLICK, STANDING_ORDER, assert_is, is_log_so_far, replayed,
 };
 use fibs_engine::fault::EngineFault;
 use fibs_loop::play_loop;
 use fibs_test_tools::outcome::Outcome;
 use fibs_test_tools::pipe::{After, Pipe};
-use fibs_test_tools::text::{Text, joined, text_of};
+use fibs_test_tools::text::joined;
 use std::net::{Net, TcpListener, TcpStream};
 use std::process::Abort;
 use std::test::Fail;
@@ -21,25 +21,7 @@ struct Case {
     end: &'static [u8],
 }
 
-static CASES: [Case; 17] = [
-    Case {
-        name: "a second click, and a line too few",
-        script: SECOND_CLICK,
-        status: 3,
-        end: b"clicked 1 WrongKind\nrefused 13 5 NothingToServe\n",
-    },
-    Case {
-        name: "a resignation, and a line too few",
-        script: RESIGNATION,
-        status: 3,
-        end: b"clicked 1 NotYours\nrefused 13 5 NothingToServe\n",
-    },
-    Case {
-        name: "a loss that keeps all",
-        script: LOST_PLAY,
-        status: 0,
-        end: b"clicked 2 NotYours\nend 20\n",
-    },
+static CASES: [Case; 12] = [
     Case {
         name: "a loss that keeps half a line",
         script: &[LARGER, LOGS_IN, b"click move 24-18\nlose 11\nserve 1 1 1\n"],
@@ -113,18 +95,6 @@ static CASES: [Case; 17] = [
         end: b"end 9\n",
     },
     Case {
-        name: "a standing order",
-        script: STANDING_ORDER,
-        status: 0,
-        end: b"0:0:0:0:0:0:0:0\nend 14\n",
-    },
-    Case {
-        name: "an order on a board that is shown",
-        script: ORDER_AFTER_THE_BOARD,
-        status: 0,
-        end: b" roll\nend 11\n",
-    },
-    Case {
         name: "a roll of an order that a loss leaves on its way",
         script: &[
             NO_DOUBLE,
@@ -136,18 +106,6 @@ static CASES: [Case; 17] = [
     },
 ];
 
-/// The case of that name, which there is.
-fn case_of<N: Abort>(rt: &N, name: &str) -> &'static Case {
-    match CASES.iter().find(|case| case.name == name) {
-        Some(case) => case,
-        None => panic!(rt; "no case is named {name}"),
-    }
-}
-
-fn script_of(case: &Case) -> Text {
-    joined(case.script)
-}
-
 /// How a script ends that is played over sockets to the listener, and what is printed.
 fn played<N: Net<Stream = TcpStream> + AllocGlobal>(
     rt: &N,
@@ -157,36 +115,86 @@ fn played<N: Net<Stream = TcpStream> + AllocGlobal>(
     let mut reader = Pipe::new(script, 100, After::End, 0);
     let mut writer = Pipe::new(b"", 1, After::End, 4096);
     let ending = play_loop(rt, rt.alloc(), listener, &mut reader, &mut writer);
-    Outcome {
-        ending,
-        out: text_of(writer.output()),
-        err: Text::new(),
-    }
+    Outcome::new(ending, writer.output(), b"")
+}
+
+/// Asserts that a script is played over sockets as it is replayed, with this status and this end of what is printed.
+fn assert_played<N: Net<Stream = TcpStream> + AllocGlobal + Abort>(
+    rt: &N,
+    listener: &TcpListener,
+    name: &str,
+    script: &[&[u8]],
+    status: u8,
+    end: &[u8],
+) {
+    let script = joined(script);
+    let outcome = played(rt, listener, &script);
+    let wanted = replayed(rt.alloc(), &script, 100);
+    assert_is(rt, name, 0, &outcome, Ok(status), &wanted.out);
+    assert_is(rt, name, 1, &wanted, Ok(status), &outcome.out);
+    assert!(rt; outcome.out.ends_with(end), "{name}: {outcome:?}");
 }
 
 #[test]
 fn scripts_are_played_as_they_are_replayed(rt: HostRuntime) -> Result<(), Fail> {
     let listener = TcpListener::bind(&rt, "127.0.0.1:0")?;
     for case in &CASES {
-        let script = script_of(case);
-        let outcome = played(&rt, &listener, script.as_slice());
-        assert!(rt; outcome.out.ends_with(case.end), "{}", case.name);
-        let wanted = replayed(rt.alloc(), script.as_slice(), 100);
-        assert!(rt;
-            outcome.is(Ok(case.status), &wanted.out, b""),
-            "{}, at {}: {:?}",
+        assert_played(
+            &rt,
+            &listener,
             case.name,
-            0,
-            outcome
-        );
-        assert!(rt;
-            wanted.is(Ok(case.status), &outcome.out, b""),
-            "{}, at {}: {:?}",
-            case.name,
-            1,
-            wanted
+            case.script,
+            case.status,
+            case.end,
         );
     }
+    Ok(())
+}
+
+/// Decisions and orders of a user who logs in.
+#[test]
+fn decisions_are_played_as_they_are_replayed(rt: HostRuntime) -> Result<(), Fail> {
+    let to = TcpListener::bind(&rt, "127.0.0.1:0")?;
+    assert_played(
+        &rt,
+        &to,
+        "a second click",
+        SECOND_CLICK,
+        3,
+        b"clicked 1 WrongKind\nrefused 13 5 NothingToServe\n",
+    );
+    assert_played(
+        &rt,
+        &to,
+        "a resignation",
+        RESIGNATION,
+        3,
+        b"clicked 1 NotYours\nrefused 13 5 NothingToServe\n",
+    );
+    assert_played(
+        &rt,
+        &to,
+        "a loss that keeps all",
+        LOST_PLAY,
+        0,
+        b"clicked 2 NotYours\nend 20\n",
+    );
+    assert_played(
+        &rt,
+        &to,
+        "a standing order",
+        STANDING_ORDER,
+        0,
+        b"0:0:0:0:0:0:0:0\nend 14\n",
+    );
+    assert_played(
+        &rt,
+        &to,
+        "an order",
+        ORDER_AFTER_THE_BOARD,
+        0,
+        b" roll\nend 11\n",
+    );
     Ok(())
 }
 
@@ -195,55 +203,61 @@ fn scripts_are_played_as_they_are_replayed(rt: HostRuntime) -> Result<(), Fail> 
 fn bytes_cross_the_connection_that_is_accepted(rt: HostRuntime) -> Result<(), Fail> {
     let listener = TcpListener::bind(&rt, "127.0.0.1:0")?;
     drop(TcpStream::connect(&rt, listener.local_addr()?)?);
-    let outcome = played(
-        &rt,
-        &listener,
-        script_of(case_of(&rt, "a second click, and a line too few")).as_slice(),
-    );
+    let script = joined(SECOND_CLICK);
+    let outcome = played(&rt, &listener, &script);
     let ending = Err(EngineFault::Device);
-    assert!(rt;
-        outcome.is(ending, b"opened 1\n", b""),
-        "another connection, at {}: {:?}",
+    assert_is(
+        &rt,
+        "another connection",
         0,
-        outcome
+        &outcome,
+        ending,
+        b"opened 1\n",
     );
     Ok(())
 }
 
-/// If memory runs out, the log after the events done so far is printed, and the script can be played as before.
+/// If memory runs out, the log after the events done so far is printed, and the script can be played as before, with
+/// this status and this end of what is printed.
 fn assert_played_again<N: Net<Listener = TcpListener, Stream = TcpStream> + AllocGlobal + Abort>(
     rt: &N,
-    name: &str,
+    script: &[&[u8]],
+    status: u8,
+    end: &[u8],
 ) -> Result<(), Fail> {
-    let case = case_of(rt, name);
     let listener = TcpListener::bind(rt, "127.0.0.1:0")?;
-    let script = script_of(case);
-    let mut outcome = played(rt, &listener, script.as_slice());
+    let script = joined(script);
+    let mut outcome = played(rt, &listener, &script);
     if outcome.ending == Err(EngineFault::Memory) {
-        assert!(rt;
-            is_log_so_far(rt.alloc(), script.as_slice(), outcome.out.as_slice()),
-            "{:?}",
-            outcome.out.as_slice()
-        );
-        outcome = played(rt, &listener, script.as_slice());
+        let is_so_far = is_log_so_far(rt.alloc(), &script, &outcome.out);
+        assert!(rt; is_so_far, "{:?}", outcome.out.as_slice());
+        outcome = played(rt, &listener, &script);
     }
-    assert!(rt; outcome.ending == Ok(case.status) && outcome.out.ends_with(case.end));
+    assert!(rt;
+        outcome.ending == Ok(status) && outcome.out.ends_with(end),
+        "{outcome:?}"
+    );
     Ok(())
 }
 
 #[test]
 fn a_second_click_is_played_under_refused_memory(rt: HostRuntime) -> Result<(), Fail> {
-    assert_played_again(&rt, "a second click, and a line too few")
+    assert_played_again(
+        &rt,
+        SECOND_CLICK,
+        3,
+        b"clicked 1 WrongKind\nrefused 13 5 NothingToServe\n",
+    )
 }
 
 #[test]
 fn a_lost_play_is_played_under_refused_memory(rt: HostRuntime) -> Result<(), Fail> {
-    assert_played_again(&rt, "a loss that keeps all")
+    assert_played_again(&rt, LOST_PLAY, 0, b"clicked 2 NotYours\nend 20\n")
 }
 
 #[test]
 fn a_standing_order_is_played_under_refused_memory(rt: HostRuntime) -> Result<(), Fail> {
-    assert_played_again(&rt, "a standing order")
+    assert_played_again(&rt, STANDING_ORDER, 0, b"0:0:0:0:0:0:0:0\nend 14\n")
 }
 
 /// The log grows between the two entries of one event: then neither is printed.
@@ -251,5 +265,5 @@ fn a_standing_order_is_played_under_refused_memory(rt: HostRuntime) -> Result<()
 fn a_click_before_the_connection_is_played_under_refused_memory(
     rt: HostRuntime,
 ) -> Result<(), Fail> {
-    assert_played_again(&rt, "a click before the connection")
+    assert_played_again(&rt, &[ROLL, b"\nclick roll", LOGS_IN], 0, b"end 9\n")
 }

@@ -4,7 +4,7 @@ use fibs_replay::replay;
 use fibs_test_tools::devices::FailsOnce;
 use fibs_test_tools::outcome::Outcome;
 use fibs_test_tools::pipe::{After, FAULT, Pipe};
-use fibs_test_tools::text::{Text, joined, text_of};
+use fibs_test_tools::text::joined;
 use std::alloc::Global;
 use std::process::Abort;
 use std::test::Fail;
@@ -71,82 +71,54 @@ fn replayed_into(alloc: Global, script: &[u8], most: usize, after: After, room: 
     let mut reader = Pipe::new(script, most, after, 0);
     let mut writer = Pipe::new(b"", 1, After::End, room);
     let ending = replay(alloc, &mut reader, &mut writer);
-    Outcome {
-        ending,
-        out: text_of(writer.output()),
-        err: Text::new(),
-    }
+    Outcome::new(ending, writer.output(), b"")
 }
 
-/// Asserts how a script ends and what is printed, however it is cut.
-fn assert_replayed(rt: &(impl Abort + AllocGlobal), script: &Text, status: u8, wanted: &Text) {
-    for most in [1, 2, 7, 4096] {
-        let outcome = replayed(rt.alloc(), script.as_slice(), most);
-        assert!(rt;
-            outcome.is(Ok(status), wanted.as_slice(), b""),
-            "in portions, at {}: {:?}",
-            most,
-            outcome
-        );
-    }
+/// Asserts how a script ended, and that this was printed. The name and the number say which case it is.
+pub fn assert_is(
+    rt: &impl Abort,
+    name: &str,
+    at: usize,
+    outcome: &Outcome,
+    ending: Result<u8, EngineFault>,
+    printed: &[u8],
+) {
+    assert!(rt;
+        outcome.is(ending, printed, b""),
+        "{name}, at {at}: {outcome:?}"
+    );
 }
 
 /// A second click before the answer comes, and one after it; at the end nothing is left to serve.
-pub const SECOND_CLICK: &[&[u8]] = &[
+pub static SECOND_CLICK: &[&[u8]] = &[
     ROLL,
     LOGS_IN,
     b"click roll\nclick roll\nserve 1 6 2\ndeliver 10000\nclick roll\nserve 1 1 1\n",
 ];
 
-fn double_click_printed() -> Text {
-    joined(&[
-        b"opened 1\nloggedin 1\nwelcomed 1\ninformed 1 0 0\nshown 1 ",
-        ROLL,
-        b"\nshown 1 ",
-        ROLL,
-        b"\nclicked 1 ok\nsent 1 ",
-        ROLL,
-        b" roll\nclicked 1 Waiting\ntook 1 ",
-        ROLL,
-        b" roll\nshown 1 ",
-        DICE,
-        b"\nclicked 1 WrongKind\nrefused 13 5 NothingToServe\n",
-    ])
-}
-
-#[test]
-fn a_second_click_sends_nothing(rt: HostRuntime) {
-    assert_replayed(&rt, &joined(SECOND_CLICK), 3, &double_click_printed());
-}
+static SECOND_CLICK_PRINTED: &[&[u8]] = &[
+    b"opened 1\nloggedin 1\nwelcomed 1\ninformed 1 0 0\nshown 1 ",
+    ROLL,
+    b"\nshown 1 ",
+    ROLL,
+    b"\nclicked 1 ok\nsent 1 ",
+    ROLL,
+    b" roll\nclicked 1 Waiting\ntook 1 ",
+    ROLL,
+    b" roll\nshown 1 ",
+    DICE,
+    b"\nclicked 1 WrongKind\nrefused 13 5 NothingToServe\n",
+];
 
 /// A resignation, a click before its answer, and one after it; at the end nothing is left to serve.
-pub const RESIGNATION: &[&[u8]] = &[
+pub static RESIGNATION: &[&[u8]] = &[
     ROLL,
     LOGS_IN,
     b"click resign g\nclick roll\nserve 1 6 2\ndeliver 10000\nclick roll\nserve 1 1 1\n",
 ];
 
-/// A resignation goes out once, and gives the turn to the opponent, whatever the dice of the server.
-#[test]
-fn a_resignation_gives_the_turn_away(rt: HostRuntime) {
-    let wanted = joined(&[
-        b"opened 1\nloggedin 1\nwelcomed 1\ninformed 1 0 0\nshown 1 ",
-        ROLL,
-        b"\nshown 1 ",
-        ROLL,
-        b"\nclicked 1 ok\nsent 1 ",
-        ROLL,
-        b" resign g\nclicked 1 Waiting\ntook 1 ",
-        ROLL,
-        b" resign g\nshown 1 ",
-        GIVEN,
-        b"\nclicked 1 NotYours\nrefused 13 5 NothingToServe\n",
-    ]);
-    assert_replayed(&rt, &joined(RESIGNATION), 3, &wanted);
-}
-
 /// A play that a loss leaves on its way; the next connection is shown what came of it.
-pub const LOST_PLAY: &[&[u8]] = &[
+pub static LOST_PLAY: &[&[u8]] = &[
     LARGER,
     LOGS_IN,
     b"click move 24-18\nlose 10000\nserve 1 1 1\n",
@@ -154,59 +126,23 @@ pub const LOST_PLAY: &[&[u8]] = &[
     b"click roll\n",
 ];
 
-fn lost_play_printed() -> Text {
-    joined(&[
-        b"opened 1\nloggedin 1\nwelcomed 1\ninformed 1 0 0\nshown 1 ",
-        LARGER,
-        b"\nshown 1 ",
-        LARGER,
-        b"\nclicked 1 ok\nsent 1 ",
-        LARGER,
-        b" move 24-18\nlost 1 ",
-        LARGER,
-        b" move 24-18\ntook 1 ",
-        LARGER,
-        b" move 24-18\nopened 2\nloggedin 2\nwelcomed 2\ninformed 2 0 0\nshown 2 ",
-        MOVED,
-        b"\nshown 2 ",
-        MOVED,
-        b"\nclicked 2 NotYours\nend 20\n",
-    ])
-}
-
-#[test]
-fn a_play_that_a_loss_leaves_on_its_way_is_served(rt: HostRuntime) {
-    assert_replayed(&rt, &joined(LOST_PLAY), 0, &lost_play_printed());
-}
-
-#[test]
-fn half_a_command_is_never_served(rt: HostRuntime) {
-    let script = joined(&[
-        LARGER,
-        LOGS_IN,
-        b"click move 24-18\nlose 3\n",
-        LOGS_IN_AGAIN,
-        b"click move 24-18\nserve 1 1 1\n",
-    ]);
-    let wanted = joined(&[
-        b"opened 1\nloggedin 1\nwelcomed 1\ninformed 1 0 0\nshown 1 ",
-        LARGER,
-        b"\nshown 1 ",
-        LARGER,
-        b"\nclicked 1 ok\nsent 1 ",
-        LARGER,
-        b" move 24-18\nlost 1 ",
-        LARGER,
-        b" move 24-18\nopened 2\nloggedin 2\nwelcomed 2\ninformed 2 0 0\nshown 2 ",
-        LARGER,
-        b"\nshown 2 ",
-        LARGER,
-        b"\nclicked 2 ok\nsent 2 ",
-        LARGER,
-        b" move 24-18\nrefused 19 5 NothingToServe\n",
-    ]);
-    assert_replayed(&rt, &script, 3, &wanted);
-}
+static LOST_PLAY_PRINTED: &[&[u8]] = &[
+    b"opened 1\nloggedin 1\nwelcomed 1\ninformed 1 0 0\nshown 1 ",
+    LARGER,
+    b"\nshown 1 ",
+    LARGER,
+    b"\nclicked 1 ok\nsent 1 ",
+    LARGER,
+    b" move 24-18\nlost 1 ",
+    LARGER,
+    b" move 24-18\ntook 1 ",
+    LARGER,
+    b" move 24-18\nopened 2\nloggedin 2\nwelcomed 2\ninformed 2 0 0\nshown 2 ",
+    MOVED,
+    b"\nshown 2 ",
+    MOVED,
+    b"\nclicked 2 NotYours\nend 20\n",
+];
 
 /// Ten events after the first board: a client that is to roll by itself, which it is told twice, logs in.
 const LOGS_IN_ORDERED: &[u8] = b"
@@ -223,95 +159,218 @@ deliver 10000
 ";
 
 /// The client rolls by itself on the first of two boards that come together; then the order is withdrawn.
-pub const STANDING_ORDER: &[&[u8]] = &[
+pub static STANDING_ORDER: &[&[u8]] = &[
     NO_DOUBLE,
     LOGS_IN_ORDERED,
     b"click roll\nserve 1 6 2\nwithdraw roll\ndeliver 10000\n",
 ];
 
-fn standing_order_printed() -> Text {
-    joined(&[
-        b"opened 1\nordered 1\nloggedin 1\nwelcomed 1\ninformed 1 0 0\nshown 1 ",
-        NO_DOUBLE,
-        b"\nsent 1 ",
-        NO_DOUBLE,
-        b" roll\nshown 1 ",
-        NO_DOUBLE,
-        b"\nclicked 1 Waiting\ntook 1 ",
-        NO_DOUBLE,
-        b" roll\nwithdrawn 1\nshown 1 ",
-        NO_DOUBLE_DICE,
-        b"\nend 14\n",
-    ])
-}
-
-#[test]
-fn a_standing_order_rolls_once(rt: HostRuntime) {
-    assert_replayed(&rt, &joined(STANDING_ORDER), 0, &standing_order_printed());
-}
+static STANDING_ORDER_PRINTED: &[&[u8]] = &[
+    b"opened 1\nordered 1\nloggedin 1\nwelcomed 1\ninformed 1 0 0\nshown 1 ",
+    NO_DOUBLE,
+    b"\nsent 1 ",
+    NO_DOUBLE,
+    b" roll\nshown 1 ",
+    NO_DOUBLE,
+    b"\nclicked 1 Waiting\ntook 1 ",
+    NO_DOUBLE,
+    b" roll\nwithdrawn 1\nshown 1 ",
+    NO_DOUBLE_DICE,
+    b"\nend 14\n",
+];
 
 /// An order on a board that is shown, which is then shown again.
-pub const ORDER_AFTER_THE_BOARD: &[&[u8]] = &[
+pub static ORDER_AFTER_THE_BOARD: &[&[u8]] = &[
     NO_DOUBLE,
     LOGS_IN,
     b"order roll\nrepeat\ndeliver 10000\n",
 ];
 
+/// Asserts how a script ends, and what is printed, in parts, however the script is cut.
+fn assert_replayed(
+    rt: &(impl Abort + AllocGlobal),
+    name: &str,
+    script: &[&[u8]],
+    status: u8,
+    printed: &[&[u8]],
+) {
+    let script = joined(script);
+    let wanted = joined(printed);
+    for most in [1, 2, 7, 4096] {
+        assert_cut(rt, name, &script, most, status, &wanted);
+    }
+}
+
+/// The same if the script is read in portions of at most so many bytes.
+fn assert_cut(
+    rt: &(impl Abort + AllocGlobal),
+    name: &str,
+    script: &[u8],
+    most: usize,
+    status: u8,
+    wanted: &[u8],
+) {
+    let outcome = replayed(rt.alloc(), script, most);
+    assert_is(rt, name, most, &outcome, Ok(status), wanted);
+}
+
+#[test]
+fn a_second_click_sends_nothing(rt: HostRuntime) {
+    assert_replayed(&rt, "a second click", SECOND_CLICK, 3, SECOND_CLICK_PRINTED);
+}
+
+static RESIGNATION_PRINTED: &[&[u8]] = &[
+    b"opened 1\nloggedin 1\nwelcomed 1\ninformed 1 0 0\nshown 1 ",
+    ROLL,
+    b"\nshown 1 ",
+    ROLL,
+    b"\nclicked 1 ok\nsent 1 ",
+    ROLL,
+    b" resign g\nclicked 1 Waiting\ntook 1 ",
+    ROLL,
+    b" resign g\nshown 1 ",
+    GIVEN,
+    b"\nclicked 1 NotYours\nrefused 13 5 NothingToServe\n",
+];
+
+/// A resignation goes out once, and gives the turn to the opponent, whatever the dice of the server.
+#[test]
+fn a_resignation_gives_the_turn_away(rt: HostRuntime) {
+    assert_replayed(&rt, "a resignation", RESIGNATION, 3, RESIGNATION_PRINTED);
+}
+
+#[test]
+fn a_play_that_a_loss_leaves_on_its_way_is_served(rt: HostRuntime) {
+    assert_replayed(
+        &rt,
+        "a play that is served",
+        LOST_PLAY,
+        0,
+        LOST_PLAY_PRINTED,
+    );
+}
+
+/// A play whose command is cut in half by a loss, and which is clicked again.
+static HALF_A_COMMAND: &[&[u8]] = &[
+    LARGER,
+    LOGS_IN,
+    b"click move 24-18\nlose 3\n",
+    LOGS_IN_AGAIN,
+    b"click move 24-18\nserve 1 1 1\n",
+];
+
+static HALF_A_COMMAND_PRINTED: &[&[u8]] = &[
+    b"opened 1\nloggedin 1\nwelcomed 1\ninformed 1 0 0\nshown 1 ",
+    LARGER,
+    b"\nshown 1 ",
+    LARGER,
+    b"\nclicked 1 ok\nsent 1 ",
+    LARGER,
+    b" move 24-18\nlost 1 ",
+    LARGER,
+    b" move 24-18\nopened 2\nloggedin 2\nwelcomed 2\ninformed 2 0 0\nshown 2 ",
+    LARGER,
+    b"\nshown 2 ",
+    LARGER,
+    b"\nclicked 2 ok\nsent 2 ",
+    LARGER,
+    b" move 24-18\nrefused 19 5 NothingToServe\n",
+];
+
+#[test]
+fn half_a_command_is_never_served(rt: HostRuntime) {
+    assert_replayed(
+        &rt,
+        "half a command",
+        HALF_A_COMMAND,
+        3,
+        HALF_A_COMMAND_PRINTED,
+    );
+}
+
+#[test]
+fn a_standing_order_rolls_once(rt: HostRuntime) {
+    assert_replayed(
+        &rt,
+        "a standing order",
+        STANDING_ORDER,
+        0,
+        STANDING_ORDER_PRINTED,
+    );
+}
+
+static ORDER_AFTER_THE_BOARD_PRINTED: &[&[u8]] = &[
+    b"opened 1\nloggedin 1\nwelcomed 1\ninformed 1 0 0\nshown 1 ",
+    NO_DOUBLE,
+    b"\nshown 1 ",
+    NO_DOUBLE,
+    b"\nordered 1\nshown 1 ",
+    NO_DOUBLE,
+    b"\nsent 1 ",
+    NO_DOUBLE,
+    b" roll\nend 11\n",
+];
+
 #[test]
 fn an_order_on_a_board_that_is_shown_waits_for_the_next_board(rt: HostRuntime) {
-    let script = joined(ORDER_AFTER_THE_BOARD);
-    let wanted = joined(&[
-        b"opened 1\nloggedin 1\nwelcomed 1\ninformed 1 0 0\nshown 1 ",
-        NO_DOUBLE,
-        b"\nshown 1 ",
-        NO_DOUBLE,
-        b"\nordered 1\nshown 1 ",
-        NO_DOUBLE,
-        b"\nsent 1 ",
-        NO_DOUBLE,
-        b" roll\nend 11\n",
-    ]);
-    assert_replayed(&rt, &script, 0, &wanted);
+    let printed = ORDER_AFTER_THE_BOARD_PRINTED;
+    assert_replayed(
+        &rt,
+        "an order on a board",
+        ORDER_AFTER_THE_BOARD,
+        0,
+        printed,
+    );
 }
 
 #[test]
 fn an_order_does_not_roll_where_the_player_may_double(rt: HostRuntime) {
-    let script = joined(&[ROLL, LOGS_IN_ORDERED]);
-    let wanted = joined(&[
+    let printed: [&[u8]; 5] = [
         b"opened 1\nordered 1\nloggedin 1\nwelcomed 1\ninformed 1 0 0\nshown 1 ",
         ROLL,
         b"\nshown 1 ",
         ROLL,
         b"\nend 10\n",
-    ]);
-    assert_replayed(&rt, &script, 0, &wanted);
+    ];
+    let script = [ROLL, LOGS_IN_ORDERED];
+    assert_replayed(&rt, "an order that may double", &script, 0, &printed);
 }
+
+/// An order on a connection that is lost, and another connection.
+static ORDER_BEFORE_A_LOSS: &[&[u8]] = &[
+    NO_DOUBLE,
+    LOGS_IN_ORDERED,
+    b"lose 0\nwithdraw roll\norder roll\n",
+    LOGS_IN_AGAIN,
+    b"withdraw roll\n",
+];
+
+static ORDER_BEFORE_A_LOSS_PRINTED: &[&[u8]] = &[
+    b"opened 1\nordered 1\nloggedin 1\nwelcomed 1\ninformed 1 0 0\nshown 1 ",
+    NO_DOUBLE,
+    b"\nsent 1 ",
+    NO_DOUBLE,
+    b" roll\nshown 1 ",
+    NO_DOUBLE,
+    b"\nlost 1 ",
+    NO_DOUBLE,
+    b" roll\nopened 2\nloggedin 2\nwelcomed 2\ninformed 2 0 0\nshown 2 ",
+    NO_DOUBLE,
+    b"\nshown 2 ",
+    NO_DOUBLE,
+    b"\nend 22\n",
+];
 
 #[test]
 fn an_order_ends_with_its_connection(rt: HostRuntime) {
-    let script = joined(&[
-        NO_DOUBLE,
-        LOGS_IN_ORDERED,
-        b"lose 0\nwithdraw roll\norder roll\n",
-        LOGS_IN_AGAIN,
-        b"withdraw roll\n",
-    ]);
-    let wanted = joined(&[
-        b"opened 1\nordered 1\nloggedin 1\nwelcomed 1\ninformed 1 0 0\nshown 1 ",
-        NO_DOUBLE,
-        b"\nsent 1 ",
-        NO_DOUBLE,
-        b" roll\nshown 1 ",
-        NO_DOUBLE,
-        b"\nlost 1 ",
-        NO_DOUBLE,
-        b" roll\nopened 2\nloggedin 2\nwelcomed 2\ninformed 2 0 0\nshown 2 ",
-        NO_DOUBLE,
-        b"\nshown 2 ",
-        NO_DOUBLE,
-        b"\nend 22\n",
-    ]);
-    assert_replayed(&rt, &script, 0, &wanted);
+    let printed = ORDER_BEFORE_A_LOSS_PRINTED;
+    assert_replayed(
+        &rt,
+        "an order before a loss",
+        ORDER_BEFORE_A_LOSS,
+        0,
+        printed,
+    );
 }
 
 /// The parts of a script, its status and what is printed.
@@ -374,26 +433,15 @@ static SHORT: [Row; 16] = [
 #[test]
 fn scripts_that_are_not_run(rt: HostRuntime) {
     for (parts, status, wanted) in &UNREADABLE {
-        assert_replayed(&rt, &joined(parts), *status, &text_of(wanted));
+        assert_replayed(&rt, "a script that is not run", parts, *status, &[wanted]);
     }
 }
 
 #[test]
 fn events_that_may_not_be(rt: HostRuntime) {
     for (parts, status, wanted) in &SHORT {
-        assert_replayed(&rt, &joined(parts), *status, &text_of(wanted));
+        assert_replayed(&rt, "a script of few events", parts, *status, &[wanted]);
     }
-}
-
-/// Asserts that a script is not run, and what is printed.
-fn assert_ended(rt: &(impl Abort + AllocGlobal), script: &[u8], wanted: &[u8]) {
-    let outcome = replayed(rt.alloc(), script, 4096);
-    assert!(rt;
-        outcome.is(Ok(3), wanted, b""),
-        "a script of bytes, at {}: {:?}",
-        script.len(),
-        outcome
-    );
 }
 
 /// As many bytes as may be, and one more.
@@ -404,12 +452,12 @@ fn a_long_script_is_not_run(rt: HostRuntime) -> Result<(), Fail> {
     for _ in 0..149_779 {
         script.extend_from_slice(b"repeat\n")?;
     }
-    for _ in 0..3 {
+    script.extend_from_slice(b"\n\n")?;
+    for wanted in [b"script 149781\n".as_slice(), b"script 0\n"] {
         script.push(b'\n')?;
+        let outcome = replayed(rt.alloc(), &script, 4096);
+        assert_is(&rt, "a long script", script.len(), &outcome, Ok(3), wanted);
     }
-    assert_ended(&rt, &script, b"script 149781\n");
-    script.push(b'\n')?;
-    assert_ended(&rt, &script, b"script 0\n");
     Ok(())
 }
 
@@ -417,49 +465,53 @@ fn a_long_script_is_not_run(rt: HostRuntime) -> Result<(), Fail> {
 fn nothing_is_printed_after_a_failed_read(rt: HostRuntime) {
     let outcome = replayed_into(rt.alloc(), ROLL, 50, FAULT, 4096);
     let ending = Err(EngineFault::Device);
-    assert!(rt;
-        outcome.is(ending, b"", b""),
-        "a failed read, at {}: {:?}",
-        ROLL.len(),
-        outcome
-    );
+    assert_is(&rt, "a failed read", ROLL.len(), &outcome, ending, b"");
+}
+
+/// If so many bytes may be printed, these are the first of what is printed else.
+fn assert_printed_into(
+    rt: &(impl Abort + AllocGlobal),
+    script: &[u8],
+    printed: &[u8],
+    room: usize,
+) {
+    let outcome = replayed_into(rt.alloc(), script, 4096, After::End, room);
+    let front = printed.get(..room).unwrap_or(b"");
+    assert_is(rt, "room", room, &outcome, Err(EngineFault::Device), front);
 }
 
 #[test]
 fn a_front_is_printed_before_a_failed_write(rt: HostRuntime) {
     let script = joined(SECOND_CLICK);
-    let wanted = double_click_printed();
+    let wanted = joined(SECOND_CLICK_PRINTED);
     for room in 0..wanted.len() {
-        let outcome = replayed_into(rt.alloc(), script.as_slice(), 4096, After::End, room);
-        let front = &wanted.as_slice()[..room];
-        assert!(rt;
-            outcome.is(Err(EngineFault::Device), front, b""),
-            "room, at {}: {:?}",
-            room,
-            outcome
-        );
+        assert_printed_into(&rt, &script, &wanted, room);
     }
+}
+
+/// If a write of three bytes fails after so many, nothing is written after it.
+fn assert_written_before(rt: &(impl Abort + AllocGlobal), script: &[u8], before: usize) {
+    let wanted = b"opened 1\nlost 1\nopened 2\nlost 2\nend 4\n";
+    let mut reader = Pipe::new(script, 4096, After::End, 0);
+    let mut writer = FailsOnce::new(before, 3);
+    let ending = replay(rt.alloc(), &mut reader, &mut writer);
+    let outcome = Outcome::new(ending, writer.output(), b"");
+    let front = wanted.get(..before.saturating_mul(3)).unwrap_or(b"");
+    assert_is(
+        rt,
+        "writes",
+        before,
+        &outcome,
+        Err(EngineFault::Device),
+        front,
+    );
 }
 
 #[test]
 fn nothing_is_written_after_a_failed_write_of_a_log(rt: HostRuntime) {
     let script = joined(&[ROLL, b"\nopen\nlose 1\nopen\nlose 1\n"]);
-    let wanted = b"opened 1\nlost 1\nopened 2\nlost 2\nend 4\n";
     for before in 0..10 {
-        let mut reader = Pipe::new(script.as_slice(), 4096, After::End, 0);
-        let mut writer = FailsOnce::new(before, 3);
-        let outcome = Outcome {
-            ending: replay(rt.alloc(), &mut reader, &mut writer),
-            out: text_of(writer.output()),
-            err: Text::new(),
-        };
-        let front = &wanted[..3 * before];
-        assert!(rt;
-            outcome.is(Err(EngineFault::Device), front, b""),
-            "writes, at {}: {:?}",
-            before,
-            outcome
-        );
+        assert_written_before(&rt, &script, before);
     }
 }
 
@@ -490,40 +542,45 @@ pub fn is_log_so_far(alloc: Global, script: &[u8], text: &[u8]) -> bool {
 /// If memory runs out, the log after the events done so far is printed, and the script can be replayed as before.
 fn assert_replayed_again(
     rt: &(impl Abort + AllocGlobal),
-    script: &Text,
+    script: &[&[u8]],
     status: u8,
-    wanted: &Text,
+    printed: &[&[u8]],
 ) {
+    let script = joined(script);
+    let wanted = joined(printed);
     for most in [64, 4096] {
-        let mut outcome = replayed(rt.alloc(), script.as_slice(), most);
-        if outcome.ending == Err(EngineFault::Memory) {
-            let written = outcome.out.as_slice();
-            assert!(rt;
-                is_log_so_far(rt.alloc(), script.as_slice(), written),
-                "{written:?}"
-            );
-            outcome = replayed(rt.alloc(), script.as_slice(), most);
-        }
-        assert!(rt;
-            outcome.is(Ok(status), wanted.as_slice(), b""),
-            "once more, at {}: {:?}",
-            most,
-            outcome
-        );
+        assert_cut_again(rt, &script, most, status, &wanted);
     }
+}
+
+/// The same if the script is read in portions of at most so many bytes.
+fn assert_cut_again(
+    rt: &(impl Abort + AllocGlobal),
+    script: &[u8],
+    most: usize,
+    status: u8,
+    wanted: &[u8],
+) {
+    let mut outcome = replayed(rt.alloc(), script, most);
+    if outcome.ending == Err(EngineFault::Memory) {
+        let is_so_far = is_log_so_far(rt.alloc(), script, &outcome.out);
+        assert!(rt; is_so_far, "{:?}", outcome.out.as_slice());
+        outcome = replayed(rt.alloc(), script, most);
+    }
+    assert_is(rt, "once more", most, &outcome, Ok(status), wanted);
 }
 
 #[test]
 fn a_second_click_is_replayed_under_refused_memory(rt: HostRuntime) {
-    assert_replayed_again(&rt, &joined(SECOND_CLICK), 3, &double_click_printed());
+    assert_replayed_again(&rt, SECOND_CLICK, 3, SECOND_CLICK_PRINTED);
 }
 
 #[test]
 fn a_standing_order_is_replayed_under_refused_memory(rt: HostRuntime) {
-    assert_replayed_again(&rt, &joined(STANDING_ORDER), 0, &standing_order_printed());
+    assert_replayed_again(&rt, STANDING_ORDER, 0, STANDING_ORDER_PRINTED);
 }
 
 #[test]
 fn a_lost_play_is_replayed_under_refused_memory(rt: HostRuntime) {
-    assert_replayed_again(&rt, &joined(LOST_PLAY), 0, &lost_play_printed());
+    assert_replayed_again(&rt, LOST_PLAY, 0, LOST_PLAY_PRINTED);
 }

@@ -9,6 +9,7 @@ use fibs_scripts::log_lines::{Portion, append_entry};
 use fibs_scripts::script::first_unreadable;
 use fibs_session::{Outstanding, Plain, Refusal};
 use fibs_test_tools::pipe::{After, FAULT, Pipe};
+use std::alloc::Global;
 use std::test::Fail;
 
 /// A board on which the player is to roll.
@@ -95,7 +96,7 @@ fn lines_that_say_no_event(rt: HostRuntime) {
 
 #[test]
 fn lines_that_say_an_event(rt: HostRuntime) {
-    let rows: [(&[u8], Event<'_>); 18] = [
+    let rows: [(&[u8], Event<'_>); 17] = [
         (b"open", Event::Open),
         (b"repeat", Event::Repeat),
         (b"text", Event::Text(b"")),
@@ -107,7 +108,6 @@ fn lines_that_say_an_event(rt: HostRuntime) {
             b"click resign b",
             Event::Click(Decision::Resign(Stake::Backgammon)),
         ),
-        (b"click move", Event::Click(Decision::Move(Play::new()))),
         (b"plain who", Event::Plain(Plain::Who)),
         (b"plain say a  b", Event::Plain(Plain::Say(b"a  b"))),
         (b"plain tell", Event::Plain(Plain::Tell(b"", b""))),
@@ -129,129 +129,77 @@ fn lines_that_say_an_event(rt: HostRuntime) {
     }
 }
 
-#[test]
-fn plays_are_clicked_in_own_numbers(rt: HostRuntime) -> Result<(), Fail> {
+/// A play of these steps, each from one place to another.
+fn play_of(steps: &[(u8, u8)]) -> Option<Play> {
     let mut play = Play::new();
-    let first = Step::new(25, 20).ok_or("a step")?;
-    let last = Step::new(6, 0).ok_or("a step")?;
-    assert!(rt; play.push(first), "one step");
-    assert!(rt; play.push(last), "two steps");
-    assert!(rt;
-        read_event(b"click move bar-20 6-off") == Some(Event::Click(Decision::Move(play))),
-        "bar and off"
-    );
-    Ok(())
+    for (from, to) in steps {
+        if !play.push(Step::new(*from, *to)?) {
+            return None;
+        }
+    }
+    Some(play)
 }
 
-/// Whether the line says that the board becomes the server's.
-fn is_own(line: &[u8], board: &Board) -> bool {
-    match read_event(line) {
-        Some(Event::Own(own)) => own == *board,
-        _ => false,
+/// A line, and the steps of the play that is clicked.
+static PLAYS: [(&[u8], &[(u8, u8)]); 2] = [
+    (b"click move", &[]),
+    (b"click move bar-20 6-off", &[(25, 20), (6, 0)]),
+];
+
+#[test]
+fn plays_are_clicked_in_own_numbers(rt: HostRuntime) -> Result<(), Fail> {
+    for (line, steps) in &PLAYS {
+        let play = play_of(steps).ok_or("a play")?;
+        let event = Event::Click(Decision::Move(play));
+        assert_eq!(rt; read_event(line), Some(event), "{line:?}");
     }
+    Ok(())
 }
 
 #[test]
 fn boards_are_owned_with_spaces_at_the_end(rt: HostRuntime) -> Result<(), Fail> {
     let board = read_board(ROLL).ok_or("a board")?;
-    let rows: [(&[u8], bool); 3] = [(b"", true), (b"  ", true), (b"  \r", false)];
-    for (end, owned) in rows {
+    let own = Some(Event::Own(board));
+    let rows: [(&[u8], Option<Event<'_>>); 3] = [(b"", own), (b"  ", own), (b"  \r", None)];
+    for (end, wanted) in rows {
         let line = line_with(b"own ", ROLL, end);
-        assert_eq!(rt; is_own(&line, &board), owned, "{end:?} at the end");
-        assert_eq!(rt; read_event(&line).is_some(), owned, "{end:?} at the end");
+        assert_eq!(rt; read_event(&line), wanted, "{end:?} at the end");
     }
     Ok(())
 }
 
-/// A script of the first board and what follows it, and the number of its first line that is unreadable, or 0.
-struct Case {
-    after: &'static [u8],
-    number: usize,
-}
-
-static SCRIPTS: [Case; 15] = [
-    Case {
-        after: b"",
-        number: 0,
-    },
-    Case {
-        after: b"\n",
-        number: 0,
-    },
-    Case {
-        after: b"\r\n",
-        number: 0,
-    },
-    Case {
-        after: b"  \r\nopen",
-        number: 0,
-    },
-    Case {
-        after: b"\nopen\ntext \r\r\nrepeat\r\n",
-        number: 0,
-    },
-    Case {
-        after: b"\nopen\ndance",
-        number: 3,
-    },
-    Case {
-        after: b"\nopen\ndance\nprance\n",
-        number: 3,
-    },
-    Case {
-        after: b"\n\nopen\n",
-        number: 2,
-    },
-    Case {
-        after: b"\nopen\n\n",
-        number: 3,
-    },
-    Case {
-        after: b"\nopen\n ",
-        number: 3,
-    },
-    Case {
-        after: b"\nopen\r",
-        number: 2,
-    },
-    Case {
-        after: b"\nopen\r\r\n",
-        number: 2,
-    },
-    Case {
-        after: b"\r",
-        number: 1,
-    },
-    Case {
-        after: b"\r\r\nopen\n",
-        number: 1,
-    },
-    Case {
-        after: b":0\nopen\n",
-        number: 1,
-    },
+/// The first line of a script, what follows it, and the number of the first line that is unreadable, if there is one.
+static SCRIPTS: [(&[u8], &[u8], Option<usize>); 18] = [
+    (ROLL, b"", None),
+    (ROLL, b"\n", None),
+    (ROLL, b"\r\n", None),
+    (ROLL, b"  \r\nopen", None),
+    (ROLL, b"\nopen\ntext \r\r\nrepeat\r\n", None),
+    (ROLL, b"\nopen\ndance", Some(3)),
+    (ROLL, b"\nopen\ndance\nprance\n", Some(3)),
+    (ROLL, b"\n\nopen\n", Some(2)),
+    (ROLL, b"\nopen\n\n", Some(3)),
+    (ROLL, b"\nopen\n ", Some(3)),
+    (ROLL, b"\nopen\r", Some(2)),
+    (ROLL, b"\nopen\r\r\n", Some(2)),
+    (ROLL, b"\r", Some(1)),
+    (ROLL, b"\r\r\nopen\n", Some(1)),
+    (ROLL, b":0\nopen\n", Some(1)),
+    (b"", b"", Some(1)),
+    (b"", b"\n", Some(1)),
+    (b"open", b"\n", Some(1)),
 ];
 
 #[test]
-fn the_first_unreadable_line_is_named(rt: HostRuntime) -> Result<(), Fail> {
-    for case in &SCRIPTS {
-        let script = line_with(ROLL, case.after, b"");
-        let wanted = if case.number == 0 {
-            None
-        } else {
-            Some(case.number)
-        };
+fn the_first_unreadable_line_is_named(rt: HostRuntime) {
+    for (first, after, number) in &SCRIPTS {
+        let script = line_with(first, after, b"");
         assert_eq!(rt;
-            first_unreadable(script.as_slice()),
-            wanted,
-            "number {}",
-            case.number
+            first_unreadable(&script),
+            *number,
+            "{after:?} after {first:?}"
         );
     }
-    assert_eq!(rt; first_unreadable(b""), Some(1), "no line");
-    assert_eq!(rt; first_unreadable(b"\n"), Some(1), "an empty first line");
-    assert_eq!(rt; first_unreadable(b"open\n"), Some(1), "no board");
-    Ok(())
 }
 
 /// The line of an entry.
@@ -387,11 +335,7 @@ fn entries_with_a_board(rt: HostRuntime) -> Result<(), Fail> {
 #[test]
 fn commands_are_in_the_numbers_of_their_own_board(rt: HostRuntime) -> Result<(), Fail> {
     let board = read_board(UP).ok_or("a board")?;
-    let mut play = Play::new();
-    for source in [20, 17, 14] {
-        let step = Step::new(source, source - 3).ok_or("a step")?;
-        assert!(rt; play.push(step), "room");
-    }
+    let play = play_of(&[(20, 17), (17, 14), (14, 11)]).ok_or("a play")?;
     let undone = Entry::Undone {
         conn: 3,
         board,
@@ -402,28 +346,31 @@ fn commands_are_in_the_numbers_of_their_own_board(rt: HostRuntime) -> Result<(),
     Ok(())
 }
 
-#[test]
-fn a_script_is_read_up_to_its_limit(rt: HostRuntime) -> Result<(), Fail> {
-    let mut bytes = Vec::new(rt.alloc());
-    for _ in 0..1_048_576 {
+/// Whether a script of so many bytes is read whole, in reads of at most `most` bytes. A read after them fails as `after`
+/// says.
+fn is_read(alloc: Global, length: usize, most: usize, after: After) -> Result<Option<bool>, Fail> {
+    let mut bytes = Vec::new(alloc);
+    for _ in 0..length {
         bytes.push(b'a')?;
     }
-    for most in [1000, 2000] {
-        let mut reader = Pipe::new(bytes.as_slice(), most, After::End, 0);
-        let read = read_script(rt.alloc(), &mut [0; 1024], &mut reader);
-        let script = read.ok().ok_or("read")?;
-        let script = script.ok_or("whole")?;
-        assert!(rt;
-            script.as_slice() == bytes.as_slice(),
-            "as many bytes as may be"
-        );
+    let mut reader = Pipe::new(bytes.as_slice(), most, after, 0);
+    let script = read_script(alloc, &mut [0; 1024], &mut reader)
+        .ok()
+        .ok_or("read")?;
+    Ok(script.map(|script| script == bytes))
+}
+
+/// As many bytes as may be are read. If there is one more, nothing is read after it.
+#[test]
+fn a_script_is_read_up_to_its_limit(rt: HostRuntime) -> Result<(), Fail> {
+    let rows = [
+        (1_048_576, 1000, After::End, Some(true)),
+        (1_048_576, 2000, After::End, Some(true)),
+        (1_048_577, 1000, FAULT, None),
+    ];
+    for (length, most, after, wanted) in rows {
+        let read = is_read(rt.alloc(), length, most, after)?;
+        assert_eq!(rt; read, wanted, "{length} bytes, at most {most} at once");
     }
-    bytes.push(b'a')?;
-    let mut reader = Pipe::new(bytes.as_slice(), 1000, FAULT, 0);
-    let read = read_script(rt.alloc(), &mut [0; 1024], &mut reader);
-    assert!(rt;
-        read.ok().ok_or("read")?.is_none(),
-        "one byte more, and nothing is read behind it"
-    );
     Ok(())
 }
