@@ -1,5 +1,6 @@
 //! Conversations, with streams in memory and on real sockets.
 
+use super::outcomes::assert_is;
 use fibs_connect::{converse, converse_with};
 use fibs_engine::fault::EngineFault;
 use fibs_links::dial::Dial;
@@ -7,11 +8,12 @@ use fibs_test_tools::devices::Endless;
 use fibs_test_tools::named::Named;
 use fibs_test_tools::outcome::Outcome;
 use fibs_test_tools::pipe::{After, FAULT, Pipe, QUIET};
-use fibs_test_tools::text::{Text, text_of};
+use fibs_test_tools::text::Text;
 use std::alloc::Global;
 use std::io;
 use std::io::{ErrorKind, Read};
 use std::net::{Net, OpenListener, TcpListener, TcpStream};
+use std::process::Abort;
 use std::test::Fail;
 
 /// A server in memory: what each connection gives, how many bytes it takes, and how many connections there are.
@@ -44,7 +46,7 @@ struct Case {
     err: &'static [u8],
 }
 
-const WELCOME: &[u8] = b"1 ann 1041253132 localhost\r\n\
+static WELCOME: &[u8] = b"1 ann 1041253132 localhost\r\n\
     5 someplayer mgnu_advanced - 0 0 1912.15 827 8 1040515752 192.168.143.5 3DFiBs -\r\n\
     5 bob - - 1 0 1500.5 0 3 1040515752 host - -\r\n";
 
@@ -130,11 +132,20 @@ pub fn conversed(
     let mut out = Pipe::new(b"", 1, After::End, room);
     let mut err = Pipe::new(b"", 1, After::End, 1024);
     let ending = converse_with(&mut door, alloc, b"ann", reads, typed, &mut out, &mut err);
-    Outcome {
-        ending,
-        out: text_of(out.output()),
-        err: text_of(err.output()),
-    }
+    Outcome::new(ending, out.output(), err.output())
+}
+
+/// Asserts how a conversation goes whose typed bytes come in reads of at most `most`.
+fn assert_case(rt: &(impl Abort + AllocGlobal), case: &Case, most: usize) {
+    let door = Door {
+        input: WELCOME,
+        room: 4096,
+        connections: case.connections,
+    };
+    let mut typed = Pipe::new(case.typed, most, After::End, 0);
+    let outcome = conversed(rt.alloc(), door, &mut typed, 1000, 1024);
+    let printed = [case.out, case.err];
+    assert_is(rt, case.name, most, &outcome, Ok(case.status), printed);
 }
 
 /// However the typed bytes come.
@@ -142,48 +153,35 @@ pub fn conversed(
 fn answers_what_is_typed(rt: HostRuntime) {
     for case in &CASES {
         for most in [1, 2, 7, 1000] {
-            let door = Door {
-                input: WELCOME,
-                room: 4096,
-                connections: case.connections,
-            };
-            let mut typed = Pipe::new(case.typed, most, After::End, 0);
-            let outcome = conversed(rt.alloc(), door, &mut typed, 1000, 1024);
-            assert!(rt;
-                outcome.is(Ok(case.status), case.out, case.err),
-                "{}, at {}: {:?}",
-                case.name,
-                most,
-                outcome
-            );
+            assert_case(&rt, case, most);
         }
     }
+}
+
+/// Asserts what is printed in a conversation whose connections take so many bytes each.
+fn assert_printed(rt: &(impl Abort + AllocGlobal), room: usize, wanted: &[u8]) {
+    let door = Door {
+        input: b"",
+        room,
+        connections: 2,
+    };
+    let mut typed = Pipe::new(b"secret\nroll\nopen\n", 100, After::End, 0);
+    let outcome = conversed(rt.alloc(), door, &mut typed, 1000, 1024);
+    assert_is(rt, "a login", room, &outcome, Ok(0), [wanted, b""]);
 }
 
 /// A login that can't be written whole ends its connection, and the next one is another.
 #[test]
 fn each_write_of_a_login_that_fails_loses_the_connection(rt: HostRuntime) {
     let login = b"login fibs_client 1008 ann secret\r\n";
-    for room in 0..login.len() + 1 {
-        let door = Door {
-            input: b"",
-            room,
-            connections: 2,
-        };
-        let mut typed = Pipe::new(b"secret\nroll\nopen\n", 100, After::End, 0);
-        let outcome = conversed(rt.alloc(), door, &mut typed, 1000, 1024);
-        let wanted: &[u8] = if room < login.len() {
-            b"lost\nrefused 2 Offline\nlost\n"
-        } else {
-            b"refused 3 NotReady\nrefused 1 AlreadyOpen\n"
-        };
-        assert!(rt;
-            outcome.is(Ok(0), wanted, b""),
-            "a write of a login, at {}: {:?}",
-            room,
-            outcome
-        );
+    for room in 0..login.len() {
+        assert_printed(&rt, room, b"lost\nrefused 2 Offline\nlost\n");
     }
+    assert_printed(
+        &rt,
+        login.len(),
+        b"refused 3 NotReady\nrefused 1 AlreadyOpen\n",
+    );
 }
 
 /// A server that nobody reaches.
@@ -195,40 +193,58 @@ fn no_door() -> Door<'static> {
     }
 }
 
+/// If the writer takes so many bytes, it has got these, and the end is a fault.
+fn assert_written(rt: &(impl Abort + AllocGlobal), room: usize, wanted: &[u8]) {
+    let mut typed = Pipe::new(b"secret\nroll\n", 100, After::End, 0);
+    let outcome = conversed(rt.alloc(), no_door(), &mut typed, 1000, room);
+    let ending = Err(EngineFault::Device);
+    assert_is(rt, "a writer", room, &outcome, ending, [wanted, b""]);
+}
+
 #[test]
 fn a_writer_that_fails_is_a_fault(rt: HostRuntime) {
     let wanted: &[u8] = b"no connection\nrefused 2 Offline\n";
     for room in 0..wanted.len() {
-        let mut typed = Pipe::new(b"secret\nroll\n", 100, After::End, 0);
-        let outcome = conversed(rt.alloc(), no_door(), &mut typed, 1000, room);
-        let ending = Err(EngineFault::Device);
-        assert!(rt;
-            outcome.is(ending, &wanted[..room], b""),
-            "a writer, at {}: {:?}",
-            room,
-            outcome
-        );
+        assert_written(&rt, room, &wanted[..room]);
     }
+}
+
+/// How a conversation ends in which the reader fails after these bytes.
+fn ending_after(alloc: Global, typed: &[u8]) -> Result<u8, EngineFault> {
+    conversed(
+        alloc,
+        no_door(),
+        &mut Pipe::new(typed, 100, FAULT, 0),
+        1000,
+        100,
+    )
+    .ending
 }
 
 #[test]
 fn a_reader_that_fails_is_a_fault(rt: HostRuntime) {
     let whole: &[u8] = b"secret\nroll\n";
     for length in 0..whole.len() {
-        let mut typed = Pipe::new(&whole[..length], 100, FAULT, 0);
-        let outcome = conversed(rt.alloc(), no_door(), &mut typed, 1000, 100);
-        assert_eq!(rt; outcome.ending, Err(EngineFault::Device), "at {length}");
+        let ending = ending_after(rt.alloc(), &whole[..length]);
+        assert_eq!(rt; ending, Err(EngineFault::Device), "at {length}");
     }
+}
+
+/// How a conversation ends whose typed lines have no end, if they are read so often at most, and how often they were.
+fn endless(alloc: Global, reads: u32) -> (Result<u8, EngineFault>, u32) {
+    let mut typed = Endless::new();
+    let outcome = conversed(alloc, no_door(), &mut typed, reads, 1024);
+    (outcome.ending, typed.asked())
 }
 
 /// What is typed is read so often, and no more.
 #[test]
 fn typed_lines_without_end_end(rt: HostRuntime) {
     for reads in [0, 1, 5] {
-        let mut typed = Endless::new();
-        let outcome = conversed(rt.alloc(), no_door(), &mut typed, reads, 1024);
-        assert_eq!(rt; outcome.ending, Err(EngineFault::Device), "at {reads}");
-        assert_eq!(rt; typed.asked(), reads, "at {reads}");
+        assert_eq!(rt;
+            endless(rt.alloc(), reads),
+            (Err(EngineFault::Device), reads)
+        );
     }
 }
 
@@ -246,11 +262,7 @@ fn conversed_at<N: Net<Stream = TcpStream>>(
     let ending = converse(
         net, alloc, host, port, b"ann", &mut typed, &mut out, &mut err,
     );
-    Outcome {
-        ending,
-        out: text_of(out.output()),
-        err: text_of(err.output()),
-    }
+    Outcome::new(ending, out.output(), err.output())
 }
 
 /// A port of this machine on which nothing listens.
@@ -268,13 +280,8 @@ fn a_port_where_nothing_listens_gives_no_connection(rt: HostRuntime) -> Result<(
         free_port(&rt)?,
         b"secret\nroll\nquit\n",
     );
-    let wanted = b"no connection\nrefused 2 Offline\n";
-    assert!(rt;
-        outcome.is(Ok(0), wanted, b""),
-        "nobody listens, at {}: {:?}",
-        0,
-        outcome
-    );
+    let wanted = [b"no connection\nrefused 2 Offline\n".as_slice(), b""];
+    assert_is(&rt, "nobody listens", 0, &outcome, Ok(0), wanted);
     Ok(())
 }
 
@@ -293,23 +300,36 @@ fn read_whole(stream: &mut TcpStream) -> io::Result<Text> {
     Ok(text)
 }
 
+/// Asserts that a conversation over sockets prints nothing, and gives the listener the login and no more.
+fn assert_logs_in<N: Net<Stream = TcpStream>>(
+    rt: &(impl Abort + AllocGlobal),
+    name: &str,
+    net: &N,
+    host: &str,
+    listener: &TcpListener,
+    typed: &[u8],
+) -> Result<(), Fail> {
+    let port = listener.local_addr()?.port();
+    let outcome = conversed_at(net, rt.alloc(), host, port, typed);
+    assert_is(rt, name, 0, &outcome, Ok(0), [b"", b""]);
+    let (mut far, _peer) = listener.accept()?;
+    let received = read_whole(&mut far)?;
+    let login = b"login fibs_client 1008 ann secret\r\n".as_slice();
+    assert_eq!(rt; received.as_slice(), login, "{name}");
+    Ok(())
+}
+
 #[test]
 fn a_socket_is_given_the_login_and_no_more(rt: HostRuntime) -> Result<(), Fail> {
     let listener = TcpListener::bind(&rt, "127.0.0.1:0")?;
-    let port = listener.local_addr()?.port();
-    let outcome = conversed_at(&rt, rt.alloc(), "127.0.0.1", port, b"secret\n\nquit\n");
-    assert!(rt;
-        outcome.is(Ok(0), b"", b""),
-        "a socket, at {}: {:?}",
-        0,
-        outcome
-    );
-    let (mut far, _peer) = listener.accept()?;
-    assert_eq!(rt;
-        read_whole(&mut far)?.as_slice(),
-        b"login fibs_client 1008 ann secret\r\n".as_slice()
-    );
-    Ok(())
+    assert_logs_in(
+        &rt,
+        "a socket",
+        &rt,
+        "127.0.0.1",
+        &listener,
+        b"secret\n\nquit\n",
+    )
 }
 
 /// Of two addresses of a name nobody listens at one, whichever it is: the other one is given the login.
@@ -319,21 +339,19 @@ fn each_address_of_a_name_is_tried(rt: HostRuntime) -> Result<(), Fail> {
     let there = listener.local_addr()?;
     let mut nobody = there;
     nobody.set_port(free_port(&rt)?);
-    for addresses in [[there, nobody], [nobody, there]] {
+    for (name, addresses) in [
+        ("the first address", [there, nobody]),
+        ("the second address", [nobody, there]),
+    ] {
         let net = Named::new(&rt, addresses);
-        let outcome = conversed_at(
+        assert_logs_in(
+            &rt,
+            name,
             &net,
-            rt.alloc(),
             "fibs.example",
-            there.port(),
+            &listener,
             b"secret\nquit\n",
-        );
-        assert!(rt; outcome.is(Ok(0), b"", b""), "{addresses:?}: {outcome:?}");
-        let (mut far, _peer) = listener.accept()?;
-        assert_eq!(rt;
-            read_whole(&mut far)?.as_slice(),
-            b"login fibs_client 1008 ann secret\r\n".as_slice()
-        );
+        )?;
     }
     Ok(())
 }

@@ -148,22 +148,21 @@ fn conversed_on(alloc: Global, seen: &Seen, flushes: u32) -> Result<u8, EngineFa
 fn nothing_is_hidden_while_the_program_waits(rt: HostRuntime) {
     let seen = Seen::new();
     let ending = conversed_on(rt.alloc(), &seen, 1000);
-    assert_eq!(rt; ending, Ok(0));
+    let (late, hidden) = (seen.late.get(), seen.hidden.get());
+    assert_eq!(rt; (ending, late, hidden), (Ok(0), 0, 0));
     assert!(rt; seen.waits.get() > 15);
-    assert_eq!(rt; seen.late.get(), 0);
-    assert_eq!(rt; seen.hidden.get(), 0);
 }
 
 #[test]
 fn each_flush_that_fails_is_a_device_fault(rt: HostRuntime) {
+    let mut failed = 0u32;
     for flushes in 0..100 {
-        let seen = Seen::new();
-        let ending = conversed_on(rt.alloc(), &seen, flushes);
-        if ending == Ok(0) {
-            assert!(rt; flushes > 10);
-            return;
+        let ending = conversed_on(rt.alloc(), &Seen::new(), flushes);
+        if ending != Ok(0) {
+            assert_eq!(rt; ending, Err(EngineFault::Device), "after {flushes} flushes");
+            failed = failed.saturating_add(1);
         }
-        assert_eq!(rt; ending, Err(EngineFault::Device), "after {flushes} flushes");
     }
-    assert!(rt; false, "there is no end of flushes");
+    // a conversation flushes more than ten times, and fewer than a hundred
+    assert!(rt; failed > 10 && failed < 100, "{failed} flushes");
 }

@@ -10,6 +10,8 @@ mod nobody;
 #[cfg(test)]
 mod once;
 #[cfg(test)]
+mod outcomes;
+#[cfg(test)]
 mod program;
 #[cfg(test)]
 mod refused_notes;

@@ -1,6 +1,7 @@
 //! Devices that fail once: what failed is not tried again by itself.
 
 use crate::nobody::Nobody;
+use crate::outcomes::assert_is;
 use fibs_connect::converse_with;
 use fibs_links::dial::{Dial, Place, Server};
 use fibs_links::logging::LoggedServer;
@@ -13,6 +14,7 @@ use std::alloc::Global;
 use std::cell::Cell;
 use std::io;
 use std::io::{ErrorKind, Read};
+use std::process::Abort;
 use std::test::Fail;
 use std::time::Duration;
 
@@ -41,18 +43,20 @@ impl Dial for StumblingDoor {
     }
 }
 
+/// Asserts that a login of which a part was written is not written once more.
+fn assert_written_once(rt: &(impl Abort + AllocGlobal), error: Option<ErrorKind>) {
+    let mut door = StumblingDoor { error };
+    let mut typed = Pipe::new(b"secret\nroll\n", 100, After::End, 0);
+    let outcome = conversed(rt.alloc(), &mut door, &mut typed);
+    let wanted = b"lost\nrefused 2 Offline\n".as_slice();
+    assert_is(rt, "a login", 0, &outcome, Ok(0), [wanted, b""]);
+}
+
 /// A login of which a part was written is not written once more: the server would read both as one line.
 #[test]
 fn a_login_is_written_once(rt: HostRuntime) {
-    for error in [Some(ErrorKind::BrokenPipe), None] {
-        let mut door = StumblingDoor { error };
-        let mut typed = Pipe::new(b"secret\nroll\n", 100, After::End, 0);
-        let outcome = conversed(rt.alloc(), &mut door, &mut typed);
-        assert!(rt;
-            outcome.is(Ok(0), b"lost\nrefused 2 Offline\n", b""),
-            "{outcome:?}"
-        );
-    }
+    assert_written_once(&rt, Some(ErrorKind::BrokenPipe));
+    assert_written_once(&rt, None);
 }
 
 /// A server that does not answer at first.
@@ -80,8 +84,8 @@ fn a_connection_is_tried_when_it_is_asked_for(rt: HostRuntime) {
     let mut door = LateDoor { answers: false };
     let mut typed = Pipe::new(b"secret\nroll\nopen\nroll\n", 100, After::End, 0);
     let outcome = conversed(rt.alloc(), &mut door, &mut typed);
-    let wanted = b"no connection\nrefused 2 Offline\nrefused 3 NotReady\n";
-    assert!(rt; outcome.is(Ok(0), wanted, b""), "{outcome:?}");
+    let wanted = b"no connection\nrefused 2 Offline\nrefused 3 NotReady\n".as_slice();
+    assert_is(&rt, "a connection", 0, &outcome, Ok(0), [wanted, b""]);
 }
 
 /// If no address of a name answers, each was tried once, and the last says why; with a log and at a terminal too.
@@ -98,8 +102,8 @@ fn each_address_is_tried_once_and_the_last_says_why(rt: HostRuntime) -> Result<(
     let mut paced = PacedServer::new(Server::new(&net, place), 20);
     let mut logged = LoggedServer::new(Server::new(&net, place), &rt, None);
     let whys = [plain.dial().err(), paced.dial().err(), logged.dial().err()];
-    assert_eq!(rt; whys, [Some(ErrorKind::ConnectionRefused); 3]);
-    assert_eq!(rt; tries.get().0, 6);
+    let wanted = ([Some(ErrorKind::ConnectionRefused); 3], 6);
+    assert_eq!(rt; (whys, tries.get().0), wanted);
     Ok(())
 }
 
@@ -134,6 +138,6 @@ fn nothing_is_read_after_the_end_of_what_is_typed(rt: HostRuntime) {
         after: b"roll\n",
     };
     let outcome = conversed(rt.alloc(), &mut door, &mut typed);
-    assert!(rt; outcome.is(Ok(0), b"", b""), "{outcome:?}");
+    assert_is(&rt, "an end", 0, &outcome, Ok(0), [b"", b""]);
     assert_eq!(rt; typed.after, b"roll\n".as_slice());
 }

@@ -1,11 +1,13 @@
 //! The command line, from its words to the exit status.
+use super::outcomes::assert_is;
 use fibs_cli::program::{answer, status};
 use fibs_engine::fault::EngineFault;
 use fibs_test_tools::outcome::Outcome;
 use fibs_test_tools::pipe::{After, Pipe};
-use fibs_test_tools::text::text_of;
+use fibs_test_tools::text::{Text, text_of};
 use std::alloc::{AllocError, Global};
 use std::net::{Net, TcpListener, TcpStream};
+use std::process::Abort;
 use std::test::Fail;
 use std::time::Duration;
 
@@ -97,63 +99,82 @@ fn answered<N: Net<Listener = TcpListener, Stream = TcpStream> + AllocGlobal>(
         &mut out,
         &mut err,
     );
-    Ok(Outcome {
-        ending,
-        out: text_of(out.output()),
-        err: text_of(err.output()),
-    })
+    Ok(Outcome::new(ending, out.output(), err.output()))
+}
+
+/// Asserts how a command line is served.
+fn assert_served<N: Net<Listener = TcpListener, Stream = TcpStream> + AllocGlobal + Abort>(
+    rt: &N,
+    case: &Case,
+) -> Result<(), AllocError> {
+    let outcome = answered(rt, case.words, case.input)?;
+    let printed = [case.out, case.err];
+    assert_is(rt, case.name, 0, &outcome, Ok(case.status), printed);
+    Ok(())
 }
 
 #[test]
 fn serves_each_request(rt: HostRuntime) -> Result<(), Fail> {
     for case in &SERVED {
-        let outcome = answered(&rt, case.words, case.input)?;
-        assert!(rt;
-            outcome.is(Ok(case.status), case.out, case.err),
-            "{}, at {}: {:?}",
-            case.name,
-            0,
-            outcome
-        );
+        assert_served(&rt, case)?;
     }
     Ok(())
 }
+
+/// Asserts that a command line is answered with help, which is printed, or with an error, which is said.
+fn assert_answered<N: Net<Listener = TcpListener, Stream = TcpStream> + AllocGlobal + Abort>(
+    rt: &N,
+    words: &[&str],
+    wanted: u8,
+) -> Result<(), AllocError> {
+    let outcome = answered(rt, words, b"a\n")?;
+    let is_printed = outcome.out.is_empty() == (wanted == 2);
+    let is_said = outcome.err.is_empty() == (wanted == 0);
+    assert!(rt;
+        outcome.ending == Ok(wanted) && is_printed && is_said,
+        "at {words:?}"
+    );
+    Ok(())
+}
+
+/// Words after the program's name, and the status.
+static ANSWERED: [(&[&str], u8); 8] = [
+    (&["--help"], 0),
+    (&["help"], 0),
+    (&["show", "--help"], 0),
+    (&["help", "plays"], 0),
+    (&[], 2),
+    (&["dance"], 2),
+    (&["show", "more"], 2),
+    (&["plays"], 2),
+];
 
 #[test]
 fn answers_each_other_line(rt: HostRuntime) -> Result<(), Fail> {
-    let cases: [(&[&str], u8); 8] = [
-        (&["--help"], 0),
-        (&["help"], 0),
-        (&["show", "--help"], 0),
-        (&["help", "plays"], 0),
-        (&[], 2),
-        (&["dance"], 2),
-        (&["show", "more"], 2),
-        (&["plays"], 2),
-    ];
-    for (words, wanted) in cases {
-        let outcome = answered(&rt, words, b"a\n")?;
-        let is_printed = outcome.out.is_empty() == (wanted == 2);
-        let is_said = outcome.err.is_empty() == (wanted == 0);
-        assert!(rt;
-            outcome.ending == Ok(wanted) && is_printed && is_said,
-            "at {words:?}"
-        );
+    for (words, wanted) in &ANSWERED {
+        assert_answered(&rt, words, *wanted)?;
     }
     Ok(())
 }
 
+/// The status of an ending, and what is said of it.
+fn said_of(ending: Result<u8, EngineFault>) -> (u8, Text) {
+    let mut err = Pipe::new(b"", 1, After::End, 512);
+    let status = status(ending, &mut err);
+    (status, text_of(err.output()))
+}
+
+/// An ending, its status, and what is said.
+static ENDINGS: [(Result<u8, EngineFault>, u8, &[u8]); 4] = [
+    (Ok(0), 0, b""),
+    (Ok(3), 3, b""),
+    (Err(EngineFault::Device), 4, b"fibs: device\n"),
+    (Err(EngineFault::Memory), 5, b"fibs: memory\n"),
+];
+
 #[test]
 fn says_why_it_stopped(rt: HostRuntime) {
-    let cases: [(Result<u8, EngineFault>, u8, &[u8]); 4] = [
-        (Ok(0), 0, b""),
-        (Ok(3), 3, b""),
-        (Err(EngineFault::Device), 4, b"fibs: device\n"),
-        (Err(EngineFault::Memory), 5, b"fibs: memory\n"),
-    ];
-    for (ending, wanted, said) in cases {
-        let mut err = Pipe::new(b"", 1, After::End, 512);
-        assert_eq!(rt; status(ending, &mut err), wanted, "{said:?}");
-        assert_eq!(rt; err.output(), said);
+    for (ending, wanted, said) in &ENDINGS {
+        assert_eq!(rt; said_of(*ending), (*wanted, text_of(said)));
     }
 }

@@ -1,6 +1,7 @@
 //! Conversations in which the directory has no memory for a player: they say so, and go on.
 
 use super::connect::{Door, conversed};
+use super::outcomes::assert_is;
 use fibs_test_tools::outcome::Outcome;
 use fibs_test_tools::pipe::{After, Pipe};
 use fibs_test_tools::text::joined;
@@ -9,25 +10,49 @@ use std::alloc::Global;
 /// What is printed if a note is refused.
 const REFUSED: &[u8] = b"directory 1 Memory\n";
 
-/// What the server sends, and what is printed for it.
-static HEARD: [(&[u8], &[u8]); 4] = [
-    (
-        b"1 ann 1041253132 localhost\r\n",
-        b"message 1 ann 1041253132 localhost\n",
-    ),
-    (
-        b"5 someplayer mgnu_advanced - 0 0 1912.15 827 8 1040515752 192.168.143.5 3DFiBs -\r\n",
-        b"message 5 someplayer mgnu_advanced - 0 0 1912.15 827 8 1040515752 192.168.143.5 3DFiBs -\n",
-    ),
-    (
-        b"5 bob - - 1 0 1500 0 3 1040515752 host - -\r\n",
-        b"message 5 bob - - 1 0 1500 0 3 1040515752 host - -\n",
-    ),
-    (
-        b"5 bob someplayer - 1 0 1512.34 5 0 1040515752 host - -\r\n",
-        b"message 5 bob someplayer - 1 0 1512.34 5 0 1040515752 host - -\n",
-    ),
+/// What the server sends.
+static HEARD: &[&[u8]] = &[
+    b"1 ann 1041253132 localhost\r\n",
+    b"5 someplayer mgnu_advanced - 0 0 1912.15 827 8 1040515752 192.168.143.5 3DFiBs -\r\n",
+    b"5 bob - - 1 0 1500 0 3 1040515752 host - -\r\n",
+    b"5 bob someplayer - 1 0 1512.34 5 0 1040515752 host - -\r\n",
 ];
+
+/// What is printed for each line of it.
+const WELCOME: &[u8] = b"message 1 ann 1041253132 localhost\n";
+
+const ONE: &[u8] =
+    b"message 5 someplayer mgnu_advanced - 0 0 1912.15 827 8 1040515752 192.168.143.5 3DFiBs -\n";
+
+const TWO: &[u8] = b"message 5 bob - - 1 0 1500 0 3 1040515752 host - -\n";
+
+const AGAIN: &[u8] = b"message 5 bob someplayer - 1 0 1512.34 5 0 1040515752 host - -\n";
+
+/// What is printed for the commands that follow, if both players are known as they were said last, if the second is,
+/// and if the second is as it was said first.
+const BOTH: &[u8] = b"player someplayer 1912.15\nplayer bob 1512.34\nrefused 3 NotReady\n";
+
+const BOB: &[u8] = b"player bob 1512.34\nrefused 3 NotReady\n";
+
+const OLD: &[u8] = b"player someplayer 1912.15\nplayer bob 1500.00\nrefused 3 NotReady\n";
+
+/// What is printed if no note is refused, and if one of the three is.
+static PRINTED: [&[&[u8]]; 4] = [
+    &[WELCOME, ONE, TWO, AGAIN, BOTH],
+    &[WELCOME, ONE, REFUSED, TWO, AGAIN, BOB],
+    &[WELCOME, ONE, TWO, REFUSED, AGAIN, BOTH],
+    &[WELCOME, ONE, TWO, AGAIN, REFUSED, OLD],
+];
+
+/// Whether the text is one of these, each in parts.
+fn is_one_of(text: &[u8], rows: &[&[&[u8]]]) -> bool {
+    for parts in rows {
+        if joined(parts).as_slice() == text {
+            return true;
+        }
+    }
+    false
+}
 
 /// How a conversation ends in which the server sends some lines at once, and what is printed on both writers.
 fn heard_at_once(alloc: Global, input: &[u8]) -> Outcome {
@@ -44,30 +69,13 @@ fn heard_at_once(alloc: Global, input: &[u8]) -> Outcome {
 /// players that were noted.
 #[test]
 fn conversations_go_on_under_refused_memory(rt: HostRuntime) {
-    let input = joined(&[HEARD[0].0, HEARD[1].0, HEARD[2].0, HEARD[3].0]);
-    let [welcome, one, two, again] = [HEARD[0].1, HEARD[1].1, HEARD[2].1, HEARD[3].1];
-    let both: &[u8] = b"player someplayer 1912.15\nplayer bob 1512.34\n";
-    let bob: &[u8] = b"player bob 1512.34\n";
-    let old: &[u8] = b"player someplayer 1912.15\nplayer bob 1500.00\n";
-    let end: &[u8] = b"refused 3 NotReady\n";
-    let rows: [&[&[u8]]; 4] = [
-        &[welcome, one, two, again, both, end],
-        &[welcome, one, REFUSED, two, again, bob, end],
-        &[welcome, one, two, REFUSED, again, both, end],
-        &[welcome, one, two, again, REFUSED, old, end],
-    ];
+    let input = joined(HEARD);
     let mut outcome = heard_at_once(rt.alloc(), &input);
-    let is_a_row = rows.iter().any(|parts| joined(parts) == outcome.out);
     let is_well = outcome.ending == Ok(0) && outcome.err.is_empty();
-    assert!(rt; is_a_row && is_well, "{:?}", outcome.out.as_slice());
-    let wanted = joined(rows[0]);
+    assert!(rt; is_well && is_one_of(&outcome.out, &PRINTED), "{outcome:?}");
+    let wanted = joined(PRINTED[0]);
     if outcome.out != wanted {
         outcome = heard_at_once(rt.alloc(), &input);
     }
-    assert!(rt;
-        outcome.is(Ok(0), &wanted, b""),
-        "once more, at {}: {:?}",
-        0,
-        outcome
-    );
+    assert_is(&rt, "once more", 0, &outcome, Ok(0), [&wanted, b""]);
 }
