@@ -2,6 +2,8 @@
 #![tactic(auto)]
 
 #[cfg(test)]
+mod outcomes;
+#[cfg(test)]
 mod plays;
 #[cfg(test)]
 mod retrying;

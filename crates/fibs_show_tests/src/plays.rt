@@ -1,4 +1,5 @@
 //! The engine `plays`.
+use super::outcomes::assert_is;
 use fibs_engine::fault::EngineFault;
 use fibs_show::plays::plays;
 use fibs_test_tools::devices::FailsOnce;
@@ -6,6 +7,7 @@ use fibs_test_tools::outcome::Outcome;
 use fibs_test_tools::pipe::{After, Pipe};
 use fibs_test_tools::text::text_of;
 use std::alloc::Global;
+use std::process::Abort;
 
 /// A word of the command line, and what is printed for it.
 struct Case {
@@ -167,38 +169,26 @@ fn listed(alloc: Global, word: &[u8], out_room: usize, err_room: usize) -> Outco
     let mut out = Pipe::new(b"", 1, After::End, out_room);
     let mut err = Pipe::new(b"", 1, After::End, err_room);
     let ending = plays(alloc, word, &mut out, &mut err);
-    Outcome {
-        ending,
-        out: text_of(out.output()),
-        err: text_of(err.output()),
-    }
+    Outcome::new(ending, out.output(), err.output())
+}
+
+/// Asserts how `plays` ends, and what it prints on both writers.
+fn assert_listed(rt: &(impl Abort + AllocGlobal), case: &Case, status: u8, printed: [&[u8]; 2]) {
+    let outcome = listed(rt.alloc(), case.word, 512, 512);
+    assert_is(rt, case.name, 0, &outcome, Ok(status), printed);
 }
 
 #[test]
 fn prints_the_plays_of_good_boards(rt: HostRuntime) {
     for case in &PRINTED {
-        let outcome = listed(rt.alloc(), case.word, 512, 512);
-        assert!(rt;
-            outcome.is(Ok(0), case.printed, b""),
-            "{}, at {}: {:?}",
-            case.name,
-            0,
-            outcome
-        );
+        assert_listed(&rt, case, 0, [case.printed, b""]);
     }
 }
 
 #[test]
 fn refuses_all_other_words(rt: HostRuntime) {
     for case in &REFUSED {
-        let outcome = listed(rt.alloc(), case.word, 512, 512);
-        assert!(rt;
-            outcome.is(Ok(3), b"", case.printed),
-            "{}, at {}: {:?}",
-            case.name,
-            0,
-            outcome
-        );
+        assert_listed(&rt, case, 3, [b"", case.printed]);
     }
 }
 
@@ -209,64 +199,56 @@ fn reads_a_word_of_any_length(rt: HostRuntime) {
     for _ in 0..5000 {
         let _fits = word.try_push(b' ');
     }
-    let outcome = listed(rt.alloc(), word.as_slice(), 512, 512);
-    assert!(rt;
-        outcome.is(Ok(0), case.printed, b""),
-        "spaces, at {}: {:?}",
-        5000,
-        outcome
-    );
+    let outcome = listed(rt.alloc(), &word, 512, 512);
+    assert_is(&rt, "spaces", 5000, &outcome, Ok(0), [case.printed, b""]);
 }
 
 /// If a growth is refused, nothing is written, and the next call lists the plays.
+fn assert_listed_again(rt: &(impl Abort + AllocGlobal), case: &Case) {
+    let mut outcome = listed(rt.alloc(), case.word, 512, 512);
+    let refused = Err(EngineFault::Memory);
+    if outcome.ending == refused {
+        assert_is(rt, case.name, 1, &outcome, refused, [b"", b""]);
+        outcome = listed(rt.alloc(), case.word, 512, 512);
+    }
+    assert_is(rt, case.name, 2, &outcome, Ok(0), [case.printed, b""]);
+}
+
 #[test]
 fn prints_plays_under_refused_memory(rt: HostRuntime) {
     for case in &PRINTED {
-        let mut outcome = listed(rt.alloc(), case.word, 512, 512);
-        if outcome.ending == Err(EngineFault::Memory) {
-            assert!(rt;
-                outcome.is(Err(EngineFault::Memory), b"", b""),
-                "{}, at {}: {:?}",
-                case.name,
-                1,
-                outcome
-            );
-            outcome = listed(rt.alloc(), case.word, 512, 512);
-        }
-        assert!(rt;
-            outcome.is(Ok(0), case.printed, b""),
-            "{}, at {}: {:?}",
-            case.name,
-            2,
-            outcome
-        );
+        assert_listed_again(&rt, case);
     }
+}
+
+/// Asserts that `plays` stops at a failed write, if so many bytes may be printed on both writers.
+fn assert_stops(
+    rt: &(impl Abort + AllocGlobal),
+    case: &Case,
+    rooms: [usize; 2],
+    printed: [&[u8]; 2],
+) {
+    let [out, err] = rooms;
+    let outcome = listed(rt.alloc(), case.word, out, err);
+    assert_is(
+        rt,
+        case.name,
+        out.max(err),
+        &outcome,
+        Err(EngineFault::Device),
+        printed,
+    );
 }
 
 #[test]
 fn stops_at_a_failed_write(rt: HostRuntime) {
-    let ending = Err(EngineFault::Device);
     let good = &PRINTED[6];
     for room in 0..good.printed.len() {
-        let outcome = listed(rt.alloc(), good.word, room, 0);
-        assert!(rt;
-            outcome.is(ending, &good.printed[..room], b""),
-            "{}, at {}: {:?}",
-            good.name,
-            room,
-            outcome
-        );
+        assert_stops(&rt, good, [room, 0], [&good.printed[..room], b""]);
     }
     let bad = &REFUSED[6];
     for room in 0..bad.printed.len() {
-        let outcome = listed(rt.alloc(), bad.word, 0, room);
-        assert!(rt;
-            outcome.is(ending, b"", &bad.printed[..room]),
-            "{}, at {}: {:?}",
-            bad.name,
-            room,
-            outcome
-        );
+        assert_stops(&rt, bad, [0, room], [b"", &bad.printed[..room]]);
     }
 }
 
@@ -275,37 +257,31 @@ fn listed_with_a_failure(alloc: Global, word: &[u8], before: usize) -> Outcome {
     let mut out = FailsOnce::new(before, 1);
     let mut err = FailsOnce::new(before, 1);
     let ending = plays(alloc, word, &mut out, &mut err);
-    Outcome {
-        ending,
-        out: text_of(out.output()),
-        err: text_of(err.output()),
-    }
+    Outcome::new(ending, out.output(), err.output())
+}
+
+/// Asserts that `plays` stops so if one write on each writer fails.
+fn assert_fails(rt: &(impl Abort + AllocGlobal), case: &Case, before: usize, printed: [&[u8]; 2]) {
+    let outcome = listed_with_a_failure(rt.alloc(), case.word, before);
+    assert_is(
+        rt,
+        case.name,
+        before,
+        &outcome,
+        Err(EngineFault::Device),
+        printed,
+    );
 }
 
 /// After a failed write neither writer is given more, though it would take it.
 #[test]
 fn writes_nothing_after_a_failed_write(rt: HostRuntime) {
-    let ending = Err(EngineFault::Device);
     let good = &PRINTED[6];
     for before in 0..good.printed.len() {
-        let outcome = listed_with_a_failure(rt.alloc(), good.word, before);
-        assert!(rt;
-            outcome.is(ending, &good.printed[..before], b""),
-            "{}, at {}: {:?}",
-            good.name,
-            before,
-            outcome
-        );
+        assert_fails(&rt, good, before, [&good.printed[..before], b""]);
     }
     let bad = &REFUSED[6];
     for before in 0..bad.printed.len() {
-        let outcome = listed_with_a_failure(rt.alloc(), bad.word, before);
-        assert!(rt;
-            outcome.is(ending, b"", &bad.printed[..before]),
-            "{}, at {}: {:?}",
-            bad.name,
-            before,
-            outcome
-        );
+        assert_fails(&rt, bad, before, [b"", &bad.printed[..before]]);
     }
 }

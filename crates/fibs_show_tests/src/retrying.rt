@@ -4,7 +4,6 @@ use fibs_engine::retrying::{RETRIES, read_retrying, write_retrying};
 use fibs_show::show::show;
 use fibs_test_tools::outcome::Outcome;
 use fibs_test_tools::pipe::{After, Pipe};
-use fibs_test_tools::text::{Text, text_of};
 use std::alloc::Global;
 use std::io;
 use std::io::{ErrorKind, Read, Write};
@@ -89,29 +88,29 @@ fn shown(alloc: Global, reads: u32, writes: u32) -> Outcome {
             device: &mut output,
         },
     );
-    Outcome {
-        ending,
-        out: text_of(output.pipe.output()),
-        err: Text::new(),
-    }
+    Outcome::new(ending, output.pipe.output(), b"")
 }
 
-/// As often as they may be, and of those that are interrupted once more the error is seen.
+/// How many reads and how many writes in a row are interrupted, how `show` ends, and what it prints: they are made again
+/// as often as they may be, and of those that are interrupted once more the error is seen.
+static ROWS: [(u32, u32, Result<u8, EngineFault>, &[u8]); 9] = [
+    (0, 0, Ok(0), b"text hi\ntext you\n"),
+    (1, 0, Ok(0), b"text hi\ntext you\n"),
+    (0, 1, Ok(0), b"text hi\ntext you\n"),
+    (1, 1, Ok(0), b"text hi\ntext you\n"),
+    (RETRIES, 0, Ok(0), b"text hi\ntext you\n"),
+    (0, RETRIES, Ok(0), b"text hi\ntext you\n"),
+    (RETRIES, RETRIES, Ok(0), b"text hi\ntext you\n"),
+    (RETRIES + 1, 0, Err(EngineFault::Device), b""),
+    (0, RETRIES + 1, Err(EngineFault::Device), b""),
+];
+
 #[test]
 fn interrupted_calls_are_made_again(rt: HostRuntime) {
-    for signals in [0, 1, RETRIES] {
-        for (reads, writes) in [(signals, 0), (0, signals), (signals, signals)] {
-            let outcome = shown(rt.alloc(), reads, writes);
-            assert!(rt;
-                outcome.is(Ok(0), b"text hi\ntext you\n", b""),
-                "{reads} and {writes} signals: {outcome:?}"
-            );
-        }
-    }
-    for (reads, writes) in [(RETRIES + 1, 0), (0, RETRIES + 1)] {
-        let outcome = shown(rt.alloc(), reads, writes);
+    for (reads, writes, ending, out) in &ROWS {
+        let outcome = shown(rt.alloc(), *reads, *writes);
         assert!(rt;
-            outcome.is(Err(EngineFault::Device), b"", b""),
+            outcome.is(*ending, out, b""),
             "{reads} and {writes} signals: {outcome:?}"
         );
     }

@@ -1,4 +1,5 @@
 //! The engines over streams in memory.
+use super::outcomes::assert_is;
 use fibs_engine::fault::EngineFault;
 use fibs_show::show::{StreamFault, show, show_portions};
 use fibs_test_tools::devices::{Endless, FailsOnce};
@@ -11,7 +12,7 @@ use std::process::Abort;
 /// A board as the server sends it, up to its fifth field, from there up to its last, and its last.
 const FRONT: &[u8] = b"board:You:someplayer:3:0";
 
-const MIDDLE: &[u8] =
+static MIDDLE: &[u8] =
     b":1:0:-2:0:0:0:0:5:0:3:0:0:0:-5:5:0:0:0:-3:0:-5:0:0:0:0:2:0:1:6:2:0:0:1:1:1:0:1:-1:0:25:0:0:0:0:2:0:0";
 
 const LAST: &[u8] = b":0";
@@ -21,24 +22,20 @@ fn shown(alloc: Global, input: &[u8], most: usize, after: After, room: usize) ->
     let mut reader = Pipe::new(input, most, after, 0);
     let mut writer = Pipe::new(b"", 1, After::End, room);
     let ending = show(alloc, &mut reader, &mut writer);
-    Outcome {
-        ending,
-        out: text_of(writer.output()),
-        err: Text::new(),
-    }
+    Outcome::new(ending, writer.output(), b"")
 }
 
 /// Asserts what `show` prints, however its input is cut.
 fn assert_shown(rt: &(impl Abort + AllocGlobal), input: &[u8], wanted: &[u8]) {
     for most in [1, 2, 7, 1024, 5000] {
-        let outcome = shown(rt.alloc(), input, most, After::End, TEXT_ROOM);
-        assert!(rt;
-            outcome.is(Ok(0), wanted, b""),
-            "a stream in portions, at {}: {:?}",
-            most,
-            outcome
-        );
+        assert_cut(rt, input, most, wanted);
     }
+}
+
+/// The same if it is read in portions of at most so many bytes.
+fn assert_cut(rt: &(impl Abort + AllocGlobal), input: &[u8], most: usize, wanted: &[u8]) {
+    let outcome = shown(rt.alloc(), input, most, After::End, TEXT_ROOM);
+    assert_is(rt, "portions", most, &outcome, Ok(0), [wanted, b""]);
 }
 
 /// `front`, so many bytes `a`, and `end`.
@@ -56,28 +53,30 @@ fn board_line(front: &[u8], last: &[u8], end: &[u8]) -> Text {
     joined(&[front, MIDDLE, last, end])
 }
 
+/// What the server sends, and what is printed.
+static LINES: [(&[u8], &[u8]); 14] = [
+    (b"", b""),
+    (b"3", b"unfinished 1\n"),
+    (b"\r\n", b"text \n"),
+    (b"a\nbc", b"text a\nunfinished 2\n"),
+    (b"05 x\n", b"text 05 x\n"),
+    (b"20 x\r\n", b"text 20 x\n"),
+    (b"a\x1b\r\n", b"text a\\x1b\n"),
+    (
+        b"~\x7f \x1f\\\xff\xff\x00\n",
+        b"text ~\\x7f \\x1f\\x5c\\xff\\x00\n",
+    ),
+    (b"login: > hello\r\r\n", b"text hello\\x0d\n"),
+    (b"a\xff\xfb\x01b\xff\xf1c\n\xff\xfb", b"text abc\n"),
+    (b"board: a\n", b"malformed 0 2 BadName\n"),
+    (b"board:\n", b"malformed 0 2 BadName\n"),
+    (b"board:You\n", b"malformed 0 3 Missing\n"),
+    (b"board:You:bob:3:x\n", b"malformed 0 5 NotANumber\n"),
+];
+
 #[test]
 fn shows_each_line(rt: HostRuntime) {
-    let cases: [(&[u8], &[u8]); 14] = [
-        (b"", b""),
-        (b"3", b"unfinished 1\n"),
-        (b"\r\n", b"text \n"),
-        (b"a\nbc", b"text a\nunfinished 2\n"),
-        (b"05 x\n", b"text 05 x\n"),
-        (b"20 x\r\n", b"text 20 x\n"),
-        (b"a\x1b\r\n", b"text a\\x1b\n"),
-        (
-            b"~\x7f \x1f\\\xff\xff\x00\n",
-            b"text ~\\x7f \\x1f\\x5c\\xff\\x00\n",
-        ),
-        (b"login: > hello\r\r\n", b"text hello\\x0d\n"),
-        (b"a\xff\xfb\x01b\xff\xf1c\n\xff\xfb", b"text abc\n"),
-        (b"board: a\n", b"malformed 0 2 BadName\n"),
-        (b"board:\n", b"malformed 0 2 BadName\n"),
-        (b"board:You\n", b"malformed 0 3 Missing\n"),
-        (b"board:You:bob:3:x\n", b"malformed 0 5 NotANumber\n"),
-    ];
-    for (input, wanted) in cases {
+    for (input, wanted) in &LINES {
         assert_shown(&rt, input, wanted);
     }
 }
@@ -85,25 +84,30 @@ fn shows_each_line(rt: HostRuntime) {
 #[test]
 fn shows_boards(rt: HostRuntime) {
     let board = board_line(FRONT, LAST, b"\n");
-    let ends: [&[u8]; 3] = [b"\n", b"\r\n", b"  \r\n"];
-    for end in ends {
+    for end in [b"\n".as_slice(), b"\r\n", b"  \r\n"] {
         assert_shown(&rt, &board_line(FRONT, LAST, end), &board);
     }
-    let wrong: [(&[u8], &[u8], &[u8]); 4] = [
-        (FRONT, b"", b"malformed 0 53 Missing\n"),
-        (FRONT, b":0:0", b"malformed 0 54 Extra\n"),
-        (
-            b"board:You:someplayer:3:-0",
-            LAST,
-            b"malformed 0 5 NotANumber\n",
-        ),
-        (
-            b"board:You:someplayer:3:-1",
-            LAST,
-            b"malformed 0 5 OutOfRange\n",
-        ),
-    ];
-    for (front, last, wanted) in wrong {
+}
+
+/// The front and the last field of a board that is wrong, and what is printed.
+static WRONG: [(&[u8], &[u8], &[u8]); 4] = [
+    (FRONT, b"", b"malformed 0 53 Missing\n"),
+    (FRONT, b":0:0", b"malformed 0 54 Extra\n"),
+    (
+        b"board:You:someplayer:3:-0",
+        LAST,
+        b"malformed 0 5 NotANumber\n",
+    ),
+    (
+        b"board:You:someplayer:3:-1",
+        LAST,
+        b"malformed 0 5 OutOfRange\n",
+    ),
+];
+
+#[test]
+fn says_what_is_wrong_with_boards(rt: HostRuntime) {
+    for (front, last, wanted) in &WRONG {
         assert_shown(&rt, &board_line(front, last, b"\r\n"), wanted);
     }
 }
@@ -116,42 +120,59 @@ fn drops_a_telnet_command_inside_a_field(rt: HostRuntime) {
     assert_shown(&rt, line, &board_line(FRONT, LAST, b"\n"));
 }
 
+/// A line's front, its length and its end, and the front and the length of what is printed.
+static LONG: [(&[u8], usize, &[u8], &[u8], usize); 5] = [
+    (b"", 16384, b"\r\n", b"text ", 16384),
+    (b"", 16385, b"\r\n", b"cut ", 16384),
+    (b"> ", 16384, b"\n", b"cut ", 16382),
+    (b"board:", 16384, b"\n", b"cut board:", 16378),
+    (b"\n", 16386, b"", b"text \nunfinished 16384", 0),
+];
+
 #[test]
 fn cuts_long_lines(rt: HostRuntime) {
-    let cases: [(&[u8], usize, &[u8], &[u8], usize); 5] = [
-        (b"", 16384, b"\r\n", b"text ", 16384),
-        (b"", 16385, b"\r\n", b"cut ", 16384),
-        (b"> ", 16384, b"\n", b"cut ", 16382),
-        (b"board:", 16384, b"\n", b"cut board:", 16378),
-        (b"\n", 16386, b"", b"text \nunfinished 16384", 0),
-    ];
-    for (front, count, end, wanted_front, wanted_count) in cases {
-        let input = long_line(front, count, end);
-        let wanted = long_line(wanted_front, wanted_count, b"\n");
-        assert_shown(&rt, &input, &wanted);
+    for (front, count, end, wanted_front, wanted_count) in &LONG {
+        let wanted = long_line(wanted_front, *wanted_count, b"\n");
+        assert_shown(&rt, &long_line(front, *count, end), &wanted);
     }
 }
 
+/// Asserts that `show` stops at a device that fails, and what it has printed.
+fn assert_fails(
+    rt: &(impl Abort + AllocGlobal),
+    input: &[u8],
+    most: usize,
+    after: After,
+    room: usize,
+    wanted: &[u8],
+) {
+    let outcome = shown(rt.alloc(), input, most, after, room);
+    let ending = Err(EngineFault::Device);
+    assert_is(
+        rt,
+        "a device",
+        wanted.len(),
+        &outcome,
+        ending,
+        [wanted, b""],
+    );
+}
+
+/// What is read before a read fails, and what is printed.
+static BEFORE_A_FAULT: [(&[u8], &[u8]); 6] = [
+    (b"", b""),
+    (b"a", b""),
+    (b"a\n", b"text a\n"),
+    (b"a\n\n", b"text a\ntext \n"),
+    (b"a\n\nb\\\r", b"text a\ntext \n"),
+    (b"a\n\nb\\\r\nc", b"text a\ntext \ntext b\\x5c\n"),
+];
+
 #[test]
 fn keeps_whole_lines_at_a_failed_read(rt: HostRuntime) {
-    let cases: [(&[u8], &[u8]); 6] = [
-        (b"", b""),
-        (b"a", b""),
-        (b"a\n", b"text a\n"),
-        (b"a\n\n", b"text a\ntext \n"),
-        (b"a\n\nb\\\r", b"text a\ntext \n"),
-        (b"a\n\nb\\\r\nc", b"text a\ntext \ntext b\\x5c\n"),
-    ];
-    for (input, wanted) in cases {
+    for (input, wanted) in &BEFORE_A_FAULT {
         for most in [1, 3, 100] {
-            let outcome = shown(rt.alloc(), input, most, FAULT, 512);
-            let ending = Err(EngineFault::Device);
-            assert!(rt;
-                outcome.is(ending, wanted, b""),
-                "a failed read, at {}: {:?}",
-                input.len(),
-                outcome
-            );
+            assert_fails(&rt, input, most, FAULT, 512, wanted);
         }
     }
 }
@@ -161,14 +182,7 @@ fn stops_at_a_failed_write(rt: HostRuntime) {
     let wanted = b"text a\ntext bc\nunfinished 1\n";
     for room in 0..wanted.len() {
         for most in [1, 100] {
-            let outcome = shown(rt.alloc(), b"a\nbc\nd", most, After::End, room);
-            let ending = Err(EngineFault::Device);
-            assert!(rt;
-                outcome.is(ending, &wanted[..room], b""),
-                "a failed write, at {}: {:?}",
-                room,
-                outcome
-            );
+            assert_fails(&rt, b"a\nbc\nd", most, After::End, room, &wanted[..room]);
         }
     }
 }
@@ -215,22 +229,19 @@ fn are_first_lines(text: &[u8], lines: &[u8]) -> bool {
 /// If a growth is refused, the first lines were written, and another call writes all.
 fn assert_shown_again(rt: &(impl Abort + AllocGlobal), input: &[u8], wanted: &[u8]) {
     for most in [2, 50, 5000] {
-        let mut outcome = shown(rt.alloc(), input, most, After::End, 1024);
-        if outcome.ending == Err(EngineFault::Memory) {
-            let written = outcome.out.as_slice();
-            assert!(rt;
-                are_first_lines(written, wanted),
-                "{written:?} of {wanted:?}"
-            );
-            outcome = shown(rt.alloc(), input, most, After::End, 1024);
-        }
-        assert!(rt;
-            outcome.is(Ok(0), wanted, b""),
-            "once more, at {}: {:?}",
-            most,
-            outcome
-        );
+        assert_cut_again(rt, input, most, wanted);
     }
+}
+
+/// The same if the input is read in portions of at most so many bytes.
+fn assert_cut_again(rt: &(impl Abort + AllocGlobal), input: &[u8], most: usize, wanted: &[u8]) {
+    let mut outcome = shown(rt.alloc(), input, most, After::End, 1024);
+    if outcome.ending == Err(EngineFault::Memory) {
+        let are_first = are_first_lines(&outcome.out, wanted);
+        assert!(rt; are_first, "{:?} of {wanted:?}", outcome.out.as_slice());
+        outcome = shown(rt.alloc(), input, most, After::End, 1024);
+    }
+    assert_is(rt, "once more", most, &outcome, Ok(0), [wanted, b""]);
 }
 
 #[test]
@@ -258,6 +269,14 @@ fn shows_messages_under_refused_memory(rt: HostRuntime) {
     assert_shown_again(&rt, &input, &wanted);
 }
 
+/// How a stream without end is shown that is read so often at most, how often it was read, and what is printed.
+fn endless(alloc: Global, reads: u32) -> (Result<(), StreamFault>, u32, Text) {
+    let mut reader = Endless::new();
+    let mut writer = Pipe::new(b"", 1, After::End, 512);
+    let ending = show_portions(alloc, reads, &mut [0; 8], &mut reader, &mut writer);
+    (ending, reader.asked(), text_of(writer.output()))
+}
+
 /// A reader without end gives its bytes as often as it is asked, and no more often.
 #[test]
 fn asks_a_reader_without_end_so_often(rt: HostRuntime) {
@@ -268,13 +287,23 @@ fn asks_a_reader_without_end_so_often(rt: HostRuntime) {
         (3, b"text y\ntext y\ntext y\n"),
     ];
     for (reads, lines) in rows {
-        let mut reader = Endless::new();
-        let mut writer = Pipe::new(b"", 1, After::End, 512);
-        let ending = show_portions(rt.alloc(), reads, &mut [0; 8], &mut reader, &mut writer);
-        assert_eq!(rt; ending, Err(StreamFault::Endless), "{reads} reads");
-        assert_eq!(rt; reader.asked(), reads, "{reads} reads");
-        assert_eq!(rt; writer.output(), lines, "{reads} reads");
+        let wanted = (Err(StreamFault::Endless), reads, text_of(lines));
+        assert_eq!(rt; endless(rt.alloc(), reads), wanted);
     }
+}
+
+/// If a write of at most `most` bytes fails after so many, nothing is written after it.
+fn assert_stops(rt: &(impl Abort + AllocGlobal), most: usize, failing: usize) {
+    let wanted = b"text a\ntext bc\nunfinished 1\n";
+    let mut reader = Pipe::new(b"a\nbc\nd", 100, After::End, 0);
+    let mut writer = FailsOnce::new(failing, most);
+    let ending = show_portions(rt.alloc(), 1000, &mut [0; 1024], &mut reader, &mut writer);
+    let is_front = wanted.starts_with(writer.output());
+    assert!(rt;
+        ending == Err(StreamFault::Writer) && is_front,
+        "{failing} of {most}: {ending:?} after {:?}",
+        writer.output()
+    );
 }
 
 /// After a failed write nothing more is written, though the writer would take it.
@@ -283,31 +312,26 @@ fn writes_nothing_after_a_failed_write(rt: HostRuntime) {
     let wanted = b"text a\ntext bc\nunfinished 1\n";
     for most in [1, 4, 100] {
         for failing in 0..wanted.len().div_ceil(most) {
-            let mut reader = Pipe::new(b"a\nbc\nd", 100, After::End, 0);
-            let mut writer = FailsOnce::new(failing, most);
-            let ending = show_portions(rt.alloc(), 1000, &mut [0; 1024], &mut reader, &mut writer);
-            assert_eq!(rt; ending, Err(StreamFault::Writer), "{failing} of {most}");
-            assert_eq!(rt;
-                Some(writer.output()),
-                wanted.get(..writer.output().len()),
-                "{failing} of {most}"
-            );
+            assert_stops(&rt, most, failing);
         }
     }
+}
+
+/// How a stream of one line ends.
+fn ending_of(alloc: Global, after: After, room: usize) -> Result<(), StreamFault> {
+    let mut reader = Pipe::new(b"a\n", 1, after, 0);
+    let mut writer = Pipe::new(b"", 1, After::End, room);
+    show_portions(alloc, 1000, &mut [0; 1024], &mut reader, &mut writer)
 }
 
 /// Each fault of a stream is a fault of the engine.
 #[test]
 fn says_what_failed(rt: HostRuntime) {
-    let cases = [
-        (FAULT, 512, Err(StreamFault::Reader)),
-        (After::End, 3, Err(StreamFault::Writer)),
-        (After::End, 512, Ok(())),
+    let endings = [
+        ending_of(rt.alloc(), FAULT, 512),
+        ending_of(rt.alloc(), After::End, 3),
+        ending_of(rt.alloc(), After::End, 512),
     ];
-    for (after, room, wanted) in cases {
-        let mut reader = Pipe::new(b"a\n", 1, after, 0);
-        let mut writer = Pipe::new(b"", 1, After::End, room);
-        let ending = show_portions(rt.alloc(), 1000, &mut [0; 1024], &mut reader, &mut writer);
-        assert_eq!(rt; ending, wanted);
-    }
+    let wanted = [Err(StreamFault::Reader), Err(StreamFault::Writer), Ok(())];
+    assert_eq!(rt; endings, wanted);
 }
