@@ -346,8 +346,8 @@ fn commands_are_in_the_numbers_of_their_own_board(rt: HostRuntime) -> Result<(),
     Ok(())
 }
 
-/// Whether a script of so many bytes is read whole, in reads of at most `most` bytes. A read after them fails as `after`
-/// says.
+/// Whether a script of so many bytes is read whole, in reads of at most `most` bytes. A read after them fails as
+/// `after` says.
 fn is_read(alloc: Global, length: usize, most: usize, after: After) -> Result<Option<bool>, Fail> {
     let mut bytes = Vec::new(alloc);
     for _ in 0..length {

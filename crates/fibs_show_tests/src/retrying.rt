@@ -91,8 +91,8 @@ fn shown(alloc: Global, reads: u32, writes: u32) -> Outcome {
     Outcome::new(ending, output.pipe.output(), b"")
 }
 
-/// How many reads and how many writes in a row are interrupted, how `show` ends, and what it prints: they are made again
-/// as often as they may be, and of those that are interrupted once more the error is seen.
+/// How many reads and how many writes in a row are interrupted, how `show` ends, and what it prints: they are made
+/// again as often as they may be, and of those that are interrupted once more the error is seen.
 static ROWS: [(u32, u32, Result<u8, EngineFault>, &[u8]); 9] = [
     (0, 0, Ok(0), b"text hi\ntext you\n"),
     (1, 0, Ok(0), b"text hi\ntext you\n"),

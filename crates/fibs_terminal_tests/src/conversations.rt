@@ -321,8 +321,8 @@ fn tried(alloc: Global) -> (ArrayVec<u8, 8192>, bool) {
     (text, ended)
 }
 
-/// Whether what was shown first and what was shown then fit: both came to the end and are the same, or one did, of which
-/// the other is the beginning.
+/// Whether what was shown first and what was shown then fit: both came to the end and are the same, or one did, of
+/// which the other is the beginning.
 fn are_alike(first: &(ArrayVec<u8, 8192>, bool), second: &(ArrayVec<u8, 8192>, bool)) -> bool {
     let (first, ended) = (first.0.as_slice(), first.1);
     let (second, ended_again) = (second.0.as_slice(), second.1);

@@ -31,8 +31,8 @@ impl Write for Screen<'_> {
     }
 }
 
-/// Whether each of two calls failed, and how often the screen was flushed after it: before the server is waited for, and
-/// before the user types.
+/// Whether each of two calls failed, and how often the screen was flushed after it: before the server is waited for,
+/// and before the user types.
 fn flushed(rt: &(impl Abort + AllocGlobal), fails: bool) -> [(bool, u32); 2] {
     let login = Login::new(b"ann", b"secret").expect(rt, "it is a login");
     let client = Client::new(login);

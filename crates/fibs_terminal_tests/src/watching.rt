@@ -81,8 +81,8 @@ fn a_watched_network_finds_each_address(rt: HostRuntime) -> Result<(), Fail> {
     Ok(())
 }
 
-/// What comes first of what is typed and what the server sends, if both are ready: at three times, and then after what is
-/// typed was read.
+/// What comes first of what is typed and what the server sends, if both are ready: at three times, and then after what
+/// is typed was read.
 fn seen_first(rt: &HostRuntime, heard_before: bool) -> Result<[First; 4], Fail> {
     let heard = Poll::new(rt)?;
     let (near, mut far) = connected(&WatchedNet::new(rt, heard.registry()), None)?;
