@@ -137,9 +137,10 @@ fn cuts_long_lines(rt: HostRuntime) {
     }
 }
 
-/// Asserts that `show` stops at a device that fails, and what it has printed.
+/// Asserts that `show` stops at a device that fails, and what it has printed. The number says which case it is.
 fn assert_fails(
     rt: &(impl Abort + AllocGlobal),
+    at: usize,
     input: &[u8],
     most: usize,
     after: After,
@@ -148,14 +149,7 @@ fn assert_fails(
 ) {
     let outcome = shown(rt.alloc(), input, most, after, room);
     let ending = Err(EngineFault::Device);
-    assert_is(
-        rt,
-        "a device",
-        wanted.len(),
-        &outcome,
-        ending,
-        [wanted, b""],
-    );
+    assert_is(rt, "a device", at, &outcome, ending, [wanted, b""]);
 }
 
 /// What is read before a read fails, and what is printed.
@@ -172,7 +166,7 @@ static BEFORE_A_FAULT: [(&[u8], &[u8]); 6] = [
 fn keeps_whole_lines_at_a_failed_read(rt: HostRuntime) {
     for (input, wanted) in &BEFORE_A_FAULT {
         for most in [1, 3, 100] {
-            assert_fails(&rt, input, most, FAULT, 512, wanted);
+            assert_fails(&rt, input.len(), input, most, FAULT, 512, wanted);
         }
     }
 }
@@ -182,7 +176,15 @@ fn stops_at_a_failed_write(rt: HostRuntime) {
     let wanted = b"text a\ntext bc\nunfinished 1\n";
     for room in 0..wanted.len() {
         for most in [1, 100] {
-            assert_fails(&rt, b"a\nbc\nd", most, After::End, room, &wanted[..room]);
+            assert_fails(
+                &rt,
+                room,
+                b"a\nbc\nd",
+                most,
+                After::End,
+                room,
+                &wanted[..room],
+            );
         }
     }
 }
