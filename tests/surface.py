@@ -345,7 +345,7 @@ def the_words_of_a_terminal_mean_the_same(_program):
 
 def the_help_of_a_terminal_means_the_same(_program):
     """Each typed line has its entry in `help WORD` of a terminal, by itself or by its first word."""
-    code = text_of('crates/fibs_wording/src/help.rt').split('pub fn word_help', 1)[1]
+    code = text_of('crates/fibs_wording/src/help.rt').split('// What is said of two words.', 1)[1]
     rows = []
     for text in re.findall(r'b"((?:[^"\\]|\\.|\\\n)*:(?:[^"\\]|\\.|\\\n)*)"', code):
         text = text.replace('\\n', '\n').replace('\\\n', '')
