@@ -324,66 +324,166 @@ fn matches_of<'a>(alloc: Global, words: &'a [String]) -> Result<ArgMatches<'a>, 
     command(alloc)?.try_get_matches_from(words)
 }
 
+/// What an argument of a subcommand is.
+#[derive(Clone, Copy)]
+enum Kind {
+    /// A word that can't be left out.
+    Word,
+    /// A port that can't be left out.
+    Port,
+    /// An option that names a file.
+    File,
+}
+
+/// An argument of a subcommand.
+#[derive(Clone, Copy)]
+struct Argument {
+    name: &'static str,
+    help: &'static str,
+    kind: Kind,
+}
+
+/// The arguments of `plays`.
+const PLAYS_ARGUMENTS: [Argument; 1] = [Argument {
+    name: "LINE",
+    help: LINE,
+    kind: Kind::Word,
+}];
+
+/// The arguments of `connect`.
+const CONNECT_ARGUMENTS: [Argument; 5] = [
+    Argument {
+        name: "HOST",
+        help: HOST,
+        kind: Kind::Word,
+    },
+    Argument {
+        name: "PORT",
+        help: PORT,
+        kind: Kind::Port,
+    },
+    Argument {
+        name: "NAME",
+        help: NAME,
+        kind: Kind::Word,
+    },
+    Argument {
+        name: "password-file",
+        help: PASSWORD_FILE,
+        kind: Kind::File,
+    },
+    Argument {
+        name: "log",
+        help: LOG,
+        kind: Kind::File,
+    },
+];
+
+/// A subcommand.
+#[derive(Clone, Copy)]
+struct Subcommand {
+    name: &'static str,
+    about: &'static str,
+    long_about: &'static str,
+    arguments: &'static [Argument],
+}
+
+/// The subcommands, in the order of the help.
+const SUBCOMMANDS: &[Subcommand] = &[
+    Subcommand {
+        name: "show",
+        about: SHOW,
+        long_about: SHOW_LONG,
+        arguments: &[],
+    },
+    Subcommand {
+        name: "plays",
+        about: PLAYS,
+        long_about: PLAYS_LONG,
+        arguments: &PLAYS_ARGUMENTS,
+    },
+    Subcommand {
+        name: "replay",
+        about: REPLAY,
+        long_about: REPLAY_LONG,
+        arguments: &[],
+    },
+    Subcommand {
+        name: "connect",
+        about: CONNECT,
+        long_about: CONNECT_LONG,
+        arguments: &CONNECT_ARGUMENTS,
+    },
+    Subcommand {
+        name: "loop",
+        about: LOOP,
+        long_about: LOOP_LONG,
+        arguments: &[],
+    },
+];
+
 /// The command line that is understood.
 fn command<'a>(alloc: Global) -> Result<Command<'a>, AllocError> {
+    with_subcommands(alloc, program(alloc)?, subcommands())
+}
+
+/// The subcommands, in the order of the help.
+fn subcommands() -> &'static [Subcommand] {
+    SUBCOMMANDS
+}
+
+/// `fibs` without its subcommands.
+fn program<'a>(alloc: Global) -> Result<Command<'a>, AllocError> {
     Command::new(alloc, "fibs")
-        .bin_name("fibs")?
         .about(ABOUT)
         .version(VERSION)
         .after_help(EXAMPLES)
         .subcommand_required(true)
-        .subcommand(show(alloc))?
-        .subcommand(plays(alloc)?)?
-        .subcommand(replay(alloc))?
-        .subcommand(connect(alloc)?)?
-        .subcommand(play_loop(alloc))
+        .bin_name("fibs")
 }
 
-fn show<'a>(alloc: Global) -> Command<'a> {
-    Command::new(alloc, "show")
-        .about(SHOW)
-        .long_about(SHOW_LONG)
+/// The same with these subcommands.
+fn with_subcommands<'a>(
+    alloc: Global,
+    mut command: Command<'a>,
+    subcommands: &[Subcommand],
+) -> Result<Command<'a>, AllocError> {
+    for subcommand in subcommands {
+        command = with_subcommand(alloc, command, subcommand)?;
+    }
+    Ok(command)
 }
 
-fn plays<'a>(alloc: Global) -> Result<Command<'a>, AllocError> {
-    Command::new(alloc, "plays")
-        .about(PLAYS)
-        .long_about(PLAYS_LONG)
-        .arg(Arg::new(alloc, "LINE").required(true).help(LINE))
+/// The same with one more subcommand.
+fn with_subcommand<'a>(
+    alloc: Global,
+    command: Command<'a>,
+    subcommand: &Subcommand,
+) -> Result<Command<'a>, AllocError> {
+    command.subcommand(built(alloc, subcommand)?)
 }
 
-fn replay<'a>(alloc: Global) -> Command<'a> {
-    Command::new(alloc, "replay")
-        .about(REPLAY)
-        .long_about(REPLAY_LONG)
+/// A subcommand with its arguments.
+fn built<'a>(alloc: Global, subcommand: &Subcommand) -> Result<Command<'a>, AllocError> {
+    let mut command = Command::new(alloc, subcommand.name)
+        .about(subcommand.about)
+        .long_about(subcommand.long_about);
+    for argument in subcommand.arguments {
+        command = command.arg(argument_of(alloc, argument))?;
+    }
+    Ok(command)
 }
 
-fn connect<'a>(alloc: Global) -> Result<Command<'a>, AllocError> {
-    let port = Arg::new(alloc, "PORT")
-        .value_parser(ValueParser::unsigned(1, 65535))
-        .help(PORT);
-    let password = Arg::new(alloc, "password-file")
-        .long("password-file")
-        .value_name("FILE")
-        .help(PASSWORD_FILE);
-    let log = Arg::new(alloc, "log")
-        .long("log")
-        .value_name("FILE")
-        .help(LOG);
-    Command::new(alloc, "connect")
-        .about(CONNECT)
-        .long_about(CONNECT_LONG)
-        .arg(Arg::new(alloc, "HOST").required(true).help(HOST))?
-        .arg(port.required(true))?
-        .arg(Arg::new(alloc, "NAME").required(true).help(NAME))?
-        .arg(password)?
-        .arg(log)
-}
-
-fn play_loop<'a>(alloc: Global) -> Command<'a> {
-    Command::new(alloc, "loop")
-        .about(LOOP)
-        .long_about(LOOP_LONG)
+/// What is read of an argument.
+fn argument_of<'a>(alloc: Global, argument: &Argument) -> Arg<'a> {
+    let arg = Arg::new(alloc, argument.name).help(argument.help);
+    match argument.kind {
+        Kind::Word => arg.required(true),
+        Kind::Port => arg
+            .value_parser(ValueParser::unsigned(1, 65535))
+            .required(true),
+        Kind::File => arg.long(argument.name).value_name("FILE"),
+    }
 }
 
 fn request_of<'a>(matches: &ArgMatches<'a>) -> Option<Request<'a>> {
