@@ -7,6 +7,15 @@ ghost use Rattle.fibs_picture.specs.Picture.{is_one};
 
 use fibs_boards::board::Board;
 
+/// The number of a field.
+pub fn number(board: &Board, field: usize) -> i32
+    requires low { 4 ≤ field }
+    requires high { field ≤ 53 }
+    ensures { result ≡ field_of (fields_of board.now) field }
+{
+    board.field(field)
+}
+
 /// A die, 0 if there is none.
 pub fn die(board: &Board, field: usize) -> u8
     requires low { 34 ≤ field }
@@ -23,5 +32,5 @@ pub fn is_one(board: &Board, field: usize) -> bool
     requires high { field ≤ 53 }
     ensures { result ≡ is_one (fields_of board.now) field }
 {
-    board.field(field) == 1
+    number(board, field) == 1
 }
