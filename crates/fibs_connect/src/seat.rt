@@ -34,7 +34,7 @@ pub enum Going {
 pub struct Seat<S: Link + Drop> {
     pub(crate) client: Client,
     pub(crate) directory: Directory,
-    stream: Option<S>,
+    pub(crate) stream: Option<S>,
 }
 
 impl<S: Link + Drop> Seat<S> {

@@ -1,10 +1,10 @@
-use Rattle.std.proofs.Common.{rules, refl}
 use Rattle.fibs_typed.proofs.TypedLemmas.Spent.{spends_nothing, spends_more}
-use Rattle.fibs_connect.proofs.answer_lines.Goals as goal
+use Rattle.std.proofs.Common.{refl}
+use Rattle.fibs_connect.proofs.answer_at.Goals as goal
 
 pub loop-init : goal.loop-init
 loop-init g c = (
-  search rules,
+  c.in_ok-open.ensures.fits,
   spends_nothing c.args.lines.now c.args.lines.now
       (g.R.Read.remaining c.args.typed.now) refl,
 )
@@ -20,12 +20,8 @@ pub returns-then-not-branch-clause-spends : goal.returns-then-not-branch-clause-
 returns-then-not-branch-clause-spends g c =
     spends_more c.args.lines.now c.loop.lines c.read_line.new.self _ _ _ c.loop.invariant.1 c.read_line.ensures.spends
 
-pub returns-in_err-answer-clause-spends : goal.returns-in_err-answer-clause-spends
-returns-in_err-answer-clause-spends g c =
-    spends_more c.args.lines.now c.loop.lines c.read_line.new.self _ _ _ c.loop.invariant.1 c.read_line.ensures.spends
-
-pub returns-in_err-rest-in-Away-clause-spends : goal.returns-in_err-rest-in-Away-clause-spends
-returns-in_err-rest-in-Away-clause-spends g c =
+pub returns-in_err-answer_line-clause-spends : goal.returns-in_err-answer_line-clause-spends
+returns-in_err-answer_line-clause-spends g c =
     spends_more c.args.lines.now c.loop.lines c.read_line.new.self _ _ _ c.loop.invariant.1 c.read_line.ensures.spends
 
 pub returns-in-Away-clause-spends : goal.returns-in-Away-clause-spends
@@ -34,13 +30,9 @@ returns-in-Away-clause-spends g c =
 
 pub loop-preserved : goal.loop-preserved
 loop-preserved g c = (
-  search rules,
+  c.in_ok-answer_line.ensures.fits,
   spends_more c.args.lines.now c.loop.lines c.read_line.new.self _ _ _ c.loop.invariant.1 c.read_line.ensures.spends,
 )
 
 pub returns-clause-spends : goal.returns-clause-spends
 returns-clause-spends g c = c.loop.invariant.1
-
-pub returns-in_err-wish-clause-spends : goal.returns-in_err-wish-clause-spends
-returns-in_err-wish-clause-spends g c =
-    spends_more c.args.lines.now c.loop.lines c.read_line.new.self _ _ _ c.loop.invariant.1 c.read_line.ensures.spends
