@@ -1,10 +1,15 @@
 //! Events, read from the lines of a script.
-ghost use Rattle.std.specs.Prelude.{◌≡◌, ◌↔◌, Some, IfSome, IfNone, option_map};
+ghost use Rattle.std.specs.Prelude.{◌≡◌, ◌↔◌, false, codes, Some, IfSome, IfNone, option_map};
+ghost use Rattle.std.specs.Str.{bytes_eq};
 ghost use Rattle.fibs_boards.specs.Board.{BoardText};
 ghost use Rattle.fibs_fields.specs.Decimal.{decimal_up_to};
 ghost use Rattle.fibs_boards.specs.StoredBoard.{fields_of};
 ghost use Rattle.fibs_model_server.specs.EventOf.{event_of};
 ghost use Rattle.fibs_machine.specs.Events.{Event as EventValue};
+ghost use Rattle.fibs_machine.specs.Events.{Click, Plain, Deliver, Lose, Own};
+ghost use Rattle.fibs_commands.specs.CommandReading.{read_command};
+ghost use Rattle.fibs_commands.specs.PlainReading.{read_plain};
+ghost use Rattle.fibs_position.specs.declared.direction.Direction.TheVariants.{Down};
 ghost use Rattle.fibs_scripts.specs.EventLines.{SaysEvent};
 ghost use Rattle.fibs_scripts.specs.EventReading.{alone_in, board_in, event_in, joined_in, of_roll};
 ghost use Rattle.fibs_scripts.specs.EventReading.{serving_in};
@@ -44,6 +49,13 @@ pub fn read_board(line: &[u8]) -> Option<Board>
     Board::read(line).ok()
 }
 
+/// Whether a text is this word.
+fn is(text: &[u8], word: &[u8]) -> bool
+    ensures { result ≡ bytes_eq text.now word.now }
+{
+    text == word
+}
+
 /// A connection and two dice.
 #[tactic(auto, unfolding(crate::specs::EventReading::serving_in))]
 fn read_serving<'a>(rest: &[u8]) -> Option<Event<'a>>
@@ -65,11 +77,11 @@ fn read_serving<'a>(rest: &[u8]) -> Option<Event<'a>>
 fn read_alone<'a>(word: &[u8]) -> Option<Event<'a>>
     ensures { option_map event_of result ≡ alone_in word.now }
 {
-    if word == b"open".as_slice() {
+    if is(word, b"open") {
         Some(Event::Open)
-    } else if word == b"repeat".as_slice() {
+    } else if is(word, b"repeat") {
         Some(Event::Repeat)
-    } else if word == b"text".as_slice() {
+    } else if is(word, b"text") {
         Some(Event::Text(b""))
     } else {
         None
@@ -81,11 +93,47 @@ fn read_alone<'a>(word: &[u8]) -> Option<Event<'a>>
 fn read_roll<'a>(event: Event<'a>, rest: &[u8]) -> Option<Event<'a>>
     ensures { option_map event_of result ≡ of_roll (event_of event.entry) rest.now }
 {
-    if rest == b"roll".as_slice() {
-        Some(event)
-    } else {
-        None
-    }
+    if is(rest, b"roll") { Some(event) } else { None }
+}
+
+/// A decision of the player.
+fn read_click<'a>(rest: &[u8]) -> Option<Event<'a>>
+    ensures { option_map event_of result ≡ option_map (λ d. Click d) (read_command Down rest.now) }
+{
+    let decision = read_command(rest, Direction::Down)?;
+    Some(Event::Click(decision))
+}
+
+/// Another command of the player.
+fn read_said(rest: &[u8]) -> Option<Event<'_>>
+    ensures { option_map event_of result ≡ option_map (λ p. Plain p) (read_plain rest.now) }
+{
+    let plain = read_plain(rest)?;
+    Some(Event::Plain(plain))
+}
+
+/// How many bytes reach the client.
+fn read_delivery<'a>(rest: &[u8]) -> Option<Event<'a>>
+    ensures { option_map event_of result ≡ option_map (λ n. Deliver n) (decimal_up_to 4294967295 rest.now) }
+{
+    let count = read_count(rest)?;
+    Some(Event::Deliver(count))
+}
+
+/// A loss, and how many bytes reach the server.
+fn read_loss<'a>(rest: &[u8]) -> Option<Event<'a>>
+    ensures { option_map event_of result ≡ option_map (λ k. Lose k) (decimal_up_to 4294967295 rest.now) }
+{
+    let count = read_count(rest)?;
+    Some(Event::Lose(count))
+}
+
+/// The server's new board.
+fn read_own<'a>(rest: &[u8]) -> Option<Event<'a>>
+    ensures { option_map event_of result ≡ option_map (λ b. Own b) (board_in rest.now) }
+{
+    let board = read_board(rest)?;
+    Some(Event::Own(board))
 }
 
 /// A word, and what follows the space after it.
@@ -93,23 +141,37 @@ fn read_roll<'a>(event: Event<'a>, rest: &[u8]) -> Option<Event<'a>>
 fn read_joined<'a>(word: &[u8], rest: &'a [u8]) -> Option<Event<'a>>
     ensures { option_map event_of result ≡ joined_in word.now rest.now }
 {
-    if word == b"click".as_slice() {
-        Some(Event::Click(read_command(rest, Direction::Down)?))
-    } else if word == b"plain".as_slice() {
-        Some(Event::Plain(read_plain(rest)?))
-    } else if word == b"order".as_slice() {
+    if is(word, b"click") {
+        read_click(rest)
+    } else if is(word, b"plain") {
+        read_said(rest)
+    } else if is(word, b"order") {
         read_roll(Event::Order, rest)
-    } else if word == b"withdraw".as_slice() {
+    } else if is(word, b"withdraw") {
         read_roll(Event::Withdraw, rest)
-    } else if word == b"deliver".as_slice() {
-        Some(Event::Deliver(read_count(rest)?))
-    } else if word == b"lose".as_slice() {
-        Some(Event::Lose(read_count(rest)?))
-    } else if word == b"serve".as_slice() {
+    } else {
+        read_outside(word, rest)
+    }
+}
+
+/// The same if the word is none of the player's.
+#[tactic(auto, unfolding(crate::specs::EventReading::joined_in))]
+fn read_outside<'a>(word: &[u8], rest: &'a [u8]) -> Option<Event<'a>>
+    requires click { bytes_eq word.now (codes "click") ≡ false }
+    requires plain { bytes_eq word.now (codes "plain") ≡ false }
+    requires order { bytes_eq word.now (codes "order") ≡ false }
+    requires withdraw { bytes_eq word.now (codes "withdraw") ≡ false }
+    ensures { option_map event_of result ≡ joined_in word.now rest.now }
+{
+    if is(word, b"deliver") {
+        read_delivery(rest)
+    } else if is(word, b"lose") {
+        read_loss(rest)
+    } else if is(word, b"serve") {
         read_serving(rest)
-    } else if word == b"own".as_slice() {
-        Some(Event::Own(read_board(rest)?))
-    } else if word == b"text".as_slice() {
+    } else if is(word, b"own") {
+        read_own(rest)
+    } else if is(word, b"text") {
         Some(Event::Text(rest))
     } else {
         None
