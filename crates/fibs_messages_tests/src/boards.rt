@@ -10,30 +10,36 @@ use std::test::Fail;
 const LINE: &[u8] =
     b"board:You:someplayer:3:0:1:0:-2:0:0:0:0:5:0:3:0:0:0:-5:5:0:0:0:-3:0:-5:0:0:0:0:2:0:1:6:2:0:0:1:1:1:0:1:-1:0:25:0:0:0:0:2:0:0:0";
 
+/// How many fields it has.
+const FIELDS: usize = 53;
+
 /// That line with another text in one field.
 fn line_with(field: usize, text: &[u8]) -> ArrayVec<u8, 512> {
     let mut line = ArrayVec::new();
-    for (before, piece) in LINE.split(|byte| *byte == b':').enumerate() {
-        if before > 0 {
+    let mut rest = LINE;
+    for number in 1..FIELDS + 1 {
+        let (piece, after) = split(rest, b':');
+        let _room = line.try_extend_from_slice(if number == field { text } else { piece });
+        if number < FIELDS {
             let _room = line.try_push(b':');
         }
-        let is_changed = before.wrapping_add(1) == field;
-        let _room = line.try_extend_from_slice(if is_changed { text } else { piece });
+        rest = after.unwrap_or(b"");
     }
     line
 }
 
-/// Whether the line says a board, and is the real line but for spaces at its end.
-fn is_copied(line: &[u8]) -> bool {
-    match check_board(line) {
+/// Whether the line with this end says a board, and is the real line but for spaces at its end.
+fn is_copied_with(end: &[u8]) -> bool {
+    match check_board(line_with(FIELDS, end).as_slice()) {
         Ok(copied) => copied == LINE,
         Err(_) => false,
     }
 }
 
-/// Whether the line says no board, whoever reads it, since this field is wrong.
-fn is_wrong_at(line: &[u8], field: usize) -> bool {
-    match (check_board(line), Board::read(line)) {
+/// Whether the line with this text in a field says no board, whoever reads it, since this field is wrong.
+fn is_wrong_with(field: usize, text: &[u8]) -> bool {
+    let line = line_with(field, text);
+    match (check_board(line.as_slice()), Board::read(line.as_slice())) {
         (Err(wrong), Err(found)) => wrong == found && wrong.field == field,
         _ => false,
     }
@@ -48,12 +54,10 @@ static WRONG: [(usize, &[u8]); 4] = [(1, b"boar"), (2, b""), (7, b"-0"), (52, b"
 #[test]
 fn a_line_is_copied_without_its_spaces(rt: HostRuntime) {
     for (end, copied) in &ENDS {
-        let line = line_with(53, end);
-        assert!(rt; is_copied(line.as_slice()) == *copied, "{end:?} at its end");
+        assert!(rt; is_copied_with(end) == *copied, "{end:?} at its end");
     }
     for (field, text) in &WRONG {
-        let line = line_with(*field, text);
-        assert!(rt; is_wrong_at(line.as_slice(), *field), "{field}");
+        assert!(rt; is_wrong_with(*field, text), "{field}");
     }
 }
 
@@ -73,19 +77,23 @@ fn board() -> Result<Board, Fail> {
     Ok(Board::read(LINE).ok().ok_or("the line is read")?)
 }
 
+/// Whether a board with its turn changed is printed so, whether the two are told apart by their lines, and by
+/// themselves, and whether the line of the first is its own, and is read back.
+fn told_apart(board: &Board, turned: &Board) -> [bool; 5] {
+    [
+        turned.print().as_slice() == line_with(33, b"-1").as_slice(),
+        !prints_tell_boards(board, turned),
+        board != turned,
+        prints_tell_boards(board, board),
+        print_reads_back(board) == Ok(*board),
+    ]
+}
+
 #[test]
 fn changes_one_field(rt: HostRuntime) -> Result<(), Fail> {
     let board = board()?;
     let turned = board.with(33, -1).ok_or("the turn changes")?;
-    let is_printed = turned.print().as_slice() == line_with(33, b"-1").as_slice();
-    assert!(rt; is_printed, "the field is printed");
-    let alike = [
-        prints_tell_boards(&board, &turned),
-        board == turned,
-        prints_tell_boards(&board, &board),
-        print_reads_back(&board) == Ok(board),
-    ];
-    assert_eq!(rt; alike, [false, false, true, true]);
+    assert_eq!(rt; told_apart(&board, &turned), [true; 5]);
     Ok(())
 }
 
@@ -151,29 +159,35 @@ static DECIMALS: [(&str, u64, Option<u64>); 4] = [
     ("18446744073709551616", u64::MAX, None),
 ];
 
-#[test]
-fn a_decimal_up_to_a_limit_is_read(rt: HostRuntime) {
-    for (text, limit, number) in &DECIMALS {
-        let is_read = read_decimal(text.as_bytes(), *limit) == *number;
-        assert!(rt; is_read, "{text} up to {limit}");
-    }
+/// Whether a text is read as this number, or as none above the limit.
+fn is_decimal(text: &str, limit: u64, number: Option<u64>) -> bool {
+    read_decimal(text.as_bytes(), limit) == number
 }
 
 #[test]
-fn appends_a_line_of_a_board_or_nothing(rt: HostRuntime) {
-    let Ok(board) = Board::read(LINE) else {
-        assert!(rt; false, "the line is read");
-        return;
-    };
-    let mut out = Vec::new(rt.alloc());
-    if out.push(b'>').is_err() {
-        return;
+fn a_decimal_up_to_a_limit_is_read(rt: HostRuntime) {
+    for (text, limit, number) in &DECIMALS {
+        assert!(rt; is_decimal(text, *limit, *number), "{text}");
     }
-    let wanted = match board.print_into(&mut out) {
+}
+
+/// Whether the line of a board, or nothing, is appended.
+fn is_appended(board: &Board, out: &mut Vec<u8>) -> bool {
+    let before = out.len();
+    let wanted = match board.print_into(out) {
         Ok(()) => LINE,
         Err(_) => b"",
     };
-    assert_eq!(rt; out.get(1..), Some(wanted));
+    out.get(before..) == Some(wanted)
+}
+
+#[test]
+fn appends_a_line_of_a_board_or_nothing(rt: HostRuntime) -> Result<(), Fail> {
+    let board = board()?;
+    let mut out = Vec::new(rt.alloc());
+    out.push(b'>')?;
+    assert!(rt; is_appended(&board, &mut out));
+    Ok(())
 }
 
 /// Texts, and their parts before and after the first space.

@@ -48,14 +48,19 @@ fn is_noted(directory: &mut Directory, line: &[u8], names: &[&[u8]]) -> Result<b
     Ok(note(directory, line)? == Ok(()) && has(directory, names))
 }
 
+/// Note is taken of each message, and leads to these names.
+fn assert_noted(rt: &impl Abort, directory: &mut Directory) -> Result<(), Fail> {
+    for (line, names) in &NOTED {
+        assert!(rt; is_noted(directory, line, names)?, "{line:?}");
+    }
+    Ok(())
+}
+
 /// A known name keeps its place; one that comes again after its logout goes last.
 #[test]
 fn names_are_in_the_order_in_which_they_came(rt: HostRuntime) -> Result<(), Fail> {
     let mut directory = Directory::new(rt.alloc());
-    for (line, names) in &NOTED {
-        assert!(rt; is_noted(&mut directory, line, names)?, "{line:?}");
-    }
-    Ok(())
+    assert_noted(&rt, &mut directory)
 }
 
 /// Message 5 of a player whose name has these two bytes, counted from a semicolon.
@@ -83,40 +88,52 @@ fn fill(rt: &impl Abort, directory: &mut Directory) -> Result<(), Fail> {
     Ok(())
 }
 
+/// A full directory has 4096 names, and refuses one more, but not a known one.
+fn assert_full(rt: &impl Abort, directory: &mut Directory) -> Result<(), Fail> {
+    let full = [
+        note(directory, ANN)? == Err(DirectoryFault::Full),
+        directory.len() == 4096,
+        note(directory, &line_of(0, 7))? == Ok(()),
+    ];
+    assert_eq!(rt; full, [true; 3], "one more, how many, and a known one");
+    Ok(())
+}
+
 /// There is room for 4096 names. With ample memory each is taken, and a known one is taken also then.
 #[test]
 fn a_name_too_many_is_refused(rt: HostRuntime) -> Result<(), Fail> {
     let mut directory = Directory::new(rt.alloc());
     fill(&rt, &mut directory)?;
-    let is_full = note(&mut directory, ANN)? == Err(DirectoryFault::Full);
-    assert!(rt; is_full && directory.len() == 4096, "one more");
-    let is_known = note(&mut directory, &line_of(0, 7))? == Ok(());
-    assert!(rt; is_known, "a known one");
-    Ok(())
+    assert_full(&rt, &mut directory)
 }
 
-/// Whether a directory is empty at first, with a player, and when it was cleared.
-fn are_empty(directory: &mut Directory) -> Result<[bool; 3], Fail> {
+/// A directory is empty at first, and when it was cleared, but not with a player.
+fn assert_emptied(rt: &impl Abort, directory: &mut Directory) -> Result<(), Fail> {
     let first = directory.is_empty();
     note(directory, ANN)?.ok().ok_or("no note is taken")?;
     let of_one_player = directory.is_empty();
     directory.clear();
-    Ok([first, of_one_player, directory.is_empty()])
+    assert_eq!(rt;
+        [first, of_one_player, directory.is_empty()],
+        [true, false, true]
+    );
+    Ok(())
 }
 
 #[test]
 fn a_directory_is_empty_until_a_player_comes(rt: HostRuntime) -> Result<(), Fail> {
     let mut directory = Directory::new(rt.alloc());
-    let empty = are_empty(&mut directory)?;
-    assert_eq!(rt; empty, [true, false, true]);
-    Ok(())
+    assert_emptied(&rt, &mut directory)
 }
 
 #[test]
 fn faults_are_told_by_their_numbers_and_names(rt: HostRuntime) -> Result<(), Fail> {
     let (memory, full) = (DirectoryFault::Memory, DirectoryFault::Full);
-    assert_eq!(rt; [memory.number(), full.number()], [1, 2]);
+    let numbers = [memory.number(), full.number()] == [1, 2];
     let texts = format!(in rt.alloc(); "{memory}, {full:?}, {full:>6}, {memory:<8}.")?;
-    assert_eq!(rt; texts.as_str(), "Memory, Full,   Full, Memory  .");
+    assert!(rt;
+        numbers && texts.as_str() == "Memory, Full,   Full, Memory  .",
+        "{texts}"
+    );
     Ok(())
 }

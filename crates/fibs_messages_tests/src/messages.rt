@@ -1,5 +1,7 @@
 //! Messages as they are printed, and words and tails by themselves. Worked lines are read in tests/rows.
 
+ghost use Rattle.std.specs.Prelude.{◌<◌, length};
+
 use fibs_message_lines::canonical_line;
 use fibs_messages::laws::{canonical_lines_read_back, messages_are_well_formed};
 use fibs_messages::{Reading, Tail, Word, print_message, read};
@@ -154,8 +156,9 @@ static TEXTS: [(&str, Option<(usize, bool)>, Option<(usize, bool)>); 6] = [
 #[test]
 fn words_and_tails(rt: HostRuntime) {
     for (text, word, tail) in &TEXTS {
-        assert!(rt; word_of(text.as_bytes()) == *word, "the word {text:?}");
-        assert!(rt; tail_of(text.as_bytes()) == *tail, "the tail {text:?}");
+        let is_word = word_of(text.as_bytes()) == *word;
+        let is_tail = tail_of(text.as_bytes()) == *tail;
+        assert!(rt; is_word && is_tail, "{text:?}");
     }
 }
 
@@ -202,19 +205,33 @@ fn is_appended(alloc: Global, row: &Row, out: &mut Vec<u8>) -> Result<bool, Allo
     Ok(out.get(before..) == Some(printed_of(row)))
 }
 
-/// The lines of messages as they are printed in a row. If a growth is refused, the text is as one that was given the
-/// lines before it, and what is appended later is appended to both.
+/// Appends what is printed for the line at a place. Says whether all is right, and whether a growth was refused: then
+/// the text is as one that was given the lines before it, and what is appended later is appended to both.
+fn append_at(
+    alloc: Global,
+    lines: &[Row],
+    at: usize,
+    out: &mut Vec<u8>,
+) -> Result<(bool, bool), AllocError>
+    requires { at < length lines.now }
+{
+    match is_appended(alloc, &lines[at], out) {
+        Ok(is_right) => Ok((is_right, false)),
+        Err(_refused) => {
+            let is_kept = is_as_given(alloc, out, &lines[..at], &lines[at + 1..])?;
+            Ok((is_kept, true))
+        }
+    }
+}
+
+/// The lines of messages as they are printed in a row, up to one for which a growth is refused.
 fn assert_appended(rt: &impl Abort, alloc: Global, lines: &[Row]) -> Result<(), AllocError> {
     let mut out = Vec::new(alloc);
     for at in 0..lines.len() {
-        let line = lines[at].0;
-        match is_appended(alloc, &lines[at], &mut out) {
-            Ok(is_right) => assert!(rt; is_right, "{line:?}"),
-            Err(_refused) => {
-                let is_kept = is_as_given(alloc, &mut out, &lines[..at], &lines[at + 1..])?;
-                assert!(rt; is_kept, "{line:?} was refused");
-                return Ok(());
-            }
+        let (is_right, is_refused) = append_at(alloc, lines, at, &mut out)?;
+        assert!(rt; is_right, "line {at}, refused: {is_refused}");
+        if is_refused {
+            return Ok(());
         }
     }
     Ok(())
@@ -243,17 +260,22 @@ fn append_wanted(lines: &[Row], out: &mut Vec<u8>) -> Result<(), AllocError> {
     Ok(())
 }
 
+/// Appends what is printed for all lines, and what is to be, again and again.
+fn append_often(alloc: Global, out: &mut Vec<u8>, wanted: &mut Vec<u8>) -> Result<(), AllocError> {
+    for _ in 0..40u32 {
+        append_all(alloc, printed(), out)?;
+        append_wanted(printed(), wanted)?;
+    }
+    Ok(())
+}
+
 /// With ample memory each message is appended, however much is there before it.
 #[test]
 fn messages_are_appended_one_behind_another(rt: HostRuntime) -> Result<(), Fail> {
-    let alloc = rt.alloc();
-    let mut out = Vec::new(alloc);
-    let mut wanted = Vec::new(alloc);
-    for _ in 0..40u32 {
-        append_all(alloc, printed(), &mut out)?;
-        append_wanted(printed(), &mut wanted)?;
-    }
-    assert_eq!(rt; out, wanted);
+    let mut out = Vec::new(rt.alloc());
+    let mut wanted = Vec::new(rt.alloc());
+    append_often(rt.alloc(), &mut out, &mut wanted)?;
+    assert!(rt; out == wanted);
     Ok(())
 }
 
