@@ -21,7 +21,7 @@ pub fn opened(rt: &impl Abort) -> Client
 }
 
 /// How a turn ended, in a word.
-#[derive(Clone, Copy, Debug, PartialEq, Eq)]
+#[derive(Clone, Copy, PartialEq, Eq)]
 pub enum Kind {
     /// Nothing more has come yet.
     Quiet,
@@ -63,10 +63,10 @@ pub enum Step<'a> {
     Types(&'a [u8], &'a [&'a [u8]]),
 }
 
-/// A last turn: what is typed, what the server sends, in parts, what follows that, how many bytes the stream takes, and
-/// how the turn ends.
+/// A turn: what is typed, what the server sends, in parts, what follows that, how many bytes the stream takes, and how
+/// the turn ends.
 #[derive(Clone, Copy)]
-pub struct Last<'a> {
+pub struct Turn<'a> {
     pub typed: Option<&'a [u8]>,
     pub heard: &'a [&'a [u8]],
     pub after: After,
@@ -118,41 +118,66 @@ impl Seat {
         }
     }
 
-    /// One turn with a stream in memory. It notes what is printed.
-    pub fn turn_with(&mut self, pipe: &mut Pipe<'_>, typed: Option<&[u8]>) -> Kind
+    /// One turn in which lines are printed on `out`: what is typed, what the server sends, and what follows that. The
+    /// stream takes 100 bytes. It notes nothing of what is sent and printed.
+    pub fn print_on<W: Write>(
+        &mut self,
+        out: &mut W,
+        typed: Option<&[u8]>,
+        heard: &[u8],
+        after: After,
+    ) -> Kind
         requires { FitsStream self.old.client true }
-        ensures { result ≡ Kind.Quiet → FitsStream self.new.client true }
     {
-        let mut out = Pipe::new(b"", 1, After::End, TEXT_ROOM);
-        let kind = self.turn_on(pipe, typed, &mut out);
-        let _fits = self.printed.try_extend_from_slice(out.output());
-        kind
+        let mut pipe = Pipe::new(heard, self.most, after, 100);
+        self.turn_on(&mut pipe, typed, out)
     }
 
-    /// One turn: what is typed, what the server sends, in parts, what follows that, and how many bytes the stream
-    /// takes. It notes what is sent and printed.
-    fn turn(&mut self, typed: Option<&[u8]>, parts: &[&[u8]], after: After, room: usize) -> Kind
+    /// One turn with a stream in memory, which ends so. It notes what is printed.
+    pub fn turn_with(
+        &mut self,
+        rt: &impl Abort,
+        pipe: &mut Pipe<'_>,
+        typed: Option<&[u8]>,
+        kind: Kind,
+    )
         requires { FitsStream self.old.client true }
-        ensures { result ≡ Kind.Quiet → FitsStream self.new.client true }
+        ensures { kind ≡ Kind.Quiet → FitsStream self.new.client true }
     {
-        let input = joined(parts);
-        let mut pipe = Pipe::new(&input, self.most, after, room);
-        let kind = self.turn_with(&mut pipe, typed);
+        let mut out = Pipe::new(b"", 1, After::End, TEXT_ROOM);
+        let ended = self.turn_on(pipe, typed, &mut out);
+        let _fits = self.printed.try_extend_from_slice(out.output());
+        assert!(rt; ended == kind, "the turn ends otherwise");
+    }
+
+    /// Takes a turn. It notes what is sent and printed.
+    fn take_turn(&mut self, rt: &impl Abort, turn: &Turn<'_>)
+        requires { FitsStream self.old.client true }
+        ensures { turn.now.kind ≡ Kind.Quiet → FitsStream self.new.client true }
+    {
+        let input = joined(turn.heard);
+        let mut pipe = Pipe::new(&input, self.most, turn.after, turn.room);
+        self.turn_with(rt, &mut pipe, turn.typed, turn.kind);
         let _fits = self.sent.try_extend_from_slice(pipe.output());
-        kind
     }
 
     /// Takes a step. A read that comes after what the server sends fails so.
-    fn take(&mut self, rt: &impl Abort, step: Step<'_>, after: After)
+    pub fn take(&mut self, rt: &impl Abort, step: Step<'_>, after: After)
         requires { FitsStream self.old.client true }
         ensures { FitsStream self.new.client true }
     {
-        let (typed, parts) = match step {
+        let (typed, heard) = match step {
             Step::Hears(parts) => (None, parts),
             Step::Types(typed, parts) => (Some(typed), parts),
         };
-        let kind = self.turn(typed, parts, after, 4096);
-        assert!(rt; matches!(kind, Kind::Quiet), "the turn is not quiet");
+        let turn = Turn {
+            typed,
+            heard,
+            after,
+            room: 4096,
+            kind: Kind::Quiet,
+        };
+        self.take_turn(rt, &turn);
     }
 
     /// Takes steps one after another.
@@ -163,6 +188,14 @@ impl Seat {
         for step in steps {
             self.take(rt, *step, after);
         }
+    }
+
+    /// The server sends this, in parts.
+    pub fn hear(&mut self, rt: &impl Abort, parts: &[&[u8]])
+        requires { FitsStream self.old.client true }
+        ensures { FitsStream self.new.client true }
+    {
+        self.take(rt, Step::Hears(parts), QUIET);
     }
 
     /// Asserts what was sent and printed in all, each in parts.
@@ -194,7 +227,7 @@ pub fn assert_talk(
     rt: &(impl Abort + AllocGlobal),
     name: &str,
     steps: &[Step<'_>],
-    last: Option<Last<'_>>,
+    last: Option<Turn<'_>>,
     sent: &[&[u8]],
     printed: &[&[u8]],
 ) {
@@ -209,15 +242,14 @@ fn assert_cut(
     (most, after): (usize, After),
     name: &str,
     steps: &[Step<'_>],
-    last: Option<Last<'_>>,
+    last: Option<Turn<'_>>,
     sent: &[&[u8]],
     printed: &[&[u8]],
 ) {
     let mut seat = Seat::open(rt, most);
     seat.follow(rt, steps, after);
-    if let Some(last) = last {
-        let kind = seat.turn(last.typed, last.heard, last.after, last.room);
-        assert_eq!(rt; kind, last.kind, "{name}");
+    if let Some(turn) = last {
+        seat.take_turn(rt, &turn);
     }
     seat.assert_did(rt, name, sent, printed);
 }

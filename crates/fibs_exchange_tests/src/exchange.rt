@@ -1,12 +1,15 @@
 //! Turns of a client with a stream in memory.
-use super::connected::{Kind, Last, Seat, Step, assert_talk, is_made_of, repeated};
+ghost use Rattle.std.specs.Prelude.{true};
+ghost use Rattle.fibs_exchange.specs.Turns.Turn.{FitsStream};
+
+use super::connected::{Kind, Seat, Step, Turn, assert_talk, is_made_of, repeated};
 use fibs_exchange::{Ending, exchange};
 use fibs_messages::{Reading, read as read_line};
 use fibs_session::{Client, Directory, Login};
 use fibs_test_tools::devices::FailsOnce;
 use fibs_test_tools::pipe::{After, FAULT, Pipe, QUIET};
 use fibs_test_tools::stumbling::Stumbles;
-use fibs_test_tools::text::{Text, joined, text_of};
+use fibs_test_tools::text::{Text, joined};
 use std::io::ErrorKind;
 use std::process::Abort;
 
@@ -211,20 +214,23 @@ static TYPED: [(&[u8], &[u8], &[u8]); 19] = [
     (b"bye", b"bye\r\n", b"sent bye\n"),
 ];
 
-/// After each typed line, whatever it is, the server is heard in the same turn.
+/// A line is typed when the client is ready, and the server is heard in the same turn.
+fn assert_answered(
+    rt: &(impl Abort + AllocGlobal),
+    typed: &'static [u8],
+    command: &'static [u8],
+    answer: &'static [u8],
+) {
+    let steps = [Step::Hears(&[READY]), Step::Types(typed, &[b"hi\r\n"])];
+    let printed = [PRINTED, answer, b"text hi\n"];
+    assert_talk(rt, "a typed line", &steps, None, &[SENT, command], &printed);
+}
+
+/// Each typed line is answered, whatever it is.
 #[test]
 fn typed_lines_are_answered(rt: HostRuntime) {
     for (typed, command, answer) in &TYPED {
-        let steps = [Step::Hears(&[READY]), Step::Types(typed, &[b"hi\r\n"])];
-        let printed = [PRINTED, answer, b"text hi\n"];
-        assert_talk(
-            &rt,
-            "a typed line",
-            &steps,
-            None,
-            &[SENT, command],
-            &printed,
-        );
+        assert_answered(&rt, *typed, *command, *answer);
     }
 }
 
@@ -255,25 +261,27 @@ fn a_decision_waits_for_its_board(rt: HostRuntime) {
     );
 }
 
+/// A turn in which a roll is typed and lost.
+fn roll_lost(after: After, room: usize) -> Turn<'static> {
+    Turn {
+        typed: Some(b"roll"),
+        heard: &[],
+        after,
+        room,
+        kind: Kind::LostWaiting,
+    }
+}
+
 #[test]
 fn a_decision_that_waits_is_lost_with_its_connection(rt: HostRuntime) {
-    for after in [After::End, FAULT] {
-        let last = Last {
-            typed: Some(b"roll"),
-            heard: &[],
-            after,
-            room: 4096,
-            kind: Kind::LostWaiting,
-        };
-        let printed = [PRINTED, b"sent roll\nlost roll\n"];
-        let steps = [Step::Hears(&[READY])];
+    for after in &[After::End, FAULT] {
         assert_talk(
             &rt,
             "a decision that is lost",
-            &steps,
-            Some(last),
+            &[Step::Hears(&[READY])],
+            Some(roll_lost(*after, 4096)),
             &[SENT, b"roll\r\n"],
-            &printed,
+            &[PRINTED, b"sent roll\nlost roll\n"],
         );
     }
 }
@@ -299,7 +307,7 @@ static PLAYS: [(&[u8], Kind, &[u8], &[u8]); 2] = [
 fn plays_are_in_the_numbers_of_the_board(rt: HostRuntime) {
     let steps = [Step::Hears(&[WELCOME, END, INFO, END, GOING_UP, END])];
     for (typed, kind, sent, answer) in &PLAYS {
-        let last = Last {
+        let last = Turn {
             typed: Some(*typed),
             heard: &[],
             after: FAULT,
@@ -325,7 +333,7 @@ fn plays_are_in_the_numbers_of_the_board(rt: HostRuntime) {
 fn each_write_that_fails_ends_the_connection(rt: HostRuntime) {
     let wanted: &[u8] = b"set boardstyle 3\r\ntoggle autoboard\r\nboard\r\n";
     for room in 0..wanted.len() {
-        let last = Last {
+        let last = Turn {
             typed: None,
             heard: &[WELCOME, END, INFO_WITHOUT_BOARDS, END],
             after: QUIET,
@@ -351,23 +359,15 @@ fn each_write_that_fails_ends_the_connection(rt: HostRuntime) {
 /// The stream fails after each byte of a decision: it is lost, and nothing says that it was sent.
 #[test]
 fn a_decision_that_is_not_written_is_lost(rt: HostRuntime) {
-    for sent in [b"".as_slice(), b"r", b"ro", b"rol", b"roll", b"roll\r"] {
-        let last = Last {
-            typed: Some(b"roll"),
-            heard: &[],
-            after: QUIET,
-            room: sent.len(),
-            kind: Kind::LostWaiting,
-        };
-        let printed = [PRINTED, b"lost roll\n"];
-        let steps = [Step::Hears(&[READY])];
+    let command = b"roll\r\n";
+    for room in 0..command.len() {
         assert_talk(
             &rt,
             "a decision not written",
-            &steps,
-            Some(last),
-            &[SENT, sent],
-            &printed,
+            &[Step::Hears(&[READY])],
+            Some(roll_lost(QUIET, room)),
+            &[SENT, &command[..room]],
+            &[PRINTED, b"lost roll\n"],
         );
     }
 }
@@ -381,7 +381,7 @@ fn assert_cut_off(rt: &(impl Abort + AllocGlobal), line: &[u8], after: After) {
 
 /// The connection is lost after these bytes, which end no line, and nothing else is printed.
 fn assert_lost_after(rt: &(impl Abort + AllocGlobal), bytes: &[u8], after: After) {
-    let last = Last {
+    let last = Turn {
         typed: None,
         heard: &[bytes],
         after,
@@ -420,7 +420,7 @@ static READ_ERRORS: [(ErrorKind, Kind, &[u8]); 6] = [
 #[test]
 fn errors_of_reads_are_told_apart(rt: HostRuntime) {
     for (error, kind, printed) in &READ_ERRORS {
-        let last = Last {
+        let last = Turn {
             typed: None,
             heard: &[b"hi\r\n"],
             after: After::Fails(*error),
@@ -431,33 +431,19 @@ fn errors_of_reads_are_told_apart(rt: HostRuntime) {
     }
 }
 
-/// How a turn ends if so many bytes may be printed, what is printed, and whether the client shows a board then.
-fn printed_into(rt: &(impl Abort + AllocGlobal), heard: &[u8], room: usize) -> (Kind, Text, bool) {
+/// Whether a turn up to the first board stops after so many printed bytes. The client has heard the lines up to the one
+/// that fails, so that it shows the board if the lines before it were printed.
+fn is_stopped(rt: &(impl Abort + AllocGlobal), before: usize, room: usize) -> bool {
     let mut seat = Seat::open(rt, 1000);
-    let mut pipe = Pipe::new(heard, 1000, QUIET, 100);
     let mut out = Pipe::new(b"", 1, After::End, room);
-    let kind = seat.turn_on(&mut pipe, None, &mut out);
-    (kind, text_of(out.output()), seat.client.shown().is_some())
-}
-
-/// A turn up to the first board, if so many bytes may be printed. The client has heard the lines up to the one that
-/// fails, so that it shows the board if the lines before it were printed.
-fn assert_printed(
-    rt: &(impl Abort + AllocGlobal),
-    heard: &[u8],
-    wanted: &[u8],
-    before: usize,
-    room: usize,
-) {
-    let (kind, printed, shows) = printed_into(rt, heard, room);
-    let is_stopped = kind == Kind::Unprinted && room < wanted.len();
-    let is_whole = kind == Kind::Quiet && room == wanted.len();
-    let is_front = wanted.get(..room) == Some(printed.as_slice());
-    assert!(rt;
-        (is_stopped || is_whole) && is_front && shows == (before <= room),
-        "at {room}: {kind:?}, shows {shows}, printed {:?}",
-        printed.as_slice()
-    );
+    let kind = seat.print_on(&mut out, None, READY, QUIET);
+    let wanted = if room < PRINTED.len() {
+        Kind::Unprinted
+    } else {
+        Kind::Quiet
+    };
+    let is_front = PRINTED.get(..room) == Some(out.output());
+    kind == wanted && is_front && seat.client.shown().is_some() == (before <= room)
 }
 
 /// The writer of the printed lines fails after each byte.
@@ -465,35 +451,37 @@ fn assert_printed(
 fn each_print_that_fails_stops_the_turn(rt: HostRuntime) {
     let before = WELCOME.len() + INFO.len() + 2 * b"message \n".len();
     for room in 0..PRINTED.len() + 1 {
-        assert_printed(&rt, READY, PRINTED, before, room);
+        assert!(rt; is_stopped(&rt, before, room), "at {room}");
     }
 }
 
 /// A line that was cut is no board.
 #[test]
 fn a_line_that_is_too_long_is_cut(rt: HostRuntime) {
-    let prompts = repeated(b"> ", 8192);
     let mut seat = Seat::open(&rt, 1000);
-    let line = Step::Hears(&[&prompts, BOARD, TO_ROLL, END]);
-    seat.follow(&rt, &[line], QUIET);
+    let prompts = repeated(b"> ", 8192);
+    seat.hear(&rt, &[&prompts, BOARD, TO_ROLL, END]);
     seat.assert_did(&rt, "a line that is cut", &[], &[b"cut \n"]);
-    assert!(rt; seat.client.shown().is_none(), "no board is shown");
+    assert!(rt; seat.client.shown().is_none());
+}
+
+/// Two turns on one stream: after the first there is more to read, and in the second the stream ends.
+fn take_two_turns(rt: &impl Abort, seat: &mut Seat, line: &Text)
+    requires { FitsStream seat.old.client true }
+{
+    let input = joined(&[line.as_slice(), b"\nhi\n"]);
+    let mut pipe = Pipe::new(&input, 1, After::End, 0);
+    seat.turn_with(rt, &mut pipe, None, Kind::Quiet);
+    seat.assert_did(rt, "4096 bytes", &[], &[b"text ", line.as_slice(), LF]);
+    seat.turn_with(rt, &mut pipe, None, Kind::Lost);
 }
 
 /// After 4096 reads a turn is over, though there is more to read.
 #[test]
 fn a_turn_reads_4096_times(rt: HostRuntime) {
-    let line = repeated(b"a", 4095);
-    let input = joined(&[&line, b"\nhi\n"]);
     let mut seat = Seat::open(&rt, 1);
-    let mut pipe = Pipe::new(&input, 1, After::End, 0);
-    match seat.turn_with(&mut pipe, None) {
-        Kind::Quiet => {}
-        kind => panic!(rt; "the turn goes on, and is {kind:?}"),
-    }
-    seat.assert_did(&rt, "4096 bytes", &[], &[b"text ", &line, LF]);
-    let kind = seat.turn_with(&mut pipe, None);
-    assert_eq!(rt; kind, Kind::Lost);
+    let line = repeated(b"a", 4095);
+    take_two_turns(&rt, &mut seat, &line);
     let printed = [b"text ", line.as_slice(), b"\ntext hi\nlost\n"];
     seat.assert_did(&rt, "the rest", &[], &printed);
 }
@@ -509,17 +497,25 @@ static OFFLINE: [(Option<&[u8]>, &[u8]); 7] = [
     (Some(b"withdraw roll"), b"refused 2 Offline\n"),
 ];
 
+/// Whether nothing else is printed in a turn without a connection, and it is quiet.
+fn is_answered_offline(
+    rt: &(impl Abort + AllocGlobal),
+    typed: Option<&[u8]>,
+    printed: &[u8],
+) -> bool {
+    let login = Login::new(b"ann", b"secret").expect(rt, "it is a login");
+    let mut client = Client::new(login);
+    let mut directory = Directory::new(rt.alloc());
+    let mut out = Pipe::new(b"", 1, After::End, 512);
+    let none: Option<&mut Pipe<'_>> = None;
+    let outcome = exchange(&mut client, &mut directory, none, typed, &mut out);
+    matches!(outcome, Ok(Ending::Quiet)) && out.output() == printed
+}
+
 #[test]
 fn offline_nothing_is_sent(rt: HostRuntime) {
     for (typed, printed) in &OFFLINE {
-        let login = Login::new(b"ann", b"secret").expect(&rt, "it is a login");
-        let mut client = Client::new(login);
-        let mut directory = Directory::new(rt.alloc());
-        let mut out = Pipe::new(b"", 1, After::End, 512);
-        let none: Option<&mut Pipe<'_>> = None;
-        let outcome = exchange(&mut client, &mut directory, none, *typed, &mut out);
-        let is_quiet = matches!(outcome, Ok(Ending::Quiet));
-        assert!(rt; is_quiet && out.output() == *printed, "{typed:?}");
+        assert!(rt; is_answered_offline(&rt, *typed, printed), "{typed:?}");
     }
 }
 
@@ -530,9 +526,8 @@ fn player_line(number: usize) -> Text {
     joined(&[b"5 p", name, b" - - 0 0 1500.00 0 0 0 host - -"])
 }
 
-/// A directory that holds as many players as it may.
-fn full_directory(rt: &(impl Abort + AllocGlobal)) -> Directory {
-    let mut directory = Directory::new(rt.alloc());
+/// A directory gets as many players as it may hold.
+fn fill(rt: &impl Abort, directory: &mut Directory) {
     for number in 0..4096 {
         let line = player_line(number);
         match read_line(&line) {
@@ -540,16 +535,16 @@ fn full_directory(rt: &(impl Abort + AllocGlobal)) -> Directory {
             _ => panic!(rt; "it is a message"),
         }
     }
-    directory
 }
 
 #[test]
 fn a_directory_that_is_full_says_so(rt: HostRuntime) {
     let mut seat = Seat::open(&rt, 1000);
-    seat.directory = full_directory(&rt);
-    let players =
-        b"5 p4096 - - 0 0 1500.00 0 0 0 host - -\r\n5 p7 - - 0 0 1500.00 0 0 0 host - -\r\n";
-    seat.follow(&rt, &[Step::Hears(&[players])], QUIET);
+    fill(&rt, &mut seat.directory);
+    seat.hear(
+        &rt,
+        &[b"5 p4096 - - 0 0 1500.00 0 0 0 host - -\r\n5 p7 - - 0 0 1500.00 0 0 0 host - -\r\n"],
+    );
     seat.assert_did(
         &rt,
         "a directory that is full",
@@ -559,11 +554,12 @@ fn a_directory_that_is_full_says_so(rt: HostRuntime) {
             message 5 p7 - - 0 0 1500.00 0 0 0 host - -\n",
         ],
     );
-    assert_eq!(rt; seat.directory.len(), 4096);
+    assert!(rt; seat.directory.len() == 4096);
 }
 
 /// Lines of the server that call for commands, and these.
-static CALLING: &[&[u8]] = &[WELCOME, END, INFO_WITHOUT_BOARDS, END];
+static CALLING: &[u8] = b"1 ann 1041253132 localhost\r\n\
+    2 ann 1 0 0 0 0 0 1 1 10 0 1 0 1 1500.00 0 0 0 0 0 UTC\r\n";
 
 static COMMANDS: [&[u8]; 3] = [
     b"set boardstyle 3\r\n",
@@ -571,65 +567,48 @@ static COMMANDS: [&[u8]; 3] = [
     b"board\r\n",
 ];
 
-/// How a turn ends in which two lines of the server call for commands, what is sent, by how many writes, and whether
+/// How a turn ends in which two lines of the server call for commands, what the commands are written to, and whether
 /// the last line that is printed says that the connection is lost.
 #[derive(Drop)]
 struct Came {
     kind: Kind,
-    sent: Text,
-    writes: usize,
+    output: FailsOnce,
     says_lost: bool,
 }
 
 /// Such a turn, with a line that is typed, if there is one, on a stream that is written to so.
-fn came_of(
-    rt: &(impl Abort + AllocGlobal),
-    typed: Option<&[u8]>,
-    lines: &[&[u8]],
-    output: FailsOnce,
-) -> Came {
-    let input = joined(lines);
+fn came_of(rt: &(impl Abort + AllocGlobal), typed: Option<&[u8]>, output: FailsOnce) -> Came {
     let mut seat = Seat::open(rt, 1000);
     let mut printed = Pipe::new(b"", 1, After::End, 512);
     let mut stream = Stumbles {
-        input: Pipe::new(&input, 1000, QUIET, 0),
+        input: Pipe::new(CALLING, 1000, QUIET, 0),
         output,
     };
     let kind = seat.turn_on(&mut stream, typed, &mut printed);
+    let says_lost = printed.output().ends_with(b"lost\n");
     Came {
         kind,
-        sent: text_of(stream.output.output()),
-        writes: stream.output.writes(),
-        says_lost: printed.output().ends_with(b"lost\n"),
+        output: stream.output,
+        says_lost,
     }
 }
 
 /// Each command leaves with its line end by one write: one that is typed, and those that the server's lines call for.
 #[test]
 fn a_command_is_one_write(rt: HostRuntime) {
-    let came = came_of(
-        &rt,
-        Some(b"tell bob hi"),
-        CALLING,
-        FailsOnce::new(1000, 1000),
-    );
-    let sent = joined(&[b"tell bob hi\r\n", COMMANDS[0], COMMANDS[1], COMMANDS[2]]);
-    let wanted = (Kind::Quiet, sent.as_slice(), 4);
-    assert_eq!(rt; (came.kind, came.sent.as_slice(), came.writes), wanted);
+    let came = came_of(&rt, Some(b"tell bob hi"), FailsOnce::new(1000, 1000));
+    let sent: [&[u8]; 4] = [b"tell bob hi\r\n", COMMANDS[0], COMMANDS[1], COMMANDS[2]];
+    let is_sent = came.kind == Kind::Quiet && is_made_of(came.output.output(), &sent);
+    assert!(rt; is_sent && came.output.writes() == 4);
 }
 
 /// After a write that fails, here after so many that don't, no other is made.
 fn assert_sent_before(rt: &(impl Abort + AllocGlobal), error: Option<ErrorKind>, before: usize) {
-    let came = came_of(rt, None, CALLING, FailsOnce::of_kind(error, before, 1000));
-    let is_front = before <= 3 && is_made_of(&came.sent, &COMMANDS[..before]);
+    let came = came_of(rt, None, FailsOnce::of_kind(error, before, 1000));
+    let is_front = before <= 3 && is_made_of(came.output.output(), &COMMANDS[..before]);
     let is_lost = came.kind == Kind::Lost && came.says_lost;
-    assert!(rt;
-        is_lost && is_front && came.writes == before.saturating_add(1),
-        "after {before} writes: {:?}, {} writes of {:?}",
-        came.kind,
-        came.writes,
-        came.sent.as_slice()
-    );
+    let is_last = came.output.writes() == before.saturating_add(1);
+    assert!(rt; is_lost && is_front && is_last, "after {before} writes");
 }
 
 /// After a write that fails or takes nothing no other is made, though the stream would take it, and also if a signal
@@ -648,24 +627,21 @@ fn nothing_is_sent_after_a_write_that_fails(rt: HostRuntime) {
 fn a_stream_may_wait_between_any_two_bytes(rt: HostRuntime) {
     let mut seat = Seat::open(&rt, 1);
     for at in 0..READY.len() {
-        seat.follow(&rt, &[Step::Hears(&[&READY[at..at + 1]])], QUIET);
+        seat.hear(&rt, &[&READY[at..at + 1]]);
     }
     seat.assert_did(&rt, "one byte a turn", &[SENT], &[PRINTED]);
 }
 
 /// After a line that can't be printed, here after so many that can, no other is.
-fn assert_printed_before(
-    rt: &(impl Abort + AllocGlobal),
-    heard: &[u8],
-    error: Option<ErrorKind>,
-    before: usize,
-) {
-    let mut seat = Seat::open(rt, 1000);
-    let mut pipe = Pipe::new(heard, 1000, QUIET, 100);
+fn assert_printed_before(rt: &(impl Abort + AllocGlobal), error: Option<ErrorKind>, before: usize) {
     let mut out = FailsOnce::of_kind(error, before, 1000);
-    let kind = seat.turn_on(&mut pipe, Some(b"dance"), &mut out);
-    let wanted = (Kind::Unprinted, before.saturating_add(1));
-    assert_eq!(rt; (kind, out.writes()), wanted, "after {before} lines");
+    let mut seat = Seat::open(rt, 1000);
+    let kind = seat.print_on(&mut out, Some(b"dance"), READY, QUIET);
+    let is_stopped = kind == Kind::Unprinted;
+    assert!(rt;
+        is_stopped && out.writes() == before.saturating_add(1),
+        "after {before} lines"
+    );
 }
 
 /// After a line that can't be printed no other is, though the writer would take it: after that of a typed line, and
@@ -673,7 +649,7 @@ fn assert_printed_before(
 #[test]
 fn nothing_is_printed_after_a_print_that_fails(rt: HostRuntime) {
     for before in 0..5 {
-        assert_printed_before(&rt, READY, Some(ErrorKind::BrokenPipe), before);
-        assert_printed_before(&rt, READY, None, before);
+        assert_printed_before(&rt, Some(ErrorKind::BrokenPipe), before);
+        assert_printed_before(&rt, None, before);
     }
 }

@@ -1,7 +1,7 @@
 //! What is printed is shown before a turn waits for the server.
 
 use super::connected::{Kind, Seat};
-use fibs_test_tools::pipe::{Pipe, QUIET};
+use fibs_test_tools::pipe::QUIET;
 use std::io;
 use std::io::{ErrorKind, Write};
 use std::process::Abort;
@@ -34,28 +34,21 @@ impl Write for Screen {
     }
 }
 
-/// Whether a turn comes to its end, if one flush fails after so many. That flush stops it, and nothing is printed after
-/// it.
-fn is_flushed(rt: &(impl Abort + AllocGlobal), before: u32) -> bool {
-    let mut seat = Seat::open(rt, 1000);
-    let mut pipe = Pipe::new(LINES, 10, QUIET, 100);
+/// Whether one flush fails after so many. That flush stops the turn, and nothing is printed after it.
+fn is_stopped(rt: &(impl Abort + AllocGlobal), before: u32) -> bool {
     let mut screen = Screen {
         before,
         failed: false,
         written: false,
     };
-    let kind = seat.turn_on(&mut pipe, None, &mut screen);
+    let kind = Seat::open(rt, 10).print_on(&mut screen, None, LINES, QUIET);
     let wanted = if screen.failed {
         Kind::Unprinted
     } else {
         Kind::Quiet
     };
-    assert_eq!(rt;
-        (kind, screen.written),
-        (wanted, false),
-        "after {before} flushes"
-    );
-    kind == Kind::Quiet
+    assert!(rt; kind == wanted && !screen.written, "after {before} flushes");
+    screen.failed
 }
 
 /// A flush that fails stops the turn, whichever it is.
@@ -63,7 +56,7 @@ fn is_flushed(rt: &(impl Abort + AllocGlobal), before: u32) -> bool {
 fn each_flush_that_fails_stops_the_turn(rt: HostRuntime) {
     let mut stopped = 0u32;
     for before in 0..100 {
-        if !is_flushed(&rt, before) {
+        if is_stopped(&rt, before) {
             stopped = stopped.saturating_add(1);
         }
     }

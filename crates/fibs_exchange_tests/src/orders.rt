@@ -1,5 +1,5 @@
 //! Standing orders to roll.
-use super::connected::{Kind, Last, Step, assert_talk};
+use super::connected::{Kind, Step, Turn, assert_talk};
 use fibs_test_tools::pipe::{After, FAULT, QUIET};
 
 const END: &[u8] = b"\r\n";
@@ -159,8 +159,8 @@ fn an_order_that_is_not_due_sends_nothing(rt: HostRuntime) {
 }
 
 /// The turn in which the client rolls by itself is the last, and is not confirmed.
-fn roll_lost(after: After, room: usize) -> Last<'static> {
-    Last {
+fn roll_lost(after: After, room: usize) -> Turn<'static> {
+    Turn {
         typed: None,
         heard: &[BOARD, TO_ROLL, END],
         after,
@@ -172,17 +172,15 @@ fn roll_lost(after: After, room: usize) -> Last<'static> {
 /// The stream fails after each byte of the roll: it is lost, and neither the board nor the roll is printed.
 #[test]
 fn a_roll_that_is_not_written_is_lost(rt: HostRuntime) {
-    for sent in [b"".as_slice(), b"r", b"ro", b"rol", b"roll", b"roll\r"] {
-        let steps = [Step::Types(b"order roll", &[GREETING])];
-        let last = roll_lost(QUIET, sent.len());
-        let printed = [b"ordered\n", GREETED, b"lost roll\n"];
+    let command = b"roll\r\n";
+    for room in 0..command.len() {
         assert_talk(
             &rt,
             "a roll not written",
-            &steps,
-            Some(last),
-            &[SENT, sent],
-            &printed,
+            &[Step::Types(b"order roll", &[GREETING])],
+            Some(roll_lost(QUIET, room)),
+            &[SENT, &command[..room]],
+            &[b"ordered\n", GREETED, b"lost roll\n"],
         );
     }
 }

@@ -2,10 +2,10 @@
 ghost use Rattle.std.specs.Prelude.{true};
 ghost use Rattle.fibs_exchange.specs.Turns.Turn.{FitsStream};
 
-use super::connected::{Seat, Step};
+use super::connected::{Seat, Step, is_made_of};
 use fibs_session::Directory;
 use fibs_test_tools::pipe::QUIET;
-use fibs_test_tools::text::{Text, joined};
+use fibs_test_tools::text::Text;
 use std::alloc::{AllocError, Global};
 use std::process::Abort;
 use std::test::Fail;
@@ -13,42 +13,50 @@ use std::test::Fail;
 /// What is printed if a note is refused.
 const REFUSED: &[u8] = b"directory 1 Memory\n";
 
-/// What the server sends, and what is printed for it.
-static HEARD: [(&[u8], &[u8]); 8] = [
+/// A step, and what is printed in it.
+type Row = (Step<'static>, &'static [u8]);
+
+/// What the server sends, and a decision that is typed then.
+static TAKEN: [Row; 9] = [
     (
-        b"1 ann 1041253132 localhost\r\n",
+        Step::Hears(&[b"1 ann 1041253132 localhost\r\n"]),
         b"message 1 ann 1041253132 localhost\n",
     ),
     (
-        b"5 someplayer mgnu_advanced - 0 0 1912.15 827 8 1040515752 192.168.143.5 3DFiBs -\r\n",
+        Step::Hears(&[
+            b"5 someplayer mgnu_advanced - 0 0 1912.15 827 8 1040515752 192.168.143.5 3DFiBs -\r\n",
+        ]),
         b"message 5 someplayer mgnu_advanced - 0 0 1912.15 827 8 1040515752 192.168.143.5 3DFiBs -\n",
     ),
     (
-        b"5 bob - - 1 0 1500 0 3 1040515752 host - -\r\n",
+        Step::Hears(&[b"5 bob - - 1 0 1500 0 3 1040515752 host - -\r\n"]),
         b"message 5 bob - - 1 0 1500 0 3 1040515752 host - -\n",
     ),
     (
-        b"5 bob someplayer - 1 0 1512.34 5 0 1040515752 host - -\r\n",
+        Step::Hears(&[b"5 bob someplayer - 1 0 1512.34 5 0 1040515752 host - -\r\n"]),
         b"message 5 bob someplayer - 1 0 1512.34 5 0 1040515752 host - -\n",
     ),
     (
-        b"8 someplayer someplayer logs out.\r\n",
+        Step::Hears(&[b"8 someplayer someplayer logs out.\r\n"]),
         b"message 8 someplayer someplayer logs out.\n",
     ),
     (
-        b"5 someplayer - - 1 0 1912.15 827 8 1040515752 host - -\r\n",
+        Step::Hears(&[b"5 someplayer - - 1 0 1912.15 827 8 1040515752 host - -\r\n"]),
         b"message 5 someplayer - - 1 0 1912.15 827 8 1040515752 host - -\n",
     ),
     (
-        b"2 ann 1 1 0 0 0 0 1 1 10 0 1 0 1 1500.00 0 0 0 0 0 UTC\r\n",
+        Step::Hears(&[b"2 ann 1 1 0 0 0 0 1 1 10 0 1 0 1 1500.00 0 0 0 0 0 UTC\r\n"]),
         b"message 2 ann 1 1 0 0 0 0 1 1 10 0 1 0 1 1500.00 0 0 0 0 0 UTC\n",
     ),
     (
-        b"board:You:bob:3:0:1:0:-2:0:0:0:0:5:0:3:0:0:0:-5:5:0:0:0:-3:0:-5:0:0:0:0:2:0:\
+        Step::Hears(&[
+            b"board:You:bob:3:0:1:0:-2:0:0:0:0:5:0:3:0:0:0:-5:5:0:0:0:-3:0:-5:0:0:0:0:2:0:\
         1:0:0:0:0:1:1:1:0:1:-1:0:25:0:0:0:0:0:0:0:0\r\n",
+        ]),
         b"board:You:bob:3:0:1:0:-2:0:0:0:0:5:0:3:0:0:0:-5:5:0:0:0:-3:0:-5:0:0:0:0:2:0:\
         1:0:0:0:0:1:1:1:0:1:-1:0:25:0:0:0:0:0:0:0:0\nphase RollOrDouble\n",
     ),
+    (Step::Types(b"roll", &[]), b"sent roll\n"),
 ];
 
 /// What is known of each player.
@@ -61,71 +69,107 @@ fn players_of(alloc: Global, directory: &Directory) -> Result<Text, AllocError> 
     Ok(text)
 }
 
-/// A seat that has heard these lines.
-fn seat_after(rt: &(impl Abort + AllocGlobal), lines: &[(&[u8], &[u8])]) -> Seat
+/// A seat that has taken these steps.
+fn seat_after(rt: &(impl Abort + AllocGlobal), rows: &[Row]) -> Seat
     ensures { FitsStream result.client true }
 {
     let mut seat = Seat::open(rt, 7);
-    for heard in lines {
-        seat.follow(rt, &[Step::Hears(&[heard.0])], QUIET);
+    for row in rows {
+        seat.take(rt, row.0, QUIET);
     }
     seat
 }
 
-/// Both seats hear the lines, and then a decision is typed at both: they print and send the same, and know the same
-/// players after each line.
+/// Both seats take a step. Whether they print what they should, and have sent the same and know the same players then.
+fn are_alike(
+    rt: &(impl Abort + AllocGlobal),
+    seat: &mut Seat,
+    twin: &mut Seat,
+    row: &Row,
+) -> Result<bool, AllocError>
+    requires seat { FitsStream seat.old.client true }
+    requires twin { FitsStream twin.old.client true }
+    ensures seat { FitsStream seat.new.client true }
+    ensures twin { FitsStream twin.new.client true }
+{
+    let is_printed = prints(rt, seat, row);
+    let is_printed_too = prints(rt, twin, row);
+    let known = players_of(rt.alloc(), &seat.directory)?;
+    let is_known = known == players_of(rt.alloc(), &twin.directory)?;
+    Ok(is_printed && is_printed_too && is_known && seat.sent == twin.sent)
+}
+
+/// A seat takes a step. Whether it prints what it should.
+fn prints(rt: &impl Abort, seat: &mut Seat, row: &Row) -> bool
+    requires { FitsStream seat.old.client true }
+    ensures { FitsStream seat.new.client true }
+{
+    seat.printed.clear();
+    seat.take(rt, row.0, QUIET);
+    is_made_of(&seat.printed, &[row.1])
+}
+
+/// Both seats take these steps: they print and send the same, and know the same players after each.
 fn assert_alike(
     rt: &(impl Abort + AllocGlobal),
     seat: &mut Seat,
     twin: &mut Seat,
-    lines: &[(&[u8], &[u8])],
-) -> Result<(), Fail>
+    rows: &[Row],
+) -> Result<(), AllocError>
     requires seat { FitsStream seat.old.client true }
     requires twin { FitsStream twin.old.client true }
 {
-    let mut wanted = Text::new();
-    seat.printed.clear();
-    twin.printed.clear();
-    for heard in lines {
-        let (line, printed) = *heard;
-        let step = [Step::Hears(&[line])];
-        seat.follow(rt, &step, QUIET);
-        twin.follow(rt, &step, QUIET);
-        let known = players_of(rt.alloc(), &seat.directory)?;
-        assert!(rt; known == players_of(rt.alloc(), &twin.directory)?);
-        let _fits = wanted.try_extend_from_slice(printed);
+    for row in rows {
+        let are_alike = are_alike(rt, seat, twin, row)?;
+        assert!(rt; are_alike, "{:?}", row.1);
     }
-    let roll = [Step::Types(b"roll", &[])];
-    seat.follow(rt, &roll, QUIET);
-    twin.follow(rt, &roll, QUIET);
-    let _fits = wanted.try_extend_from_slice(b"sent roll\n");
-    assert_eq!(rt;
-        [&seat.printed, &twin.printed, &twin.sent],
-        [&wanted, &wanted, &seat.sent]
-    );
-    assert!(rt; seat.sent.ends_with(b"\r\nroll\r\n"));
     Ok(())
 }
 
-/// A seat hears these lines. If a note is refused, the turn says so after its line, and goes on as that of a client to
-/// which the line was not sent.
-fn assert_goes_on(rt: &(impl Abort + AllocGlobal), lines: &[(&[u8], &[u8])]) -> Result<(), Fail> {
-    let mut seat = Seat::open(rt, 7);
-    for at in 0..lines.len() {
-        let (line, printed) = lines[at];
-        seat.printed.clear();
-        seat.follow(rt, &[Step::Hears(&[line])], QUIET);
-        if seat.printed.as_slice() != printed {
-            assert_eq!(rt; seat.printed, joined(&[printed, REFUSED]));
-            let mut twin = seat_after(rt, &lines[..at]);
-            return assert_alike(rt, &mut seat, &mut twin, &lines[at + 1..]);
+/// A seat takes steps up to one in which a note is refused. The turn says so after the line.
+fn refused_at(rt: &impl Abort, seat: &mut Seat, rows: &[Row]) -> Option<usize>
+    requires { FitsStream seat.old.client true }
+    ensures { FitsStream seat.new.client true }
+{
+    for (at, row) in rows.iter().enumerate() {
+        if !prints(rt, seat, row) {
+            let is_refused = is_made_of(&seat.printed, &[row.1, REFUSED]);
+            assert!(rt; is_refused, "{:?}", row.1);
+            return Some(at);
         }
     }
-    assert_eq!(rt; seat.directory.len(), 2);
-    Ok(())
+    None
+}
+
+/// After a note that is refused, a turn goes on as that of a client to which the line was not sent.
+fn assert_goes_on(
+    rt: &(impl Abort + AllocGlobal),
+    seat: &mut Seat,
+    rows: &[Row],
+) -> Result<(), AllocError>
+    requires { FitsStream seat.old.client true }
+{
+    match refused_at(rt, seat, rows) {
+        Some(at) => {
+            let mut twin = seat_after(rt, rows.get(..at).unwrap_or(rows));
+            assert_alike(
+                rt,
+                seat,
+                &mut twin,
+                rows.get(at.saturating_add(1)..).unwrap_or(&[]),
+            )
+        }
+        None => {
+            assert!(rt; seat.directory.len() == 2);
+            Ok(())
+        }
+    }
 }
 
 #[test]
 fn turns_go_on_under_refused_memory(rt: HostRuntime) -> Result<(), Fail> {
-    assert_goes_on(&rt, &HEARD)
+    let mut seat = Seat::open(&rt, 7);
+    assert_goes_on(&rt, &mut seat, &TAKEN)?;
+    assert!(rt; seat.sent.ends_with(b"\r\nroll\r\n"));
+    Ok(())
 }

@@ -3,5 +3,5 @@ use Rattle.fibs_exchange.specs.Turns.Turn.{FitsStream}
 use Rattle.fibs_exchange_tests.proofs.refused_notes.assert_alike.Given as goal
 
 -- both clients are online
-abbrev pub invariant-loop-heard : goal.invariant-loop-heard
-invariant-loop-heard g l = (FitsStream l.seat.client true) × (FitsStream l.twin.client true)
+abbrev pub invariant-loop-row : goal.invariant-loop-row
+invariant-loop-row g l = (FitsStream l.seat.client true) × (FitsStream l.twin.client true)

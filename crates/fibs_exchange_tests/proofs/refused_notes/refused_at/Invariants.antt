@@ -1,6 +1,6 @@
 use Rattle.std.proofs.Common.{true}
 use Rattle.fibs_exchange.specs.Turns.Turn.{FitsStream}
-use Rattle.fibs_exchange_tests.proofs.refused_notes.assert_goes_on.Given as goal
+use Rattle.fibs_exchange_tests.proofs.refused_notes.refused_at.Given as goal
 
 -- the client is online
 abbrev pub invariant-loop-at : goal.invariant-loop-at
