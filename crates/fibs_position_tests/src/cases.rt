@@ -4,7 +4,7 @@ ghost use Rattle.std.specs.Prelude.{◌≤◌};
 
 use crate::choices::Choice;
 use fibs_messages::Board;
-use fibs_position::{Direction, Phase, Position, effect};
+use fibs_position::{Decision, Direction, Phase, Position, effect};
 use std::process::Abort;
 use std::test::Fail;
 
@@ -81,28 +81,31 @@ impl Case {
     }
 
     /// The decision leads to the board expected.
-    fn is_carried_out(&self, before: &Board) -> Result<bool, Fail> {
-        match (
-            effect(before, &self.choice.decision()?, self.dice),
-            self.after,
-        ) {
-            (None, None) => Ok(true),
-            (Some(after), Some(changes)) => Ok(changes_so(before, &after, changes)),
-            _ => Ok(false),
+    fn is_carried_out(&self, before: &Board, decision: &Decision) -> bool {
+        match (effect(before, decision, self.dice), self.after) {
+            (None, None) => true,
+            (Some(after), Some(changes)) => changes_so(before, &after, changes),
+            _ => false,
         }
+    }
+
+    /// Whether the view, the phase and the effect are as expected.
+    fn is_right(&self) -> Result<[bool; 3], Fail> {
+        let board = Board::read(self.board).ok().ok_or("board")?;
+        let position = Position::of(&board).ok().ok_or("position")?;
+        let decision = self.choice.decision()?;
+        Ok([
+            self.is_seen(&position),
+            self.is_told(&position),
+            self.is_carried_out(&board, &decision),
+        ])
     }
 }
 
 /// Each case is as expected.
 pub fn check(rt: &impl Abort, cases: &[Case]) -> Result<(), Fail> {
     for case in cases {
-        let board = Board::read(case.board).ok().ok_or("board")?;
-        let position = Position::of(&board).ok().ok_or("position")?;
-        let is_right = [
-            case.is_seen(&position),
-            case.is_told(&position),
-            case.is_carried_out(&board)?,
-        ];
+        let is_right = case.is_right()?;
         assert_eq!(rt;
             is_right,
             [true; 3],

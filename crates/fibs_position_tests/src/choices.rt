@@ -15,7 +15,7 @@ pub enum Choice {
 }
 
 /// The play of these steps.
-fn play(steps: &[(u8, u8)]) -> Result<Play, Fail> {
+pub fn play(steps: &[(u8, u8)]) -> Result<Play, Fail> {
     let mut play = Play::new();
     for (source, target) in steps {
         let step = Step::new(*source, *target).ok_or("step")?;

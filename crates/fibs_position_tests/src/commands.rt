@@ -1,7 +1,9 @@
 //! What of commands the library for C does not show. Their texts, and lines read as commands, are in tests/rows.
 
+use crate::choices::Choice;
 use fibs_commands::{Plain, PlainFault, decision_text, plain_text, read_plain};
 use fibs_position::{Decision, Direction, Stake};
+use std::alloc::Global;
 use std::test::Fail;
 
 /// Plain commands and their texts.
@@ -45,8 +47,8 @@ fn is_read(line: &[u8], plain: &Plain<'_>) -> bool {
 #[test]
 fn plain_commands_are_printed(rt: HostRuntime) {
     for (plain, text) in &PRINTED {
-        assert!(rt; is_printed(plain, text), "printed: {text}");
-        assert!(rt; is_read(text.as_bytes(), plain), "read back: {text}");
+        let is_read_back = is_read(text.as_bytes(), plain);
+        assert!(rt; is_printed(plain, text) && is_read_back, "{text}");
     }
 }
 
@@ -57,15 +59,23 @@ fn a_name_has_no_space(rt: HostRuntime) {
     assert!(rt; fault == Some(PlainFault::BadName));
 }
 
+/// Faults, and how their numbers and names are printed.
+static FAULTS: [(PlainFault, &str); 3] = [
+    (PlainFault::BadName, "1 BadName"),
+    (PlainFault::BadText, "2 BadText"),
+    (PlainFault::TooLong, "3 TooLong"),
+];
+
+/// Whether a fault's number and name are printed so.
+fn is_told(alloc: Global, fault: &PlainFault, told: &str) -> Result<bool, Fail> {
+    let printed = format!(in alloc; "{} {fault}", fault.number())?;
+    Ok(printed.as_str() == told)
+}
+
 #[test]
 fn faults_have_numbers_and_names(rt: HostRuntime) -> Result<(), Fail> {
-    for (fault, told) in &[
-        (PlainFault::BadName, "1 BadName"),
-        (PlainFault::BadText, "2 BadText"),
-        (PlainFault::TooLong, "3 TooLong"),
-    ] {
-        let printed = format!(in rt.alloc(); "{} {fault}", fault.number())?;
-        assert!(rt; printed.as_str() == *told, "{told}: {printed}");
+    for (fault, told) in &FAULTS {
+        assert!(rt; is_told(rt.alloc(), fault, told)?, "{told}");
     }
     Ok(())
 }
@@ -101,20 +111,28 @@ fn lines_are_read_as_plain_commands_by_their_fields(rt: HostRuntime) {
     }
 }
 
+/// Decisions, and their commands.
+static DECISIONS: [(Choice, &str); 7] = [
+    (Choice::Roll, "roll"),
+    (Choice::Double, "double"),
+    (Choice::Accept, "accept"),
+    (Choice::Reject, "reject"),
+    (Choice::Resign(Stake::Normal), "resign n"),
+    (Choice::Resign(Stake::Gammon), "resign g"),
+    (Choice::Resign(Stake::Backgammon), "resign b"),
+];
+
+/// Whether a decision's command is displayed so.
+fn is_displayed(alloc: Global, choice: &Choice, text: &str) -> Result<bool, Fail> {
+    let command = decision_text(&choice.decision()?, Direction::Up);
+    let displayed = format!(in alloc; "{command}")?;
+    Ok(displayed.as_str() == text)
+}
+
 #[test]
 fn commands_are_displayed_as_their_texts(rt: HostRuntime) -> Result<(), Fail> {
-    for (decision, text) in &[
-        (Decision::Roll, "roll"),
-        (Decision::Double, "double"),
-        (Decision::Accept, "accept"),
-        (Decision::Reject, "reject"),
-        (Decision::Resign(Stake::Normal), "resign n"),
-        (Decision::Resign(Stake::Gammon), "resign g"),
-        (Decision::Resign(Stake::Backgammon), "resign b"),
-    ] {
-        let command = decision_text(decision, Direction::Up);
-        let displayed = format!(in rt.alloc(); "{command}")?;
-        assert!(rt; displayed.as_str() == *text, "{text}: {displayed}");
+    for (choice, text) in &DECISIONS {
+        assert!(rt; is_displayed(rt.alloc(), choice, text)?, "{text}");
     }
     Ok(())
 }
@@ -124,6 +142,8 @@ fn texts_are_equal_where_their_bytes_are(rt: HostRuntime) {
     let roll = decision_text(&Decision::Roll, Direction::Down);
     let roll_up = decision_text(&Decision::Roll, Direction::Up);
     let double = decision_text(&Decision::Double, Direction::Down);
-    assert!(rt; roll == roll_up, "one word in both directions");
-    assert!(rt; roll != double, "two words");
+    assert!(rt;
+        roll == roll_up && roll != double,
+        "one word in both directions, and two words"
+    );
 }

@@ -123,14 +123,21 @@ fn hit(before: &Board) -> Result<Board, Fail> {
     Ok(effect(before, &play, [1, 1]).ok_or("effect")?)
 }
 
+/// How many checkers are on the opponent's bar, and of both on the place of the hit.
+fn counts_of(after: &Board) -> Result<[u8; 3], Fail> {
+    let position = Position::of(after).ok().ok_or("position")?;
+    Ok([position.other_bar(), position.own(18), position.other(18)])
+}
+
 /// The checker that was hit is on the bar of the opponent.
 #[test]
 fn a_hit_checker_goes_to_the_bar(rt: HostRuntime) -> Result<(), Fail> {
     let before = Board::read(BEFORE_HIT).ok().ok_or("board")?;
     let after = hit(&before)?;
-    let position = Position::of(&after).ok().ok_or("position")?;
-    let counts = [position.other_bar(), position.own(18), position.other(18)];
-    assert_eq!(rt; counts, [1, 1, 0]);
-    assert!(rt; after.field(32) == before.field(32), "field 32");
+    let is_hit = counts_of(&after)? == [1, 1, 0];
+    assert!(rt;
+        is_hit && after.field(32) == before.field(32),
+        "the counts and field 32"
+    );
     Ok(())
 }

@@ -20,7 +20,7 @@ pub struct Row {
     pub answers: &'static [(Choice, Option<Disallowed>)],
 }
 
-pub static ROWS: [Row; 11] = [
+static ROWS: [Row; 11] = [
     Row {
         name: "either die can be played, both can't: the larger",
         board: b"board:You:bob:5:0:0:0:0:0:0:0:0:0:0:0:0:0:0:0:-2:0:0:0:0:0:0:0:0:0:0:1:0:1:6:5:0:0:1:1:1:0:1:-1:0:25:14:13:0:0:1:0:0:0",
@@ -159,25 +159,35 @@ pub fn position(line: &[u8]) -> Result<Position, Fail> {
     Ok(Position::of(&board).ok().ok_or("position")?)
 }
 
+/// All of these rows.
+pub fn rows() -> &'static [Row; 11] {
+    &ROWS
+}
+
+/// The play is that of these steps, and is allowed.
+fn is_allowed(position: &Position, play: &Play, steps: Steps) -> Result<bool, Fail> {
+    let decision = Decision::Move(*play);
+    Ok(decision == Choice::Move(steps).decision()? && position.allows(&decision).is_ok())
+}
+
 /// The plays are these, in this order, and each is allowed.
 fn are_listed(position: &Position, plays: &[Play], wanted: &[Steps]) -> Result<bool, Fail> {
     for (play, steps) in plays.iter().zip(wanted) {
-        let decision = Decision::Move(*play);
-        if decision != Choice::Move(steps).decision()? || position.allows(&decision).is_err() {
+        if !is_allowed(position, play, steps)? {
             return Ok(false);
         }
     }
     Ok(plays.len() == wanted.len())
 }
 
-/// How many of these answers are given, up to the first that is not.
-fn answered(position: &Position, answers: &[(Choice, Option<Disallowed>)]) -> Result<usize, Fail> {
-    for (at, (choice, why)) in answers.iter().enumerate() {
+/// Each of these answers is given.
+fn are_given(position: &Position, answers: &[(Choice, Option<Disallowed>)]) -> Result<bool, Fail> {
+    for (choice, why) in answers {
         if position.allows(&choice.decision()?).err() != *why {
-            return Ok(at);
+            return Ok(false);
         }
     }
-    Ok(answers.len())
+    Ok(true)
 }
 
 /// Whether the row's plays are listed.
@@ -186,18 +196,27 @@ fn lists_plays(alloc: Global, position: &Position, row: &Row) -> Result<bool, Fa
     are_listed(position, plays.as_slice(), row.plays)
 }
 
+/// Whether the phase, the dice, the plays and the answers are those of the row.
+fn is_answered(alloc: Global, row: &Row) -> Result<[bool; 4], Fail> {
+    let position = position(row.board)?;
+    Ok([
+        position.phase() == row.phase,
+        position.most_dice() == row.most,
+        lists_plays(alloc, &position, row)?,
+        are_given(&position, row.answers)?,
+    ])
+}
+
 #[test]
 fn positions_answer_as_worked_out(rt: HostRuntime) -> Result<(), Fail> {
-    for row in &ROWS {
-        let position = position(row.board)?;
-        let is_right = [
-            position.phase() == row.phase,
-            position.most_dice() == row.most,
-            lists_plays(rt.alloc(), &position, row)?,
-        ];
-        assert_eq!(rt; is_right, [true; 3], "phase, dice and plays: {}", row.name);
-        let count = answered(&position, row.answers)?;
-        assert!(rt; count == row.answers.len(), "answer {count}: {}", row.name);
+    for row in rows() {
+        let is_right = is_answered(rt.alloc(), row)?;
+        assert_eq!(rt;
+            is_right,
+            [true; 4],
+            "phase, dice, plays and answers: {}",
+            row.name
+        );
     }
     Ok(())
 }

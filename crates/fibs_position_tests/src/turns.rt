@@ -1,19 +1,9 @@
 //! Turns, plays and arrangements as values.
 
+use crate::choices::play;
 use fibs_rules::{Arrangement, Play, Step, Turn};
 use std::alloc::Global;
 use std::test::Fail;
-
-/// The play of these steps.
-fn play(steps: &[(u8, u8)]) -> Result<Play, Fail> {
-    let mut play = Play::new();
-    for (source, target) in steps {
-        let step = Step::new(*source, *target).ok_or("step")?;
-        let pushed = if play.push(step) { Some(()) } else { None };
-        pushed.ok_or("a fifth step")?;
-    }
-    Ok(play)
-}
 
 /// Counts by place; the checkers that are left are at `rest`.
 fn counts(placed: &[(usize, u8)], rest: usize) -> [u8; 26] {
@@ -79,14 +69,18 @@ fn are_refused(turn: &Turn, plays: &[&[(u8, u8)]]) -> Result<bool, Fail> {
     Ok(true)
 }
 
+/// Whether no checker can move in a turn, and these plays are refused.
+fn is_still(alloc: Global, turn: &Turn, refused: &[&[(u8, u8)]]) -> Result<bool, Fail> {
+    Ok(stands_still(alloc, turn)? && are_refused(turn, refused)?)
+}
+
 /// Without a die that can be played there is a play still, which no list of a board has.
 #[test]
 fn where_no_checker_can_move_the_play_has_no_step(rt: HostRuntime) -> Result<(), Fail> {
     for row in &STILL {
         let [one, other] = row.dice;
         let turn = Turn::new(arrangement(row.own, row.other)?, one, other);
-        let is_right = stands_still(rt.alloc(), &turn)? && are_refused(&turn, row.refused)?;
-        assert!(rt; is_right, "{}", row.name);
+        assert!(rt; is_still(rt.alloc(), &turn, row.refused)?, "{}", row.name);
     }
     Ok(())
 }
@@ -102,8 +96,8 @@ fn a_play_has_four_steps(rt: HostRuntime) -> Result<(), Fail> {
         play.push(step),
     ];
     let full = play;
-    let fifth = play.push(step);
-    assert_eq!(rt; (pushed, fifth, play), ([true; 4], false, full));
+    let is_refused = !play.push(step);
+    assert!(rt; pushed == [true; 4] && is_refused && play == full);
     Ok(())
 }
 
@@ -113,14 +107,20 @@ fn leads_to(start: &Arrangement, source: u8, target: u8) -> Result<Option<Arrang
     Ok(start.carried_out(&[step]))
 }
 
+/// Whether a step leads to the hit, and two that can't be made lead nowhere.
+fn lead_right(start: &Arrangement, hit: Arrangement) -> Result<[bool; 3], Fail> {
+    Ok([
+        leads_to(start, 24, 18)? == Some(hit),
+        leads_to(start, 24, 12)?.is_none(),
+        leads_to(start, 20, 19)?.is_none(),
+    ])
+}
+
 #[test]
 fn carried_out(rt: HostRuntime) -> Result<(), Fail> {
     let start = arrangement(&[(24, 2)], &[(18, 1), (12, 2)])?;
     let hit = arrangement(&[(24, 1), (18, 1)], &[(0, 1), (12, 2)])?;
-    assert!(rt; leads_to(&start, 24, 18)? == Some(hit), "24 to 18");
-    for (source, target) in &[(24, 12), (20, 19)] {
-        let is_none = leads_to(&start, *source, *target)?.is_none();
-        assert!(rt; is_none, "{source} to {target}");
-    }
+    let led = lead_right(&start, hit)?;
+    assert_eq!(rt; led, [true; 3], "24 to 18, 24 to 12, and 20 to 19");
     Ok(())
 }
