@@ -60,45 +60,50 @@ fn hears_one(session: &mut Session, line: &[u8], command: &str) -> bool {
     }
 }
 
+/// Lines that a session hears, and the command by which it answers each.
+static HEARD: [(&[u8], &str); 3] = [
+    (WELCOME, "set boardstyle 3"),
+    (INFO, "board"),
+    (NO_DOUBLE, "roll"),
+];
+
 /// A session opens a connection, and rolls by a standing order. It answers each line by one command.
-fn roll_by_order(rt: &impl Abort, session: &mut Session) -> Result<(), Fail> {
-    session.open().ok().ok_or("open")?;
-    session.order_roll().ok().ok_or("order")?;
-    for (line, command) in &[
-        (WELCOME, "set boardstyle 3"),
-        (INFO, "board"),
-        (NO_DOUBLE, "roll"),
-    ] {
-        let is_alone = hears_one(session, line, command);
-        assert!(rt; is_alone, "{command}");
+fn roll_by_order(rt: &impl Abort, session: &mut Session) {
+    let is_ordered = session.open().is_ok() && session.order_roll().is_ok();
+    assert!(rt; is_ordered, "open, and order");
+    for (line, command) in &HEARD {
+        assert!(rt; hears_one(session, line, command), "{command}");
     }
-    Ok(())
+}
+
+/// How a session answers while a roll waits: a second one, a name with a space, and the withdrawal of the order.
+fn answers_waiting(session: &mut Session) -> [bool; 4] {
+    let bad_name = PlainRefusal::Fault(PlainFault::BadName);
+    [
+        session.decide(&Decision::Roll).err() == Some(Refusal::Waiting),
+        session.plain(&Plain::Tell(b"b b", b"hi")).err() == Some(bad_name),
+        session.ordered(),
+        session.withdraw_roll() == Ok(()),
+    ]
+}
+
+/// Whether a roll waits on the board that is shown, and the next line confirms it, so that nothing waits then.
+fn is_confirmed(session: &mut Session, roll: &Outstanding) -> [bool; 4] {
+    let shows = session.shown() == Some(&roll.board);
+    let waits = session.waiting() == Some(roll);
+    let taken = session.line(&whole(TO_MOVE));
+    let confirms = taken.confirmed == Some(*roll) && !taken.rolled;
+    [shows, waits, confirms, session.lose().is_none()]
 }
 
 /// A session is a client without its bytes: it hears whole lines.
 #[test]
 fn a_session_hears_whole_lines(rt: HostRuntime) -> Result<(), Fail> {
     let mut session = Session::new(login()?);
-    roll_by_order(&rt, &mut session)?;
-    let bad_name = PlainRefusal::Fault(PlainFault::BadName);
-    let answers = [
-        session.decide(&Decision::Roll).err() == Some(Refusal::Waiting),
-        session.plain(&Plain::Tell(b"b b", b"hi")).err() == Some(bad_name),
-        session.ordered(),
-        session.withdraw_roll() == Ok(()),
-    ];
-    assert_eq!(rt;
-        answers,
-        [true; 4],
-        "a roll, a name with a space, and the order"
-    );
-    let roll = roll_on(NO_DOUBLE)?;
-    let is_kept = session.shown() == Some(&roll.board) && session.waiting() == Some(&roll);
-    assert!(rt; is_kept, "the roll waits");
-    let taken = session.line(&whole(TO_MOVE));
-    let is_confirmed = taken.confirmed == Some(roll) && !taken.rolled;
-    assert!(rt; is_confirmed, "the roll is confirmed");
-    assert!(rt; session.lose().is_none(), "nothing waits");
+    roll_by_order(&rt, &mut session);
+    let answers = answers_waiting(&mut session);
+    let confirmed = is_confirmed(&mut session, &roll_on(NO_DOUBLE)?);
+    assert_eq!(rt; [answers, confirmed], [[true; 4]; 2]);
     Ok(())
 }
 
@@ -133,9 +138,8 @@ fn refusal_of(client: &mut Client, call: &Call) -> Option<Refusal> {
 /// Each call is answered so, and an order is in force after it or not.
 fn assert_answered(rt: &impl Abort, client: &mut Client, calls: &[(Call, Option<Refusal>, bool)]) {
     for (at, (call, why, ordered)) in calls.iter().enumerate() {
-        let refused = refusal_of(client, call);
-        assert_eq!(rt; refused, *why, "call {at}");
-        assert!(rt; client.ordered() == *ordered, "the order after call {at}");
+        let is_answered = refusal_of(client, call) == *why;
+        assert!(rt; is_answered && client.ordered() == *ordered, "call {at}");
     }
 }
 
@@ -145,11 +149,19 @@ fn feed(client: &mut Client, piece: &[u8]) -> (usize, bool) {
     (got.used, got.taken.is_some())
 }
 
+/// Whether a line is this text.
+fn is_text(reading: &Reading<'_>, text: &[u8]) -> bool {
+    match reading {
+        Reading::Text(read) => *read == text,
+        _ => false,
+    }
+}
+
 /// Feeds a piece. Says how much of it is used, if this text ends in it.
 fn feed_text(client: &mut Client, piece: &[u8], text: &[u8]) -> Option<usize> {
     let got = client.feed(piece);
     match &got.taken {
-        Some(taken) if taken.reading == Reading::Text(text) => Some(got.used),
+        Some(taken) if is_text(&taken.reading, text) => Some(got.used),
         _ => None,
     }
 }
@@ -168,23 +180,22 @@ static ROLLED: [(Call, Option<Refusal>, bool); 2] = [
     (Call::Roll, None, false),
 ];
 
+/// Whether the line end confirms a roll on this board, so that nothing waits then.
+fn ends_confirming(client: &mut Client, line: &[u8]) -> Result<bool, Fail> {
+    let confirmed = feed_confirming(client, b"\n");
+    Ok(confirmed == Some(roll_on(line)?) && client.lose().is_none())
+}
+
 /// How much of a piece is used: up to its first line end, or all of it. What confirms a decision has its board.
 #[test]
 fn a_piece_is_used_up_to_its_first_line_end(rt: HostRuntime) -> Result<(), Fail> {
     let mut client = ready()?;
-    let used = feed_text(&mut client, b"[board]\r\nrest", b"[board]");
-    assert_eq!(rt; used, Some(9));
+    let text = feed_text(&mut client, b"[board]\r\nrest", b"[board]") == Some(9);
     assert_answered(&rt, &mut client, &ROLLED);
-    let without_end = feed(&mut client, TO_MOVE);
-    let confirmed = feed_confirming(&mut client, b"\n");
-    assert!(rt;
-        confirmed == Some(roll_on(TO_ROLL)?),
-        "the roll is confirmed"
-    );
-    assert!(rt; client.lose().is_none(), "nothing waits");
-    let offline = feed(&mut client, TO_ROLL);
-    let wanted = [(TO_MOVE.len(), false), (TO_ROLL.len(), false)];
-    assert_eq!(rt; [without_end, offline], wanted);
+    let without_end = feed(&mut client, TO_MOVE) == (TO_MOVE.len(), false);
+    let confirmed = ends_confirming(&mut client, TO_ROLL)?;
+    let offline = feed(&mut client, TO_ROLL) == (TO_ROLL.len(), false);
+    assert_eq!(rt; [text, without_end, confirmed, offline], [true; 4]);
     Ok(())
 }
 
@@ -206,16 +217,24 @@ static GREETED_LATE: [(Call, Option<Refusal>, bool); 4] = [
     (Call::Roll, Some(Refusal::NoBoard), false),
 ];
 
+/// Whether a piece is a text, and no board is shown after it.
+fn is_just_a_text(client: &mut Client, piece: &[u8]) -> bool {
+    let is_text = match &client.feed(piece).taken {
+        Some(taken) => matches!(taken.reading, Reading::Text(_)),
+        None => false,
+    };
+    is_text && client.shown().is_none()
+}
+
 /// Half a line is forgotten with its connection: its other half is a text on the next one.
 #[test]
 fn half_a_line_does_not_pass_into_the_next_connection(rt: HostRuntime) -> Result<(), Fail> {
     let mut client = ready()?;
     feed_line(&mut client, TO_ROLL);
-    assert!(rt; !feed(&mut client, FRONT).1, "no line has ended");
+    let has_ended = feed(&mut client, FRONT).1;
     assert_answered(&rt, &mut client, &REOPENED);
-    let taken = client.feed(REST).taken.ok_or("no line")?;
-    assert!(rt; matches!(taken.reading, Reading::Text(_)), "a text");
-    assert!(rt; client.shown().is_none(), "no board is shown");
+    let is_text = is_just_a_text(&mut client, REST);
+    assert!(rt; is_text && !has_ended, "no line has ended, and then a text");
     assert_answered(&rt, &mut client, &GREETED_LATE);
     Ok(())
 }
@@ -237,23 +256,36 @@ static GREETED_AGAIN: [(Call, Option<Refusal>, bool); 6] = [
     (Call::Line(TO_ROLL), None, false),
 ];
 
+/// Whether automove is turned off by its command, and neither it nor greedy is on then for a second one.
+fn is_turned_off(client: &mut Client) -> bool {
+    let is_off = match client.plain(&Plain::AutomoveOff) {
+        Ok(command) => command.as_str() == "toggle automove",
+        Err(_) => false,
+    };
+    let not_on = Some(PlainRefusal::NotOn);
+    let again = client.plain(&Plain::AutomoveOff).err() == not_on;
+    is_off && again && client.plain(&Plain::GreedyOff).err() == not_on
+}
+
+/// Whether the user rolls.
+fn rolls(client: &mut Client) -> bool {
+    match client.decide(&Decision::Roll) {
+        Ok(command) => command.as_str() == "roll",
+        Err(_) => false,
+    }
+}
+
 /// Where the server plays, the user does not decide, also after he has turned that off; on the next connection he does.
 #[test]
 fn where_the_server_plays_the_user_does_not_decide(rt: HostRuntime) -> Result<(), Fail> {
     let mut client = Client::new(login()?);
     assert_answered(&rt, &mut client, &GREETED_BY_A_PLAYER);
-    let off = client
-        .plain(&Plain::AutomoveOff)
-        .ok()
-        .ok_or("automove is on")?;
-    assert_eq!(rt; off.as_str(), "toggle automove");
-    for plain in &[Plain::AutomoveOff, Plain::GreedyOff] {
-        let refused = client.plain(plain).err();
-        assert!(rt; refused == Some(PlainRefusal::NotOn), "{plain:?}");
-    }
+    let is_off = is_turned_off(&mut client);
     assert_answered(&rt, &mut client, &GREETED_AGAIN);
-    let roll = client.decide(&Decision::Roll).ok().ok_or("roll")?;
-    assert_eq!(rt; roll.as_str(), "roll");
+    assert!(rt;
+        is_off && rolls(&mut client),
+        "turned off: {is_off}, and a roll"
+    );
     Ok(())
 }
 
@@ -274,9 +306,9 @@ fn a_new_connection_has_no_order(rt: HostRuntime) -> Result<(), Fail> {
     Ok(())
 }
 
-/// The inputs of a run, and all that it hands out.
-fn run_in(alloc: Global) -> Result<Vec<u8>, Fail> {
-    let inputs = [
+/// The inputs of a run.
+fn inputs_of_a_run() -> [Input<'static>; 25] {
+    [
         Input::Open,
         Input::Piece(b"1 ann 1041253132 loc"),
         Input::Piece(b"alhost\r\n> "),
@@ -302,7 +334,12 @@ fn run_in(alloc: Global) -> Result<Vec<u8>, Fail> {
         Input::Piece(NO_DOUBLE),
         Input::Withdraw,
         Input::Piece(b"\r\n"),
-    ];
+    ]
+}
+
+/// All that this run hands out. If a growth is refused, it is run again.
+fn run_in(alloc: Global) -> Result<Vec<u8>, Fail> {
+    let inputs = inputs_of_a_run();
     match run_client(alloc, login()?, &inputs) {
         Ok(bytes) => Ok(bytes),
         Err(_refused) => Ok(run_client(alloc, login()?, &inputs)?),
@@ -313,12 +350,13 @@ fn run_in(alloc: Global) -> Result<Vec<u8>, Fail> {
 #[test]
 fn runs_hand_out_their_commands_under_refused_memory(rt: HostRuntime) -> Result<(), Fail> {
     let bytes = run_in(rt.alloc())?;
-    assert_eq!(rt;
-        bytes.as_slice(),
-        b"login fibs_client 1008 ann secret\r\nset boardstyle 3\r\ntoggle autoboard\r\nboard\r\nroll\r\nlogin fibs_client 1008 ann secret\r\nset boardstyle 3\r\nboard\r\nroll\r\n".as_slice()
-    );
+    assert!(rt; bytes.as_slice() == COMMANDS_OF_A_RUN, "{bytes:?}");
     Ok(())
 }
+
+/// What that run hands out.
+static COMMANDS_OF_A_RUN: &[u8] =
+    b"login fibs_client 1008 ann secret\r\nset boardstyle 3\r\ntoggle autoboard\r\nboard\r\nroll\r\nlogin fibs_client 1008 ann secret\r\nset boardstyle 3\r\nboard\r\nroll\r\n";
 
 /// Refusals with their numbers, and as `{}` and `{:?}` print them.
 static TOLD: [(Refusal, &str); 12] = [
@@ -343,32 +381,48 @@ static PLAIN_TOLD: [(PlainRefusal, &str); 3] = [
     (PlainRefusal::Fault(PlainFault::BadText), "2 BadText"),
 ];
 
+/// Whether a refusal has this number and prints so.
+fn is_told(alloc: Global, why: &Refusal, wanted: &str) -> Result<bool, Fail> {
+    let told = format!(in alloc; "{} {why} {why:?}", why.number())?;
+    Ok(told.as_str() == wanted)
+}
+
+/// The same of a refusal of a command that decides nothing.
+fn is_plain_told(alloc: Global, why: &PlainRefusal, wanted: &str) -> Result<bool, Fail> {
+    let told = format!(in alloc; "{} {why}", why.number())?;
+    Ok(told.as_str() == wanted)
+}
+
 #[test]
 fn refusals_are_told_by_their_numbers_and_names(rt: HostRuntime) -> Result<(), Fail> {
     for (why, wanted) in &TOLD {
-        let told = format!(in rt.alloc(); "{} {why} {why:?}", why.number())?;
-        assert!(rt; told.as_str() == *wanted, "{wanted}: {told}");
+        assert!(rt; is_told(rt.alloc(), why, wanted)?, "{wanted}");
     }
     for (why, wanted) in &PLAIN_TOLD {
-        let told = format!(in rt.alloc(); "{} {why}", why.number())?;
-        assert!(rt; told.as_str() == *wanted, "{wanted}: {told}");
+        assert!(rt; is_plain_told(rt.alloc(), why, wanted)?, "{wanted}");
     }
     Ok(())
+}
+
+/// Refusals in columns, by their widths.
+fn in_columns(alloc: Global) -> Result<String, Fail> {
+    let no_board = Refusal::NoBoard;
+    let (not_on, plain_not_on) = (Refusal::NotOn, PlainRefusal::NotOn);
+    let (offline, bad_text) = (
+        PlainRefusal::Offline,
+        PlainRefusal::Fault(PlainFault::BadText),
+    );
+    Ok(format!(in alloc;
+        "{no_board:>10}|{not_on:<8}|{plain_not_on:^9}|{offline:>8}|{bad_text:>10}"
+    )?)
 }
 
 /// A width is kept, so that refusals are in columns.
 #[test]
 fn refusals_are_padded_to_a_width(rt: HostRuntime) -> Result<(), Fail> {
-    let texts = format!(in rt.alloc(); "{:>10}|{:<8}|", Refusal::NoBoard, Refusal::NotOn)?;
-    assert_eq!(rt; texts.as_str(), "   NoBoard|NotOn   |");
-    let bad_text = PlainRefusal::Fault(PlainFault::BadText);
-    let texts = format!(in rt.alloc();
-        "{:^9}|{:>8}|{:>10}",
-        PlainRefusal::NotOn,
-        PlainRefusal::Offline,
-        bad_text
-    )?;
-    assert_eq!(rt; texts.as_str(), "  NotOn  | Offline|   BadText");
+    let texts = in_columns(rt.alloc())?;
+    let wanted = "   NoBoard|NotOn   |  NotOn  | Offline|   BadText";
+    assert!(rt; texts.as_str() == wanted, "{texts}");
     Ok(())
 }
 
@@ -398,14 +452,21 @@ fn run_connections(alloc: Global, piece: &[u8]) -> Result<Vec<u8>, Fail> {
     Ok(run_client(alloc, login()?, all.as_slice())?)
 }
 
+/// Whether a long run hands out all of its commands.
+fn is_whole_run(alloc: Global, piece: &[u8]) -> Result<bool, Fail> {
+    let answers = b"login fibs_client 1008 ann secret\r\nset boardstyle 3\r\nboard\r\n";
+    let wanted = repeated(alloc, CONNECTIONS_OF_A_RUN, answers)?;
+    Ok(run_connections(alloc, piece)? == wanted)
+}
+
 /// However much comes and goes, a run with ample memory hands out all of it.
 #[test]
 fn a_long_run_hands_out_every_command(rt: HostRuntime) -> Result<(), Fail> {
     let piece = repeated(rt.alloc(), 100, GREETING)?;
-    assert!(rt; piece.len() > 8000, "a long piece");
-    let answers = b"login fibs_client 1008 ann secret\r\nset boardstyle 3\r\nboard\r\n";
-    let wanted = repeated(rt.alloc(), CONNECTIONS_OF_A_RUN, answers)?;
-    let bytes = run_connections(rt.alloc(), piece.as_slice())?;
-    assert!(rt; bytes == wanted, "each command");
+    let is_whole = is_whole_run(rt.alloc(), &piece)?;
+    assert!(rt;
+        piece.len() > 8000 && is_whole,
+        "each command of a long piece"
+    );
     Ok(())
 }

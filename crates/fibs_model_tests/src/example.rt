@@ -92,39 +92,57 @@ fn take(
     Ok(())
 }
 
+/// What the server sends, in two pieces.
+static PIECES: [&[u8]; 2] = [
+    b"login: 1 ann 1041253132 localhost\r\n2 ann 1 1 0 0 0 0 1 1 10 0 1",
+    b" 0 1 1500.00 0 0 0 0 0 UTC\r\nboard:You:bob:3:0:1:0:-2:0:0:0:0:5:0:3:0:0:0:-5:5:0:0:0:-3:0:-5:0:0:0:0:2:0:1:0:0:0:0:1:1:1:0:1:-1:0:25:0:0:0:0:0:0:0:0\r\n",
+];
+
+/// Opens a connection.
+fn open(client: &mut Client, wire: &mut Vec<u8>) -> Result<(), Fail> {
+    let login = client.open().ok().ok_or("open")?;
+    Ok(send(&login, wire)?)
+}
+
+/// The user rolls, and the connection is lost. Says which decision is lost with it.
+fn roll_and_lose(client: &mut Client, wire: &mut Vec<u8>) -> Result<Decision, Fail> {
+    let roll = client.decide(&Decision::Roll).ok().ok_or("roll")?;
+    send(&roll, wire)?;
+    let lost = client.lose().ok_or("the roll waited")?;
+    Ok(lost.decision)
+}
+
+/// A connection on which these pieces come, and the next one. Says which decision is lost between them.
+fn connect_twice(
+    client: &mut Client,
+    wire: &mut Vec<u8>,
+    screen: &mut Vec<u8>,
+) -> Result<Decision, Fail> {
+    open(client, wire)?;
+    for piece in &PIECES {
+        take(client, piece, wire, screen)?;
+    }
+    let lost = roll_and_lose(client, wire)?;
+    open(client, wire)?;
+    Ok(lost)
+}
+
+/// What is sent on both.
+const SENT: &[u8] = b"login fibs_client 1008 ann secret\r\nset boardstyle 3\r\nboard\r\nroll\r\n\
+    login fibs_client 1008 ann secret\r\n";
+
 #[test]
 fn a_caller_opens_reads_clicks_loses_and_opens_again(rt: HostRuntime) -> Result<(), Fail> {
     let mut wire = Vec::new(rt.alloc());
     let mut screen = Vec::new(rt.alloc());
     let login = Login::new(b"ann", b"secret").ok().ok_or("login")?;
     let mut client = Client::new(login);
-    send(&client.open().ok().ok_or("open")?, &mut wire)?;
-    take(
-        &mut client,
-        b"login: 1 ann 1041253132 localhost\r\n2 ann 1 1 0 0 0 0 1 1 10 0 1",
-        &mut wire,
-        &mut screen,
-    )?;
-    take(
-        &mut client,
-        b" 0 1 1500.00 0 0 0 0 0 UTC\r\nboard:You:bob:3:0:1:0:-2:0:0:0:0:5:0:3:0:0:0:-5:5:0:0:0:-3:0:-5:0:0:0:0:2:0:1:0:0:0:0:1:1:1:0:1:-1:0:25:0:0:0:0:0:0:0:0\r\n",
-        &mut wire,
-        &mut screen,
-    )?;
-    send(
-        &client.decide(&Decision::Roll).ok().ok_or("roll")?,
-        &mut wire,
-    )?;
-    let lost = client.lose().ok_or("the roll waited")?;
-    send(&client.open().ok().ok_or("open again")?, &mut wire)?;
-    assert_eq!(rt;
-        wire.as_slice(),
-        b"login fibs_client 1008 ann secret\r\nset boardstyle 3\r\nboard\r\nroll\r\nlogin fibs_client 1008 ann secret\r\n".as_slice()
-    );
-    assert_eq!(rt;
-        (lost.decision, screen.as_slice()),
-        (Decision::Roll, b"message\nmessage\nboard\n".as_slice()),
-        "it is the user's to roll again"
-    );
+    let lost = connect_twice(&mut client, &mut wire, &mut screen)?;
+    let is_told = [
+        lost == Decision::Roll,
+        wire.as_slice() == SENT,
+        screen.as_slice() == b"message\nmessage\nboard\n".as_slice(),
+    ];
+    assert_eq!(rt; is_told, [true; 3], "it is the user's to roll again");
     Ok(())
 }

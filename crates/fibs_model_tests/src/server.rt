@@ -188,27 +188,21 @@ fn server(line: &[u8]) -> Result<Server, Fail> {
     Ok(Server::new(board(line)?).ok().ok_or("not good")?)
 }
 
-/// The name of the answer to a line.
-fn answer(alloc: Global, server: &mut Server, line: Line) -> Result<String, Fail> {
+/// Whether a line is answered so, and leads to this board.
+fn is_served(alloc: Global, server: &mut Server, row: &(Line, &str, &[u8])) -> Result<bool, Fail> {
+    let (line, wanted, after) = *row;
     let served = serve(server, line).ok_or("connection 0")?;
-    text_of(alloc, &served)
+    let told = text_of(alloc, &served)?;
+    Ok(told.as_str() == wanted && *server.board() == board(after)?)
 }
 
-/// The lines of a case are answered so, and lead to these boards.
+/// Nobody is logged in at first. The lines of a case are answered so, and lead to these boards.
 fn assert_served(rt: &(impl Abort + AllocGlobal), case: &Case) -> Result<(), Fail> {
     let mut server = server(case.begins)?;
-    assert!(rt; server.logged_in() == 0, "{}", case.name);
-    let mut at = 0_u32;
-    for (line, wanted, after) in case.lines {
-        at = at.saturating_add(1);
-        let told = answer(rt.alloc(), &mut server, *line)?;
-        assert!(rt;
-            told.as_str() == *wanted,
-            "{}, line {at}: {told}",
-            case.name
-        );
-        let same = *server.board() == board(after)?;
-        assert!(rt; same, "{}: the board after line {at}", case.name);
+    let is_new = server.logged_in() == 0;
+    for row in case.lines {
+        let is_served = is_served(rt.alloc(), &mut server, row)?;
+        assert!(rt; is_new && is_served, "{}: {}", case.name, row.1);
     }
     Ok(())
 }
@@ -307,11 +301,16 @@ static REFUSALS: [(WorldRefusal, &str); 9] = [
     (WorldRefusal::BadDice, "9 BadDice"),
 ];
 
+/// Whether a refusal has this number and prints so.
+fn is_told(alloc: Global, refusal: WorldRefusal, wanted: &str) -> Result<bool, Fail> {
+    let told = format!(in alloc; "{} {refusal}", refusal.number())?;
+    Ok(told.as_str() == wanted)
+}
+
 #[test]
 fn refusals_have_numbers_and_names(rt: HostRuntime) -> Result<(), Fail> {
     for (refusal, wanted) in &REFUSALS {
-        let told = format!(in rt.alloc(); "{} {refusal}", refusal.number())?;
-        assert!(rt; told.as_str() == *wanted, "{wanted}: {told}");
+        assert!(rt; is_told(rt.alloc(), *refusal, wanted)?, "{wanted}");
     }
     Ok(())
 }

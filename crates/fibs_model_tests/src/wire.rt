@@ -2,8 +2,7 @@
 
 use crate::boards::*;
 use fibs_model::wire::{Wire, is_board_text, line_ends, whole_line};
-use std::alloc::Global;
-use std::process::Abort;
+use std::alloc::{AllocError, Global};
 use std::test::Fail;
 
 /// Bytes, and how long their first line is, if it is whole.
@@ -50,12 +49,6 @@ fn texts_are_put_with_cr_lf(rt: HostRuntime) -> Result<(), Fail> {
     Ok(())
 }
 
-/// Takes bytes from a wire, which has so many.
-fn take(rt: &impl Abort, wire: &mut Wire, count: usize) {
-    assert!(rt; count <= wire.bytes().len(), "so many bytes are there");
-    wire.take(count);
-}
-
 /// A text that is put on a wire, how many bytes are taken then, and what is left.
 static TAKEN: [(Option<&[u8]>, usize, &[u8]); 10] = [
     (Some(b"move"), 0, b"move\r\n"),
@@ -70,6 +63,15 @@ static TAKEN: [(Option<&[u8]>, usize, &[u8]); 10] = [
     (None, 7, b"oll\r\n"),
 ];
 
+/// Takes bytes from a wire, if it has so many. Whether it has.
+fn is_taken(wire: &mut Wire, count: usize) -> bool {
+    let has = count <= wire.bytes().len();
+    if has {
+        wire.take(count);
+    }
+    has
+}
+
 #[test]
 fn bytes_that_were_taken_are_on_a_wire_no_longer(rt: HostRuntime) -> Result<(), Fail> {
     let mut wire = Wire::new(rt.alloc());
@@ -78,8 +80,8 @@ fn bytes_that_were_taken_are_on_a_wire_no_longer(rt: HostRuntime) -> Result<(), 
             wire.reserve(text.len() + 2)?;
             wire.put(text);
         }
-        take(&rt, &mut wire, *count);
-        assert_eq!(rt; wire.bytes(), *left);
+        let is_left = is_taken(&mut wire, *count) && wire.bytes() == *left;
+        assert!(rt; is_left, "{left:?}");
     }
     Ok(())
 }
@@ -88,65 +90,80 @@ fn bytes_that_were_taken_are_on_a_wire_no_longer(rt: HostRuntime) -> Result<(), 
 fn the_next_bytes_are_those_that_a_wire_has(rt: HostRuntime) -> Result<(), Fail> {
     let mut wire = Wire::with_room(rt.alloc(), 6)?;
     wire.put(b"move");
-    let next = (wire.next(3), wire.next(7));
-    assert_eq!(rt; next, (b"mov".as_slice(), b"move\r\n".as_slice()));
+    let is_next = wire.next(3) == b"mov".as_slice() && wire.next(7) == b"move\r\n".as_slice();
+    assert!(rt; is_next);
     Ok(())
 }
 
 /// How many bytes are taken, how many a cut keeps then, and what is left.
 static CUT: [(usize, usize, &[u8]); 3] = [(1, 9, b"oll\r\n"), (1, 2, b"ll"), (0, 0, b"")];
 
+/// Takes bytes from a wire, and cuts it. Whether this is left.
+fn is_cut(wire: &mut Wire, count: usize, kept: usize, left: &[u8]) -> bool {
+    let has = is_taken(wire, count);
+    wire.cut(kept);
+    has && wire.bytes() == left
+}
+
 #[test]
 fn a_cut_leaves_the_first_bytes_on_their_way(rt: HostRuntime) -> Result<(), Fail> {
     let mut wire = Wire::with_room(rt.alloc(), 6)?;
     wire.put(b"roll");
     for (count, kept, left) in &CUT {
-        take(&rt, &mut wire, *count);
-        wire.cut(*kept);
-        assert_eq!(rt; wire.bytes(), *left);
+        assert!(rt; is_cut(&mut wire, *count, *kept, left), "{left:?}");
     }
     Ok(())
 }
 
-/// The text of a good board with a part so many times before it, and another at its end.
-fn framed(alloc: Global, front: (u32, &[u8]), end: (u32, &[u8])) -> Result<Vec<u8>, Fail> {
-    let mut text = Vec::new(alloc);
-    for _ in 0..front.0 {
-        text.extend_from_slice(front.1)?;
+/// Appends a part so many times.
+fn append_times(text: &mut Vec<u8>, (times, part): (u32, &[u8])) -> Result<(), AllocError> {
+    for _ in 0..times {
+        text.extend_from_slice(part)?;
     }
-    text.extend_from_slice(TO_ROLL)?;
-    for _ in 0..end.0 {
-        text.extend_from_slice(end.1)?;
-    }
-    Ok(text)
+    Ok(())
 }
+
+/// Appends the text of a good board with a part so many times before it, and another at its end.
+fn append_framed(text: &mut Vec<u8>, row: &Framed) -> Result<(), AllocError> {
+    append_times(text, row.1)?;
+    text.extend_from_slice(TO_ROLL)?;
+    append_times(text, row.2)
+}
+
+/// Texts, and whether each is that of a board, or of more than one line.
+static TEXTS: [(&str, &[u8], bool); 11] = [
+    ("a good board", TO_ROLL, true),
+    ("a board of others", OF_OTHERS, false),
+    ("a board of 16 checkers", TOO_MANY, false),
+    ("half a board", b"board:You:bob:3", false),
+    ("a message", b"1 ann 1041253132 localhost", false),
+    ("nothing", b"", false),
+    ("an empty line", b"\n", true),
+    ("two lines", b"a\nb", true),
+    ("a return within", b"a\rb", false),
+    ("a line end that a command takes", b"\xff\n", false),
+    ("a line end that an option takes", b"\xff\xfb\n", false),
+];
 
 #[test]
-fn texts_that_are_one_line_and_no_good_board_are_none(rt: HostRuntime) -> Result<(), Fail> {
-    let rows: [(&str, &[u8], bool); 11] = [
-        ("a good board", TO_ROLL, true),
-        ("a board of others", OF_OTHERS, false),
-        ("a board of 16 checkers", TOO_MANY, false),
-        ("half a board", b"board:You:bob:3", false),
-        ("a message", b"1 ann 1041253132 localhost", false),
-        ("nothing", b"", false),
-        ("an empty line", b"\n", true),
-        ("two lines", b"a\nb", true),
-        ("a return within", b"a\rb", false),
-        ("a line end that a command takes", b"\xff\n", false),
-        ("a line end that an option takes", b"\xff\xfb\n", false),
-    ];
-    for (name, text, is) in &rows {
+fn texts_that_are_one_line_and_no_good_board_are_none(rt: HostRuntime) {
+    for (name, text, is) in &TEXTS {
         assert!(rt; is_board_text(text) == *is, "{name}");
     }
-    Ok(())
 }
 
 /// No part.
 const NOTHING: (u32, &[u8]) = (0, b"");
 
 /// What is before the text of a good board, what is at its end, and whether that is a board.
-static FRAMED: [(&str, (u32, &[u8]), (u32, &[u8]), bool); 16] = [
+type Framed = (
+    &'static str,
+    (u32, &'static [u8]),
+    (u32, &'static [u8]),
+    bool,
+);
+
+static FRAMED: [Framed; 16] = [
     ("spaces at its end", NOTHING, (1, b"  "), true),
     ("a return more at its end", NOTHING, (1, b"\r"), false),
     ("a line more at its end", NOTHING, (1, b"\n"), true),
@@ -190,11 +207,17 @@ static FRAMED: [(&str, (u32, &[u8]), (u32, &[u8]), bool); 16] = [
     ),
 ];
 
+/// Whether the client reads such a text as a board.
+fn is_seen(alloc: Global, row: &Framed) -> Result<bool, AllocError> {
+    let mut text = Vec::new(alloc);
+    append_framed(&mut text, row)?;
+    Ok(is_board_text(text.as_slice()))
+}
+
 #[test]
 fn boards_are_seen_as_the_client_reads_them(rt: HostRuntime) -> Result<(), Fail> {
-    for (name, front, end, is) in &FRAMED {
-        let text = framed(rt.alloc(), *front, *end)?;
-        assert!(rt; is_board_text(text.as_slice()) == *is, "{name}");
+    for row in &FRAMED {
+        assert!(rt; is_seen(rt.alloc(), row)? == row.3, "{}", row.0);
     }
     Ok(())
 }

@@ -7,7 +7,6 @@ use fibs_model::{Event, World, WorldRefusal};
 use fibs_position::Decision;
 use fibs_session::Login;
 use std::alloc::Global;
-use std::process::Abort;
 use std::test::Fail;
 
 const WELCOME: &[u8] = b"1 ann 1041253132 localhost";
@@ -30,22 +29,26 @@ fn world(alloc: Global, line: &[u8]) -> Result<World, Fail> {
 #[test]
 fn a_text_of_two_lines_may_not_be(rt: HostRuntime) -> Result<(), Fail> {
     let mut world = world(rt.alloc(), TO_ROLL)?;
-    let refused = world.step(&Event::Text(b"a\nb"));
-    assert!(rt; refused == Err(WorldRefusal::BoardAsText));
-    assert!(rt; world.log().is_empty() && world.shown().is_none());
+    let is_refused = world.step(&Event::Text(b"a\nb")) == Err(WorldRefusal::BoardAsText);
+    assert!(rt; is_refused && world.log().is_empty() && world.shown().is_none());
     Ok(())
+}
+
+/// How many of so many events are done, and the length of the log then, if none is refused.
+fn counts_of_runs(world: &mut World) -> Option<[usize; 3]> {
+    let repeated = world.run(&[Event::Repeat; 100]);
+    let clicked = world.run(&[Event::Click(Decision::Roll); 1000]);
+    if repeated.refusal.is_some() || clicked.refusal.is_some() {
+        return None;
+    }
+    Some([repeated.done, clicked.done, world.log().len()])
 }
 
 /// With ample memory a run ends where its events end, however many they are.
 #[test]
 fn a_long_run_is_whole(rt: HostRuntime) -> Result<(), Fail> {
     let mut world = world(rt.alloc(), TO_ROLL)?;
-    let repeated = world.run(&[Event::Repeat; 100]);
-    let clicked = world.run(&[Event::Click(Decision::Roll); 1000]);
-    let are_whole = repeated.refusal.is_none() && clicked.refusal.is_none();
-    assert!(rt; are_whole, "none is refused");
-    let counts = [repeated.done, clicked.done, world.log().len()];
-    assert_eq!(rt; counts, [100, 1000, 1000]);
+    assert!(rt; counts_of_runs(&mut world) == Some([100, 1000, 1000]));
     Ok(())
 }
 
@@ -76,42 +79,53 @@ fn clicked_twice() -> [Event<'static>; 14] {
     ]
 }
 
-/// Takes the events before this place step by step, and then one that is refused.
-fn assert_stepwise(rt: &impl Abort, world: &mut World, events: &[Event<'_>], refused: usize) {
+/// How many of the events are taken step by step, and why the next is refused.
+fn steps_taken(world: &mut World, events: &[Event<'_>]) -> (usize, Option<WorldRefusal>) {
     for (place, event) in events.iter().enumerate() {
-        let wanted = if place < refused {
-            Ok(())
-        } else {
-            Err(WorldRefusal::NothingToServe)
-        };
-        assert!(rt; world.step(event) == wanted, "event {place}");
+        if let Err(refusal) = world.step(event) {
+            return (place, Some(refusal));
+        }
     }
+    (events.len(), None)
+}
+
+/// How many of the events are done in a row, and why the next is refused.
+fn run_in_a_row(world: &mut World, events: &[Event<'_>]) -> (usize, Option<WorldRefusal>) {
+    let end = world.run(events);
+    (end.done, end.refusal)
+}
+
+/// Whether both worlds have a log of so many lines, and the first shows this board.
+fn are_at(world: &World, twin: &World, lines: usize, shown: &[u8]) -> Result<bool, Fail> {
+    let are_alike = world.log() == twin.log() && world.log().len() == lines;
+    Ok(are_alike && world.shown() == Some(&board(shown)?))
+}
+
+/// Whether a run in a row, and one step by step, stop at the line that is not there, and lead to the same.
+fn stop_alike(in_a_row: &mut World, stepwise: &mut World) -> Result<bool, Fail> {
+    let events = clicked_twice();
+    let wanted = (13, Some(WorldRefusal::NothingToServe));
+    let is_stopped = run_in_a_row(in_a_row, &events) == wanted;
+    let is_refused = steps_taken(stepwise, &events) == wanted;
+    Ok(is_stopped && is_refused && are_at(in_a_row, stepwise, 12, TO_MOVE)?)
 }
 
 /// A run does the events before the first that is refused. Step by step each of them is taken, and the log is the same.
 #[test]
 fn a_run_stops_at_a_line_that_is_not_there(rt: HostRuntime) -> Result<(), Fail> {
-    let events = clicked_twice();
     let mut in_a_row = world(rt.alloc(), TO_ROLL)?;
-    let end = in_a_row.run(&events);
-    let is_refused = end.refusal == Some(WorldRefusal::NothingToServe);
-    assert!(rt; is_refused, "there is nothing to serve");
     let mut stepwise = world(rt.alloc(), TO_ROLL)?;
-    assert_stepwise(&rt, &mut stepwise, &events, 13);
-    assert!(rt; in_a_row.log() == stepwise.log(), "the logs");
-    assert_eq!(rt; [end.done, in_a_row.log().len()], [13, 12]);
-    assert!(rt; in_a_row.shown() == Some(&board(TO_MOVE)?), "the board");
+    assert!(rt; stop_alike(&mut in_a_row, &mut stepwise)?);
     Ok(())
 }
 
-/// A run that meets a refused growth says how many events were done, and a run of the others does them.
-#[test]
-fn a_run_goes_on_under_refused_memory(rt: HostRuntime) -> Result<(), Fail> {
+/// The events of a roll by an order that was given twice.
+fn ordered_twice() -> [Event<'static>; 14] {
     let serve = Event::Serve {
         conn: 1,
         dice: [6, 2],
     };
-    let events = [
+    [
         Event::Open,
         Event::Order,
         Event::Order,
@@ -126,16 +140,26 @@ fn a_run_goes_on_under_refused_memory(rt: HostRuntime) -> Result<(), Fail> {
         serve,
         Event::Withdraw,
         Event::Deliver(10000),
-    ];
-    let mut world = world(rt.alloc(), MUST_ROLL)?;
-    let mut end = world.run(&events);
-    let mut done = end.done;
-    if end.refusal == Some(WorldRefusal::Memory) {
-        end = world.run(events.get(done..).ok_or("too many are done")?);
-        done = done.saturating_add(end.done);
+    ]
+}
+
+/// How many of the events are done, and why one is refused, if the run goes on after a growth that is refused.
+fn run_on(world: &mut World, events: &[Event<'_>]) -> (usize, Option<WorldRefusal>) {
+    let (done, refusal) = run_in_a_row(world, events);
+    if refusal != Some(WorldRefusal::Memory) {
+        return (done, refusal);
     }
-    assert!(rt; end.refusal.is_none(), "no event is refused");
-    assert_eq!(rt; [done, world.log().len()], [14, 12]);
-    assert!(rt; world.shown() == Some(&board(ROLLED)?), "the board");
+    let rest = events.get(done..).unwrap_or(&[]);
+    let (more, refusal) = run_in_a_row(world, rest);
+    (done.saturating_add(more), refusal)
+}
+
+/// A run that meets a refused growth says how many events were done, and a run of the others does them.
+#[test]
+fn a_run_goes_on_under_refused_memory(rt: HostRuntime) -> Result<(), Fail> {
+    let mut world = world(rt.alloc(), MUST_ROLL)?;
+    let is_done = run_on(&mut world, &ordered_twice()) == (14, None);
+    let is_shown = world.shown() == Some(&board(ROLLED)?);
+    assert!(rt; is_done && is_shown && world.log().len() == 12);
     Ok(())
 }
