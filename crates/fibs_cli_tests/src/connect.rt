@@ -12,7 +12,7 @@ use fibs_test_tools::text::Text;
 use std::alloc::Global;
 use std::io;
 use std::io::{ErrorKind, Read};
-use std::net::{Net, OpenListener, TcpListener, TcpStream};
+use std::net::{Net, OpenListener, SocketAddr, TcpListener, TcpStream};
 use std::process::Abort;
 use std::test::Fail;
 
@@ -209,24 +209,18 @@ fn a_writer_that_fails_is_a_fault(rt: HostRuntime) {
     }
 }
 
-/// How a conversation ends in which the reader fails after these bytes.
-fn ending_after(alloc: Global, typed: &[u8]) -> Result<u8, EngineFault> {
-    conversed(
-        alloc,
-        no_door(),
-        &mut Pipe::new(typed, 100, FAULT, 0),
-        1000,
-        100,
-    )
-    .ending
+/// If the reader fails after these bytes, the end is a fault.
+fn assert_stops_after(rt: &(impl Abort + AllocGlobal), typed: &[u8]) {
+    let mut reader = Pipe::new(typed, 100, FAULT, 0);
+    let ending = conversed(rt.alloc(), no_door(), &mut reader, 1000, 100).ending;
+    assert_eq!(rt; ending, Err(EngineFault::Device), "at {}", typed.len());
 }
 
 #[test]
 fn a_reader_that_fails_is_a_fault(rt: HostRuntime) {
     let whole: &[u8] = b"secret\nroll\n";
     for length in 0..whole.len() {
-        let ending = ending_after(rt.alloc(), &whole[..length]);
-        assert_eq!(rt; ending, Err(EngineFault::Device), "at {length}");
+        assert_stops_after(&rt, &whole[..length]);
     }
 }
 
@@ -300,6 +294,15 @@ fn read_whole(stream: &mut TcpStream) -> io::Result<Text> {
     Ok(text)
 }
 
+/// Asserts that the listener is given the login and no more.
+fn assert_login(rt: &impl Abort, name: &str, listener: &TcpListener) -> io::Result<()> {
+    let (mut far, _peer) = listener.accept()?;
+    let received = read_whole(&mut far)?;
+    let login = b"login fibs_client 1008 ann secret\r\n".as_slice();
+    assert_eq!(rt; received.as_slice(), login, "{name}");
+    Ok(())
+}
+
 /// Asserts that a conversation over sockets prints nothing, and gives the listener the login and no more.
 fn assert_logs_in<N: Net<Stream = TcpStream>>(
     rt: &(impl Abort + AllocGlobal),
@@ -308,28 +311,31 @@ fn assert_logs_in<N: Net<Stream = TcpStream>>(
     host: &str,
     listener: &TcpListener,
     typed: &[u8],
-) -> Result<(), Fail> {
+) -> io::Result<()> {
     let port = listener.local_addr()?.port();
     let outcome = conversed_at(net, rt.alloc(), host, port, typed);
     assert_is(rt, name, 0, &outcome, Ok(0), [b"", b""]);
-    let (mut far, _peer) = listener.accept()?;
-    let received = read_whole(&mut far)?;
-    let login = b"login fibs_client 1008 ann secret\r\n".as_slice();
-    assert_eq!(rt; received.as_slice(), login, "{name}");
-    Ok(())
+    assert_login(rt, name, listener)
 }
 
 #[test]
 fn a_socket_is_given_the_login_and_no_more(rt: HostRuntime) -> Result<(), Fail> {
     let listener = TcpListener::bind(&rt, "127.0.0.1:0")?;
-    assert_logs_in(
-        &rt,
-        "a socket",
-        &rt,
-        "127.0.0.1",
-        &listener,
-        b"secret\n\nquit\n",
-    )
+    let typed = b"secret\n\nquit\n";
+    assert_logs_in(&rt, "a socket", &rt, "127.0.0.1", &listener, typed)?;
+    Ok(())
+}
+
+/// Asserts that the listener is given the login if a name has these addresses.
+fn assert_named<N: Net<Listener = TcpListener, Stream = TcpStream> + AllocGlobal + Abort>(
+    rt: &N,
+    name: &str,
+    listener: &TcpListener,
+    addresses: [SocketAddr; 2],
+) -> io::Result<()> {
+    let net = Named::new(rt, addresses);
+    let typed = b"secret\nquit\n";
+    assert_logs_in(rt, name, &net, "fibs.example", listener, typed)
 }
 
 /// Of two addresses of a name nobody listens at one, whichever it is: the other one is given the login.
@@ -337,21 +343,8 @@ fn a_socket_is_given_the_login_and_no_more(rt: HostRuntime) -> Result<(), Fail> 
 fn each_address_of_a_name_is_tried(rt: HostRuntime) -> Result<(), Fail> {
     let listener = TcpListener::bind(&rt, "127.0.0.1:0")?;
     let there = listener.local_addr()?;
-    let mut nobody = there;
-    nobody.set_port(free_port(&rt)?);
-    for (name, addresses) in [
-        ("the first address", [there, nobody]),
-        ("the second address", [nobody, there]),
-    ] {
-        let net = Named::new(&rt, addresses);
-        assert_logs_in(
-            &rt,
-            name,
-            &net,
-            "fibs.example",
-            &listener,
-            b"secret\nquit\n",
-        )?;
-    }
+    let nobody = SocketAddr::new(there.ip(), free_port(&rt)?);
+    assert_named(&rt, "the first address", &listener, [there, nobody])?;
+    assert_named(&rt, "the second address", &listener, [nobody, there])?;
     Ok(())
 }

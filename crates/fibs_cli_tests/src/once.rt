@@ -14,8 +14,8 @@ use std::alloc::Global;
 use std::cell::Cell;
 use std::io;
 use std::io::{ErrorKind, Read};
+use std::net::{IpAddr, Ipv4Addr, SocketAddr};
 use std::process::Abort;
-use std::test::Fail;
 use std::time::Duration;
 
 /// How a conversation ends, and what is printed on both writers.
@@ -88,23 +88,33 @@ fn a_connection_is_tried_when_it_is_asked_for(rt: HostRuntime) {
     assert_is(&rt, "a connection", 0, &outcome, Ok(0), [wanted, b""]);
 }
 
+/// An address that is nobody's.
+fn address_of(port: u16) -> SocketAddr {
+    SocketAddr::new(IpAddr::V4(Ipv4Addr::new(192, 0, 2, 1)), port)
+}
+
+/// Why there is no connection.
+fn why_none<D: Dial>(door: &mut D) -> Option<ErrorKind> {
+    door.dial().err()
+}
+
 /// If no address of a name answers, each was tried once, and the last says why; with a log and at a terminal too.
 #[test]
-fn each_address_is_tried_once_and_the_last_says_why(rt: HostRuntime) -> Result<(), Fail> {
+fn each_address_is_tried_once_and_the_last_says_why(rt: HostRuntime) {
     let tries = Cell::new((0, None));
-    let net = Nobody::new(["192.0.2.1:1".parse()?, "192.0.2.1:2".parse()?], &tries);
+    let net = Nobody::new([address_of(1), address_of(2)], &tries);
     let place = Place {
         host: "fibs.example",
         port: 4321,
         quiet: Duration::from_millis(20),
     };
-    let mut plain = Server::new(&net, place);
-    let mut paced = PacedServer::new(Server::new(&net, place), 20);
-    let mut logged = LoggedServer::new(Server::new(&net, place), &rt, None);
-    let whys = [plain.dial().err(), paced.dial().err(), logged.dial().err()];
+    let whys = [
+        why_none(&mut Server::new(&net, place)),
+        why_none(&mut PacedServer::new(Server::new(&net, place), 20)),
+        why_none(&mut LoggedServer::new(Server::new(&net, place), &rt, None)),
+    ];
     let wanted = ([Some(ErrorKind::ConnectionRefused); 3], 6);
     assert_eq!(rt; (whys, tries.get().0), wanted);
-    Ok(())
 }
 
 /// A reader that ends, and gives more if it is asked again, as a terminal does.

@@ -1,5 +1,6 @@
 //! The command line, from its words to the exit status.
 use super::outcomes::assert_is;
+use fibs_arguments::Answer;
 use fibs_cli::program::{answer, status};
 use fibs_engine::fault::EngineFault;
 use fibs_test_tools::outcome::Outcome;
@@ -79,6 +80,28 @@ fn line_of(alloc: Global, words: &[&str]) -> Result<Vec<String>, AllocError> {
     Ok(line)
 }
 
+/// What the program makes of the words of a command line, and what it prints.
+fn served<N: Net<Listener = TcpListener, Stream = TcpStream> + AllocGlobal>(
+    rt: &N,
+    called: &Answer<'_>,
+    input: &[u8],
+) -> Outcome {
+    let quiet = Duration::from_millis(500);
+    let mut input = Pipe::new(input, 7, After::End, 0);
+    let mut out = Pipe::new(b"", 1, After::End, 4096);
+    let mut err = Pipe::new(b"", 1, After::End, 4096);
+    let ending = answer(
+        rt,
+        rt.alloc(),
+        called,
+        quiet,
+        &mut input,
+        &mut out,
+        &mut err,
+    );
+    Outcome::new(ending, out.output(), err.output())
+}
+
 /// How the program answers a command line, and what it prints.
 fn answered<N: Net<Listener = TcpListener, Stream = TcpStream> + AllocGlobal>(
     rt: &N,
@@ -86,20 +109,8 @@ fn answered<N: Net<Listener = TcpListener, Stream = TcpStream> + AllocGlobal>(
     input: &[u8],
 ) -> Result<Outcome, AllocError> {
     let line = line_of(rt.alloc(), words)?;
-    let mut input = Pipe::new(input, 7, After::End, 0);
-    let mut out = Pipe::new(b"", 1, After::End, 4096);
-    let mut err = Pipe::new(b"", 1, After::End, 4096);
     let called = fibs_arguments::read(rt.alloc(), line.as_slice());
-    let ending = answer(
-        rt,
-        rt.alloc(),
-        &called,
-        Duration::from_millis(500),
-        &mut input,
-        &mut out,
-        &mut err,
-    );
-    Ok(Outcome::new(ending, out.output(), err.output()))
+    Ok(served(rt, &called, input))
 }
 
 /// Asserts how a command line is served.
