@@ -2,7 +2,7 @@
 
 use super::replay::{
     LARGER, LOGS_IN, LOST_PLAY, NO_DOUBLE, ORDER_AFTER_THE_BOARD, OTHER, RESIGNATION, ROLL,
-    SECOND_CLICK, STANDING_ORDER, assert_is, is_log_so_far, replayed,
+    SECOND_CLICK, STANDING_ORDER, assert_is, assert_so_far, replayed,
 };
 use fibs_engine::fault::EngineFault;
 use fibs_loop::play_loop;
@@ -14,6 +14,7 @@ use std::process::Abort;
 use std::test::Fail;
 
 /// A script in parts, its status and the end of what is printed.
+#[derive(Clone, Copy)]
 struct Case {
     name: &'static str,
     script: &'static [&'static [u8]],
@@ -118,83 +119,78 @@ fn played<N: Net<Stream = TcpStream> + AllocGlobal>(
     Outcome::new(ending, writer.output(), b"")
 }
 
-/// Asserts that a script is played over sockets as it is replayed, with this status and this end of what is printed.
+/// Asserts that a script ended with this status, and this end of what is printed.
+fn assert_ends(rt: &impl Abort, name: &str, outcome: &Outcome, status: u8, end: &[u8]) {
+    assert!(rt;
+        outcome.ending == Ok(status) && outcome.out.ends_with(end),
+        "{name}: {outcome:?}"
+    );
+}
+
+/// Asserts that a script is played over sockets as it is replayed, with its status and its end of what is printed.
 fn assert_played<N: Net<Stream = TcpStream> + AllocGlobal + Abort>(
     rt: &N,
     listener: &TcpListener,
-    name: &str,
-    script: &[&[u8]],
-    status: u8,
-    end: &[u8],
+    case: &Case,
 ) {
-    let script = joined(script);
+    let script = joined(case.script);
     let outcome = played(rt, listener, &script);
     let wanted = replayed(rt.alloc(), &script, 100);
-    assert_is(rt, name, 0, &outcome, Ok(status), &wanted.out);
-    assert_is(rt, name, 1, &wanted, Ok(status), &outcome.out);
-    assert!(rt; outcome.out.ends_with(end), "{name}: {outcome:?}");
+    assert_is(rt, case.name, 0, &outcome, wanted.ending, &wanted.out);
+    assert_ends(rt, case.name, &outcome, case.status, case.end);
 }
 
 #[test]
 fn scripts_are_played_as_they_are_replayed(rt: HostRuntime) -> Result<(), Fail> {
     let listener = TcpListener::bind(&rt, "127.0.0.1:0")?;
     for case in &CASES {
-        assert_played(
-            &rt,
-            &listener,
-            case.name,
-            case.script,
-            case.status,
-            case.end,
-        );
+        assert_played(&rt, &listener, case);
     }
     Ok(())
 }
 
-/// Decisions and orders of a user who logs in.
+/// The decisions and orders of a user who logs in.
+fn decisions() -> [Case; 5] {
+    [
+        Case {
+            name: "a second click",
+            script: SECOND_CLICK,
+            status: 3,
+            end: b"clicked 1 WrongKind\nrefused 13 5 NothingToServe\n",
+        },
+        Case {
+            name: "a resignation",
+            script: RESIGNATION,
+            status: 3,
+            end: b"clicked 1 NotYours\nrefused 13 5 NothingToServe\n",
+        },
+        Case {
+            name: "a loss that keeps all",
+            script: LOST_PLAY,
+            status: 0,
+            end: b"clicked 2 NotYours\nend 20\n",
+        },
+        Case {
+            name: "a standing order",
+            script: STANDING_ORDER,
+            status: 0,
+            end: b"0:0:0:0:0:0:0:0\nend 14\n",
+        },
+        Case {
+            name: "an order",
+            script: ORDER_AFTER_THE_BOARD,
+            status: 0,
+            end: b" roll\nend 11\n",
+        },
+    ]
+}
+
 #[test]
 fn decisions_are_played_as_they_are_replayed(rt: HostRuntime) -> Result<(), Fail> {
-    let to = TcpListener::bind(&rt, "127.0.0.1:0")?;
-    assert_played(
-        &rt,
-        &to,
-        "a second click",
-        SECOND_CLICK,
-        3,
-        b"clicked 1 WrongKind\nrefused 13 5 NothingToServe\n",
-    );
-    assert_played(
-        &rt,
-        &to,
-        "a resignation",
-        RESIGNATION,
-        3,
-        b"clicked 1 NotYours\nrefused 13 5 NothingToServe\n",
-    );
-    assert_played(
-        &rt,
-        &to,
-        "a loss that keeps all",
-        LOST_PLAY,
-        0,
-        b"clicked 2 NotYours\nend 20\n",
-    );
-    assert_played(
-        &rt,
-        &to,
-        "a standing order",
-        STANDING_ORDER,
-        0,
-        b"0:0:0:0:0:0:0:0\nend 14\n",
-    );
-    assert_played(
-        &rt,
-        &to,
-        "an order",
-        ORDER_AFTER_THE_BOARD,
-        0,
-        b" roll\nend 11\n",
-    );
+    let listener = TcpListener::bind(&rt, "127.0.0.1:0")?;
+    for case in &decisions() {
+        assert_played(&rt, &listener, case);
+    }
     Ok(())
 }
 
@@ -229,14 +225,10 @@ fn assert_played_again<N: Net<Listener = TcpListener, Stream = TcpStream> + Allo
     let script = joined(script);
     let mut outcome = played(rt, &listener, &script);
     if outcome.ending == Err(EngineFault::Memory) {
-        let is_so_far = is_log_so_far(rt.alloc(), &script, &outcome.out);
-        assert!(rt; is_so_far, "{:?}", outcome.out.as_slice());
+        assert_so_far(rt, &script, &outcome.out);
         outcome = played(rt, &listener, &script);
     }
-    assert!(rt;
-        outcome.ending == Ok(status) && outcome.out.ends_with(end),
-        "{outcome:?}"
-    );
+    assert_ends(rt, "once more", &outcome, status, end);
     Ok(())
 }
 

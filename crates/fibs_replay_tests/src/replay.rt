@@ -5,7 +5,7 @@ use fibs_test_tools::devices::FailsOnce;
 use fibs_test_tools::outcome::Outcome;
 use fibs_test_tools::pipe::{After, FAULT, Pipe};
 use fibs_test_tools::text::joined;
-use std::alloc::Global;
+use std::alloc::{AllocError, Global};
 use std::process::Abort;
 use std::test::Fail;
 
@@ -430,34 +430,52 @@ static SHORT: [Row; 16] = [
     ),
 ];
 
+/// Asserts how the script of each row ends, and what is printed.
+fn assert_rows(rt: &(impl Abort + AllocGlobal), name: &str, rows: &[Row]) {
+    for (parts, status, wanted) in rows {
+        assert_replayed(rt, name, parts, *status, &[wanted]);
+    }
+}
+
 #[test]
 fn scripts_that_are_not_run(rt: HostRuntime) {
-    for (parts, status, wanted) in &UNREADABLE {
-        assert_replayed(&rt, "a script that is not run", parts, *status, &[wanted]);
-    }
+    assert_rows(&rt, "a script that is not run", &UNREADABLE);
 }
 
 #[test]
 fn events_that_may_not_be(rt: HostRuntime) {
-    for (parts, status, wanted) in &SHORT {
-        assert_replayed(&rt, "a script of few events", parts, *status, &[wanted]);
-    }
+    assert_rows(&rt, "a script of few events", &SHORT);
 }
 
-/// As many bytes as may be, and one more.
-#[test]
-fn a_long_script_is_not_run(rt: HostRuntime) -> Result<(), Fail> {
-    let mut script = Vec::from_slice(rt.alloc(), ROLL)?;
+/// A script of so many bytes as may be but one.
+fn long_script(alloc: Global) -> Result<Vec<u8>, AllocError> {
+    let mut script = Vec::from_slice(alloc, ROLL)?;
     script.push(b'\n')?;
     for _ in 0..149_779 {
         script.extend_from_slice(b"repeat\n")?;
     }
     script.extend_from_slice(b"\n\n")?;
-    for wanted in [b"script 149781\n".as_slice(), b"script 0\n"] {
-        script.push(b'\n')?;
-        let outcome = replayed(rt.alloc(), &script, 4096);
-        assert_is(&rt, "a long script", script.len(), &outcome, Ok(3), wanted);
-    }
+    Ok(script)
+}
+
+/// Asserts what is printed if a script has one more line end.
+fn assert_refused(
+    rt: &(impl Abort + AllocGlobal),
+    script: &mut Vec<u8>,
+    wanted: &[u8],
+) -> Result<(), AllocError> {
+    script.push(b'\n')?;
+    let outcome = replayed(rt.alloc(), script, 4096);
+    assert_is(rt, "a long script", script.len(), &outcome, Ok(3), wanted);
+    Ok(())
+}
+
+/// As many bytes as may be, and one more.
+#[test]
+fn a_long_script_is_not_run(rt: HostRuntime) -> Result<(), Fail> {
+    let mut script = long_script(rt.alloc())?;
+    assert_refused(&rt, &mut script, b"script 149781\n")?;
+    assert_refused(&rt, &mut script, b"script 0\n")?;
     Ok(())
 }
 
@@ -527,7 +545,7 @@ fn without_last_line(text: &[u8]) -> &[u8] {
 }
 
 /// Whether the text is the log after some of the script's events, the first ones, and nothing else.
-pub fn is_log_so_far(alloc: Global, script: &[u8], text: &[u8]) -> bool {
+fn is_log_so_far(alloc: Global, script: &[u8], text: &[u8]) -> bool {
     for end in 0..script.len() {
         if script[end] == b'\n' {
             let outcome = replayed(alloc, &script[..end], 4096);
@@ -537,6 +555,12 @@ pub fn is_log_so_far(alloc: Global, script: &[u8], text: &[u8]) -> bool {
         }
     }
     false
+}
+
+/// Asserts the same.
+pub fn assert_so_far(rt: &(impl Abort + AllocGlobal), script: &[u8], text: &[u8]) {
+    let is_so_far = is_log_so_far(rt.alloc(), script, text);
+    assert!(rt; is_so_far, "{text:?}");
 }
 
 /// If memory runs out, the log after the events done so far is printed, and the script can be replayed as before.
@@ -563,8 +587,7 @@ fn assert_cut_again(
 ) {
     let mut outcome = replayed(rt.alloc(), script, most);
     if outcome.ending == Err(EngineFault::Memory) {
-        let is_so_far = is_log_so_far(rt.alloc(), script, &outcome.out);
-        assert!(rt; is_so_far, "{:?}", outcome.out.as_slice());
+        assert_so_far(rt, script, &outcome.out);
         outcome = replayed(rt.alloc(), script, most);
     }
     assert_is(rt, "once more", most, &outcome, Ok(status), wanted);

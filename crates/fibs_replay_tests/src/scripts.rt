@@ -1,5 +1,6 @@
 //! Scripts: which lines are which events, the first line that is unreadable, and the lines of the log.
 use arrayvec::ArrayVec;
+use fibs_engine::fault::EngineFault;
 use fibs_messages::Board;
 use fibs_model::{Entry, Event};
 use fibs_position::{Decision, Play, Stake, Step};
@@ -9,7 +10,8 @@ use fibs_scripts::log_lines::{Portion, append_entry};
 use fibs_scripts::script::first_unreadable;
 use fibs_session::{Outstanding, Plain, Refusal};
 use fibs_test_tools::pipe::{After, FAULT, Pipe};
-use std::alloc::Global;
+use std::alloc::{AllocError, Global};
+use std::process::Abort;
 use std::test::Fail;
 
 /// A board on which the player is to roll.
@@ -94,9 +96,14 @@ fn lines_that_say_no_event(rt: HostRuntime) {
     }
 }
 
-#[test]
-fn lines_that_say_an_event(rt: HostRuntime) {
-    let rows: [(&[u8], Event<'_>); 17] = [
+/// Asserts which event a line says.
+fn assert_says(rt: &impl Abort, line: &[u8], event: Event<'_>) {
+    assert!(rt; read_event(line) == Some(event), "{line:?}");
+}
+
+/// Lines that say an event, and the event.
+fn events() -> [(&'static [u8], Event<'static>); 17] {
+    [
         (b"open", Event::Open),
         (b"repeat", Event::Repeat),
         (b"text", Event::Text(b"")),
@@ -123,9 +130,13 @@ fn lines_that_say_an_event(rt: HostRuntime) {
                 dice: [0, 255],
             },
         ),
-    ];
-    for (line, event) in rows {
-        assert!(rt; read_event(line) == Some(event), "{line:?}");
+    ]
+}
+
+#[test]
+fn lines_that_say_an_event(rt: HostRuntime) {
+    for (line, event) in &events() {
+        assert_says(&rt, line, *event);
     }
 }
 
@@ -140,32 +151,25 @@ fn play_of(steps: &[(u8, u8)]) -> Option<Play> {
     Some(play)
 }
 
-/// A line, and the steps of the play that is clicked.
-static PLAYS: [(&[u8], &[(u8, u8)]); 2] = [
-    (b"click move", &[]),
-    (b"click move bar-20 6-off", &[(25, 20), (6, 0)]),
-];
-
-#[test]
-fn plays_are_clicked_in_own_numbers(rt: HostRuntime) -> Result<(), Fail> {
-    for (line, steps) in &PLAYS {
-        let play = play_of(steps).ok_or("a play")?;
-        let event = Event::Click(Decision::Move(play));
-        assert_eq!(rt; read_event(line), Some(event), "{line:?}");
-    }
-    Ok(())
+/// Asserts that a line clicks a play of these steps.
+fn assert_clicks(rt: &impl Abort, line: &[u8], steps: &[(u8, u8)]) {
+    let play = play_of(steps).expect(rt, "it is a play");
+    assert_says(rt, line, Event::Click(Decision::Move(play)));
 }
 
 #[test]
-fn boards_are_owned_with_spaces_at_the_end(rt: HostRuntime) -> Result<(), Fail> {
-    let board = read_board(ROLL).ok_or("a board")?;
-    let own = Some(Event::Own(board));
-    let rows: [(&[u8], Option<Event<'_>>); 3] = [(b"", own), (b"  ", own), (b"  \r", None)];
-    for (end, wanted) in rows {
-        let line = line_with(b"own ", ROLL, end);
-        assert_eq!(rt; read_event(&line), wanted, "{end:?} at the end");
-    }
-    Ok(())
+fn plays_are_clicked_in_own_numbers(rt: HostRuntime) {
+    assert_clicks(&rt, b"click move", &[]);
+    assert_clicks(&rt, b"click move bar-20 6-off", &[(25, 20), (6, 0)]);
+}
+
+#[test]
+fn boards_are_owned_with_spaces_at_the_end(rt: HostRuntime) {
+    let own = Event::Own(read_board(ROLL).expect(&rt, "it is a board"));
+    assert_says(&rt, &line_with(b"own ", ROLL, b""), own);
+    assert_says(&rt, &line_with(b"own ", ROLL, b"  "), own);
+    let line = line_with(b"own ", ROLL, b"  \r");
+    assert!(rt; read_event(&line).is_none(), "a return at the end");
 }
 
 /// The first line of a script, what follows it, and the number of the first line that is unreadable, if there is one.
@@ -190,15 +194,17 @@ static SCRIPTS: [(&[u8], &[u8], Option<usize>); 18] = [
     (b"open", b"\n", Some(1)),
 ];
 
+/// Asserts which line of a script is the first that is unreadable.
+fn assert_first_unreadable(rt: &impl Abort, first: &[u8], after: &[u8], number: Option<usize>) {
+    let script = line_with(first, after, b"");
+    let found = first_unreadable(&script);
+    assert_eq!(rt; found, number, "{after:?} after {first:?}");
+}
+
 #[test]
 fn the_first_unreadable_line_is_named(rt: HostRuntime) {
     for (first, after, number) in &SCRIPTS {
-        let script = line_with(first, after, b"");
-        assert_eq!(rt;
-            first_unreadable(&script),
-            *number,
-            "{after:?} after {first:?}"
-        );
+        assert_first_unreadable(&rt, first, after, *number);
     }
 }
 
@@ -209,15 +215,15 @@ fn line_of(entry: &Entry) -> Portion {
     text
 }
 
-#[test]
-fn entries_without_a_board(rt: HostRuntime) {
-    let decision = Decision::Roll;
-    let rows: [(Entry, &[u8]); 12] = [
+/// The largest number of a connection.
+const MOST: usize = 18_446_744_073_709_551_615;
+
+/// Entries without a board, and their lines.
+fn entries() -> [(Entry, &'static [u8]); 9] {
+    [
         (Entry::Opened { conn: 1 }, b"opened 1\n"),
         (
-            Entry::Opened {
-                conn: 18_446_744_073_709_551_615,
-            },
+            Entry::Opened { conn: MOST },
             b"opened 18446744073709551615\n",
         ),
         (Entry::LoggedIn { conn: 12 }, b"loggedin 12\n"),
@@ -238,30 +244,6 @@ fn entries_without_a_board(rt: HostRuntime) {
             },
             b"informed 1 1 0\n",
         ),
-        (
-            Entry::Clicked {
-                conn: 1,
-                decision,
-                answer: Ok(()),
-            },
-            b"clicked 1 ok\n",
-        ),
-        (
-            Entry::Clicked {
-                conn: 0,
-                decision,
-                answer: Err(Refusal::Offline),
-            },
-            b"clicked 0 Offline\n",
-        ),
-        (
-            Entry::Clicked {
-                conn: 18_446_744_073_709_551_615,
-                decision,
-                answer: Err(Refusal::AlreadyOrdered),
-            },
-            b"clicked 18446744073709551615 AlreadyOrdered\n",
-        ),
         (Entry::Ordered { conn: 1 }, b"ordered 1\n"),
         (Entry::Withdrawn { conn: 12 }, b"withdrawn 12\n"),
         (
@@ -271,9 +253,43 @@ fn entries_without_a_board(rt: HostRuntime) {
             },
             b"lost 1\n",
         ),
-    ];
-    for (entry, wanted) in &rows {
-        assert_eq!(rt; line_of(entry).as_slice(), *wanted);
+    ]
+}
+
+/// The number of a connection, the answer to a click on it, and the line.
+static ANSWERS: [(usize, Result<(), Refusal>, &[u8]); 3] = [
+    (1, Ok(()), b"clicked 1 ok\n"),
+    (0, Err(Refusal::Offline), b"clicked 0 Offline\n"),
+    (
+        MOST,
+        Err(Refusal::AlreadyOrdered),
+        b"clicked 18446744073709551615 AlreadyOrdered\n",
+    ),
+];
+
+/// Asserts that the line of an entry is this word, the board and the end.
+fn assert_line(rt: &impl Abort, entry: &Entry, word: &[u8], board: &[u8], end: &[u8]) {
+    let wanted = line_with(word, board, end);
+    assert_eq!(rt; line_of(entry).as_slice(), wanted.as_slice());
+}
+
+/// Asserts the line of a click.
+fn assert_answered(rt: &impl Abort, conn: usize, answer: Result<(), Refusal>, wanted: &[u8]) {
+    let clicked = Entry::Clicked {
+        conn,
+        decision: Decision::Roll,
+        answer,
+    };
+    assert_line(rt, &clicked, wanted, b"", b"");
+}
+
+#[test]
+fn entries_without_a_board(rt: HostRuntime) {
+    for (entry, wanted) in &entries() {
+        assert_line(&rt, entry, wanted, b"", b"");
+    }
+    for (conn, answer, wanted) in &ANSWERS {
+        assert_answered(&rt, *conn, *answer, wanted);
     }
 }
 
@@ -290,15 +306,16 @@ fn line_with(word: &[u8], board: &[u8], end: &[u8]) -> ArrayVec<u8, 512> {
     line
 }
 
-#[test]
-fn entries_with_a_board(rt: HostRuntime) -> Result<(), Fail> {
-    let board = read_board(ROLL).ok_or("a board")?;
+/// Entries with a board whose decision is to roll, and what is before and after it in their lines.
+fn entries_of(board: Board) -> [(Entry, &'static [u8], &'static [u8]); 4] {
     let decision = Decision::Roll;
-    let rows: [(Entry, &[u8], &[u8]); 4] = [
-        (Entry::Shown { conn: 1, board }, b"shown 1 ", b"\n"),
+    let unconfirmed = Some(Outstanding { board, decision });
+    let conn = 1;
+    [
+        (Entry::Shown { conn, board }, b"shown 1 ", b"\n"),
         (
             Entry::Sent {
-                conn: 1,
+                conn,
                 board,
                 decision,
             },
@@ -307,7 +324,7 @@ fn entries_with_a_board(rt: HostRuntime) -> Result<(), Fail> {
         ),
         (
             Entry::Took {
-                conn: 1,
+                conn,
                 board,
                 decision,
             },
@@ -317,60 +334,66 @@ fn entries_with_a_board(rt: HostRuntime) -> Result<(), Fail> {
         (
             Entry::Lost {
                 conn: 2,
-                unconfirmed: Some(Outstanding { board, decision }),
+                unconfirmed,
             },
             b"lost 2 ",
             b" roll\n",
         ),
-    ];
-    for (entry, word, end) in &rows {
-        assert_eq!(rt;
-            line_of(entry).as_slice(),
-            line_with(word, ROLL, end).as_slice()
-        );
-    }
-    Ok(())
+    ]
 }
 
 #[test]
-fn commands_are_in_the_numbers_of_their_own_board(rt: HostRuntime) -> Result<(), Fail> {
-    let board = read_board(UP).ok_or("a board")?;
-    let play = play_of(&[(20, 17), (17, 14), (14, 11)]).ok_or("a play")?;
-    let undone = Entry::Undone {
-        conn: 3,
-        board,
-        decision: Decision::Move(play),
-    };
-    let wanted = line_with(b"undone 3 ", UP, b" move 5-8 8-11 11-14\n");
-    assert_eq!(rt; line_of(&undone).as_slice(), wanted.as_slice());
-    Ok(())
+fn entries_with_a_board(rt: HostRuntime) {
+    let board = read_board(ROLL).expect(&rt, "it is a board");
+    for (entry, word, end) in &entries_of(board) {
+        assert_line(&rt, entry, word, ROLL, end);
+    }
 }
 
-/// Whether a script of so many bytes is read whole, in reads of at most `most` bytes. A read after them fails as
-/// `after` says.
-fn is_read(alloc: Global, length: usize, most: usize, after: After) -> Result<Option<bool>, Fail> {
-    let mut bytes = Vec::new(alloc);
-    for _ in 0..length {
-        bytes.push(b'a')?;
+#[test]
+fn commands_are_in_the_numbers_of_their_own_board(rt: HostRuntime) {
+    let steps = [(20, 17), (17, 14), (14, 11)];
+    let undone = Entry::Undone {
+        conn: 3,
+        board: read_board(UP).expect(&rt, "it is a board"),
+        decision: Decision::Move(play_of(&steps).expect(&rt, "it is a play")),
+    };
+    assert_line(&rt, &undone, b"undone 3 ", UP, b" move 5-8 8-11 11-14\n");
+}
+
+/// Whether these bytes are read as a script, in reads of at most `most`. A read after them fails as `after` says.
+fn is_read(
+    alloc: Global,
+    bytes: &[u8],
+    most: usize,
+    after: After,
+) -> Result<Option<bool>, EngineFault> {
+    let mut reader = Pipe::new(bytes, most, after, 0);
+    match read_script(alloc, &mut [0; 1024], &mut reader)? {
+        Some(script) => Ok(Some(script.as_slice() == bytes)),
+        None => Ok(None),
     }
-    let mut reader = Pipe::new(bytes.as_slice(), most, after, 0);
-    let script = read_script(alloc, &mut [0; 1024], &mut reader)
-        .ok()
-        .ok_or("read")?;
-    Ok(script.map(|script| script == bytes))
+}
+
+/// Asserts whether a script of so many bytes is read whole.
+fn assert_read(
+    rt: &(impl Abort + AllocGlobal),
+    length: usize,
+    most: usize,
+    after: After,
+    wanted: Option<bool>,
+) -> Result<(), AllocError> {
+    let bytes = Vec::from_elem(rt.alloc(), b'a', length)?;
+    let read = is_read(rt.alloc(), &bytes, most, after);
+    assert_eq!(rt; read, Ok(wanted), "{length} bytes, at most {most} at once");
+    Ok(())
 }
 
 /// As many bytes as may be are read. If there is one more, nothing is read after it.
 #[test]
 fn a_script_is_read_up_to_its_limit(rt: HostRuntime) -> Result<(), Fail> {
-    let rows = [
-        (1_048_576, 1000, After::End, Some(true)),
-        (1_048_576, 2000, After::End, Some(true)),
-        (1_048_577, 1000, FAULT, None),
-    ];
-    for (length, most, after, wanted) in rows {
-        let read = is_read(rt.alloc(), length, most, after)?;
-        assert_eq!(rt; read, wanted, "{length} bytes, at most {most} at once");
-    }
+    assert_read(&rt, 1_048_576, 1000, After::End, Some(true))?;
+    assert_read(&rt, 1_048_576, 2000, After::End, Some(true))?;
+    assert_read(&rt, 1_048_577, 1000, FAULT, None)?;
     Ok(())
 }
