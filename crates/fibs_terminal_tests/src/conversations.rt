@@ -1,13 +1,13 @@
 //! Conversations, and what a terminal shows of them.
 
-use crate::lines::{FIRST_BOARD, MOVED, POINT_MADE, SETTINGS, TO_MOVE, TO_ROLL, WELCOME};
+use crate::lines::{MOVED, POINT_MADE, SETTINGS, TO_MOVE, TO_ROLL, WELCOME};
 use crate::seats::{
-    Step, assert_ends, assert_has, colour_settings, plain_settings, show_on, shown,
+    Scene, Step, assert_has, assert_scenes, assert_shows, colour_settings, plain_settings, show_on,
+    shown,
 };
 use arrayvec::ArrayVec;
 use fibs_environment::Settings;
 use std::alloc::Global;
-use std::test::Fail;
 
 /// What a turn shows after the first messages: one picture, and a row for each other thing.
 const TURN: &str = "Welcome, ann. Last login: 30 December 2002, 12:58, from localhost.
@@ -57,14 +57,12 @@ static TURN_STEPS: [Step<'static>; 16] = [
 ];
 
 #[test]
-fn a_turn_shows_one_picture(rt: HostRuntime) -> Result<(), Fail> {
-    let text = shown(rt.alloc(), plain_settings(), &[], &TURN_STEPS)?;
-    assert_eq!(rt; str::from_utf8(text.as_slice())?, TURN);
-    Ok(())
+fn a_turn_shows_one_picture(rt: HostRuntime) {
+    assert_shows(&rt, plain_settings(), &TURN_STEPS, TURN);
 }
 
 /// What is sent and changes nothing, and the last rows that are shown then.
-static UNCHANGED: [(&[Step<'static>], &str); 4] = [
+static UNCHANGED: [Scene; 4] = [
     (
         &[
             Step::Types(b"roll"),
@@ -106,15 +104,12 @@ static UNCHANGED: [(&[Step<'static>], &str); 4] = [
 ];
 
 #[test]
-fn what_changes_nothing_is_sent_again(rt: HostRuntime) -> Result<(), Fail> {
-    for (steps, rows) in &UNCHANGED {
-        assert_ends(&rt, plain_settings(), &FIRST_BOARD, steps, rows)?;
-    }
-    Ok(())
+fn what_changes_nothing_is_sent_again(rt: HostRuntime) {
+    assert_scenes(&rt, plain_settings(), &UNCHANGED);
 }
 
 /// Connections that come and go, and the last rows that are shown then.
-static CONNECTIONS: [(&[Step<'static>], &str); 4] = [
+static CONNECTIONS: [Scene; 4] = [
     (
         &[
             Step::Loses,
@@ -148,15 +143,12 @@ static CONNECTIONS: [(&[Step<'static>], &str); 4] = [
 ];
 
 #[test]
-fn connections_come_and_go(rt: HostRuntime) -> Result<(), Fail> {
-    for (steps, rows) in &CONNECTIONS {
-        assert_ends(&rt, plain_settings(), &FIRST_BOARD, steps, rows)?;
-    }
-    Ok(())
+fn connections_come_and_go(rt: HostRuntime) {
+    assert_scenes(&rt, plain_settings(), &CONNECTIONS);
 }
 
 /// Lines that are typed, and the last rows that are shown then.
-static TYPED: [(&[Step<'static>], &str); 7] = [
+static TYPED: [Scene; 7] = [
     (
         &[
             Step::Hears(b"bob wants to resign. You will win 1 point.\r\n"),
@@ -186,15 +178,12 @@ static TYPED: [(&[Step<'static>], &str); 7] = [
 ];
 
 #[test]
-fn typed_lines_are_answered(rt: HostRuntime) -> Result<(), Fail> {
-    for (steps, rows) in &TYPED {
-        assert_ends(&rt, plain_settings(), &FIRST_BOARD, steps, rows)?;
-    }
-    Ok(())
+fn typed_lines_are_answered(rt: HostRuntime) {
+    assert_scenes(&rt, plain_settings(), &TYPED);
 }
 
 /// Lines of the server among others, and the last rows that are shown then.
-static HEARD: [(&[Step<'static>], &str); 3] = [
+static HEARD: [Scene; 3] = [
     (
         &[
             Step::Types(b"gag bob"),
@@ -231,11 +220,8 @@ dave                      900.05    ready
 ];
 
 #[test]
-fn lines_of_the_server_are_shown(rt: HostRuntime) -> Result<(), Fail> {
-    for (steps, rows) in &HEARD {
-        assert_ends(&rt, plain_settings(), &FIRST_BOARD, steps, rows)?;
-    }
-    Ok(())
+fn lines_of_the_server_are_shown(rt: HostRuntime) {
+    assert_scenes(&rt, plain_settings(), &HEARD);
 }
 
 /// Rows of a picture of 60 columns, in bold: dice of the player's, his checkers, and the cube.
@@ -246,13 +232,13 @@ static BOLD_ROWS: [&str; 3] = [
 ];
 
 #[test]
-fn what_is_the_players_is_bold(rt: HostRuntime) -> Result<(), Fail> {
+fn what_is_the_players_is_bold(rt: HostRuntime) {
     let settings = Settings {
         columns: 60,
         ..colour_settings()
     };
     let steps = [Step::Hears(WELCOME), Step::Hears(TO_MOVE)];
-    assert_has(&rt, settings, &steps, &BOLD_ROWS)
+    assert_has(&rt, settings, &steps, &BOLD_ROWS);
 }
 
 /// Rows of the upper half after the opponent's move: the two checkers that have come to 20 are marked.
@@ -270,11 +256,10 @@ static LAST_MOVE: [Step<'static>; 4] = [
 ];
 
 #[test]
-fn the_opponents_last_move_is_marked(rt: HostRuntime) -> Result<(), Fail> {
-    assert_has(&rt, colour_settings(), &LAST_MOVE, &MARKED_ROWS)?;
-    let plain = shown(rt.alloc(), plain_settings(), &[], &LAST_MOVE)?;
-    assert!(rt; !plain.as_slice().contains(&b'\x1b'));
-    Ok(())
+fn the_opponents_last_move_is_marked(rt: HostRuntime) {
+    assert_has(&rt, colour_settings(), &LAST_MOVE, &MARKED_ROWS);
+    let plain = shown(&rt, plain_settings(), &[], &LAST_MOVE);
+    assert!(rt; !plain.as_bytes().contains(&b'\x1b'));
 }
 
 /// A conversation in which each kind of text is made.

@@ -5,10 +5,10 @@ use fibs_front::front::Front;
 use fibs_front::words::Words;
 use fibs_session::{Client, Directory, Login};
 use fibs_terminal::Terminal;
+use std::alloc::Global;
 use std::cell::Cell;
 use std::io;
 use std::io::{ErrorKind, Write};
-use std::process::Abort;
 
 /// A writer that counts its flushes, each of which may fail.
 #[derive(Drop)]
@@ -33,25 +33,28 @@ impl Write for Screen<'_> {
 
 /// Whether each of two calls failed, and how often the screen was flushed after it: before the server is waited for,
 /// and before the user types.
-fn flushed(rt: &(impl Abort + AllocGlobal), fails: bool) -> [(bool, u32); 2] {
-    let login = Login::new(b"ann", b"secret").expect(rt, "it is a login");
-    let client = Client::new(login);
-    let directory = Directory::new(rt.alloc());
+fn flushed(alloc: Global, client: &Client, fails: bool) -> [(bool, u32); 2] {
+    let directory = Directory::new(alloc);
     let flushes = Cell::new(0);
     let screen = Screen {
         flushes: &flushes,
         fails,
     };
-    let mut terminal = Terminal::new(rt.alloc(), screen, Stopped, plain_settings());
+    let mut terminal = Terminal::new(alloc, screen, Stopped, plain_settings());
     let flush = (terminal.flush().is_err(), flushes.get());
-    let rest = (terminal.rest(&client, &directory).is_err(), flushes.get());
+    let rest = (terminal.rest(client, &directory).is_err(), flushes.get());
     [flush, rest]
 }
 
 /// Before the server is waited for, and before the user types; and a flush that fails is not overlooked.
 #[test]
 fn a_terminal_shows_what_it_was_told(rt: HostRuntime) {
+    let login = Login::new(b"ann", b"secret").expect(&rt, "it is a login");
+    let client = Client::new(login);
     for fails in [false, true] {
-        assert_eq!(rt; flushed(&rt, fails), [(fails, 1), (fails, 2)]);
+        assert_eq!(rt;
+            flushed(rt.alloc(), &client, fails),
+            [(fails, 1), (fails, 2)]
+        );
     }
 }

@@ -1,9 +1,9 @@
 //! What a reader gives if the server speaks.
 
+use arrayvec::ArrayVec;
 use fibs_watch::{First, TypedOrHeard, Watch};
-use std::alloc::Global;
 use std::io::Read;
-use std::test::Fail;
+use std::process::Abort;
 
 /// When the server comes first.
 #[derive(Clone, Copy)]
@@ -26,18 +26,18 @@ impl Watch for Server {
 }
 
 /// What is read of a text, in reads of at most three bytes.
-fn given(alloc: Global, text: &[u8], watch: Option<Server>) -> Result<Vec<u8>, Fail> {
+fn given(rt: &impl Abort, text: &[u8], watch: Option<Server>) -> ArrayVec<u8, 90> {
     let mut reader = TypedOrHeard::new(text, watch);
-    let mut given = Vec::new(alloc);
+    let mut given = ArrayVec::new();
     let mut room = [0u8; 3];
     for _ in 0..30 {
-        let count = reader.read(&mut room)?;
+        let count = reader.read(&mut room).expect(rt, "it is read");
         if count == 0 {
             break;
         }
-        given.extend_from_slice(&room[..count])?;
+        let _fits = given.try_extend_from_slice(&room[..count]);
     }
-    Ok(given)
+    given
 }
 
 /// What is typed, when the server speaks, and what is read: an empty line is put in each time that the server speaks,
@@ -53,10 +53,8 @@ static ROWS: [(&[u8], Option<Server>, &[u8]); 3] = [
 ];
 
 #[test]
-fn an_empty_line_is_put_in_where_the_server_speaks(rt: HostRuntime) -> Result<(), Fail> {
+fn an_empty_line_is_put_in_where_the_server_speaks(rt: HostRuntime) {
     for (text, server, wanted) in &ROWS {
-        let given = given(rt.alloc(), text, *server)?;
-        assert_eq!(rt; given.as_slice(), *wanted, "{text:?}");
+        assert_eq!(rt; given(&rt, text, *server).as_slice(), *wanted, "{text:?}");
     }
-    Ok(())
 }

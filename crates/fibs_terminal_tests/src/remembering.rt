@@ -1,10 +1,9 @@
 //! What a terminal remembers, and for how long.
 
 use crate::lines::{FIRST_BOARD, MOVED, POINT_MADE, TO_MOVE, TO_ROLL, WELCOME};
-use crate::seats::{Step, assert_ends, colour_settings, plain_settings, shown};
+use crate::seats::{Scene, Step, assert_scenes, colour_settings, plain_settings, shown};
 use fibs_environment::Settings;
 use std::process::Abort;
-use std::test::Fail;
 
 /// The first board against another opponent.
 const WITH_CAROL: &[u8] =
@@ -46,7 +45,7 @@ fn bell_settings() -> Settings<'static> {
 }
 
 /// Of a connection that is lost nothing is said, and of one before it neither.
-static LOST: [(&[Step<'static>], &str); 3] = [
+static LOST: [Scene; 3] = [
     (
         &[Step::Hears(RESIGNS), Step::Loses, Step::Rests],
         "point.\n\x07lost: open connects again, quit ends\n",
@@ -67,15 +66,12 @@ static LOST: [(&[Step<'static>], &str); 3] = [
 ];
 
 #[test]
-fn what_was_said_before_a_loss_is_forgotten(rt: HostRuntime) -> Result<(), Fail> {
-    for (steps, rows) in &LOST {
-        assert_ends(&rt, bell_settings(), &FIRST_BOARD, steps, rows)?;
-    }
-    Ok(())
+fn what_was_said_before_a_loss_is_forgotten(rt: HostRuntime) {
+    assert_scenes(&rt, bell_settings(), &LOST);
 }
 
 /// A board is drawn again, and nobody was waited for.
-static DRAWN_AGAIN: [(&[Step<'static>], &str); 2] = [
+static DRAWN_AGAIN: [Scene; 2] = [
     (
         &[
             Step::Loses,
@@ -111,29 +107,23 @@ static DRAWN_AGAIN: [(&[Step<'static>], &str); 2] = [
 ];
 
 #[test]
-fn a_board_is_drawn_again(rt: HostRuntime) -> Result<(), Fail> {
-    for (steps, rows) in &DRAWN_AGAIN {
-        assert_ends(&rt, bell_settings(), &FIRST_BOARD, steps, rows)?;
-    }
-    Ok(())
+fn a_board_is_drawn_again(rt: HostRuntime) {
+    assert_scenes(&rt, bell_settings(), &DRAWN_AGAIN);
 }
 
 /// An offer to resign is said once.
-static RESIGNED: [(&[Step<'static>], &str); 1] = [(
+static RESIGNED: [Scene; 1] = [(
     &[Step::Hears(RESIGNS), Step::Rests, Step::Rests],
     "Your turn: roll, or double.\n\x07bob wants to resign. You will win 1 point.\nbob offers to resign: send accept, or send reject.\n",
 )];
 
 #[test]
-fn an_offer_to_resign_is_said_once(rt: HostRuntime) -> Result<(), Fail> {
-    for (steps, rows) in &RESIGNED {
-        assert_ends(&rt, bell_settings(), &FIRST_BOARD, steps, rows)?;
-    }
-    Ok(())
+fn an_offer_to_resign_is_said_once(rt: HostRuntime) {
+    assert_scenes(&rt, bell_settings(), &RESIGNED);
 }
 
 /// What is quiet, and whose words are kept.
-static QUIET: [(&[Step<'static>], &str); 3] = [
+static QUIET: [Scene; 3] = [
     (
         &[
             Step::Types(b"quiet"),
@@ -169,15 +159,12 @@ static QUIET: [(&[Step<'static>], &str); 3] = [
 ];
 
 #[test]
-fn what_is_quiet_is_not_shown(rt: HostRuntime) -> Result<(), Fail> {
-    for (steps, rows) in &QUIET {
-        assert_ends(&rt, bell_settings(), &FIRST_BOARD, steps, rows)?;
-    }
-    Ok(())
+fn what_is_quiet_is_not_shown(rt: HostRuntime) {
+    assert_scenes(&rt, bell_settings(), &QUIET);
 }
 
 /// The bell: at a turn after the opponent's, at a loss, at a message that was left; not at the opponent's turn.
-static RUNG: [(&[Step<'static>], &str); 4] = [
+static RUNG: [Scene; 4] = [
     (
         &[Step::Hears(MOVED)],
         "Your turn: roll, or double.\nbob's turn.\n",
@@ -197,15 +184,12 @@ static RUNG: [(&[Step<'static>], &str); 4] = [
 ];
 
 #[test]
-fn the_bell_rings(rt: HostRuntime) -> Result<(), Fail> {
-    for (steps, rows) in &RUNG {
-        assert_ends(&rt, bell_settings(), &FIRST_BOARD, steps, rows)?;
-    }
-    Ok(())
+fn the_bell_rings(rt: HostRuntime) {
+    assert_scenes(&rt, bell_settings(), &RUNG);
 }
 
 /// What the server says of a roll is no answer that leaves it undone; the same board is one, each time that it comes.
-static ANSWERED: [(&[Step<'static>], &str); 2] = [
+static ANSWERED: [Scene; 2] = [
     (
         &[
             Step::Types(b"roll"),
@@ -229,15 +213,12 @@ static ANSWERED: [(&[Step<'static>], &str); 2] = [
 ];
 
 #[test]
-fn a_roll_is_answered_by_what_the_server_says(rt: HostRuntime) -> Result<(), Fail> {
-    for (steps, rows) in &ANSWERED {
-        assert_ends(&rt, bell_settings(), &FIRST_BOARD, steps, rows)?;
-    }
-    Ok(())
+fn a_roll_is_answered_by_what_the_server_says(rt: HostRuntime) {
+    assert_scenes(&rt, bell_settings(), &ANSWERED);
 }
 
 /// A board of another opponent is drawn; one that was asked for is drawn once; what it says is said once.
-static BOARDS: [(&[Step<'static>], &str); 5] = [
+static BOARDS: [Scene; 5] = [
     (
         &[Step::Hears(WITH_CAROL)],
         "   O You\n You roll, or double, or resign.\n",
@@ -288,15 +269,12 @@ bob's turn.\n",
 ];
 
 #[test]
-fn a_board_is_shown_once(rt: HostRuntime) -> Result<(), Fail> {
-    for (steps, rows) in &BOARDS {
-        assert_ends(&rt, bell_settings(), &FIRST_BOARD, steps, rows)?;
-    }
-    Ok(())
+fn a_board_is_shown_once(rt: HostRuntime) {
+    assert_scenes(&rt, bell_settings(), &BOARDS);
 }
 
 /// The rule that a move breaks is that of the last one.
-static MOVES: [(&[Step<'static>], &str); 1] = [(
+static MOVES: [Scene; 1] = [(
     &[
         Step::Types(b"roll"),
         Step::Hears(TO_MOVE),
@@ -308,15 +286,12 @@ static MOVES: [(&[Step<'static>], &str); 1] = [(
 )];
 
 #[test]
-fn the_rule_is_that_of_the_last_move(rt: HostRuntime) -> Result<(), Fail> {
-    for (steps, rows) in &MOVES {
-        assert_ends(&rt, bell_settings(), &FIRST_BOARD, steps, rows)?;
-    }
-    Ok(())
+fn the_rule_is_that_of_the_last_move(rt: HostRuntime) {
+    assert_scenes(&rt, bell_settings(), &MOVES);
 }
 
 /// Each list is counted anew, and a player who comes alone is in a row.
-static LISTS: [(&[Step<'static>], &str); 2] = [
+static LISTS: [Scene; 2] = [
     (
         &[
             Step::Hears(b"5 bob - - 1 0 1623.45 0 0 1 host - -\r\n"),
@@ -339,11 +314,8 @@ static LISTS: [(&[Step<'static>], &str); 2] = [
 ];
 
 #[test]
-fn each_list_is_counted_anew(rt: HostRuntime) -> Result<(), Fail> {
-    for (steps, rows) in &LISTS {
-        assert_ends(&rt, bell_settings(), &FIRST_BOARD, steps, rows)?;
-    }
-    Ok(())
+fn each_list_is_counted_anew(rt: HostRuntime) {
+    assert_scenes(&rt, bell_settings(), &LISTS);
 }
 
 /// Boards after which nothing was the opponent's last move.
@@ -359,27 +331,29 @@ static UNMARKED: [&[Step<'static>]; 3] = [
     ],
 ];
 
-/// Asserts that the last board that is shown has no mark.
-fn assert_unmarked(rt: &(impl Abort + AllocGlobal), steps: &[Step<'_>]) -> Result<(), Fail> {
-    let text = shown(rt.alloc(), colour_settings(), &FIRST_BOARD, steps)?;
-    let text = str::from_utf8(text.as_slice())?;
-    let last = match text.rsplit_once("here again") {
+/// What follows the words `here again` in a text, or all of it if they are not there.
+fn last_of(text: &str) -> &str {
+    match text.rsplit_once("here again") {
         Some((_, last)) => last,
         None => text,
-    };
+    }
+}
+
+/// Asserts that the last board that is shown has no mark.
+fn assert_unmarked(rt: &(impl Abort + AllocGlobal), steps: &[Step<'_>]) {
+    let text = shown(rt, colour_settings(), &FIRST_BOARD, steps);
+    let last = last_of(&text);
     assert!(rt;
         last.contains("O You") && !last.contains("\x1b[35m"),
         "{last}"
     );
-    Ok(())
 }
 
 #[test]
-fn what_is_no_last_move_is_not_marked(rt: HostRuntime) -> Result<(), Fail> {
+fn what_is_no_last_move_is_not_marked(rt: HostRuntime) {
     for steps in &UNMARKED {
-        assert_unmarked(&rt, steps)?;
+        assert_unmarked(&rt, steps);
     }
-    Ok(())
 }
 
 /// The width of the widest row of a picture in a text.
@@ -395,17 +369,11 @@ fn widest_row(text: &str) -> usize {
 
 /// No row of a picture is wider than the terminal.
 #[test]
-fn a_picture_is_cut_to_the_columns(rt: HostRuntime) -> Result<(), Fail> {
+fn a_picture_is_cut_to_the_columns(rt: HostRuntime) {
     let settings = Settings {
         columns: 60,
         ..plain_settings()
     };
-    let text = shown(
-        rt.alloc(),
-        settings,
-        &FIRST_BOARD,
-        &[Step::Hears(LONG_NAME)],
-    )?;
-    assert_eq!(rt; widest_row(str::from_utf8(text.as_slice())?), 60);
-    Ok(())
+    let text = shown(&rt, settings, &FIRST_BOARD, &[Step::Hears(LONG_NAME)]);
+    assert_eq!(rt; widest_row(&text), 60);
 }

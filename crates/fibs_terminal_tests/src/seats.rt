@@ -1,5 +1,6 @@
 //! A client and a terminal, to which a server's lines and typed lines are given.
 
+use crate::lines::FIRST_BOARD;
 use fibs_environment::Settings;
 use fibs_front::fault::FrontFault;
 use fibs_front::front::Front;
@@ -9,14 +10,13 @@ use fibs_front::wish::Wish;
 use fibs_front::words::Words;
 use fibs_messages::Reading;
 use fibs_position::phase_of;
-use fibs_session::{Client, CommandText, Directory, Login};
+use fibs_session::{Client, Directory, Login, Taken};
 use fibs_terminal::Terminal;
 use fibs_typed::typed_line::TypedLine;
 use std::alloc::Global;
 use std::io;
 use std::io::{ErrorKind, Write};
 use std::process::Abort;
-use std::test::Fail;
 use std::time::{Clock, Duration};
 
 /// A clock that stands still, at 13:07 on 5 January 2003.
@@ -63,118 +63,145 @@ pub fn plain_settings() -> Settings<'static> {
     }
 }
 
-/// Tells what the server says by a line.
-fn hear<F: Front>(
-    client: &mut Client,
+/// A client, and the players that it knows.
+#[derive(Drop)]
+struct Seat {
+    client: Client,
+    directory: Directory,
+}
+
+impl Seat {
+    /// The seat of a user who is connected.
+    fn new(alloc: Global) -> Option<Seat> {
+        let mut client = Client::new(Login::new(b"ann", b"secret").ok()?);
+        let _login = client.open();
+        let directory = Directory::new(alloc);
+        Some(Seat { client, directory })
+    }
+
+    /// Tells what the server says by a line.
+    fn hear<F: Front>(&mut self, line: &[u8], front: &mut F) -> Result<(), FrontFault> {
+        let heard = self.client.read(line);
+        match self.client.got(heard).taken {
+            Some(taken) => tell_taken(&mut self.directory, &taken, front),
+            None => Ok(()),
+        }
+    }
+
+    /// Gives a line to the client, and tells what it answers.
+    fn say<F: Front>(&mut self, line: &[u8], front: &mut F) -> Result<(), FrontFault> {
+        match read_typed(&self.client, line) {
+            Typed::Decision(decision) => match self.client.decide(&decision) {
+                Ok(command) => front.tell(&Said::Sent(&command)),
+                Err(why) => front.tell(&Said::Refused(why)),
+            },
+            Typed::Plain(plain) => match self.client.plain(&plain) {
+                Ok(command) => front.tell(&Said::Sent(&command)),
+                Err(why) => front.tell(&Said::NotSent(why)),
+            },
+            Typed::Order | Typed::Withdrawal => Ok(()),
+            Typed::Unknown => front.tell(&Said::Unknown),
+        }
+    }
+
+    /// Takes a line that is typed.
+    fn take_line<F: Words>(&mut self, line: &[u8], front: &mut F) -> Result<(), FrontFault> {
+        let mut typed = TypedLine::new();
+        let _fits = typed.try_extend_from_slice(line);
+        match front.wish(&self.client, &self.directory, &mut typed)? {
+            Wish::Say => self.say(typed.as_slice(), front),
+            Wish::Send => front.tell(&Said::Passed(typed.as_slice())),
+            Wish::Open
+            | Wish::Players
+            | Wish::Quit
+            | Wish::TooLong
+            | Wish::Listen
+            | Wish::Answered => Ok(()),
+        }
+    }
+
+    /// Takes a step.
+    fn take_step<F: Words>(&mut self, step: Step<'_>, front: &mut F) -> Result<(), FrontFault> {
+        match step {
+            Step::Hears(line) => self.hear(line, front),
+            Step::Types(line) => self.take_line(line, front),
+            Step::Rests => front.rest(&self.client, &self.directory),
+            Step::Opens => {
+                let _login = self.client.open();
+                front.tell(&Said::Opened)
+            }
+            Step::Fails => front.tell(&Said::NoConnection(ErrorKind::ConnectionRefused)),
+            Step::Loses => front.tell(&Said::Lost(&self.client.lose())),
+        }
+    }
+
+    /// Takes steps one after another.
+    fn take_steps<F: Words>(
+        &mut self,
+        steps: &[Step<'_>],
+        front: &mut F,
+    ) -> Result<(), FrontFault> {
+        for step in steps {
+            self.take_step(*step, front)?;
+        }
+        Ok(())
+    }
+
+    /// Takes some steps, and those after them.
+    fn take_both<F: Words>(
+        &mut self,
+        before: &[Step<'_>],
+        steps: &[Step<'_>],
+        front: &mut F,
+    ) -> Result<(), FrontFault> {
+        self.take_steps(before, front)?;
+        self.take_steps(steps, front)
+    }
+}
+
+/// Tells what was taken of a line.
+fn tell_taken<F: Front>(
     directory: &mut Directory,
-    line: &[u8],
+    taken: &Taken<'_>,
     front: &mut F,
 ) -> Result<(), FrontFault> {
-    let heard = client.read(line);
-    let got = client.got(heard);
-    let Some(taken) = got.taken else {
-        return Ok(());
-    };
     front.tell(&Said::Heard(&taken.line, &taken.reading))?;
-    if let Reading::Board(board) = &taken.reading {
-        if let Some(phase) = phase_of(board) {
-            front.tell(&Said::Phase(phase))?;
-        }
-    }
-    if let Reading::Numbered(message) = &taken.reading {
-        directory.note(message).map_err(|_| FrontFault::Output)?;
-    }
-    if let Some(asked) = &taken.confirmed {
-        front.tell(&Said::Confirmed(asked))?;
-    }
-    Ok(())
-}
-
-/// Tells that a command was sent.
-fn tell_sent<F: Front>(command: &CommandText, front: &mut F) -> Result<(), FrontFault> {
-    front.tell(&Said::Sent(command))?;
-    Ok(())
-}
-
-/// Gives a line to the client, and tells what it answers.
-fn say<F: Front>(client: &mut Client, line: &[u8], front: &mut F) -> Result<(), FrontFault> {
-    match read_typed(client, line) {
-        Typed::Decision(decision) => match client.decide(&decision) {
-            Ok(command) => tell_sent(&command, front),
-            Err(why) => Ok(front.tell(&Said::Refused(why))?),
-        },
-        Typed::Plain(plain) => match client.plain(&plain) {
-            Ok(command) => tell_sent(&command, front),
-            Err(why) => Ok(front.tell(&Said::NotSent(why))?),
-        },
-        Typed::Order | Typed::Withdrawal => Ok(()),
-        Typed::Unknown => Ok(front.tell(&Said::Unknown)?),
+    note(directory, &taken.reading, front)?;
+    match &taken.confirmed {
+        Some(asked) => front.tell(&Said::Confirmed(asked)),
+        None => Ok(()),
     }
 }
 
-/// Takes a line that is typed.
-fn take_line<F: Words>(
-    client: &mut Client,
-    directory: &Directory,
-    line: &[u8],
-    front: &mut F,
-) -> Result<(), FrontFault> {
-    let mut typed = TypedLine::new();
-    let _fits = typed.try_extend_from_slice(line);
-    match front.wish(client, directory, &mut typed)? {
-        Wish::Say => say(client, typed.as_slice(), front),
-        Wish::Send => Ok(front.tell(&Said::Passed(typed.as_slice()))?),
-        Wish::Open | Wish::Players | Wish::Quit | Wish::TooLong | Wish::Listen | Wish::Answered =>
-            Ok(()),
-    }
-}
-
-/// Takes a step.
-fn take_step<F: Words>(
-    client: &mut Client,
+/// Tells the phase of a board, and notes a player.
+fn note<F: Front>(
     directory: &mut Directory,
-    step: Step<'_>,
+    reading: &Reading<'_>,
     front: &mut F,
 ) -> Result<(), FrontFault> {
-    match step {
-        Step::Hears(line) => hear(client, directory, line, front),
-        Step::Types(line) => take_line(client, directory, line, front),
-        Step::Rests => Ok(front.rest(client, directory)?),
-        Step::Opens => {
-            let _login = client.open();
-            Ok(front.tell(&Said::Opened)?)
-        }
-        Step::Fails => Ok(front.tell(&Said::NoConnection(ErrorKind::ConnectionRefused))?),
-        Step::Loses => {
-            let waited = client.lose();
-            Ok(front.tell(&Said::Lost(&waited))?)
-        }
+    match reading {
+        Reading::Board(board) => match phase_of(board) {
+            Some(phase) => front.tell(&Said::Phase(phase)),
+            None => Ok(()),
+        },
+        Reading::Numbered(message) => match directory.note(message) {
+            Ok(_) => Ok(()),
+            Err(_) => Err(FrontFault::Output),
+        },
+        _ => Ok(()),
     }
-}
-
-/// Takes steps one after another.
-fn take_steps<F: Words>(
-    client: &mut Client,
-    directory: &mut Directory,
-    steps: &[Step<'_>],
-    front: &mut F,
-) -> Result<(), FrontFault> {
-    for step in steps {
-        take_step(client, directory, *step, front)?;
-    }
-    Ok(())
 }
 
 /// What the screen shows after some steps and those after them, of a user who is connected.
 pub fn shown(
-    alloc: Global,
+    rt: &(impl Abort + AllocGlobal),
     settings: Settings<'_>,
     before: &[Step<'_>],
     steps: &[Step<'_>],
-) -> Result<Vec<u8>, Fail> {
-    let mut shown = Vec::new(alloc);
-    show_on(alloc, settings, before, steps, &mut shown)?;
-    Ok(shown)
+) -> String {
+    let mut shown = Vec::new(rt.alloc());
+    show_on(rt.alloc(), settings, before, steps, &mut shown).expect(rt, "it is shown");
+    String::from_utf8(shown).expect(rt, "it is UTF-8")
 }
 
 /// The same on any writer.
@@ -185,25 +212,21 @@ pub fn show_on<W: Write + Drop>(
     steps: &[Step<'_>],
     out: W,
 ) -> Result<(), FrontFault> {
-    let login = Login::new(b"ann", b"secret").map_err(|_| FrontFault::Output)?;
-    let mut client = Client::new(login);
-    let _login = client.open();
-    let mut directory = Directory::new(alloc);
     let mut terminal = Terminal::new(alloc, out, Stopped, settings);
-    take_steps(&mut client, &mut directory, before, &mut terminal)?;
-    take_steps(&mut client, &mut directory, steps, &mut terminal)
+    match Seat::new(alloc) {
+        Some(mut seat) => seat.take_both(before, steps, &mut terminal),
+        None => Err(FrontFault::Output),
+    }
 }
 
-/// Asserts what the screen shows after a step.
+/// Asserts what the screen shows after some steps.
 pub fn assert_shows(
     rt: &(impl Abort + AllocGlobal),
     settings: Settings<'_>,
-    step: Step<'_>,
+    steps: &[Step<'_>],
     wanted: &str,
-) -> Result<(), Fail> {
-    let text = shown(rt.alloc(), settings, &[], &[step])?;
-    assert_eq!(rt; str::from_utf8(text.as_slice())?, wanted);
-    Ok(())
+) {
+    assert_eq!(rt; shown(rt, settings, &[], steps).as_str(), wanted);
 }
 
 /// Asserts that what the screen shows after some steps and those after them ends by these rows.
@@ -213,11 +236,19 @@ pub fn assert_ends(
     before: &[Step<'_>],
     steps: &[Step<'_>],
     rows: &str,
-) -> Result<(), Fail> {
-    let text = shown(rt.alloc(), settings, before, steps)?;
-    let text = str::from_utf8(text.as_slice())?;
+) {
+    let text = shown(rt, settings, before, steps);
     assert!(rt; text.ends_with(rows), "wanted {rows} after {text}");
-    Ok(())
+}
+
+/// Steps, and the last rows that are shown then.
+pub type Scene = (&'static [Step<'static>], &'static str);
+
+/// Asserts for each scene that what the screen shows from the first board on ends by its rows.
+pub fn assert_scenes(rt: &(impl Abort + AllocGlobal), settings: Settings<'_>, scenes: &[Scene]) {
+    for (steps, rows) in scenes {
+        assert_ends(rt, settings, &FIRST_BOARD, steps, rows);
+    }
 }
 
 /// Asserts that what the screen shows after steps has each of these rows.
@@ -226,13 +257,11 @@ pub fn assert_has(
     settings: Settings<'_>,
     steps: &[Step<'_>],
     rows: &[&str],
-) -> Result<(), Fail> {
-    let text = shown(rt.alloc(), settings, &[], steps)?;
-    let text = str::from_utf8(text.as_slice())?;
+) {
+    let text = shown(rt, settings, &[], steps);
     for row in rows {
         assert!(rt; text.contains(*row), "wanted {row} in {text}");
     }
-    Ok(())
 }
 
 /// The settings of a terminal of 80 columns, with colours.

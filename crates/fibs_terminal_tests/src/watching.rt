@@ -6,7 +6,7 @@ use mio::{Events, Poll};
 use std::alloc::Global;
 use std::io;
 use std::io::{Read, Write};
-use std::net::{Net, SocketAddr, TcpListener, TcpStream};
+use std::net::{IpAddr, Ipv4Addr, Net, SocketAddr, TcpListener, TcpStream};
 use std::os::fd::AsRawFd;
 use std::test::Fail;
 use std::time::Duration;
@@ -14,40 +14,51 @@ use std::time::Duration;
 /// How many seconds a wait takes at most that is to end before.
 const PATIENCE: u64 = 10;
 
-/// Both ends of a new connection: that which the network makes, in at most so long, and that which a listener accepts.
-fn connected<N: Net<Stream = TcpStream, Listener = TcpListener>>(
-    net: &N,
-    most: Option<Duration>,
-) -> io::Result<(TcpStream, TcpStream)> {
-    let listener = TcpListener::bind(net, "127.0.0.1:0")?;
-    let address = listener.local_addr()?;
-    let near = match most {
-        None => TcpStream::connect(net, address)?,
-        Some(most) => TcpStream::connect_timeout(net, &address, most)?,
-    };
-    let (far, _peer) = listener.accept()?;
-    Ok((near, far))
+/// Both ends of a connection: that which a network made, and that which a listener accepted.
+#[derive(Drop)]
+struct Ends {
+    near: TcpStream,
+    far: TcpStream,
 }
 
-/// Writes a byte at one end, which has come to the other then.
-fn arrives(from: &mut TcpStream, to: &TcpStream) -> io::Result<()> {
-    from.write_all(b"x")?;
-    let mut byte = [0u8; 1];
-    let _count = to.peek(&mut byte)?;
-    Ok(())
+impl Ends {
+    /// The ends of a new connection, which the network makes in at most so long.
+    fn new<N: Net<Stream = TcpStream, Listener = TcpListener>>(
+        net: &N,
+        most: Option<Duration>,
+    ) -> io::Result<Ends> {
+        let listener = TcpListener::bind(net, "127.0.0.1:0")?;
+        let near = connected(net, listener.local_addr()?, most)?;
+        let (far, _peer) = listener.accept()?;
+        Ok(Ends { near, far })
+    }
+
+    /// Writes a byte at the far end, which has come to the near one then.
+    fn arrive(&mut self) -> io::Result<()> {
+        self.far.write_all(b"x")?;
+        let _count = self.near.peek(&mut [0u8; 1])?;
+        Ok(())
+    }
+}
+
+/// A connection that the network makes to an address, in at most so long.
+fn connected<N: Net<Stream = TcpStream>>(
+    net: &N,
+    address: SocketAddr,
+    most: Option<Duration>,
+) -> io::Result<TcpStream> {
+    match most {
+        None => TcpStream::connect(net, address),
+        Some(most) => TcpStream::connect_timeout(net, &address, most),
+    }
 }
 
 /// Whether a wait in the set of a network's connections ends by what has come to one of them, and not before.
-fn is_watched(
-    alloc: Global,
-    heard: &mut Poll,
-    near: &TcpStream,
-    far: &mut TcpStream,
-) -> Result<bool, Fail> {
+fn is_watched(alloc: Global, heard: &mut Poll, ends: &mut Ends) -> Result<bool, Fail> {
     let mut events = Events::with_capacity(alloc, 1)?;
     heard.poll(&mut events, Some(Duration::from_secs(0)))?;
     let is_quiet = events.is_empty();
-    arrives(far, near)?;
+    ends.arrive()?;
     heard.poll(&mut events, Some(Duration::from_secs(PATIENCE)))?;
     Ok(is_quiet && !events.is_empty())
 }
@@ -55,8 +66,8 @@ fn is_watched(
 /// Whether a connection that is made, in at most so long, is watched.
 fn is_made_and_watched(rt: &HostRuntime, most: Option<Duration>) -> Result<bool, Fail> {
     let mut heard = Poll::new(rt)?;
-    let (near, mut far) = connected(&WatchedNet::new(rt, heard.registry()), most)?;
-    is_watched(rt.alloc(), &mut heard, &near, &mut far)
+    let mut ends = Ends::new(&WatchedNet::new(rt, heard.registry()), most)?;
+    is_watched(rt.alloc(), &mut heard, &mut ends)
 }
 
 #[test]
@@ -67,38 +78,59 @@ fn a_connection_is_watched(rt: HostRuntime) -> Result<(), Fail> {
     Ok(())
 }
 
-/// Each address of a name is found.
-#[test]
-fn a_watched_network_finds_each_address(rt: HostRuntime) -> Result<(), Fail> {
-    let heard = Poll::new(&rt)?;
-    let first: SocketAddr = "127.0.0.1:1".parse()?;
-    let second: SocketAddr = "127.0.0.1:2".parse()?;
-    let named = Named::new(&rt, [first, second]);
-    let net = WatchedNet::new(&named, heard.registry());
-    let mut found = [first; 3];
-    let count = net.lookup_host("fibs.example", 4321, &mut found)?;
-    assert_eq!(rt; (count, found[1]), (2, second));
-    Ok(())
+/// An address of this machine.
+fn address_of(port: u16) -> SocketAddr {
+    SocketAddr::new(IpAddr::V4(Ipv4Addr::LOCALHOST), port)
 }
 
-/// What comes first of what is typed and what the server sends, if both are ready: at three times, and then after what
-/// is typed was read.
-fn seen_first(rt: &HostRuntime, heard_before: bool) -> Result<[First; 4], Fail> {
-    let heard = Poll::new(rt)?;
-    let (near, mut far) = connected(&WatchedNet::new(rt, heard.registry()), None)?;
-    let (mut typed, mut keys) = connected(rt, None)?;
-    let mut watch = PollWatch::new(rt, rt.alloc(), typed.as_raw_fd(), &heard)?;
-    if heard_before {
-        arrives(&mut far, &near)?;
+/// Each address of a name is found.
+#[test]
+fn a_watched_network_finds_each_address(rt: HostRuntime) {
+    let heard = Poll::new(&rt).expect(&rt, "a set is made");
+    let named = Named::new(&rt, [address_of(1), address_of(2)]);
+    let net = WatchedNet::new(&named, heard.registry());
+    let mut found = [address_of(1); 3];
+    let count = net.lookup_host("fibs.example", 4321, &mut found);
+    assert_eq!(rt; (count.ok(), found[1]), (Some(2), address_of(2)));
+}
+
+/// Lets a byte come to each of two connections, to the first one before the other if it is so wanted.
+fn arrive_at_both(first: &mut Ends, second: &mut Ends, in_order: bool) -> io::Result<()> {
+    if in_order {
+        first.arrive()?;
+        return second.arrive();
     }
-    arrives(&mut keys, &typed)?;
-    if !heard_before {
-        arrives(&mut far, &near)?;
-    }
+    second.arrive()?;
+    first.arrive()
+}
+
+/// What comes first of what is typed and what the server sends: at three times, and then after what is typed was read.
+fn seen_so_far(watch: &mut PollWatch<'_>, typed: &mut TcpStream) -> io::Result<[First; 4]> {
     // it is so as long as it is not read
     let (first, second, third) = (watch.first(), watch.first(), watch.first());
     typed.read_exact(&mut [0u8; 1])?;
     Ok([first, second, third, watch.first()])
+}
+
+/// The same if both are ready, and what is heard is watched with this.
+fn seen_by(
+    rt: &HostRuntime,
+    heard: &Poll,
+    server: &mut Ends,
+    user: &mut Ends,
+    heard_before: bool,
+) -> Result<[First; 4], Fail> {
+    let mut watch = PollWatch::new(rt, rt.alloc(), user.near.as_raw_fd(), heard)?;
+    arrive_at_both(server, user, heard_before)?;
+    Ok(seen_so_far(&mut watch, &mut user.near)?)
+}
+
+/// The same on new connections.
+fn seen_first(rt: &HostRuntime, heard_before: bool) -> Result<[First; 4], Fail> {
+    let heard = Poll::new(rt)?;
+    let mut server = Ends::new(&WatchedNet::new(rt, heard.registry()), None)?;
+    let mut user = Ends::new(rt, None)?;
+    seen_by(rt, &heard, &mut server, &mut user, heard_before)
 }
 
 /// If both are ready, what is typed comes first, whichever of them was ready before the other.
@@ -113,11 +145,11 @@ fn what_is_typed_comes_before_what_is_heard(rt: HostRuntime) -> Result<(), Fail>
 
 /// If what is typed can't be watched any more, the server has not spoken by that: a read says what is wrong.
 #[test]
-fn a_wait_that_fails_is_no_word_of_the_server(rt: HostRuntime) -> Result<(), Fail> {
-    let heard = Poll::new(&rt)?;
-    let (typed, _keys) = connected(&rt, None)?;
-    let mut watch = PollWatch::new(&rt, rt.alloc(), typed.as_raw_fd(), &heard)?;
-    drop(typed);
+fn a_wait_that_fails_is_no_word_of_the_server(rt: HostRuntime) {
+    let heard = Poll::new(&rt).expect(&rt, "a set is made");
+    let user = Ends::new(&rt, None).expect(&rt, "a connection is made");
+    let typed = user.near.as_raw_fd();
+    let mut watch = PollWatch::new(&rt, rt.alloc(), typed, &heard).expect(&rt, "it is watched");
+    drop(user.near);
     assert_eq!(rt; watch.first(), First::Typed);
-    Ok(())
 }
