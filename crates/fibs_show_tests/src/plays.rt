@@ -221,34 +221,32 @@ fn prints_plays_under_refused_memory(rt: HostRuntime) {
     }
 }
 
-/// Asserts that `plays` stops at a failed write, if so many bytes may be printed on both writers.
-fn assert_stops(
-    rt: &(impl Abort + AllocGlobal),
-    case: &Case,
-    rooms: [usize; 2],
-    printed: [&[u8]; 2],
-) {
-    let [out, err] = rooms;
-    let outcome = listed(rt.alloc(), case.word, out, err);
-    assert_is(
-        rt,
-        case.name,
-        out.max(err),
-        &outcome,
-        Err(EngineFault::Device),
-        printed,
-    );
+/// What is printed on standard output and on standard error, if it is on the first, or else on the second.
+fn printed_on(is_out: bool, printed: &[u8]) -> [&[u8]; 2] {
+    if is_out {
+        [printed, b""]
+    } else {
+        [b"", printed]
+    }
+}
+
+/// Asserts that `plays` stops at a failed write if so many bytes may be printed on the writer that it prints on, and
+/// none on the other.
+fn assert_stops(rt: &(impl Abort + AllocGlobal), case: &Case, room: usize, is_out: bool) {
+    let rooms = if is_out { [room, 0] } else { [0, room] };
+    let outcome = listed(rt.alloc(), case.word, rooms[0], rooms[1]);
+    let front = case.printed.get(..room).unwrap_or(b"");
+    let ending = Err(EngineFault::Device);
+    let printed = printed_on(is_out, front);
+    assert_is(rt, case.name, room, &outcome, ending, printed);
 }
 
 #[test]
 fn stops_at_a_failed_write(rt: HostRuntime) {
-    let good = &PRINTED[6];
-    for room in 0..good.printed.len() {
-        assert_stops(&rt, good, [room, 0], [&good.printed[..room], b""]);
-    }
-    let bad = &REFUSED[6];
-    for room in 0..bad.printed.len() {
-        assert_stops(&rt, bad, [0, room], [b"", &bad.printed[..room]]);
+    for (case, is_out) in [(&PRINTED[6], true), (&REFUSED[6], false)] {
+        for room in 0..case.printed.len() {
+            assert_stops(&rt, case, room, is_out);
+        }
     }
 }
 
@@ -260,28 +258,21 @@ fn listed_with_a_failure(alloc: Global, word: &[u8], before: usize) -> Outcome {
     Outcome::new(ending, out.output(), err.output())
 }
 
-/// Asserts that `plays` stops so if one write on each writer fails.
-fn assert_fails(rt: &(impl Abort + AllocGlobal), case: &Case, before: usize, printed: [&[u8]; 2]) {
+/// Asserts that `plays` stops if one write on each writer fails after so many.
+fn assert_fails(rt: &(impl Abort + AllocGlobal), case: &Case, before: usize, is_out: bool) {
     let outcome = listed_with_a_failure(rt.alloc(), case.word, before);
-    assert_is(
-        rt,
-        case.name,
-        before,
-        &outcome,
-        Err(EngineFault::Device),
-        printed,
-    );
+    let front = case.printed.get(..before).unwrap_or(b"");
+    let ending = Err(EngineFault::Device);
+    let printed = printed_on(is_out, front);
+    assert_is(rt, case.name, before, &outcome, ending, printed);
 }
 
 /// After a failed write neither writer is given more, though it would take it.
 #[test]
 fn writes_nothing_after_a_failed_write(rt: HostRuntime) {
-    let good = &PRINTED[6];
-    for before in 0..good.printed.len() {
-        assert_fails(&rt, good, before, [&good.printed[..before], b""]);
-    }
-    let bad = &REFUSED[6];
-    for before in 0..bad.printed.len() {
-        assert_fails(&rt, bad, before, [b"", &bad.printed[..before]]);
+    for (case, is_out) in [(&PRINTED[6], true), (&REFUSED[6], false)] {
+        for before in 0..case.printed.len() {
+            assert_fails(&rt, case, before, is_out);
+        }
     }
 }

@@ -279,32 +279,38 @@ fn endless(alloc: Global, reads: u32) -> (Result<(), StreamFault>, u32, Text) {
     (ending, reader.asked(), text_of(writer.output()))
 }
 
+/// How often a reader without end is asked, and what is printed.
+static ASKED: [(u32, &[u8]); 4] = [
+    (0, b""),
+    (1, b"text y\n"),
+    (2, b"text y\ntext y\n"),
+    (3, b"text y\ntext y\ntext y\n"),
+];
+
 /// A reader without end gives its bytes as often as it is asked, and no more often.
 #[test]
 fn asks_a_reader_without_end_so_often(rt: HostRuntime) {
-    let rows: [(u32, &[u8]); 4] = [
-        (0, b""),
-        (1, b"text y\n"),
-        (2, b"text y\ntext y\n"),
-        (3, b"text y\ntext y\ntext y\n"),
-    ];
-    for (reads, lines) in rows {
-        let wanted = (Err(StreamFault::Endless), reads, text_of(lines));
-        assert_eq!(rt; endless(rt.alloc(), reads), wanted);
+    for (reads, lines) in &ASKED {
+        let wanted = (Err(StreamFault::Endless), *reads, text_of(lines));
+        assert_eq!(rt; endless(rt.alloc(), *reads), wanted);
     }
 }
 
-/// If a write of at most `most` bytes fails after so many, nothing is written after it.
-fn assert_stops(rt: &(impl Abort + AllocGlobal), most: usize, failing: usize) {
-    let wanted = b"text a\ntext bc\nunfinished 1\n";
+/// How a stream is shown of which a write of at most `most` bytes fails after so many, and what is written.
+fn failing(alloc: Global, most: usize, before: usize) -> (Result<(), StreamFault>, Text) {
     let mut reader = Pipe::new(b"a\nbc\nd", 100, After::End, 0);
-    let mut writer = FailsOnce::new(failing, most);
-    let ending = show_portions(rt.alloc(), 1000, &mut [0; 1024], &mut reader, &mut writer);
-    let is_front = wanted.starts_with(writer.output());
+    let mut writer = FailsOnce::new(before, most);
+    let ending = show_portions(alloc, 1000, &mut [0; 1024], &mut reader, &mut writer);
+    (ending, text_of(writer.output()))
+}
+
+/// If a write of at most `most` bytes fails after so many, nothing is written after it.
+fn assert_stops(rt: &(impl Abort + AllocGlobal), most: usize, before: usize) {
+    let (ending, text) = failing(rt.alloc(), most, before);
+    let is_front = b"text a\ntext bc\nunfinished 1\n".starts_with(&text);
     assert!(rt;
         ending == Err(StreamFault::Writer) && is_front,
-        "{failing} of {most}: {ending:?} after {:?}",
-        writer.output()
+        "{before} of {most}: {ending:?} after {text:?}"
     );
 }
 
