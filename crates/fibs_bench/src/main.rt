@@ -23,7 +23,7 @@ const TEXTS: u32 = 1_000_000;
 const CLICKS: u32 = 1_000_000;
 
 /// What is counted of the lines of a stream that are read.
-#[derive(Clone, Copy, PartialEq, Eq)]
+#[derive(Clone, Copy)]
 enum Count {
     /// Lines that are read, and are a board or a message.
     Readings,
@@ -163,11 +163,14 @@ fn take_by_turns(client: &mut Client, piece: &[u8]) -> u64 {
 }
 
 /// Counts over what is read of the lines of the standard input.
-fn count_lines(rt: &HostRuntime, what: Count) -> io::Result<u64> {
+fn count_input(
+    rt: &HostRuntime,
+    what: Count,
+    lines: &mut Lines,
+    directory: &mut Directory,
+) -> io::Result<u64> {
     let alloc = rt.alloc();
     let mut portion = vec![in alloc; 0u8; PORTION]?;
-    let mut lines = Lines::new();
-    let mut directory = Directory::new(alloc);
     let mut input = rt.stdin();
     let mut count = 0u64;
     for _ in 0..u64::MAX {
@@ -175,10 +178,16 @@ fn count_lines(rt: &HostRuntime, what: Count) -> io::Result<u64> {
         if used == 0 {
             break;
         }
-        let piece = &portion[..used];
-        count = count.wrapping_add(count_piece(alloc, what, &mut lines, &mut directory, piece)?);
+        count = count.wrapping_add(count_piece(alloc, what, lines, directory, &portion[..used])?);
     }
     Ok(count)
+}
+
+/// The same, from a stream's first line on.
+fn count_lines(rt: &HostRuntime, what: Count) -> io::Result<u64> {
+    let mut lines = Lines::new();
+    let mut directory = Directory::new(rt.alloc());
+    count_input(rt, what, &mut lines, &mut directory)
 }
 
 /// Counts the lines of the standard input.
@@ -271,25 +280,26 @@ fn count_commands() -> u64 {
     count
 }
 
+/// Counts what a word names.
+fn count_of(rt: &HostRuntime, word: &str) -> io::Result<u64> {
+    match word {
+        "readings" => count_lines(rt, Count::Readings),
+        "notes" => count_lines(rt, Count::Notes),
+        "plays" => count_lines(rt, Count::Plays),
+        "client" => take_lines(rt, false),
+        "clients" => take_lines(rt, true),
+        "clicks" => count_clicks(rt),
+        "commands" => Ok(count_commands()),
+        _ => cut_lines(rt),
+    }
+}
+
 /// Counts what the first argument names: `lines`, `readings`, `notes`, `plays`, `client`, `clients` (one that is called
-/// from three places), `clicks` or `commands`;
-/// without one, lines.
+/// from three places), `clicks` or `commands`; without one, lines.
 fn main(rt: HostRuntime) -> io::Result<()> {
     let words: Vec<String> = env::args(&rt)?.collect(rt.alloc())?;
-    let word = match words.get(1) {
-        Some(word) => word.as_str(),
-        None => "lines",
-    };
-    let count = match word {
-        "readings" => count_lines(&rt, Count::Readings)?,
-        "notes" => count_lines(&rt, Count::Notes)?,
-        "plays" => count_lines(&rt, Count::Plays)?,
-        "client" => take_lines(&rt, false)?,
-        "clients" => take_lines(&rt, true)?,
-        "clicks" => count_clicks(&rt)?,
-        "commands" => count_commands(),
-        _ => cut_lines(&rt)?,
-    };
+    let word = words.get(1).map_or("lines", String::as_str);
+    let count = count_of(&rt, word)?;
     println!(rt; "{count}")?;
     Ok(())
 }
