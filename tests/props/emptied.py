@@ -1,0 +1,138 @@
+"""The functions of a crate's text, and copies of a crate in which only some of them still have their bodies.
+
+The prover judges a function by its own contract and by the contracts of those that it calls. So what it says of a
+function stays the same if others lose their bodies: such a body is `unreachable!()`, and its proof a hole.
+"""
+import os
+import re
+import shutil
+
+# A function's head, with what may stand before it; the head of a block of methods; that of a type.
+HEAD = re.compile(r'( *)(?:pub(?:\([a-z]+\))? )?(?P<is>(?:const |unsafe |extern "C" )*)fn (\w+)')
+METHODS = re.compile(r"(?:impl|trait)\b(?:<[^{]*?>)? *([^{]*)")
+TYPE = re.compile(r"(?m)^(?:pub(?:\([a-z]+\))? )?(?:struct|enum) (\w+)")
+EMPTY = "unreachable!()"
+# What is written of a proof, beside lemmas.
+WRITTEN = ("Answers.antt", "Invariants.antt", "Proof.antt")
+
+
+class Function:
+    """A function: its path below the crate, its file, and the lines of its head and of its body's two braces."""
+
+    def __init__(self, path, file, first, opening, last):
+        self.path = path
+        self.file = file
+        self.first = first
+        self.opening = opening
+        self.last = last
+        # what is computed at compile time, and what has one proof with others, stays whole
+        self.may_be_emptied = True
+
+
+def modules_of(file):
+    """The modules that lead to a file."""
+    return [it for it in file.removeprefix("src/").removesuffix(".rt").split("/") if it not in ("lib", "main")]
+
+
+def types_of(texts):
+    """Each type of a crate, with the modules that lead to it: the prover names a method by where its type stands."""
+    return {name: modules_of(file) for file, text in texts.items() for name in TYPE.findall(text)}
+
+
+def owner_of(line, file, types):
+    """The path of what a block of methods is of, with its trait's name behind it."""
+    trait, _, of = METHODS.match(line)[1].rpartition(" for ")
+    of = re.match(r"(?:\w+::)*(\w+)", of)
+    if not of:
+        return None
+    words = re.findall(r"(?<!')\b\w+\b(?!::)", trait)
+    return [*types.get(of[1], modules_of(file)), of[1] + "".join(it for it in words if len(it) > 1)]
+
+
+def opening_of(lines, first, indent):
+    """The line of the brace that opens a body, or None if there is none."""
+    for at in range(first, len(lines)):
+        line = lines[at]
+        if line == f"{indent}{{":
+            return at
+        if at == first or line.startswith(f"{indent})"):
+            if line.endswith("{"):
+                return at
+            if line.endswith((";", "}")):
+                return None
+        elif line and not line.startswith((f"{indent} ", f"{indent}where")):
+            return None
+    return None
+
+
+def functions_in(file, text, types):
+    """The functions of a file that have a body."""
+    lines, found, owner, at = text.splitlines(), [], None, 0
+    while at < len(lines):
+        line, first = lines[at], at
+        at += 1
+        if METHODS.match(line):
+            owner = owner_of(line, file, types)
+        head = HEAD.match(line)
+        if not head or (head[1] and not owner):
+            continue
+        opening = opening_of(lines, first, head[1])
+        last = opening and next((it for it in range(opening, len(lines)) if lines[it] == f"{head[1]}}}"), None)
+        if last:
+            path = "::".join([*(owner if head[1] else modules_of(file)), head[3]])
+            function = Function(path, file, first, opening, last)
+            is_shared = "#[cycle(" in "".join(lines[max(first - 3, 0) : first])
+            function.may_be_emptied = "const" not in head["is"] and not is_shared
+            found.append(function)
+            at = last + 1
+    return found
+
+
+def functions_of(texts):
+    """All functions of a crate, from the texts of its files."""
+    types = types_of(texts)
+    return [it for file, text in texts.items() for it in functions_in(file, text, types)]
+
+
+def texts_of(folder):
+    """The text of each file of a crate's code."""
+    texts = {}
+    for at, folders, names in os.walk(f"{folder}/src"):
+        folders.sort()
+        for name in sorted(names):
+            if name.endswith(".rt"):
+                with open(f"{at}/{name}", encoding="utf-8") as it:
+                    texts[os.path.relpath(f"{at}/{name}", folder)] = it.read()
+    return texts
+
+
+def emptied(texts, kept):
+    """The texts in which all functions but these have no body, and the paths of those that lost it."""
+    made, lost = {}, []
+    types = types_of(texts)
+    for file, text in texts.items():
+        lines = text.split("\n")
+        for function in reversed(functions_in(file, text, types)):
+            if function.may_be_emptied and function.path not in kept:
+                indent = re.match(" *", lines[function.first])[0]
+                lines[function.opening + 1 : function.last] = [f"{indent}    {EMPTY}"]
+                lost.append(function.path)
+        made[file] = "\n".join(lines)
+    return made, lost
+
+
+def write_holes(folder, crate, lost):
+    """Writes a hole for the proof of each of these functions of a copy of a crate."""
+    for path in lost:
+        *above, name = path.split("::")
+        place = "/".join(["proofs", *above])
+        # a function that calls itself has the proof of a cycle
+        shutil.rmtree(f"{folder}/{place}/+{name}", ignore_errors=True)
+        os.makedirs(f"{folder}/{place}/{name}", exist_ok=True)
+        for written in WRITTEN:
+            if os.path.exists(f"{folder}/{place}/{name}/{written}"):
+                os.remove(f"{folder}/{place}/{name}/{written}")
+        module = ".".join(["Rattle", crate, "proofs", *above, name, "Statement"])
+        with open(f"{folder}/{place}/{name}/Proof.antt", "w", encoding="utf-8") as it:
+            it.write(f"use {module}.{{statement}}\n\n")
+            it.write(f"pub {name}_spec : {{M : Type 1}} → statement M\n{name}_spec = ?\n")
