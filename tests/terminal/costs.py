@@ -84,9 +84,9 @@ def memory(server):
 def a_dead_router_is_seen(server):
     """The system asks after the other end when the connection is idle, within two minutes."""
     ann = greeted(server)
-    port = ':%04X' % server.port
+    port, established = ':%04X' % server.port, '01'
     with open('/proc/net/tcp') as table:
-        rows = [row.split() for row in table if row.split()[2].endswith(port)]
+        rows = [row for row in map(str.split, table) if row[2].endswith(port) and row[3] == established]
     if not rows:
         raise Failed('no connection to port %d' % server.port)
     kind, when = rows[0][5].split(':')
