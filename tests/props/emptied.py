@@ -17,11 +17,13 @@ WRITTEN = ("Answers.antt", "Invariants.antt", "Proof.antt")
 
 
 class Function:
-    """A function: its path below the crate, its file, and the lines of its head and of its body's two braces."""
+    """A function: its path below the crate, its file, and the lines on which its attributes, its head, its body begin,
+    and on which it ends."""
 
-    def __init__(self, path, file, first, opening, last):
+    def __init__(self, path, file, begin, first, opening, last):
         self.path = path
         self.file = file
+        self.begin = begin
         self.first = first
         self.opening = opening
         self.last = last
@@ -80,8 +82,9 @@ def functions_in(file, text, types):
         last = opening and next((it for it in range(opening, len(lines)) if lines[it] == f"{head[1]}}}"), None)
         if last:
             path = "::".join([*(owner if head[1] else modules_of(file)), head[3]])
-            function = Function(path, file, first, opening, last)
-            is_shared = "#[cycle(" in "".join(lines[max(first - 3, 0) : first])
+            begin = next(it for it in range(first, -1, -1) if it == 0 or not lines[it - 1].startswith(f"{head[1]}#["))
+            function = Function(path, file, begin, first, opening, last)
+            is_shared = any("#[cycle(" in it for it in lines[begin:first])
             function.may_be_emptied = "const" not in head["is"] and not is_shared
             found.append(function)
             at = last + 1
