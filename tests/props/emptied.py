@@ -1,7 +1,8 @@
 """The functions of a crate's text, and copies of a crate in which only some of them still have their bodies.
 
 The prover judges a function by its own contract and by the contracts of those that it calls. So what it says of a
-function stays the same if others lose their bodies: such a body is `unreachable!()`, and its proof a hole.
+function stays the same if others lose their bodies: such a body is `unreachable!()`, and its proof a hole. It says the
+same too of a copy of a function, under another name, which nothing calls.
 """
 import os
 import re
@@ -29,6 +30,8 @@ class Function:
         self.last = last
         # what is computed at compile time, and what has one proof with others, stays whole
         self.may_be_emptied = True
+        # a trait has no room for a method more
+        self.may_be_copied = True
 
 
 def modules_of(file):
@@ -69,12 +72,13 @@ def opening_of(lines, first, indent):
 
 def functions_in(file, text, types):
     """The functions of a file that have a body."""
-    lines, found, owner, at = text.splitlines(), [], None, 0
+    lines, found, owner, is_of_trait, at = text.splitlines(), [], None, False, 0
     while at < len(lines):
         line, first = lines[at], at
         at += 1
         if METHODS.match(line):
             owner = owner_of(line, file, types)
+            is_of_trait = line.startswith("trait") or " for " in line
         head = HEAD.match(line)
         if not head or (head[1] and not owner):
             continue
@@ -86,6 +90,7 @@ def functions_in(file, text, types):
             function = Function(path, file, begin, first, opening, last)
             is_shared = any("#[cycle(" in it for it in lines[begin:first])
             function.may_be_emptied = "const" not in head["is"] and not is_shared
+            function.may_be_copied = not is_shared and not (head[1] and is_of_trait)
             found.append(function)
             at = last + 1
     return found
@@ -122,6 +127,42 @@ def emptied(texts, kept):
                 lost.append(function.path)
         made[file] = "\n".join(lines)
     return made, lost
+
+
+def with_copy(texts, path, name, edited):
+    """The texts with a copy of a function behind it, under another name, as the function stands in edited texts."""
+    it = next(it for it in functions_of(edited) if it.path == path)
+    copy = edited[it.file].split("\n")[it.begin : it.last + 1]
+    head = it.first - it.begin
+    copy[head] = re.sub(r"\bfn \w+", f"fn {name}", copy[head], count=1)
+    it = next(it for it in functions_of(texts) if it.path == path)
+    lines = texts[it.file].split("\n")
+    lines[it.last + 1 : it.last + 1] = ["", *copy]
+    return {**texts, it.file: "\n".join(lines)}
+
+
+def copy_proof(folder, path, name):
+    """Writes the proof of a function's copy, if what was written of the function's own is more than the prover makes."""
+    *above, old = path.split("::")
+    place = "/".join([folder, "proofs", *above])
+    if not os.path.isdir(f"{place}/{old}"):
+        return
+    shutil.copytree(f"{place}/{old}", f"{place}/{name}")
+    for written in os.listdir(f"{place}/{name}"):
+        with open(f"{place}/{name}/{written}", encoding="utf-8") as it:
+            text = it.read()
+        text = text.replace(".".join(["proofs", *above, f"{old}."]), ".".join(["proofs", *above, f"{name}."]))
+        with open(f"{place}/{name}/{written}", "w", encoding="utf-8") as it:
+            it.write(text.replace(f"{old}_spec", f"{name}_spec"))
+
+
+def has_own_proof(folder, path):
+    """True if what is written of a function's proof, if anything is, can serve a copy of it too."""
+    *above, name = path.split("::")
+    place = "/".join([folder, "proofs", *above])
+    if os.path.isdir(f"{place}/+{name}"):
+        return False
+    return not os.path.isdir(f"{place}/{name}") or {*os.listdir(f"{place}/{name}")} <= {*WRITTEN}
 
 
 def write_holes(folder, crate, lost):
