@@ -1,2 +1,3 @@
 -- Why the functions do what those that they call do.
+pub mod ClientLemmas
 pub mod ManyLinesLemmas

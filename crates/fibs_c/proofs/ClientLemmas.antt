@@ -1,0 +1,53 @@
+-- What a handle holds is put back, and a call that refuses left it as it was.
+use Rattle.std.proofs.Common.{◌≡◌, ◌≢◌, ℕ, List, [], refl, sym, ap, subst, ◌∙◌}
+use Rattle.std.specs.Prelude.{Option, Some, Result, Ok, Err, IsErr}
+use Rattle.std.specs.Result.{result_err}
+use Rattle.arrayvec.specs.ArrayString.{ArrayString}
+use Rattle.fibs_history.specs.declared.refusal.Refusal.{Refusal}
+use Rattle.fibs_history.specs.declared.refusal.PlainRefusal.{PlainRefusal}
+use Rattle.fibs_session.specs.Calls.Doing.{Does}
+use Rattle.fibs_session.specs.Calls.SessionOf.{refusal_in}
+use Rattle.fibs_session.specs.Calls.Standing.{ClientValue}
+use Rattle.fibs_session.specs.History.Machine.{InputValue, wire_of}
+use Rattle.fibs_records.specs.Statuses.{refusal_status, plain_status}
+use Rattle.fibs_records.specs.Wires.{Holds, IsEmptied}
+use Rattle.fibs_records.specs.declared.wire.Wire.{Wire}
+use Rattle.fibs_c.specs.ClientDoor.{DoesOnWire, DoesUnsaid}
+
+-- a fact of what a handle held and of what it holds again is one of the handle
+pub put_back : (R : Option ClientValue → Option ClientValue → Type 0) (old new : Option ClientValue)
+    (lent held after : ClientValue) → lent ≡ held → Some held ≡ old → new ≡ Some after → R (Some lent) (Some after)
+    → R old new
+put_back R old new lent held after same was is h =
+    subst (λ (o : Option ClientValue). R o new) (ap (λ (v : ClientValue). Some v) same ∙ was)
+    (subst (λ (n : Option ClientValue). R (Some lent) n) (sym is) h)
+
+-- the commands that were handed out are on the wire
+pub on_wire : (old new : ClientValue) (i : InputValue) (send : List (List ℕ)) (wire : Wire) → Does old new i send
+    → Holds wire (wire_of send) → DoesOnWire old new i wire
+on_wire old new i send wire does holds = record {
+  stands = does.stands;
+  hands = λ t s. subst (λ (commands : List (List ℕ)). Holds wire (wire_of commands)) (does.hands t s) holds;
+}
+
+pub unsaid : (old new : ClientValue) (i : InputValue) → Does old new i [] → DoesUnsaid old new i
+unsaid old new i does = record { stands = does.stands; hands_none = λ t s. ap wire_of (does.hands t s) }
+
+pub emptied : (first cleared last : Wire) → IsEmptied first cleared → IsEmptied cleared last → IsEmptied first last
+emptied first cleared last one other =
+    record { len_is = other.len_is; bytes_are = other.bytes_are ∙ one.bytes_are }
+
+pub is_refused : (answer : Result ArrayString Refusal) (status : ℕ) → status ≡ refusal_status (refusal_in answer)
+    → status ≢ 0 → IsErr answer
+is_refused (Ok command) status is nonzero = absurd (nonzero is)
+is_refused (Err why) status is nonzero = refl
+
+pub is_plain_refused : (answer : Result ArrayString PlainRefusal) (status : ℕ)
+    → status ≡ plain_status (refusal_in answer) → status ≢ 0 → IsErr answer
+is_plain_refused (Ok command) status is nonzero = absurd (nonzero is)
+is_plain_refused (Err why) status is nonzero = refl
+
+pub is_silently_refused : {T : Type 0} (answer : Result T Refusal) (status : ℕ)
+    → status ≡ refusal_status (result_err answer) → status ≢ 0 → IsErr answer
+is_silently_refused (Ok done) status is nonzero = absurd (nonzero is)
+is_silently_refused (Err why) status is nonzero = refl
