@@ -26,7 +26,7 @@ use fibs_messages::Board;
 use fibs_position::{Decision, laws};
 
 /// What the server does by itself, as a message 2 says.
-#[derive(Clone, Copy, Debug, PartialEq, Eq)]
+#[derive(Clone, Copy)]
 pub(crate) struct ServerFlags {
     pub(crate) automove: bool,
     pub(crate) greedy: bool,
