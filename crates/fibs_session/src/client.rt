@@ -35,7 +35,6 @@ pub use got::Got;
 use heard_line::Answer;
 pub use heard_line::HeardLine;
 pub use input::Input;
-use owned_reading::OwnedReading;
 pub use run::run_client;
 use std::marker::Model;
 
@@ -190,31 +189,10 @@ impl Client {
         let used = self.lines.feed(piece).used;
         match self.lines.line() {
             None => HeardLine { used, answer: None },
-            Some(line) => {
-                if self.session.leaves(&line) {
-                    return HeardLine {
-                        used,
-                        answer: Some(Answer::nothing()),
-                    };
-                }
-                let Taken {
-                    line: _,
-                    reading,
-                    send,
-                    confirmed,
-                    rolled,
-                } = self.session.line(&line);
-                let reading = OwnedReading::of(&reading);
-                HeardLine {
-                    used,
-                    answer: Some(Answer {
-                        reading,
-                        send,
-                        confirmed,
-                        rolled,
-                    }),
-                }
-            }
+            Some(line) => HeardLine {
+                used,
+                answer: Some(Answer::of(&mut self.session, &line)),
+            },
         }
     }
 

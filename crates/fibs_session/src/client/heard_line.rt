@@ -1,12 +1,17 @@
 //! What a client has heard, without the line itself.
 
-ghost use Rattle.std.specs.Prelude.{◌≡◌, [], None, false};
+ghost use Rattle.std.specs.Prelude.{◌≡◌, [], None, false, option_map};
+ghost use Rattle.fibs_lines.specs.Lines.{value_of};
+ghost use Rattle.fibs_history.specs.Hearing.{line_reading};
+ghost use Rattle.fibs_session.specs.Calls.Doing.{SessionHears};
 ghost use Rattle.fibs_session.specs.declared.client.owned_reading.OwnedReading.TheVariants.{Numbered};
 
 use super::owned_reading::OwnedReading;
-use crate::taken::Outstanding;
+use crate::session::Session;
+use crate::taken::{Outstanding, Taken};
 use arrayvec::ArrayVec;
 use fibs_commands::AnswerText;
+use fibs_lines::Line;
 
 /// The answer to a line, without the line.
 #[derive(Drop)]
@@ -18,6 +23,35 @@ pub(crate) struct Answer {
 }
 
 impl Answer {
+    ghost use Rattle.fibs_session.specs.Calls.ClientOf.{lent_reading};
+    ghost use Rattle.fibs_session.specs.Calls.SessionOf.{session_of, ask_of, texts_of};
+
+    /// What a session answers to a line.
+    #[inline(always)]
+    pub(super) fn of(session: &mut Session, line: &Line<'_>) -> Answer
+        ensures hears { SessionHears (session_of session.old) (session_of session.new) (value_of line.now)
+            (texts_of result.send.items) (option_map ask_of result.confirmed) result.rolled }
+        ensures reading { lent_reading result.reading (value_of line.now) ≡ line_reading (value_of line.now) }
+    {
+        if session.leaves(line) {
+            return Answer::nothing();
+        }
+        let Taken {
+            line: _,
+            reading,
+            send,
+            confirmed,
+            rolled,
+        } = session.line(line);
+        let reading = OwnedReading::of(&reading);
+        Answer {
+            reading,
+            send,
+            confirmed,
+            rolled,
+        }
+    }
+
     /// The answer to a message that is answered by nothing. The message is read when it is lent.
     pub(super) fn nothing() -> Answer
         ensures reading { result.reading ≡ Numbered }
