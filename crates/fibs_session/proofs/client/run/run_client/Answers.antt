@@ -1,9 +1,18 @@
-use Rattle.std.proofs.Common.{subst, map}
-use Rattle.fibs_history.specs.Machine.{Out}
+use Rattle.std.proofs.Common.{◌++◌, ap, subst, map}
+use Rattle.fibs_history.specs.Machine.{start, run, wire_of, Out}
 use Rattle.fibs_commands.specs.LoginOf.{login_of}
 use Rattle.fibs_session.specs.Calls.InputOf.{input_of}
 use Rattle.fibs_session.proofs.Calls.Runs.{Going, goes_on, ends, next, none_left}
 use Rattle.fibs_session.proofs.client.run.run_client.Goals as goal
+
+pub loop-input-init : goal.loop-input-init
+loop-input-init c =
+    let first = start (login_of c.args.login) in
+    record {
+      talk = first;
+      stands = c.new-client.ensures;
+      whole = ap (λ bytes. bytes ++ wire_of (run first (map input_of c.args.inputs.now)).send) c.new-out.ensures.items;
+    }
 
 pub loop-input-preserved : goal.loop-input-preserved
 loop-input-preserved c =
