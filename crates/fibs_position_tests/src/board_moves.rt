@@ -4,9 +4,8 @@
 use crate::cases::{Case, check};
 use crate::choices::Choice;
 use fibs_position::{Direction, Phase};
-use std::test::Fail;
 
-static MOVES: [Case; 10] = [
+static MOVES: [Case; 4] = [
     Case {
         name: "an opening of O, who goes down",
         board: b"board:You:bob:5:0:0:0:-2:0:0:0:0:5:0:3:0:0:0:-5:5:0:0:0:-3:0:-5:0:0:0:0:2:0:1:6:2:0:0:1:1:1:0:1:-1:0:25:0:0:0:0:0:0:0:0",
@@ -59,6 +58,9 @@ static MOVES: [Case; 10] = [
         dice: [1, 1],
         after: Some(&[(8, -1), (19, -6), (33, 1), (34, 0), (35, 0)]),
     },
+];
+
+static HITS: [Case; 6] = [
     Case {
         name: "two on the bar, X enters and hits",
         board: b"board:You:bob:5:0:0:0:2:0:0:0:0:-5:0:-3:0:0:0:5:-4:0:0:0:3:0:4:0:0:1:0:-1:0:-1:3:1:0:0:1:1:1:0:-1:-1:0:25:0:0:2:0:0:0:0:0",
@@ -144,7 +146,7 @@ static MOVES: [Case; 10] = [
     },
 ];
 
-static LAX_MOVES: [Case; 10] = [
+static LAX_MOVES: [Case; 4] = [
     Case {
         name: "a held place after a good step",
         board: b"board:You:bob:5:0:0:0:2:0:0:0:0:-5:0:-3:0:0:0:5:-5:0:0:0:3:0:5:0:0:0:0:-2:0:1:1:1:0:0:1:1:1:0:1:1:25:0:0:0:0:0:0:0:0:0",
@@ -197,6 +199,9 @@ static LAX_MOVES: [Case; 10] = [
             (35, 0),
         ]),
     },
+];
+
+static BEARING_OFF: [Case; 6] = [
     Case {
         name: "bearing off by X",
         board: b"board:You:bob:5:0:0:0:-1:-2:0:-3:0:-2:0:0:0:0:0:0:0:0:0:0:0:0:0:2:0:0:6:5:0:-1:6:4:0:0:1:1:1:0:-1:-1:0:25:7:2:0:0:0:0:0:0",
@@ -265,7 +270,7 @@ static LAX_MOVES: [Case; 10] = [
     },
 ];
 
-static LAST_MOVES: [Case; 10] = [
+static LAST_MOVES: [Case; 6] = [
     Case {
         name: "the last two of X, who goes up, go off",
         board: b"board:You:bob:5:0:0:0:0:0:0:0:0:0:0:0:0:0:0:2:0:0:0:0:0:0:0:0:0:-1:-1:0:0:-1:0:5:0:0:1:1:1:0:-1:1:25:0:13:13:0:0:0:0:0:0",
@@ -332,6 +337,9 @@ static LAST_MOVES: [Case; 10] = [
         dice: [1, 1],
         after: None,
     },
+];
+
+static BLOCKED: [Case; 4] = [
     Case {
         name: "all entry places held, X goes up",
         board: b"board:You:bob:5:0:0:0:2:2:2:2:2:2:0:0:0:0:0:0:0:0:0:0:0:0:-14:0:0:0:0:0:0:-1:3:1:0:0:1:1:1:0:-1:1:25:0:0:3:1:0:0:0:0:0",
@@ -387,16 +395,19 @@ static LAST_MOVES: [Case; 10] = [
 ];
 
 #[test]
-fn moves(rt: HostRuntime) -> Result<(), Fail> {
-    check(&rt, &MOVES)
+fn moves(rt: HostRuntime) {
+    check(&rt, &MOVES);
+    check(&rt, &HITS);
 }
 
 #[test]
-fn lax_moves(rt: HostRuntime) -> Result<(), Fail> {
-    check(&rt, &LAX_MOVES)
+fn lax_moves(rt: HostRuntime) {
+    check(&rt, &LAX_MOVES);
+    check(&rt, &BEARING_OFF);
 }
 
 #[test]
-fn last_moves(rt: HostRuntime) -> Result<(), Fail> {
-    check(&rt, &LAST_MOVES)
+fn last_moves(rt: HostRuntime) {
+    check(&rt, &LAST_MOVES);
+    check(&rt, &BLOCKED);
 }

@@ -1,7 +1,6 @@
 //! Tests of what a player may choose.
 
 use fibs_position::{Decision, Play, Stake, Step};
-use std::test::Fail;
 
 /// A decision of a test, a move by its steps.
 #[derive(Clone, Copy)]
@@ -14,26 +13,27 @@ pub enum Choice {
     Resign(Stake),
 }
 
-/// The play of these steps.
-pub fn play(steps: &[(u8, u8)]) -> Result<Play, Fail> {
+/// The play of these steps, if they are steps, and four at most.
+pub fn play(steps: &[(u8, u8)]) -> Option<Play> {
     let mut play = Play::new();
     for (source, target) in steps {
-        let step = Step::new(*source, *target).ok_or("step")?;
-        let pushed = if play.push(step) { Some(()) } else { None };
-        pushed.ok_or("a fifth step")?;
+        if !play.push(Step::new(*source, *target)?) {
+            return None;
+        }
     }
-    Ok(play)
+    Some(play)
 }
 
 impl Choice {
-    pub fn decision(&self) -> Result<Decision, Fail> {
-        match self {
-            Choice::Roll => Ok(Decision::Roll),
-            Choice::Double => Ok(Decision::Double),
-            Choice::Accept => Ok(Decision::Accept),
-            Choice::Reject => Ok(Decision::Reject),
-            Choice::Move(steps) => Ok(Decision::Move(play(steps)?)),
-            Choice::Resign(stake) => Ok(Decision::Resign(*stake)),
-        }
+    /// The decision, if the steps of a move are a play.
+    pub fn decision(&self) -> Option<Decision> {
+        Some(match self {
+            Choice::Roll => Decision::Roll,
+            Choice::Double => Decision::Double,
+            Choice::Accept => Decision::Accept,
+            Choice::Reject => Decision::Reject,
+            Choice::Move(steps) => Decision::Move(play(steps)?),
+            Choice::Resign(stake) => Decision::Resign(*stake),
+        })
     }
 }

@@ -4,7 +4,6 @@ use crate::choices::Choice;
 use fibs_commands::{Plain, PlainFault, decision_text, plain_text, read_plain};
 use fibs_position::{Decision, Direction, Stake};
 use std::alloc::Global;
-use std::test::Fail;
 
 /// Plain commands and their texts.
 static PRINTED: [(Plain<'static>, &str); 18] = [
@@ -67,17 +66,18 @@ static FAULTS: [(PlainFault, &str); 3] = [
 ];
 
 /// Whether a fault's number and name are printed so.
-fn is_told(alloc: Global, fault: &PlainFault, told: &str) -> Result<bool, Fail> {
-    let printed = format!(in alloc; "{} {fault}", fault.number())?;
-    Ok(printed.as_str() == told)
+fn is_told(alloc: Global, fault: &PlainFault, told: &str) -> bool {
+    match format!(in alloc; "{} {fault}", fault.number()) {
+        Ok(printed) => printed.as_str() == told,
+        Err(_) => false,
+    }
 }
 
 #[test]
-fn faults_have_numbers_and_names(rt: HostRuntime) -> Result<(), Fail> {
+fn faults_have_numbers_and_names(rt: HostRuntime) {
     for (fault, told) in &FAULTS {
-        assert!(rt; is_told(rt.alloc(), fault, told)?, "{told}");
+        assert!(rt; is_told(rt.alloc(), fault, told), "{told}");
     }
-    Ok(())
 }
 
 /// Lines, and the plain commands that they are read as.
@@ -123,27 +123,29 @@ static DECISIONS: [(Choice, &str); 7] = [
 ];
 
 /// Whether a decision's command is displayed so.
-fn is_displayed(alloc: Global, choice: &Choice, text: &str) -> Result<bool, Fail> {
-    let command = decision_text(&choice.decision()?, Direction::Up);
-    let displayed = format!(in alloc; "{command}")?;
-    Ok(displayed.as_str() == text)
+fn is_displayed(alloc: Global, decision: &Decision, text: &str) -> bool {
+    let command = decision_text(decision, Direction::Up);
+    match format!(in alloc; "{command}") {
+        Ok(displayed) => displayed.as_str() == text,
+        Err(_) => false,
+    }
 }
 
 #[test]
-fn commands_are_displayed_as_their_texts(rt: HostRuntime) -> Result<(), Fail> {
+fn commands_are_displayed_as_their_texts(rt: HostRuntime) {
     for (choice, text) in &DECISIONS {
-        assert!(rt; is_displayed(rt.alloc(), choice, text)?, "{text}");
+        let decision = choice.decision().expect(&rt, "it is a decision");
+        assert!(rt; is_displayed(rt.alloc(), &decision, text), "{text}");
     }
-    Ok(())
 }
 
 #[test]
 fn texts_are_equal_where_their_bytes_are(rt: HostRuntime) {
     let roll = decision_text(&Decision::Roll, Direction::Down);
-    let roll_up = decision_text(&Decision::Roll, Direction::Up);
-    let double = decision_text(&Decision::Double, Direction::Down);
+    let is_same = roll == decision_text(&Decision::Roll, Direction::Up);
+    let is_another = roll != decision_text(&Decision::Double, Direction::Down);
     assert!(rt;
-        roll == roll_up && roll != double,
+        is_same && is_another,
         "one word in both directions, and two words"
     );
 }

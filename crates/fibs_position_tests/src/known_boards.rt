@@ -4,7 +4,6 @@ use crate::cases::{Case, check};
 use crate::choices::Choice;
 use fibs_messages::Board;
 use fibs_position::{Decision, Direction, Phase, Position, effect};
-use std::test::Fail;
 
 static KNOWN: [Case; 7] = [
     Case {
@@ -104,40 +103,38 @@ const BEFORE_HIT: &[u8] =
     b"board:You:bob:5:0:0:0:0:0:0:0:0:0:0:0:0:0:0:-2:0:0:0:0:0:-1:0:0:0:0:0:1:0:1:6:6:0:0:1:1:1:0:1:-1:0:25:14:12:0:0:1:0:0:0";
 
 #[test]
-fn known_boards(rt: HostRuntime) -> Result<(), Fail> {
-    check(&rt, &KNOWN)
+fn known_boards(rt: HostRuntime) {
+    check(&rt, &KNOWN);
 }
 
 /// The board after a roll is the one that the server shows then.
 #[test]
-fn a_roll_leads_to_the_board_shown_next(rt: HostRuntime) -> Result<(), Fail> {
-    let before = Board::read(BEFORE_ROLL).ok().ok_or("board")?;
-    let shown = Board::read(AFTER_ROLL).ok().ok_or("board")?;
+fn a_roll_leads_to_the_board_shown_next(rt: HostRuntime) {
+    let before = Board::read(BEFORE_ROLL).expect(&rt, "it is a board");
+    let shown = Board::read(AFTER_ROLL).expect(&rt, "it is a board");
     assert!(rt; effect(&before, &Decision::Roll, [6, 2]) == Some(shown));
-    Ok(())
 }
 
 /// The board after a hit.
-fn hit(before: &Board) -> Result<Board, Fail> {
+fn hit(before: &Board) -> Option<Board> {
     let play = Choice::Move(&[(24, 18)]).decision()?;
-    Ok(effect(before, &play, [1, 1]).ok_or("effect")?)
+    effect(before, &play, [1, 1])
 }
 
 /// How many checkers are on the opponent's bar, and of both on the place of the hit.
-fn counts_of(after: &Board) -> Result<[u8; 3], Fail> {
-    let position = Position::of(after).ok().ok_or("position")?;
-    Ok([position.other_bar(), position.own(18), position.other(18)])
+fn counts_of(after: &Board) -> Option<[u8; 3]> {
+    let position = Position::of(after).ok()?;
+    Some([position.other_bar(), position.own(18), position.other(18)])
 }
 
 /// The checker that was hit is on the bar of the opponent.
 #[test]
-fn a_hit_checker_goes_to_the_bar(rt: HostRuntime) -> Result<(), Fail> {
-    let before = Board::read(BEFORE_HIT).ok().ok_or("board")?;
-    let after = hit(&before)?;
-    let is_hit = counts_of(&after)? == [1, 1, 0];
+fn a_hit_checker_goes_to_the_bar(rt: HostRuntime) {
+    let before = Board::read(BEFORE_HIT).expect(&rt, "it is a board");
+    let after = hit(&before).expect(&rt, "it is carried out");
+    let is_hit = counts_of(&after) == Some([1, 1, 0]);
     assert!(rt;
         is_hit && after.field(32) == before.field(32),
         "the counts and field 32"
     );
-    Ok(())
 }

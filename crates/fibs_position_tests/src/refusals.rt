@@ -4,11 +4,7 @@ use crate::rows::{Row, position, rows};
 use fibs_messages::Board;
 use fibs_position::{Decision, Position, Stake, differs, effect};
 use std::alloc::Global;
-use std::test::Fail;
-
-fn board(line: &[u8]) -> Result<Board, Fail> {
-    Ok(Board::read(line).ok().ok_or("board")?)
-}
+use std::process::Abort;
 
 /// Each reader answers the same of both.
 fn are_alike(a: &Position, b: &Position) -> bool {
@@ -46,38 +42,44 @@ fn answer_alike(a: &Position, b: &Position) -> bool {
 }
 
 /// The position has so many plays, and each is legal.
-fn lists(alloc: Global, position: &Position, count: usize) -> Result<bool, Fail> {
-    let plays = position.plays(alloc)?;
-    Ok(plays.len() == count && plays.iter().all(|found| position.is_legal(found)))
+fn lists(alloc: Global, position: &Position, count: usize) -> bool {
+    match position.plays(alloc) {
+        Ok(plays) => { plays.len() == count && plays.iter().all(|found| position.is_legal(found)) }
+        Err(_) => false,
+    }
 }
 
 /// Whether a position that was asked is as one that was not, and both list so many plays.
-fn is_as_before(
-    alloc: Global,
-    asked: &Position,
-    twin: &Position,
-    count: usize,
-) -> Result<bool, Fail> {
-    let are_right = are_alike(asked, twin) && answer_alike(asked, twin);
-    Ok(are_right && lists(alloc, asked, count)? && lists(alloc, twin, count)?)
+fn is_as_before(alloc: Global, asked: &Position, twin: &Position, count: usize) -> bool {
+    are_alike(asked, twin)
+        && answer_alike(asked, twin)
+        && lists(alloc, asked, count)
+        && lists(alloc, twin, count)
 }
 
 /// Whether the plays of a row are listed. If a growth is refused, the position answers as one that was not asked, and
 /// the next call gives the list.
-fn is_listed(alloc: Global, row: &Row) -> Result<bool, Fail> {
+fn is_listed(alloc: Global, row: &Row) -> Option<bool> {
     let asked = position(row.board)?;
     if asked.plays(alloc).is_ok() {
-        return Ok(true);
+        return Some(true);
     }
-    is_as_before(alloc, &asked, &position(row.board)?, row.plays.len())
+    let twin = position(row.board)?;
+    Some(is_as_before(alloc, &asked, &twin, row.plays.len()))
+}
+
+/// Asserts that the plays of these rows are listed.
+fn assert_listed(rt: &(impl Abort + AllocGlobal), rows: &[Row]) {
+    for row in rows {
+        assert!(rt; is_listed(rt.alloc(), row) == Some(true), "{}", row.name);
+    }
 }
 
 #[test]
-fn plays_are_listed_under_refused_memory(rt: HostRuntime) -> Result<(), Fail> {
-    for row in rows() {
-        assert!(rt; is_listed(rt.alloc(), row)?, "{}", row.name);
+fn plays_are_listed_under_refused_memory(rt: HostRuntime) {
+    for table in rows() {
+        assert_listed(&rt, table);
     }
-    Ok(())
 }
 
 /// Boards without a position.
@@ -100,24 +102,28 @@ static BAD: [(&str, &[u8]); 4] = [
     ),
 ];
 
+/// Asserts that nothing is carried out on the board of a line.
+fn assert_still(rt: &impl Abort, name: &str, line: &[u8]) {
+    let board = Board::read(line).expect(rt, "it is a board");
+    let after = effect(&board, &Decision::Roll, [1, 1]);
+    assert!(rt; after.is_none(), "{name}");
+}
+
 #[test]
-fn nothing_is_carried_out_without_a_position(rt: HostRuntime) -> Result<(), Fail> {
+fn nothing_is_carried_out_without_a_position(rt: HostRuntime) {
     for (name, line) in &BAD {
-        let after = effect(&board(line)?, &Decision::Roll, [1, 1]);
-        assert!(rt; after.is_none(), "{name}");
+        assert_still(&rt, name, line);
     }
-    Ok(())
 }
 
 /// A client sees no board of another player, so no caller in C does.
 #[test]
-fn boards_do_not_differ_in_the_player(rt: HostRuntime) -> Result<(), Fail> {
-    let first = board(
+fn boards_do_not_differ_in_the_player(rt: HostRuntime) {
+    let first = Board::read(
         b"board:You:bob:3:0:1:0:-2:0:0:0:0:5:0:3:0:0:0:-5:5:0:0:0:-3:0:-5:0:0:0:0:2:0:1:0:0:0:0:1:1:1:0:1:-1:0:25:0:0:0:0:0:0:0:0",
-    )?;
-    let player = board(
+    ).expect(&rt, "it is a board");
+    let player = Board::read(
         b"board:Yet:bob:3:0:1:0:-2:0:0:0:0:5:0:3:0:0:0:-5:5:0:0:0:-3:0:-5:0:0:0:0:2:0:1:0:0:0:0:1:1:1:0:1:-1:0:25:0:0:0:0:0:0:0:0",
-    )?;
+    ).expect(&rt, "it is a board");
     assert!(rt; !differs(&first, &player));
-    Ok(())
 }
