@@ -9,22 +9,22 @@ use fibs_session::{
     Client, Input, Login, Outstanding, Plain, PlainFault, PlainRefusal, Refusal, Session,
     run_client,
 };
-use std::alloc::Global;
+use std::alloc::{AllocError, Global};
 use std::process::Abort;
-use std::test::Fail;
 
 /// The login of the tests.
-fn login() -> Result<Login, Fail> {
-    Ok(Login::new(b"ann", b"secret").ok().ok_or("no login")?)
+fn login(rt: &impl Abort) -> Login {
+    Login::new(b"ann", b"secret").expect(rt, "it is a login")
 }
 
 /// A client that may decide as soon as a board is shown.
-fn ready() -> Result<Client, Fail> {
-    let mut client = Client::new(login()?);
-    client.open().ok().ok_or("open")?;
+fn ready(rt: &impl Abort) -> Client {
+    let mut client = Client::new(login(rt));
+    let is_open = client.open().is_ok();
+    assert!(rt; is_open, "open");
     feed_line(&mut client, WELCOME);
     feed_line(&mut client, INFO);
-    Ok(client)
+    client
 }
 
 /// Feeds a line.
@@ -33,22 +33,16 @@ fn feed_line(client: &mut Client, line: &[u8]) {
     client.feed(b"\r\n");
 }
 
-/// The board of a line.
-fn board_of(line: &[u8]) -> Result<Board, Fail> {
-    Ok(Board::read(line).ok().ok_or("no board")?)
-}
-
 /// A line that was not cut.
 fn whole(bytes: &[u8]) -> Line<'_> {
     Line { bytes, cut: false }
 }
 
 /// The user's roll on the board of a line.
-fn roll_on(line: &[u8]) -> Result<Outstanding, Fail> {
-    Ok(Outstanding {
-        board: board_of(line)?,
-        decision: Decision::Roll,
-    })
+fn roll_on(line: &[u8]) -> Option<Outstanding> {
+    let board = Board::read(line).ok()?;
+    let decision = Decision::Roll;
+    Some(Outstanding { board, decision })
 }
 
 /// Whether a session answers a line by this one command.
@@ -98,13 +92,14 @@ fn is_confirmed(session: &mut Session, roll: &Outstanding) -> [bool; 4] {
 
 /// A session is a client without its bytes: it hears whole lines.
 #[test]
-fn a_session_hears_whole_lines(rt: HostRuntime) -> Result<(), Fail> {
-    let mut session = Session::new(login()?);
+fn a_session_hears_whole_lines(rt: HostRuntime) {
+    let mut session = Session::new(login(&rt));
     roll_by_order(&rt, &mut session);
     let answers = answers_waiting(&mut session);
-    let confirmed = is_confirmed(&mut session, &roll_on(NO_DOUBLE)?);
-    assert_eq!(rt; [answers, confirmed], [[true; 4]; 2]);
-    Ok(())
+    assert!(rt; answers == [true; 4], "what it answers while a roll waits");
+    let roll = roll_on(NO_DOUBLE).expect(&rt, "it is a board");
+    let confirmed = is_confirmed(&mut session, &roll);
+    assert!(rt; confirmed == [true; 4], "the board, the roll and its end");
 }
 
 /// A call of a client.
@@ -181,22 +176,31 @@ static ROLLED: [(Call, Option<Refusal>, bool); 2] = [
 ];
 
 /// Whether the line end confirms a roll on this board, so that nothing waits then.
-fn ends_confirming(client: &mut Client, line: &[u8]) -> Result<bool, Fail> {
+fn ends_confirming(client: &mut Client, line: &[u8]) -> bool {
     let confirmed = feed_confirming(client, b"\n");
-    Ok(confirmed == Some(roll_on(line)?) && client.lose().is_none())
+    let roll = roll_on(line);
+    roll.is_some() && confirmed == roll && client.lose().is_none()
+}
+
+/// Whether all of a piece is used, and no line ends in it.
+fn is_used_without_end(client: &mut Client, piece: &[u8]) -> bool {
+    feed(client, piece) == (piece.len(), false)
 }
 
 /// How much of a piece is used: up to its first line end, or all of it. What confirms a decision has its board.
 #[test]
-fn a_piece_is_used_up_to_its_first_line_end(rt: HostRuntime) -> Result<(), Fail> {
-    let mut client = ready()?;
+fn a_piece_is_used_up_to_its_first_line_end(rt: HostRuntime) {
+    let mut client = ready(&rt);
     let text = feed_text(&mut client, b"[board]\r\nrest", b"[board]") == Some(9);
     assert_answered(&rt, &mut client, &ROLLED);
-    let without_end = feed(&mut client, TO_MOVE) == (TO_MOVE.len(), false);
-    let confirmed = ends_confirming(&mut client, TO_ROLL)?;
-    let offline = feed(&mut client, TO_ROLL) == (TO_ROLL.len(), false);
-    assert_eq!(rt; [text, without_end, confirmed, offline], [true; 4]);
-    Ok(())
+    let without_end = is_used_without_end(&mut client, TO_MOVE);
+    let confirmed = ends_confirming(&mut client, TO_ROLL);
+    let offline = is_used_without_end(&mut client, TO_ROLL);
+    let are_used = [text, without_end, confirmed, offline];
+    assert!(rt;
+        are_used == [true; 4],
+        "a text, a board, its end, and offline"
+    );
 }
 
 /// The front of a board's line, and its rest.
@@ -228,15 +232,14 @@ fn is_just_a_text(client: &mut Client, piece: &[u8]) -> bool {
 
 /// Half a line is forgotten with its connection: its other half is a text on the next one.
 #[test]
-fn half_a_line_does_not_pass_into_the_next_connection(rt: HostRuntime) -> Result<(), Fail> {
-    let mut client = ready()?;
+fn half_a_line_does_not_pass_into_the_next_connection(rt: HostRuntime) {
+    let mut client = ready(&rt);
     feed_line(&mut client, TO_ROLL);
     let has_ended = feed(&mut client, FRONT).1;
     assert_answered(&rt, &mut client, &REOPENED);
     let is_text = is_just_a_text(&mut client, REST);
     assert!(rt; is_text && !has_ended, "no line has ended, and then a text");
     assert_answered(&rt, &mut client, &GREETED_LATE);
-    Ok(())
 }
 
 static GREETED_BY_A_PLAYER: [(Call, Option<Refusal>, bool); 5] = [
@@ -277,16 +280,13 @@ fn rolls(client: &mut Client) -> bool {
 
 /// Where the server plays, the user does not decide, also after he has turned that off; on the next connection he does.
 #[test]
-fn where_the_server_plays_the_user_does_not_decide(rt: HostRuntime) -> Result<(), Fail> {
-    let mut client = Client::new(login()?);
+fn where_the_server_plays_the_user_does_not_decide(rt: HostRuntime) {
+    let mut client = Client::new(login(&rt));
     assert_answered(&rt, &mut client, &GREETED_BY_A_PLAYER);
     let is_off = is_turned_off(&mut client);
+    assert!(rt; is_off, "turned off");
     assert_answered(&rt, &mut client, &GREETED_AGAIN);
-    assert!(rt;
-        is_off && rolls(&mut client),
-        "turned off: {is_off}, and a roll"
-    );
-    Ok(())
+    assert!(rt; rolls(&mut client), "a roll");
 }
 
 static ORDERED: [(Call, Option<Refusal>, bool); 6] = [
@@ -300,10 +300,9 @@ static ORDERED: [(Call, Option<Refusal>, bool); 6] = [
 
 /// An order ends with its connection.
 #[test]
-fn a_new_connection_has_no_order(rt: HostRuntime) -> Result<(), Fail> {
-    let mut client = Client::new(login()?);
+fn a_new_connection_has_no_order(rt: HostRuntime) {
+    let mut client = Client::new(login(&rt));
     assert_answered(&rt, &mut client, &ORDERED);
-    Ok(())
 }
 
 /// The inputs of a run.
@@ -337,21 +336,20 @@ fn inputs_of_a_run() -> [Input<'static>; 25] {
     ]
 }
 
-/// All that this run hands out. If a growth is refused, it is run again.
-fn run_in(alloc: Global) -> Result<Vec<u8>, Fail> {
-    let inputs = inputs_of_a_run();
-    match run_client(alloc, login()?, &inputs) {
-        Ok(bytes) => Ok(bytes),
-        Err(_refused) => Ok(run_client(alloc, login()?, &inputs)?),
-    }
+/// Whether this run hands out its commands, if no growth is refused.
+fn hands_out(alloc: Global, login: Login) -> Option<bool> {
+    let bytes = run_client(alloc, login, &inputs_of_a_run()).ok()?;
+    Some(bytes.as_slice() == COMMANDS_OF_A_RUN)
 }
 
 /// If a growth is refused, the run says so, and the next one is whole.
 #[test]
-fn runs_hand_out_their_commands_under_refused_memory(rt: HostRuntime) -> Result<(), Fail> {
-    let bytes = run_in(rt.alloc())?;
-    assert!(rt; bytes.as_slice() == COMMANDS_OF_A_RUN, "{bytes:?}");
-    Ok(())
+fn runs_hand_out_their_commands_under_refused_memory(rt: HostRuntime) {
+    let mut is_whole = hands_out(rt.alloc(), login(&rt));
+    if is_whole.is_none() {
+        is_whole = hands_out(rt.alloc(), login(&rt));
+    }
+    assert!(rt; is_whole == Some(true), "the commands of a run");
 }
 
 /// What that run hands out.
@@ -382,48 +380,57 @@ static PLAIN_TOLD: [(PlainRefusal, &str); 3] = [
 ];
 
 /// Whether a refusal has this number and prints so.
-fn is_told(alloc: Global, why: &Refusal, wanted: &str) -> Result<bool, Fail> {
-    let told = format!(in alloc; "{} {why} {why:?}", why.number())?;
-    Ok(told.as_str() == wanted)
+fn is_told(alloc: Global, why: &Refusal, wanted: &str) -> bool {
+    match format!(in alloc; "{} {why} {why:?}", why.number()) {
+        Ok(told) => told.as_str() == wanted,
+        Err(_) => false,
+    }
 }
 
 /// The same of a refusal of a command that decides nothing.
-fn is_plain_told(alloc: Global, why: &PlainRefusal, wanted: &str) -> Result<bool, Fail> {
-    let told = format!(in alloc; "{} {why}", why.number())?;
-    Ok(told.as_str() == wanted)
+fn is_plain_told(alloc: Global, why: &PlainRefusal, wanted: &str) -> bool {
+    match format!(in alloc; "{} {why}", why.number()) {
+        Ok(told) => told.as_str() == wanted,
+        Err(_) => false,
+    }
 }
 
 #[test]
-fn refusals_are_told_by_their_numbers_and_names(rt: HostRuntime) -> Result<(), Fail> {
+fn refusals_are_told_by_their_numbers_and_names(rt: HostRuntime) {
     for (why, wanted) in &TOLD {
-        assert!(rt; is_told(rt.alloc(), why, wanted)?, "{wanted}");
+        assert!(rt; is_told(rt.alloc(), why, wanted), "{wanted}");
     }
     for (why, wanted) in &PLAIN_TOLD {
-        assert!(rt; is_plain_told(rt.alloc(), why, wanted)?, "{wanted}");
+        assert!(rt; is_plain_told(rt.alloc(), why, wanted), "{wanted}");
     }
-    Ok(())
 }
 
 /// Refusals in columns, by their widths.
-fn in_columns(alloc: Global) -> Result<String, Fail> {
+fn in_columns(alloc: Global) -> Result<String, AllocError> {
     let no_board = Refusal::NoBoard;
     let (not_on, plain_not_on) = (Refusal::NotOn, PlainRefusal::NotOn);
     let (offline, bad_text) = (
         PlainRefusal::Offline,
         PlainRefusal::Fault(PlainFault::BadText),
     );
-    Ok(format!(in alloc;
-        "{no_board:>10}|{not_on:<8}|{plain_not_on:^9}|{offline:>8}|{bad_text:>10}"
-    )?)
+    format!(in alloc; "{no_board:>10}|{not_on:<8}|{plain_not_on:^9}|{offline:>8}|{bad_text:>10}")
+}
+
+/// Refusals in columns.
+static COLUMNS: &str = "   NoBoard|NotOn   |  NotOn  | Offline|   BadText";
+
+/// Whether the columns are these.
+fn are_in_columns(alloc: Global) -> bool {
+    match in_columns(alloc) {
+        Ok(texts) => texts.as_str() == COLUMNS,
+        Err(_) => false,
+    }
 }
 
 /// A width is kept, so that refusals are in columns.
 #[test]
-fn refusals_are_padded_to_a_width(rt: HostRuntime) -> Result<(), Fail> {
-    let texts = in_columns(rt.alloc())?;
-    let wanted = "   NoBoard|NotOn   |  NotOn  | Offline|   BadText";
-    assert!(rt; texts.as_str() == wanted, "{texts}");
-    Ok(())
+fn refusals_are_padded_to_a_width(rt: HostRuntime) {
+    assert!(rt; are_in_columns(rt.alloc()), "{COLUMNS}");
 }
 
 /// Messages 1 and 2 with their line ends.
@@ -434,7 +441,7 @@ const GREETING: &[u8] = b"1 ann 1041253132 localhost\r\n\
 const CONNECTIONS_OF_A_RUN: u32 = 200;
 
 /// A part so many times.
-fn repeated(alloc: Global, times: u32, part: &[u8]) -> Result<Vec<u8>, Fail> {
+fn repeated(alloc: Global, times: u32, part: &[u8]) -> Result<Vec<u8>, AllocError> {
     let mut bytes = Vec::new(alloc);
     for _ in 0..times {
         bytes.extend_from_slice(part)?;
@@ -442,31 +449,31 @@ fn repeated(alloc: Global, times: u32, part: &[u8]) -> Result<Vec<u8>, Fail> {
     Ok(bytes)
 }
 
-/// What is handed out on so many connections, on each of which this piece comes.
-fn run_connections(alloc: Global, piece: &[u8]) -> Result<Vec<u8>, Fail> {
+/// The inputs of so many connections, on each of which this piece comes.
+fn connections(alloc: Global, piece: &[u8]) -> Result<Vec<Input<'_>>, AllocError> {
     let inputs = [Input::Open, Input::Piece(piece), Input::Lose];
     let mut all = Vec::new(alloc);
     for _ in 0..CONNECTIONS_OF_A_RUN {
         all.extend_from_slice(&inputs)?;
     }
-    Ok(run_client(alloc, login()?, all.as_slice())?)
+    Ok(all)
 }
 
 /// Whether a long run hands out all of its commands.
-fn is_whole_run(alloc: Global, piece: &[u8]) -> Result<bool, Fail> {
+fn is_whole_run(alloc: Global, login: Login, piece: &[u8]) -> Result<bool, AllocError> {
     let answers = b"login fibs_client 1008 ann secret\r\nset boardstyle 3\r\nboard\r\n";
     let wanted = repeated(alloc, CONNECTIONS_OF_A_RUN, answers)?;
-    Ok(run_connections(alloc, piece)? == wanted)
+    let inputs = connections(alloc, piece)?;
+    Ok(run_client(alloc, login, inputs.as_slice())? == wanted)
 }
 
 /// However much comes and goes, a run with ample memory hands out all of it.
 #[test]
-fn a_long_run_hands_out_every_command(rt: HostRuntime) -> Result<(), Fail> {
-    let piece = repeated(rt.alloc(), 100, GREETING)?;
-    let is_whole = is_whole_run(rt.alloc(), &piece)?;
+fn a_long_run_hands_out_every_command(rt: HostRuntime) {
+    let piece = repeated(rt.alloc(), 100, GREETING).expect(&rt, "memory is ample");
+    let is_whole = is_whole_run(rt.alloc(), login(&rt), &piece) == Ok(true);
     assert!(rt;
         piece.len() > 8000 && is_whole,
         "each command of a long piece"
     );
-    Ok(())
 }

@@ -7,7 +7,6 @@ use fibs_position::{Decision, Direction, PositionFault};
 use fibs_session::decision_text;
 use std::alloc::Global;
 use std::process::Abort;
-use std::test::Fail;
 
 /// A line that the server takes.
 #[derive(Clone, Copy)]
@@ -27,7 +26,7 @@ struct Case {
     lines: &'static [(Line, &'static str, &'static [u8])],
 }
 
-static CASES: [Case; 9] = [
+static DICE_AND_TURNS: [Case; 3] = [
     Case {
         name: "a roll is carried out once",
         begins: TO_ROLL,
@@ -65,33 +64,37 @@ static CASES: [Case; 9] = [
             (Later(1, b"resign n", [1, 1]), "Undone resign n", DOUBLED),
         ],
     },
-    Case {
-        name: "a later login ends the service of the older connection",
-        begins: ONE_STEP,
-        lines: &[
-            (Later(1, b"move 24-18", [1, 1]), "Stale", ONE_STEP),
-            (First(1, b"move 24-18"), "LoggedIn", ONE_STEP),
-            (Later(1, b"mov", [1, 1]), "Answered", ONE_STEP),
-            (
-                First(2, b"login fibs_client 1008 ann secret"),
-                "LoggedIn",
-                ONE_STEP,
-            ),
-            (Later(1, b"move 24-18", [1, 1]), "Stale", ONE_STEP),
-            (
-                First(1, b"login fibs_client 1008 ann secret"),
-                "Stale",
-                ONE_STEP,
-            ),
-            (Later(3, b"move 24-18", [1, 1]), "Stale", ONE_STEP),
-            (Later(2, b"move 24-18", [1, 1]), "Took move 24-18", STEPPED),
-            (
-                First(4, b"login fibs_client 1008 ann secret"),
-                "LoggedIn",
-                STEPPED,
-            ),
-        ],
-    },
+];
+
+static LOGINS: [Case; 1] = [Case {
+    name: "a later login ends the service of the older connection",
+    begins: ONE_STEP,
+    lines: &[
+        (Later(1, b"move 24-18", [1, 1]), "Stale", ONE_STEP),
+        (First(1, b"move 24-18"), "LoggedIn", ONE_STEP),
+        (Later(1, b"mov", [1, 1]), "Answered", ONE_STEP),
+        (
+            First(2, b"login fibs_client 1008 ann secret"),
+            "LoggedIn",
+            ONE_STEP,
+        ),
+        (Later(1, b"move 24-18", [1, 1]), "Stale", ONE_STEP),
+        (
+            First(1, b"login fibs_client 1008 ann secret"),
+            "Stale",
+            ONE_STEP,
+        ),
+        (Later(3, b"move 24-18", [1, 1]), "Stale", ONE_STEP),
+        (Later(2, b"move 24-18", [1, 1]), "Took move 24-18", STEPPED),
+        (
+            First(4, b"login fibs_client 1008 ann secret"),
+            "LoggedIn",
+            STEPPED,
+        ),
+    ],
+}];
+
+static MOVES: [Case; 3] = [
     Case {
         name: "a checker is hit",
         begins: TO_HIT,
@@ -130,6 +133,9 @@ static CASES: [Case; 9] = [
             ),
         ],
     },
+];
+
+static LIMITS: [Case; 2] = [
     Case {
         name: "a double beyond the limit of the cube can only be rejected",
         begins: TO_ANSWER,
@@ -154,20 +160,22 @@ static CASES: [Case; 9] = [
     },
 ];
 
-/// The decision's command, for a player who goes down.
-fn with_command(alloc: Global, word: &str, decision: &Decision) -> Result<String, Fail> {
-    let command = decision_text(decision, Direction::Down);
-    Ok(format!(in alloc; "{word} {command}")?)
+/// Whether a text is this word and the command of the decision of a player who goes down.
+fn is_command(text: &str, word: &str, decision: &Decision) -> bool {
+    match text.strip_prefix(word) {
+        Some(command) => decision_text(decision, Direction::Down).as_str() == command,
+        None => false,
+    }
 }
 
-/// The answer's name, with the decision of a player who goes down.
-fn text_of(alloc: Global, served: &Served) -> Result<String, Fail> {
+/// Whether a text is the answer's name, with the decision of a player who goes down.
+fn is_answer(served: &Served, text: &str) -> bool {
     match served {
-        Served::Stale => Ok(String::from_str(alloc, "Stale")?),
-        Served::LoggedIn => Ok(String::from_str(alloc, "LoggedIn")?),
-        Served::Took(decision) => with_command(alloc, "Took", decision),
-        Served::Undone(decision) => with_command(alloc, "Undone", decision),
-        Served::Answered => Ok(String::from_str(alloc, "Answered")?),
+        Served::Stale => text == "Stale",
+        Served::LoggedIn => text == "LoggedIn",
+        Served::Took(decision) => is_command(text, "Took ", decision),
+        Served::Undone(decision) => is_command(text, "Undone ", decision),
+        Served::Answered => text == "Answered",
     }
 }
 
@@ -180,53 +188,62 @@ fn serve(server: &mut Server, line: Line) -> Option<Served> {
     }
 }
 
-fn board(line: &[u8]) -> Result<Board, Fail> {
-    Ok(Board::read(line).ok().ok_or("no board")?)
+fn board(line: &[u8]) -> Option<Board> {
+    Board::read(line).ok()
 }
 
-fn server(line: &[u8]) -> Result<Server, Fail> {
-    Ok(Server::new(board(line)?).ok().ok_or("not good")?)
+fn server(line: &[u8]) -> Option<Server> {
+    Server::new(board(line)?).ok()
 }
 
 /// Whether a line is answered so, and leads to this board.
-fn is_served(alloc: Global, server: &mut Server, row: &(Line, &str, &[u8])) -> Result<bool, Fail> {
+fn is_served(server: &mut Server, row: &(Line, &str, &[u8])) -> bool {
     let (line, wanted, after) = *row;
-    let served = serve(server, line).ok_or("connection 0")?;
-    let told = text_of(alloc, &served)?;
-    Ok(told.as_str() == wanted && *server.board() == board(after)?)
+    let is_answered = match serve(server, line) {
+        Some(served) => is_answer(&served, wanted),
+        None => false,
+    };
+    is_answered && Some(*server.board()) == board(after)
 }
 
 /// Nobody is logged in at first. The lines of a case are answered so, and lead to these boards.
-fn assert_served(rt: &(impl Abort + AllocGlobal), case: &Case) -> Result<(), Fail> {
-    let mut server = server(case.begins)?;
+fn assert_served(rt: &impl Abort, case: &Case) {
+    let mut server = server(case.begins).expect(rt, "it is a good board");
     let is_new = server.logged_in() == 0;
     for row in case.lines {
-        let is_served = is_served(rt.alloc(), &mut server, row)?;
+        let is_served = is_served(&mut server, row);
         assert!(rt; is_new && is_served, "{}: {}", case.name, row.1);
     }
-    Ok(())
+}
+
+/// Asserts that the lines of these cases are served so.
+fn assert_all_served(rt: &impl Abort, cases: &[Case]) {
+    for case in cases {
+        assert_served(rt, case);
+    }
 }
 
 #[test]
-fn lines_are_served(rt: HostRuntime) -> Result<(), Fail> {
-    for case in &CASES {
-        assert_served(&rt, case)?;
-    }
-    Ok(())
+fn lines_are_served(rt: HostRuntime) {
+    assert_all_served(&rt, &DICE_AND_TURNS);
+    assert_all_served(&rt, &LOGINS);
+    assert_all_served(&rt, &MOVES);
+    assert_all_served(&rt, &LIMITS);
 }
 
+/// Boards that a server begins with, or the fault for which it does not.
+static BEGUN: [(&str, &[u8], Option<PositionFault>); 3] = [
+    ("one to roll on", TO_ROLL, None),
+    ("one of others", OF_OTHERS, Some(PositionFault::NotYou)),
+    ("16 checkers", TOO_MANY, Some(PositionFault::TooManyOwn)),
+];
+
 #[test]
-fn only_good_boards_begin(rt: HostRuntime) -> Result<(), Fail> {
-    let boards = [
-        ("one to roll on", TO_ROLL, None),
-        ("one of others", OF_OTHERS, Some(PositionFault::NotYou)),
-        ("16 checkers", TOO_MANY, Some(PositionFault::TooManyOwn)),
-    ];
-    for (name, line, fault) in &boards {
-        let refused = Server::new(board(line)?).err();
-        assert!(rt; refused == *fault, "{name}");
+fn only_good_boards_begin(rt: HostRuntime) {
+    for (name, line, fault) in &BEGUN {
+        let board = board(line).expect(&rt, "it is a board");
+        assert!(rt; Server::new(board).err() == *fault, "{name}");
     }
-    Ok(())
 }
 
 const DECIDES: Option<WorldRefusal> = Some(WorldRefusal::UserDecides);
@@ -264,28 +281,22 @@ static OWN: [Own; 9] = [
 ];
 
 /// Whether the server greets a login, answers its own board so, has the right board then, and is logged in still.
-fn shows_its_own(row: &Own) -> Result<[bool; 4], Fail> {
+fn shows_its_own(row: &Own) -> Option<[bool; 4]> {
     let (_, before, own, refusal) = *row;
     let mut server = server(before)?;
     let greets = server.serve(3, true, b"", [1, 1]) == Served::LoggedIn;
     let is_answered = server.own(&board(own)?).err() == refusal;
     let stands = if refusal.is_none() { own } else { before };
-    let is_shown = *server.board() == board(stands)?;
-    Ok([greets, is_answered, is_shown, server.logged_in() == 3])
+    let is_shown = Some(*server.board()) == board(stands);
+    Some([greets, is_answered, is_shown, server.logged_in() == 3])
 }
 
 #[test]
-fn boards_of_its_own_come_where_the_user_does_not_decide(rt: HostRuntime) -> Result<(), Fail> {
+fn boards_of_its_own_come_where_the_user_does_not_decide(rt: HostRuntime) {
     for row in &OWN {
-        let is_right = shows_its_own(row)?;
-        assert_eq!(rt;
-            is_right,
-            [true; 4],
-            "login, answer, board and connection: {}",
-            row.0
-        );
+        let is_right = shows_its_own(row) == Some([true; 4]);
+        assert!(rt; is_right, "login, answer, board and connection: {}", row.0);
     }
-    Ok(())
 }
 
 /// Refusals, with their numbers and names.
@@ -302,15 +313,16 @@ static REFUSALS: [(WorldRefusal, &str); 9] = [
 ];
 
 /// Whether a refusal has this number and prints so.
-fn is_told(alloc: Global, refusal: WorldRefusal, wanted: &str) -> Result<bool, Fail> {
-    let told = format!(in alloc; "{} {refusal}", refusal.number())?;
-    Ok(told.as_str() == wanted)
+fn is_told(alloc: Global, refusal: WorldRefusal, wanted: &str) -> bool {
+    match format!(in alloc; "{} {refusal}", refusal.number()) {
+        Ok(told) => told.as_str() == wanted,
+        Err(_) => false,
+    }
 }
 
 #[test]
-fn refusals_have_numbers_and_names(rt: HostRuntime) -> Result<(), Fail> {
+fn refusals_have_numbers_and_names(rt: HostRuntime) {
     for (refusal, wanted) in &REFUSALS {
-        assert!(rt; is_told(rt.alloc(), *refusal, wanted)?, "{wanted}");
+        assert!(rt; is_told(rt.alloc(), *refusal, wanted), "{wanted}");
     }
-    Ok(())
 }

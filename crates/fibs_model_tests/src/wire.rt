@@ -3,7 +3,6 @@
 use crate::boards::*;
 use fibs_model::wire::{Wire, is_board_text, line_ends, whole_line};
 use std::alloc::{AllocError, Global};
-use std::test::Fail;
 
 /// Bytes, and how long their first line is, if it is whole.
 static WHOLE: [(&[u8], Option<usize>); 9] = [
@@ -41,12 +40,11 @@ fn line_ends_are_counted(rt: HostRuntime) {
 }
 
 #[test]
-fn texts_are_put_with_cr_lf(rt: HostRuntime) -> Result<(), Fail> {
-    let mut wire = Wire::with_room(rt.alloc(), 8)?;
+fn texts_are_put_with_cr_lf(rt: HostRuntime) {
+    let mut wire = Wire::with_room(rt.alloc(), 8).expect(&rt, "memory is ample");
     wire.put(b"roll");
     wire.put(b"");
-    assert_eq!(rt; wire.bytes(), b"roll\r\n\r\n".as_slice());
-    Ok(())
+    assert!(rt; wire.bytes() == b"roll\r\n\r\n".as_slice());
 }
 
 /// A text that is put on a wire, how many bytes are taken then, and what is left.
@@ -72,27 +70,34 @@ fn is_taken(wire: &mut Wire, count: usize) -> bool {
     has
 }
 
-#[test]
-fn bytes_that_were_taken_are_on_a_wire_no_longer(rt: HostRuntime) -> Result<(), Fail> {
-    let mut wire = Wire::new(rt.alloc());
-    for (text, count, left) in &TAKEN {
-        if let Some(text) = text {
-            wire.reserve(text.len() + 2)?;
-            wire.put(text);
-        }
-        let is_left = is_taken(&mut wire, *count) && wire.bytes() == *left;
-        assert!(rt; is_left, "{left:?}");
+/// Puts a text on a wire. Whether there is room for it.
+fn is_put(wire: &mut Wire, text: &[u8]) -> bool {
+    let has_room = wire.reserve(text.len() + 2).is_ok();
+    if has_room {
+        wire.put(text);
     }
-    Ok(())
+    has_room
 }
 
 #[test]
-fn the_next_bytes_are_those_that_a_wire_has(rt: HostRuntime) -> Result<(), Fail> {
-    let mut wire = Wire::with_room(rt.alloc(), 6)?;
+fn bytes_that_were_taken_are_on_a_wire_no_longer(rt: HostRuntime) {
+    let mut wire = Wire::new(rt.alloc());
+    for (text, count, left) in &TAKEN {
+        let has_room = match text {
+            Some(text) => is_put(&mut wire, text),
+            None => true,
+        };
+        let is_left = is_taken(&mut wire, *count) && wire.bytes() == *left;
+        assert!(rt; has_room && is_left, "{left:?}");
+    }
+}
+
+#[test]
+fn the_next_bytes_are_those_that_a_wire_has(rt: HostRuntime) {
+    let mut wire = Wire::with_room(rt.alloc(), 6).expect(&rt, "memory is ample");
     wire.put(b"move");
     let is_next = wire.next(3) == b"mov".as_slice() && wire.next(7) == b"move\r\n".as_slice();
     assert!(rt; is_next);
-    Ok(())
 }
 
 /// How many bytes are taken, how many a cut keeps then, and what is left.
@@ -106,13 +111,12 @@ fn is_cut(wire: &mut Wire, count: usize, kept: usize, left: &[u8]) -> bool {
 }
 
 #[test]
-fn a_cut_leaves_the_first_bytes_on_their_way(rt: HostRuntime) -> Result<(), Fail> {
-    let mut wire = Wire::with_room(rt.alloc(), 6)?;
+fn a_cut_leaves_the_first_bytes_on_their_way(rt: HostRuntime) {
+    let mut wire = Wire::with_room(rt.alloc(), 6).expect(&rt, "memory is ample");
     wire.put(b"roll");
     for (count, kept, left) in &CUT {
         assert!(rt; is_cut(&mut wire, *count, *kept, left), "{left:?}");
     }
-    Ok(())
 }
 
 /// Appends a part so many times.
@@ -215,9 +219,9 @@ fn is_seen(alloc: Global, row: &Framed) -> Result<bool, AllocError> {
 }
 
 #[test]
-fn boards_are_seen_as_the_client_reads_them(rt: HostRuntime) -> Result<(), Fail> {
+fn boards_are_seen_as_the_client_reads_them(rt: HostRuntime) {
     for row in &FRAMED {
-        assert!(rt; is_seen(rt.alloc(), row)? == row.3, "{}", row.0);
+        let is_seen = is_seen(rt.alloc(), row) == Ok(row.3);
+        assert!(rt; is_seen, "{}", row.0);
     }
-    Ok(())
 }

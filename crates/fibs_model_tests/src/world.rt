@@ -6,32 +6,27 @@ use fibs_messages::Board;
 use fibs_model::{Event, World, WorldRefusal};
 use fibs_position::Decision;
 use fibs_session::Login;
-use std::alloc::Global;
-use std::test::Fail;
+use std::process::Abort;
 
 const WELCOME: &[u8] = b"1 ann 1041253132 localhost";
 
 const INFO: &[u8] = b"2 ann 1 1 0 0 0 0 1 1 10 0 1 0 1 1500.00 0 0 0 0 0 UTC";
 
-fn board(line: &[u8]) -> Result<Board, Fail> {
-    Ok(Board::read(line).ok().ok_or("no board")?)
+fn board(line: &[u8]) -> Option<Board> {
+    Board::read(line).ok()
 }
 
-fn world(alloc: Global, line: &[u8]) -> Result<World, Fail> {
-    let login = Login::new(b"ann", b"secret").ok().ok_or("no login")?;
-    Ok(
-        World::new(alloc, board(line)?, login)
-            .ok()
-            .ok_or("not good")?,
-    )
+fn world(rt: &(impl Abort + AllocGlobal), line: &[u8]) -> World {
+    let board = board(line).expect(rt, "it is a board");
+    let login = Login::new(b"ann", b"secret").expect(rt, "it is a login");
+    World::new(rt.alloc(), board, login).expect(rt, "it is a good board")
 }
 
 #[test]
-fn a_text_of_two_lines_may_not_be(rt: HostRuntime) -> Result<(), Fail> {
-    let mut world = world(rt.alloc(), TO_ROLL)?;
+fn a_text_of_two_lines_may_not_be(rt: HostRuntime) {
+    let mut world = world(&rt, TO_ROLL);
     let is_refused = world.step(&Event::Text(b"a\nb")) == Err(WorldRefusal::BoardAsText);
     assert!(rt; is_refused && world.log().is_empty() && world.shown().is_none());
-    Ok(())
 }
 
 /// How many of so many events are done, and the length of the log then, if none is refused.
@@ -46,10 +41,9 @@ fn counts_of_runs(world: &mut World) -> Option<[usize; 3]> {
 
 /// With ample memory a run ends where its events end, however many they are.
 #[test]
-fn a_long_run_is_whole(rt: HostRuntime) -> Result<(), Fail> {
-    let mut world = world(rt.alloc(), TO_ROLL)?;
+fn a_long_run_is_whole(rt: HostRuntime) {
+    let mut world = world(&rt, TO_ROLL);
     assert!(rt; counts_of_runs(&mut world) == Some([100, 1000, 1000]));
-    Ok(())
 }
 
 /// The events of a second click before the answer, and a line that is not there.
@@ -96,27 +90,26 @@ fn run_in_a_row(world: &mut World, events: &[Event<'_>]) -> (usize, Option<World
 }
 
 /// Whether both worlds have a log of so many lines, and the first shows this board.
-fn are_at(world: &World, twin: &World, lines: usize, shown: &[u8]) -> Result<bool, Fail> {
-    let are_alike = world.log() == twin.log() && world.log().len() == lines;
-    Ok(are_alike && world.shown() == Some(&board(shown)?))
+fn are_at(world: &World, twin: &World, lines: usize, shown: &Board) -> bool {
+    world.log() == twin.log() && world.log().len() == lines && world.shown() == Some(shown)
 }
 
-/// Whether a run in a row, and one step by step, stop at the line that is not there, and lead to the same.
-fn stop_alike(in_a_row: &mut World, stepwise: &mut World) -> Result<bool, Fail> {
+/// Whether a run in a row, and one step by step, stop at the line that is not there.
+fn stop_alike(in_a_row: &mut World, stepwise: &mut World) -> bool {
     let events = clicked_twice();
     let wanted = (13, Some(WorldRefusal::NothingToServe));
     let is_stopped = run_in_a_row(in_a_row, &events) == wanted;
-    let is_refused = steps_taken(stepwise, &events) == wanted;
-    Ok(is_stopped && is_refused && are_at(in_a_row, stepwise, 12, TO_MOVE)?)
+    is_stopped && steps_taken(stepwise, &events) == wanted
 }
 
 /// A run does the events before the first that is refused. Step by step each of them is taken, and the log is the same.
 #[test]
-fn a_run_stops_at_a_line_that_is_not_there(rt: HostRuntime) -> Result<(), Fail> {
-    let mut in_a_row = world(rt.alloc(), TO_ROLL)?;
-    let mut stepwise = world(rt.alloc(), TO_ROLL)?;
-    assert!(rt; stop_alike(&mut in_a_row, &mut stepwise)?);
-    Ok(())
+fn a_run_stops_at_a_line_that_is_not_there(rt: HostRuntime) {
+    let mut in_a_row = world(&rt, TO_ROLL);
+    let mut stepwise = world(&rt, TO_ROLL);
+    let moves = board(TO_MOVE).expect(&rt, "it is a board");
+    let is_stopped = stop_alike(&mut in_a_row, &mut stepwise);
+    assert!(rt; is_stopped && are_at(&in_a_row, &stepwise, 12, &moves));
 }
 
 /// The events of a roll by an order that was given twice.
@@ -156,10 +149,10 @@ fn run_on(world: &mut World, events: &[Event<'_>]) -> (usize, Option<WorldRefusa
 
 /// A run that meets a refused growth says how many events were done, and a run of the others does them.
 #[test]
-fn a_run_goes_on_under_refused_memory(rt: HostRuntime) -> Result<(), Fail> {
-    let mut world = world(rt.alloc(), MUST_ROLL)?;
+fn a_run_goes_on_under_refused_memory(rt: HostRuntime) {
+    let mut world = world(&rt, MUST_ROLL);
+    let rolled = board(ROLLED).expect(&rt, "it is a board");
     let is_done = run_on(&mut world, &ordered_twice()) == (14, None);
-    let is_shown = world.shown() == Some(&board(ROLLED)?);
+    let is_shown = world.shown() == Some(&rolled);
     assert!(rt; is_done && is_shown && world.log().len() == 12);
-    Ok(())
 }
