@@ -81,12 +81,17 @@ fn answers_waiting(session: &mut Session) -> [bool; 4] {
     ]
 }
 
+/// Whether the next line confirms a roll, and no order rolls.
+fn confirms(session: &mut Session, roll: &Outstanding) -> bool {
+    let taken = session.line(&whole(TO_MOVE));
+    taken.confirmed == Some(*roll) && !taken.rolled
+}
+
 /// Whether a roll waits on the board that is shown, and the next line confirms it, so that nothing waits then.
 fn is_confirmed(session: &mut Session, roll: &Outstanding) -> [bool; 4] {
     let shows = session.shown() == Some(&roll.board);
     let waits = session.waiting() == Some(roll);
-    let taken = session.line(&whole(TO_MOVE));
-    let confirms = taken.confirmed == Some(*roll) && !taken.rolled;
+    let confirms = confirms(session, roll);
     [shows, waits, confirms, session.lose().is_none()]
 }
 

@@ -143,6 +143,6 @@ fn a_caller_opens_reads_clicks_loses_and_opens_again(rt: HostRuntime) -> Result<
         wire.as_slice() == SENT,
         screen.as_slice() == b"message\nmessage\nboard\n".as_slice(),
     ];
-    assert_eq!(rt; is_told, [true; 3], "it is the user's to roll again");
+    assert!(rt; is_told == [true; 3], "it is the user's to roll again");
     Ok(())
 }
