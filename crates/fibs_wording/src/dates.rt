@@ -1,7 +1,6 @@
 //! Dates and times in words.
 
 use crate::pieces::{append_all, append_number};
-use itoa::Buffer;
 use jiff::Timestamp;
 use jiff::civil::DateTime;
 use jiff::tz::Offset;
@@ -41,6 +40,13 @@ fn append_two(number: u64, text: &mut Vec<u8>) -> Result<(), AllocError> {
     append_number(number, text)
 }
 
+/// Appends a date in words: `5 January 2003`.
+fn append_day(shown: &DateTime, text: &mut Vec<u8>) -> Result<(), AllocError> {
+    append_number(small(shown.day()), text)?;
+    append_all(&[b" ", month_name(shown.month()), b" "], text)?;
+    append_number(u64::from(shown.year().unsigned_abs()), text)
+}
+
 /// A small number of a date.
 fn small(number: i8) -> u64 {
     if number < 0 { 0 } else { number as u64 }
@@ -71,19 +77,7 @@ pub fn append_date(seconds: u64, offset: i32, text: &mut Vec<u8>) -> Result<(), 
     let Some(shown) = shown_at(seconds, offset) else {
         return append_number(seconds, text);
     };
-    let mut day = Buffer::new();
-    let mut year = Buffer::new();
-    append_all(
-        &[
-            day.format(small(shown.day())).as_bytes(),
-            b" ",
-            month_name(shown.month()),
-            b" ",
-            year.format(u64::from(shown.year().unsigned_abs()))
-                .as_bytes(),
-            b", ",
-        ],
-        text,
-    )?;
+    append_day(&shown, text)?;
+    text.extend_from_slice(b", ")?;
     append_time(seconds, offset, text)
 }

@@ -47,7 +47,7 @@ const QUIET: &[u8] = b"quiet: hides shouts, and who comes and goes. loud: shows 
 const HELP: &[u8] = b"help (or ?): lists what you can type. help WORD: says more about a word.\n";
 
 /// What there is to say of each word: of the game, of matches, of talk, of the terminal.
-const WORDS: [(&[u8], &[u8]); 35] = [
+static WORDS: [(&[u8], &[u8]); 35] = [
     (b"roll", ROLL),
     (b"r", ROLL),
     (
@@ -129,9 +129,14 @@ For what the client can't do: send accept, send watch bob, send redouble ..\n",
     (b"?", HELP),
 ];
 
+/// The words, each with what there is to say of it.
+fn words() -> &'static [(&'static [u8], &'static [u8])] {
+    &WORDS
+}
+
 /// What there is to say of a word, if anything.
 pub fn word_help(word: &[u8]) -> Option<&'static [u8]> {
-    for (name, help) in &WORDS {
+    for (name, help) in words() {
         if *name == word {
             return Some(*help);
         }

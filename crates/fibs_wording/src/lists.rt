@@ -35,20 +35,39 @@ pub fn append_row(player: &Player, text: &mut Vec<u8>) -> Result<(), AllocError>
     text.extend_from_slice(b"\n")
 }
 
-/// The places of the players in the directory, those of the best first.
-fn by_rating(alloc: Global, directory: &Directory) -> Result<Vec<usize>, AllocError> {
-    let mut rated: Vec<(u32, usize)> = Vec::new(alloc);
+/// A rating, and the place in the directory of the player who has it.
+type Rated = (u32, usize);
+
+/// Pushes the rating and the place of each player in the directory.
+fn push_rated(directory: &Directory, rated: &mut Vec<Rated>) -> Result<(), AllocError> {
     for place in 0..directory.len() {
         if let Some(player) = directory.at(place) {
             rated.push((player.rating, place))?;
         }
     }
+    Ok(())
+}
+
+/// The ratings and the places of the players in the directory, those of the best first.
+fn by_rating(alloc: Global, directory: &Directory) -> Result<Vec<Rated>, AllocError> {
+    let mut rated = Vec::new(alloc);
+    push_rated(directory, &mut rated)?;
     rated.sort_by_key(|entry| Reverse(entry.0))?;
-    let mut places = Vec::new(alloc);
-    for entry in &rated {
-        places.push(entry.1)?;
+    Ok(rated)
+}
+
+/// Appends a row for each of these players.
+fn append_rows(
+    rated: &[Rated],
+    directory: &Directory,
+    text: &mut Vec<u8>,
+) -> Result<(), AllocError> {
+    for (_, place) in rated {
+        if let Some(player) = directory.at(*place) {
+            append_row(player, text)?;
+        }
     }
-    Ok(places)
+    Ok(())
 }
 
 /// Appends how many players there are: `26 players`.
@@ -63,11 +82,8 @@ pub fn append_players(
     directory: &Directory,
     text: &mut Vec<u8>,
 ) -> Result<(), AllocError> {
-    for place in &by_rating(alloc, directory)? {
-        if let Some(player) = directory.at(*place) {
-            append_row(player, text)?;
-        }
-    }
+    let rated = by_rating(alloc, directory)?;
+    append_rows(rated.as_slice(), directory, text)?;
     append_count(directory.len(), text)?;
     text.extend_from_slice(b".\n")
 }

@@ -72,25 +72,26 @@ fn append_own(info: &OwnInfo<'_>, text: &mut Vec<u8>) -> Result<(), AllocError> 
     append_last_settings(info, text)
 }
 
-/// What a player does: whom he plays or watches, or whether he is ready.
-fn state_words<'a>(
-    opponent: &'a [u8],
-    watching: &'a [u8],
-    ready: bool,
-    away: bool,
-) -> [&'a [u8]; 3] {
-    let also: &[u8] = if away { b", away" } else { b"" };
-    if opponent != b"-".as_slice() {
-        [b"plays ", opponent, also]
-    } else if watching != b"-".as_slice() {
-        [b"watches ", watching, also]
-    } else if away {
-        [b"away", b"", b""]
+/// What a player is who neither plays nor watches.
+fn idle_words(ready: bool, away: bool) -> &'static [u8] {
+    if away {
+        b"away"
     } else if ready {
-        [b"ready", b"", b""]
+        b"ready"
     } else {
-        [b"not ready", b"", b""]
+        b"not ready"
     }
+}
+
+/// Appends whom a player plays or watches.
+fn append_busy(verb: &[u8], whom: &[u8], away: bool, text: &mut Vec<u8>) -> Result<(), AllocError> {
+    let also: &[u8] = if away { b", away" } else { b"" };
+    append_all(&[verb, whom, also], text)
+}
+
+/// Whether a field names nobody.
+fn is_nobody(name: &[u8]) -> bool {
+    name == b"-".as_slice()
 }
 
 /// Appends what a player does: whom he plays or watches, or whether he is ready.
@@ -101,7 +102,13 @@ pub fn append_state(
     away: bool,
     text: &mut Vec<u8>,
 ) -> Result<(), AllocError> {
-    append_all(&state_words(opponent, watching, ready, away), text)
+    if !is_nobody(opponent) {
+        append_busy(b"plays ", opponent, away, text)
+    } else if !is_nobody(watching) {
+        append_busy(b"watches ", watching, away, text)
+    } else {
+        text.extend_from_slice(idle_words(ready, away))
+    }
 }
 
 /// Appends a player in one row: at most the first 24 bytes of a name.
@@ -152,6 +159,19 @@ fn append_coming(
     append_all(&[name, words], text)
 }
 
+/// Appends pieces, a date, and what follows it.
+fn append_dated(
+    before: &[&[u8]],
+    time: u64,
+    after: &[u8],
+    settings: &Settings<'_>,
+    text: &mut Vec<u8>,
+) -> Result<(), AllocError> {
+    append_all(before, text)?;
+    append_date(time, settings.offset, text)?;
+    text.extend_from_slice(after)
+}
+
 /// Appends a message that was left.
 fn append_left(
     sender: &[u8],
@@ -160,9 +180,13 @@ fn append_left(
     settings: &Settings<'_>,
     text: &mut Vec<u8>,
 ) -> Result<(), AllocError> {
-    append_all(&[sender, b" left a message on "], text)?;
-    append_date(time, settings.offset, text)?;
-    text.extend_from_slice(b": ")?;
+    append_dated(
+        &[sender, b" left a message on "],
+        time,
+        b": ",
+        settings,
+        text,
+    )?;
     append_shown(said, settings.utf8, text)
 }
 
@@ -174,9 +198,8 @@ fn append_welcome(
     settings: &Settings<'_>,
     text: &mut Vec<u8>,
 ) -> Result<(), AllocError> {
-    append_all(&[b"Welcome, ", name, b". Last login: "], text)?;
-    append_date(last_login, settings.offset, text)?;
-    text.extend_from_slice(b", from ")?;
+    let greeting: [&[u8]; 3] = [b"Welcome, ", name, b". Last login: "];
+    append_dated(&greeting, last_login, b", from ", settings, text)?;
     append_shown(last_host, settings.utf8, text)?;
     text.extend_from_slice(b".")
 }

@@ -53,7 +53,7 @@ fn win_words(points: i32, cube: i32) -> &'static [u8] {
 }
 
 /// Who has won.
-#[derive(Clone, Copy, PartialEq, Eq)]
+#[derive(Clone, Copy)]
 enum Winner {
     Own,
     Other,
@@ -120,6 +120,18 @@ fn append_score(board: &Board, text: &mut Vec<u8>) -> Result<(), AllocError> {
     text.extend_from_slice(b".")
 }
 
+/// Appends that someone has won, and by what.
+fn append_win(
+    who: &[u8],
+    verb: &[u8],
+    points: i32,
+    cube: i32,
+    text: &mut Vec<u8>,
+) -> Result<(), AllocError> {
+    append_all(&[who, verb], text)?;
+    append_points(points, cube, text)
+}
+
 /// Appends who has won, and by what.
 fn append_winner(
     before: Option<&Board>,
@@ -129,12 +141,13 @@ fn append_winner(
     let cube = field(board, CUBE);
     match who_won(before, board) {
         Winner::Own => {
-            text.extend_from_slice(b"You win")?;
-            append_points(gained(before, board, OWN_SCORE), cube, text)
+            let points = gained(before, board, OWN_SCORE);
+            append_win(b"You", b" win", points, cube, text)
         }
         Winner::Other => {
-            append_all(&[front(board.opponent().bytes()), b" wins"], text)?;
-            append_points(gained(before, board, OTHER_SCORE), cube, text)
+            let points = gained(before, board, OTHER_SCORE);
+            let who = front(board.opponent().bytes());
+            append_win(who, b" wins", points, cube, text)
         }
         Winner::Unknown => text.extend_from_slice(b"The game is over"),
     }
