@@ -48,13 +48,16 @@ fn taken_move(client: &Client, play: &Play) -> Option<Play>
     }
 }
 
+/// The first legal move of a position, if it has one.
+pub(crate) fn first_of(alloc: Global, position: &Position) -> Result<Option<Play>, AllocError> {
+    let plays = position.plays(alloc)?;
+    Ok(plays.first().copied())
+}
+
 /// The first legal move of a board, if it has one.
 fn first_play(alloc: Global, board: &Board) -> Result<Option<Play>, AllocError> {
     match Position::of(board) {
-        Ok(position) => {
-            let plays = position.plays(alloc)?;
-            Ok(plays.first().copied())
-        }
+        Ok(position) => first_of(alloc, &position),
         Err(_) => Ok(None),
     }
 }

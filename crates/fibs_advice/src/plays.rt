@@ -10,16 +10,21 @@ use std::alloc::{AllocError, Global};
 const MOST_LISTED: usize = 20;
 
 /// Appends a number.
-fn append_number(number: usize, text: &mut Vec<u8>) -> Result<(), AllocError> {
+pub(crate) fn append_number(number: usize, text: &mut Vec<u8>) -> Result<(), AllocError> {
     text.extend_from_slice(Buffer::new().format(number).as_bytes())
+}
+
+/// Appends a move in a row.
+fn append_row(play: Play, direction: Direction, text: &mut Vec<u8>) -> Result<(), AllocError> {
+    text.extend_from_slice(b"  ")?;
+    text.extend_from_slice(decision_text(&Decision::Move(play), direction).as_bytes())?;
+    text.extend_from_slice(b"\n")
 }
 
 /// Appends moves, each in a row.
 fn append_rows(plays: &[Play], direction: Direction, text: &mut Vec<u8>) -> Result<(), AllocError> {
     for play in plays {
-        text.extend_from_slice(b"  ")?;
-        text.extend_from_slice(decision_text(&Decision::Move(*play), direction).as_bytes())?;
-        text.extend_from_slice(b"\n")?;
+        append_row(*play, direction, text)?;
     }
     Ok(())
 }

@@ -1,17 +1,18 @@
 //! Which rule a move breaks.
 ghost use Rattle.std.specs.Prelude.{◌≤◌};
 
+use crate::offers::first_of;
+use crate::plays::append_number;
 use fibs_boards::board::Board;
 use fibs_commands::decision_text;
 use fibs_position::{Decision, Direction, Play, Position, Step};
-use itoa::Buffer;
 use std::alloc::{AllocError, Global};
 
 /// The bar, in the player's own numbering.
 const BAR: u8 = 25;
 
 /// A rule that a move breaks.
-#[derive(Clone, Copy, PartialEq, Eq)]
+#[derive(Clone, Copy)]
 enum Broken {
     /// A checker on the bar enters first.
     Bar,
@@ -112,7 +113,7 @@ fn append_place(place: u8, direction: Direction, text: &mut Vec<u8>) -> Result<(
     } else if place >= BAR {
         text.extend_from_slice(b"the bar")
     } else {
-        text.extend_from_slice(Buffer::new().format(direction.line_place(place)).as_bytes())
+        append_number(usize::from(direction.line_place(place)), text)
     }
 }
 
@@ -133,12 +134,26 @@ fn append_more_dice(most: u8, text: &mut Vec<u8>) -> Result<(), AllocError> {
     match most {
         2 => text.extend_from_slice(b"Both dice must be played."),
         1 => text.extend_from_slice(b"A die must be played."),
-        _ => {
-            text.extend_from_slice(b"As many dice as can be must be played: ")?;
-            text.extend_from_slice(Buffer::new().format(most).as_bytes())?;
-            text.extend_from_slice(b".")
-        }
+        _ => append_dice_to_play(most, text),
     }
+}
+
+/// Appends how many dice must be played, by a number.
+fn append_dice_to_play(most: u8, text: &mut Vec<u8>) -> Result<(), AllocError> {
+    text.extend_from_slice(b"As many dice as can be must be played: ")?;
+    append_number(usize::from(most), text)?;
+    text.extend_from_slice(b".")
+}
+
+/// Appends that no die plays a step.
+fn append_distance(
+    step: &Step,
+    direction: Direction,
+    text: &mut Vec<u8>,
+) -> Result<(), AllocError> {
+    text.extend_from_slice(b"No die plays from ")?;
+    append_place(step.source(), direction, text)?;
+    append_of_place(b" to ", step.target(), direction, text)
 }
 
 /// Appends a rule that is broken.
@@ -154,11 +169,7 @@ fn append_broken(
         }
         Broken::Held(place) => append_of_place(b"Your opponent holds ", *place, direction, text),
         Broken::Outside => { text.extend_from_slice(b"No checker goes off before all are home.") }
-        Broken::Distance(step) => {
-            text.extend_from_slice(b"No die plays from ")?;
-            append_place(step.source(), direction, text)?;
-            append_of_place(b" to ", step.target(), direction, text)
-        }
+        Broken::Distance(step) => append_distance(step, direction, text),
         Broken::MoreDice(most) => append_more_dice(*most, text),
         Broken::Larger => text.extend_from_slice(b"The larger die must be played."),
     }
@@ -170,6 +181,25 @@ fn die(board: &Board, number: usize) -> u8
     requires high { number ≤ 35 }
 {
     board.field(number) as u8
+}
+
+/// Appends the rule that a move breaks on a board, or that it breaks one.
+fn append_why(
+    board: &Board,
+    position: &Position,
+    play: &Play,
+    text: &mut Vec<u8>,
+) -> Result<(), AllocError> {
+    match broken_rule(position, (die(board, 34), die(board, 35)), play) {
+        Some(broken) => append_broken(&broken, Direction::of(board), text),
+        None => text.extend_from_slice(b"The rules don't allow this move."),
+    }
+}
+
+/// Appends a move that is legal.
+fn append_legal(legal: Play, direction: Direction, text: &mut Vec<u8>) -> Result<(), AllocError> {
+    text.extend_from_slice(b" Legal: ")?;
+    text.extend_from_slice(decision_text(&Decision::Move(legal), direction).as_bytes())
 }
 
 /// Appends the rule that a move breaks on a board, and a move that is legal, if there is one.
@@ -184,15 +214,9 @@ pub fn append_rule(
     let Ok(position) = Position::of(board) else {
         return Ok(());
     };
-    let direction = Direction::of(board);
-    match broken_rule(&position, (die(board, 34), die(board, 35)), play) {
-        Some(broken) => append_broken(&broken, direction, text)?,
-        None => text.extend_from_slice(b"The rules don't allow this move.")?,
+    append_why(board, &position, play, text)?;
+    match first_of(alloc, &position)? {
+        Some(legal) => append_legal(legal, Direction::of(board), text),
+        None => Ok(()),
     }
-    let plays = position.plays(alloc)?;
-    if let Some(legal) = plays.first() {
-        text.extend_from_slice(b" Legal: ")?;
-        text.extend_from_slice(decision_text(&Decision::Move(*legal), direction).as_bytes())?;
-    }
-    Ok(())
 }

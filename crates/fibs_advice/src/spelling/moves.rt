@@ -1,7 +1,6 @@
 //! Moves as players type them: `8/5 6/5`, `8-5 6-5`, `8/5(2)`, `bar/20`, `6/off`, `24/18/13`.
 ghost use Rattle.std.specs.Prelude.{◌≤◌, IfSome};
 
-use bstr::ByteSlice;
 use fibs_fields::decimal::read_decimal;
 use fibs_fields::split::split;
 use fibs_position::{Direction, Play, Step};
@@ -16,17 +15,21 @@ const MOST_STEPS: usize = 4;
 fn place_of(name: &[u8], direction: Direction) -> Option<u8>
     ensures { IfSome result (λ place. place ≤ 25) }
 {
-    if name == b"bar".as_slice() || name == b"b".as_slice() {
-        return Some(BAR);
+    match name {
+        b"bar" | b"b" => Some(BAR),
+        b"off" | b"o" => Some(0),
+        _ => numbered_place(name, direction),
     }
-    if name == b"off".as_slice() || name == b"o".as_slice() {
-        return Some(0);
+}
+
+/// The place of a number from 1 to 24.
+fn numbered_place(name: &[u8], direction: Direction) -> Option<u8>
+    ensures { IfSome result (λ place. place ≤ 25) }
+{
+    match read_decimal(name, 24) {
+        Some(number @ 1..=24) => Some(direction.line_place(number as u8)),
+        _ => None,
     }
-    let number = read_decimal(name, 24)?;
-    if number == 0 || number > 24 {
-        return None;
-    }
-    Some(direction.line_place(number as u8))
 }
 
 /// Pushes a step, once or more often. False if there is no room.
@@ -43,14 +46,19 @@ fn push_times(step: Step, times: u32, play: &mut Play) -> bool {
 fn repeated(word: &[u8]) -> Option<(&[u8], u32)> {
     match split(word, b'(') {
         (word, None) => Some((word, 1)),
-        (word, Some(rest)) => {
-            let (number, after) = split(rest, b')');
-            let times = read_decimal(number, 4)?;
-            if times == 0 || times > 4 || after != Some(b"") {
-                return None;
-            }
-            Some((word, times as u32))
-        }
+        (word, Some(rest)) => Some((word, times_of(rest)?)),
+    }
+}
+
+/// The number N of `N)`, from 1 to 4.
+fn times_of(text: &[u8]) -> Option<u32> {
+    let (number, after) = split(text, b')');
+    if !after?.is_empty() {
+        return None;
+    }
+    match read_decimal(number, 4) {
+        Some(times @ 1..=4) => Some(times as u32),
+        _ => None,
     }
 }
 
@@ -62,6 +70,23 @@ fn without_star(name: &[u8]) -> &[u8] {
     }
 }
 
+/// Pushes the step from a place to that of a name, and gives the latter.
+fn push_step(
+    source: u8,
+    name: &[u8],
+    times: u32,
+    direction: Direction,
+    play: &mut Play,
+) -> Option<u8> {
+    let target = place_of(without_star(name), direction)?;
+    let step = Step::new(source, target)?;
+    if push_times(step, times, play) {
+        Some(target)
+    } else {
+        None
+    }
+}
+
 /// Pushes the steps of a word: from each place that it names to the next one.
 fn push_places(text: &[u8], times: u32, direction: Direction, play: &mut Play) -> Option<()> {
     let (first, rest) = split_places(text);
@@ -69,11 +94,7 @@ fn push_places(text: &[u8], times: u32, direction: Direction, play: &mut Play) -
     let mut left = rest?;
     for _ in 0..MOST_STEPS {
         let (name, rest) = split_places(left);
-        let target = place_of(without_star(name), direction)?;
-        if !push_times(Step::new(source, target)?, times, play) {
-            return None;
-        }
-        source = target;
+        source = push_step(source, name, times, direction, play)?;
         match rest {
             None => return Some(()),
             Some(rest) => left = rest,
@@ -91,14 +112,20 @@ fn split_places(text: &[u8]) -> (&[u8], Option<&[u8]>) {
     }
 }
 
+/// Pushes the steps of a word, if it is not empty.
+fn push_word(word: &[u8], direction: Direction, play: &mut Play) -> Option<()> {
+    if word.is_empty() {
+        return Some(());
+    }
+    let (places, times) = repeated(word)?;
+    push_places(places, times, direction, play)
+}
+
 /// The move that words say, in the numbers of a board of this direction, if they say one.
 pub fn typed_move(text: &[u8], direction: Direction) -> Option<Play> {
     let mut play = Play::new();
-    for word in text.split_str(b" ") {
-        if !word.is_empty() {
-            let (word, times) = repeated(word)?;
-            push_places(word, times, direction, &mut play)?;
-        }
+    for word in text.split(|byte| *byte == b' ') {
+        push_word(word, direction, &mut play)?;
     }
     if play.steps().is_empty() {
         return None;

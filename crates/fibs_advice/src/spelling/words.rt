@@ -10,13 +10,13 @@ use fibs_position::{Decision, Play, Position};
 use fibs_session::Client;
 use std::alloc::{AllocError, Global};
 
-/// Appends a text in small letters.
-fn append_small(bytes: &[u8], text: &mut Vec<u8>) -> Result<(), AllocError> {
-    for byte in bytes {
-        text.extend_from_slice(&[byte.to_ascii_lowercase()])?;
-    }
-    Ok(())
-}
+/// The words that send the rest of their line to people, or to the server as it is.
+const TALK: [&[u8]; 7] = [
+    b"say", b"tell", b"shout", b"whisper", b"kibitz", b"message", b"send",
+];
+
+/// The words that names follow.
+const NAMING: [&[u8]; 4] = [b"invite", b"join", b"gag", b"ungag"];
 
 /// What follows the spaces at the front.
 fn without_front(line: &[u8]) -> &[u8] {
@@ -25,37 +25,23 @@ fn without_front(line: &[u8]) -> &[u8] {
 
 /// Whether the word sends the rest of its line to people, or to the server as it is.
 fn is_talk(word: &[u8]) -> bool {
-    word == b"say".as_slice()
-        || word == b"tell".as_slice()
-        || word == b"shout".as_slice()
-        || word == b"whisper".as_slice()
-        || word == b"kibitz".as_slice()
-        || word == b"message".as_slice()
-        || word == b"send".as_slice()
+    TALK.contains(&word)
 }
 
 /// Whether names follow the word, whose capitals stay.
 fn takes_name(word: &[u8]) -> bool {
-    word == b"invite".as_slice()
-        || word == b"join".as_slice()
-        || word == b"gag".as_slice()
-        || word == b"ungag".as_slice()
+    NAMING.contains(&word)
 }
 
 /// The word for a short one. Of the decisions only `roll` and `move` have short words.
 fn long_word(word: &[u8]) -> &[u8] {
-    if word == b"r".as_slice() {
-        b"roll"
-    } else if word == b"m".as_slice() {
-        b"move"
-    } else if word == b"k".as_slice() {
-        b"kibitz"
-    } else if word == b"t".as_slice() {
-        b"tell"
-    } else if word == b"?".as_slice() {
-        b"help"
-    } else {
-        word
+    match word {
+        b"r" => b"roll",
+        b"m" => b"move",
+        b"k" => b"kibitz",
+        b"t" => b"tell",
+        b"?" => b"help",
+        _ => word,
     }
 }
 
@@ -114,6 +100,21 @@ fn move_words<'a>(word: &[u8], rest: Option<&'a [u8]>, line: &'a [u8]) -> &'a [u
     }
 }
 
+/// Appends a line of small letters, with a long word for a short one, or the move that it says.
+fn append_meaning(
+    alloc: Global,
+    client: &Client,
+    line: &[u8],
+    text: &mut Vec<u8>,
+) -> Result<(), AllocError> {
+    let (word, rest) = split(line, b' ');
+    let word = long_word(word);
+    match move_command(alloc, client, move_words(word, rest, line))? {
+        Some(command) => text.extend_from_slice(command.as_bytes()),
+        None => append_word(word, rest, text),
+    }
+}
+
 /// Appends a line in small letters, with a long word for a short one, or the move that it says.
 fn append_plain(
     alloc: Global,
@@ -121,14 +122,8 @@ fn append_plain(
     line: &[u8],
     text: &mut Vec<u8>,
 ) -> Result<(), AllocError> {
-    let mut small = Vec::new(alloc);
-    append_small(line, &mut small)?;
-    let (word, rest) = split(small.as_slice(), b' ');
-    let word = long_word(word);
-    match move_command(alloc, client, move_words(word, rest, small.as_slice()))? {
-        Some(command) => text.extend_from_slice(command.as_bytes()),
-        None => append_word(word, rest, text),
-    }
+    let small = line.to_ascii_lowercase(alloc)?;
+    append_meaning(alloc, client, small.as_slice(), text)
 }
 
 /// Appends the spelling of a line that the client does not know. What is sent to people stays as it is, but for the
@@ -143,8 +138,7 @@ pub fn append_spelled(
 ) -> Result<(), AllocError> {
     let line = without_front(line);
     let (word, rest) = split(line, b' ');
-    let mut small = Vec::new(alloc);
-    append_small(word, &mut small)?;
+    let small = word.to_ascii_lowercase(alloc)?;
     let word = long_word(small.as_slice());
     if is_talk(word) {
         return append_word(word, rest, text);
