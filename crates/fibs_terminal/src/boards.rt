@@ -86,14 +86,6 @@ impl<'a, C: Clock + Drop> Screen<'a, C> {
         }
     }
 
-    /// Whether the board before this one was of the same game, which was not over.
-    fn board_before(&self) -> Option<Board> {
-        match &self.memory.heard {
-            Some((board, _)) => Some(*board),
-            None => None,
-        }
-    }
-
     /// Whether this is the very board that came last.
     fn is_heard_again(&self, board: &Board) -> bool {
         match &self.memory.heard {
@@ -107,37 +99,67 @@ impl<'a, C: Clock + Drop> Screen<'a, C> {
         requires { position_value position.now ≡ position_of (fields_of board.now) }
     {
         let phase = position.phase();
-        let before = self.board_before();
+        self.ring_at_turn(phase)?;
         let again = self.is_heard_again(board);
-        if is_deciding(phase) && self.waited_for_opponent() {
-            self.ring()?;
+        if self.is_drawn_whole(board, phase) {
+            self.draw(board, position)?;
+        } else if !again {
+            self.say_board(board, phase)?;
         }
+        if !again {
+            self.say_outcome(board, phase)?;
+        }
+        self.keep_heard(board, phase, again);
+        Ok(())
+    }
+
+    /// Rings the bell if the player decides in a phase, and the board before said that the opponent had the turn.
+    fn ring_at_turn(&mut self, phase: Phase) -> Result<(), AllocError> {
+        if is_deciding(phase) && self.waited_for_opponent() {
+            self.ring()
+        } else {
+            Ok(())
+        }
+    }
+
+    /// Keeps the board that came last. If it is the very board that came before, the server has answered by it.
+    fn keep_heard(&mut self, board: &Board, phase: Phase, again: bool) {
         if again {
             self.memory.answered = true;
             self.memory.advised = false;
         }
-        if self.is_drawn_whole(board, phase) {
-            self.memory.asked = false;
-            let came = self.came(board, position);
-            append_marked(
-                self.alloc,
-                board,
-                position,
-                &came,
-                &self.settings,
-                &mut self.text,
-            )?;
-            self.memory.drawn = Some(*board);
-        } else if !again {
-            self.say_board(board, phase)?;
-        }
-        if phase == Phase::Over && !again {
-            append_outcome(before.as_ref(), board, &mut self.text)?;
-            self.say(b"\n")?;
-        }
         self.memory.heard = Some((*board, phase));
         self.memory.said.clear();
+    }
+
+    /// Draws a board that has a position.
+    fn draw(&mut self, board: &Board, position: &Position) -> Result<(), AllocError>
+        requires { position_value position.now ≡ position_of (fields_of board.now) }
+    {
+        self.memory.asked = false;
+        let came = self.came(board, position);
+        append_marked(
+            self.alloc,
+            board,
+            position,
+            &came,
+            &self.settings,
+            &mut self.text,
+        )?;
+        self.memory.drawn = Some(*board);
         Ok(())
+    }
+
+    /// Says how a game ended, if a board is one of a game that is over.
+    fn say_outcome(&mut self, board: &Board, phase: Phase) -> Result<(), AllocError> {
+        if phase != Phase::Over {
+            return Ok(());
+        }
+        match &self.memory.heard {
+            None => append_outcome(None, board, &mut self.text)?,
+            Some((before, _)) => append_outcome(Some(before), board, &mut self.text)?,
+        }
+        self.say(b"\n")
     }
 
     /// Where the opponent has moved to since the board that was drawn before this one.

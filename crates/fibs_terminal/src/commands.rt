@@ -22,7 +22,7 @@ use std::alloc::AllocError;
 use std::time::Clock;
 
 /// A word of the terminal, which the client does not know.
-#[derive(Clone, Copy, PartialEq, Eq)]
+#[derive(Clone, Copy)]
 enum Own {
     Help,
     Plays,
@@ -46,9 +46,17 @@ const OWN_WORDS: [(&[u8], Own); 8] = [
     (b"send", Own::Send),
 ];
 
+/// The words of the conversation.
+const TALK_WORDS: [&[u8]; 2] = [b"open", b"quit"];
+
+/// The words of the terminal, each with its bytes.
+fn own_words() -> &'static [(&'static [u8], Own)] {
+    &OWN_WORDS
+}
+
 /// The word of the terminal that a word is, if it is one.
 fn own_word(word: &[u8]) -> Option<Own> {
-    for (name, own) in &OWN_WORDS {
+    for (name, own) in own_words() {
         if *name == word {
             return Some(*own);
         }
@@ -58,9 +66,7 @@ fn own_word(word: &[u8]) -> Option<Own> {
 
 /// Whether a line is a word of the conversation, or begins with a word of the terminal.
 fn is_own(line: &[u8]) -> bool {
-    line == b"open".as_slice()
-        || line == b"quit".as_slice()
-        || own_word(split(line, b' ').0).is_some()
+    TALK_WORDS.contains(&line) || own_word(split(line, b' ').0).is_some()
 }
 
 /// What follows a word.
@@ -118,10 +124,35 @@ impl<'a, C: Clock + Drop> Screen<'a, C> {
         if line.as_slice() == b"quit".as_slice() {
             return Ok(Wish::Quit);
         }
+        self.wish_spelled(client, directory, line)
+    }
+
+    /// What a line asks for that is no word of the conversation, and is spelled as the client would know it.
+    fn wish_spelled(
+        &mut self,
+        client: &Client,
+        directory: &Directory,
+        line: &mut TypedLine,
+    ) -> Result<Wish, AllocError>
+        ensures { SendsUntaken client.now line.new.items result }
+    {
         self.note_rule(client, line.as_slice())?;
         let typed = line.as_slice().to_vec(self.alloc)?;
-        let rest = after_word(typed.as_slice());
-        match own_word(split(typed.as_slice(), b' ').0) {
+        self.wish_typed(client, directory, typed.as_slice(), line)
+    }
+
+    /// What a line asks for that may begin with a word of the terminal.
+    fn wish_typed(
+        &mut self,
+        client: &Client,
+        directory: &Directory,
+        typed: &[u8],
+        line: &mut TypedLine,
+    ) -> Result<Wish, AllocError>
+        ensures { SendsUntaken client.now line.new.items result }
+    {
+        let rest = after_word(typed);
+        match own_word(split(typed, b' ').0) {
             None => Ok(Wish::Say),
             Some(Own::Send) => self.send(client, rest, line),
             Some(own) => {
@@ -176,7 +207,8 @@ impl<'a, C: Clock + Drop> Screen<'a, C> {
             Own::Players => append_players(self.alloc, directory, &mut self.text),
             Own::Gag => self.gag(rest),
             Own::Ungag => self.ungag(rest),
-            Own::Quiet | Own::Loud => self.set_quiet(own == Own::Quiet),
+            Own::Quiet => self.set_quiet(true),
+            Own::Loud => self.set_quiet(false),
             Own::Send => self.say(b"send LINE: LINE goes to the server as it is, unchecked.\n"),
         }
     }
@@ -247,8 +279,7 @@ impl<'a, C: Clock + Drop> Screen<'a, C> {
         set_line(line, rest);
         if would_take(client, line.as_slice()) {
             self.say(b"Type it without send: ")?;
-            append_shown(rest, self.settings.utf8, &mut self.text)?;
-            self.say(b"\n")?;
+            self.show_row(rest)?;
             return Ok(Wish::Answered);
         }
         Ok(Wish::Send)

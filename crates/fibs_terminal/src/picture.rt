@@ -92,7 +92,7 @@ fn has_come(place: u8, row: usize, position: &Position, came: &Came) -> bool {
 }
 
 /// What a byte of a picture is marked by.
-#[derive(Clone, Copy, PartialEq, Eq)]
+#[derive(Clone, Copy)]
 enum Mark {
     /// It is the player's.
     Own,
@@ -191,7 +191,7 @@ fn append_rows(
     text: &mut Vec<u8>,
 ) -> Result<(), AllocError> {
     let mut row = 0usize;
-    for bytes in picture.split_str(b"\n") {
+    for bytes in picture.split(|byte| *byte == b'\n') {
         if !bytes.is_empty() && is_shown(row, position) {
             let mut short = Vec::new(alloc);
             append_short(bytes, opponent, &mut short)?;

@@ -2,10 +2,9 @@
 
 use crate::screen::Screen;
 use fibs_front::said::Said;
-use fibs_session::{CommandText, Outstanding, Refusal};
+use fibs_session::{CommandText, DirectoryFault, Outstanding, PlainRefusal, Refusal};
 use fibs_wording::lists::append_row;
 use fibs_wording::reasons::{append_not_sent, append_refusal, append_unnoted};
-use fibs_wording::shown::append_shown;
 use itoa::Buffer;
 use std::alloc::AllocError;
 use std::io::ErrorKind;
@@ -33,27 +32,50 @@ impl<'a, C: Clock + Drop> Screen<'a, C> {
                 Ok(())
             }
             Said::Confirmed(_) => {
-                self.memory.owes = true;
-                self.forget_answer();
+                self.hear_confirmed();
                 Ok(())
             }
+            Said::Lost(waited) => self.hear_lost(waited),
+            Said::Unnoted(why) => self.say_unnoted(*why),
+            Said::Player(player) => append_row(player, &mut self.text),
+            Said::Sent(_)
+            | Said::Passed(_)
+            | Said::Refused(_)
+            | Said::NotSent(_)
+            | Said::Rolled
+            | Said::Ordered
+            | Said::Withdrawn
+            | Said::Unknown => self.hear_answer(said),
+        }
+    }
+
+    /// Hears what became of a line that was typed, or of an order.
+    fn hear_answer(&mut self, said: &Said<'_>) -> Result<(), AllocError> {
+        match said {
             Said::Sent(command) => self.hear_sent(command),
             Said::Passed(line) => self.say_passed(line),
             Said::Refused(why) => self.say_refused(*why),
-            Said::NotSent(why) => {
-                append_not_sent(*why, &mut self.text)?;
-                self.say(b"\n")
-            }
-            Said::Rolled | Said::Ordered | Said::Withdrawn | Said::Unknown => {
-                self.say(fixed_words(said))
-            }
-            Said::Lost(waited) => self.hear_lost(waited),
-            Said::Unnoted(why) => {
-                append_unnoted(*why, &mut self.text)?;
-                self.say(b"\n")
-            }
-            Said::Player(player) => append_row(player, &mut self.text),
+            Said::NotSent(why) => self.say_not_sent(*why),
+            _ => self.say(fixed_words(said)),
         }
+    }
+
+    /// A board has come that confirms a decision.
+    fn hear_confirmed(&mut self) {
+        self.memory.owes = true;
+        self.forget_answer();
+    }
+
+    /// Says why a plain command was not sent.
+    fn say_not_sent(&mut self, why: PlainRefusal) -> Result<(), AllocError> {
+        append_not_sent(why, &mut self.text)?;
+        self.say(b"\n")
+    }
+
+    /// Says why the directory took no note of a player.
+    fn say_unnoted(&mut self, why: DirectoryFault) -> Result<(), AllocError> {
+        append_unnoted(why, &mut self.text)?;
+        self.say(b"\n")
     }
 
     /// A connection was made.
@@ -109,8 +131,7 @@ impl<'a, C: Clock + Drop> Screen<'a, C> {
     fn say_passed(&mut self, line: &[u8]) -> Result<(), AllocError> {
         self.forget_answer();
         self.say(b"sent as it is: ")?;
-        append_shown(line, self.settings.utf8, &mut self.text)?;
-        self.say(b"\n")
+        self.show_row(line)
     }
 
     /// Says why a decision was refused: of a move against the rules which rule it is.
