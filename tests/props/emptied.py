@@ -13,8 +13,9 @@ HEAD = re.compile(r'( *)(?:pub(?:\([a-z]+\))? )?(?P<is>(?:const |unsafe |extern 
 METHODS = re.compile(r"(?:impl|trait)\b(?:<[^{]*?>)? *([^{]*)")
 TYPE = re.compile(r"(?m)^(?:pub(?:\([a-z]+\))? )?(?:struct|enum) (\w+)")
 EMPTY = "unreachable!()"
-# What is written of a proof, beside lemmas.
-WRITTEN = ("Answers.antt", "Invariants.antt", "Proof.antt")
+# What is written of a proof, beside lemmas: what the prover asks for, or all of it.
+ANSWERED = ("Answers.antt", "Invariants.antt")
+WRITTEN = (*ANSWERED, "Proof.antt")
 
 
 class Function:
@@ -129,40 +130,40 @@ def emptied(texts, kept):
     return made, lost
 
 
-def with_copy(texts, path, name, edited):
-    """The texts with a copy of a function behind it, under another name, as the function stands in edited texts."""
+def with_copy(texts, path, copy, edited):
+    """The texts with a copy of a function behind it, at another path, as the function stands in edited texts."""
     it = next(it for it in functions_of(edited) if it.path == path)
-    copy = edited[it.file].split("\n")[it.begin : it.last + 1]
+    added = edited[it.file].split("\n")[it.begin : it.last + 1]
     head = it.first - it.begin
-    copy[head] = re.sub(r"\bfn \w+", f"fn {name}", copy[head], count=1)
+    added[head] = re.sub(r"\bfn \w+", f"fn {copy.rpartition('::')[2]}", added[head], count=1)
     it = next(it for it in functions_of(texts) if it.path == path)
     lines = texts[it.file].split("\n")
-    lines[it.last + 1 : it.last + 1] = ["", *copy]
+    lines[it.last + 1 : it.last + 1] = ["", *added]
     return {**texts, it.file: "\n".join(lines)}
 
 
-def copy_proof(folder, path, name):
-    """Writes the proof of a function's copy, if what was written of the function's own is more than the prover makes."""
-    *above, old = path.split("::")
-    place = "/".join([folder, "proofs", *above])
-    if not os.path.isdir(f"{place}/{old}"):
+def copy_proof(folder, path, copy):
+    """Writes what was written of a function's proof for a copy of it too."""
+    old, new = (f"{folder}/proofs/{it.replace('::', '/')}" for it in (path, copy))
+    if not os.path.isdir(old):
         return
-    shutil.copytree(f"{place}/{old}", f"{place}/{name}")
-    for written in os.listdir(f"{place}/{name}"):
-        with open(f"{place}/{name}/{written}", encoding="utf-8") as it:
+    shutil.copytree(old, new)
+    named, renamed = (f"proofs.{it.replace('::', '.')}." for it in (path, copy))
+    for written in os.listdir(new):
+        with open(f"{new}/{written}", encoding="utf-8") as it:
             text = it.read()
-        text = text.replace(".".join(["proofs", *above, f"{old}."]), ".".join(["proofs", *above, f"{name}."]))
-        with open(f"{place}/{name}/{written}", "w", encoding="utf-8") as it:
-            it.write(text.replace(f"{old}_spec", f"{name}_spec"))
+        with open(f"{new}/{written}", "w", encoding="utf-8") as it:
+            it.write(text.replace(named, renamed))
 
 
-def has_own_proof(folder, path):
-    """True if what is written of a function's proof, if anything is, can serve a copy of it too."""
-    *above, name = path.split("::")
+def may_be_copied(function, folder):
+    """True if a copy of a function of the crate in this folder can be proved as it is: by what the prover makes of it,
+    and answers and invariants. A proof by hand names more that is the function's own."""
+    *above, name = function.path.split("::")
     place = "/".join([folder, "proofs", *above])
-    if os.path.isdir(f"{place}/+{name}"):
+    if not function.may_be_copied or os.path.isdir(f"{place}/+{name}"):
         return False
-    return not os.path.isdir(f"{place}/{name}") or {*os.listdir(f"{place}/{name}")} <= {*WRITTEN}
+    return not os.path.isdir(f"{place}/{name}") or {*os.listdir(f"{place}/{name}")} <= {*ANSWERED}
 
 
 def write_holes(folder, crate, lost):
