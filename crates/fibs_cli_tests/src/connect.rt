@@ -14,7 +14,6 @@ use std::io;
 use std::io::{ErrorKind, Read};
 use std::net::{Net, OpenListener, SocketAddr, TcpListener, TcpStream};
 use std::process::Abort;
-use std::test::Fail;
 
 /// A server in memory: what each connection gives, how many bytes it takes, and how many connections there are.
 #[derive(Drop)]
@@ -122,28 +121,28 @@ static CASES: [Case; 8] = [
 
 /// How a conversation ends in which what is typed is read so often at most, and what is printed on both writers, of
 /// which the first takes `room` bytes.
-pub fn conversed(
+pub fn conversed<D: Dial>(
     alloc: Global,
-    mut door: Door<'_>,
+    door: &mut D,
     typed: &mut impl Read,
     reads: u32,
     room: usize,
 ) -> Outcome {
     let mut out = Pipe::new(b"", 1, After::End, room);
     let mut err = Pipe::new(b"", 1, After::End, 1024);
-    let ending = converse_with(&mut door, alloc, b"ann", reads, typed, &mut out, &mut err);
+    let ending = converse_with(door, alloc, b"ann", reads, typed, &mut out, &mut err);
     Outcome::new(ending, out.output(), err.output())
 }
 
 /// Asserts how a conversation goes whose typed bytes come in reads of at most `most`.
 fn assert_case(rt: &(impl Abort + AllocGlobal), case: &Case, most: usize) {
-    let door = Door {
+    let mut door = Door {
         input: WELCOME,
         room: 4096,
         connections: case.connections,
     };
     let mut typed = Pipe::new(case.typed, most, After::End, 0);
-    let outcome = conversed(rt.alloc(), door, &mut typed, 1000, 1024);
+    let outcome = conversed(rt.alloc(), &mut door, &mut typed, 1000, 1024);
     let printed = [case.out, case.err];
     assert_is(rt, case.name, most, &outcome, Ok(case.status), printed);
 }
@@ -160,13 +159,13 @@ fn answers_what_is_typed(rt: HostRuntime) {
 
 /// Asserts what is printed in a conversation whose connections take so many bytes each.
 fn assert_printed(rt: &(impl Abort + AllocGlobal), room: usize, wanted: &[u8]) {
-    let door = Door {
+    let mut door = Door {
         input: b"",
         room,
         connections: 2,
     };
     let mut typed = Pipe::new(b"secret\nroll\nopen\n", 100, After::End, 0);
-    let outcome = conversed(rt.alloc(), door, &mut typed, 1000, 1024);
+    let outcome = conversed(rt.alloc(), &mut door, &mut typed, 1000, 1024);
     assert_is(rt, "a login", room, &outcome, Ok(0), [wanted, b""]);
 }
 
@@ -196,7 +195,7 @@ fn no_door() -> Door<'static> {
 /// If the writer takes so many bytes, it has got these, and the end is a fault.
 fn assert_written(rt: &(impl Abort + AllocGlobal), room: usize, wanted: &[u8]) {
     let mut typed = Pipe::new(b"secret\nroll\n", 100, After::End, 0);
-    let outcome = conversed(rt.alloc(), no_door(), &mut typed, 1000, room);
+    let outcome = conversed(rt.alloc(), &mut no_door(), &mut typed, 1000, room);
     let ending = Err(EngineFault::Device);
     assert_is(rt, "a writer", room, &outcome, ending, [wanted, b""]);
 }
@@ -212,8 +211,9 @@ fn a_writer_that_fails_is_a_fault(rt: HostRuntime) {
 /// If the reader fails after these bytes, the end is a fault.
 fn assert_stops_after(rt: &(impl Abort + AllocGlobal), typed: &[u8]) {
     let mut reader = Pipe::new(typed, 100, FAULT, 0);
-    let ending = conversed(rt.alloc(), no_door(), &mut reader, 1000, 100).ending;
-    assert_eq!(rt; ending, Err(EngineFault::Device), "at {}", typed.len());
+    let outcome = conversed(rt.alloc(), &mut no_door(), &mut reader, 1000, 100);
+    let is_fault = outcome.ending == Err(EngineFault::Device);
+    assert!(rt; is_fault, "at {}", typed.len());
 }
 
 #[test]
@@ -224,21 +224,18 @@ fn a_reader_that_fails_is_a_fault(rt: HostRuntime) {
     }
 }
 
-/// How a conversation ends whose typed lines have no end, if they are read so often at most, and how often they were.
-fn endless(alloc: Global, reads: u32) -> (Result<u8, EngineFault>, u32) {
+/// Whether a conversation whose typed lines have no end is a fault once they were read so often.
+fn ends_after(alloc: Global, reads: u32) -> bool {
     let mut typed = Endless::new();
-    let outcome = conversed(alloc, no_door(), &mut typed, reads, 1024);
-    (outcome.ending, typed.asked())
+    let outcome = conversed(alloc, &mut no_door(), &mut typed, reads, 1024);
+    outcome.ending == Err(EngineFault::Device) && typed.asked() == reads
 }
 
 /// What is typed is read so often, and no more.
 #[test]
 fn typed_lines_without_end_end(rt: HostRuntime) {
     for reads in [0, 1, 5] {
-        assert_eq!(rt;
-            endless(rt.alloc(), reads),
-            (Err(EngineFault::Device), reads)
-        );
+        assert!(rt; ends_after(rt.alloc(), reads), "{reads} reads");
     }
 }
 
@@ -259,24 +256,34 @@ fn conversed_at<N: Net<Stream = TcpStream>>(
     Outcome::new(ending, out.output(), err.output())
 }
 
-/// A port of this machine on which nothing listens.
-fn free_port<N: Net>(rt: &N) -> io::Result<u16> {
-    let listener = TcpListener::bind(rt, "127.0.0.1:0")?;
-    Ok(listener.local_addr()?.port())
+/// A listener at a free port of this machine.
+fn listening<N: Net<Listener = TcpListener, Stream = TcpStream> + Abort>(rt: &N) -> TcpListener {
+    TcpListener::bind(rt, "127.0.0.1:0")
+        .ok()
+        .expect(rt, "it listens")
+}
+
+/// Where a listener is reached.
+fn address_of(rt: &impl Abort, listener: &TcpListener) -> SocketAddr {
+    listener.local_addr().ok().expect(rt, "it has an address")
+}
+
+/// An address of this machine at which nothing listens.
+fn free_address<N: Net<Listener = TcpListener, Stream = TcpStream> + Abort>(rt: &N) -> SocketAddr {
+    address_of(rt, &listening(rt))
 }
 
 #[test]
-fn a_port_where_nothing_listens_gives_no_connection(rt: HostRuntime) -> Result<(), Fail> {
+fn a_port_where_nothing_listens_gives_no_connection(rt: HostRuntime) {
     let outcome = conversed_at(
         &rt,
         rt.alloc(),
         "127.0.0.1",
-        free_port(&rt)?,
+        free_address(&rt).port(),
         b"secret\nroll\nquit\n",
     );
     let wanted = [b"no connection\nrefused 2 Offline\n".as_slice(), b""];
     assert_is(&rt, "nobody listens", 0, &outcome, Ok(0), wanted);
-    Ok(())
 }
 
 /// What a connection gives up to its end, in at most 100 reads.
@@ -294,13 +301,18 @@ fn read_whole(stream: &mut TcpStream) -> io::Result<Text> {
     Ok(text)
 }
 
-/// Asserts that the listener is given the login and no more.
-fn assert_login(rt: &impl Abort, name: &str, listener: &TcpListener) -> io::Result<()> {
+/// What the next connection gives up to its end.
+fn accepted(listener: &TcpListener) -> io::Result<Text> {
     let (mut far, _peer) = listener.accept()?;
-    let received = read_whole(&mut far)?;
+    read_whole(&mut far)
+}
+
+/// Asserts that the listener is given the login and no more.
+fn assert_login(rt: &impl Abort, name: &str, listener: &TcpListener) {
+    let received = accepted(listener).ok().expect(rt, "it is read");
     let login = b"login fibs_client 1008 ann secret\r\n".as_slice();
-    assert_eq!(rt; received.as_slice(), login, "{name}");
-    Ok(())
+    let is_login = received.as_slice() == login;
+    assert!(rt; is_login, "{name}");
 }
 
 /// Asserts that a conversation over sockets prints nothing, and gives the listener the login and no more.
@@ -311,19 +323,18 @@ fn assert_logs_in<N: Net<Stream = TcpStream>>(
     host: &str,
     listener: &TcpListener,
     typed: &[u8],
-) -> io::Result<()> {
-    let port = listener.local_addr()?.port();
+) {
+    let port = address_of(rt, listener).port();
     let outcome = conversed_at(net, rt.alloc(), host, port, typed);
     assert_is(rt, name, 0, &outcome, Ok(0), [b"", b""]);
-    assert_login(rt, name, listener)
+    assert_login(rt, name, listener);
 }
 
 #[test]
-fn a_socket_is_given_the_login_and_no_more(rt: HostRuntime) -> Result<(), Fail> {
-    let listener = TcpListener::bind(&rt, "127.0.0.1:0")?;
+fn a_socket_is_given_the_login_and_no_more(rt: HostRuntime) {
+    let listener = listening(&rt);
     let typed = b"secret\n\nquit\n";
-    assert_logs_in(&rt, "a socket", &rt, "127.0.0.1", &listener, typed)?;
-    Ok(())
+    assert_logs_in(&rt, "a socket", &rt, "127.0.0.1", &listener, typed);
 }
 
 /// Asserts that the listener is given the login if a name has these addresses.
@@ -332,19 +343,18 @@ fn assert_named<N: Net<Listener = TcpListener, Stream = TcpStream> + AllocGlobal
     name: &str,
     listener: &TcpListener,
     addresses: [SocketAddr; 2],
-) -> io::Result<()> {
+) {
     let net = Named::new(rt, addresses);
     let typed = b"secret\nquit\n";
-    assert_logs_in(rt, name, &net, "fibs.example", listener, typed)
+    assert_logs_in(rt, name, &net, "fibs.example", listener, typed);
 }
 
 /// Of two addresses of a name nobody listens at one, whichever it is: the other one is given the login.
 #[test]
-fn each_address_of_a_name_is_tried(rt: HostRuntime) -> Result<(), Fail> {
-    let listener = TcpListener::bind(&rt, "127.0.0.1:0")?;
-    let there = listener.local_addr()?;
-    let nobody = SocketAddr::new(there.ip(), free_port(&rt)?);
-    assert_named(&rt, "the first address", &listener, [there, nobody])?;
-    assert_named(&rt, "the second address", &listener, [nobody, there])?;
-    Ok(())
+fn each_address_of_a_name_is_tried(rt: HostRuntime) {
+    let listener = listening(&rt);
+    let there = address_of(&rt, &listener);
+    let nobody = free_address(&rt);
+    assert_named(&rt, "the first address", &listener, [there, nobody]);
+    assert_named(&rt, "the second address", &listener, [nobody, there]);
 }

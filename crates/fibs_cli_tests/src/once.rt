@@ -1,30 +1,20 @@
 //! Devices that fail once: what failed is not tried again by itself.
 
+use crate::connect::conversed;
 use crate::nobody::Nobody;
 use crate::outcomes::assert_is;
-use fibs_connect::converse_with;
 use fibs_links::dial::{Dial, Place, Server};
 use fibs_links::logging::LoggedServer;
 use fibs_links::pacing::PacedServer;
 use fibs_test_tools::devices::FailsOnce;
-use fibs_test_tools::outcome::Outcome;
 use fibs_test_tools::pipe::{After, Pipe, QUIET};
 use fibs_test_tools::stumbling::Stumbles;
-use std::alloc::Global;
 use std::cell::Cell;
 use std::io;
 use std::io::{ErrorKind, Read};
 use std::net::{IpAddr, Ipv4Addr, SocketAddr};
 use std::process::Abort;
 use std::time::Duration;
-
-/// How a conversation ends, and what is printed on both writers.
-fn conversed<D: Dial>(alloc: Global, door: &mut D, typed: &mut impl Read) -> Outcome {
-    let mut out = Pipe::new(b"", 1, After::End, 512);
-    let mut err = Pipe::new(b"", 1, After::End, 512);
-    let ending = converse_with(door, alloc, b"ann", 1000, typed, &mut out, &mut err);
-    Outcome::new(ending, out.output(), err.output())
-}
 
 /// A server whose connections fail at the second write, or take nothing by it.
 #[derive(Drop)]
@@ -47,7 +37,7 @@ impl Dial for StumblingDoor {
 fn assert_written_once(rt: &(impl Abort + AllocGlobal), error: Option<ErrorKind>) {
     let mut door = StumblingDoor { error };
     let mut typed = Pipe::new(b"secret\nroll\n", 100, After::End, 0);
-    let outcome = conversed(rt.alloc(), &mut door, &mut typed);
+    let outcome = conversed(rt.alloc(), &mut door, &mut typed, 1000, 512);
     let wanted = b"lost\nrefused 2 Offline\n".as_slice();
     assert_is(rt, "a login", 0, &outcome, Ok(0), [wanted, b""]);
 }
@@ -83,7 +73,7 @@ impl Dial for LateDoor {
 fn a_connection_is_tried_when_it_is_asked_for(rt: HostRuntime) {
     let mut door = LateDoor { answers: false };
     let mut typed = Pipe::new(b"secret\nroll\nopen\nroll\n", 100, After::End, 0);
-    let outcome = conversed(rt.alloc(), &mut door, &mut typed);
+    let outcome = conversed(rt.alloc(), &mut door, &mut typed, 1000, 512);
     let wanted = b"no connection\nrefused 2 Offline\nrefused 3 NotReady\n".as_slice();
     assert_is(&rt, "a connection", 0, &outcome, Ok(0), [wanted, b""]);
 }
@@ -98,6 +88,16 @@ fn why_none<D: Dial>(door: &mut D) -> Option<ErrorKind> {
     door.dial().err()
 }
 
+/// The same at a terminal.
+fn why_none_paced(net: &Nobody<'_>, place: Place<'_>) -> Option<ErrorKind> {
+    why_none(&mut PacedServer::new(Server::new(net, place), 20))
+}
+
+/// The same with a log.
+fn why_none_logged(rt: &HostRuntime, net: &Nobody<'_>, place: Place<'_>) -> Option<ErrorKind> {
+    why_none(&mut LoggedServer::new(Server::new(net, place), rt, None))
+}
+
 /// If no address of a name answers, each was tried once, and the last says why; with a log and at a terminal too.
 #[test]
 fn each_address_is_tried_once_and_the_last_says_why(rt: HostRuntime) {
@@ -110,11 +110,13 @@ fn each_address_is_tried_once_and_the_last_says_why(rt: HostRuntime) {
     };
     let whys = [
         why_none(&mut Server::new(&net, place)),
-        why_none(&mut PacedServer::new(Server::new(&net, place), 20)),
-        why_none(&mut LoggedServer::new(Server::new(&net, place), &rt, None)),
+        why_none_paced(&net, place),
+        why_none_logged(&rt, &net, place),
     ];
-    let wanted = ([Some(ErrorKind::ConnectionRefused); 3], 6);
-    assert_eq!(rt; (whys, tries.get().0), wanted);
+    let are_last = whys == [Some(ErrorKind::ConnectionRefused); 3];
+    assert!(rt; are_last, "no connection, for this reason");
+    let (count, _) = tries.get();
+    assert!(rt; count == 6, "{count} tries");
 }
 
 /// A reader that ends, and gives more if it is asked again, as a terminal does.
@@ -147,7 +149,8 @@ fn nothing_is_read_after_the_end_of_what_is_typed(rt: HostRuntime) {
         ended: false,
         after: b"roll\n",
     };
-    let outcome = conversed(rt.alloc(), &mut door, &mut typed);
+    let outcome = conversed(rt.alloc(), &mut door, &mut typed, 1000, 512);
     assert_is(&rt, "an end", 0, &outcome, Ok(0), [b"", b""]);
-    assert_eq!(rt; typed.after, b"roll\n".as_slice());
+    let is_left = typed.after == b"roll\n".as_slice();
+    assert!(rt; is_left, "it was not read");
 }

@@ -5,11 +5,9 @@ use fibs_cli::program::{answer, status};
 use fibs_engine::fault::EngineFault;
 use fibs_test_tools::outcome::Outcome;
 use fibs_test_tools::pipe::{After, Pipe};
-use fibs_test_tools::text::{Text, text_of};
 use std::alloc::{AllocError, Global};
 use std::net::{Net, TcpListener, TcpStream};
 use std::process::Abort;
-use std::test::Fail;
 use std::time::Duration;
 
 /// The words after the program's name, what is on standard input, and the result.
@@ -70,12 +68,18 @@ static SERVED: [Case; 5] = [
     },
 ];
 
+/// Adds a word to a command line.
+fn push_word(alloc: Global, line: &mut Vec<String>, word: &str) -> Result<(), AllocError> {
+    line.push(String::from_str(alloc, word)?)?;
+    Ok(())
+}
+
 /// The words of a command line, with the program's name before them.
 fn line_of(alloc: Global, words: &[&str]) -> Result<Vec<String>, AllocError> {
     let mut line = Vec::new(alloc);
-    line.push(String::from_str(alloc, "fibs")?)?;
+    push_word(alloc, &mut line, "fibs")?;
     for word in words {
-        line.push(String::from_str(alloc, word)?)?;
+        push_word(alloc, &mut line, word)?;
     }
     Ok(line)
 }
@@ -103,33 +107,40 @@ fn served<N: Net<Listener = TcpListener, Stream = TcpStream> + AllocGlobal>(
 }
 
 /// How the program answers a command line, and what it prints.
-fn answered<N: Net<Listener = TcpListener, Stream = TcpStream> + AllocGlobal>(
+fn answered<N: Net<Listener = TcpListener, Stream = TcpStream> + AllocGlobal + Abort>(
     rt: &N,
     words: &[&str],
     input: &[u8],
-) -> Result<Outcome, AllocError> {
-    let line = line_of(rt.alloc(), words)?;
+) -> Outcome {
+    let line = line_of(rt.alloc(), words)
+        .ok()
+        .expect(rt, "there is memory for it");
     let called = fibs_arguments::read(rt.alloc(), line.as_slice());
-    Ok(served(rt, &called, input))
+    served(rt, &called, input)
 }
 
 /// Asserts how a command line is served.
 fn assert_served<N: Net<Listener = TcpListener, Stream = TcpStream> + AllocGlobal + Abort>(
     rt: &N,
     case: &Case,
-) -> Result<(), AllocError> {
-    let outcome = answered(rt, case.words, case.input)?;
+) {
+    let outcome = answered(rt, case.words, case.input);
     let printed = [case.out, case.err];
     assert_is(rt, case.name, 0, &outcome, Ok(case.status), printed);
-    Ok(())
 }
 
 #[test]
-fn serves_each_request(rt: HostRuntime) -> Result<(), Fail> {
+fn serves_each_request(rt: HostRuntime) {
     for case in &SERVED {
-        assert_served(&rt, case)?;
+        assert_served(&rt, case);
     }
-    Ok(())
+}
+
+/// Whether it is so that a command line is answered by help, which is printed, or by an error, which is said.
+fn is_answered(outcome: &Outcome, wanted: u8) -> bool {
+    let is_printed = outcome.out.is_empty() == (wanted == 2);
+    let is_said = outcome.err.is_empty() == (wanted == 0);
+    outcome.ending == Ok(wanted) && is_printed && is_said
 }
 
 /// Asserts that a command line is answered with help, which is printed, or with an error, which is said.
@@ -137,15 +148,9 @@ fn assert_answered<N: Net<Listener = TcpListener, Stream = TcpStream> + AllocGlo
     rt: &N,
     words: &[&str],
     wanted: u8,
-) -> Result<(), AllocError> {
-    let outcome = answered(rt, words, b"a\n")?;
-    let is_printed = outcome.out.is_empty() == (wanted == 2);
-    let is_said = outcome.err.is_empty() == (wanted == 0);
-    assert!(rt;
-        outcome.ending == Ok(wanted) && is_printed && is_said,
-        "at {words:?}"
-    );
-    Ok(())
+) {
+    let outcome = answered(rt, words, b"a\n");
+    assert!(rt; is_answered(&outcome, wanted), "at {words:?}");
 }
 
 /// Words after the program's name, and the status.
@@ -161,18 +166,16 @@ static ANSWERED: [(&[&str], u8); 8] = [
 ];
 
 #[test]
-fn answers_each_other_line(rt: HostRuntime) -> Result<(), Fail> {
+fn answers_each_other_line(rt: HostRuntime) {
     for (words, wanted) in &ANSWERED {
-        assert_answered(&rt, words, *wanted)?;
+        assert_answered(&rt, words, *wanted);
     }
-    Ok(())
 }
 
-/// The status of an ending, and what is said of it.
-fn said_of(ending: Result<u8, EngineFault>) -> (u8, Text) {
+/// Whether an ending has this status, and this is said of it.
+fn is_said_of(ending: Result<u8, EngineFault>, wanted: u8, said: &[u8]) -> bool {
     let mut err = Pipe::new(b"", 1, After::End, 512);
-    let status = status(ending, &mut err);
-    (status, text_of(err.output()))
+    status(ending, &mut err) == wanted && err.output() == said
 }
 
 /// An ending, its status, and what is said.
@@ -186,6 +189,7 @@ static ENDINGS: [(Result<u8, EngineFault>, u8, &[u8]); 4] = [
 #[test]
 fn says_why_it_stopped(rt: HostRuntime) {
     for (ending, wanted, said) in &ENDINGS {
-        assert_eq!(rt; said_of(*ending), (*wanted, text_of(said)));
+        let is_said = is_said_of(*ending, *wanted, said);
+        assert!(rt; is_said, "{ending:?}");
     }
 }

@@ -6,6 +6,7 @@ use fibs_test_tools::outcome::Outcome;
 use fibs_test_tools::pipe::{After, Pipe};
 use fibs_test_tools::text::joined;
 use std::alloc::Global;
+use std::process::Abort;
 
 /// What is printed if a note is refused.
 const REFUSED: &[u8] = b"directory 1 Memory\n";
@@ -54,15 +55,27 @@ fn is_one_of(text: &[u8], rows: &[&[&[u8]]]) -> bool {
     false
 }
 
+/// Whether a conversation ended well, and one of the texts is printed.
+fn is_well(outcome: &Outcome) -> bool {
+    let is_ended = outcome.ending == Ok(0) && outcome.err.is_empty();
+    is_ended && is_one_of(&outcome.out, &PRINTED)
+}
+
 /// How a conversation ends in which the server sends some lines at once, and what is printed on both writers.
 fn heard_at_once(alloc: Global, input: &[u8]) -> Outcome {
-    let door = Door {
+    let mut door = Door {
         input,
         room: 4096,
         connections: 1,
     };
     let mut typed = Pipe::new(b"secret\n\nplayers\nroll\nquit\n", 7, After::End, 0);
-    conversed(alloc, door, &mut typed, 1000, 1024)
+    conversed(alloc, &mut door, &mut typed, 1000, 1024)
+}
+
+/// Asserts that the conversation, once more, goes well, and what it prints.
+fn assert_heard(rt: &(impl Abort + AllocGlobal), input: &[u8], wanted: &[u8]) {
+    let outcome = heard_at_once(rt.alloc(), input);
+    assert_is(rt, "once more", 0, &outcome, Ok(0), [wanted, b""]);
 }
 
 /// If a note is refused, the conversation says so and goes on: it never ends because memory ran out, and it knows the
@@ -70,12 +83,10 @@ fn heard_at_once(alloc: Global, input: &[u8]) -> Outcome {
 #[test]
 fn conversations_go_on_under_refused_memory(rt: HostRuntime) {
     let input = joined(HEARD);
-    let mut outcome = heard_at_once(rt.alloc(), &input);
-    let is_well = outcome.ending == Ok(0) && outcome.err.is_empty();
-    assert!(rt; is_well && is_one_of(&outcome.out, &PRINTED), "{outcome:?}");
+    let outcome = heard_at_once(rt.alloc(), &input);
+    assert!(rt; is_well(&outcome), "{outcome:?}");
     let wanted = joined(PRINTED[0]);
-    if outcome.out != wanted {
-        outcome = heard_at_once(rt.alloc(), &input);
+    if outcome.out.as_slice() != wanted.as_slice() {
+        assert_heard(&rt, &input, &wanted);
     }
-    assert_is(&rt, "once more", 0, &outcome, Ok(0), [&wanted, b""]);
 }
