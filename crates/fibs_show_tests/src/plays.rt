@@ -5,7 +5,7 @@ use fibs_show::plays::plays;
 use fibs_test_tools::devices::FailsOnce;
 use fibs_test_tools::outcome::Outcome;
 use fibs_test_tools::pipe::{After, Pipe};
-use fibs_test_tools::text::text_of;
+use fibs_test_tools::text::{Text, text_of};
 use std::alloc::Global;
 use std::process::Abort;
 
@@ -164,6 +164,16 @@ static REFUSED: [Case; 16] = [
     },
 ];
 
+/// The good boards, and what is printed for them.
+fn printed_words() -> &'static [Case; 12] {
+    &PRINTED
+}
+
+/// All other words, and what is printed for them.
+fn refused_words() -> &'static [Case; 16] {
+    &REFUSED
+}
+
 /// How `plays` ends if so many bytes may be printed on both writers, and what it prints.
 fn listed(alloc: Global, word: &[u8], out_room: usize, err_room: usize) -> Outcome {
     let mut out = Pipe::new(b"", 1, After::End, out_room);
@@ -180,43 +190,50 @@ fn assert_listed(rt: &(impl Abort + AllocGlobal), case: &Case, status: u8, print
 
 #[test]
 fn prints_the_plays_of_good_boards(rt: HostRuntime) {
-    for case in &PRINTED {
+    for case in printed_words() {
         assert_listed(&rt, case, 0, [case.printed, b""]);
     }
 }
 
 #[test]
 fn refuses_all_other_words(rt: HostRuntime) {
-    for case in &REFUSED {
+    for case in refused_words() {
         assert_listed(&rt, case, 3, [b"", case.printed]);
     }
 }
 
+/// A word with so many spaces after it.
+fn spaced(word: &[u8], count: usize) -> Text {
+    let mut text = text_of(word);
+    for _ in 0..count {
+        let _fits = text.try_push(b' ');
+    }
+    text
+}
+
 #[test]
 fn reads_a_word_of_any_length(rt: HostRuntime) {
-    let case = &PRINTED[0];
-    let mut word = text_of(case.word);
-    for _ in 0..5000 {
-        let _fits = word.try_push(b' ');
-    }
+    let case = &printed_words()[0];
+    let word = spaced(case.word, 5000);
     let outcome = listed(rt.alloc(), &word, 512, 512);
     assert_is(&rt, "spaces", 5000, &outcome, Ok(0), [case.printed, b""]);
 }
 
 /// If a growth is refused, nothing is written, and the next call lists the plays.
 fn assert_listed_again(rt: &(impl Abort + AllocGlobal), case: &Case) {
-    let mut outcome = listed(rt.alloc(), case.word, 512, 512);
+    let outcome = listed(rt.alloc(), case.word, 512, 512);
     let refused = Err(EngineFault::Memory);
     if outcome.ending == refused {
         assert_is(rt, case.name, 1, &outcome, refused, [b"", b""]);
-        outcome = listed(rt.alloc(), case.word, 512, 512);
+        assert_listed(rt, case, 0, [case.printed, b""]);
+    } else {
+        assert_is(rt, case.name, 2, &outcome, Ok(0), [case.printed, b""]);
     }
-    assert_is(rt, case.name, 2, &outcome, Ok(0), [case.printed, b""]);
 }
 
 #[test]
 fn prints_plays_under_refused_memory(rt: HostRuntime) {
-    for case in &PRINTED {
+    for case in printed_words() {
         assert_listed_again(&rt, case);
     }
 }
@@ -241,13 +258,17 @@ fn assert_stops(rt: &(impl Abort + AllocGlobal), case: &Case, room: usize, is_ou
     assert_is(rt, case.name, room, &outcome, ending, printed);
 }
 
+/// Asserts it for each room that does not hold all.
+fn assert_stops_at_each(rt: &(impl Abort + AllocGlobal), case: &Case, is_out: bool) {
+    for room in 0..case.printed.len() {
+        assert_stops(rt, case, room, is_out);
+    }
+}
+
 #[test]
 fn stops_at_a_failed_write(rt: HostRuntime) {
-    for (case, is_out) in [(&PRINTED[6], true), (&REFUSED[6], false)] {
-        for room in 0..case.printed.len() {
-            assert_stops(&rt, case, room, is_out);
-        }
-    }
+    assert_stops_at_each(&rt, &printed_words()[6], true);
+    assert_stops_at_each(&rt, &refused_words()[6], false);
 }
 
 /// How `plays` ends if one write on each writer fails, and what it prints.
@@ -267,12 +288,16 @@ fn assert_fails(rt: &(impl Abort + AllocGlobal), case: &Case, before: usize, is_
     assert_is(rt, case.name, before, &outcome, ending, printed);
 }
 
+/// Asserts it for each write.
+fn assert_fails_at_each(rt: &(impl Abort + AllocGlobal), case: &Case, is_out: bool) {
+    for before in 0..case.printed.len() {
+        assert_fails(rt, case, before, is_out);
+    }
+}
+
 /// After a failed write neither writer is given more, though it would take it.
 #[test]
 fn writes_nothing_after_a_failed_write(rt: HostRuntime) {
-    for (case, is_out) in [(&PRINTED[6], true), (&REFUSED[6], false)] {
-        for before in 0..case.printed.len() {
-            assert_fails(&rt, case, before, is_out);
-        }
-    }
+    assert_fails_at_each(&rt, &printed_words()[6], true);
+    assert_fails_at_each(&rt, &refused_words()[6], false);
 }

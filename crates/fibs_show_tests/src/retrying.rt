@@ -77,18 +77,18 @@ impl<W: Write> Write for Retrying<W> {
     }
 }
 
+/// A device with so many interrupted calls in a row, which are made again.
+fn interrupted(pipe: Pipe<'_>, signals: u32) -> Retrying<Disturbed<'_>> {
+    let device = Disturbed::new(pipe, signals);
+    Retrying { device }
+}
+
 /// How `show` ends, and what it prints, if so many reads in a row and so many writes in a row are interrupted.
 fn shown(alloc: Global, reads: u32, writes: u32) -> Outcome {
-    let mut input = Disturbed::new(Pipe::new(b"hi\nyou\n", 1, After::End, 0), reads);
-    let mut output = Disturbed::new(Pipe::new(b"", 1, After::End, 100), writes);
-    let ending = show(
-        alloc,
-        &mut Retrying { device: &mut input },
-        &mut Retrying {
-            device: &mut output,
-        },
-    );
-    Outcome::new(ending, output.pipe.output(), b"")
+    let mut input = interrupted(Pipe::new(b"hi\nyou\n", 1, After::End, 0), reads);
+    let mut output = interrupted(Pipe::new(b"", 1, After::End, 100), writes);
+    let ending = show(alloc, &mut input, &mut output);
+    Outcome::new(ending, output.device.pipe.output(), b"")
 }
 
 /// How many reads and how many writes in a row are interrupted, how `show` ends, and what it prints: they are made
@@ -109,9 +109,7 @@ static ROWS: [(u32, u32, Result<u8, EngineFault>, &[u8]); 9] = [
 fn interrupted_calls_are_made_again(rt: HostRuntime) {
     for (reads, writes, ending, out) in &ROWS {
         let outcome = shown(rt.alloc(), *reads, *writes);
-        assert!(rt;
-            outcome.is(*ending, out, b""),
-            "{reads} and {writes} signals: {outcome:?}"
-        );
+        let is_made = outcome.is(*ending, out, b"");
+        assert!(rt; is_made, "{reads} and {writes} signals");
     }
 }

@@ -237,13 +237,14 @@ fn assert_shown_again(rt: &(impl Abort + AllocGlobal), input: &[u8], wanted: &[u
 
 /// The same if the input is read in portions of at most so many bytes.
 fn assert_cut_again(rt: &(impl Abort + AllocGlobal), input: &[u8], most: usize, wanted: &[u8]) {
-    let mut outcome = shown(rt.alloc(), input, most, After::End, 1024);
+    let outcome = shown(rt.alloc(), input, most, After::End, TEXT_ROOM);
     if outcome.ending == Err(EngineFault::Memory) {
         let are_first = are_first_lines(&outcome.out, wanted);
-        assert!(rt; are_first, "{:?} of {wanted:?}", outcome.out.as_slice());
-        outcome = shown(rt.alloc(), input, most, After::End, 1024);
+        assert!(rt; are_first, "the first lines, at {most}");
+        assert_cut(rt, input, most, wanted);
+    } else {
+        assert_is(rt, "all lines", most, &outcome, Ok(0), [wanted, b""]);
     }
-    assert_is(rt, "once more", most, &outcome, Ok(0), [wanted, b""]);
 }
 
 #[test]
@@ -255,28 +256,32 @@ fn shows_lines_of_each_kind_under_refused_memory(rt: HostRuntime) {
     );
 }
 
+/// Adds these bytes to a text.
+fn add(text: &mut Text, bytes: &[u8]) {
+    let _fits = text.try_extend_from_slice(bytes);
+}
+
 /// The messages of a login, and a board.
 #[test]
 fn shows_messages_under_refused_memory(rt: HostRuntime) {
     let mut input = Text::new();
     let mut wanted = Text::new();
     for (line, printed) in &MESSAGES[..4] {
-        let _fits = input.try_extend_from_slice(line);
-        let _fits = wanted.try_extend_from_slice(printed);
+        add(&mut input, line);
+        add(&mut wanted, printed);
     }
-    for part in [FRONT, MIDDLE, LAST, b"\n"] {
-        let _fits = input.try_extend_from_slice(part);
-        let _fits = wanted.try_extend_from_slice(part);
-    }
+    let board = board_line(FRONT, LAST, b"\n");
+    add(&mut input, &board);
+    add(&mut wanted, &board);
     assert_shown_again(&rt, &input, &wanted);
 }
 
-/// How a stream without end is shown that is read so often at most, how often it was read, and what is printed.
-fn endless(alloc: Global, reads: u32) -> (Result<(), StreamFault>, u32, Text) {
+/// Whether a stream without end is read so often, if it may be no more often, and these lines are printed.
+fn is_asked_so_often(alloc: Global, reads: u32, lines: &[u8]) -> bool {
     let mut reader = Endless::new();
     let mut writer = Pipe::new(b"", 1, After::End, 512);
     let ending = show_portions(alloc, reads, &mut [0; 8], &mut reader, &mut writer);
-    (ending, reader.asked(), text_of(writer.output()))
+    ending == Err(StreamFault::Endless) && reader.asked() == reads && writer.output() == lines
 }
 
 /// How often a reader without end is asked, and what is printed.
@@ -291,27 +296,19 @@ static ASKED: [(u32, &[u8]); 4] = [
 #[test]
 fn asks_a_reader_without_end_so_often(rt: HostRuntime) {
     for (reads, lines) in &ASKED {
-        let wanted = (Err(StreamFault::Endless), *reads, text_of(lines));
-        assert_eq!(rt; endless(rt.alloc(), *reads), wanted);
+        let is_asked = is_asked_so_often(rt.alloc(), *reads, lines);
+        assert!(rt; is_asked, "{reads} reads");
     }
 }
 
-/// How a stream is shown of which a write of at most `most` bytes fails after so many, and what is written.
-fn failing(alloc: Global, most: usize, before: usize) -> (Result<(), StreamFault>, Text) {
+/// Whether showing a stream stops at a write of at most `most` bytes which fails after so many, and what is written is
+/// the front of all.
+fn stops(alloc: Global, most: usize, before: usize) -> bool {
     let mut reader = Pipe::new(b"a\nbc\nd", 100, After::End, 0);
     let mut writer = FailsOnce::new(before, most);
     let ending = show_portions(alloc, 1000, &mut [0; 1024], &mut reader, &mut writer);
-    (ending, text_of(writer.output()))
-}
-
-/// If a write of at most `most` bytes fails after so many, nothing is written after it.
-fn assert_stops(rt: &(impl Abort + AllocGlobal), most: usize, before: usize) {
-    let (ending, text) = failing(rt.alloc(), most, before);
-    let is_front = b"text a\ntext bc\nunfinished 1\n".starts_with(&text);
-    assert!(rt;
-        ending == Err(StreamFault::Writer) && is_front,
-        "{before} of {most}: {ending:?} after {text:?}"
-    );
+    let is_front = b"text a\ntext bc\nunfinished 1\n".starts_with(writer.output());
+    ending == Err(StreamFault::Writer) && is_front
 }
 
 /// After a failed write nothing more is written, though the writer would take it.
@@ -320,7 +317,8 @@ fn writes_nothing_after_a_failed_write(rt: HostRuntime) {
     let wanted = b"text a\ntext bc\nunfinished 1\n";
     for most in [1, 4, 100] {
         for failing in 0..wanted.len().div_ceil(most) {
-            assert_stops(&rt, most, failing);
+            let has_stopped = stops(rt.alloc(), most, failing);
+            assert!(rt; has_stopped, "{failing} of {most}");
         }
     }
 }
@@ -341,5 +339,6 @@ fn says_what_failed(rt: HostRuntime) {
         ending_of(rt.alloc(), After::End, 512),
     ];
     let wanted = [Err(StreamFault::Reader), Err(StreamFault::Writer), Ok(())];
-    assert_eq!(rt; endings, wanted);
+    let are_right = endings == wanted;
+    assert!(rt; are_right, "a reader, a writer, and neither");
 }
