@@ -208,19 +208,19 @@ fn a_writer_that_fails_is_a_fault(rt: HostRuntime) {
     }
 }
 
-/// If the reader fails after these bytes, the end is a fault.
-fn assert_stops_after(rt: &(impl Abort + AllocGlobal), typed: &[u8]) {
+/// Whether the end is a fault, if the reader fails after these bytes.
+fn stops_after(alloc: Global, typed: &[u8]) -> bool {
     let mut reader = Pipe::new(typed, 100, FAULT, 0);
-    let outcome = conversed(rt.alloc(), &mut no_door(), &mut reader, 1000, 100);
-    let is_fault = outcome.ending == Err(EngineFault::Device);
-    assert!(rt; is_fault, "at {}", typed.len());
+    let outcome = conversed(alloc, &mut no_door(), &mut reader, 1000, 100);
+    outcome.ending == Err(EngineFault::Device)
 }
 
 #[test]
 fn a_reader_that_fails_is_a_fault(rt: HostRuntime) {
     let whole: &[u8] = b"secret\nroll\n";
     for length in 0..whole.len() {
-        assert_stops_after(&rt, &whole[..length]);
+        let has_stopped = stops_after(rt.alloc(), &whole[..length]);
+        assert!(rt; has_stopped, "at {length}");
     }
 }
 

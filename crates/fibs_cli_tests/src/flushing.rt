@@ -154,9 +154,9 @@ fn conversed_on(alloc: Global, seen: &Seen, flushes: u32) -> Result<u8, EngineFa
 fn nothing_is_hidden_while_the_program_waits(rt: HostRuntime) {
     let seen = Seen::new();
     let ending = conversed_on(rt.alloc(), &seen, 1000);
-    assert!(rt; ending == Ok(0), "{ending:?}");
-    assert!(rt; seen.is_shown(), "something is hidden");
-    assert!(rt; seen.waits.get() > 15);
+    let is_shown = ending == Ok(0) && seen.is_shown();
+    assert!(rt; is_shown, "something is hidden, or the end is a fault");
+    assert!(rt; seen.waits.get() > 15, "it waits more often");
 }
 
 /// Whether the conversation ends by a fault, which is the device's, if one flush fails after so many.

@@ -98,25 +98,28 @@ fn why_none_logged(rt: &HostRuntime, net: &Nobody<'_>, place: Place<'_>) -> Opti
     why_none(&mut LoggedServer::new(Server::new(net, place), rt, None))
 }
 
-/// If no address of a name answers, each was tried once, and the last says why; with a log and at a terminal too.
-#[test]
-fn each_address_is_tried_once_and_the_last_says_why(rt: HostRuntime) {
-    let tries = Cell::new((0, None));
-    let net = Nobody::new([address_of(1), address_of(2)], &tries);
+/// The three of them, if the network is this one.
+fn whys_none(rt: &HostRuntime, net: &Nobody<'_>) -> [Option<ErrorKind>; 3] {
     let place = Place {
         host: "fibs.example",
         port: 4321,
         quiet: Duration::from_millis(20),
     };
-    let whys = [
-        why_none(&mut Server::new(&net, place)),
-        why_none_paced(&net, place),
-        why_none_logged(&rt, &net, place),
-    ];
-    let are_last = whys == [Some(ErrorKind::ConnectionRefused); 3];
-    assert!(rt; are_last, "no connection, for this reason");
+    [
+        why_none(&mut Server::new(net, place)),
+        why_none_paced(net, place),
+        why_none_logged(rt, net, place),
+    ]
+}
+
+/// If no address of a name answers, each was tried once, and the last says why; with a log and at a terminal too.
+#[test]
+fn each_address_is_tried_once_and_the_last_says_why(rt: HostRuntime) {
+    let tries = Cell::new((0, None));
+    let net = Nobody::new([address_of(1), address_of(2)], &tries);
+    let are_last = whys_none(&rt, &net) == [Some(ErrorKind::ConnectionRefused); 3];
     let (count, _) = tries.get();
-    assert!(rt; count == 6, "{count} tries");
+    assert!(rt; are_last && count == 6, "each once, for this reason");
 }
 
 /// A reader that ends, and gives more if it is asked again, as a terminal does.

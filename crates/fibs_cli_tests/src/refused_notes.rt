@@ -84,7 +84,8 @@ fn assert_heard(rt: &(impl Abort + AllocGlobal), input: &[u8], wanted: &[u8]) {
 fn conversations_go_on_under_refused_memory(rt: HostRuntime) {
     let input = joined(HEARD);
     let outcome = heard_at_once(rt.alloc(), &input);
-    assert!(rt; is_well(&outcome), "{outcome:?}");
+    let is_well = is_well(&outcome);
+    assert!(rt; is_well, "it goes on, and says what is refused");
     let wanted = joined(PRINTED[0]);
     if outcome.out.as_slice() != wanted.as_slice() {
         assert_heard(&rt, &input, &wanted);
