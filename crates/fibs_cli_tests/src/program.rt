@@ -136,7 +136,7 @@ fn serves_each_request(rt: HostRuntime) {
     }
 }
 
-/// Whether it is so that a command line is answered by help, which is printed, or by an error, which is said.
+/// Whether a command line is answered by help, which is printed, or by an error, which is said.
 fn is_answered(outcome: &Outcome, wanted: u8) -> bool {
     let is_printed = outcome.out.is_empty() == (wanted == 2);
     let is_said = outcome.err.is_empty() == (wanted == 0);
