@@ -11,7 +11,6 @@ use fibs_test_tools::pipe::{After, Pipe};
 use fibs_test_tools::text::joined;
 use std::net::{Net, TcpListener, TcpStream};
 use std::process::Abort;
-use std::test::Fail;
 
 /// A script in parts, its status and the end of what is printed.
 #[derive(Clone, Copy)]
@@ -22,7 +21,7 @@ struct Case {
     end: &'static [u8],
 }
 
-static CASES: [Case; 12] = [
+static CONNECTIONS: [Case; 6] = [
     Case {
         name: "a loss that keeps half a line",
         script: &[LARGER, LOGS_IN, b"click move 24-18\nlose 11\nserve 1 1 1\n"],
@@ -65,6 +64,9 @@ static CASES: [Case; 12] = [
         status: 3,
         end: b"loggedin 2\nrefused 5 5 NothingToServe\n",
     },
+];
+
+static BOARDS: [Case; 6] = [
     Case {
         name: "a board of the server's own where the user decides",
         script: &[ROLL, b"\nown ", LARGER],
@@ -107,6 +109,11 @@ static CASES: [Case; 12] = [
     },
 ];
 
+/// A listener on this machine.
+fn listen<N: Net<Listener = TcpListener, Stream = TcpStream> + Abort>(rt: &N) -> TcpListener {
+    TcpListener::bind(rt, "127.0.0.1:0").expect(rt, "a port is free")
+}
+
 /// How a script ends that is played over sockets to the listener, and what is printed.
 fn played<N: Net<Stream = TcpStream> + AllocGlobal>(
     rt: &N,
@@ -140,13 +147,22 @@ fn assert_played<N: Net<Stream = TcpStream> + AllocGlobal + Abort>(
     assert_ends(rt, case.name, &outcome, case.status, case.end);
 }
 
-#[test]
-fn scripts_are_played_as_they_are_replayed(rt: HostRuntime) -> Result<(), Fail> {
-    let listener = TcpListener::bind(&rt, "127.0.0.1:0")?;
-    for case in &CASES {
-        assert_played(&rt, &listener, case);
+/// Asserts the same of these scripts.
+fn assert_all_played<N: Net<Stream = TcpStream> + AllocGlobal + Abort>(
+    rt: &N,
+    listener: &TcpListener,
+    cases: &[Case],
+) {
+    for case in cases {
+        assert_played(rt, listener, case);
     }
-    Ok(())
+}
+
+#[test]
+fn scripts_are_played_as_they_are_replayed(rt: HostRuntime) {
+    let listener = listen(&rt);
+    assert_all_played(&rt, &listener, &CONNECTIONS);
+    assert_all_played(&rt, &listener, &BOARDS);
 }
 
 /// The decisions and orders of a user who logs in.
@@ -186,21 +202,22 @@ fn decisions() -> [Case; 5] {
 }
 
 #[test]
-fn decisions_are_played_as_they_are_replayed(rt: HostRuntime) -> Result<(), Fail> {
-    let listener = TcpListener::bind(&rt, "127.0.0.1:0")?;
-    for case in &decisions() {
-        assert_played(&rt, &listener, case);
-    }
-    Ok(())
+fn decisions_are_played_as_they_are_replayed(rt: HostRuntime) {
+    assert_all_played(&rt, &listen(&rt), &decisions());
+}
+
+/// Connects to the listener, and closes that connection.
+fn connect_in_vain<N: Net<Stream = TcpStream> + Abort>(rt: &N, listener: &TcpListener) {
+    let address = listener.local_addr().expect(rt, "it has an address");
+    drop(TcpStream::connect(rt, address).expect(rt, "it listens"));
 }
 
 /// The connection that the listener accepts first is not the client's: its end shows that bytes are read from it.
 #[test]
-fn bytes_cross_the_connection_that_is_accepted(rt: HostRuntime) -> Result<(), Fail> {
-    let listener = TcpListener::bind(&rt, "127.0.0.1:0")?;
-    drop(TcpStream::connect(&rt, listener.local_addr()?)?);
-    let script = joined(SECOND_CLICK);
-    let outcome = played(&rt, &listener, &script);
+fn bytes_cross_the_connection_that_is_accepted(rt: HostRuntime) {
+    let listener = listen(&rt);
+    connect_in_vain(&rt, &listener);
+    let outcome = played(&rt, &listener, &joined(SECOND_CLICK));
     let ending = Err(EngineFault::Device);
     assert_is(
         &rt,
@@ -210,7 +227,6 @@ fn bytes_cross_the_connection_that_is_accepted(rt: HostRuntime) -> Result<(), Fa
         ending,
         b"opened 1\n",
     );
-    Ok(())
 }
 
 /// If memory runs out, the log after the events done so far is printed, and the script can be played as before, with
@@ -220,42 +236,37 @@ fn assert_played_again<N: Net<Listener = TcpListener, Stream = TcpStream> + Allo
     script: &[&[u8]],
     status: u8,
     end: &[u8],
-) -> Result<(), Fail> {
-    let listener = TcpListener::bind(rt, "127.0.0.1:0")?;
+) {
+    let listener = listen(rt);
     let script = joined(script);
-    let mut outcome = played(rt, &listener, &script);
-    if outcome.ending == Err(EngineFault::Memory) {
-        assert_so_far(rt, &script, &outcome.out);
-        outcome = played(rt, &listener, &script);
+    let outcome = played(rt, &listener, &script);
+    if outcome.ending != Err(EngineFault::Memory) {
+        assert_ends(rt, "once", &outcome, status, end);
+        return;
     }
-    assert_ends(rt, "once more", &outcome, status, end);
-    Ok(())
+    assert_so_far(rt, &script, &outcome.out);
+    let again = played(rt, &listener, &script);
+    assert_ends(rt, "once more", &again, status, end);
 }
 
 #[test]
-fn a_second_click_is_played_under_refused_memory(rt: HostRuntime) -> Result<(), Fail> {
-    assert_played_again(
-        &rt,
-        SECOND_CLICK,
-        3,
-        b"clicked 1 WrongKind\nrefused 13 5 NothingToServe\n",
-    )
+fn a_second_click_is_played_under_refused_memory(rt: HostRuntime) {
+    let end = b"clicked 1 WrongKind\nrefused 13 5 NothingToServe\n";
+    assert_played_again(&rt, SECOND_CLICK, 3, end);
 }
 
 #[test]
-fn a_lost_play_is_played_under_refused_memory(rt: HostRuntime) -> Result<(), Fail> {
-    assert_played_again(&rt, LOST_PLAY, 0, b"clicked 2 NotYours\nend 20\n")
+fn a_lost_play_is_played_under_refused_memory(rt: HostRuntime) {
+    assert_played_again(&rt, LOST_PLAY, 0, b"clicked 2 NotYours\nend 20\n");
 }
 
 #[test]
-fn a_standing_order_is_played_under_refused_memory(rt: HostRuntime) -> Result<(), Fail> {
-    assert_played_again(&rt, STANDING_ORDER, 0, b"0:0:0:0:0:0:0:0\nend 14\n")
+fn a_standing_order_is_played_under_refused_memory(rt: HostRuntime) {
+    assert_played_again(&rt, STANDING_ORDER, 0, b"0:0:0:0:0:0:0:0\nend 14\n");
 }
 
 /// The log grows between the two entries of one event: then neither is printed.
 #[test]
-fn a_click_before_the_connection_is_played_under_refused_memory(
-    rt: HostRuntime,
-) -> Result<(), Fail> {
-    assert_played_again(&rt, &[ROLL, b"\nclick roll", LOGS_IN], 0, b"end 9\n")
+fn a_click_before_the_connection_is_played_under_refused_memory(rt: HostRuntime) {
+    assert_played_again(&rt, &[ROLL, b"\nclick roll", LOGS_IN], 0, b"end 9\n");
 }

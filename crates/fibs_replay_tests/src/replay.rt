@@ -7,7 +7,6 @@ use fibs_test_tools::pipe::{After, FAULT, Pipe};
 use fibs_test_tools::text::joined;
 use std::alloc::{AllocError, Global};
 use std::process::Abort;
-use std::test::Fail;
 
 /// A board on which the player rolls or doubles, and the same with the dice 6 and 2.
 pub const ROLL: &[u8] =
@@ -323,17 +322,19 @@ fn an_order_on_a_board_that_is_shown_waits_for_the_next_board(rt: HostRuntime) {
     );
 }
 
+static ORDER_THAT_MAY_DOUBLE_PRINTED: &[&[u8]] = &[
+    b"opened 1\nordered 1\nloggedin 1\nwelcomed 1\ninformed 1 0 0\nshown 1 ",
+    ROLL,
+    b"\nshown 1 ",
+    ROLL,
+    b"\nend 10\n",
+];
+
 #[test]
 fn an_order_does_not_roll_where_the_player_may_double(rt: HostRuntime) {
-    let printed: [&[u8]; 5] = [
-        b"opened 1\nordered 1\nloggedin 1\nwelcomed 1\ninformed 1 0 0\nshown 1 ",
-        ROLL,
-        b"\nshown 1 ",
-        ROLL,
-        b"\nend 10\n",
-    ];
+    let printed = ORDER_THAT_MAY_DOUBLE_PRINTED;
     let script = [ROLL, LOGS_IN_ORDERED];
-    assert_replayed(&rt, "an order that may double", &script, 0, &printed);
+    assert_replayed(&rt, "an order that may double", &script, 0, printed);
 }
 
 /// An order on a connection that is lost, and another connection.
@@ -386,8 +387,8 @@ static UNREADABLE: [Row; 6] = [
     (&[OTHER, b"\nopen\n\n"], 3, b"script 3\n"),
 ];
 
-/// Scripts of few events, most of them with one that is refused.
-static SHORT: [Row; 16] = [
+/// Scripts of few events of a connection, most of them with one that is refused.
+static SHORT: [Row; 9] = [
     (&[ROLL], 0, b"end 0\n"),
     (&[ROLL, b"\r\nopen\r\n"], 0, b"opened 1\nend 1\n"),
     (
@@ -417,6 +418,10 @@ static SHORT: [Row; 16] = [
         3,
         b"opened 1\nloggedin 1\nrefused 2 5 NothingToServe\n",
     ),
+];
+
+/// The same of boards, texts and commands.
+static SHOWN: [Row; 7] = [
     (&[ROLL, b"\nown ", DICE], 3, b"refused 0 6 UserDecides\n"),
     (&[ROLL, b"\nown ", OTHER], 3, b"refused 0 8 BadBoard\n"),
     (&[MOVED, b"\nown ", OTHER], 3, b"refused 0 8 BadBoard\n"),
@@ -445,38 +450,36 @@ fn scripts_that_are_not_run(rt: HostRuntime) {
 #[test]
 fn events_that_may_not_be(rt: HostRuntime) {
     assert_rows(&rt, "a script of few events", &SHORT);
+    assert_rows(&rt, "a script of few events", &SHOWN);
 }
 
-/// A script of so many bytes as may be but one.
-fn long_script(alloc: Global) -> Result<Vec<u8>, AllocError> {
-    let mut script = Vec::from_slice(alloc, ROLL)?;
-    script.push(b'\n')?;
-    for _ in 0..149_779 {
-        script.extend_from_slice(b"repeat\n")?;
+/// The parts of a script of so many bytes as may be but one, each of them so many times.
+static LONG: [(&[u8], usize); 4] = [(ROLL, 1), (b"\n", 1), (b"repeat\n", 149_779), (b"\n\n", 1)];
+
+/// Appends that script.
+fn append_long(script: &mut Vec<u8>) -> Result<(), AllocError> {
+    for (part, times) in &LONG {
+        for _ in 0..*times {
+            script.extend_from_slice(part)?;
+        }
     }
-    script.extend_from_slice(b"\n\n")?;
-    Ok(script)
+    Ok(())
 }
 
 /// Asserts what is printed if a script has one more line end.
-fn assert_refused(
-    rt: &(impl Abort + AllocGlobal),
-    script: &mut Vec<u8>,
-    wanted: &[u8],
-) -> Result<(), AllocError> {
-    script.push(b'\n')?;
+fn assert_refused(rt: &(impl Abort + AllocGlobal), script: &mut Vec<u8>, wanted: &[u8]) {
+    script.push(b'\n').expect(rt, "memory is ample");
     let outcome = replayed(rt.alloc(), script, 4096);
     assert_is(rt, "a long script", script.len(), &outcome, Ok(3), wanted);
-    Ok(())
 }
 
 /// As many bytes as may be, and one more.
 #[test]
-fn a_long_script_is_not_run(rt: HostRuntime) -> Result<(), Fail> {
-    let mut script = long_script(rt.alloc())?;
-    assert_refused(&rt, &mut script, b"script 149781\n")?;
-    assert_refused(&rt, &mut script, b"script 0\n")?;
-    Ok(())
+fn a_long_script_is_not_run(rt: HostRuntime) {
+    let mut script = Vec::new(rt.alloc());
+    append_long(&mut script).expect(&rt, "memory is ample");
+    assert_refused(&rt, &mut script, b"script 149781\n");
+    assert_refused(&rt, &mut script, b"script 0\n");
 }
 
 #[test]

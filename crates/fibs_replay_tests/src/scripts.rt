@@ -1,6 +1,5 @@
 //! Scripts: which lines are which events, the first line that is unreadable, and the lines of the log.
 use arrayvec::ArrayVec;
-use fibs_engine::fault::EngineFault;
 use fibs_messages::Board;
 use fibs_model::{Entry, Event};
 use fibs_position::{Decision, Play, Stake, Step};
@@ -10,16 +9,15 @@ use fibs_scripts::log_lines::{Portion, append_entry};
 use fibs_scripts::script::first_unreadable;
 use fibs_session::{Outstanding, Plain, Refusal};
 use fibs_test_tools::pipe::{After, FAULT, Pipe};
-use std::alloc::{AllocError, Global};
+use std::alloc::Global;
 use std::process::Abort;
-use std::test::Fail;
 
 /// A board on which the player is to roll.
 const ROLL: &[u8] =
     b"board:You:bob:3:0:1:0:-2:0:0:0:0:5:0:3:0:0:0:-5:5:0:0:0:-3:0:-5:0:0:0:0:2:0:1:0:0:0:0:1:1:1:0:1:-1:0:25:0:0:0:0:0:0:0:0";
 
-/// Lines that say no event.
-static UNREADABLE: [&[u8]; 67] = [
+/// Lines that say no event: with no word of an event, or with more than a word.
+static NO_WORDS: [&[u8]; 10] = [
     b"",
     b" ",
     b"dance",
@@ -30,6 +28,10 @@ static UNREADABLE: [&[u8]; 67] = [
     b"open\r",
     b"repeat ",
     b"repeat 2",
+];
+
+/// The same of clicks and plain commands.
+static NO_CLICKS: [&[u8]; 20] = [
     b"click",
     b"click ",
     b"click Roll",
@@ -50,6 +52,10 @@ static UNREADABLE: [&[u8]; 67] = [
     b"plain dance",
     b"plain who ",
     b"plain invite bob 65536",
+];
+
+/// The same of orders.
+static NO_ORDERS: [&[u8]; 12] = [
     b"order",
     b"order ",
     b"order  roll",
@@ -62,6 +68,10 @@ static UNREADABLE: [&[u8]; 67] = [
     b"withdraw ",
     b"withdraw  roll",
     b"withdraw roll ",
+];
+
+/// The same of deliveries and losses.
+static NO_COUNTS: [&[u8]; 11] = [
     b"deliver",
     b"deliver ",
     b"deliver -1",
@@ -73,6 +83,10 @@ static UNREADABLE: [&[u8]; 67] = [
     b"deliver 100000000000000000000000000000000",
     b"lose 4294967296",
     b"lose",
+];
+
+/// The same of lines that are served, and of boards.
+static NO_SERVICE: [&[u8]; 14] = [
     b"serve",
     b"serve 1",
     b"serve 1 1",
@@ -89,16 +103,33 @@ static UNREADABLE: [&[u8]; 67] = [
     b"own board:You",
 ];
 
-#[test]
-fn lines_that_say_no_event(rt: HostRuntime) {
-    for line in &UNREADABLE {
+/// Asserts that these lines say no event.
+fn assert_unreadable(rt: &impl Abort, lines: &[&[u8]]) {
+    for line in lines {
         assert!(rt; read_event(line).is_none(), "{line:?}");
     }
 }
 
+#[test]
+fn lines_that_say_no_event(rt: HostRuntime) {
+    assert_unreadable(&rt, &NO_WORDS);
+    assert_unreadable(&rt, &NO_CLICKS);
+    assert_unreadable(&rt, &NO_ORDERS);
+    assert_unreadable(&rt, &NO_COUNTS);
+    assert_unreadable(&rt, &NO_SERVICE);
+}
+
+/// Whether a line says this event.
+fn says(line: &[u8], event: &Event<'_>) -> bool {
+    match read_event(line) {
+        Some(said) => said == *event,
+        None => false,
+    }
+}
+
 /// Asserts which event a line says.
-fn assert_says(rt: &impl Abort, line: &[u8], event: Event<'_>) {
-    assert!(rt; read_event(line) == Some(event), "{line:?}");
+fn assert_says(rt: &impl Abort, line: &[u8], event: &Event<'_>) {
+    assert!(rt; says(line, event), "{line:?}");
 }
 
 /// Lines that say an event, and the event.
@@ -136,7 +167,7 @@ fn events() -> [(&'static [u8], Event<'static>); 17] {
 #[test]
 fn lines_that_say_an_event(rt: HostRuntime) {
     for (line, event) in &events() {
-        assert_says(&rt, line, *event);
+        assert_says(&rt, line, event);
     }
 }
 
@@ -154,7 +185,7 @@ fn play_of(steps: &[(u8, u8)]) -> Option<Play> {
 /// Asserts that a line clicks a play of these steps.
 fn assert_clicks(rt: &impl Abort, line: &[u8], steps: &[(u8, u8)]) {
     let play = play_of(steps).expect(rt, "it is a play");
-    assert_says(rt, line, Event::Click(Decision::Move(play)));
+    assert_says(rt, line, &Event::Click(Decision::Move(play)));
 }
 
 #[test]
@@ -166,10 +197,10 @@ fn plays_are_clicked_in_own_numbers(rt: HostRuntime) {
 #[test]
 fn boards_are_owned_with_spaces_at_the_end(rt: HostRuntime) {
     let own = Event::Own(read_board(ROLL).expect(&rt, "it is a board"));
-    assert_says(&rt, &line_with(b"own ", ROLL, b""), own);
-    assert_says(&rt, &line_with(b"own ", ROLL, b"  "), own);
-    let line = line_with(b"own ", ROLL, b"  \r");
-    assert!(rt; read_event(&line).is_none(), "a return at the end");
+    for end in &[b"".as_slice(), b"  "] {
+        assert_says(&rt, &line_with(b"own ", ROLL, end), &own);
+    }
+    assert_unreadable(&rt, &[&line_with(b"own ", ROLL, b"  \r")]);
 }
 
 /// The first line of a script, what follows it, and the number of the first line that is unreadable, if there is one.
@@ -197,8 +228,8 @@ static SCRIPTS: [(&[u8], &[u8], Option<usize>); 18] = [
 /// Asserts which line of a script is the first that is unreadable.
 fn assert_first_unreadable(rt: &impl Abort, first: &[u8], after: &[u8], number: Option<usize>) {
     let script = line_with(first, after, b"");
-    let found = first_unreadable(&script);
-    assert_eq!(rt; found, number, "{after:?} after {first:?}");
+    let is_found = first_unreadable(&script) == number;
+    assert!(rt; is_found, "{after:?} after {first:?}");
 }
 
 #[test]
@@ -267,10 +298,14 @@ static ANSWERS: [(usize, Result<(), Refusal>, &[u8]); 3] = [
     ),
 ];
 
-/// Asserts that the line of an entry is this word, the board and the end.
+/// Whether the line of an entry is this word, the board and the end.
+fn is_line(entry: &Entry, word: &[u8], board: &[u8], end: &[u8]) -> bool {
+    line_of(entry).as_slice() == line_with(word, board, end).as_slice()
+}
+
+/// Asserts the same.
 fn assert_line(rt: &impl Abort, entry: &Entry, word: &[u8], board: &[u8], end: &[u8]) {
-    let wanted = line_with(word, board, end);
-    assert_eq!(rt; line_of(entry).as_slice(), wanted.as_slice());
+    assert!(rt; is_line(entry, word, board, end), "{word:?} and {end:?}");
 }
 
 /// Asserts the line of a click.
@@ -361,17 +396,14 @@ fn commands_are_in_the_numbers_of_their_own_board(rt: HostRuntime) {
     assert_line(&rt, &undone, b"undone 3 ", UP, b" move 5-8 8-11 11-14\n");
 }
 
-/// Whether these bytes are read as a script, in reads of at most `most`. A read after them fails as `after` says.
-fn is_read(
-    alloc: Global,
-    bytes: &[u8],
-    most: usize,
-    after: After,
-) -> Result<Option<bool>, EngineFault> {
+/// Whether these bytes are read as a script, and whole or not as is wanted, or as none if that is wanted, in reads of
+/// at most `most`. A read after them fails as `after` says.
+fn is_read(alloc: Global, bytes: &[u8], most: usize, after: After, wanted: Option<bool>) -> bool {
     let mut reader = Pipe::new(bytes, most, after, 0);
-    match read_script(alloc, &mut [0; 1024], &mut reader)? {
-        Some(script) => Ok(Some(script.as_slice() == bytes)),
-        None => Ok(None),
+    match read_script(alloc, &mut [0; 1024], &mut reader) {
+        Ok(Some(script)) => wanted == Some(script.as_slice() == bytes),
+        Ok(None) => wanted.is_none(),
+        Err(_) => false,
     }
 }
 
@@ -382,18 +414,16 @@ fn assert_read(
     most: usize,
     after: After,
     wanted: Option<bool>,
-) -> Result<(), AllocError> {
-    let bytes = Vec::from_elem(rt.alloc(), b'a', length)?;
-    let read = is_read(rt.alloc(), &bytes, most, after);
-    assert_eq!(rt; read, Ok(wanted), "{length} bytes, at most {most} at once");
-    Ok(())
+) {
+    let bytes = Vec::from_elem(rt.alloc(), b'a', length).expect(rt, "memory is ample");
+    let is_right = is_read(rt.alloc(), &bytes, most, after, wanted);
+    assert!(rt; is_right, "{length} bytes, at most {most} at once");
 }
 
 /// As many bytes as may be are read. If there is one more, nothing is read after it.
 #[test]
-fn a_script_is_read_up_to_its_limit(rt: HostRuntime) -> Result<(), Fail> {
-    assert_read(&rt, 1_048_576, 1000, After::End, Some(true))?;
-    assert_read(&rt, 1_048_576, 2000, After::End, Some(true))?;
-    assert_read(&rt, 1_048_577, 1000, FAULT, None)?;
-    Ok(())
+fn a_script_is_read_up_to_its_limit(rt: HostRuntime) {
+    assert_read(&rt, 1_048_576, 1000, After::End, Some(true));
+    assert_read(&rt, 1_048_576, 2000, After::End, Some(true));
+    assert_read(&rt, 1_048_577, 1000, FAULT, None);
 }
