@@ -4,7 +4,7 @@ use arrayvec::ArrayVec;
 use fibs_board_lines::check::check_board;
 use fibs_messages::laws::{print_reads_back, prints_tell_boards};
 use fibs_messages::{Board, Fault, FieldFault, Name, read_decimal, split};
-use std::test::Fail;
+use std::process::Abort;
 
 /// A board line as the server sends it.
 const LINE: &[u8] =
@@ -73,8 +73,8 @@ static REFUSED: [(usize, i32); 8] = [
     (38, 0),
 ];
 
-fn board() -> Result<Board, Fail> {
-    Ok(Board::read(LINE).ok().ok_or("the line is read")?)
+fn board(rt: &impl Abort) -> Board {
+    Board::read(LINE).ok().expect(rt, "the line is read")
 }
 
 /// Whether a board with its turn changed is printed so, whether the two are told apart by their lines, and by
@@ -90,21 +90,27 @@ fn told_apart(board: &Board, turned: &Board) -> [bool; 5] {
 }
 
 #[test]
-fn changes_one_field(rt: HostRuntime) -> Result<(), Fail> {
-    let board = board()?;
-    let turned = board.with(33, -1).ok_or("the turn changes")?;
-    assert_eq!(rt; told_apart(&board, &turned), [true; 5]);
-    Ok(())
+fn changes_one_field(rt: HostRuntime) {
+    let board = board(&rt);
+    let turned = board.with(33, -1).expect(&rt, "the turn changes");
+    let are_told_apart = told_apart(&board, &turned) == [true; 5];
+    assert!(rt; are_told_apart);
+}
+
+/// Whether a board can't have this number in a field.
+fn is_refused(board: &Board, field: usize, number: i32) -> bool {
+    board.with(field, number).is_none()
 }
 
 #[test]
-fn changes_no_field_to_what_it_can_not_be(rt: HostRuntime) -> Result<(), Fail> {
-    let board = board()?;
+fn changes_no_field_to_what_it_can_not_be(rt: HostRuntime) {
+    let board = board(&rt);
     for (field, number) in &REFUSED {
-        let is_refused = board.with(*field, *number).is_none();
-        assert!(rt; is_refused, "field {field}, {number}");
+        assert!(rt;
+            is_refused(&board, *field, *number),
+            "field {field}, {number}"
+        );
     }
-    Ok(())
 }
 
 /// Lines that are no board, and what is wrong with them.
@@ -115,6 +121,14 @@ static ABSENT: [(&str, usize, Fault); 4] = [
     ("board  ", 2, Fault::Missing),
 ];
 
+/// Whether a line is no board, since this is wrong with it.
+fn is_no_board(line: &str, wrong: FieldFault) -> bool {
+    match Board::read(line.as_bytes()) {
+        Ok(_) => false,
+        Err(found) => found == wrong,
+    }
+}
+
 #[test]
 fn names_what_is_absent_or_surplus(rt: HostRuntime) {
     for (line, field, fault) in &ABSENT {
@@ -122,8 +136,7 @@ fn names_what_is_absent_or_surplus(rt: HostRuntime) {
             field: *field,
             fault: *fault,
         };
-        let is_wrong = Board::read(line.as_bytes()) == Err(wrong);
-        assert!(rt; is_wrong, "{line:?}");
+        assert!(rt; is_no_board(line, wrong), "{line:?}");
     }
 }
 
@@ -182,12 +195,10 @@ fn is_appended(board: &Board, out: &mut Vec<u8>) -> bool {
 }
 
 #[test]
-fn appends_a_line_of_a_board_or_nothing(rt: HostRuntime) -> Result<(), Fail> {
-    let board = board()?;
-    let mut out = Vec::new(rt.alloc());
-    out.push(b'>')?;
-    assert!(rt; is_appended(&board, &mut out));
-    Ok(())
+fn appends_a_line_of_a_board_or_nothing(rt: HostRuntime) {
+    let mut out = Vec::from_slice(rt.alloc(), b">").expect(&rt, "memory is ample");
+    let is_right = is_appended(&board(&rt), &mut out);
+    assert!(rt; is_right);
 }
 
 /// Texts, and their parts before and after the first space.
@@ -200,11 +211,16 @@ static SPLIT: [(&str, &[u8], Option<&[u8]>); 6] = [
     ("", b"", None),
 ];
 
+/// Whether these are the parts of a text before and after its first space.
+fn are_parts(text: &str, front: &[u8], rest: Option<&[u8]>) -> bool {
+    let (before, after) = split(text.as_bytes(), b' ');
+    before == front && after == rest
+}
+
 #[test]
 fn splits_at_the_first_byte(rt: HostRuntime) {
     for (text, front, rest) in &SPLIT {
-        let are_parts = split(text.as_bytes(), b' ') == (*front, *rest);
-        assert!(rt; are_parts, "at the space of {text:?}");
+        assert!(rt; are_parts(text, front, *rest), "at the space of {text:?}");
     }
 }
 
@@ -220,7 +236,7 @@ static FAULTS: [(Fault, &str, u8); 5] = [
 #[test]
 fn faults_have_names_and_numbers(rt: HostRuntime) {
     for (fault, name, number) in &FAULTS {
-        let is_told = (fault.name(), fault.number()) == (*name, *number);
+        let is_told = fault.name() == *name && fault.number() == *number;
         assert!(rt; is_told, "{name}");
     }
 }

@@ -2,15 +2,20 @@
 
 use fibs_directory::{Directory, DirectoryFault};
 use fibs_messages::{Reading, read};
+use std::alloc::Global;
 use std::process::Abort;
-use std::test::Fail;
 
-/// A directory takes note of a message.
-fn note(directory: &mut Directory, line: &[u8]) -> Result<Result<(), DirectoryFault>, Fail> {
+/// A directory takes note of a line, if it is a message.
+fn note(directory: &mut Directory, line: &[u8]) -> Option<Result<(), DirectoryFault>> {
     match read(line) {
-        Reading::Numbered(message) => Ok(directory.note(&message)),
-        _ => Err(Fail::from("the line is no message")),
+        Reading::Numbered(message) => Some(directory.note(&message)),
+        _ => None,
     }
+}
+
+/// Whether a directory takes note of a line.
+fn takes_note(directory: &mut Directory, line: &[u8]) -> bool {
+    matches!(note(directory, line), Some(Ok(())))
 }
 
 /// The directory has just these names, in this order.
@@ -44,23 +49,22 @@ static NOTED: [(&[u8], &[&[u8]]); 6] = [
 ];
 
 /// Whether note is taken of a message, and the directory has just these names then.
-fn is_noted(directory: &mut Directory, line: &[u8], names: &[&[u8]]) -> Result<bool, Fail> {
-    Ok(note(directory, line)? == Ok(()) && has(directory, names))
+fn is_noted(directory: &mut Directory, line: &[u8], names: &[&[u8]]) -> bool {
+    takes_note(directory, line) && has(directory, names)
 }
 
 /// Note is taken of each message, and leads to these names.
-fn assert_noted(rt: &impl Abort, directory: &mut Directory) -> Result<(), Fail> {
+fn assert_noted(rt: &impl Abort, directory: &mut Directory) {
     for (line, names) in &NOTED {
-        assert!(rt; is_noted(directory, line, names)?, "{line:?}");
+        assert!(rt; is_noted(directory, line, names), "{line:?}");
     }
-    Ok(())
 }
 
 /// A known name keeps its place; one that comes again after its logout goes last.
 #[test]
-fn names_are_in_the_order_in_which_they_came(rt: HostRuntime) -> Result<(), Fail> {
+fn names_are_in_the_order_in_which_they_came(rt: HostRuntime) {
     let mut directory = Directory::new(rt.alloc());
-    assert_noted(&rt, &mut directory)
+    assert_noted(&rt, &mut directory);
 }
 
 /// Message 5 of a player whose name has these two bytes, counted from a semicolon.
@@ -72,68 +76,63 @@ fn line_of(first: u8, second: u8) -> [u8; 41] {
 }
 
 /// Note is taken of 64 players whose names have this first byte.
-fn note_names(rt: &impl Abort, directory: &mut Directory, first: u8) -> Result<(), Fail> {
+fn note_names(rt: &impl Abort, directory: &mut Directory, first: u8) {
     for second in 0..64 {
-        let noted = note(directory, &line_of(first, second))?;
-        assert!(rt; noted == Ok(()), "{first} {second}");
+        let is_noted = takes_note(directory, &line_of(first, second));
+        assert!(rt; is_noted, "{first} {second}");
     }
-    Ok(())
 }
 
 /// Note is taken of 4096 players.
-fn fill(rt: &impl Abort, directory: &mut Directory) -> Result<(), Fail> {
+fn fill(rt: &impl Abort, directory: &mut Directory) {
     for first in 0..64 {
-        note_names(rt, directory, first)?;
+        note_names(rt, directory, first);
     }
-    Ok(())
 }
 
 /// A full directory has 4096 names, and refuses one more, but not a known one.
-fn assert_full(rt: &impl Abort, directory: &mut Directory) -> Result<(), Fail> {
-    let full = [
-        note(directory, ANN)? == Err(DirectoryFault::Full),
-        directory.len() == 4096,
-        note(directory, &line_of(0, 7))? == Ok(()),
-    ];
-    assert_eq!(rt; full, [true; 3], "one more, how many, and a known one");
-    Ok(())
+fn is_full(directory: &mut Directory) -> bool {
+    matches!(note(directory, ANN), Some(Err(DirectoryFault::Full)))
+        && directory.len() == 4096
+        && takes_note(directory, &line_of(0, 7))
 }
 
 /// There is room for 4096 names. With ample memory each is taken, and a known one is taken also then.
 #[test]
-fn a_name_too_many_is_refused(rt: HostRuntime) -> Result<(), Fail> {
+fn a_name_too_many_is_refused(rt: HostRuntime) {
     let mut directory = Directory::new(rt.alloc());
-    fill(&rt, &mut directory)?;
-    assert_full(&rt, &mut directory)
-}
-
-/// A directory is empty at first, and when it was cleared, but not with a player.
-fn assert_emptied(rt: &impl Abort, directory: &mut Directory) -> Result<(), Fail> {
-    let first = directory.is_empty();
-    note(directory, ANN)?.ok().ok_or("no note is taken")?;
-    let of_one_player = directory.is_empty();
-    directory.clear();
-    assert_eq!(rt;
-        [first, of_one_player, directory.is_empty()],
-        [true, false, true]
-    );
-    Ok(())
-}
-
-#[test]
-fn a_directory_is_empty_until_a_player_comes(rt: HostRuntime) -> Result<(), Fail> {
-    let mut directory = Directory::new(rt.alloc());
-    assert_emptied(&rt, &mut directory)
-}
-
-#[test]
-fn faults_are_told_by_their_numbers_and_names(rt: HostRuntime) -> Result<(), Fail> {
-    let (memory, full) = (DirectoryFault::Memory, DirectoryFault::Full);
-    let numbers = [memory.number(), full.number()] == [1, 2];
-    let texts = format!(in rt.alloc(); "{memory}, {full:?}, {full:>6}, {memory:<8}.")?;
+    fill(&rt, &mut directory);
     assert!(rt;
-        numbers && texts.as_str() == "Memory, Full,   Full, Memory  .",
-        "{texts}"
+        is_full(&mut directory),
+        "one more, how many, and a known one"
     );
-    Ok(())
+}
+
+/// Whether a directory is empty at first, and when it was cleared, but not with a player.
+fn is_emptied(directory: &mut Directory) -> bool {
+    let is_empty = directory.is_empty();
+    let has_player = takes_note(directory, ANN) && !directory.is_empty();
+    directory.clear();
+    is_empty && has_player && directory.is_empty()
+}
+
+#[test]
+fn a_directory_is_empty_until_a_player_comes(rt: HostRuntime) {
+    let mut directory = Directory::new(rt.alloc());
+    assert!(rt; is_emptied(&mut directory));
+}
+
+/// Whether faults are told by their names, also in a wider place.
+fn are_named(alloc: Global, memory: DirectoryFault, full: DirectoryFault) -> bool {
+    match format!(in alloc; "{memory}, {full:?}, {full:>6}, {memory:<8}.") {
+        Ok(texts) => texts.as_str() == "Memory, Full,   Full, Memory  .",
+        Err(_) => false,
+    }
+}
+
+#[test]
+fn faults_are_told_by_their_numbers_and_names(rt: HostRuntime) {
+    let (memory, full) = (DirectoryFault::Memory, DirectoryFault::Full);
+    assert!(rt; memory.number() == 1 && full.number() == 2, "numbers");
+    assert!(rt; are_named(rt.alloc(), memory, full), "names");
 }

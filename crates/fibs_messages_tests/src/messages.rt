@@ -7,7 +7,6 @@ use fibs_messages::laws::{canonical_lines_read_back, messages_are_well_formed};
 use fibs_messages::{Reading, Tail, Word, print_message, read};
 use std::alloc::{AllocError, Global};
 use std::process::Abort;
-use std::test::Fail;
 
 /// The line of a message, and what is printed for it if that is another line.
 type Row = (&'static [u8], &'static [u8]);
@@ -224,32 +223,44 @@ fn append_at(
     }
 }
 
-/// The lines of messages as they are printed in a row, up to one for which a growth is refused.
-fn assert_appended(rt: &impl Abort, alloc: Global, lines: &[Row]) -> Result<(), AllocError> {
-    let mut out = Vec::new(alloc);
+/// Appends what is printed for these lines, up to one for which a growth is refused. Says which of them is not right,
+/// if one is not.
+fn append_up_to_refusal(
+    alloc: Global,
+    lines: &[Row],
+    out: &mut Vec<u8>,
+) -> Result<Option<usize>, AllocError> {
     for at in 0..lines.len() {
-        let (is_right, is_refused) = append_at(alloc, lines, at, &mut out)?;
-        assert!(rt; is_right, "line {at}, refused: {is_refused}");
+        let (is_right, is_refused) = append_at(alloc, lines, at, out)?;
+        if !is_right {
+            return Ok(Some(at));
+        }
         if is_refused {
-            return Ok(());
+            return Ok(None);
         }
     }
-    Ok(())
+    Ok(None)
+}
+
+/// The lines of messages as they are printed in a row, up to one for which a growth is refused.
+fn assert_appended(rt: &impl Abort, alloc: Global, lines: &[Row]) {
+    let mut out = Vec::new(alloc);
+    let wrong = append_up_to_refusal(alloc, lines, &mut out);
+    assert!(rt; matches!(wrong, Ok(None)), "{wrong:?}");
 }
 
 /// Messages of a login, one after another.
 #[test]
-fn lines_of_a_login_are_appended_under_refused_memory(rt: HostRuntime) -> Result<(), Fail> {
-    Ok(assert_appended(&rt, rt.alloc(), &LOGIN)?)
+fn lines_of_a_login_are_appended_under_refused_memory(rt: HostRuntime) {
+    assert_appended(&rt, rt.alloc(), &LOGIN);
 }
 
 /// Each message twice, so that each of its fields meets a text that is full, and then a whole one.
 #[test]
-fn each_message_is_appended_under_refused_memory(rt: HostRuntime) -> Result<(), Fail> {
+fn each_message_is_appended_under_refused_memory(rt: HostRuntime) {
     for row in printed() {
-        assert_appended(&rt, rt.alloc(), &[*row, *row])?;
+        assert_appended(&rt, rt.alloc(), &[*row, *row]);
     }
-    Ok(())
 }
 
 /// Appends what is to be printed for each of these lines.
@@ -271,26 +282,27 @@ fn append_often(alloc: Global, out: &mut Vec<u8>, wanted: &mut Vec<u8>) -> Resul
 
 /// With ample memory each message is appended, however much is there before it.
 #[test]
-fn messages_are_appended_one_behind_another(rt: HostRuntime) -> Result<(), Fail> {
+fn messages_are_appended_one_behind_another(rt: HostRuntime) {
     let mut out = Vec::new(rt.alloc());
     let mut wanted = Vec::new(rt.alloc());
-    append_often(rt.alloc(), &mut out, &mut wanted)?;
-    assert!(rt; out == wanted);
-    Ok(())
+    let appended = append_often(rt.alloc(), &mut out, &mut wanted);
+    assert!(rt; appended.is_ok() && out == wanted);
+}
+
+/// Whether what is printed of the message of a line is read back as it.
+fn is_read_back(line: &[u8]) -> bool {
+    let Reading::Numbered(message) = read(line) else {
+        return false;
+    };
+    messages_are_well_formed(&message);
+    match canonical_lines_read_back(line) {
+        Reading::Numbered(again) => again == message,
+        _ => false,
+    }
 }
 
 /// What is printed of a message is read back as it.
 #[test]
-fn a_printed_message_is_read_back(rt: HostRuntime) -> Result<(), Fail> {
-    let line = WHO_INFO.0;
-    let Reading::Numbered(message) = read(line) else {
-        return Err(Fail::from("the line is no message"));
-    };
-    messages_are_well_formed(&message);
-    let is_read_back = match canonical_lines_read_back(line) {
-        Reading::Numbered(again) => again == message,
-        _ => false,
-    };
-    assert!(rt; is_read_back);
-    Ok(())
+fn a_printed_message_is_read_back(rt: HostRuntime) {
+    assert!(rt; is_read_back(WHO_INFO.0));
 }

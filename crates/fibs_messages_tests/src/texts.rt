@@ -1,17 +1,6 @@
 //! Texts as they are sent, and the line that a reader lends between its calls.
 
 use fibs_lines::{Line, Lines, sent_line};
-use std::alloc::{AllocError, Global};
-use std::test::Fail;
-
-/// The byte `a` so many times.
-fn letters(count: usize, alloc: Global) -> Result<Vec<u8>, AllocError> {
-    let mut bytes = Vec::new(alloc);
-    for _ in 0..count {
-        bytes.push(b'a')?;
-    }
-    Ok(bytes)
-}
 
 /// Texts that are sent, and the line that each is read as, if it has neither LF nor 255.
 static SENT: [(&[u8], Option<&[u8]>); 8] = [
@@ -37,20 +26,20 @@ fn texts_as_they_are_sent(rt: HostRuntime) {
     }
 }
 
-/// Whether so many letters are read as the first 16,384 of them, which are cut or not.
-fn are_limited(alloc: Global, count: usize, cut: bool) -> Result<bool, Fail> {
-    let long = letters(count, alloc)?;
-    let full = letters(16384, alloc)?;
-    let bytes = full.as_slice();
-    Ok(sent_line(&long) == Some(Line { bytes, cut }))
+/// Whether letters are read as the first 16,384 of them, which are cut or not.
+fn are_limited(letters: &[u8], cut: bool) -> bool {
+    match (sent_line(letters), letters.get(..16384)) {
+        (Some(line), Some(bytes)) => line.bytes == bytes && line.cut == cut,
+        _ => false,
+    }
 }
 
 #[test]
-fn a_long_text_is_cut(rt: HostRuntime) -> Result<(), Fail> {
+fn a_long_text_is_cut(rt: HostRuntime) {
     for (count, cut) in &[(16384, false), (16385, true)] {
-        assert!(rt; are_limited(rt.alloc(), *count, *cut)?, "{count} bytes");
+        let letters = Vec::from_elem(rt.alloc(), b'a', *count).expect(&rt, "memory is ample");
+        assert!(rt; are_limited(&letters, *cut), "{count} bytes");
     }
-    Ok(())
 }
 
 /// Pieces as they are fed, and the line that ends in each.
