@@ -7,7 +7,7 @@ use crate::seats::{
 };
 use arrayvec::ArrayVec;
 use fibs_environment::Settings;
-use std::alloc::Global;
+use std::process::Abort;
 
 /// What a turn shows after the first messages: one picture, and a row for each other thing.
 const TURN: &str = "Welcome, ann. Last login: 30 December 2002, 12:58, from localhost.
@@ -231,14 +231,16 @@ static BOLD_ROWS: [&str; 3] = [
     " |                  |BAR|                  |   cube 1, free\n",
 ];
 
+/// The first board with dice.
+static TO_MOVE_STEPS: [Step<'static>; 2] = [Step::Hears(WELCOME), Step::Hears(TO_MOVE)];
+
 #[test]
 fn what_is_the_players_is_bold(rt: HostRuntime) {
     let settings = Settings {
         columns: 60,
         ..colour_settings()
     };
-    let steps = [Step::Hears(WELCOME), Step::Hears(TO_MOVE)];
-    assert_has(&rt, settings, &steps, &BOLD_ROWS);
+    assert_has(&rt, settings, &TO_MOVE_STEPS, &BOLD_ROWS);
 }
 
 /// Rows of the upper half after the opponent's move: the two checkers that have come to 20 are marked.
@@ -296,13 +298,13 @@ static OF_EACH_KIND: [Step<'static>; 29] = [
 ];
 
 /// How a conversation of each kind goes with what memory there is: what was shown, and whether it came to its end.
-fn tried(alloc: Global) -> (ArrayVec<u8, 8192>, bool) {
+fn tried(rt: &(impl Abort + AllocGlobal)) -> (ArrayVec<u8, 8192>, bool) {
     let mut text = ArrayVec::new();
     let settings = Settings {
         columns: 60,
         ..colour_settings()
     };
-    let ended = show_on(alloc, settings, &[], &OF_EACH_KIND, &mut text).is_ok();
+    let ended = show_on(rt, settings, &[], &OF_EACH_KIND, &mut text).is_ok();
     (text, ended)
 }
 
@@ -322,10 +324,7 @@ fn are_alike(first: &(ArrayVec<u8, 8192>, bool), second: &(ArrayVec<u8, 8192>, b
 /// If memory is refused the terminal goes no further, and has shown the beginning of what it shows otherwise.
 #[test]
 fn a_terminal_stops_under_refused_memory(rt: HostRuntime) {
-    let first = tried(rt.alloc());
-    let second = tried(rt.alloc());
-    assert!(rt;
-        are_alike(&first, &second),
-        "{first:?}, and then {second:?}"
-    );
+    let first = tried(&rt);
+    let second = tried(&rt);
+    assert!(rt; are_alike(&first, &second));
 }

@@ -51,10 +51,6 @@ fn flushed(alloc: Global, client: &Client, fails: bool) -> [(bool, u32); 2] {
 fn a_terminal_shows_what_it_was_told(rt: HostRuntime) {
     let login = Login::new(b"ann", b"secret").expect(&rt, "it is a login");
     let client = Client::new(login);
-    for fails in [false, true] {
-        assert_eq!(rt;
-            flushed(rt.alloc(), &client, fails),
-            [(fails, 1), (fails, 2)]
-        );
-    }
+    assert!(rt; flushed(rt.alloc(), &client, false) == [(false, 1), (false, 2)]);
+    assert!(rt; flushed(rt.alloc(), &client, true) == [(true, 1), (true, 2)]);
 }

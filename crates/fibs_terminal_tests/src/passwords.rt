@@ -1,5 +1,6 @@
 //! The first line of what holds a password.
 
+use crate::seats::assert_of;
 use fibs_watch::first_line;
 use std::process::Abort;
 
@@ -17,11 +18,7 @@ fn assert_taken(rt: &(impl Abort + AllocGlobal), text: &[u8], line: &[u8], rest:
     let mut source = text;
     let given = first_line(rt.alloc(), &mut source).expect(rt, "it is read");
     let is_taken = given.as_slice() == line && source == rest;
-    assert!(rt;
-        is_taken,
-        "{text:?}: {:?}, and {source:?} is left",
-        given.as_slice()
-    );
+    assert_of(rt, is_taken, text);
 }
 
 #[test]

@@ -1,5 +1,6 @@
 //! What a reader gives if the server speaks.
 
+use crate::seats::assert_of;
 use arrayvec::ArrayVec;
 use fibs_watch::{First, TypedOrHeard, Watch};
 use std::io::Read;
@@ -55,6 +56,7 @@ static ROWS: [(&[u8], Option<Server>, &[u8]); 3] = [
 #[test]
 fn an_empty_line_is_put_in_where_the_server_speaks(rt: HostRuntime) {
     for (text, server, wanted) in &ROWS {
-        assert_eq!(rt; given(&rt, text, *server).as_slice(), *wanted, "{text:?}");
+        let is_right = given(&rt, text, *server).as_slice() == *wanted;
+        assert_of(&rt, is_right, text);
     }
 }

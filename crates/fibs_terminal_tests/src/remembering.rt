@@ -1,7 +1,9 @@
 //! What a terminal remembers, and for how long.
 
 use crate::lines::{FIRST_BOARD, MOVED, POINT_MADE, TO_MOVE, TO_ROLL, WELCOME};
-use crate::seats::{Scene, Step, assert_scenes, colour_settings, plain_settings, shown};
+use crate::seats::{
+    Scene, Step, assert_scenes, assert_wanted, colour_settings, plain_settings, shown,
+};
 use fibs_environment::Settings;
 use std::process::Abort;
 
@@ -343,10 +345,8 @@ fn last_of(text: &str) -> &str {
 fn assert_unmarked(rt: &(impl Abort + AllocGlobal), steps: &[Step<'_>]) {
     let text = shown(rt, colour_settings(), &FIRST_BOARD, steps);
     let last = last_of(&text);
-    assert!(rt;
-        last.contains("O You") && !last.contains("\x1b[35m"),
-        "{last}"
-    );
+    let is_unmarked = last.contains("O You") && !last.contains("\x1b[35m");
+    assert_wanted(rt, is_unmarked, last, "a board without a mark");
 }
 
 #[test]
@@ -375,5 +375,5 @@ fn a_picture_is_cut_to_the_columns(rt: HostRuntime) {
         ..plain_settings()
     };
     let text = shown(&rt, settings, &FIRST_BOARD, &[Step::Hears(LONG_NAME)]);
-    assert_eq!(rt; widest_row(&text), 60);
+    assert_wanted(&rt, widest_row(&text) == 60, &text, "60 columns");
 }

@@ -13,7 +13,6 @@ use fibs_position::phase_of;
 use fibs_session::{Client, Directory, Login, Taken};
 use fibs_terminal::Terminal;
 use fibs_typed::typed_line::TypedLine;
-use std::alloc::Global;
 use std::io;
 use std::io::{ErrorKind, Write};
 use std::process::Abort;
@@ -72,11 +71,12 @@ struct Seat {
 
 impl Seat {
     /// The seat of a user who is connected.
-    fn new(alloc: Global) -> Option<Seat> {
-        let mut client = Client::new(Login::new(b"ann", b"secret").ok()?);
+    fn new(rt: &(impl Abort + AllocGlobal)) -> Seat {
+        let login = Login::new(b"ann", b"secret").expect(rt, "it is a login");
+        let mut client = Client::new(login);
         let _login = client.open();
-        let directory = Directory::new(alloc);
-        Some(Seat { client, directory })
+        let directory = Directory::new(rt.alloc());
+        Seat { client, directory }
     }
 
     /// Tells what the server says by a line.
@@ -91,14 +91,14 @@ impl Seat {
     /// Gives a line to the client, and tells what it answers.
     fn say<F: Front>(&mut self, line: &[u8], front: &mut F) -> Result<(), FrontFault> {
         match read_typed(&self.client, line) {
-            Typed::Decision(decision) => match self.client.decide(&decision) {
-                Ok(command) => front.tell(&Said::Sent(&command)),
-                Err(why) => front.tell(&Said::Refused(why)),
-            },
-            Typed::Plain(plain) => match self.client.plain(&plain) {
-                Ok(command) => front.tell(&Said::Sent(&command)),
-                Err(why) => front.tell(&Said::NotSent(why)),
-            },
+            Typed::Decision(decision) => front.tell(&match &self.client.decide(&decision) {
+                Ok(command) => Said::Sent(command),
+                Err(why) => Said::Refused(*why),
+            }),
+            Typed::Plain(plain) => front.tell(&match &self.client.plain(&plain) {
+                Ok(command) => Said::Sent(command),
+                Err(why) => Said::NotSent(*why),
+            }),
             Typed::Order | Typed::Withdrawal => Ok(()),
             Typed::Unknown => front.tell(&Said::Unknown),
         }
@@ -200,23 +200,30 @@ pub fn shown(
     steps: &[Step<'_>],
 ) -> String {
     let mut shown = Vec::new(rt.alloc());
-    show_on(rt.alloc(), settings, before, steps, &mut shown).expect(rt, "it is shown");
+    show_on(rt, settings, before, steps, &mut shown).expect(rt, "it is shown");
     String::from_utf8(shown).expect(rt, "it is UTF-8")
 }
 
 /// The same on any writer.
 pub fn show_on<W: Write + Drop>(
-    alloc: Global,
+    rt: &(impl Abort + AllocGlobal),
     settings: Settings<'_>,
     before: &[Step<'_>],
     steps: &[Step<'_>],
     out: W,
 ) -> Result<(), FrontFault> {
-    let mut terminal = Terminal::new(alloc, out, Stopped, settings);
-    match Seat::new(alloc) {
-        Some(mut seat) => seat.take_both(before, steps, &mut terminal),
-        None => Err(FrontFault::Output),
-    }
+    let mut terminal = Terminal::new(rt.alloc(), out, Stopped, settings);
+    Seat::new(rt).take_both(before, steps, &mut terminal)
+}
+
+/// Asserts that a text is as it is wanted.
+pub fn assert_wanted(rt: &impl Abort, is_wanted: bool, text: &str, wanted: &str) {
+    assert!(rt; is_wanted, "wanted {wanted}, and there is {text}");
+}
+
+/// Asserts that what comes of a text is right.
+pub fn assert_of(rt: &impl Abort, is_right: bool, text: &[u8]) {
+    assert!(rt; is_right, "{text:?}");
 }
 
 /// Asserts what the screen shows after some steps.
@@ -226,7 +233,8 @@ pub fn assert_shows(
     steps: &[Step<'_>],
     wanted: &str,
 ) {
-    assert_eq!(rt; shown(rt, settings, &[], steps).as_str(), wanted);
+    let text = shown(rt, settings, &[], steps);
+    assert_wanted(rt, text.as_str() == wanted, &text, wanted);
 }
 
 /// Asserts that what the screen shows after some steps and those after them ends by these rows.
@@ -238,7 +246,7 @@ pub fn assert_ends(
     rows: &str,
 ) {
     let text = shown(rt, settings, before, steps);
-    assert!(rt; text.ends_with(rows), "wanted {rows} after {text}");
+    assert_wanted(rt, text.ends_with(rows), &text, rows);
 }
 
 /// Steps, and the last rows that are shown then.
@@ -260,7 +268,7 @@ pub fn assert_has(
 ) {
     let text = shown(rt, settings, &[], steps);
     for row in rows {
-        assert!(rt; text.contains(*row), "wanted {row} in {text}");
+        assert_wanted(rt, text.contains(*row), &text, row);
     }
 }
 

@@ -3,12 +3,11 @@
 use fibs_test_tools::named::Named;
 use fibs_watch::{First, PollWatch, Watch, WatchedNet};
 use mio::{Events, Poll};
-use std::alloc::Global;
 use std::io;
 use std::io::{Read, Write};
 use std::net::{IpAddr, Ipv4Addr, Net, SocketAddr, TcpListener, TcpStream};
 use std::os::fd::AsRawFd;
-use std::test::Fail;
+use std::process::Abort;
 use std::time::Duration;
 
 /// How many seconds a wait takes at most that is to end before.
@@ -24,20 +23,20 @@ struct Ends {
 impl Ends {
     /// The ends of a new connection, which the network makes in at most so long.
     fn new<N: Net<Stream = TcpStream, Listener = TcpListener>>(
+        rt: &impl Abort,
         net: &N,
         most: Option<Duration>,
-    ) -> io::Result<Ends> {
-        let listener = TcpListener::bind(net, "127.0.0.1:0")?;
-        let near = connected(net, listener.local_addr()?, most)?;
-        let (far, _peer) = listener.accept()?;
-        Ok(Ends { near, far })
+    ) -> Ends {
+        let listener = TcpListener::bind(net, "127.0.0.1:0").expect(rt, "it listens");
+        let address = listener.local_addr().expect(rt, "it has an address");
+        let near = connected(net, address, most).expect(rt, "a connection is made");
+        let (far, _peer) = listener.accept().expect(rt, "it is accepted");
+        Ends { near, far }
     }
 
-    /// Writes a byte at the far end, which has come to the near one then.
-    fn arrive(&mut self) -> io::Result<()> {
-        self.far.write_all(b"x")?;
-        let _count = self.near.peek(&mut [0u8; 1])?;
-        Ok(())
+    /// Writes a byte at the far end, and says whether it has come to the near one.
+    fn arrive(&mut self) -> bool {
+        self.far.write_all(b"x").is_ok() && self.near.peek(&mut [0u8; 1]).is_ok()
     }
 }
 
@@ -53,29 +52,34 @@ fn connected<N: Net<Stream = TcpStream>>(
     }
 }
 
+/// Whether something has come after a wait of at most so many seconds, if it can be waited.
+fn has_come(heard: &mut Poll, events: &mut Events, seconds: u64) -> Option<bool> {
+    let waited = heard.poll(events, Some(Duration::from_secs(seconds)));
+    waited.is_ok().then_some(!events.is_empty())
+}
+
 /// Whether a wait in the set of a network's connections ends by what has come to one of them, and not before.
-fn is_watched(alloc: Global, heard: &mut Poll, ends: &mut Ends) -> Result<bool, Fail> {
-    let mut events = Events::with_capacity(alloc, 1)?;
-    heard.poll(&mut events, Some(Duration::from_secs(0)))?;
-    let is_quiet = events.is_empty();
-    ends.arrive()?;
-    heard.poll(&mut events, Some(Duration::from_secs(PATIENCE)))?;
-    Ok(is_quiet && !events.is_empty())
+fn is_watched(heard: &mut Poll, events: &mut Events, ends: &mut Ends) -> bool {
+    has_come(heard, events, 0) == Some(false)
+        && ends.arrive()
+        && has_come(heard, events, PATIENCE) == Some(true)
 }
 
 /// Whether a connection that is made, in at most so long, is watched.
-fn is_made_and_watched(rt: &HostRuntime, most: Option<Duration>) -> Result<bool, Fail> {
-    let mut heard = Poll::new(rt)?;
-    let mut ends = Ends::new(&WatchedNet::new(rt, heard.registry()), most)?;
-    is_watched(rt.alloc(), &mut heard, &mut ends)
+fn is_made_and_watched<R: Abort + AllocGlobal + Net<Stream = TcpStream, Listener = TcpListener>>(
+    rt: &R,
+    most: Option<Duration>,
+) -> bool {
+    let mut heard = Poll::new(rt).expect(rt, "a set is made");
+    let mut events = Events::with_capacity(rt.alloc(), 1).expect(rt, "there is memory");
+    let mut ends = Ends::new(rt, &WatchedNet::new(rt, heard.registry()), most);
+    is_watched(&mut heard, &mut events, &mut ends)
 }
 
 #[test]
-fn a_connection_is_watched(rt: HostRuntime) -> Result<(), Fail> {
-    for most in [None, Some(Duration::from_secs(PATIENCE))] {
-        assert!(rt; is_made_and_watched(&rt, most)?, "{most:?}");
-    }
-    Ok(())
+fn a_connection_is_watched(rt: HostRuntime) {
+    assert!(rt; is_made_and_watched(&rt, None));
+    assert!(rt; is_made_and_watched(&rt, Some(Duration::from_secs(PATIENCE))));
 }
 
 /// An address of this machine.
@@ -91,65 +95,58 @@ fn a_watched_network_finds_each_address(rt: HostRuntime) {
     let net = WatchedNet::new(&named, heard.registry());
     let mut found = [address_of(1); 3];
     let count = net.lookup_host("fibs.example", 4321, &mut found);
-    assert_eq!(rt; (count.ok(), found[1]), (Some(2), address_of(2)));
+    assert!(rt; matches!(count, Ok(2)));
+    assert!(rt; found[1] == address_of(2));
 }
 
-/// Lets a byte come to each of two connections, to the first one before the other if it is so wanted.
-fn arrive_at_both(first: &mut Ends, second: &mut Ends, in_order: bool) -> io::Result<()> {
+/// Lets a byte come to each of two connections, to the first one before the other if it is so wanted, and says whether
+/// both have come.
+fn arrive_at_both(first: &mut Ends, second: &mut Ends, in_order: bool) -> bool {
     if in_order {
-        first.arrive()?;
-        return second.arrive();
+        return first.arrive() && second.arrive();
     }
-    second.arrive()?;
-    first.arrive()
+    second.arrive() && first.arrive()
 }
 
 /// What comes first of what is typed and what the server sends: at three times, and then after what is typed was read.
-fn seen_so_far(watch: &mut PollWatch<'_>, typed: &mut TcpStream) -> io::Result<[First; 4]> {
+fn seen_so_far(rt: &impl Abort, watch: &mut PollWatch<'_>, typed: &mut TcpStream) -> [First; 4] {
     // it is so as long as it is not read
     let (first, second, third) = (watch.first(), watch.first(), watch.first());
-    typed.read_exact(&mut [0u8; 1])?;
-    Ok([first, second, third, watch.first()])
+    let read = typed.read_exact(&mut [0u8; 1]);
+    read.expect(rt, "it is read");
+    [first, second, third, watch.first()]
 }
 
-/// The same if both are ready, and what is heard is watched with this.
-fn seen_by(
-    rt: &HostRuntime,
-    heard: &Poll,
-    server: &mut Ends,
-    user: &mut Ends,
+/// The same on new connections if both are ready, what is heard before what is typed or after it.
+fn seen_first<R: Abort + AllocGlobal + Net<Stream = TcpStream, Listener = TcpListener>>(
+    rt: &R,
     heard_before: bool,
-) -> Result<[First; 4], Fail> {
-    let mut watch = PollWatch::new(rt, rt.alloc(), user.near.as_raw_fd(), heard)?;
-    arrive_at_both(server, user, heard_before)?;
-    Ok(seen_so_far(&mut watch, &mut user.near)?)
-}
-
-/// The same on new connections.
-fn seen_first(rt: &HostRuntime, heard_before: bool) -> Result<[First; 4], Fail> {
-    let heard = Poll::new(rt)?;
-    let mut server = Ends::new(&WatchedNet::new(rt, heard.registry()), None)?;
-    let mut user = Ends::new(rt, None)?;
-    seen_by(rt, &heard, &mut server, &mut user, heard_before)
+) -> [First; 4] {
+    let heard = Poll::new(rt).expect(rt, "a set is made");
+    let mut server = Ends::new(rt, &WatchedNet::new(rt, heard.registry()), None);
+    let mut user = Ends::new(rt, rt, None);
+    let watched = PollWatch::new(rt, rt.alloc(), user.near.as_raw_fd(), &heard);
+    let mut watch = watched.expect(rt, "it is watched");
+    let is_ready = arrive_at_both(&mut server, &mut user, heard_before);
+    assert!(rt; is_ready);
+    seen_so_far(rt, &mut watch, &mut user.near)
 }
 
 /// If both are ready, what is typed comes first, whichever of them was ready before the other.
 #[test]
-fn what_is_typed_comes_before_what_is_heard(rt: HostRuntime) -> Result<(), Fail> {
+fn what_is_typed_comes_before_what_is_heard(rt: HostRuntime) {
     let wanted = [First::Typed, First::Typed, First::Typed, First::Heard];
-    for heard_before in [true, false] {
-        assert_eq!(rt; seen_first(&rt, heard_before)?, wanted, "{heard_before}");
-    }
-    Ok(())
+    assert!(rt; seen_first(&rt, true) == wanted);
+    assert!(rt; seen_first(&rt, false) == wanted);
 }
 
 /// If what is typed can't be watched any more, the server has not spoken by that: a read says what is wrong.
 #[test]
 fn a_wait_that_fails_is_no_word_of_the_server(rt: HostRuntime) {
     let heard = Poll::new(&rt).expect(&rt, "a set is made");
-    let user = Ends::new(&rt, None).expect(&rt, "a connection is made");
-    let typed = user.near.as_raw_fd();
+    let Ends { near, far: _far } = Ends::new(&rt, &rt, None);
+    let typed = near.as_raw_fd();
     let mut watch = PollWatch::new(&rt, rt.alloc(), typed, &heard).expect(&rt, "it is watched");
-    drop(user.near);
-    assert_eq!(rt; watch.first(), First::Typed);
+    drop(near);
+    assert!(rt; watch.first() == First::Typed);
 }
