@@ -222,6 +222,31 @@ const CUTS: [(usize, After); 8] = [
     (1000, After::Fails(ErrorKind::TimedOut)),
 ];
 
+/// A conversation: its name, its steps, its last turn, if there is one, and what is sent and printed in it, each in
+/// parts.
+#[derive(Clone, Copy)]
+pub struct Talk<'a> {
+    pub name: &'a str,
+    pub steps: &'a [Step<'a>],
+    pub last: Option<Turn<'a>>,
+    pub sent: &'a [&'a [u8]],
+    pub printed: &'a [&'a [u8]],
+}
+
+/// Asserts what is sent and printed in conversations, and how the last turn of each ends.
+pub fn assert_talks(rt: &(impl Abort + AllocGlobal), talks: &[Talk<'_>]) {
+    for talk in talks {
+        assert_talk(
+            rt,
+            talk.name,
+            talk.steps,
+            talk.last,
+            talk.sent,
+            talk.printed,
+        );
+    }
+}
+
 /// Asserts what is sent and printed in a conversation, each in parts, and how its last turn ends, if there is one.
 pub fn assert_talk(
     rt: &(impl Abort + AllocGlobal),
@@ -252,4 +277,27 @@ fn assert_cut(
         seat.take_turn(rt, &turn);
     }
     seat.assert_did(rt, name, sent, printed);
+}
+
+/// How the first turn on a connection ends, in which lines are printed on `out`: what is typed, and what the server
+/// sends, in reads of at most `most` bytes. Nothing more comes then.
+pub fn first_turn_on<W: Write>(
+    rt: &(impl Abort + AllocGlobal),
+    out: &mut W,
+    most: usize,
+    typed: Option<&[u8]>,
+    heard: &[u8],
+) -> Kind {
+    let mut seat = Seat::open(rt, most);
+    seat.print_on(out, typed, heard, QUIET)
+}
+
+/// Asserts what is right at a number, which is said between two words.
+pub fn assert_at(rt: &impl Abort, is_right: bool, before: &str, number: usize, behind: &str) {
+    assert!(rt; is_right, "{before}{number}{behind}");
+}
+
+/// Asserts what is right after a line that is typed, if there is one.
+pub fn assert_typed(rt: &impl Abort, is_right: bool, typed: Option<&[u8]>) {
+    assert!(rt; is_right, "{typed:?}");
 }

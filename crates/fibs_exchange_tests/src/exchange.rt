@@ -2,7 +2,10 @@
 ghost use Rattle.std.specs.Prelude.{true};
 ghost use Rattle.fibs_exchange.specs.Turns.Turn.{FitsStream};
 
-use super::connected::{Kind, Seat, Step, Turn, assert_talk, is_made_of, repeated};
+use super::connected::{
+    Kind, Seat, Step, Talk, Turn, assert_at, assert_talk, assert_talks, assert_typed,
+    first_turn_on, is_made_of, repeated,
+};
 use fibs_exchange::{Ending, exchange};
 use fibs_messages::{Reading, read as read_line};
 use fibs_session::{Client, Directory, Login};
@@ -48,32 +51,34 @@ const WATCHED: &[u8] =
     b"board:ann:bob:3:0:1:0:-2:0:0:0:0:5:0:3:0:0:0:-5:5:0:0:0:-3:0:-5:0:0:0:0:2:0";
 
 /// What the server sends until the client is ready, what is sent then, and what is printed.
-static READY: &[u8] = b"1 ann 1041253132 localhost\r\n\
+const READY: &[u8] = b"1 ann 1041253132 localhost\r\n\
     2 ann 1 1 0 0 0 0 1 1 10 0 1 0 1 1500.00 0 0 0 0 0 UTC\r\n\
     board:You:bob:3:0:1:0:-2:0:0:0:0:5:0:3:0:0:0:-5:5:0:0:0:-3:0:-5:0:0:0:0:2:0\
     :1:0:0:0:0:1:1:1:0:1:-1:0:25:0:0:0:0:0:0:0:0\r\n";
 
 const SENT: &[u8] = b"set boardstyle 3\r\nboard\r\n";
 
-static PRINTED: &[u8] = b"message 1 ann 1041253132 localhost\n\
+const PRINTED: &[u8] = b"message 1 ann 1041253132 localhost\n\
     message 2 ann 1 1 0 0 0 0 1 1 10 0 1 0 1 1500.00 0 0 0 0 0 UTC\n\
     board:You:bob:3:0:1:0:-2:0:0:0:0:5:0:3:0:0:0:-5:5:0:0:0:-3:0:-5:0:0:0:0:2:0\
     :1:0:0:0:0:1:1:1:0:1:-1:0:25:0:0:0:0:0:0:0:0\n\
     phase RollOrDouble\n";
 
-/// What the server sends, what is sent to it, and what is printed.
-static ANSWERED: [(&str, &[&[u8]], &[u8], &[&[u8]]); 6] = [
-    (
-        "a welcome",
-        &[WELCOME, END],
-        b"set boardstyle 3\r\n",
-        &[b"message ", WELCOME, LF],
-    ),
-    (
-        "no boards by themselves",
-        &[WELCOME, END, INFO_WITHOUT_BOARDS, END],
-        b"set boardstyle 3\r\ntoggle autoboard\r\nboard\r\n",
-        &[
+/// A line of the server, or some.
+static ANSWERED: [Talk<'static>; 6] = [
+    Talk {
+        name: "a welcome",
+        steps: &[Step::Hears(&[WELCOME, END])],
+        last: None,
+        sent: &[b"set boardstyle 3\r\n"],
+        printed: &[b"message ", WELCOME, LF],
+    },
+    Talk {
+        name: "no boards by themselves",
+        steps: &[Step::Hears(&[WELCOME, END, INFO_WITHOUT_BOARDS, END])],
+        last: None,
+        sent: &[b"set boardstyle 3\r\ntoggle autoboard\r\nboard\r\n"],
+        printed: &[
             b"message ",
             WELCOME,
             LF,
@@ -81,62 +86,68 @@ static ANSWERED: [(&str, &[&[u8]], &[u8], &[&[u8]]); 6] = [
             INFO_WITHOUT_BOARDS,
             LF,
         ],
-    ),
-    (
-        "a board of a game that is watched",
-        &[WATCHED, TO_ROLL, END],
-        b"",
-        &[WATCHED, TO_ROLL, LF],
-    ),
-    (
-        "lines of other kinds",
-        &[b"5 bob\r\n3 x\r\n05 x\r\n\r\na\x1b\\\r\n> hi\r\r\n"],
-        b"",
-        &[
+    },
+    Talk {
+        name: "a board of a game that is watched",
+        steps: &[Step::Hears(&[WATCHED, TO_ROLL, END])],
+        last: None,
+        sent: &[],
+        printed: &[WATCHED, TO_ROLL, LF],
+    },
+    Talk {
+        name: "lines of other kinds",
+        steps: &[Step::Hears(&[b"5 bob\r\n3 x\r\n05 x\r\n\r\na\x1b\\\r\n> hi\r\r\n"])],
+        last: None,
+        sent: &[],
+        printed: &[
             b"malformed 5 2 Missing\nmalformed 3 1 Extra\ntext 05 x\ntext \ntext a\\x1b\\x5c\ntext hi\\x0d\n",
         ],
-    ),
-    (
-        "a message as it was spelled",
-        &[b"5 bob - - 1 0 1500 0 3 1040515752 host - -  \r\n"],
-        b"",
-        &[b"message 5 bob - - 1 0 1500 0 3 1040515752 host - -  \n"],
-    ),
-    (
-        "a board after a telnet command that looks like a line end",
-        &[b"12 eve hi\xff\xfb\n", BOARD, TO_ROLL, END],
-        b"",
-        &[b"message 12 eve hi", BOARD, TO_ROLL, LF],
-    ),
+    },
+    Talk {
+        name: "a message as it was spelled",
+        steps: &[Step::Hears(&[b"5 bob - - 1 0 1500 0 3 1040515752 host - -  \r\n"])],
+        last: None,
+        sent: &[],
+        printed: &[b"message 5 bob - - 1 0 1500 0 3 1040515752 host - -  \n"],
+    },
+    Talk {
+        name: "a board after a telnet command that looks like a line end",
+        steps: &[Step::Hears(&[b"12 eve hi\xff\xfb\n", BOARD, TO_ROLL, END])],
+        last: None,
+        sent: &[],
+        printed: &[b"message 12 eve hi", BOARD, TO_ROLL, LF],
+    },
 ];
+
+static PLAYING: [Talk<'static>; 1] = [Talk {
+    name: "a board of one who plays",
+    steps: &[Step::Hears(&[READY])],
+    last: None,
+    sent: &[SENT],
+    printed: &[PRINTED],
+}];
 
 #[test]
 fn a_board_of_one_who_plays_is_printed(rt: HostRuntime) {
-    let steps = [Step::Hears(&[READY])];
-    assert_talk(
-        &rt,
-        "a board of one who plays",
-        &steps,
-        None,
-        &[SENT],
-        &[PRINTED],
-    );
+    assert_talks(&rt, &PLAYING);
 }
 
 #[test]
 fn lines_are_answered_and_printed(rt: HostRuntime) {
-    for (name, parts, sent, printed) in &ANSWERED {
-        assert_talk(&rt, name, &[Step::Hears(parts)], None, &[sent], printed);
-    }
+    assert_talks(&rt, &ANSWERED);
 }
 
-/// What the server sends, and what is sent and printed if `roll` is typed then.
-static NOT_SHOWN: [(&str, &[&[u8]], &[u8], &[&[u8]]); 2] = [
-    (
-        "a board that is shouted",
-        &[WELCOME, END, INFO, END, b"13 eve ", BOARD, TO_ROLL, END],
-        SENT,
-        &[
+/// A board that is within another line, and `roll`, which is typed then.
+static NOT_SHOWN: [Talk<'static>; 2] = [
+    Talk {
+        name: "a board that is shouted",
+        steps: &[
+            Step::Hears(&[WELCOME, END, INFO, END, b"13 eve ", BOARD, TO_ROLL, END]),
+            Step::Types(b"roll", &[]),
+        ],
+        last: None,
+        sent: &[SENT],
+        printed: &[
             b"message ",
             WELCOME,
             LF,
@@ -149,46 +160,46 @@ static NOT_SHOWN: [(&str, &[&[u8]], &[u8], &[&[u8]]); 2] = [
             LF,
             b"refused 5 NoBoard\n",
         ],
-    ),
-    (
-        "a board after a return",
-        &[b"12 eve hi\r", BOARD, TO_ROLL, END],
-        b"",
-        &[
+    },
+    Talk {
+        name: "a board after a return",
+        steps: &[
+            Step::Hears(&[b"12 eve hi\r", BOARD, TO_ROLL, END]),
+            Step::Types(b"roll", &[]),
+        ],
+        last: None,
+        sent: &[],
+        printed: &[
             b"message 12 eve hi\\x0d",
             BOARD,
             TO_ROLL,
             LF,
             b"refused 3 NotReady\n",
         ],
-    ),
+    },
 ];
 
 /// A board that is within another line is not shown, so that nothing can be decided on it.
 #[test]
 fn a_board_within_a_line_is_not_shown(rt: HostRuntime) {
-    for (name, parts, sent, printed) in &NOT_SHOWN {
-        let steps = [Step::Hears(parts), Step::Types(b"roll", &[])];
-        assert_talk(&rt, name, &steps, None, &[sent], printed);
-    }
+    assert_talks(&rt, &NOT_SHOWN);
 }
 
-#[test]
-fn a_line_may_come_in_three_turns(rt: HostRuntime) {
-    let steps = [
+static IN_THREE_TURNS: [Talk<'static>; 1] = [Talk {
+    name: "a line in three turns",
+    steps: &[
         Step::Hears(&[b"1 ann 10412"]),
         Step::Hears(&[b"53132 local"]),
         Step::Hears(&[b"host\r\n"]),
-    ];
-    let printed = b"message 1 ann 1041253132 localhost\n";
-    assert_talk(
-        &rt,
-        "a line in three turns",
-        &steps,
-        None,
-        &[b"set boardstyle 3\r\n"],
-        &[printed],
-    );
+    ],
+    last: None,
+    sent: &[b"set boardstyle 3\r\n"],
+    printed: &[b"message 1 ann 1041253132 localhost\n"],
+}];
+
+#[test]
+fn a_line_may_come_in_three_turns(rt: HostRuntime) {
+    assert_talks(&rt, &IN_THREE_TURNS);
 }
 
 /// What is typed, the command that is sent, and the answer.
@@ -234,14 +245,16 @@ fn typed_lines_are_answered(rt: HostRuntime) {
     }
 }
 
-#[test]
-fn a_decision_waits_for_its_board(rt: HostRuntime) {
-    let steps = [
+static CONFIRMED: [Talk<'static>; 1] = [Talk {
+    name: "a decision that is confirmed",
+    steps: &[
         Step::Hears(&[READY]),
         Step::Types(b"roll", &[BOARD, TO_ROLL, END]),
         Step::Types(b"roll", &[BOARD, ROLLED, END]),
-    ];
-    let printed: [&[u8]; 8] = [
+    ],
+    last: None,
+    sent: &[SENT, b"roll\r\n"],
+    printed: &[
         PRINTED,
         b"sent roll\n",
         BOARD,
@@ -250,71 +263,63 @@ fn a_decision_waits_for_its_board(rt: HostRuntime) {
         BOARD,
         ROLLED,
         b"\nphase Move\nconfirmed roll\n",
-    ];
-    assert_talk(
-        &rt,
-        "a decision that is confirmed",
-        &steps,
-        None,
-        &[SENT, b"roll\r\n"],
-        &printed,
-    );
-}
-
-/// A turn in which a roll is typed and lost.
-fn roll_lost(after: After, room: usize) -> Turn<'static> {
-    Turn {
-        typed: Some(b"roll"),
-        heard: &[],
-        after,
-        room,
-        kind: Kind::LostWaiting,
-    }
-}
+    ],
+}];
 
 #[test]
-fn a_decision_that_waits_is_lost_with_its_connection(rt: HostRuntime) {
-    for after in &[After::End, FAULT] {
-        assert_talk(
-            &rt,
-            "a decision that is lost",
-            &[Step::Hears(&[READY])],
-            Some(roll_lost(*after, 4096)),
-            &[SENT, b"roll\r\n"],
-            &[PRINTED, b"sent roll\nlost roll\n"],
-        );
-    }
+fn a_decision_waits_for_its_board(rt: HostRuntime) {
+    assert_talks(&rt, &CONFIRMED);
 }
 
-/// A play that is typed, how the turn ends, and what is sent and printed.
-static PLAYS: [(&[u8], Kind, &[u8], &[u8]); 2] = [
-    (
-        b"move 5-8 8-11 11-14",
-        Kind::LostWaiting,
-        b"set boardstyle 3\r\nboard\r\nmove 5-8 8-11 11-14\r\n",
-        b"\nphase Move\nsent move 5-8 8-11 11-14\nlost move 5-8 8-11 11-14\n",
-    ),
-    (
-        b"move 20-17 17-14 14-11",
-        Kind::Lost,
-        SENT,
-        b"\nphase Move\nrefused 9 IllegalPlay\nlost\n",
-    ),
-];
-
-/// Plays are typed and printed in the place numbers of the board shown, here that of a player who goes up.
-#[test]
-fn plays_are_in_the_numbers_of_the_board(rt: HostRuntime) {
-    let steps = [Step::Hears(&[WELCOME, END, INFO, END, GOING_UP, END])];
-    for (typed, kind, sent, answer) in &PLAYS {
-        let last = Turn {
-            typed: Some(*typed),
+/// A roll that is typed on a connection that is lost then.
+static LOST: [Talk<'static>; 2] = [
+    Talk {
+        name: "a decision that is lost",
+        steps: &[Step::Hears(&[READY])],
+        last: Some(Turn {
+            typed: Some(b"roll"),
+            heard: &[],
+            after: After::End,
+            room: 4096,
+            kind: Kind::LostWaiting,
+        }),
+        sent: &[SENT, b"roll\r\n"],
+        printed: &[PRINTED, b"sent roll\nlost roll\n"],
+    },
+    Talk {
+        name: "a decision that is lost",
+        steps: &[Step::Hears(&[READY])],
+        last: Some(Turn {
+            typed: Some(b"roll"),
             heard: &[],
             after: FAULT,
             room: 4096,
-            kind: *kind,
-        };
-        let printed = [
+            kind: Kind::LostWaiting,
+        }),
+        sent: &[SENT, b"roll\r\n"],
+        printed: &[PRINTED, b"sent roll\nlost roll\n"],
+    },
+];
+
+#[test]
+fn a_decision_that_waits_is_lost_with_its_connection(rt: HostRuntime) {
+    assert_talks(&rt, &LOST);
+}
+
+/// Plays that are typed on a connection that is lost then.
+static PLAYS: [Talk<'static>; 2] = [
+    Talk {
+        name: "a play",
+        steps: &[Step::Hears(&[WELCOME, END, INFO, END, GOING_UP, END])],
+        last: Some(Turn {
+            typed: Some(b"move 5-8 8-11 11-14"),
+            heard: &[],
+            after: FAULT,
+            room: 4096,
+            kind: Kind::LostWaiting,
+        }),
+        sent: &[b"set boardstyle 3\r\nboard\r\nmove 5-8 8-11 11-14\r\n"],
+        printed: &[
             b"message ",
             WELCOME,
             LF,
@@ -322,10 +327,37 @@ fn plays_are_in_the_numbers_of_the_board(rt: HostRuntime) {
             INFO,
             LF,
             GOING_UP,
-            answer,
-        ];
-        assert_talk(&rt, "a play", &steps, Some(last), &[sent], &printed);
-    }
+            b"\nphase Move\nsent move 5-8 8-11 11-14\nlost move 5-8 8-11 11-14\n",
+        ],
+    },
+    Talk {
+        name: "a play",
+        steps: &[Step::Hears(&[WELCOME, END, INFO, END, GOING_UP, END])],
+        last: Some(Turn {
+            typed: Some(b"move 20-17 17-14 14-11"),
+            heard: &[],
+            after: FAULT,
+            room: 4096,
+            kind: Kind::Lost,
+        }),
+        sent: &[SENT],
+        printed: &[
+            b"message ",
+            WELCOME,
+            LF,
+            b"message ",
+            INFO,
+            LF,
+            GOING_UP,
+            b"\nphase Move\nrefused 9 IllegalPlay\nlost\n",
+        ],
+    },
+];
+
+/// Plays are typed and printed in the place numbers of the board shown, here that of a player who goes up.
+#[test]
+fn plays_are_in_the_numbers_of_the_board(rt: HostRuntime) {
+    assert_talks(&rt, &PLAYS);
 }
 
 /// The stream fails after each byte of what is sent: what went out is a front, and the lines before are printed.
@@ -356,6 +388,17 @@ fn each_write_that_fails_ends_the_connection(rt: HostRuntime) {
     }
 }
 
+/// A turn in which a roll is typed, and the stream takes so many bytes of it.
+fn roll_lost(room: usize) -> Turn<'static> {
+    Turn {
+        typed: Some(b"roll"),
+        heard: &[],
+        after: QUIET,
+        room,
+        kind: Kind::LostWaiting,
+    }
+}
+
 /// The stream fails after each byte of a decision: it is lost, and nothing says that it was sent.
 #[test]
 fn a_decision_that_is_not_written_is_lost(rt: HostRuntime) {
@@ -365,7 +408,7 @@ fn a_decision_that_is_not_written_is_lost(rt: HostRuntime) {
             &rt,
             "a decision not written",
             &[Step::Hears(&[READY])],
-            Some(roll_lost(QUIET, room)),
+            Some(roll_lost(room)),
             &[SENT, &command[..room]],
             &[PRINTED, b"lost roll\n"],
         );
@@ -434,16 +477,26 @@ fn errors_of_reads_are_told_apart(rt: HostRuntime) {
 /// Whether a turn up to the first board stops after so many printed bytes. The client has heard the lines up to the one
 /// that fails, so that it shows the board if the lines before it were printed.
 fn is_stopped(rt: &(impl Abort + AllocGlobal), before: usize, room: usize) -> bool {
-    let mut seat = Seat::open(rt, 1000);
     let mut out = Pipe::new(b"", 1, After::End, room);
-    let kind = seat.print_on(&mut out, None, READY, QUIET);
+    let (kind, is_shown) = turn_to_board(rt, &mut out);
+    is_front(kind, out.output(), room) && is_shown == (before <= room)
+}
+
+/// How a turn up to the first board ends, and whether the client shows the board then.
+fn turn_to_board(rt: &(impl Abort + AllocGlobal), out: &mut Pipe<'_>) -> (Kind, bool) {
+    let mut seat = Seat::open(rt, 1000);
+    let kind = seat.print_on(out, None, READY, QUIET);
+    (kind, seat.client.shown().is_some())
+}
+
+/// Whether a turn up to the first board ends so, and prints this, if there is room for so many bytes.
+fn is_front(kind: Kind, printed: &[u8], room: usize) -> bool {
     let wanted = if room < PRINTED.len() {
         Kind::Unprinted
     } else {
         Kind::Quiet
     };
-    let is_front = PRINTED.get(..room) == Some(out.output());
-    kind == wanted && is_front && seat.client.shown().is_some() == (before <= room)
+    kind == wanted && PRINTED.get(..room) == Some(printed)
 }
 
 /// The writer of the printed lines fails after each byte.
@@ -451,16 +504,23 @@ fn is_stopped(rt: &(impl Abort + AllocGlobal), before: usize, room: usize) -> bo
 fn each_print_that_fails_stops_the_turn(rt: HostRuntime) {
     let before = WELCOME.len() + INFO.len() + 2 * b"message \n".len();
     for room in 0..PRINTED.len() + 1 {
-        assert!(rt; is_stopped(&rt, before, room), "at {room}");
+        assert_at(&rt, is_stopped(&rt, before, room), "at ", room, "");
     }
+}
+
+/// The server sends a line that is too long, whose end is a board.
+fn hear_long_line(rt: &impl Abort, seat: &mut Seat)
+    requires { FitsStream seat.old.client true }
+{
+    let prompts = repeated(b"> ", 8192);
+    seat.hear(rt, &[&prompts, BOARD, TO_ROLL, END]);
 }
 
 /// A line that was cut is no board.
 #[test]
 fn a_line_that_is_too_long_is_cut(rt: HostRuntime) {
     let mut seat = Seat::open(&rt, 1000);
-    let prompts = repeated(b"> ", 8192);
-    seat.hear(&rt, &[&prompts, BOARD, TO_ROLL, END]);
+    hear_long_line(&rt, &mut seat);
     seat.assert_did(&rt, "a line that is cut", &[], &[b"cut \n"]);
     assert!(rt; seat.client.shown().is_none());
 }
@@ -503,19 +563,28 @@ fn is_answered_offline(
     typed: Option<&[u8]>,
     printed: &[u8],
 ) -> bool {
+    let mut out = Pipe::new(b"", 1, After::End, 512);
+    is_quiet_offline(rt, typed, &mut out) && out.output() == printed
+}
+
+/// Whether a turn without a connection is quiet.
+fn is_quiet_offline(
+    rt: &(impl Abort + AllocGlobal),
+    typed: Option<&[u8]>,
+    out: &mut Pipe<'_>,
+) -> bool {
     let login = Login::new(b"ann", b"secret").expect(rt, "it is a login");
     let mut client = Client::new(login);
     let mut directory = Directory::new(rt.alloc());
-    let mut out = Pipe::new(b"", 1, After::End, 512);
     let none: Option<&mut Pipe<'_>> = None;
-    let outcome = exchange(&mut client, &mut directory, none, typed, &mut out);
-    matches!(outcome, Ok(Ending::Quiet)) && out.output() == printed
+    let outcome = exchange(&mut client, &mut directory, none, typed, out);
+    matches!(outcome, Ok(Ending::Quiet))
 }
 
 #[test]
 fn offline_nothing_is_sent(rt: HostRuntime) {
     for (typed, printed) in &OFFLINE {
-        assert!(rt; is_answered_offline(&rt, *typed, printed), "{typed:?}");
+        assert_typed(&rt, is_answered_offline(&rt, *typed, printed), *typed);
     }
 }
 
@@ -608,7 +677,8 @@ fn assert_sent_before(rt: &(impl Abort + AllocGlobal), error: Option<ErrorKind>,
     let is_front = before <= 3 && is_made_of(came.output.output(), &COMMANDS[..before]);
     let is_lost = came.kind == Kind::Lost && came.says_lost;
     let is_last = came.output.writes() == before.saturating_add(1);
-    assert!(rt; is_lost && is_front && is_last, "after {before} writes");
+    let is_right = is_lost && is_front && is_last;
+    assert_at(rt, is_right, "after ", before, " writes");
 }
 
 /// After a write that fails or takes nothing no other is made, though the stream would take it, and also if a signal
@@ -626,22 +696,25 @@ fn nothing_is_sent_after_a_write_that_fails(rt: HostRuntime) {
 #[test]
 fn a_stream_may_wait_between_any_two_bytes(rt: HostRuntime) {
     let mut seat = Seat::open(&rt, 1);
-    for at in 0..READY.len() {
-        seat.hear(&rt, &[&READY[at..at + 1]]);
-    }
+    hear_bytes(&rt, &mut seat);
     seat.assert_did(&rt, "one byte a turn", &[SENT], &[PRINTED]);
+}
+
+/// The server sends its lines up to the first board, one byte a turn.
+fn hear_bytes(rt: &impl Abort, seat: &mut Seat)
+    requires { FitsStream seat.old.client true }
+{
+    for at in 0..READY.len() {
+        seat.hear(rt, &[&READY[at..at + 1]]);
+    }
 }
 
 /// After a line that can't be printed, here after so many that can, no other is.
 fn assert_printed_before(rt: &(impl Abort + AllocGlobal), error: Option<ErrorKind>, before: usize) {
     let mut out = FailsOnce::of_kind(error, before, 1000);
-    let mut seat = Seat::open(rt, 1000);
-    let kind = seat.print_on(&mut out, Some(b"dance"), READY, QUIET);
-    let is_stopped = kind == Kind::Unprinted;
-    assert!(rt;
-        is_stopped && out.writes() == before.saturating_add(1),
-        "after {before} lines"
-    );
+    let kind = first_turn_on(rt, &mut out, 1000, Some(b"dance"), READY);
+    let is_stopped = kind == Kind::Unprinted && out.writes() == before.saturating_add(1);
+    assert_at(rt, is_stopped, "after ", before, " lines");
 }
 
 /// After a line that can't be printed no other is, though the writer would take it: after that of a typed line, and

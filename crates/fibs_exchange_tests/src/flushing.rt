@@ -1,7 +1,6 @@
 //! What is printed is shown before a turn waits for the server.
 
-use super::connected::{Kind, Seat};
-use fibs_test_tools::pipe::QUIET;
+use super::connected::{Kind, assert_at, first_turn_on};
 use std::io;
 use std::io::{ErrorKind, Write};
 use std::process::Abort;
@@ -13,7 +12,7 @@ static LINES: &[u8] =
 /// A writer of which one flush fails after so many. It takes all bytes.
 #[derive(Drop)]
 struct Screen {
-    before: u32,
+    before: usize,
     failed: bool,
     written: bool,
 }
@@ -35,19 +34,20 @@ impl Write for Screen {
 }
 
 /// Whether one flush fails after so many. That flush stops the turn, and nothing is printed after it.
-fn is_stopped(rt: &(impl Abort + AllocGlobal), before: u32) -> bool {
+fn is_stopped(rt: &(impl Abort + AllocGlobal), before: usize) -> bool {
     let mut screen = Screen {
         before,
         failed: false,
         written: false,
     };
-    let kind = Seat::open(rt, 10).print_on(&mut screen, None, LINES, QUIET);
+    let kind = first_turn_on(rt, &mut screen, 10, None, LINES);
     let wanted = if screen.failed {
         Kind::Unprinted
     } else {
         Kind::Quiet
     };
-    assert!(rt; kind == wanted && !screen.written, "after {before} flushes");
+    let is_right = kind == wanted && !screen.written;
+    assert_at(rt, is_right, "after ", before, " flushes");
     screen.failed
 }
 

@@ -1,6 +1,6 @@
 //! Standing orders to roll.
-use super::connected::{Kind, Step, Turn, assert_talk};
-use fibs_test_tools::pipe::{After, FAULT, QUIET};
+use super::connected::{Kind, Step, Talk, Turn, assert_talk, assert_talks};
+use fibs_test_tools::pipe::{FAULT, QUIET};
 
 const END: &[u8] = b"\r\n";
 
@@ -28,67 +28,86 @@ const GREETED: &[u8] = b"message 1 ann 1041253132 localhost\n\
 
 /// Lines that are typed one after another on one connection, and what is printed. A standing order is given once, and
 /// withdrawn if it was given. Neither sends anything.
-static TYPED: [(&[Step<'static>], &[u8]); 6] = [
-    (&[Step::Types(b"order roll", &[])], b"ordered\n"),
-    (
-        &[
+static TYPED: [Talk<'static>; 6] = [
+    Talk {
+        name: "orders",
+        steps: &[Step::Types(b"order roll", &[])],
+        last: None,
+        sent: &[],
+        printed: &[b"ordered\n"],
+    },
+    Talk {
+        name: "orders",
+        steps: &[
             Step::Types(b"order roll", &[]),
             Step::Types(b"order roll", &[]),
         ],
-        b"ordered\nrefused 11 AlreadyOrdered\n",
-    ),
-    (
-        &[Step::Types(b"withdraw roll", &[])],
-        b"refused 12 NotOrdered\n",
-    ),
-    (
-        &[
+        last: None,
+        sent: &[],
+        printed: &[b"ordered\nrefused 11 AlreadyOrdered\n"],
+    },
+    Talk {
+        name: "orders",
+        steps: &[Step::Types(b"withdraw roll", &[])],
+        last: None,
+        sent: &[],
+        printed: &[b"refused 12 NotOrdered\n"],
+    },
+    Talk {
+        name: "orders",
+        steps: &[
             Step::Types(b"order roll", &[]),
             Step::Types(b"withdraw roll", &[]),
             Step::Types(b"withdraw roll", &[]),
             Step::Types(b"order roll", &[]),
         ],
-        b"ordered\nwithdrawn\nrefused 12 NotOrdered\nordered\n",
-    ),
-    (
-        &[
+        last: None,
+        sent: &[],
+        printed: &[b"ordered\nwithdrawn\nrefused 12 NotOrdered\nordered\n"],
+    },
+    Talk {
+        name: "orders",
+        steps: &[
             Step::Types(b"order  roll", &[]),
             Step::Types(b"order roll ", &[]),
             Step::Types(b"order", &[]),
             Step::Types(b"Order roll", &[]),
             Step::Types(b"order double", &[]),
         ],
-        b"unknown\nunknown\nunknown\nunknown\nunknown\n",
-    ),
-    (
-        &[
+        last: None,
+        sent: &[],
+        printed: &[b"unknown\nunknown\nunknown\nunknown\nunknown\n"],
+    },
+    Talk {
+        name: "orders",
+        steps: &[
             Step::Types(b"withdraw  roll", &[]),
             Step::Types(b"withdraw roll ", &[]),
             Step::Types(b"withdraw", &[]),
             Step::Types(b" withdraw roll", &[]),
         ],
-        b"unknown\nunknown\nunknown\nunknown\n",
-    ),
+        last: None,
+        sent: &[],
+        printed: &[b"unknown\nunknown\nunknown\nunknown\n"],
+    },
 ];
 
 #[test]
 fn orders_are_given_and_withdrawn(rt: HostRuntime) {
-    for (steps, printed) in &TYPED {
-        assert_talk(&rt, "orders", steps, None, &[], &[printed]);
-    }
+    assert_talks(&rt, &TYPED);
 }
 
-/// On the board that is shown already nothing is sent. At the next board it rolls, and says so after the board's own
-/// lines; on the same board not again.
-#[test]
-fn an_order_rolls_once_a_board(rt: HostRuntime) {
-    let steps = [
+static ROLLS_ONCE: [Talk<'static>; 1] = [Talk {
+    name: "one roll",
+    steps: &[
         Step::Hears(&[GREETING, BOARD, TO_ROLL, END]),
         Step::Types(b"order roll", &[]),
         Step::Types(b"board", &[BOARD, TO_ROLL, END, BOARD, TO_ROLL, END]),
         Step::Types(b"roll", &[]),
-    ];
-    let printed: [&[u8]; 10] = [
+    ],
+    last: None,
+    sent: &[SENT, b"board\r\nroll\r\n"],
+    printed: &[
         GREETED,
         BOARD,
         TO_ROLL,
@@ -99,25 +118,25 @@ fn an_order_rolls_once_a_board(rt: HostRuntime) {
         BOARD,
         TO_ROLL,
         b"\nphase RollOrDouble\nrefused 6 Waiting\n",
-    ];
-    assert_talk(
-        &rt,
-        "one roll",
-        &steps,
-        None,
-        &[SENT, b"board\r\nroll\r\n"],
-        &printed,
-    );
+    ],
+}];
+
+/// On the board that is shown already nothing is sent. At the next board it rolls, and says so after the board's own
+/// lines; on the same board not again.
+#[test]
+fn an_order_rolls_once_a_board(rt: HostRuntime) {
+    assert_talks(&rt, &ROLLS_ONCE);
 }
 
-/// The line of a board: itself, its phase, the decision that it confirms, and then the roll of the order.
-#[test]
-fn the_roll_is_said_last(rt: HostRuntime) {
-    let steps = [
+static SAID_LAST: [Talk<'static>; 1] = [Talk {
+    name: "a roll that is confirmed",
+    steps: &[
         Step::Types(b"order roll", &[GREETING, BOARD, ROLLED, END]),
         Step::Types(b"move 24-18 13-11", &[BOARD, TO_ROLL_FOR_TWO, END]),
-    ];
-    let printed: [&[u8]; 8] = [
+    ],
+    last: None,
+    sent: &[SENT, b"move 24-18 13-11\r\nroll\r\n"],
+    printed: &[
         b"ordered\n",
         GREETED,
         BOARD,
@@ -126,26 +145,24 @@ fn the_roll_is_said_last(rt: HostRuntime) {
         BOARD,
         TO_ROLL_FOR_TWO,
         b"\nphase RollOrDouble\nconfirmed move 24-18 13-11\nsent roll\n",
-    ];
-    let sent = [SENT, b"move 24-18 13-11\r\nroll\r\n"];
-    assert_talk(
-        &rt,
-        "a roll that is confirmed",
-        &steps,
-        None,
-        &sent,
-        &printed,
-    );
+    ],
+}];
+
+/// The line of a board: itself, its phase, the decision that it confirms, and then the roll of the order.
+#[test]
+fn the_roll_is_said_last(rt: HostRuntime) {
+    assert_talks(&rt, &SAID_LAST);
 }
 
-/// If the user may double he is asked, and after a withdrawal too.
-#[test]
-fn an_order_that_is_not_due_sends_nothing(rt: HostRuntime) {
-    let steps = [
+static NOT_DUE: [Talk<'static>; 1] = [Talk {
+    name: "no roll",
+    steps: &[
         Step::Types(b"order roll", &[GREETING, BOARD, MAY_DOUBLE, END]),
         Step::Types(b"withdraw roll", &[BOARD, TO_ROLL, END]),
-    ];
-    let printed: [&[u8]; 8] = [
+    ],
+    last: None,
+    sent: &[SENT],
+    printed: &[
         b"ordered\n",
         GREETED,
         BOARD,
@@ -154,16 +171,21 @@ fn an_order_that_is_not_due_sends_nothing(rt: HostRuntime) {
         BOARD,
         TO_ROLL,
         b"\nphase RollOrDouble\n",
-    ];
-    assert_talk(&rt, "no roll", &steps, None, &[SENT], &printed);
+    ],
+}];
+
+/// If the user may double he is asked, and after a withdrawal too.
+#[test]
+fn an_order_that_is_not_due_sends_nothing(rt: HostRuntime) {
+    assert_talks(&rt, &NOT_DUE);
 }
 
-/// The turn in which the client rolls by itself is the last, and is not confirmed.
-fn roll_lost(after: After, room: usize) -> Turn<'static> {
+/// The turn in which the client rolls by itself is the last, and the stream takes so many bytes of it.
+fn roll_lost(room: usize) -> Turn<'static> {
     Turn {
         typed: None,
         heard: &[BOARD, TO_ROLL, END],
-        after,
+        after: QUIET,
         room,
         kind: Kind::LostWaiting,
     }
@@ -178,31 +200,36 @@ fn a_roll_that_is_not_written_is_lost(rt: HostRuntime) {
             &rt,
             "a roll not written",
             &[Step::Types(b"order roll", &[GREETING])],
-            Some(roll_lost(QUIET, room)),
+            Some(roll_lost(room)),
             &[SENT, &command[..room]],
             &[b"ordered\n", GREETED, b"lost roll\n"],
         );
     }
 }
 
-/// A roll that was written whole is lost with its connection as any other.
-#[test]
-fn a_roll_that_waits_is_lost_with_its_connection(rt: HostRuntime) {
-    let steps = [Step::Types(b"order roll", &[GREETING])];
-    let printed: [&[u8]; 5] = [
+/// The turn in which the client rolls by itself is the last, and the connection is lost then.
+static LOST: [Talk<'static>; 1] = [Talk {
+    name: "a roll that is lost",
+    steps: &[Step::Types(b"order roll", &[GREETING])],
+    last: Some(Turn {
+        typed: None,
+        heard: &[BOARD, TO_ROLL, END],
+        after: FAULT,
+        room: 4096,
+        kind: Kind::LostWaiting,
+    }),
+    sent: &[SENT, b"roll\r\n"],
+    printed: &[
         b"ordered\n",
         GREETED,
         BOARD,
         TO_ROLL,
         b"\nphase RollOrDouble\nsent roll\nlost roll\n",
-    ];
-    let last = roll_lost(FAULT, 4096);
-    assert_talk(
-        &rt,
-        "a roll that is lost",
-        &steps,
-        Some(last),
-        &[SENT, b"roll\r\n"],
-        &printed,
-    );
+    ],
+}];
+
+/// A roll that was written whole is lost with its connection as any other.
+#[test]
+fn a_roll_that_waits_is_lost_with_its_connection(rt: HostRuntime) {
+    assert_talks(&rt, &LOST);
 }

@@ -1,5 +1,5 @@
 //! How the lines of a turn are printed.
-use super::connected::{Kind, Seat, repeated};
+use super::connected::{Kind, Seat, assert_at, assert_typed, repeated};
 use fibs_test_tools::pipe::{After, QUIET};
 use fibs_test_tools::text::joined;
 use std::io;
@@ -38,25 +38,33 @@ impl Write for Counts {
     }
 }
 
-/// How often a ready client writes what it prints in a turn, and how many bytes, after a line that is typed, and what
-/// the server sends. Nothing if not all is printed.
-fn counted(
+/// How a turn of a ready client ends, with a line that is typed, and what the server sends.
+fn turn_when_ready(
+    rt: &(impl Abort + AllocGlobal),
+    out: &mut Counts,
+    typed: Option<&[u8]>,
+    input: &[u8],
+    after: After,
+) -> Kind {
+    let mut seat = Seat::open(rt, 1000);
+    seat.hear(rt, &[READY]);
+    seat.print_on(out, typed, input, after)
+}
+
+/// Whether a ready client prints all in such a turn, by so many writes, and so many bytes.
+fn prints_by(
     rt: &(impl Abort + AllocGlobal),
     typed: Option<&[u8]>,
     input: &[u8],
     after: After,
-) -> Option<(usize, usize)> {
-    let mut seat = Seat::open(rt, 1000);
-    seat.hear(rt, &[READY]);
+    (writes, bytes): (usize, usize),
+) -> bool {
     let mut out = Counts {
         writes: 0,
         bytes: 0,
     };
-    let kind = seat.print_on(&mut out, typed, input, after);
-    if kind == Kind::Unprinted {
-        return None;
-    }
-    Some((out.writes, out.bytes))
+    let kind = turn_when_ready(rt, &mut out, typed, input, after);
+    kind != Kind::Unprinted && out.writes == writes && out.bytes == bytes
 }
 
 /// What is typed, what the server sends, and what is printed.
@@ -85,8 +93,8 @@ fn lines_in(text: &[u8]) -> usize {
 fn a_printed_line_is_one_write(rt: HostRuntime) {
     for (typed, input, after, printed) in &PRINTED {
         let wanted = (lines_in(printed), printed.len());
-        let is_right = counted(&rt, *typed, input, *after) == Some(wanted);
-        assert!(rt; is_right, "{typed:?}");
+        let is_right = prints_by(&rt, *typed, input, *after, wanted);
+        assert_typed(&rt, is_right, *typed);
     }
 }
 
@@ -94,8 +102,8 @@ fn a_printed_line_is_one_write(rt: HostRuntime) {
 /// escaped.
 fn assert_one_write(rt: &(impl Abort + AllocGlobal), front: &[u8], length: usize, bytes: usize) {
     let line = joined(&[front, &repeated(b"\x01", length), b"\r\n"]);
-    let is_one = counted(rt, None, &line, QUIET) == Some((1, bytes));
-    assert!(rt; is_one, "{bytes} bytes");
+    let is_one = prints_by(rt, None, &line, QUIET, (1, bytes));
+    assert_at(rt, is_one, "", bytes, " bytes");
 }
 
 /// There is room for a line of any length, each of whose bytes is escaped.

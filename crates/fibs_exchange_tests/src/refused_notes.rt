@@ -121,7 +121,7 @@ fn assert_alike(
 {
     for row in rows {
         let are_alike = are_alike(rt, seat, twin, row)?;
-        assert!(rt; are_alike, "{:?}", row.1);
+        assert_in(rt, are_alike, row);
     }
     Ok(())
 }
@@ -134,11 +134,16 @@ fn refused_at(rt: &impl Abort, seat: &mut Seat, rows: &[Row]) -> Option<usize>
     for (at, row) in rows.iter().enumerate() {
         if !prints(rt, seat, row) {
             let is_refused = is_made_of(&seat.printed, &[row.1, REFUSED]);
-            assert!(rt; is_refused, "{:?}", row.1);
+            assert_in(rt, is_refused, row);
             return Some(at);
         }
     }
     None
+}
+
+/// Asserts what is right in a step.
+fn assert_in(rt: &impl Abort, is_right: bool, row: &Row) {
+    assert!(rt; is_right, "{:?}", row.1);
 }
 
 /// After a note that is refused, a turn goes on as that of a client to which the line was not sent.
@@ -150,20 +155,26 @@ fn assert_goes_on(
     requires { FitsStream seat.old.client true }
 {
     match refused_at(rt, seat, rows) {
-        Some(at) => {
-            let mut twin = seat_after(rt, rows.get(..at).unwrap_or(rows));
-            assert_alike(
-                rt,
-                seat,
-                &mut twin,
-                rows.get(at.saturating_add(1)..).unwrap_or(&[]),
-            )
-        }
+        Some(at) => assert_skips(rt, seat, rows, at),
         None => {
             assert!(rt; seat.directory.len() == 2);
             Ok(())
         }
     }
+}
+
+/// A seat to which a step's note was refused takes the rest as one that has not taken the step.
+fn assert_skips(
+    rt: &(impl Abort + AllocGlobal),
+    seat: &mut Seat,
+    rows: &[Row],
+    at: usize,
+) -> Result<(), AllocError>
+    requires { FitsStream seat.old.client true }
+{
+    let mut twin = seat_after(rt, rows.get(..at).unwrap_or(rows));
+    let rest = rows.get(at.saturating_add(1)..).unwrap_or(&[]);
+    assert_alike(rt, seat, &mut twin, rest)
 }
 
 #[test]

@@ -1,6 +1,6 @@
 use Rattle.std.proofs.Common.{true}
 use Rattle.fibs_exchange.specs.Turns.Turn.{FitsStream}
-use Rattle.fibs_exchange_tests.proofs.exchange.a_stream_may_wait_between_any_two_bytes.Given as goal
+use Rattle.fibs_exchange_tests.proofs.exchange.hear_bytes.Given as goal
 
 -- the client is online
 abbrev pub invariant-loop-at : goal.invariant-loop-at
