@@ -221,7 +221,7 @@ pub fn assert_wanted(rt: &impl Abort, is_wanted: bool, text: &str, wanted: &str)
     assert!(rt; is_wanted, "wanted {wanted}, and there is {text}");
 }
 
-/// Asserts that what comes of a text is right.
+/// Asserts that a text is answered as it should be.
 pub fn assert_of(rt: &impl Abort, is_right: bool, text: &[u8]) {
     assert!(rt; is_right, "{text:?}");
 }
