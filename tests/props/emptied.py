@@ -31,8 +31,8 @@ class Function:
         self.last = last
         # what is computed at compile time, and what has one proof with others, stays whole
         self.may_be_emptied = True
-        # a trait has no room for a method more
-        self.may_be_copied = True
+        # a trait has no room for a method more, nor a proof of several functions for another one
+        self.is_bound = False
 
 
 def modules_of(file):
@@ -91,7 +91,7 @@ def functions_in(file, text, types):
             function = Function(path, file, begin, first, opening, last)
             is_shared = any("#[cycle(" in it for it in lines[begin:first])
             function.may_be_emptied = "const" not in head["is"] and not is_shared
-            function.may_be_copied = not is_shared and not (head[1] and is_of_trait)
+            function.is_bound = is_shared or bool(head[1]) and is_of_trait
             found.append(function)
             at = last + 1
     return found
@@ -131,7 +131,8 @@ def emptied(texts, kept):
 
 
 def with_copy(texts, path, copy, edited):
-    """The texts with a copy of a function behind it, at another path, as the function stands in edited texts."""
+    """The text with a copy of a function behind it, at another path, as the function stands in edited texts; with the
+    text's file."""
     it = next(it for it in functions_of(edited) if it.path == path)
     added = edited[it.file].split("\n")[it.begin : it.last + 1]
     head = it.first - it.begin
@@ -139,7 +140,7 @@ def with_copy(texts, path, copy, edited):
     it = next(it for it in functions_of(texts) if it.path == path)
     lines = texts[it.file].split("\n")
     lines[it.last + 1 : it.last + 1] = ["", *added]
-    return {**texts, it.file: "\n".join(lines)}
+    return {it.file: "\n".join(lines)}
 
 
 def copy_proof(folder, path, copy):
@@ -161,7 +162,7 @@ def may_be_copied(function, folder):
     and answers and invariants. A proof by hand names more that is the function's own."""
     *above, name = function.path.split("::")
     place = "/".join([folder, "proofs", *above])
-    if not function.may_be_copied or os.path.isdir(f"{place}/+{name}"):
+    if function.is_bound or os.path.isdir(f"{place}/+{name}"):
         return False
     return not os.path.isdir(f"{place}/{name}") or {*os.listdir(f"{place}/{name}")} <= {*ANSWERED}
 
