@@ -1,4 +1,4 @@
-//! Tests of conversations with a server, and of the command line.
+//! Tests of the engines: what is printed of the server's lines, conversations with a server, and the command line.
 #![tactic(auto)]
 
 #[cfg(test)]
@@ -12,6 +12,12 @@ mod once;
 #[cfg(test)]
 mod outcomes;
 #[cfg(test)]
+mod plays;
+#[cfg(test)]
 mod program;
 #[cfg(test)]
 mod refused_notes;
+#[cfg(test)]
+mod retrying;
+#[cfg(test)]
+mod show;

@@ -1,4 +1,4 @@
-//! How conversations and command lines end.
+//! How an engine, a conversation and a command line end.
 
 use fibs_engine::fault::EngineFault;
 use fibs_test_tools::outcome::Outcome;
