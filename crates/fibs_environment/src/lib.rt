@@ -1,8 +1,10 @@
-//! What the environment of the program says of a terminal.
+//! What the environment of the program says of a terminal, and what the clock of its place shows.
 #![tactic(auto)]
 
+mod clock;
 mod environment;
 mod settings;
 
+pub use clock::ClockTime;
 pub use environment::terminal_settings;
 pub use settings::Settings;
