@@ -272,11 +272,12 @@ def the_same_game_through_a_pipe(server):
 
 
 def the_same_game_where_lines_are_edited(server):
-    """What rlwrap draws is its own; the lines of the screen come in their order, and each typed line is kept."""
+    """What rlwrap draws is its own; the lines of a screen without bold letters come in their order, and each typed line
+    is kept."""
     if not RLWRAP:
         return
     with tempfile.TemporaryDirectory() as home:
-        player = Person(server, kind='xterm', RLWRAP_HOME=home, HOME=home)
+        player = Person(server, kind='xterm', NO_COLOR='1', RLWRAP_HOME=home, HOME=home)
         player.tells_the_password()
         plays_the_game(server, player, AT_A_TERMINAL)
         kept = ''.join(path.read_text() for path in pathlib.Path(home).iterdir() if path.is_file())
