@@ -5,11 +5,11 @@
 pub mod program;
 
 pub use fibs_connect::{converse, converse_at};
+pub use fibs_engine::dial::{Place, READ_MILLIS};
 pub use fibs_engine::fault::EngineFault;
+pub use fibs_engine::link::Link;
 pub use fibs_exchange::{Ending, ExchangeFault, exchange};
-pub use fibs_links::dial::{Place, READ_MILLIS};
-pub use fibs_links::link::Link;
-pub use fibs_loop::play_loop;
+pub use fibs_replay::play_loop::play_loop;
 pub use fibs_replay::replay;
 pub use fibs_show::plays::plays;
 pub use fibs_show::show::{StreamFault, show, show_portions};

@@ -6,11 +6,11 @@ ghost use Rattle.fibs_engine.specs.Status.{code_of};
 
 use fibs_arguments::{Answer, Request};
 use fibs_connect::converse_at;
+use fibs_engine::dial::Place;
 use fibs_engine::fault::EngineFault;
 use fibs_engine::status::Status;
 use fibs_engine::writing::write_bytes;
-use fibs_links::dial::Place;
-use fibs_loop::play_loop;
+use fibs_replay::play_loop::play_loop;
 use fibs_replay::replay;
 use fibs_show::plays::plays;
 use fibs_show::show::show;

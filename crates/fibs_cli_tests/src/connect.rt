@@ -2,8 +2,8 @@
 
 use super::outcomes::assert_is;
 use fibs_connect::{converse, converse_with};
+use fibs_engine::dial::Dial;
 use fibs_engine::fault::EngineFault;
-use fibs_links::dial::Dial;
 use fibs_test_tools::devices::Endless;
 use fibs_test_tools::named::Named;
 use fibs_test_tools::outcome::Outcome;

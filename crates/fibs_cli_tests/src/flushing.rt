@@ -1,9 +1,9 @@
 //! What was printed is shown before the program waits: for the server, for a typed line, for a connection.
 
 use fibs_connect::converse_with;
+use fibs_engine::dial::Dial;
 use fibs_engine::fault::EngineFault;
-use fibs_links::dial::Dial;
-use fibs_links::link::Link;
+use fibs_engine::link::Link;
 use fibs_test_tools::pipe::{After, Pipe};
 use std::alloc::Global;
 use std::cell::Cell;

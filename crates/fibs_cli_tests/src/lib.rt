@@ -1,4 +1,5 @@
-//! Tests of the engines: what is printed of the server's lines, conversations with a server, and the command line.
+//! Tests of the engines: what is printed of the server's lines, turns of a client with a stream, conversations with a
+//! server, and the command line.
 #![tactic(auto)]
 
 #[cfg(test)]
@@ -21,3 +22,5 @@ mod refused_notes;
 mod retrying;
 #[cfg(test)]
 mod show;
+#[cfg(test)]
+mod turns;

@@ -3,9 +3,9 @@
 use crate::connect::conversed;
 use crate::nobody::Nobody;
 use crate::outcomes::assert_is;
-use fibs_links::dial::{Dial, Place, Server};
-use fibs_links::logging::LoggedServer;
-use fibs_links::pacing::PacedServer;
+use fibs_engine::dial::{Dial, Place, Server};
+use fibs_engine::logging::LoggedServer;
+use fibs_engine::pacing::PacedServer;
 use fibs_test_tools::devices::FailsOnce;
 use fibs_test_tools::pipe::{After, Pipe, QUIET};
 use fibs_test_tools::stumbling::Stumbles;

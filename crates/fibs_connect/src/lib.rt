@@ -5,23 +5,23 @@ ghost use Rattle.std.specs.Prelude.{◌≡◌, ◌*◌, OnOk, IfOk, IfErr};
 ghost use Rattle.std.specs.Io.KnownBytes.{Appends, Keeps};
 ghost use Rattle.fibs_connect.specs.Converse.Ending.{Conversed, EndsWell, login_fault_line};
 ghost use Rattle.fibs_exchange.specs.Turns.Turn.{FitsStream, is_there};
-ghost use Rattle.fibs_typed.specs.Reading.{SpendsReads};
+ghost use Rattle.fibs_front.specs.TypedReads.{SpendsReads};
 ghost use Rattle.fibs_engine.specs.Printing.{line_bytes};
 ghost use Rattle.fibs_engine.specs.Reads.{LostAtMost};
 
 mod players;
 mod seat;
 
+use fibs_engine::dial::{Dial, Place, READ_MILLIS, Server};
 use fibs_engine::fault::EngineFault;
 use fibs_engine::limits::{MOST_INPUT_READS, READ_PORTION};
 use fibs_engine::status::Status;
 use fibs_front::plain::Plain;
 use fibs_front::printing::print_reason;
+use fibs_front::typed_line::TypedLine;
+use fibs_front::typed_lines::TypedLines;
 use fibs_front::words::Words;
-use fibs_links::dial::{Dial, Place, READ_MILLIS, Server};
 use fibs_session::{Login, PlainFault};
-use fibs_typed::typed_line::TypedLine;
-use fibs_typed::typed_lines::TypedLines;
 use seat::{Going, Seat};
 use std::alloc::Global;
 use std::io::{Read, Write};

@@ -8,16 +8,16 @@ ghost use Rattle.fibs_front.specs.Told.{opened_said};
 ghost use Rattle.fibs_front.specs.Wishes.{wish_value};
 
 use crate::players::tell_players;
+use fibs_engine::dial::Dial;
+use fibs_engine::link::Link;
 use fibs_exchange::loss::end_connection;
 use fibs_exchange::sending::{send_as_it_is, send_command};
 use fibs_exchange::{Ending, ExchangeFault, exchange_with};
 use fibs_front::front::Front;
 use fibs_front::said::Said;
+use fibs_front::typed_line::TYPED_LIMIT;
 use fibs_front::wish::Wish;
-use fibs_links::dial::Dial;
-use fibs_links::link::Link;
 use fibs_session::{Client, Directory, Login, Refusal};
-use fibs_typed::typed_line::TYPED_LIMIT;
 use std::alloc::Global;
 
 /// Whether more lines are answered.

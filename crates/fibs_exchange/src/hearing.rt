@@ -15,9 +15,9 @@ ghost use Rattle.fibs_directory.specs.declared.fault.DirectoryFault.{DirectoryFa
 use crate::ExchangeFault;
 use crate::sending::send_commands;
 use crate::turn_fault::TurnFault;
+use fibs_engine::link::Link;
 use fibs_front::front::Front;
 use fibs_front::said::Said;
-use fibs_links::link::Link;
 use fibs_messages::Reading;
 use fibs_position::phase_of;
 use fibs_session::{Client, Directory, Outstanding, Taken};

@@ -19,10 +19,10 @@ mod turn_fault;
 mod typing;
 
 use fibs_engine::limits::READ_PORTION;
+use fibs_engine::link::Link;
 pub use fibs_front::fault::FrontFault as ExchangeFault;
 use fibs_front::front::Front;
 use fibs_front::plain::Plain;
-use fibs_links::link::Link;
 use fibs_session::{Client, Directory, Outstanding};
 use hearing::hear_portion;
 use loss::end_connection;

@@ -8,11 +8,11 @@ ghost use Rattle.fibs_engine.specs.Writing.{Wrote, progress_of};
 
 use arrayvec::{ArrayString, ArrayVec};
 use fibs_engine::fixed::append;
+use fibs_engine::link::Link;
 use fibs_engine::writing::Broken;
 use fibs_front::printing::text_bytes;
-use fibs_links::link::Link;
+use fibs_front::typed_line::TYPED_LIMIT;
 use fibs_session::AnswerText;
-use fibs_typed::typed_line::TYPED_LIMIT;
 
 /// A command of at most 512 bytes and its line end.
 type WireLine = ArrayVec<u8, 514>;

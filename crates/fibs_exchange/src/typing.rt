@@ -15,10 +15,10 @@ ghost use Rattle.fibs_engine.specs.Writing.{Whole};
 use crate::ExchangeFault;
 use crate::sending::send_command;
 use crate::turn_fault::TurnFault;
+use fibs_engine::link::Link;
 use fibs_front::front::Front;
 use fibs_front::said::Said;
 use fibs_front::typing::{Typed, read_typed};
-use fibs_links::link::Link;
 use fibs_session::{Client, CommandText};
 
 /// What the client answers to a typed line.

@@ -2,6 +2,8 @@ pub mod Told
 pub mod SaidOf
 pub mod Lines
 pub mod Account
+pub mod TypedLines
+pub mod TypedReads
 pub mod Typing
 pub mod TypedOf
 pub mod Wishes

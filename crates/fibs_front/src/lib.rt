@@ -1,4 +1,5 @@
-//! Front ends: what happens is reported to each, and each says what a typed line asks for. The plain account is one.
+//! Front ends: what happens is reported to each, and each says what a typed line asks for. The plain account is one. How
+//! typed lines are read, portion by portion, is the same for all.
 #![tactic(auto)]
 
 pub mod fault;
@@ -8,6 +9,8 @@ pub mod plain;
 pub mod printing;
 pub mod said;
 pub mod taking;
+pub mod typed_line;
+pub mod typed_lines;
 pub mod typing;
 pub mod wish;
 pub mod words;

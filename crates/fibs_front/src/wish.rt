@@ -2,7 +2,7 @@
 ghost use Rattle.std.specs.Prelude.{◌≡◌};
 ghost use Rattle.fibs_front.specs.Wishes.{wish_of, wish_value};
 
-use fibs_typed::typed_line::TYPED_LIMIT;
+use crate::typed_line::TYPED_LIMIT;
 
 /// What a typed line asks for.
 #[derive(Clone, Copy)]

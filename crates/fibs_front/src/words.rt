@@ -5,9 +5,9 @@ ghost use Rattle.fibs_front.specs.Wishes.{WishValue, wish_value, wish_of};
 use crate::fault::FrontFault;
 use crate::front::Front;
 use crate::plain::Plain;
+use crate::typed_line::TypedLine;
 use crate::wish::{Wish, wish_of};
 use fibs_session::{Client, Directory};
-use fibs_typed::typed_line::TypedLine;
 use std::io::Write;
 
 /// A front end at which a player types: it says what a typed line asks for.

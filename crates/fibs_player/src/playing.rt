@@ -1,15 +1,15 @@
 //! A person plays.
 
 use fibs_connect::converse_on;
+use fibs_engine::dial::{Place, Server};
 use fibs_engine::fault::EngineFault;
 use fibs_engine::limits::MOST_INPUT_READS;
+use fibs_engine::logging::{LoggedServer, open};
+use fibs_engine::pacing::PacedServer;
 use fibs_engine::status::Status;
 use fibs_engine::writing::write_bytes;
 use fibs_environment::terminal_settings;
 use fibs_front::plain::Plain;
-use fibs_links::dial::{Place, Server};
-use fibs_links::logging::{LoggedServer, open};
-use fibs_links::pacing::PacedServer;
 use fibs_terminal::Terminal;
 use std::io::{IsTerminal, Read};
 use std::net::{Net, TcpStream};

@@ -1,7 +1,6 @@
-//! Tests of the rules, of positions and of commands: worked rows of positions, values that no board line shows, what a
-//! board is for its player, the boards after decisions, a slow search compared with the list of plays, and the commands
-//! to the server. `tests/rows/positions.py` and `plays.py` have more turns, more that a player may decide, and when the
-//! game has gone on.
+//! Tests of what a line says and of what follows from it: fields, messages, directories, the rules, positions and
+//! commands; a slow search compared with the list of plays, and the boards after decisions. Worked lines and turns, and
+//! when the game has gone on, are in `tests/rows`.
 #![tactic(auto)]
 
 #[cfg(test)]
@@ -15,12 +14,20 @@ mod choices;
 #[cfg(test)]
 mod commands;
 #[cfg(test)]
+mod directory;
+#[cfg(test)]
+mod fields;
+#[cfg(test)]
 mod known_boards;
+#[cfg(test)]
+mod messages;
 #[cfg(test)]
 mod refusals;
 #[cfg(test)]
 mod rows;
 #[cfg(test)]
 mod slow;
+#[cfg(test)]
+mod texts;
 #[cfg(test)]
 mod turns;

@@ -1,4 +1,5 @@
-//! Scripts of events, run by the model of a server: `fibs replay` runs one, and prints the log of the world.
+//! Scripts of events, run by the model of a server: `fibs replay` runs one, and prints the log of the world; `fibs loop`
+//! plays one over the sockets of one machine, and prints the same.
 #![tactic(auto)]
 
 ghost use Rattle.std.specs.Prelude.{◌≡◌, ◌≤◌, ◌+◌, ◌∷◌, ◌⊎◌, ℕ, List, true, length, IfOk, IfSome, IfNone, IsErrOf};
@@ -13,6 +14,7 @@ ghost use Rattle.fibs_scripts.specs.Output.{LoggedInPart, Replayed, ReplayedInPa
 ghost use Rattle.fibs_replay.specs.Running.{PrintedFor};
 ghost use Rattle.fibs_scripts.specs.Scripts.{SayScript, script_limit, script_lines};
 
+pub mod play_loop;
 pub mod run;
 
 use bstr::Lines;

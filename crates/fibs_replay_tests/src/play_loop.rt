@@ -1,11 +1,12 @@
 //! Scripts that are played over real sockets.
 
-use super::replay::{
-    LARGER, LOGS_IN, LOST_PLAY, NO_DOUBLE, ORDER_AFTER_THE_BOARD, OTHER, RESIGNATION, ROLL,
-    SECOND_CLICK, STANDING_ORDER, assert_is, assert_so_far, replayed,
+use crate::boards::{MUST_ROLL, OF_OTHERS, ONE_STEP, TO_ROLL};
+use crate::replay::{
+    LOGS_IN, LOST_PLAY, ORDER_AFTER_THE_BOARD, RESIGNATION, SECOND_CLICK, STANDING_ORDER,
+    assert_is, assert_so_far, replayed,
 };
 use fibs_engine::fault::EngineFault;
-use fibs_loop::play_loop;
+use fibs_replay::play_loop::play_loop;
 use fibs_test_tools::outcome::Outcome;
 use fibs_test_tools::pipe::{After, Pipe};
 use fibs_test_tools::text::joined;
@@ -24,20 +25,24 @@ struct Case {
 static CONNECTIONS: [Case; 6] = [
     Case {
         name: "a loss that keeps half a line",
-        script: &[LARGER, LOGS_IN, b"click move 24-18\nlose 11\nserve 1 1 1\n"],
+        script: &[
+            ONE_STEP,
+            LOGS_IN,
+            b"click move 24-18\nlose 11\nserve 1 1 1\n",
+        ],
         status: 3,
         end: b"move 24-18\nrefused 10 5 NothingToServe\n",
     },
     Case {
         name: "two connections at once",
-        script: &[ROLL, b"\nopen\nopen\n"],
+        script: &[TO_ROLL, b"\nopen\nopen\n"],
         status: 3,
         end: b"opened 1\nrefused 1 2 AlreadyOpen\n",
     },
     Case {
         name: "bytes without a connection",
         script: &[
-            ROLL,
+            TO_ROLL,
             b"\nclick roll\nplain who\nrepeat\ntext hello\ndeliver 1\n",
         ],
         status: 3,
@@ -45,20 +50,20 @@ static CONNECTIONS: [Case; 6] = [
     },
     Case {
         name: "a connection that never was",
-        script: &[ROLL, b"\nopen\nserve 2 0 0\n"],
+        script: &[TO_ROLL, b"\nopen\nserve 2 0 0\n"],
         status: 3,
         end: b"opened 1\nrefused 1 4 NoSuchConnection\n",
     },
     Case {
         name: "dice that are none",
-        script: &[ROLL, b"\nopen\nserve 1 1 1\nserve 1 6 7\n"],
+        script: &[TO_ROLL, b"\nopen\nserve 1 1 1\nserve 1 6 7\n"],
         status: 3,
         end: b"loggedin 1\nrefused 2 9 BadDice\n",
     },
     Case {
         name: "an older connection",
         script: &[
-            ROLL,
+            TO_ROLL,
             b"\nopen\nplain who\nlose 10000\nopen\nserve 2 1 1\nserve 1 1 1\n",
         ],
         status: 3,
@@ -69,38 +74,38 @@ static CONNECTIONS: [Case; 6] = [
 static BOARDS: [Case; 6] = [
     Case {
         name: "a board of the server's own where the user decides",
-        script: &[ROLL, b"\nown ", LARGER],
+        script: &[TO_ROLL, b"\nown ", ONE_STEP],
         status: 3,
         end: b"refused 0 6 UserDecides\n",
     },
     Case {
         name: "a board as a text",
-        script: &[ROLL, b"\ntext > board\ntext > ", LARGER],
+        script: &[TO_ROLL, b"\ntext > board\ntext > ", ONE_STEP],
         status: 3,
         end: b"refused 1 7 BoardAsText\n",
     },
     Case {
         name: "a line that is no event",
-        script: &[ROLL, b"\nopen\ndance\nopen"],
+        script: &[TO_ROLL, b"\nopen\ndance\nopen"],
         status: 3,
         end: b"script 3\n",
     },
     Case {
         name: "a first board of another player",
-        script: &[OTHER, b"\nopen\n"],
+        script: &[OF_OTHERS, b"\nopen\n"],
         status: 3,
         end: b"refused 0 8 BadBoard\n",
     },
     Case {
         name: "a click before the connection",
-        script: &[ROLL, b"\nclick roll", LOGS_IN],
+        script: &[TO_ROLL, b"\nclick roll", LOGS_IN],
         status: 0,
         end: b"end 9\n",
     },
     Case {
         name: "a roll of an order that a loss leaves on its way",
         script: &[
-            NO_DOUBLE,
+            MUST_ROLL,
             LOGS_IN,
             b"order roll\nrepeat\ndeliver 10000\nlose 6\nwithdraw roll\nserve 1 6 2\nopen\nwithdraw roll\n",
         ],
@@ -268,5 +273,5 @@ fn a_standing_order_is_played_under_refused_memory(rt: HostRuntime) {
 /// The log grows between the two entries of one event: then neither is printed.
 #[test]
 fn a_click_before_the_connection_is_played_under_refused_memory(rt: HostRuntime) {
-    assert_played_again(&rt, &[ROLL, b"\nclick roll", LOGS_IN], 0, b"end 9\n");
+    assert_played_again(&rt, &[TO_ROLL, b"\nclick roll", LOGS_IN], 0, b"end 9\n");
 }

@@ -1,4 +1,6 @@
 //! Scripts from end to end: what is printed for them, and how they end.
+
+use crate::boards::{DOUBLED, MUST_ROLL, OF_OTHERS, ONE_STEP, ROLLED, STEPPED, TO_MOVE, TO_ROLL};
 use fibs_engine::fault::EngineFault;
 use fibs_replay::replay;
 use fibs_test_tools::devices::FailsOnce;
@@ -7,35 +9,6 @@ use fibs_test_tools::pipe::{After, FAULT, Pipe};
 use fibs_test_tools::text::joined;
 use std::alloc::{AllocError, Global};
 use std::process::Abort;
-
-/// A board on which the player rolls or doubles, and the same with the dice 6 and 2.
-pub const ROLL: &[u8] =
-    b"board:You:bob:3:0:1:0:-2:0:0:0:0:5:0:3:0:0:0:-5:5:0:0:0:-3:0:-5:0:0:0:0:2:0:1:0:0:0:0:1:1:1:0:1:-1:0:25:0:0:0:0:0:0:0:0";
-
-const DICE: &[u8] =
-    b"board:You:bob:3:0:1:0:-2:0:0:0:0:5:0:3:0:0:0:-5:5:0:0:0:-3:0:-5:0:0:0:0:2:0:1:6:2:0:0:1:1:1:0:1:-1:0:25:0:0:0:0:0:0:0:0";
-
-/// A board on which the larger die alone can be played, and the board after that play.
-pub const LARGER: &[u8] =
-    b"board:You:bob:5:0:0:0:0:0:0:0:0:0:0:0:0:0:0:0:-2:0:0:0:0:0:0:0:0:0:0:1:0:1:6:5:0:0:1:1:1:0:1:-1:0:25:14:13:0:0:1:0:0:0";
-
-const MOVED: &[u8] =
-    b"board:You:bob:5:0:0:0:0:0:0:0:0:0:0:0:0:0:0:0:-2:0:0:0:0:1:0:0:0:0:0:0:0:-1:0:0:0:0:1:1:1:0:1:-1:0:25:14:13:0:0:1:0:0:0";
-
-/// The board on which he rolls or doubles, with the turn given to the opponent.
-const GIVEN: &[u8] =
-    b"board:You:bob:3:0:1:0:-2:0:0:0:0:5:0:3:0:0:0:-5:5:0:0:0:-3:0:-5:0:0:0:0:2:0:-1:0:0:0:0:1:1:1:0:1:-1:0:25:0:0:0:0:0:0:0:0";
-
-/// A board on which the player rolls and may not double, and the same with the dice 6 and 2.
-pub const NO_DOUBLE: &[u8] =
-    b"board:You:bob:3:0:1:0:-2:0:0:0:0:5:0:3:0:0:0:-5:5:0:0:0:-3:0:-5:0:0:0:0:2:0:1:0:0:0:0:1:0:1:0:1:-1:0:25:0:0:0:0:0:0:0:0";
-
-const NO_DOUBLE_DICE: &[u8] =
-    b"board:You:bob:3:0:1:0:-2:0:0:0:0:5:0:3:0:0:0:-5:5:0:0:0:-3:0:-5:0:0:0:0:2:0:1:6:2:0:0:1:0:1:0:1:-1:0:25:0:0:0:0:0:0:0:0";
-
-/// A board whose player is not `You`.
-pub const OTHER: &[u8] =
-    b"board:ann:bob:3:0:1:0:-2:0:0:0:0:5:0:3:0:0:0:-5:5:0:0:0:-3:0:-5:0:0:0:0:2:0:1:0:0:0:0:1:1:1:0:1:-1:0:25:0:0:0:0:0:0:0:0";
 
 /// Eight events behind the first board: the client logs in, is welcomed and informed, and is shown the board twice.
 pub const LOGS_IN: &[u8] = b"
@@ -90,35 +63,35 @@ pub fn assert_is(
 
 /// A second click before the answer comes, and one after it; at the end nothing is left to serve.
 pub static SECOND_CLICK: &[&[u8]] = &[
-    ROLL,
+    TO_ROLL,
     LOGS_IN,
     b"click roll\nclick roll\nserve 1 6 2\ndeliver 10000\nclick roll\nserve 1 1 1\n",
 ];
 
 static SECOND_CLICK_PRINTED: &[&[u8]] = &[
     b"opened 1\nloggedin 1\nwelcomed 1\ninformed 1 0 0\nshown 1 ",
-    ROLL,
+    TO_ROLL,
     b"\nshown 1 ",
-    ROLL,
+    TO_ROLL,
     b"\nclicked 1 ok\nsent 1 ",
-    ROLL,
+    TO_ROLL,
     b" roll\nclicked 1 Waiting\ntook 1 ",
-    ROLL,
+    TO_ROLL,
     b" roll\nshown 1 ",
-    DICE,
+    TO_MOVE,
     b"\nclicked 1 WrongKind\nrefused 13 5 NothingToServe\n",
 ];
 
 /// A resignation, a click before its answer, and one after it; at the end nothing is left to serve.
 pub static RESIGNATION: &[&[u8]] = &[
-    ROLL,
+    TO_ROLL,
     LOGS_IN,
     b"click resign g\nclick roll\nserve 1 6 2\ndeliver 10000\nclick roll\nserve 1 1 1\n",
 ];
 
 /// A play that a loss leaves on its way; the next connection is shown what came of it.
 pub static LOST_PLAY: &[&[u8]] = &[
-    LARGER,
+    ONE_STEP,
     LOGS_IN,
     b"click move 24-18\nlose 10000\nserve 1 1 1\n",
     LOGS_IN_AGAIN,
@@ -127,19 +100,19 @@ pub static LOST_PLAY: &[&[u8]] = &[
 
 static LOST_PLAY_PRINTED: &[&[u8]] = &[
     b"opened 1\nloggedin 1\nwelcomed 1\ninformed 1 0 0\nshown 1 ",
-    LARGER,
+    ONE_STEP,
     b"\nshown 1 ",
-    LARGER,
+    ONE_STEP,
     b"\nclicked 1 ok\nsent 1 ",
-    LARGER,
+    ONE_STEP,
     b" move 24-18\nlost 1 ",
-    LARGER,
+    ONE_STEP,
     b" move 24-18\ntook 1 ",
-    LARGER,
+    ONE_STEP,
     b" move 24-18\nopened 2\nloggedin 2\nwelcomed 2\ninformed 2 0 0\nshown 2 ",
-    MOVED,
+    STEPPED,
     b"\nshown 2 ",
-    MOVED,
+    STEPPED,
     b"\nclicked 2 NotYours\nend 20\n",
 ];
 
@@ -159,28 +132,28 @@ deliver 10000
 
 /// The client rolls by itself on the first of two boards that come together; then the order is withdrawn.
 pub static STANDING_ORDER: &[&[u8]] = &[
-    NO_DOUBLE,
+    MUST_ROLL,
     LOGS_IN_ORDERED,
     b"click roll\nserve 1 6 2\nwithdraw roll\ndeliver 10000\n",
 ];
 
 static STANDING_ORDER_PRINTED: &[&[u8]] = &[
     b"opened 1\nordered 1\nloggedin 1\nwelcomed 1\ninformed 1 0 0\nshown 1 ",
-    NO_DOUBLE,
+    MUST_ROLL,
     b"\nsent 1 ",
-    NO_DOUBLE,
+    MUST_ROLL,
     b" roll\nshown 1 ",
-    NO_DOUBLE,
+    MUST_ROLL,
     b"\nclicked 1 Waiting\ntook 1 ",
-    NO_DOUBLE,
+    MUST_ROLL,
     b" roll\nwithdrawn 1\nshown 1 ",
-    NO_DOUBLE_DICE,
+    ROLLED,
     b"\nend 14\n",
 ];
 
 /// An order on a board that is shown, which is then shown again.
 pub static ORDER_AFTER_THE_BOARD: &[&[u8]] = &[
-    NO_DOUBLE,
+    MUST_ROLL,
     LOGS_IN,
     b"order roll\nrepeat\ndeliver 10000\n",
 ];
@@ -220,15 +193,15 @@ fn a_second_click_sends_nothing(rt: HostRuntime) {
 
 static RESIGNATION_PRINTED: &[&[u8]] = &[
     b"opened 1\nloggedin 1\nwelcomed 1\ninformed 1 0 0\nshown 1 ",
-    ROLL,
+    TO_ROLL,
     b"\nshown 1 ",
-    ROLL,
+    TO_ROLL,
     b"\nclicked 1 ok\nsent 1 ",
-    ROLL,
+    TO_ROLL,
     b" resign g\nclicked 1 Waiting\ntook 1 ",
-    ROLL,
+    TO_ROLL,
     b" resign g\nshown 1 ",
-    GIVEN,
+    DOUBLED,
     b"\nclicked 1 NotYours\nrefused 13 5 NothingToServe\n",
 ];
 
@@ -251,7 +224,7 @@ fn a_play_that_a_loss_leaves_on_its_way_is_served(rt: HostRuntime) {
 
 /// A play whose command is cut in half by a loss, and which is clicked again.
 static HALF_A_COMMAND: &[&[u8]] = &[
-    LARGER,
+    ONE_STEP,
     LOGS_IN,
     b"click move 24-18\nlose 3\n",
     LOGS_IN_AGAIN,
@@ -260,19 +233,19 @@ static HALF_A_COMMAND: &[&[u8]] = &[
 
 static HALF_A_COMMAND_PRINTED: &[&[u8]] = &[
     b"opened 1\nloggedin 1\nwelcomed 1\ninformed 1 0 0\nshown 1 ",
-    LARGER,
+    ONE_STEP,
     b"\nshown 1 ",
-    LARGER,
+    ONE_STEP,
     b"\nclicked 1 ok\nsent 1 ",
-    LARGER,
+    ONE_STEP,
     b" move 24-18\nlost 1 ",
-    LARGER,
+    ONE_STEP,
     b" move 24-18\nopened 2\nloggedin 2\nwelcomed 2\ninformed 2 0 0\nshown 2 ",
-    LARGER,
+    ONE_STEP,
     b"\nshown 2 ",
-    LARGER,
+    ONE_STEP,
     b"\nclicked 2 ok\nsent 2 ",
-    LARGER,
+    ONE_STEP,
     b" move 24-18\nrefused 19 5 NothingToServe\n",
 ];
 
@@ -300,13 +273,13 @@ fn a_standing_order_rolls_once(rt: HostRuntime) {
 
 static ORDER_AFTER_THE_BOARD_PRINTED: &[&[u8]] = &[
     b"opened 1\nloggedin 1\nwelcomed 1\ninformed 1 0 0\nshown 1 ",
-    NO_DOUBLE,
+    MUST_ROLL,
     b"\nshown 1 ",
-    NO_DOUBLE,
+    MUST_ROLL,
     b"\nordered 1\nshown 1 ",
-    NO_DOUBLE,
+    MUST_ROLL,
     b"\nsent 1 ",
-    NO_DOUBLE,
+    MUST_ROLL,
     b" roll\nend 11\n",
 ];
 
@@ -324,22 +297,22 @@ fn an_order_on_a_board_that_is_shown_waits_for_the_next_board(rt: HostRuntime) {
 
 static ORDER_THAT_MAY_DOUBLE_PRINTED: &[&[u8]] = &[
     b"opened 1\nordered 1\nloggedin 1\nwelcomed 1\ninformed 1 0 0\nshown 1 ",
-    ROLL,
+    TO_ROLL,
     b"\nshown 1 ",
-    ROLL,
+    TO_ROLL,
     b"\nend 10\n",
 ];
 
 #[test]
 fn an_order_does_not_roll_where_the_player_may_double(rt: HostRuntime) {
     let printed = ORDER_THAT_MAY_DOUBLE_PRINTED;
-    let script = [ROLL, LOGS_IN_ORDERED];
+    let script = [TO_ROLL, LOGS_IN_ORDERED];
     assert_replayed(&rt, "an order that may double", &script, 0, printed);
 }
 
 /// An order on a connection that is lost, and another connection.
 static ORDER_BEFORE_A_LOSS: &[&[u8]] = &[
-    NO_DOUBLE,
+    MUST_ROLL,
     LOGS_IN_ORDERED,
     b"lose 0\nwithdraw roll\norder roll\n",
     LOGS_IN_AGAIN,
@@ -348,17 +321,17 @@ static ORDER_BEFORE_A_LOSS: &[&[u8]] = &[
 
 static ORDER_BEFORE_A_LOSS_PRINTED: &[&[u8]] = &[
     b"opened 1\nordered 1\nloggedin 1\nwelcomed 1\ninformed 1 0 0\nshown 1 ",
-    NO_DOUBLE,
+    MUST_ROLL,
     b"\nsent 1 ",
-    NO_DOUBLE,
+    MUST_ROLL,
     b" roll\nshown 1 ",
-    NO_DOUBLE,
+    MUST_ROLL,
     b"\nlost 1 ",
-    NO_DOUBLE,
+    MUST_ROLL,
     b" roll\nopened 2\nloggedin 2\nwelcomed 2\ninformed 2 0 0\nshown 2 ",
-    NO_DOUBLE,
+    MUST_ROLL,
     b"\nshown 2 ",
-    NO_DOUBLE,
+    MUST_ROLL,
     b"\nend 22\n",
 ];
 
@@ -381,40 +354,40 @@ type Row = (&'static [&'static [u8]], u8, &'static [u8]);
 static UNREADABLE: [Row; 6] = [
     (&[], 3, b"script 1\n"),
     (&[b"open\n"], 3, b"script 1\n"),
-    (&[ROLL, b"\nopen\ndance"], 3, b"script 3\n"),
-    (&[ROLL, b"\r\nopen\r\nopen\r"], 3, b"script 3\n"),
-    (&[OTHER, b"\nopen\n"], 3, b"refused 0 8 BadBoard\n"),
-    (&[OTHER, b"\nopen\n\n"], 3, b"script 3\n"),
+    (&[TO_ROLL, b"\nopen\ndance"], 3, b"script 3\n"),
+    (&[TO_ROLL, b"\r\nopen\r\nopen\r"], 3, b"script 3\n"),
+    (&[OF_OTHERS, b"\nopen\n"], 3, b"refused 0 8 BadBoard\n"),
+    (&[OF_OTHERS, b"\nopen\n\n"], 3, b"script 3\n"),
 ];
 
 /// Scripts of few events of a connection, most of them with one that is refused.
 static SHORT: [Row; 9] = [
-    (&[ROLL], 0, b"end 0\n"),
-    (&[ROLL, b"\r\nopen\r\n"], 0, b"opened 1\nend 1\n"),
+    (&[TO_ROLL], 0, b"end 0\n"),
+    (&[TO_ROLL, b"\r\nopen\r\n"], 0, b"opened 1\nend 1\n"),
     (
-        &[ROLL, b"\nopen\nopen"],
+        &[TO_ROLL, b"\nopen\nopen"],
         3,
         b"opened 1\nrefused 1 2 AlreadyOpen\n",
     ),
-    (&[ROLL, b"\ndeliver 0\n"], 3, b"refused 0 3 NotOpen\n"),
-    (&[ROLL, b"\nlose 1\n"], 3, b"refused 0 3 NotOpen\n"),
+    (&[TO_ROLL, b"\ndeliver 0\n"], 3, b"refused 0 3 NotOpen\n"),
+    (&[TO_ROLL, b"\nlose 1\n"], 3, b"refused 0 3 NotOpen\n"),
     (
-        &[ROLL, b"\nserve 0 1 1\n"],
+        &[TO_ROLL, b"\nserve 0 1 1\n"],
         3,
         b"refused 0 4 NoSuchConnection\n",
     ),
     (
-        &[ROLL, b"\nserve 1 0 0\n"],
+        &[TO_ROLL, b"\nserve 1 0 0\n"],
         3,
         b"refused 0 4 NoSuchConnection\n",
     ),
     (
-        &[ROLL, b"\nopen\nserve 1 0 7\n"],
+        &[TO_ROLL, b"\nopen\nserve 1 0 7\n"],
         3,
         b"opened 1\nrefused 1 9 BadDice\n",
     ),
     (
-        &[ROLL, b"\nopen\nserve 1 1 1\nserve 1 1 1\n"],
+        &[TO_ROLL, b"\nopen\nserve 1 1 1\nserve 1 1 1\n"],
         3,
         b"opened 1\nloggedin 1\nrefused 2 5 NothingToServe\n",
     ),
@@ -422,14 +395,30 @@ static SHORT: [Row; 9] = [
 
 /// The same of boards, texts and commands.
 static SHOWN: [Row; 7] = [
-    (&[ROLL, b"\nown ", DICE], 3, b"refused 0 6 UserDecides\n"),
-    (&[ROLL, b"\nown ", OTHER], 3, b"refused 0 8 BadBoard\n"),
-    (&[MOVED, b"\nown ", OTHER], 3, b"refused 0 8 BadBoard\n"),
-    (&[MOVED, b"\nown ", DICE], 0, b"end 1\n"),
-    (&[ROLL, b"\ntext ", ROLL], 3, b"refused 0 7 BoardAsText\n"),
-    (&[ROLL, b"\ntext ", OTHER], 0, b"end 1\n"),
     (
-        &[ROLL, b"\nclick roll\nplain who\n"],
+        &[TO_ROLL, b"\nown ", TO_MOVE],
+        3,
+        b"refused 0 6 UserDecides\n",
+    ),
+    (
+        &[TO_ROLL, b"\nown ", OF_OTHERS],
+        3,
+        b"refused 0 8 BadBoard\n",
+    ),
+    (
+        &[STEPPED, b"\nown ", OF_OTHERS],
+        3,
+        b"refused 0 8 BadBoard\n",
+    ),
+    (&[STEPPED, b"\nown ", TO_MOVE], 0, b"end 1\n"),
+    (
+        &[TO_ROLL, b"\ntext ", TO_ROLL],
+        3,
+        b"refused 0 7 BoardAsText\n",
+    ),
+    (&[TO_ROLL, b"\ntext ", OF_OTHERS], 0, b"end 1\n"),
+    (
+        &[TO_ROLL, b"\nclick roll\nplain who\n"],
         0,
         b"clicked 0 Offline\nend 2\n",
     ),
@@ -454,7 +443,12 @@ fn events_that_may_not_be(rt: HostRuntime) {
 }
 
 /// The parts of a script of so many bytes as may be but one, each of them so many times.
-static LONG: [(&[u8], usize); 4] = [(ROLL, 1), (b"\n", 1), (b"repeat\n", 149_779), (b"\n\n", 1)];
+static LONG: [(&[u8], usize); 4] = [
+    (TO_ROLL, 1),
+    (b"\n", 1),
+    (b"repeat\n", 149_779),
+    (b"\n\n", 1),
+];
 
 /// Appends that script.
 fn append_long(script: &mut Vec<u8>) -> Result<(), AllocError> {
@@ -484,9 +478,9 @@ fn a_long_script_is_not_run(rt: HostRuntime) {
 
 #[test]
 fn nothing_is_printed_after_a_failed_read(rt: HostRuntime) {
-    let outcome = replayed_into(rt.alloc(), ROLL, 50, FAULT, 4096);
+    let outcome = replayed_into(rt.alloc(), TO_ROLL, 50, FAULT, 4096);
     let ending = Err(EngineFault::Device);
-    assert_is(&rt, "a failed read", ROLL.len(), &outcome, ending, b"");
+    assert_is(&rt, "a failed read", TO_ROLL.len(), &outcome, ending, b"");
 }
 
 /// If so many bytes may be printed, these are the first of what is printed else.
@@ -530,7 +524,7 @@ fn assert_written_before(rt: &(impl Abort + AllocGlobal), script: &[u8], before:
 
 #[test]
 fn nothing_is_written_after_a_failed_write_of_a_log(rt: HostRuntime) {
-    let script = joined(&[ROLL, b"\nopen\nlose 1\nopen\nlose 1\n"]);
+    let script = joined(&[TO_ROLL, b"\nopen\nlose 1\nopen\nlose 1\n"]);
     for before in 0..10 {
         assert_written_before(&rt, &script, before);
     }

@@ -1,4 +1,6 @@
 //! Scripts: which lines are which events, the first line that is unreadable, and the lines of the log.
+
+use crate::boards::{TO_MOVE_UP, TO_ROLL};
 use arrayvec::ArrayVec;
 use fibs_messages::Board;
 use fibs_model::{Entry, Event};
@@ -11,10 +13,6 @@ use fibs_session::{Outstanding, Plain, Refusal};
 use fibs_test_tools::pipe::{After, FAULT, Pipe};
 use std::alloc::Global;
 use std::process::Abort;
-
-/// A board on which the player is to roll.
-const ROLL: &[u8] =
-    b"board:You:bob:3:0:1:0:-2:0:0:0:0:5:0:3:0:0:0:-5:5:0:0:0:-3:0:-5:0:0:0:0:2:0:1:0:0:0:0:1:1:1:0:1:-1:0:25:0:0:0:0:0:0:0:0";
 
 /// Lines that say no event: with no word of an event, or with more than a word.
 static NO_WORDS: [&[u8]; 10] = [
@@ -196,30 +194,30 @@ fn plays_are_clicked_in_own_numbers(rt: HostRuntime) {
 
 #[test]
 fn boards_are_owned_with_spaces_at_the_end(rt: HostRuntime) {
-    let own = Event::Own(read_board(ROLL).expect(&rt, "it is a board"));
+    let own = Event::Own(read_board(TO_ROLL).expect(&rt, "it is a board"));
     for end in &[b"".as_slice(), b"  "] {
-        assert_says(&rt, &line_with(b"own ", ROLL, end), &own);
+        assert_says(&rt, &line_with(b"own ", TO_ROLL, end), &own);
     }
-    assert_unreadable(&rt, &[&line_with(b"own ", ROLL, b"  \r")]);
+    assert_unreadable(&rt, &[&line_with(b"own ", TO_ROLL, b"  \r")]);
 }
 
 /// The first line of a script, what follows it, and the number of the first line that is unreadable, if there is one.
 static SCRIPTS: [(&[u8], &[u8], Option<usize>); 18] = [
-    (ROLL, b"", None),
-    (ROLL, b"\n", None),
-    (ROLL, b"\r\n", None),
-    (ROLL, b"  \r\nopen", None),
-    (ROLL, b"\nopen\ntext \r\r\nrepeat\r\n", None),
-    (ROLL, b"\nopen\ndance", Some(3)),
-    (ROLL, b"\nopen\ndance\nprance\n", Some(3)),
-    (ROLL, b"\n\nopen\n", Some(2)),
-    (ROLL, b"\nopen\n\n", Some(3)),
-    (ROLL, b"\nopen\n ", Some(3)),
-    (ROLL, b"\nopen\r", Some(2)),
-    (ROLL, b"\nopen\r\r\n", Some(2)),
-    (ROLL, b"\r", Some(1)),
-    (ROLL, b"\r\r\nopen\n", Some(1)),
-    (ROLL, b":0\nopen\n", Some(1)),
+    (TO_ROLL, b"", None),
+    (TO_ROLL, b"\n", None),
+    (TO_ROLL, b"\r\n", None),
+    (TO_ROLL, b"  \r\nopen", None),
+    (TO_ROLL, b"\nopen\ntext \r\r\nrepeat\r\n", None),
+    (TO_ROLL, b"\nopen\ndance", Some(3)),
+    (TO_ROLL, b"\nopen\ndance\nprance\n", Some(3)),
+    (TO_ROLL, b"\n\nopen\n", Some(2)),
+    (TO_ROLL, b"\nopen\n\n", Some(3)),
+    (TO_ROLL, b"\nopen\n ", Some(3)),
+    (TO_ROLL, b"\nopen\r", Some(2)),
+    (TO_ROLL, b"\nopen\r\r\n", Some(2)),
+    (TO_ROLL, b"\r", Some(1)),
+    (TO_ROLL, b"\r\r\nopen\n", Some(1)),
+    (TO_ROLL, b":0\nopen\n", Some(1)),
     (b"", b"", Some(1)),
     (b"", b"\n", Some(1)),
     (b"open", b"\n", Some(1)),
@@ -328,10 +326,6 @@ fn entries_without_a_board(rt: HostRuntime) {
     }
 }
 
-/// A board on which the player goes up, from 1 to 24, with two dice of 3.
-const UP: &[u8] =
-    b"board:You:bob:5:0:0:0:0:0:0:0:-1:0:0:0:0:0:0:0:0:0:0:0:2:0:0:0:0:0:0:0:0:-1:3:3:0:0:1:1:1:0:-1:1:25:0:14:13:0:0:3:0:0:0";
-
 /// The word, the board and the end of a line.
 fn line_with(word: &[u8], board: &[u8], end: &[u8]) -> ArrayVec<u8, 512> {
     let mut line = ArrayVec::new();
@@ -379,9 +373,9 @@ fn entries_of(board: Board) -> [(Entry, &'static [u8], &'static [u8]); 4] {
 
 #[test]
 fn entries_with_a_board(rt: HostRuntime) {
-    let board = read_board(ROLL).expect(&rt, "it is a board");
+    let board = read_board(TO_ROLL).expect(&rt, "it is a board");
     for (entry, word, end) in &entries_of(board) {
-        assert_line(&rt, entry, word, ROLL, end);
+        assert_line(&rt, entry, word, TO_ROLL, end);
     }
 }
 
@@ -390,10 +384,16 @@ fn commands_are_in_the_numbers_of_their_own_board(rt: HostRuntime) {
     let steps = [(20, 17), (17, 14), (14, 11)];
     let undone = Entry::Undone {
         conn: 3,
-        board: read_board(UP).expect(&rt, "it is a board"),
+        board: read_board(TO_MOVE_UP).expect(&rt, "it is a board"),
         decision: Decision::Move(play_of(&steps).expect(&rt, "it is a play")),
     };
-    assert_line(&rt, &undone, b"undone 3 ", UP, b" move 5-8 8-11 11-14\n");
+    assert_line(
+        &rt,
+        &undone,
+        b"undone 3 ",
+        TO_MOVE_UP,
+        b" move 5-8 8-11 11-14\n",
+    );
 }
 
 /// Whether these bytes are read as a script, and whole or not as is wanted, or as none if that is wanted, in reads of

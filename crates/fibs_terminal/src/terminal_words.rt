@@ -8,10 +8,10 @@ ghost use Rattle.fibs_terminal.specs.Resting.{ShowsOffers};
 use crate::terminal::Terminal;
 use crate::terminal_front::write_text;
 use fibs_front::fault::FrontFault;
+use fibs_front::typed_line::TypedLine;
 use fibs_front::wish::Wish;
 use fibs_front::words::Words;
 use fibs_session::{Client, Directory};
-use fibs_typed::typed_line::TypedLine;
 use std::io::Write;
 use std::time::Clock;
 

@@ -4,7 +4,7 @@ ghost use Rattle.std.specs.Io.{ReadsAtMost, WritesAtMost};
 ghost use Rattle.std.specs.Io.KnownBytes.{ReadConsumes, WriteAppends};
 
 use crate::text::Text;
-use fibs_links::link::Link;
+use fibs_engine::link::Link;
 use std::io;
 use std::io::{ErrorKind, Read, Write};
 

@@ -2,7 +2,7 @@
 
 use crate::devices::FailsOnce;
 use crate::pipe::Pipe;
-use fibs_links::link::Link;
+use fibs_engine::link::Link;
 use std::io;
 use std::io::{Read, Write};
 

@@ -11,8 +11,8 @@ use Rattle.fibs_commands.specs.declared.plain.PlainFault.{PlainFault}
 use Rattle.fibs_commands.specs.declared.plain.PlainFault.TheVariants.{TooLong}
 use Rattle.std.specs.Io.KnownBytes.{prepend_known}
 use Rattle.fibs_engine.specs.declared.fault.EngineFault.{EngineFault}
-use Rattle.fibs_typed.specs.Typing.{typed_line}
-use Rattle.fibs_typed.specs.Reading.{TakesLine}
+use Rattle.fibs_front.specs.TypedLines.{typed_line}
+use Rattle.fibs_front.specs.TypedReads.{TakesLine}
 use Rattle.fibs_connect.specs.Converse.Ending.{EndsBy, ConversedOver}
 
 too_long : (text : List ℕ) → 64 < length text → password_fault text ≡ Some TooLong

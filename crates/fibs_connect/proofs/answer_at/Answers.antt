@@ -1,4 +1,4 @@
-use Rattle.fibs_typed.proofs.TypedLemmas.Spent.{spends_nothing, spends_more}
+use Rattle.fibs_front.proofs.TypedLemmas.Spent.{spends_nothing, spends_more}
 use Rattle.std.proofs.Common.{refl}
 use Rattle.fibs_connect.proofs.answer_at.Goals as goal
 

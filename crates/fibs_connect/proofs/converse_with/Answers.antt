@@ -4,7 +4,7 @@ use Rattle.std.proofs.KnownBytes.{Keeps-refl}
 use Rattle.fibs_commands.specs.Logins.{login_fault}
 use Rattle.fibs_engine.proofs.OkLemmas.{if_ok_weaker}
 use Rattle.fibs_connect.proofs.ConverseLemmas.Logins.{conversed_by}
-use Rattle.fibs_typed.proofs.TypedLemmas.Spent.{spends_more, spends_few}
+use Rattle.fibs_front.proofs.TypedLemmas.Spent.{spends_more, spends_few}
 use Rattle.fibs_connect.proofs.converse_with.Goals as goal
 
 pub returns-in-Err-clause-conversed : goal.returns-in-Err-clause-conversed

@@ -6,7 +6,7 @@ use Rattle.fibs_commands.specs.PlainFaults.{plain_fault_number, plain_fault_name
 use Rattle.fibs_commands.specs.declared.plain.PlainFault.{PlainFault}
 use Rattle.fibs_engine.specs.Printing.{line_bytes}
 use Rattle.fibs_front.specs.Lines.{reason_line}
-use Rattle.fibs_typed.specs.Typing.{typed_line}
+use Rattle.fibs_front.specs.TypedLines.{typed_line}
 use Rattle.fibs_engine.specs.declared.fault.EngineFault.{EngineFault}
 use Rattle.fibs_engine.specs.declared.fault.EngineFault.TheVariants as fault
 

@@ -1,2 +1,0 @@
--- Why numbers that are found right at once are right.
-pub mod LineLemmas

@@ -1,2 +1,0 @@
--- Numbers of a board's line.
-pub mod RightNumbers

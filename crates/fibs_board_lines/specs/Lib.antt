@@ -1,4 +1,0 @@
--- What checking a line answered.
-pub mod Checked
--- What only private functions and proofs say.
-pub mod RightNumbers

@@ -1,5 +1,0 @@
-//! Whether a line says a board, found without making one.
-#![tactic(auto)]
-
-pub mod check;
-mod quick;

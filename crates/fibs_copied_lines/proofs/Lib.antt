@@ -1,0 +1,3 @@
+-- Why numbers that are found right at once are right, and why a line whose fields are spelled as they are printed is a
+-- message's canonical line.
+pub mod LineLemmas

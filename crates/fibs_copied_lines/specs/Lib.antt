@@ -1,0 +1,5 @@
+-- What checking a line answered.
+pub mod Checked
+-- What only private functions and proofs say.
+pub mod RightNumbers
+pub mod Standing

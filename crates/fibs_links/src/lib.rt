@@ -1,9 +1,0 @@
-//! Connections to a server: streams of two directions, how they are dialled, and streams in between that pace a turn or
-//! keep a log.
-#![tactic(auto)]
-
-mod alive;
-pub mod dial;
-pub mod link;
-pub mod logging;
-pub mod pacing;

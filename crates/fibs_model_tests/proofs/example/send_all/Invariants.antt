@@ -1,9 +1,0 @@
-use Rattle.std.proofs.Common.{◌≡◌, ◌++◌, drop}
-use Rattle.fibs_session.specs.History.Machine.{wire_of}
-use Rattle.fibs_session.specs.Calls.SessionOf.{texts_of}
-use Rattle.fibs_model_tests.proofs.example.send_all.Given as goal
-
--- what is still to be written comes after what was written
-abbrev pub invariant-loop-command : goal.invariant-loop-command
-invariant-loop-command l =
-    l.wire.items ++ wire_of (texts_of (drop l.command-index l.commands)) ≡ l.fn.wire.items ++ wire_of (texts_of l.commands)

@@ -1,0 +1,155 @@
+//! A worked row of the world, and what no script can say of it: a text of more than one line, and how it goes on
+//! after a refused growth. More histories, worked out by hand, are told by the built program: tests/worlds.
+
+use crate::boards::*;
+use crate::lines::{INFO, WELCOME};
+use fibs_messages::Board;
+use fibs_model::{Event, World, WorldRefusal};
+use fibs_position::Decision;
+use fibs_session::Login;
+use std::process::Abort;
+
+fn board(line: &[u8]) -> Option<Board> {
+    Board::read(line).ok()
+}
+
+fn world(rt: &(impl Abort + AllocGlobal), line: &[u8]) -> World {
+    let board = board(line).expect(rt, "it is a board");
+    let login = Login::new(b"ann", b"secret").expect(rt, "it is a login");
+    World::new(rt.alloc(), board, login).expect(rt, "it is a good board")
+}
+
+#[test]
+fn a_text_of_two_lines_may_not_be(rt: HostRuntime) {
+    let mut world = world(&rt, TO_ROLL);
+    let is_refused = world.step(&Event::Text(b"a\nb")) == Err(WorldRefusal::BoardAsText);
+    assert!(rt; is_refused && world.log().is_empty() && world.shown().is_none());
+}
+
+/// How many of so many events are done, and the length of the log then, if none is refused.
+fn counts_of_runs(world: &mut World) -> Option<[usize; 3]> {
+    let repeated = world.run(&[Event::Repeat; 100]);
+    let clicked = world.run(&[Event::Click(Decision::Roll); 1000]);
+    if repeated.refusal.is_some() || clicked.refusal.is_some() {
+        return None;
+    }
+    Some([repeated.done, clicked.done, world.log().len()])
+}
+
+/// With ample memory a run ends where its events end, however many they are.
+#[test]
+fn a_long_run_is_whole(rt: HostRuntime) {
+    let mut world = world(&rt, TO_ROLL);
+    assert!(rt; counts_of_runs(&mut world) == Some([100, 1000, 1000]));
+}
+
+/// The events of a second click before the answer, and a line that is not there.
+fn clicked_twice() -> [Event<'static>; 14] {
+    let serve = Event::Serve {
+        conn: 1,
+        dice: [1, 1],
+    };
+    [
+        Event::Open,
+        serve,
+        Event::Text(WELCOME),
+        Event::Text(INFO),
+        Event::Deliver(10000),
+        serve,
+        serve,
+        Event::Deliver(10000),
+        Event::Click(Decision::Roll),
+        Event::Click(Decision::Roll),
+        Event::Serve {
+            conn: 1,
+            dice: [6, 2],
+        },
+        Event::Deliver(10000),
+        Event::Click(Decision::Roll),
+        serve,
+    ]
+}
+
+/// How many of the events are taken step by step, and why the next is refused.
+fn steps_taken(world: &mut World, events: &[Event<'_>]) -> (usize, Option<WorldRefusal>) {
+    for (place, event) in events.iter().enumerate() {
+        if let Err(refusal) = world.step(event) {
+            return (place, Some(refusal));
+        }
+    }
+    (events.len(), None)
+}
+
+/// How many of the events are done in a row, and why the next is refused.
+fn run_in_a_row(world: &mut World, events: &[Event<'_>]) -> (usize, Option<WorldRefusal>) {
+    let end = world.run(events);
+    (end.done, end.refusal)
+}
+
+/// Whether both worlds have a log of so many lines, and the first shows this board.
+fn are_at(world: &World, twin: &World, lines: usize, shown: &Board) -> bool {
+    world.log() == twin.log() && world.log().len() == lines && world.shown() == Some(shown)
+}
+
+/// Whether a run in a row, and one step by step, stop at the line that is not there.
+fn stop_alike(in_a_row: &mut World, stepwise: &mut World) -> bool {
+    let events = clicked_twice();
+    let wanted = (13, Some(WorldRefusal::NothingToServe));
+    let is_stopped = run_in_a_row(in_a_row, &events) == wanted;
+    is_stopped && steps_taken(stepwise, &events) == wanted
+}
+
+/// A run does the events before the first that is refused. Step by step each of them is taken, and the log is the same.
+#[test]
+fn a_run_stops_at_a_line_that_is_not_there(rt: HostRuntime) {
+    let mut in_a_row = world(&rt, TO_ROLL);
+    let mut stepwise = world(&rt, TO_ROLL);
+    let moves = board(TO_MOVE).expect(&rt, "it is a board");
+    let is_stopped = stop_alike(&mut in_a_row, &mut stepwise);
+    assert!(rt; is_stopped && are_at(&in_a_row, &stepwise, 12, &moves));
+}
+
+/// The events of a roll by an order that was given twice.
+fn ordered_twice() -> [Event<'static>; 14] {
+    let serve = Event::Serve {
+        conn: 1,
+        dice: [6, 2],
+    };
+    [
+        Event::Open,
+        Event::Order,
+        Event::Order,
+        serve,
+        Event::Text(WELCOME),
+        Event::Text(INFO),
+        Event::Deliver(10000),
+        serve,
+        serve,
+        Event::Deliver(10000),
+        Event::Click(Decision::Roll),
+        serve,
+        Event::Withdraw,
+        Event::Deliver(10000),
+    ]
+}
+
+/// How many of the events are done, and why one is refused, if the run goes on after a growth that is refused.
+fn run_on(world: &mut World, events: &[Event<'_>]) -> (usize, Option<WorldRefusal>) {
+    let (done, refusal) = run_in_a_row(world, events);
+    if refusal != Some(WorldRefusal::Memory) {
+        return (done, refusal);
+    }
+    let rest = events.get(done..).unwrap_or(&[]);
+    let (more, refusal) = run_in_a_row(world, rest);
+    (done.saturating_add(more), refusal)
+}
+
+/// A run that meets a refused growth says how many events were done, and a run of the others does them.
+#[test]
+fn a_run_goes_on_under_refused_memory(rt: HostRuntime) {
+    let mut world = world(&rt, MUST_ROLL);
+    let rolled = board(ROLLED).expect(&rt, "it is a board");
+    let is_done = run_on(&mut world, &ordered_twice()) == (14, None);
+    let is_shown = world.shown() == Some(&rolled);
+    assert!(rt; is_done && is_shown && world.log().len() == 12);
+}
