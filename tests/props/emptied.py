@@ -149,12 +149,14 @@ def copy_proof(folder, path, copy):
     if not os.path.isdir(old):
         return
     shutil.copytree(old, new)
-    named, renamed = (f"proofs.{it.replace('::', '.')}." for it in (path, copy))
+    # (a name that is a word of antt's stands in marks)
+    named = re.compile(r"\.".join(["proofs", *(f"«?{re.escape(it)}»?" for it in path.split("::")), ""]))
+    renamed = f"proofs.{copy.replace('::', '.')}."
     for written in os.listdir(new):
         with open(f"{new}/{written}", encoding="utf-8") as it:
             text = it.read()
         with open(f"{new}/{written}", "w", encoding="utf-8") as it:
-            it.write(text.replace(named, renamed))
+            it.write(named.sub(renamed, text))
 
 
 def may_be_copied(function, folder):

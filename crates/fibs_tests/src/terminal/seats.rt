@@ -1,0 +1,281 @@
+//! A client and a terminal, to which a server's lines and typed lines are given.
+
+use super::lines::FIRST_BOARD;
+use fibs_environment::Settings;
+use fibs_front::fault::FrontFault;
+use fibs_front::front::Front;
+use fibs_front::said::Said;
+use fibs_front::typed_line::TypedLine;
+use fibs_front::typing::{Typed, read_typed};
+use fibs_front::wish::Wish;
+use fibs_front::words::Words;
+use fibs_messages::Reading;
+use fibs_position::phase_of;
+use fibs_session::{Client, Directory, Login, Taken};
+use fibs_terminal::Terminal;
+use std::io;
+use std::io::{ErrorKind, Write};
+use std::process::Abort;
+use std::time::{Clock, Duration};
+
+/// A clock that stands still, at 13:07 on 5 January 2003.
+#[derive(Clone, Copy)]
+pub struct Stopped;
+
+impl Clock for Stopped {
+    fn monotonic(&self) -> io::Result<Duration> {
+        Ok(Duration::from_secs(0))
+    }
+
+    fn since_1970(&self) -> io::Result<Duration> {
+        Ok(Duration::from_secs(1_041_772_020))
+    }
+}
+
+/// What happens at a seat.
+#[derive(Clone, Copy)]
+pub enum Step<'a> {
+    /// The server sends a line.
+    Hears(&'a [u8]),
+    /// The user types a line.
+    Types(&'a [u8]),
+    /// The terminal lets the user type.
+    Rests,
+    /// A connection is made.
+    Opens,
+    /// No connection can be made.
+    Fails,
+    /// The connection is over.
+    Loses,
+}
+
+/// The settings of a plain terminal of 80 columns.
+pub fn plain_settings() -> Settings<'static> {
+    Settings {
+        columns: 80,
+        colour: false,
+        bell: false,
+        utf8: false,
+        offset: 0,
+        host: b"fibs.com",
+        port: 4321,
+    }
+}
+
+/// A client, and the players that it knows.
+#[derive(Drop)]
+struct Seat {
+    client: Client,
+    directory: Directory,
+}
+
+impl Seat {
+    /// The seat of a user who is connected.
+    fn new(rt: &(impl Abort + AllocGlobal)) -> Seat {
+        let login = Login::new(b"ann", b"secret").expect(rt, "it is a login");
+        let mut client = Client::new(login);
+        let _login = client.open();
+        let directory = Directory::new(rt.alloc());
+        Seat { client, directory }
+    }
+
+    /// Tells what the server says by a line.
+    fn hear<F: Front>(&mut self, line: &[u8], front: &mut F) -> Result<(), FrontFault> {
+        let heard = self.client.read(line);
+        match self.client.got(heard).taken {
+            Some(taken) => tell_taken(&mut self.directory, &taken, front),
+            None => Ok(()),
+        }
+    }
+
+    /// Gives a line to the client, and tells what it answers.
+    fn say<F: Front>(&mut self, line: &[u8], front: &mut F) -> Result<(), FrontFault> {
+        match read_typed(&self.client, line) {
+            Typed::Decision(decision) => front.tell(&match &self.client.decide(&decision) {
+                Ok(command) => Said::Sent(command),
+                Err(why) => Said::Refused(*why),
+            }),
+            Typed::Plain(plain) => front.tell(&match &self.client.plain(&plain) {
+                Ok(command) => Said::Sent(command),
+                Err(why) => Said::NotSent(*why),
+            }),
+            Typed::Order | Typed::Withdrawal => Ok(()),
+            Typed::Unknown => front.tell(&Said::Unknown),
+        }
+    }
+
+    /// Takes a line that is typed.
+    fn take_line<F: Words>(&mut self, line: &[u8], front: &mut F) -> Result<(), FrontFault> {
+        let mut typed = TypedLine::new();
+        let _fits = typed.try_extend_from_slice(line);
+        match front.wish(&self.client, &self.directory, &mut typed)? {
+            Wish::Say => self.say(typed.as_slice(), front),
+            Wish::Send => front.tell(&Said::Passed(typed.as_slice())),
+            Wish::Open
+            | Wish::Players
+            | Wish::Quit
+            | Wish::TooLong
+            | Wish::Listen
+            | Wish::Answered => Ok(()),
+        }
+    }
+
+    /// Takes a step.
+    fn take_step<F: Words>(&mut self, step: Step<'_>, front: &mut F) -> Result<(), FrontFault> {
+        match step {
+            Step::Hears(line) => self.hear(line, front),
+            Step::Types(line) => self.take_line(line, front),
+            Step::Rests => front.rest(&self.client, &self.directory),
+            Step::Opens => {
+                let _login = self.client.open();
+                front.tell(&Said::Opened)
+            }
+            Step::Fails => front.tell(&Said::NoConnection(ErrorKind::ConnectionRefused)),
+            Step::Loses => front.tell(&Said::Lost(&self.client.lose())),
+        }
+    }
+
+    /// Takes steps one after another.
+    fn take_steps<F: Words>(
+        &mut self,
+        steps: &[Step<'_>],
+        front: &mut F,
+    ) -> Result<(), FrontFault> {
+        for step in steps {
+            self.take_step(*step, front)?;
+        }
+        Ok(())
+    }
+
+    /// Takes some steps, and those after them.
+    fn take_both<F: Words>(
+        &mut self,
+        before: &[Step<'_>],
+        steps: &[Step<'_>],
+        front: &mut F,
+    ) -> Result<(), FrontFault> {
+        self.take_steps(before, front)?;
+        self.take_steps(steps, front)
+    }
+}
+
+/// Tells what was taken of a line.
+fn tell_taken<F: Front>(
+    directory: &mut Directory,
+    taken: &Taken<'_>,
+    front: &mut F,
+) -> Result<(), FrontFault> {
+    front.tell(&Said::Heard(&taken.line, &taken.reading))?;
+    note(directory, &taken.reading, front)?;
+    match &taken.confirmed {
+        Some(asked) => front.tell(&Said::Confirmed(asked)),
+        None => Ok(()),
+    }
+}
+
+/// Tells the phase of a board, and notes a player.
+fn note<F: Front>(
+    directory: &mut Directory,
+    reading: &Reading<'_>,
+    front: &mut F,
+) -> Result<(), FrontFault> {
+    match reading {
+        Reading::Board(board) => match phase_of(board) {
+            Some(phase) => front.tell(&Said::Phase(phase)),
+            None => Ok(()),
+        },
+        Reading::Numbered(message) => match directory.note(message) {
+            Ok(_) => Ok(()),
+            Err(_) => Err(FrontFault::Output),
+        },
+        _ => Ok(()),
+    }
+}
+
+/// What the screen shows after some steps and those after them, of a user who is connected.
+pub fn shown(
+    rt: &(impl Abort + AllocGlobal),
+    settings: Settings<'_>,
+    before: &[Step<'_>],
+    steps: &[Step<'_>],
+) -> String {
+    let mut shown = Vec::new(rt.alloc());
+    show_on(rt, settings, before, steps, &mut shown).expect(rt, "it is shown");
+    String::from_utf8(shown).expect(rt, "it is UTF-8")
+}
+
+/// The same on any writer.
+pub fn show_on<W: Write + Drop>(
+    rt: &(impl Abort + AllocGlobal),
+    settings: Settings<'_>,
+    before: &[Step<'_>],
+    steps: &[Step<'_>],
+    out: W,
+) -> Result<(), FrontFault> {
+    let mut terminal = Terminal::new(rt.alloc(), out, Stopped, settings);
+    Seat::new(rt).take_both(before, steps, &mut terminal)
+}
+
+/// Asserts that a text is as it is wanted.
+pub fn assert_wanted(rt: &impl Abort, is_wanted: bool, text: &str, wanted: &str) {
+    assert!(rt; is_wanted, "wanted {wanted}, and there is {text}");
+}
+
+/// Asserts that a text is answered as it should be.
+pub fn assert_of(rt: &impl Abort, is_right: bool, text: &[u8]) {
+    assert!(rt; is_right, "{text:?}");
+}
+
+/// Asserts what the screen shows after some steps.
+pub fn assert_shows(
+    rt: &(impl Abort + AllocGlobal),
+    settings: Settings<'_>,
+    steps: &[Step<'_>],
+    wanted: &str,
+) {
+    let text = shown(rt, settings, &[], steps);
+    assert_wanted(rt, text.as_str() == wanted, &text, wanted);
+}
+
+/// Asserts that what the screen shows after some steps and those after them ends by these rows.
+pub fn assert_ends(
+    rt: &(impl Abort + AllocGlobal),
+    settings: Settings<'_>,
+    before: &[Step<'_>],
+    steps: &[Step<'_>],
+    rows: &str,
+) {
+    let text = shown(rt, settings, before, steps);
+    assert_wanted(rt, text.ends_with(rows), &text, rows);
+}
+
+/// Steps, and the last rows that are shown then.
+pub type Scene = (&'static [Step<'static>], &'static str);
+
+/// Asserts for each scene that what the screen shows from the first board on ends by its rows.
+pub fn assert_scenes(rt: &(impl Abort + AllocGlobal), settings: Settings<'_>, scenes: &[Scene]) {
+    for (steps, rows) in scenes {
+        assert_ends(rt, settings, &FIRST_BOARD, steps, rows);
+    }
+}
+
+/// Asserts that what the screen shows after steps has each of these rows.
+pub fn assert_has(
+    rt: &(impl Abort + AllocGlobal),
+    settings: Settings<'_>,
+    steps: &[Step<'_>],
+    rows: &[&str],
+) {
+    let text = shown(rt, settings, &[], steps);
+    for row in rows {
+        assert_wanted(rt, text.contains(*row), &text, row);
+    }
+}
+
+/// The settings of a terminal of 80 columns, with colours.
+pub fn colour_settings() -> Settings<'static> {
+    Settings {
+        colour: true,
+        ..plain_settings()
+    }
+}
