@@ -1,6 +1,7 @@
 //! Boards of both colours and directions, with the view of their player and what a roll, a double, an answer or a
 //! resignation makes of them. The expected values are worked out from the rules alone, by another program.
 
+use crate::boards::PASSING;
 use crate::cases::{Case, check};
 use crate::choices::Choice;
 use fibs_position::{Direction, Phase, Stake};
@@ -358,7 +359,7 @@ static RESIGNATIONS: [Case; 7] = [
     },
     Case {
         name: "a resignation is carried out if no checker can be played",
-        board: b"board:You:bob:5:0:0:0:0:0:0:0:0:14:0:0:0:0:0:0:0:0:0:0:0:0:-2:-2:-2:-2:-2:-2:1:1:3:1:0:0:1:1:1:0:1:-1:0:25:0:3:1:0:0:0:0:0",
+        board: PASSING,
         own: &[(6, 14), (25, 1)],
         other: &[
             (19, 2),

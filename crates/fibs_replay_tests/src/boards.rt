@@ -71,3 +71,15 @@ pub(crate) const OF_OTHERS: &[u8] =
 /// The user has 16 checkers.
 pub(crate) const TOO_MANY: &[u8] =
     b"board:You:bob:3:0:1:0:-2:0:0:0:0:5:0:3:0:0:0:-5:5:0:0:0:-3:0:-5:0:0:0:0:2:0:1:0:0:0:0:1:1:1:0:1:-1:0:25:1:0:0:0:0:0:0:0";
+
+/// He has rolled 6 and 5, and both orders of them reach one arrangement.
+pub(crate) const TWO_ORDERS: &[u8] =
+    b"board:You:bob:5:0:0:0:0:-2:0:0:0:0:0:0:0:0:0:0:0:0:0:0:0:0:0:0:0:0:0:1:0:1:6:5:0:0:1:1:1:0:1:-1:0:25:14:13:0:0:2:0:0:0";
+
+/// He has rolled a pair of 1, for two checkers.
+pub(crate) const FOUR_ONES: &[u8] =
+    b"board:You:bob:5:0:0:0:0:0:0:1:0:0:0:1:0:0:0:0:0:0:0:0:0:0:0:0:0:0:0:-2:0:1:1:1:0:0:1:1:1:0:1:-1:0:25:13:13:0:0:2:0:0:0";
+
+/// He has rolled 6 and 2, on a board as a server sent it.
+pub(crate) const AS_SENT: &[u8] =
+    b"board:You:someplayer:3:0:1:0:-2:0:0:0:0:5:0:3:0:0:0:-5:5:0:0:0:-3:0:-5:0:0:0:0:2:0:1:6:2:0:0:1:1:1:0:1:-1:0:25:0:0:0:0:2:0:0:0";

@@ -1,14 +1,11 @@
 //! What of boards, names and numbers the library for C does not show. Worked lines are read in tests/rows.
 
+use crate::boards::AS_SENT;
 use arrayvec::ArrayVec;
 use fibs_copied_lines::check::check_board;
 use fibs_messages::laws::{print_reads_back, prints_tell_boards};
 use fibs_messages::{Board, Fault, FieldFault, Name, read_decimal, split};
 use std::process::Abort;
-
-/// A board line as the server sends it.
-const LINE: &[u8] =
-    b"board:You:someplayer:3:0:1:0:-2:0:0:0:0:5:0:3:0:0:0:-5:5:0:0:0:-3:0:-5:0:0:0:0:2:0:1:6:2:0:0:1:1:1:0:1:-1:0:25:0:0:0:0:2:0:0:0";
 
 /// How many fields it has.
 const FIELDS: usize = 53;
@@ -16,7 +13,7 @@ const FIELDS: usize = 53;
 /// That line with another text in one field.
 fn line_with(field: usize, text: &[u8]) -> ArrayVec<u8, 512> {
     let mut line = ArrayVec::new();
-    let mut rest = LINE;
+    let mut rest = AS_SENT;
     for number in 1..FIELDS + 1 {
         let (piece, after) = split(rest, b':');
         let _room = line.try_extend_from_slice(if number == field { text } else { piece });
@@ -31,7 +28,7 @@ fn line_with(field: usize, text: &[u8]) -> ArrayVec<u8, 512> {
 /// Whether the line with this end says a board, and is the real line but for spaces at its end.
 fn is_copied_with(end: &[u8]) -> bool {
     match check_board(line_with(FIELDS, end).as_slice()) {
-        Ok(copied) => copied == LINE,
+        Ok(copied) => copied == AS_SENT,
         Err(_) => false,
     }
 }
@@ -74,7 +71,7 @@ static REFUSED: [(usize, i32); 8] = [
 ];
 
 fn board(rt: &impl Abort) -> Board {
-    Board::read(LINE).ok().expect(rt, "the line is read")
+    Board::read(AS_SENT).ok().expect(rt, "the line is read")
 }
 
 /// Whether a board with its turn changed is printed so, whether the two are told apart by their lines, and by
@@ -188,7 +185,7 @@ fn a_decimal_up_to_a_limit_is_read(rt: HostRuntime) {
 fn is_appended(board: &Board, out: &mut Vec<u8>) -> bool {
     let before = out.len();
     let wanted = match board.print_into(out) {
-        Ok(()) => LINE,
+        Ok(()) => AS_SENT,
         Err(_) => b"",
     };
     out.get(before..) == Some(wanted)

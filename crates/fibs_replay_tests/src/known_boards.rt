@@ -1,5 +1,6 @@
 //! A few boards that are known completely: their positions, and their later boards.
 
+use crate::boards::{AS_SENT, PASSING, TO_BEAR_OFF, TO_HIT, TO_MOVE, TO_ROLL};
 use crate::cases::{Case, check};
 use crate::choices::Choice;
 use fibs_messages::Board;
@@ -8,7 +9,7 @@ use fibs_position::{Decision, Direction, Phase, Position, effect};
 static KNOWN: [Case; 7] = [
     Case {
         name: "a board in the middle of a turn",
-        board: b"board:You:someplayer:3:0:1:0:-2:0:0:0:0:5:0:3:0:0:0:-5:5:0:0:0:-3:0:-5:0:0:0:0:2:0:1:6:2:0:0:1:1:1:0:1:-1:0:25:0:0:0:0:2:0:0:0",
+        board: AS_SENT,
         own: &[(6, 5), (8, 3), (13, 5), (24, 2)],
         other: &[(1, 2), (12, 5), (17, 3), (19, 5)],
         direction: Direction::Down,
@@ -19,7 +20,7 @@ static KNOWN: [Case; 7] = [
     },
     Case {
         name: "a roll",
-        board: b"board:You:bob:3:0:1:0:-2:0:0:0:0:5:0:3:0:0:0:-5:5:0:0:0:-3:0:-5:0:0:0:0:2:0:1:0:0:0:0:1:1:1:0:1:-1:0:25:0:0:0:0:0:0:0:0",
+        board: TO_ROLL,
         own: &[(6, 5), (8, 3), (13, 5), (24, 2)],
         other: &[(1, 2), (12, 5), (17, 3), (19, 5)],
         direction: Direction::Down,
@@ -30,7 +31,7 @@ static KNOWN: [Case; 7] = [
     },
     Case {
         name: "a roll without a die",
-        board: b"board:You:bob:3:0:1:0:-2:0:0:0:0:5:0:3:0:0:0:-5:5:0:0:0:-3:0:-5:0:0:0:0:2:0:1:0:0:0:0:1:1:1:0:1:-1:0:25:0:0:0:0:0:0:0:0",
+        board: TO_ROLL,
         own: &[(6, 5), (8, 3), (13, 5), (24, 2)],
         other: &[(1, 2), (12, 5), (17, 3), (19, 5)],
         direction: Direction::Down,
@@ -41,7 +42,7 @@ static KNOWN: [Case; 7] = [
     },
     Case {
         name: "an answer if no double is open",
-        board: b"board:You:bob:3:0:1:0:-2:0:0:0:0:5:0:3:0:0:0:-5:5:0:0:0:-3:0:-5:0:0:0:0:2:0:1:0:0:0:0:1:1:1:0:1:-1:0:25:0:0:0:0:0:0:0:0",
+        board: TO_ROLL,
         own: &[(6, 5), (8, 3), (13, 5), (24, 2)],
         other: &[(1, 2), (12, 5), (17, 3), (19, 5)],
         direction: Direction::Down,
@@ -52,7 +53,7 @@ static KNOWN: [Case; 7] = [
     },
     Case {
         name: "the last two are borne off",
-        board: b"board:You:bob:5:0:0:0:0:1:1:0:0:0:0:0:0:0:0:0:-2:0:0:0:0:0:0:0:0:0:0:0:0:1:6:5:0:0:1:1:1:0:1:-1:0:25:13:13:0:0:2:0:0:0",
+        board: TO_BEAR_OFF,
         own: &[(0, 13), (2, 1), (3, 1)],
         other: &[(13, 2), (25, 13)],
         direction: Direction::Down,
@@ -63,7 +64,7 @@ static KNOWN: [Case; 7] = [
     },
     Case {
         name: "a hit by a double six",
-        board: b"board:You:bob:5:0:0:0:0:0:0:0:0:0:0:0:0:0:0:-2:0:0:0:0:0:-1:0:0:0:0:0:1:0:1:6:6:0:0:1:1:1:0:1:-1:0:25:14:12:0:0:1:0:0:0",
+        board: TO_HIT,
         own: &[(0, 14), (24, 1)],
         other: &[(12, 2), (18, 1), (25, 12)],
         direction: Direction::Down,
@@ -74,7 +75,7 @@ static KNOWN: [Case; 7] = [
     },
     Case {
         name: "all entry places are held: one is on the bar, and none can enter",
-        board: b"board:You:bob:5:0:0:0:0:0:0:0:0:14:0:0:0:0:0:0:0:0:0:0:0:0:-2:-2:-2:-2:-2:-2:1:1:3:1:0:0:1:1:1:0:1:-1:0:25:0:3:1:0:0:0:0:0",
+        board: PASSING,
         own: &[(6, 14), (25, 1)],
         other: &[
             (19, 2),
@@ -93,15 +94,6 @@ static KNOWN: [Case; 7] = [
     },
 ];
 
-const BEFORE_ROLL: &[u8] =
-    b"board:You:bob:3:0:1:0:-2:0:0:0:0:5:0:3:0:0:0:-5:5:0:0:0:-3:0:-5:0:0:0:0:2:0:1:0:0:0:0:1:1:1:0:1:-1:0:25:0:0:0:0:0:0:0:0";
-
-const AFTER_ROLL: &[u8] =
-    b"board:You:bob:3:0:1:0:-2:0:0:0:0:5:0:3:0:0:0:-5:5:0:0:0:-3:0:-5:0:0:0:0:2:0:1:6:2:0:0:1:1:1:0:1:-1:0:25:0:0:0:0:0:0:0:0";
-
-const BEFORE_HIT: &[u8] =
-    b"board:You:bob:5:0:0:0:0:0:0:0:0:0:0:0:0:0:0:-2:0:0:0:0:0:-1:0:0:0:0:0:1:0:1:6:6:0:0:1:1:1:0:1:-1:0:25:14:12:0:0:1:0:0:0";
-
 #[test]
 fn known_boards(rt: HostRuntime) {
     check(&rt, &KNOWN);
@@ -110,8 +102,8 @@ fn known_boards(rt: HostRuntime) {
 /// The board after a roll is the one that the server shows then.
 #[test]
 fn a_roll_leads_to_the_board_shown_next(rt: HostRuntime) {
-    let before = Board::read(BEFORE_ROLL).expect(&rt, "it is a board");
-    let shown = Board::read(AFTER_ROLL).expect(&rt, "it is a board");
+    let before = Board::read(TO_ROLL).expect(&rt, "it is a board");
+    let shown = Board::read(TO_MOVE).expect(&rt, "it is a board");
     assert!(rt; effect(&before, &Decision::Roll, [6, 2]) == Some(shown));
 }
 
@@ -130,7 +122,7 @@ fn counts_of(after: &Board) -> Option<[u8; 3]> {
 /// The checker that was hit is on the bar of the opponent.
 #[test]
 fn a_hit_checker_goes_to_the_bar(rt: HostRuntime) {
-    let before = Board::read(BEFORE_HIT).expect(&rt, "it is a board");
+    let before = Board::read(TO_HIT).expect(&rt, "it is a board");
     let after = hit(&before).expect(&rt, "it is carried out");
     let is_hit = counts_of(&after) == Some([1, 1, 0]);
     assert!(rt;

@@ -1,5 +1,6 @@
 //! What stays as it was if memory is refused, and the answers to boards that have no position or another player.
 
+use crate::boards::TO_ROLL;
 use crate::rows::{Row, position, rows};
 use fibs_messages::Board;
 use fibs_position::{Decision, Position, Stake, differs, effect};
@@ -119,9 +120,7 @@ fn nothing_is_carried_out_without_a_position(rt: HostRuntime) {
 /// A client sees no board of another player, so no caller in C does.
 #[test]
 fn boards_do_not_differ_in_the_player(rt: HostRuntime) {
-    let first = Board::read(
-        b"board:You:bob:3:0:1:0:-2:0:0:0:0:5:0:3:0:0:0:-5:5:0:0:0:-3:0:-5:0:0:0:0:2:0:1:0:0:0:0:1:1:1:0:1:-1:0:25:0:0:0:0:0:0:0:0",
-    ).expect(&rt, "it is a board");
+    let first = Board::read(TO_ROLL).expect(&rt, "it is a board");
     let player = Board::read(
         b"board:Yet:bob:3:0:1:0:-2:0:0:0:0:5:0:3:0:0:0:-5:5:0:0:0:-3:0:-5:0:0:0:0:2:0:1:0:0:0:0:1:1:1:0:1:-1:0:25:0:0:0:0:0:0:0:0",
     ).expect(&rt, "it is a board");

@@ -1,5 +1,8 @@
 //! Worked rows of positions: the phase, how many dice are played at most, the plays, and what may be decided.
 
+use crate::boards::{
+    FOUR_ONES, ONE_STEP, PASSING, TO_ANSWER, TO_BEAR_OFF, TO_HIT, TO_MOVE_UP, TO_ROLL, TWO_ORDERS,
+};
 use crate::choices::{Choice, play};
 use fibs_messages::Board;
 use fibs_position::{Decision, Disallowed, Phase, Play, Position, Stake};
@@ -24,7 +27,7 @@ pub struct Row {
 static SHORT: [Row; 3] = [
     Row {
         name: "either die can be played, both can't: the larger",
-        board: b"board:You:bob:5:0:0:0:0:0:0:0:0:0:0:0:0:0:0:0:-2:0:0:0:0:0:0:0:0:0:0:1:0:1:6:5:0:0:1:1:1:0:1:-1:0:25:14:13:0:0:1:0:0:0",
+        board: ONE_STEP,
         phase: Phase::Move,
         most: 1,
         plays: &[&[(24, 18)]],
@@ -46,7 +49,7 @@ static SHORT: [Row; 3] = [
     },
     Row {
         name: "bearing off, the highest first",
-        board: b"board:You:bob:5:0:0:0:0:1:1:0:0:0:0:0:0:0:0:0:-2:0:0:0:0:0:0:0:0:0:0:0:0:1:6:5:0:0:1:1:1:0:1:-1:0:25:13:13:0:0:2:0:0:0",
+        board: TO_BEAR_OFF,
         phase: Phase::Move,
         most: 2,
         plays: &[&[(3, 0), (2, 0)]],
@@ -61,7 +64,7 @@ static SHORT: [Row; 3] = [
 static HELD: [Row; 3] = [
     Row {
         name: "all entry places are held",
-        board: b"board:You:bob:5:0:0:0:0:0:0:0:0:14:0:0:0:0:0:0:0:0:0:0:0:0:-2:-2:-2:-2:-2:-2:1:1:3:1:0:0:1:1:1:0:1:-1:0:25:0:3:1:0:0:0:0:0",
+        board: PASSING,
         phase: Phase::Passing,
         most: 0,
         plays: &[],
@@ -76,7 +79,7 @@ static HELD: [Row; 3] = [
     },
     Row {
         name: "three of four equal dice, for a player who goes up",
-        board: b"board:You:bob:5:0:0:0:0:0:0:0:-1:0:0:0:0:0:0:0:0:0:0:0:2:0:0:0:0:0:0:0:0:-1:3:3:0:0:1:1:1:0:-1:1:25:0:14:13:0:0:3:0:0:0",
+        board: TO_MOVE_UP,
         phase: Phase::Move,
         most: 3,
         plays: &[&[(20, 17), (17, 14), (14, 11)]],
@@ -87,7 +90,7 @@ static HELD: [Row; 3] = [
     },
     Row {
         name: "both orders reach one arrangement",
-        board: b"board:You:bob:5:0:0:0:0:-2:0:0:0:0:0:0:0:0:0:0:0:0:0:0:0:0:0:0:0:0:0:1:0:1:6:5:0:0:1:1:1:0:1:-1:0:25:14:13:0:0:2:0:0:0",
+        board: TWO_ORDERS,
         phase: Phase::Move,
         most: 2,
         plays: &[&[(24, 19), (19, 13)]],
@@ -112,7 +115,7 @@ static LISTED: [Row; 3] = [
     },
     Row {
         name: "two checkers by four ones",
-        board: b"board:You:bob:5:0:0:0:0:0:0:1:0:0:0:1:0:0:0:0:0:0:0:0:0:0:0:0:0:0:0:-2:0:1:1:1:0:0:1:1:1:0:1:-1:0:25:13:13:0:0:2:0:0:0",
+        board: FOUR_ONES,
         phase: Phase::Move,
         most: 4,
         plays: &[
@@ -125,7 +128,7 @@ static LISTED: [Row; 3] = [
     },
     Row {
         name: "a hit by a double six",
-        board: b"board:You:bob:5:0:0:0:0:0:0:0:0:0:0:0:0:0:0:-2:0:0:0:0:0:-1:0:0:0:0:0:1:0:1:6:6:0:0:1:1:1:0:1:-1:0:25:14:12:0:0:1:0:0:0",
+        board: TO_HIT,
         phase: Phase::Move,
         most: 1,
         plays: &[&[(24, 18)]],
@@ -137,7 +140,7 @@ static LISTED: [Row; 3] = [
 static CUBE: [Row; 2] = [
     Row {
         name: "a double is to be answered, with the cube at its limit",
-        board: b"board:You:bob:3:0:1:0:-2:0:0:0:0:5:0:3:0:0:0:-5:5:0:0:0:-3:0:-5:0:0:0:0:2:0:1:0:0:0:0:1048576:1:1:1:1:-1:0:25:0:0:0:0:0:0:0:0",
+        board: TO_ANSWER,
         phase: Phase::AnswerDouble,
         most: 0,
         plays: &[],
@@ -150,7 +153,7 @@ static CUBE: [Row; 2] = [
     },
     Row {
         name: "before the roll",
-        board: b"board:You:bob:3:0:1:0:-2:0:0:0:0:5:0:3:0:0:0:-5:5:0:0:0:-3:0:-5:0:0:0:0:2:0:1:0:0:0:0:1:1:1:0:1:-1:0:25:0:0:0:0:0:0:0:0",
+        board: TO_ROLL,
         phase: Phase::RollOrDouble,
         most: 0,
         plays: &[],

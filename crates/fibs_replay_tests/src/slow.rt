@@ -1,6 +1,7 @@
 //! A slow search for plays, as the rules say it: all runs, then the longest, then one for each arrangement that they
 //! lead to, found by a search from the front. The list of a position is compared with it.
 
+use crate::boards::{AS_SENT, FOUR_ONES, ONE_STEP, TO_BEAR_OFF, TO_HIT, TO_MOVE_UP, TWO_ORDERS};
 use crate::rows::position;
 use fibs_position::{Play, Position, Step};
 use std::alloc::{AllocError, Global};
@@ -241,41 +242,13 @@ static BOARDS: [(&[u8], [u8; 2], usize); 9] = [
         [3, 3],
         73,
     ),
-    (
-        b"board:You:bob:5:0:0:0:0:0:0:1:0:0:0:1:0:0:0:0:0:0:0:0:0:0:0:0:0:0:0:-2:0:1:1:1:0:0:1:1:1:0:1:-1:0:25:13:13:0:0:2:0:0:0",
-        [1, 1],
-        4,
-    ),
-    (
-        b"board:You:bob:5:0:0:0:0:0:0:0:0:0:0:0:0:0:0:0:-2:0:0:0:0:0:0:0:0:0:0:1:0:1:6:5:0:0:1:1:1:0:1:-1:0:25:14:13:0:0:1:0:0:0",
-        [6, 5],
-        1,
-    ),
-    (
-        b"board:You:bob:5:0:0:0:0:-2:0:0:0:0:0:0:0:0:0:0:0:0:0:0:0:0:0:0:0:0:0:1:0:1:6:5:0:0:1:1:1:0:1:-1:0:25:14:13:0:0:2:0:0:0",
-        [6, 5],
-        1,
-    ),
-    (
-        b"board:You:bob:5:0:0:0:0:1:1:0:0:0:0:0:0:0:0:0:-2:0:0:0:0:0:0:0:0:0:0:0:0:1:6:5:0:0:1:1:1:0:1:-1:0:25:13:13:0:0:2:0:0:0",
-        [6, 5],
-        1,
-    ),
-    (
-        b"board:You:bob:5:0:0:0:0:0:0:0:-1:0:0:0:0:0:0:0:0:0:0:0:2:0:0:0:0:0:0:0:0:-1:3:3:0:0:1:1:1:0:-1:1:25:0:14:13:0:0:3:0:0:0",
-        [3, 3],
-        1,
-    ),
-    (
-        b"board:You:bob:5:0:0:0:0:0:0:0:0:0:0:0:0:0:0:-2:0:0:0:0:0:-1:0:0:0:0:0:1:0:1:6:6:0:0:1:1:1:0:1:-1:0:25:14:12:0:0:1:0:0:0",
-        [6, 6],
-        1,
-    ),
-    (
-        b"board:You:someplayer:3:0:1:0:-2:0:0:0:0:5:0:3:0:0:0:-5:5:0:0:0:-3:0:-5:0:0:0:0:2:0:1:6:2:0:0:1:1:1:0:1:-1:0:25:0:0:0:0:2:0:0:0",
-        [6, 2],
-        14,
-    ),
+    (FOUR_ONES, [1, 1], 4),
+    (ONE_STEP, [6, 5], 1),
+    (TWO_ORDERS, [6, 5], 1),
+    (TO_BEAR_OFF, [6, 5], 1),
+    (TO_MOVE_UP, [3, 3], 1),
+    (TO_HIT, [6, 6], 1),
+    (AS_SENT, [6, 2], 14),
 ];
 
 /// How many plays the list of the position of a line has, and a slow search finds, if the plays of the list are found by
