@@ -19,28 +19,16 @@ import threading
 import time
 
 from props import peeking
+from props.checks import PATIENCE, Failed, same
 from props.server import OWN_INFO, WHO_INFO, Game, Server
 
 PROGRAM = sys.argv[1]
-
-# How long a line may take to come, on a machine that does much else.
-PATIENCE = 60
 
 WELCOME = '1 ann 1041253132 localhost'
 
 LOGIN = 'login fibs_client 1008 ann secret'
 
 STYLE = 'set boardstyle 3'
-
-
-class Failed(Exception):
-    """What came is not what had to come."""
-
-
-def same(what, found, wanted):
-    """They have to be the same."""
-    if found != wanted:
-        raise Failed('%s: %r, and not %r' % (what, found, wanted))
 
 
 class Player:

@@ -14,8 +14,9 @@ import subprocess
 import sys
 import threading
 
+from props.checks import PATIENCE, Failed, same
 from props.server import OWN_INFO, WHO_INFO, Game, Server
-from connect import LOGIN, PATIENCE, PROGRAM, STYLE, WELCOME, Failed, Player, greeted, logged_in, play, same
+from connect import LOGIN, PROGRAM, STYLE, WELCOME, Player, greeted, logged_in, play
 
 # The most memory that the program may hold, in kilobytes.
 MOST_MEMORY = 10000

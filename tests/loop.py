@@ -14,11 +14,9 @@ import sys
 import time
 
 from props import peeking
+from props.checks import PATIENCE, Failed, same
 
 PROGRAM = sys.argv[1]
-
-# How long a step may take, on a machine that does much else.
-PATIENCE = 60
 
 BOARD = ('board:You:bob:5:0:0:0:0:0:0:0:0:0:0:0:0:0:0:0:-2:0:0:0:0:0:0:0:0:0:0:1:0:1:0:0:0:0:1:1:1:0:1:-1:0:25:14:13:0:0'
          ':1:0:0:0')
@@ -30,16 +28,6 @@ LOGIN = b'login fibs_client 1008 ann secret\r\n'
 HERE = '0100007F'
 
 LISTENS = '0A'
-
-
-class Failed(Exception):
-    """What came is not what had to come."""
-
-
-def same(what, found, wanted):
-    """They have to be the same."""
-    if found != wanted:
-        raise Failed('%s: %r, and not %r' % (what, found, wanted))
 
 
 def script(*events):

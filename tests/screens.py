@@ -19,8 +19,9 @@ import tempfile
 import threading
 import time
 
-from props.server import OWN_INFO, WHO_INFO, Game, Server
-from props.terminals import PATIENCE, Failed, Terminal, same
+from props.checks import PATIENCE, Failed, same
+from props.server import OWN_INFO, Game, Server
+from props.terminals import Terminal
 
 PROGRAM = os.path.realpath(sys.argv[1])
 

@@ -15,6 +15,7 @@ import sys
 import tempfile
 
 from props import meanings
+from props.checks import Failed, same
 
 ROOT = pathlib.Path(__file__).resolve().parent.parent
 
@@ -39,16 +40,6 @@ PHASES = ['Over', 'AnswerDouble', 'OpponentActs', 'RollOrDouble', 'Move', 'Passi
 
 # The endings of which the page says more than of the others: those of fibs-play.
 SIGNALS = ['129', '130', '131', '143']
-
-
-class Failed(Exception):
-    """What is said in one place is not what is said in another."""
-
-
-def same(what, found, wanted):
-    """They have to be the same."""
-    if found != wanted:
-        raise Failed('%s: %r, and not %r' % (what, found, wanted))
 
 
 def text_of(path):

@@ -4,7 +4,6 @@ A client reads each line by tests/props/reference.py, which has the formats and 
 the board alone, as docs/FORMATS.md has its phases. Each line is checked as it comes.
 """
 
-import os
 import pathlib
 import random
 import re
@@ -18,19 +17,7 @@ ROOT = pathlib.Path(__file__).resolve().parent.parent.parent
 sys.path.insert(0, str(ROOT / 'tests'))
 
 from props import reference
-
-# How long something may take to come, on a machine that does much else.
-PATIENCE = 60
-
-
-class Failed(Exception):
-    """What came is not what was to come."""
-
-
-def same(what, found, wanted):
-    """They have to be the same."""
-    if found != wanted:
-        raise Failed('%s: %r, and not %r' % (what, found, wanted))
+from props.checks import PATIENCE, Failed, same
 
 
 class Served:

@@ -27,7 +27,7 @@ def tried(scene):
     try:
         scene()
         return ''
-    except (people.Failed, people.Crashed, OSError, subprocess.SubprocessError, ValueError, LookupError) as error:
+    except (people.Failed, OSError, subprocess.SubprocessError, ValueError, LookupError) as error:
         return str(error)[:600] or repr(error)
 
 

@@ -15,8 +15,8 @@ ROOT = pathlib.Path(__file__).resolve().parent.parent.parent
 sys.path[:0] = [str(ROOT / 'tests'), str(ROOT / 'tests' / 'server')]
 
 from clients import Client, Served
-from clients import Failed as Crashed
-from props.terminals import PATIENCE, Failed, Terminal, same
+from props.checks import PATIENCE, Failed, same
+from props.terminals import Terminal
 
 PROGRAM = os.path.realpath(sys.argv[1]) if len(sys.argv) > 1 else ''
 
