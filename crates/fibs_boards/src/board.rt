@@ -5,6 +5,7 @@ ghost use Rattle.std.specs.Prelude.{length, IfOk, IfErr, OnOk, OnErr, drop, opti
 ghost use Rattle.fibs_boards.specs.StoredParts.{parts};
 ghost use Rattle.fibs_fields.specs.Bytes.{name_bytes};
 ghost use Rattle.fibs_boards.specs.BoardProp.{IsBoard-prop};
+ghost use Rattle.fibs_fields.specs.FieldReading.{natural};
 ghost use Rattle.fibs_fields.specs.Name.{is_name};
 ghost use Rattle.arrayvec.specs.ArrayVec.{array_vec_len};
 ghost use Rattle.fibs_boards.specs.Board.{BoardFields, IsBoard, Fit, field_values, spelling, BoardText, Wrong};
@@ -141,6 +142,16 @@ impl Board {
         ensures off { 46 ≤ n → n ≤ 47 → (pos 0 ≤ℤ result) × (result ≤ℤ pos 15) }
     {
         self.numbers[n - 4]
+    }
+
+    /// A die, by the number of its field: 0 if it is not shown.
+    pub fn die(&self, n: usize) -> u8
+        requires low { 34 ≤ n }
+        requires high { n ≤ 37 }
+        ensures value { result ≡ natural (field_of (fields_of self.now) n) }
+        ensures high { result ≤ 6 }
+    {
+        self.field(n) as u8
     }
 
     /// The board with the number of field `n` changed. None if `n` is not 4 to 53, or the field can't have the

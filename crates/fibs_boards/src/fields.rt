@@ -2,12 +2,18 @@
 
 pub const MATCH_LENGTH: usize = 4;
 
+/// The length of an unlimited match.
+pub const UNLIMITED: i32 = 9999;
+
 pub const OWN_SCORE: usize = 5;
 
 pub const OTHER_SCORE: usize = 6;
 
 /// The first of places 0 to 25.
 pub const FIRST_PLACE: usize = 7;
+
+/// The last of them.
+pub const LAST_PLACE: usize = 32;
 
 pub const TURN: usize = 33;
 

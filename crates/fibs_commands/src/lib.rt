@@ -12,7 +12,7 @@ mod text;
 
 pub use answers::{autoboard_text, board_text, moreboards_text, roll_text, style_text};
 pub use command_reader::read_command;
-pub use decisions::decision_text;
+pub use decisions::{BAR, decision_text};
 pub use login::Login;
 pub use plain::{Plain, PlainFault, plain_text};
 pub use plain_reader::read_plain;

@@ -23,6 +23,7 @@ mod unfinished;
 
 pub use line::{Line, without_return};
 pub use lines::{Fed, Lines, WholeLine};
+pub use prompts::LOGIN_PROMPT;
 pub use sent::sent_line;
 
 /// How many bytes of a line are kept. The definitions have the same number, as `kept_limit`.

@@ -4,7 +4,8 @@ ghost use Rattle.std.specs.List.{starts_with};
 ghost use Rattle.std.specs.Prelude.{◌≡◌, ◌<◌, ◌≤◌, true, length, drop, nat_eq};
 ghost use Rattle.fibs_lines.specs.Lines.{without_prompts};
 
-const LOGIN: &[u8] = b"login: ";
+/// What the server prints when it waits for a login.
+pub const LOGIN_PROMPT: &[u8] = b"login: ";
 
 const COMMAND: &[u8] = b"> ";
 
@@ -25,8 +26,8 @@ pub(crate) fn prompts_len(line: &[u8]) -> usize
     let mut at = 0;
     loop {
         let rest = &line[at..];
-        if begins_with(rest, LOGIN) {
-            at += LOGIN.len();
+        if begins_with(rest, LOGIN_PROMPT) {
+            at += LOGIN_PROMPT.len();
         } else if begins_with(rest, COMMAND) {
             at += COMMAND.len();
         } else {
