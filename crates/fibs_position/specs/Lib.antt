@@ -5,6 +5,7 @@ pub mod OwnView
 pub mod GoodBoard
 pub mod GamePart
 pub mod PositionValue
+pub mod GameOf
 pub mod Phases
 pub mod DecisionValue
 pub mod BoardEffect

@@ -8,6 +8,7 @@ ghost use Rattle.std.specs.Prelude.{◌≡◌, IsErr, ◌<◌, ◌≤◌, Option
 ghost use Rattle.fibs_lines.specs.Lines.{kept_limit, rest_of};
 ghost use Rattle.fibs_boards.specs.StoredBoard.{fields_of};
 ghost use Rattle.fibs_position.specs.DecisionValue.{decision_of};
+ghost use Rattle.fibs_position.specs.GameOf.{game_of};
 ghost use Rattle.fibs_session.specs.Calls.Doing.{Does};
 ghost use Rattle.fibs_session.specs.Calls.Standing.{StandsAfter};
 ghost use Rattle.fibs_history.specs.Machine.{Talk, start, Open, Lose, Piece, Click, PlainInput, open_refusal};
@@ -30,7 +31,7 @@ use fibs_commands::{CommandText, Login, Plain};
 use fibs_history::{PlainRefusal, Refusal};
 use fibs_lines::Lines;
 use fibs_messages::Board;
-use fibs_position::Decision;
+use fibs_position::{Decision, GameBoard};
 pub use got::Got;
 use heard_line::Answer;
 pub use heard_line::HeardLine;
@@ -156,6 +157,13 @@ impl Client {
         ensures { (t : Talk) → StandsAfter self.now t → option_map fields_of (option_copied result) ≡ shown_now t }
     {
         self.session.shown()
+    }
+
+    /// The same board, with its position.
+    pub fn game(&self) -> Option<&GameBoard>
+        ensures { (t : Talk) → StandsAfter self.now t → option_map game_of (option_copied result) ≡ shown_now t }
+    {
+        self.session.game()
     }
 
     /// The decision that waits, with the board on which it was made.

@@ -54,8 +54,8 @@ impl Session {
         if self.waiting.is_some() {
             return Err(Refusal::Waiting);
         }
-        match shown.position.allows(decision) {
-            Ok(()) => Ok(&shown.board),
+        match shown.position().allows(decision) {
+            Ok(()) => Ok(shown.board()),
             Err(why) => Err(refusal_of(why)),
         }
     }

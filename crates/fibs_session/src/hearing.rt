@@ -7,6 +7,7 @@ ghost use Rattle.fibs_messages.specs.Line.{reading_of};
 ghost use Rattle.fibs_boards.specs.StoredBoard.{fields_of};
 ghost use Rattle.fibs_position.specs.DecisionValue.{roll};
 ghost use Rattle.fibs_position.specs.DirectionOf.{direction_of};
+ghost use Rattle.fibs_position.specs.GameOf.{game_of};
 ghost use Rattle.fibs_commands.specs.Commands.{command_of};
 ghost use Rattle.fibs_history.specs.Words.{one_if};
 ghost use Rattle.fibs_messages.specs.declared.message.Message.TheVariants.{OwnInfo as TheOwnInfo};
@@ -17,7 +18,6 @@ ghost use Rattle.fibs_history.specs.Hearing.{initial_commands, line_reading};
 ghost use Rattle.fibs_commands.specs.TextOf.{text_of};
 
 use crate::session::{ServerFlags, Session};
-use crate::shown_board::ShownBoard;
 use crate::taken::Outstanding;
 use arrayvec::ArrayVec;
 use fibs_commands::{
@@ -25,7 +25,7 @@ use fibs_commands::{
 };
 use fibs_lines::Line;
 use fibs_messages::{Board, Message, OwnInfo, Reading, is_board_line, message_number, read};
-use fibs_position::{Decision, differs};
+use fibs_position::{Decision, GameBoard, differs};
 
 /// What a session says to a line: the commands that are to be sent, the decision that is confirmed, and whether the
 /// standing order has rolled.
@@ -97,13 +97,13 @@ impl Session {
 
     /// A board that has a position was heard.
     #[inline(always)]
-    fn note_board(&mut self, heard: &ShownBoard) -> Option<Outstanding>
-        ensures fields { session_of self.new ≡ with_board (session_of self.old) (fields_of heard.now.board) }
-        ensures result { option_map ask_of result ≡ confirmed_of (session_of self.old) (fields_of heard.now.board) }
+    fn note_board(&mut self, heard: &GameBoard) -> Option<Outstanding>
+        ensures fields { session_of self.new ≡ with_board (session_of self.old) (game_of heard.now) }
+        ensures result { option_map ask_of result ≡ confirmed_of (session_of self.old) (game_of heard.now) }
     {
         let mut confirmed = None;
         if let Some(shown) = &self.shown {
-            if differs(&shown.board, &heard.board) {
+            if differs(shown.board(), heard.board()) {
                 confirmed = self.waiting;
                 self.waiting = None;
             }
@@ -154,21 +154,21 @@ impl Session {
     /// A board that has a position was heard. It is shown and confirms, and only then is the standing order asked: a
     /// decision that it confirms no longer waits.
     #[inline(always)]
-    fn note_shown(&mut self, heard: &ShownBoard) -> Reply
-        ensures fields { let v = with_board (session_of self.old) (fields_of heard.now.board) in
-            session_of self.new ≡ with_roll v (fields_of heard.now.board) (due_of v (fields_of heard.now.board)) }
+    fn note_shown(&mut self, heard: &GameBoard) -> Reply
+        ensures fields { let v = with_board (session_of self.old) (game_of heard.now) in
+            session_of self.new ≡ with_roll v (game_of heard.now) (due_of v (game_of heard.now)) }
         ensures send { texts_of result.send.items ≡ one_if result.rolled
-            (command_of (direction_of (fields_of heard.now.board)) roll) }
+            (command_of (direction_of (game_of heard.now)) roll) }
         ensures confirmed { option_map ask_of result.confirmed
-            ≡ confirmed_of (session_of self.old) (fields_of heard.now.board) }
+            ≡ confirmed_of (session_of self.old) (game_of heard.now) }
         ensures rolled { result.rolled
-            ≡ due_of (with_board (session_of self.old) (fields_of heard.now.board)) (fields_of heard.now.board) }
+            ≡ due_of (with_board (session_of self.old) (game_of heard.now)) (game_of heard.now) }
     {
         let confirmed = self.note_board(heard);
         let rolled = self.is_due(heard);
         let mut send = ArrayVec::new();
         if rolled {
-            send.push(self.roll_on(&heard.board));
+            send.push(self.roll_on(heard.board()));
         }
         Reply {
             send,
@@ -190,7 +190,7 @@ impl Session {
         match reading {
             Reading::Numbered(message) => Reply::of(self.note_message(message)),
             Reading::Board(board) => {
-                let Some(heard) = ShownBoard::of(board) else {
+                let Ok(heard) = GameBoard::of(board) else {
                     return Reply::of(ArrayVec::new());
                 };
                 self.note_shown(&heard)

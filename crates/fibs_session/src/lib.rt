@@ -8,7 +8,6 @@ mod hearing;
 pub mod laws;
 mod ordering;
 mod session;
-mod shown_board;
 mod taken;
 
 pub use client::{Client, Got, HeardLine, Input, run_client};

@@ -2,14 +2,13 @@
 
 ghost use Rattle.std.specs.Prelude.{◌≡◌, IsErr, true, false};
 ghost use Rattle.std.specs.Result.{result_err};
-ghost use Rattle.fibs_boards.specs.StoredBoard.{fields_of};
+ghost use Rattle.fibs_position.specs.GameOf.{game_of};
 ghost use Rattle.fibs_session.specs.Calls.FieldSteps.{due_of, order_refusal_of, withdraw_refusal_of, with_order};
 
 use crate::session::Session;
-use crate::shown_board::ShownBoard;
 use fibs_boards::fields::MAY_DOUBLE;
 use fibs_history::Refusal;
-use fibs_position::{Decision, Phase};
+use fibs_position::{Decision, GameBoard, Phase};
 
 impl Session {
     ghost use Rattle.fibs_session.specs.Calls.SessionOf.{session_of};
@@ -50,16 +49,16 @@ impl Session {
 
     /// Whether the board that is shown makes the order due. A click on `Roll` is asked about last: it costs most.
     #[tactic(auto, unfolding(crate::specs::Calls::FieldSteps::due_of))]
-    pub(crate) fn is_due(&self, shown: &ShownBoard) -> bool
-        ensures { result ≡ due_of (session_of self.now) (fields_of shown.now.board) }
+    pub(crate) fn is_due(&self, shown: &GameBoard) -> bool
+        ensures { result ≡ due_of (session_of self.now) (game_of shown.now) }
     {
         if !self.ordered {
             return false;
         }
-        if shown.board.field(MAY_DOUBLE) != 0 {
+        if shown.board().field(MAY_DOUBLE) != 0 {
             return false;
         }
-        match shown.position.phase() {
+        match shown.phase() {
             Phase::RollOrDouble => self.board_for(&Decision::Roll).is_ok(),
             _ => false,
         }

@@ -7,6 +7,7 @@ ghost use Rattle.fibs_lines.specs.Lines.{value_of};
 ghost use Rattle.fibs_messages.specs.Line.{reading_of};
 ghost use Rattle.fibs_boards.specs.StoredBoard.{fields_of};
 ghost use Rattle.fibs_position.specs.DecisionValue.{decision_of};
+ghost use Rattle.fibs_position.specs.GameOf.{game_of};
 ghost use Rattle.fibs_session.specs.Calls.Doing.{SessionDoes, SessionHears};
 ghost use Rattle.fibs_session.specs.Calls.Standing.{SessionStandsAfter};
 ghost use Rattle.fibs_history.specs.Hearing.{line_reading};
@@ -17,13 +18,12 @@ ghost use Rattle.fibs_commands.specs.LoginOf.{login_of};
 ghost use Rattle.fibs_commands.specs.PlainOf.{plain_value};
 
 use crate::hearing::{Reply, is_unheard, read_line};
-use crate::shown_board::ShownBoard;
 use crate::taken::{Outstanding, Taken};
 use fibs_commands::{CommandText, Login, Plain};
 use fibs_history::{PlainRefusal, Refusal};
 use fibs_lines::Line;
 use fibs_messages::Board;
-use fibs_position::{Decision, laws};
+use fibs_position::{Decision, GameBoard, laws};
 
 /// What the server does by itself, as a message 2 says.
 #[derive(Clone, Copy)]
@@ -48,7 +48,7 @@ pub struct Session {
     pub(crate) flags: Option<ServerFlags>,
     pub(crate) automove_sent: bool,
     pub(crate) greedy_sent: bool,
-    pub(crate) shown: Option<ShownBoard>,
+    pub(crate) shown: Option<GameBoard>,
     pub(crate) waiting: Option<Outstanding>,
     /// A standing order to roll is in force.
     pub(crate) ordered: bool,
@@ -193,8 +193,16 @@ impl Session {
     {
         match &self.shown {
             None => None,
-            Some(shown) => Some(&shown.board),
+            Some(shown) => Some(shown.board()),
         }
+    }
+
+    /// The same board, with its position.
+    pub fn game(&self) -> Option<&GameBoard>
+        ensures { (t : Talk) → SessionStandsAfter (session_of self.now) t →
+            option_map game_of (option_copied result) ≡ shown_now t }
+    {
+        self.shown.as_ref()
     }
 
     /// The decision that waits, with the board on which it was made.

@@ -4,12 +4,11 @@ use Rattle.fibs_lines.specs.Lines.{ReadLine}
 use Rattle.fibs_lines.specs.Lines.{value_of}
 use Rattle.fibs_messages.specs.Line.{ReadingValue}
 use Rattle.fibs_messages.specs.Line.{reading_of}
-use Rattle.fibs_boards.specs.Board.{BoardFields}
 use Rattle.fibs_boards.specs.StoredBoard.{fields_of}
 use Rattle.fibs_position.specs.DecisionValue.{decision_of}
+use Rattle.fibs_position.specs.GameOf.{game_of}
 use Rattle.fibs_commands.specs.TextOf.{text_of}
 use Rattle.arrayvec.specs.ArrayString.{ArrayString as CommandText}
-use Rattle.fibs_session.specs.declared.shown_board.ShownBoard.{ShownBoard}
 use Rattle.fibs_session.specs.declared.taken.Outstanding.{Outstanding}
 use Rattle.fibs_session.specs.declared.taken.Taken.{Taken}
 use Rattle.fibs_session.specs.declared.session.ServerFlags.{ServerFlags}
@@ -25,10 +24,6 @@ ask_of o = (fields_of o.board, decision_of o.decision)
 abbrev pub server_flags : ServerFlags → Flags
 server_flags f = record { automove = f.automove; greedy = f.greedy }
 
--- the board that is shown
-abbrev pub shown_fields : ShownBoard → BoardFields
-shown_fields s = fields_of s.board
-
 abbrev pub texts_of : List CommandText → List (List ℕ)
 texts_of = map text_of
 
@@ -41,7 +36,7 @@ session_of s = record {
   flags = option_map server_flags s.flags;
   automove_sent = s.automove_sent;
   greedy_sent = s.greedy_sent;
-  shown = option_map shown_fields s.shown;
+  shown = option_map game_of s.shown;
   waiting = option_map ask_of s.waiting;
   ordered = s.ordered;
 }

@@ -15,9 +15,8 @@ impl Client {
     pub fn refusal(&self, decision: &Decision) -> Option<Refusal>
         ensures { (t : Talk) → StandsAfter self.now t → result ≡ answer_now t (decision_of decision.now) }
     {
-        let mut session = self.session;
-        match session.decide(decision) {
-            Ok(_command) => None,
+        match self.session.board_for(decision) {
+            Ok(_board) => None,
             Err(why) => Some(why),
         }
     }
