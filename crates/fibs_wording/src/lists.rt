@@ -1,7 +1,8 @@
 //! The list of players.
 
-use crate::messages::{append_rating, append_state, front};
+use crate::messages::{append_state, front};
 use crate::shown::pad_from;
+use fibs_fields::rating::append_rating;
 use fibs_session::{Directory, Player};
 use itoa::Buffer;
 use std::alloc::{AllocError, Global};
@@ -18,7 +19,7 @@ fn append_rated(player: &Player, text: &mut Vec<u8>) -> Result<(), AllocError> {
     let start = text.len();
     text.extend_from_slice(front(player.name.as_slice()))?;
     pad_from(start, NAME_COLUMNS, text)?;
-    append_rating(player.rating, text)?;
+    append_rating(text, player.rating)?;
     pad_from(start, RATED_COLUMNS, text)
 }
 

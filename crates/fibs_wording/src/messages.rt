@@ -4,16 +4,9 @@ use crate::dates::{append_date, append_time};
 use crate::pieces::{append_all, append_number};
 use crate::shown::append_shown;
 use fibs_environment::Settings;
+use fibs_fields::rating::append_rating;
 use fibs_messages::{Message, OwnInfo, WhoInfo};
 use std::alloc::AllocError;
-
-/// Appends a rating, which is in hundredths.
-pub fn append_rating(rating: u32, text: &mut Vec<u8>) -> Result<(), AllocError> {
-    append_number(u64::from(rating / 100), text)?;
-    let tenths = b'0' + (rating % 100 / 10) as u8;
-    let hundredths = b'0' + (rating % 10) as u8;
-    text.extend_from_slice(&[b'.', tenths, hundredths])
-}
 
 /// Appends the names of the settings that are on, each after a space.
 fn append_on(settings: &[(bool, &[u8])], text: &mut Vec<u8>) -> Result<(), AllocError> {
@@ -58,7 +51,7 @@ fn append_last_settings(info: &OwnInfo<'_>, text: &mut Vec<u8>) -> Result<(), Al
 /// Appends who the user is, and what he has reached.
 fn append_user(info: &OwnInfo<'_>, text: &mut Vec<u8>) -> Result<(), AllocError> {
     append_all(&[b"You are ", info.name.bytes(), b", rated "], text)?;
-    append_rating(info.rating, text)?;
+    append_rating(text, info.rating)?;
     text.extend_from_slice(b", experience ")?;
     append_number(info.experience, text)
 }
@@ -114,7 +107,7 @@ pub fn append_state(
 /// Appends a player in one row: at most the first 24 bytes of a name.
 pub fn append_player(info: &WhoInfo<'_>, text: &mut Vec<u8>) -> Result<(), AllocError> {
     append_all(&[front(info.name.bytes()), b" ("], text)?;
-    append_rating(info.rating, text)?;
+    append_rating(text, info.rating)?;
     text.extend_from_slice(b"): ")?;
     append_state(
         front(info.opponent.bytes()),

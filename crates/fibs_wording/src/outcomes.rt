@@ -3,24 +3,12 @@ ghost use Rattle.std.specs.Prelude.{◌≤◌};
 
 use crate::messages::front;
 use crate::pieces::append_all;
+use fibs_boards::fields::{
+    CUBE, MATCH_LENGTH, OTHER_OFF, OTHER_SCORE, OWN_OFF, OWN_SCORE, UNLIMITED,
+};
 use fibs_messages::Board;
 use itoa::Buffer;
 use std::alloc::AllocError;
-
-const MATCH_LENGTH: usize = 4;
-
-const OWN_SCORE: usize = 5;
-
-const OTHER_SCORE: usize = 6;
-
-const CUBE: usize = 38;
-
-const OWN_OFF: usize = 46;
-
-const OTHER_OFF: usize = 47;
-
-/// The match length that means an unlimited match.
-const UNLIMITED: i32 = 9999;
 
 /// A field of a board, 0 if it is not from 4 to 53.
 fn field(board: &Board, number: usize) -> i32 {

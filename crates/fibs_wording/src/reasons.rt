@@ -5,6 +5,8 @@ use fibs_messages::Fault;
 use fibs_session::{DirectoryFault, PlainFault, PlainRefusal, Refusal};
 use itoa::Buffer;
 use std::alloc::AllocError;
+use std::fmt::Display;
+use std::io::Write;
 
 /// What a refusal says.
 pub fn refusal_words(why: Refusal) -> &'static [u8] {
@@ -42,68 +44,43 @@ pub fn plain_words(why: PlainRefusal) -> &'static [u8] {
     }
 }
 
-/// The name of a plain refusal, or of the fault.
-fn plain_name(why: PlainRefusal) -> &'static [u8] {
-    match why {
-        PlainRefusal::Offline => b"Offline",
-        PlainRefusal::NotOn => b"NotOn",
-        PlainRefusal::Fault(PlainFault::BadName) => b"BadName",
-        PlainRefusal::Fault(PlainFault::BadText) => b"BadText",
-        PlainRefusal::Fault(PlainFault::TooLong) => b"TooLong",
-    }
-}
-
-/// Appends words, and a number and a name in brackets.
-fn append_reason(
+/// Appends words, and the number and the name of a reason in brackets.
+pub fn append_reason<T: Display + Drop>(
     words: &[u8],
     number: u8,
-    name: &[u8],
+    name: T,
     text: &mut Vec<u8>,
 ) -> Result<(), AllocError> {
+    let mut digits = Buffer::new();
     append_all(
-        &[
-            words,
-            b" [",
-            Buffer::new().format(number).as_bytes(),
-            b" ",
-            name,
-            b"]",
-        ],
+        &[words, b" [", digits.format(number).as_bytes(), b" "],
         text,
-    )
+    )?;
+    text.write_fmt(name).map_err(|_| AllocError)?;
+    text.extend_from_slice(b"]")
 }
 
 /// Appends why a decision was refused.
 pub fn append_refusal(why: Refusal, text: &mut Vec<u8>) -> Result<(), AllocError> {
-    append_reason(
-        refusal_words(why),
-        why.number(),
-        why.name().as_bytes(),
-        text,
-    )
+    append_reason(refusal_words(why), why.number(), why, text)
 }
 
 /// Appends why a plain command was not sent.
 pub fn append_not_sent(why: PlainRefusal, text: &mut Vec<u8>) -> Result<(), AllocError> {
-    append_reason(plain_words(why), why.number(), plain_name(why), text)
+    append_reason(plain_words(why), why.number(), why, text)
+}
+
+/// What it means that the directory took no note of a player.
+fn unnoted_words(why: DirectoryFault) -> &'static [u8] {
+    match why {
+        DirectoryFault::Memory => b"The list of players lacks one: no memory is left.",
+        DirectoryFault::Full => b"The list of players lacks one: it holds 4096.",
+    }
 }
 
 /// Appends why the directory took no note of a player.
 pub fn append_unnoted(why: DirectoryFault, text: &mut Vec<u8>) -> Result<(), AllocError> {
-    match why {
-        DirectoryFault::Memory => append_reason(
-            b"The list of players lacks one: no memory is left.",
-            1,
-            b"Memory",
-            text,
-        ),
-        DirectoryFault::Full => append_reason(
-            b"The list of players lacks one: it holds 4096.",
-            2,
-            b"Full",
-            text,
-        ),
-    }
+    append_reason(unnoted_words(why), why.number(), why, text)
 }
 
 /// What is wrong with a field.
@@ -136,5 +113,5 @@ pub fn append_malformed(
         &[unread_words(number), Buffer::new().format(field).as_bytes()],
         text,
     )?;
-    append_reason(fault_words(fault), number, fault.name().as_bytes(), text)
+    append_reason(fault_words(fault), number, fault, text)
 }
