@@ -9,13 +9,13 @@ ghost use Rattle.fibs_position.specs.DirectionOf.{direction_of};
 ghost use Rattle.fibs_position.specs.First.{IsFirst};
 ghost use Rattle.fibs_position.specs.GoodBoard.{IsGood, HasFault, faults};
 ghost use Rattle.fibs_position.specs.GoodBoard.{good};
-ghost use Rattle.fibs_position.specs.PositionValue.{position_of, position_value};
+ghost use Rattle.fibs_position.specs.GameOf.{game_of};
 ghost use Rattle.fibs_machine.specs.Server.{answered, obeyed, own_refusal, user_decides};
 
 use crate::entry::Entry;
 use fibs_machine::WorldRefusal;
 use fibs_messages::Board;
-use fibs_position::{Decision, Direction, Phase, Position, PositionFault, effect};
+use fibs_position::{Decision, Direction, GameBoard, Phase, PositionFault, effect};
 use fibs_session::read_command;
 use std::marker::Model;
 
@@ -70,32 +70,24 @@ impl Served {
     }
 }
 
-/// A model of the server: a good board with its position, and the number of the connection that is logged in. The
-/// position is made once, when the board comes.
+/// A model of the server: a board of the user's game, and the number of the connection that is logged in.
 ///
 /// Connections are numbered from 1. The first line of a connection is its login; from then on nothing of an older
 /// connection is served. Every later line that is a decision in the numbers of the board is carried out if `effect`
 /// carries it out. The world, and not the server, sends on the connections.
 #[derive(Drop)]
 pub struct Server {
-    board: Board,
-    position: Position,
+    game: GameBoard,
     logged_in: usize,
 }
 
 impl Model for Server {
-    ghost use Rattle.std.specs.Prelude.{◌≡◌, true};
-    ghost use Rattle.fibs_boards.specs.StoredBoard.{fields_of};
-    ghost use Rattle.fibs_position.specs.GoodBoard.{good};
-    ghost use Rattle.fibs_position.specs.PositionValue.{position_of, position_value};
+    ghost use Rattle.fibs_position.specs.GameOf.{game_of};
     ghost use Rattle.fibs_machine.specs.Server.{ServerValue};
 
     ghost Value = { ServerValue };
 
-    ghost view = { λ s. record { board = fields_of s.board; logged_in = s.logged_in } };
-
-    ghost invariant = { λ s.
-        (good (fields_of s.board) ≡ true) × (position_value s.position ≡ position_of (fields_of s.board)) };
+    ghost view = { λ s. record { board = game_of s.game; logged_in = s.logged_in } };
 }
 
 impl Server {
@@ -109,14 +101,9 @@ impl Server {
             (result_err result ≡ Some f) ↔ IsFirst (HasFault (fields_of board)) faults f }
         ensures begins { IfOk result (λ server. (server.board ≡ fields_of board) × (server.logged_in ≡ 0)) }
     {
-        fibs_position::laws::good_is_exact();
-        match Position::of(&board) {
+        match GameBoard::of(&board) {
             Err(fault) => Err(fault),
-            Ok(position) => Ok(Server {
-                board,
-                position,
-                logged_in: 0,
-            }),
+            Ok(game) => Ok(Server { game, logged_in: 0 }),
         }
     }
 
@@ -125,7 +112,7 @@ impl Server {
         ensures value { fields_of result.now ≡ self.now.board }
         ensures good { good (fields_of result.now) ≡ true }
     {
-        &self.board
+        self.game.board()
     }
 
     /// The number of the connection that is logged in; 0 at first.
@@ -139,7 +126,7 @@ impl Server {
     fn direction(&self) -> Direction
         ensures { result ≡ direction_of self.now.board }
     {
-        self.position.direction()
+        self.game.direction()
     }
 
     /// The user decides on the board.
@@ -147,7 +134,7 @@ impl Server {
         ensures { result ≡ user_decides self.now.board }
     {
         matches!(
-            self.position.phase(),
+            self.game.phase(),
             Phase::AnswerDouble | Phase::RollOrDouble | Phase::Move
         )
     }
@@ -159,13 +146,11 @@ impl Server {
         ensures after { self.new ≡ after_line self.old self.old.logged_in
             (obeyed self.old.board (slice_index dice 0) (slice_index dice 1) (Some (decision_of decision))) }
     {
-        fibs_position::laws::good_is_exact();
         fibs_position::laws::effect_is_good();
-        match effect(&self.board, &decision, dice) {
+        match effect(self.game.board(), &decision, dice) {
             None => Served::Undone(decision),
             Some(board) => {
-                self.position = Position::of(&board).unwrap();
-                self.board = board;
+                self.game = GameBoard::of(&board).unwrap();
                 Served::Took(decision)
             }
         }
@@ -201,18 +186,18 @@ impl Server {
         }
     }
 
-    /// The position of a board which the server's may become, or why it may not.
-    fn own_position(&self, board: &Board) -> Result<Position, WorldRefusal>
+    /// A board which the server's may become, or why it may not.
+    fn own_game(&self, board: &Board) -> Result<GameBoard, WorldRefusal>
         ensures refusal { result_err result ≡ own_refusal self.now.board (fields_of board.now) }
-        ensures position { IfOk result (λ p. position_value p ≡ position_of (fields_of board.now)) }
+        ensures game { IfOk result (λ game. game_of game ≡ fields_of board.now) }
     {
-        match Position::of(board) {
+        match GameBoard::of(board) {
             Err(_) => Err(WorldRefusal::BadBoard),
-            Ok(position) => {
+            Ok(game) => {
                 if self.user_decides() {
                     return Err(WorldRefusal::UserDecides);
                 }
-                Ok(position)
+                Ok(game)
             }
         }
     }
@@ -226,11 +211,10 @@ impl Server {
         ensures ok { OnOk result (self.new ≡ record { board = fields_of board.now; logged_in = self.old.logged_in }) }
         ensures err { OnErr result (self.new ≡ self.old) }
     {
-        match self.own_position(board) {
+        match self.own_game(board) {
             Err(why) => Err(why),
-            Ok(position) => {
-                self.board = *board;
-                self.position = position;
+            Ok(game) => {
+                self.game = game;
                 Ok(())
             }
         }
@@ -241,5 +225,5 @@ impl Server {
 pub fn own_refusal(server: &Server, board: &Board) -> Option<WorldRefusal>
     ensures { result ≡ own_refusal server.now.board (fields_of board.now) }
 {
-    server.own_position(board).err()
+    server.own_game(board).err()
 }

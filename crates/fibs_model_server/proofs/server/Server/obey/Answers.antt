@@ -7,10 +7,3 @@ pub unwrap-self-inside-requires : goal.unwrap-self-inside-requires
 unwrap-self-inside-requires c =
     c.of.ensures.good.1 (c.effect_is_good.ensures _ _ _ _
     ((c.effect.ensures.carried _).0 (ap (option_map fields_of) c.in-Some.is))).0
-
-pub invariant_of-self : goal.invariant_of-self
-invariant_of-self c = (
-  (c.good_is_exact.ensures _).1
-      (c.effect_is_good.ensures _ _ _ _ ((c.effect.ensures.carried _).0 (ap (option_map fields_of) c.in-Some.is))).0,
-  rw c.unwrap-self-inside.ensures at c.of.ensures.same,
-)
