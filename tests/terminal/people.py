@@ -37,8 +37,11 @@ REFUSED = re.compile(r'.*\[\d+ [A-Z][A-Za-z]+\]|(?:refused|fault) \d+ \w+|unknow
 HINTS = [
     (re.compile(r'Your turn: (roll)\.'), ()),
     (re.compile(r'Your turn: (roll), or (double)\.'), ()),
-    (re.compile(r'You are offered a double: (accept), or (reject)\.'), ()),
-    (re.compile(r'You are offered a double: (reject)\.'), ()),
+    (re.compile(r' ?You are offered a double: (accept), or (reject)\.'), ()),
+    (re.compile(r' ?You are offered a double: (reject)\.'), ()),
+    # the last row of a picture without bold letters
+    (re.compile(r' You (roll), or (double), or resign\.'), ()),
+    (re.compile(r' You (roll), or resign\.'), ()),
     (re.compile(r'Your move, as in: (move(?: (?:bar|\d+)-(?:off|\d+))+)'), ()),
     (re.compile(r'\S+ offers to resign: (send accept), or (send reject)\.'), ()),
     # the end of two lines: `roll was sent and nothing has changed: if bob declined`

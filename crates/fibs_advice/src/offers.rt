@@ -6,7 +6,6 @@ ghost use Rattle.fibs_session.specs.History.Machine.{Talk};
 ghost use Rattle.fibs_session.specs.Calls.Standing.{StandsAfter};
 ghost use Rattle.fibs_advice.specs.Offers.{OffersNow, is_taken, example_text, hint_words, hint_text};
 
-use fibs_boards::board::Board;
 use fibs_commands::decision_text;
 use fibs_position::{Decision, Direction, Play, Position};
 use fibs_session::Client;
@@ -54,23 +53,15 @@ pub(crate) fn first_of(alloc: Global, position: &Position) -> Result<Option<Play
     Ok(plays.first().copied())
 }
 
-/// The first legal move of a board, if it has one.
-fn first_play(alloc: Global, board: &Board) -> Result<Option<Play>, AllocError> {
-    match Position::of(board) {
-        Ok(position) => first_of(alloc, &position),
-        Err(_) => Ok(None),
-    }
-}
-
 /// The first legal move of the board that is shown, if the client takes it now.
 fn example(alloc: Global, client: &Client) -> Result<Option<Play>, AllocError>
     ensures { IfOk result (λ found. (t : Talk) → StandsAfter client.now t →
         IfSome found (λ play. is_taken t (move (hops_of play)) ≡ true)) }
 {
-    let Some(board) = client.shown() else {
+    let Some(game) = client.game() else {
         return Ok(None);
     };
-    let found = first_play(alloc, board)?;
+    let found = first_of(alloc, game.position())?;
     match found {
         Some(play) => Ok(taken_move(client, &play)),
         None => Ok(None),
@@ -79,8 +70,8 @@ fn example(alloc: Global, client: &Client) -> Result<Option<Play>, AllocError>
 
 /// Which way the player of the board that is shown goes.
 pub fn direction(client: &Client) -> Direction {
-    match client.shown() {
-        Some(board) => Direction::of(board),
+    match client.game() {
+        Some(game) => game.direction(),
         None => Direction::Down,
     }
 }

@@ -1,8 +1,7 @@
 //! The legal moves of a board.
 
-use fibs_boards::board::Board;
 use fibs_commands::decision_text;
-use fibs_position::{Decision, Direction, Play, Position};
+use fibs_position::{Decision, Direction, GameBoard, Play};
 use itoa::Buffer;
 use std::alloc::{AllocError, Global};
 
@@ -46,15 +45,12 @@ fn append_count(listed: usize, count: usize, text: &mut Vec<u8>) -> Result<(), A
 /// Appends the legal moves of a board, at most 20 of them, and how many there are.
 ///
 /// Errors: if memory runs out.
-pub fn append_plays(alloc: Global, board: &Board, text: &mut Vec<u8>) -> Result<(), AllocError> {
-    let Ok(position) = Position::of(board) else {
-        return text.extend_from_slice(b"There is no board on which you play.\n");
-    };
-    let plays = position.plays(alloc)?;
+pub fn append_plays(alloc: Global, game: &GameBoard, text: &mut Vec<u8>) -> Result<(), AllocError> {
+    let plays = game.position().plays(alloc)?;
     if plays.is_empty() {
         return text.extend_from_slice(b"There is nothing to move on this board.\n");
     }
     let listed = plays.len().min(MOST_LISTED);
-    append_rows(&plays.as_slice()[..listed], Direction::of(board), text)?;
+    append_rows(&plays.as_slice()[..listed], game.direction(), text)?;
     append_count(listed, plays.len(), text)
 }

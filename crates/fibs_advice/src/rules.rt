@@ -3,13 +3,10 @@ ghost use Rattle.std.specs.Prelude.{◌≤◌};
 
 use crate::offers::first_of;
 use crate::plays::append_number;
-use fibs_boards::board::Board;
-use fibs_commands::decision_text;
-use fibs_position::{Decision, Direction, Play, Position, Step};
+use fibs_boards::fields::{FIRST_DIE, SECOND_DIE};
+use fibs_commands::{BAR, decision_text};
+use fibs_position::{Decision, Direction, GameBoard, Play, Position, Step};
 use std::alloc::{AllocError, Global};
-
-/// The bar, in the player's own numbering.
-const BAR: u8 = 25;
 
 /// A rule that a move breaks.
 #[derive(Clone, Copy)]
@@ -175,23 +172,12 @@ fn append_broken(
     }
 }
 
-/// A die of the player, 0 if there is none.
-fn die(board: &Board, number: usize) -> u8
-    requires low { 34 ≤ number }
-    requires high { number ≤ 35 }
-{
-    board.field(number) as u8
-}
-
 /// Appends the rule that a move breaks on a board, or that it breaks one.
-fn append_why(
-    board: &Board,
-    position: &Position,
-    play: &Play,
-    text: &mut Vec<u8>,
-) -> Result<(), AllocError> {
-    match broken_rule(position, (die(board, 34), die(board, 35)), play) {
-        Some(broken) => append_broken(&broken, Direction::of(board), text),
+fn append_why(game: &GameBoard, play: &Play, text: &mut Vec<u8>) -> Result<(), AllocError> {
+    let board = game.board();
+    let dice = (board.die(FIRST_DIE), board.die(SECOND_DIE));
+    match broken_rule(game.position(), dice, play) {
+        Some(broken) => append_broken(&broken, game.direction(), text),
         None => text.extend_from_slice(b"The rules don't allow this move."),
     }
 }
@@ -207,16 +193,13 @@ fn append_legal(legal: Play, direction: Direction, text: &mut Vec<u8>) -> Result
 /// Errors: if memory runs out.
 pub fn append_rule(
     alloc: Global,
-    board: &Board,
+    game: &GameBoard,
     play: &Play,
     text: &mut Vec<u8>,
 ) -> Result<(), AllocError> {
-    let Ok(position) = Position::of(board) else {
-        return Ok(());
-    };
-    append_why(board, &position, play, text)?;
-    match first_of(alloc, &position)? {
-        Some(legal) => append_legal(legal, Direction::of(board), text),
+    append_why(game, play, text)?;
+    match first_of(alloc, game.position())? {
+        Some(legal) => append_legal(legal, game.direction(), text),
         None => Ok(()),
     }
 }

@@ -1,9 +1,11 @@
 //! Lines of the server are heard.
-ghost use Rattle.std.specs.Prelude.{◌≡◌, ◌∷◌, [], Option, option_map};
-ghost use Rattle.std.specs.Prelude.{OnOk};
+ghost use Rattle.std.specs.Prelude.{◌≡◌, ◌∷◌, [], Option, option_map, IfSome, OnOk};
+ghost use Rattle.std.specs.Option.{option_copied};
+ghost use Rattle.fibs_position.specs.GameOf.{game_of};
 ghost use Rattle.fibs_exchange.specs.Turns.Answering.{IfPrinted, IfUnprinted};
 ghost use Rattle.std.specs.Io.KnownBytes.{Appends, Keeps};
-ghost use Rattle.fibs_messages.specs.Line.{reading_of};
+ghost use Rattle.fibs_boards.specs.StoredBoard.{fields_of};
+ghost use Rattle.fibs_messages.specs.Line.{reading_of, board_line};
 ghost use Rattle.fibs_session.specs.History.Machine.{Talk};
 ghost use Rattle.fibs_session.specs.Calls.SessionOf.{ask_of, taken_of};
 ghost use Rattle.fibs_session.specs.Calls.Standing.{StandsAfter};
@@ -15,23 +17,61 @@ ghost use Rattle.fibs_directory.specs.declared.fault.DirectoryFault.{DirectoryFa
 use crate::ExchangeFault;
 use crate::sending::send_commands;
 use crate::turn_fault::TurnFault;
+use fibs_boards::laws::fields_tell_boards;
 use fibs_engine::link::Link;
 use fibs_front::front::Front;
 use fibs_front::said::Said;
-use fibs_messages::Reading;
-use fibs_position::phase_of;
+use fibs_messages::{Board, Reading};
+use fibs_position::GameBoard;
 use fibs_session::{Client, Directory, Outstanding, Taken};
 
-/// Reports the phase of a good board.
-fn tell_phase<F: Front>(reading: &Reading<'_>, front: &mut F) -> Result<(), ExchangeFault>
+/// The board with its position, if it is the one that the client has.
+fn game_on<'a>(client: &'a Client, board: &Board) -> Option<&'a GameBoard>
+    ensures { IfSome (option_copied result) (λ game. game_of game ≡ fields_of board.now) }
+{
+    let game = client.game()?;
+    if fields_tell_boards(game.board(), board) {
+        Some(game)
+    } else {
+        None
+    }
+}
+
+/// The board of the user's game that a reading says. The client has it with its position, since it has heard the line.
+fn game_in<'a>(client: &'a Client, reading: &Reading<'_>) -> Option<&'a GameBoard>
+    ensures { IfSome (option_copied result) (λ game. board_line (game_of game) ≡ reading_of reading.now) }
+{
+    match reading {
+        Reading::Board(board) => game_on(client, board),
+        Reading::Numbered(_) | Reading::Text(_) | Reading::Malformed { .. } => None,
+    }
+}
+
+/// Reports the board that a reading says, if it is good.
+fn tell_other<F: Front>(reading: &Reading<'_>, front: &mut F) -> Result<(), ExchangeFault>
     ensures { OnOk result (F.tells front.old (phase_told (reading_of reading.now)) front.new) }
 {
     match reading {
-        Reading::Board(board) => match phase_of(board) {
-            Some(phase) => front.tell(&Said::Phase(phase)),
-            None => Ok(()),
+        Reading::Board(board) => match GameBoard::of(board) {
+            Ok(game) => front.tell(&Said::Game(&game)),
+            Err(_) => Ok(()),
         },
         Reading::Numbered(_) | Reading::Text(_) | Reading::Malformed { .. } => Ok(()),
+    }
+}
+
+/// The same, if the client may have the board with its position.
+fn tell_game<F: Front>(
+    game: Option<&GameBoard>,
+    reading: &Reading<'_>,
+    front: &mut F,
+) -> Result<(), ExchangeFault>
+    requires { IfSome (option_copied game) (λ game. board_line (game_of game) ≡ reading_of reading.now) }
+    ensures { OnOk result (F.tells front.old (phase_told (reading_of reading.now)) front.new) }
+{
+    match game {
+        Some(game) => front.tell(&Said::Game(game)),
+        None => tell_other(reading, front),
     }
 }
 
@@ -59,11 +99,16 @@ fn tell_rolled<F: Front>(rolled: bool, front: &mut F) -> Result<(), ExchangeFaul
 }
 
 /// Reports a line, and what it calls for.
-fn tell_taken<F: Front>(taken: &Taken<'_>, front: &mut F) -> Result<(), ExchangeFault>
+fn tell_taken<F: Front>(
+    client: &Client,
+    taken: &Taken<'_>,
+    front: &mut F,
+) -> Result<(), ExchangeFault>
     ensures { OnOk result (F.tells front.old (taken_act (taken_of taken.now)).tells front.new) }
 {
-    front.tell(&Said::Heard(&taken.line, &taken.reading))?;
-    tell_phase(&taken.reading, front)?;
+    let game = game_in(client, &taken.reading);
+    front.tell(&Said::Heard(&taken.line, &taken.reading, game))?;
+    tell_game(game, &taken.reading, front)?;
     tell_confirmed(&taken.confirmed, front)?;
     tell_rolled(taken.rolled, front)
 }
@@ -89,6 +134,7 @@ fn note_taken<F: Front>(
 
 /// Writes the commands that a line calls for, then reports it to the front end, then gives it to the directory.
 fn hear_line<S: Link, F: Front>(
+    client: &Client,
     taken: &Taken<'_>,
     directory: &mut Directory,
     stream: &mut S,
@@ -101,7 +147,7 @@ fn hear_line<S: Link, F: Front>(
     ensures apart { Keeps (S.remaining stream.old) (S.remaining stream.new) }
 {
     send_commands(taken.send.as_slice(), stream)?;
-    tell_taken(taken, front)?;
+    tell_taken(client, taken, front)?;
     note_taken(&taken.reading, directory, front)?;
     Ok(())
 }
@@ -129,7 +175,7 @@ pub(crate) fn hear_portion<S: Link, F: Front>(
         let heard = client.read(rest);
         let got = client.got(heard);
         match &got.taken {
-            Some(taken) => hear_line(taken, directory, stream, front)?,
+            Some(taken) => hear_line(client, taken, directory, stream, front)?,
             None => {}
         }
         rest = &rest[got.used..];

@@ -1,6 +1,8 @@
 -- What the program reports, as a value.
 use Rattle.std.specs.Prelude.{option_map}
 use Rattle.fibs_lines.specs.Lines.{value_of}
+use Rattle.fibs_position.specs.GameOf.{game_of}
+use Rattle.fibs_position.specs.Phases.{phase_of}
 use Rattle.fibs_commands.specs.TextOf.{text_of}
 use Rattle.fibs_messages.specs.Line.{reading_of}
 use Rattle.fibs_directory.specs.Directory.View.{player_value}
@@ -14,8 +16,8 @@ use Rattle.fibs_front.specs.Told.{not_sent_said, unknown_said, lost_said, unnote
 abbrev pub said_of : Said → SaidValue
 said_of S.Opened = opened_said
 said_of (S.NoConnection why) = no_connection_said why
-said_of (S.Heard line reading) = heard_said (value_of line.now) (reading_of reading.now)
-said_of (S.Phase phase) = phase_said phase
+said_of (S.Heard line reading game) = heard_said (value_of line.now) (reading_of reading.now)
+said_of (S.Game game) = phase_said (phase_of (game_of game.now))
 said_of (S.Confirmed asked) = confirmed_said (ask_of asked.now)
 said_of (S.Sent command) = sent_said (text_of command.now)
 said_of S.Rolled = rolled_said

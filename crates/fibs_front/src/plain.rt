@@ -61,8 +61,8 @@ fn print_said<W: Write>(said: &Said<'_>, out: &mut W) -> Result<(), FrontFault>
     match said {
         Said::Opened | Said::Passed(_) => Ok(()),
         Said::NoConnection(_) => print_line(b"no connection", b"", out),
-        Said::Heard(line, reading) => print_heard(line, reading, out),
-        Said::Phase(phase) => print_line(b"phase ", phase.name().as_bytes(), out),
+        Said::Heard(line, reading, _) => print_heard(line, reading, out),
+        Said::Game(game) => print_line(b"phase ", game.phase().name().as_bytes(), out),
         Said::Confirmed(asked) => print_confirmed(asked, out),
         Said::Sent(command) => print_line(b"sent ", text_bytes(command), out),
         Said::Rolled => print_line(b"sent roll", b"", out),

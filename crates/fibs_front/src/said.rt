@@ -2,7 +2,7 @@
 
 use fibs_lines::Line;
 use fibs_messages::Reading;
-use fibs_position::Phase;
+use fibs_position::GameBoard;
 use fibs_session::{CommandText, DirectoryFault, Outstanding, PlainRefusal, Player, Refusal};
 use std::io::ErrorKind;
 
@@ -13,10 +13,11 @@ pub enum Said<'a> {
     Opened,
     /// No connection can be made, for this reason.
     NoConnection(ErrorKind),
-    /// The server sent a line, and what it is. A line that was cut is a text.
-    Heard(&'a Line<'a>, &'a Reading<'a>),
-    /// The phase of the board that the line says.
-    Phase(Phase),
+    /// The server sent a line, and what it is; and if it is a board of the user's game, the board with its position. A
+    /// line that was cut is a text.
+    Heard(&'a Line<'a>, &'a Reading<'a>, Option<&'a GameBoard>),
+    /// The line says this board of a game in which the user plays.
+    Game(&'a GameBoard),
     /// The board confirms this decision, which waited for it.
     Confirmed(&'a Outstanding),
     /// A command was sent.

@@ -1,4 +1,5 @@
 pub mod Cells
 pub mod Picture
+pub mod Places
 pub mod Told
 pub mod Fits

@@ -8,10 +8,13 @@ use fibs_position::Direction;
 pub type Cell = [u8; 3];
 
 /// The letter of the player's checkers.
-const OWN_LETTER: u8 = b'O';
+pub const OWN_LETTER: u8 = b'O';
 
 /// The letter of the opponent's checkers.
-const OTHER_LETTER: u8 = b'X';
+pub const OTHER_LETTER: u8 = b'X';
+
+/// How many checkers are drawn of a place: for more there is a number in place of the last.
+pub const MOST_SEEN: u8 = 5;
 
 /// A number by two digits. The first is a filler if it is 0.
 fn two_digits(filler: u8, n: u8) -> [u8; 2]
@@ -30,7 +33,7 @@ fn level(letter: u8, n: u8, height: u8) -> Cell
     if n < height {
         return [b' ', b' ', b' '];
     }
-    if height == 5 && n > 5 {
+    if height == MOST_SEEN && n > MOST_SEEN {
         let digits = two_digits(b' ', n);
         return [digits[0], digits[1], b' '];
     }

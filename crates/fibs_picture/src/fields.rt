@@ -2,7 +2,6 @@
 ghost use Rattle.std.specs.Prelude.{◌≡◌, ◌≤◌};
 ghost use Rattle.fibs_boards.specs.Board.{field_of};
 ghost use Rattle.fibs_boards.specs.StoredBoard.{fields_of};
-ghost use Rattle.fibs_fields.specs.FieldReading.{natural};
 ghost use Rattle.fibs_picture.specs.Picture.{is_one};
 
 use fibs_boards::board::Board;
@@ -14,16 +13,6 @@ pub fn number(board: &Board, field: usize) -> i32
     ensures { result ≡ field_of (fields_of board.now) field }
 {
     board.field(field)
-}
-
-/// A die, 0 if there is none.
-pub fn die(board: &Board, field: usize) -> u8
-    requires low { 34 ≤ field }
-    requires high { field ≤ 37 }
-    ensures value { result ≡ natural (field_of (fields_of board.now) field) }
-    ensures high { result ≤ 6 }
-{
-    board.field(field) as u8
 }
 
 /// Field n is 1.

@@ -9,7 +9,13 @@ mod layers;
 mod lines;
 mod picture;
 mod pips;
+mod places;
 mod words;
 mod writing;
 
+pub use cells::{MOST_SEEN, OWN_LETTER};
 pub use picture::draw;
+pub use places::{
+    BOARD_COLUMNS, CUBE_ROW, DEED_ROW, DICE_ROW, PICTURE_COLUMNS, TURN_ROW, height_at, place_at,
+};
+pub use words::{FREE_CUBE, OPPONENTS_CUBE, OPPONENTS_TURN};

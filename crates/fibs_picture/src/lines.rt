@@ -10,19 +10,18 @@ ghost use Rattle.fibs_position.specs.PositionValue.{position_value};
 ghost use Rattle.fibs_picture.specs.Picture.{line, edge, layer, middle, named, score, off, pips, dice};
 ghost use Rattle.fibs_picture.specs.Picture.{match_length, is_one, doublers, cube, turn_words, deed_in};
 
-use crate::fields::{die, is_one, number};
+use crate::fields::{is_one, number};
 use crate::half::Half;
 use crate::layers::{draw_edge, draw_layer};
 use crate::words::{deed_in, doublers, turn_words, write_name, write_two_dice};
 use crate::writing::{write_digits, write_number, write_text};
 use fibs_boards::board::Board;
-use fibs_boards::fields::{COLOUR, CUBE, MATCH_LENGTH, MAY_DOUBLE, OTHER_MAY_DOUBLE, TURN};
+use fibs_boards::fields::{
+    COLOUR, CUBE, MATCH_LENGTH, MAY_DOUBLE, OTHER_MAY_DOUBLE, TURN, UNLIMITED,
+};
 use fibs_position::Position;
 use std::io;
 use std::io::Write;
-
-/// What FIBS writes for the length of an unlimited match.
-const UNLIMITED: i32 = 9999;
 
 /// An edge, and beside it a letter and a name.
 #[tactic(auto, unfolding(crate::specs::Picture::line))]
@@ -107,7 +106,7 @@ pub fn dice_line<W: Write>(
 {
     draw_layer(position, half, 4, out)?;
     write_text(b"  dice  ", out)?;
-    write_two_dice(die(board, field), die(board, field + 1), out)
+    write_two_dice(board.die(field), board.die(field + 1), out)
 }
 
 /// Checkers, and beside them how long the match is.

@@ -3,7 +3,8 @@ ghost use Rattle.std.specs.Prelude.{◌≡◌, ◌∷◌, [], OnOk};
 ghost use Rattle.std.specs.List.{flat_map};
 ghost use Rattle.std.specs.Io.KnownBytes.{Appends};
 ghost use Rattle.fibs_boards.specs.StoredBoard.{fields_of};
-ghost use Rattle.fibs_position.specs.PositionValue.{position_of, position_value};
+ghost use Rattle.fibs_position.specs.GameOf.{game_of};
+ghost use Rattle.fibs_position.specs.PositionValue.{position_value};
 ghost use Rattle.fibs_boards.specs.Board.{field_of};
 ghost use Rattle.fibs_position.specs.OwnView.{turn, colour};
 ghost use Rattle.fibs_position.specs.Phases.{phase_in};
@@ -11,6 +12,7 @@ ghost use Rattle.fibs_picture.specs.Picture.{line, upper_lines, lower_lines, dra
 ghost use Rattle.fibs_picture.specs.Picture.{named, score, off, pips, own_pips, other_pips, dice, match_length};
 ghost use Rattle.fibs_picture.specs.Picture.{cube, turn_words};
 
+use crate::cells::{OTHER_LETTER, OWN_LETTER};
 use crate::half::Half;
 use crate::lines::{
     cube_line, deed_line, dice_line, edge_line, match_line, off_line, pips_line, score_line,
@@ -19,7 +21,7 @@ use crate::lines::{
 use crate::pips::{other_pips, own_pips};
 use fibs_boards::board::Board;
 use fibs_boards::fields::{FIRST_DIE, OTHER_FIRST_DIE, OTHER_OFF, OTHER_SCORE, OWN_OFF, OWN_SCORE};
-use fibs_position::Position;
+use fibs_position::{GameBoard, Position};
 use std::io;
 use std::io::Write;
 
@@ -28,7 +30,13 @@ fn draw_opponent<W: Write>(board: &Board, position: &Position, out: &mut W) -> i
     ensures { OnOk result (Appends (W.contents out.old) (W.contents out.new)
         (line (edge (position_value position.now) Half.Upper, named 88 (fields_of board.now).opponent))) }
 {
-    edge_line(position, Half::Upper, b'X', board.opponent().bytes(), out)
+    edge_line(
+        position,
+        Half::Upper,
+        OTHER_LETTER,
+        board.opponent().bytes(),
+        out,
+    )
 }
 
 /// The opponent's score, and how far he has come.
@@ -99,7 +107,13 @@ fn draw_player<W: Write>(board: &Board, position: &Position, out: &mut W) -> io:
     ensures { OnOk result (Appends (W.contents out.old) (W.contents out.new)
         (line (edge (position_value position.now) Half.Lower, named 79 (fields_of board.now).player))) }
 {
-    edge_line(position, Half::Lower, b'O', board.player().bytes(), out)
+    edge_line(
+        position,
+        Half::Lower,
+        OWN_LETTER,
+        board.player().bytes(),
+        out,
+    )
 }
 
 /// The lines of the player, down to the lower edge, and what can be done.
@@ -124,12 +138,11 @@ fn draw_lines<W: Write>(board: &Board, position: &Position, out: &mut W) -> io::
     draw_lower(board, position, out)
 }
 
-/// Draws a board, whose position is this one: 14 lines of plain ASCII, of at most 79 columns.
+/// Draws a board: 14 lines of plain ASCII, of at most 79 columns.
 ///
 /// Errors: those of the writer.
-pub fn draw<W: Write>(board: &Board, position: &Position, out: &mut W) -> io::Result<()>
-    requires { position_value position.now ≡ position_of (fields_of board.now) }
-    ensures { OnOk result (Appends (W.contents out.old) (W.contents out.new) (picture (fields_of board.now))) }
+pub fn draw<W: Write>(game: &GameBoard, out: &mut W) -> io::Result<()>
+    ensures { OnOk result (Appends (W.contents out.old) (W.contents out.new) (picture (game_of game.now))) }
 {
-    draw_lines(board, position, out)
+    draw_lines(game.board(), game.position(), out)
 }

@@ -10,6 +10,14 @@ use fibs_position::{Decision, Phase, Position};
 use std::io;
 use std::io::Write;
 
+/// What is said of a cube that both may turn, and of one that the opponent may turn.
+pub const FREE_CUBE: &[u8] = b", in the middle";
+
+pub const OPPONENTS_CUBE: &[u8] = b", the opponent's";
+
+/// What is said if the opponent has the turn.
+pub const OPPONENTS_TURN: &[u8] = b"the opponent's turn";
+
 /// How many bytes of a name are shown.
 const NAME_ROOM: usize = 30;
 
@@ -52,9 +60,9 @@ pub fn doublers(own: bool, other: bool) -> &'static [u8]
     ensures { result.now ≡ doublers own other }
 {
     match (own, other) {
-        (true, true) => b", in the middle",
+        (true, true) => FREE_CUBE,
         (true, false) => b", yours",
-        (false, true) => b", the opponent's",
+        (false, true) => OPPONENTS_CUBE,
         (false, false) => b", no doubling",
     }
 }
@@ -68,7 +76,7 @@ pub fn turn_words(turn: i32, colour: i32) -> &'static [u8]
     } else if turn == colour {
         b"your turn"
     } else {
-        b"the opponent's turn"
+        OPPONENTS_TURN
     }
 }
 

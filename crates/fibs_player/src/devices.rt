@@ -13,7 +13,7 @@ use fibs_engine::status::Status;
 use fibs_engine::writing::write_bytes;
 use fibs_environment::terminal_settings;
 use fibs_messages::Board;
-use fibs_position::Position;
+use fibs_position::GameBoard;
 use fibs_terminal::{Terminal, append_picture};
 use fibs_watch::{PollWatch, TypedOrHeard, WatchedNet, first_line};
 use mio::Poll;
@@ -72,16 +72,10 @@ pub fn show(rt: &HostRuntime) -> Result<u8, EngineFault> {
 pub fn draw(rt: &HostRuntime, line: &[u8]) -> Result<(), EngineFault> {
     let alloc = rt.alloc();
     match Board::read(line) {
-        Ok(board) => match Position::of(&board) {
-            Ok(position) => {
+        Ok(board) => match GameBoard::of(&board) {
+            Ok(game) => {
                 let mut text = Vec::new(alloc);
-                append_picture(
-                    alloc,
-                    &board,
-                    &position,
-                    &terminal_settings(rt, "", 0),
-                    &mut text,
-                )?;
+                append_picture(alloc, &game, &terminal_settings(rt, "", 0), &mut text)?;
                 write_bytes(text.as_slice(), &mut rt.stdout())?;
                 Ok(())
             }

@@ -9,6 +9,7 @@ use fibs_front::front::Front;
 use fibs_front::said::Said;
 use fibs_lines::{Line, Lines};
 use fibs_messages::{Reading, read};
+use fibs_position::GameBoard;
 use std::io::Read;
 
 /// What a line is. A line that was cut is a text.
@@ -17,6 +18,25 @@ fn reading<'a>(line: &Line<'a>) -> Reading<'a> {
         return Reading::Text(line.bytes);
     }
     read(line.bytes)
+}
+
+/// The board that a reading says, with its position, if the user plays in its game.
+fn game_in(reading: &Reading<'_>) -> Option<GameBoard> {
+    match reading {
+        Reading::Board(board) => GameBoard::of(board).ok(),
+        Reading::Numbered(_) | Reading::Text(_) | Reading::Malformed { .. } => None,
+    }
+}
+
+/// Reports a line, and the board of the user's game that it says.
+fn tell_line<F: Front>(line: &Line<'_>, front: &mut F) -> Result<(), FrontFault> {
+    let reading = reading(line);
+    let game = game_in(&reading);
+    front.tell(&Said::Heard(line, &reading, game.as_ref()))?;
+    match &game {
+        Some(game) => front.tell(&Said::Game(game)),
+        None => Ok(()),
+    }
 }
 
 /// Reports each line that a portion ends.
@@ -30,7 +50,7 @@ fn tell_portion<F: Front>(
         let fed = lines.feed(rest);
         let used = fed.used;
         match &fed.line {
-            Some(line) => front.tell(&Said::Heard(line, &reading(line)))?,
+            Some(line) => tell_line(line, front)?,
             None => {}
         }
         rest = &rest[used..];

@@ -1,25 +1,19 @@
 //! What a terminal shows of a board.
-ghost use Rattle.std.specs.Prelude.{◌≡◌, ◌≤◌};
-ghost use Rattle.fibs_boards.specs.StoredBoard.{fields_of};
-ghost use Rattle.fibs_position.specs.PositionValue.{position_of, position_value};
-
 use crate::came::{Came, came_since, nothing_came};
-use crate::picture::append_marked;
+use crate::picture::{append_marked, is_plain};
 use crate::screen::Screen;
 use fibs_boards::board::Board;
-use fibs_position::{Phase, Position};
+use fibs_boards::fields::{
+    FIRST_DIE, FIRST_PLACE, LAST_PLACE, OTHER_FIRST_DIE, OTHER_OFF, OTHER_SECOND_DIE, OWN_OFF,
+    SECOND_DIE,
+};
+use fibs_position::{GameBoard, Phase};
 use fibs_wording::messages::front;
 use fibs_wording::outcomes::append_outcome;
 use fibs_wording::pieces::append_all;
 use itoa::Buffer;
 use std::alloc::AllocError;
 use std::time::Clock;
-
-/// The first and the last field of the places.
-const PLACES: (usize, usize) = (7, 32);
-
-/// The fields of the checkers borne off.
-const OFF: [usize; 2] = [46, 47];
 
 /// Whether two boards differ in a field.
 fn differs(a: &Board, b: &Board, number: usize) -> bool {
@@ -28,12 +22,14 @@ fn differs(a: &Board, b: &Board, number: usize) -> bool {
 
 /// Whether a checker is elsewhere on another board, or the other board is of another opponent.
 fn is_moved(a: &Board, b: &Board) -> bool {
-    for number in PLACES.0..PLACES.1 + 1 {
+    for number in FIRST_PLACE..LAST_PLACE + 1 {
         if differs(a, b, number) {
             return true;
         }
     }
-    differs(a, b, OFF[0]) || differs(a, b, OFF[1]) || a.opponent().bytes() != b.opponent().bytes()
+    differs(a, b, OWN_OFF)
+        || differs(a, b, OTHER_OFF)
+        || a.opponent().bytes() != b.opponent().bytes()
 }
 
 /// Whether the player decides in a phase.
@@ -44,28 +40,30 @@ fn is_deciding(phase: Phase) -> bool {
     )
 }
 
-/// A die of a board, 0 if there is none.
-fn die(board: &Board, number: usize) -> i32
-    requires low { 34 ≤ number }
-    requires high { number ≤ 37 }
-{
-    board.field(number)
-}
-
 impl<'a, C: Clock + Drop> Screen<'a, C> {
-    /// Hears a board. One on which the user does not play is shown as the server sent it.
-    pub(crate) fn hear_board(&mut self, bytes: &[u8], board: &Board) -> Result<(), AllocError> {
-        match Position::of(board) {
-            Ok(position) => self.show_board(board, &position),
-            Err(_) => self.show_row(bytes),
+    /// Hears a board of the user's game.
+    pub(crate) fn hear_game(&mut self, game: &GameBoard) -> Result<(), AllocError> {
+        self.memory.owes = true;
+        let phase = game.phase();
+        self.ring_at_turn(phase)?;
+        let again = self.is_heard_again(game.board());
+        if self.is_drawn_whole(game.board(), phase) {
+            self.draw(game, phase)?;
+        } else if !again {
+            self.say_board(game.board(), phase)?;
         }
+        if !again {
+            self.say_outcome(game.board(), phase)?;
+        }
+        self.keep_heard(game, again);
+        Ok(())
     }
 
     /// Whether a checker is elsewhere than on the board that was drawn last.
     fn is_moved_since_drawn(&self, board: &Board) -> bool {
         match &self.memory.drawn {
             None => true,
-            Some(drawn) => is_moved(drawn, board),
+            Some(drawn) => is_moved(drawn.board(), board),
         }
     }
 
@@ -82,7 +80,7 @@ impl<'a, C: Clock + Drop> Screen<'a, C> {
     fn waited_for_opponent(&self) -> bool {
         match &self.memory.heard {
             None => false,
-            Some((_, phase)) => *phase == Phase::OpponentActs,
+            Some(heard) => heard.phase() == Phase::OpponentActs,
         }
     }
 
@@ -90,27 +88,8 @@ impl<'a, C: Clock + Drop> Screen<'a, C> {
     fn is_heard_again(&self, board: &Board) -> bool {
         match &self.memory.heard {
             None => false,
-            Some((heard, _)) => heard == board,
+            Some(heard) => heard.board() == board,
         }
-    }
-
-    /// Shows a board that has a position.
-    fn show_board(&mut self, board: &Board, position: &Position) -> Result<(), AllocError>
-        requires { position_value position.now ≡ position_of (fields_of board.now) }
-    {
-        let phase = position.phase();
-        self.ring_at_turn(phase)?;
-        let again = self.is_heard_again(board);
-        if self.is_drawn_whole(board, phase) {
-            self.draw(board, position)?;
-        } else if !again {
-            self.say_board(board, phase)?;
-        }
-        if !again {
-            self.say_outcome(board, phase)?;
-        }
-        self.keep_heard(board, phase, again);
-        Ok(())
     }
 
     /// Rings the bell if the player decides in a phase, and the board before said that the opponent had the turn.
@@ -123,30 +102,24 @@ impl<'a, C: Clock + Drop> Screen<'a, C> {
     }
 
     /// Keeps the board that came last. If it is the very board that came before, the server has answered by it.
-    fn keep_heard(&mut self, board: &Board, phase: Phase, again: bool) {
+    fn keep_heard(&mut self, game: &GameBoard, again: bool) {
         if again {
             self.memory.answered = true;
             self.memory.advised = false;
         }
-        self.memory.heard = Some((*board, phase));
+        self.memory.heard = Some(*game);
         self.memory.said.clear();
     }
 
-    /// Draws a board that has a position.
-    fn draw(&mut self, board: &Board, position: &Position) -> Result<(), AllocError>
-        requires { position_value position.now ≡ position_of (fields_of board.now) }
-    {
+    /// Draws a board. If the words below it say what may be typed, no hint is owed: only a move is more than they say.
+    fn draw(&mut self, game: &GameBoard, phase: Phase) -> Result<(), AllocError> {
         self.memory.asked = false;
-        let came = self.came(board, position);
-        append_marked(
-            self.alloc,
-            board,
-            position,
-            &came,
-            &self.settings,
-            &mut self.text,
-        )?;
-        self.memory.drawn = Some(*board);
+        let came = self.came(game);
+        append_marked(self.alloc, game, &came, &self.settings, &mut self.text)?;
+        if is_plain(&self.settings) && phase != Phase::Move {
+            self.memory.owes = false;
+        }
+        self.memory.drawn = Some(*game);
         Ok(())
     }
 
@@ -157,20 +130,20 @@ impl<'a, C: Clock + Drop> Screen<'a, C> {
         }
         match &self.memory.heard {
             None => append_outcome(None, board, &mut self.text)?,
-            Some((before, _)) => append_outcome(Some(before), board, &mut self.text)?,
+            Some(before) => append_outcome(Some(before.board()), board, &mut self.text)?,
         }
         self.say(b"\n")
     }
 
     /// Where the opponent has moved to since the board that was drawn before this one.
-    fn came(&mut self, board: &Board, position: &Position) -> Came {
+    fn came(&mut self, game: &GameBoard) -> Came {
         if let Some(drawn) = &self.memory.drawn {
-            if is_moved(drawn, board) {
+            if is_moved(drawn.board(), game.board()) {
                 self.memory.drawn_before = Some(*drawn);
             }
         }
         match &self.memory.drawn_before {
-            Some(before) => came_since(before, board, position),
+            Some(before) => came_since(before, game),
             None => nothing_came(),
         }
     }
@@ -191,7 +164,7 @@ fn append_board(board: &Board, phase: Phase, row: &mut Vec<u8>) -> Result<(), Al
     match phase {
         Phase::Move => {
             row.extend_from_slice(b"You roll ")?;
-            append_dice(die(board, 34), die(board, 35), row)
+            append_dice(board.die(FIRST_DIE), board.die(SECOND_DIE), row)
         }
         Phase::Passing => row.extend_from_slice(b"You can't move: the server passes for you."),
         Phase::OpponentActs => append_opponents_turn(board, row),
@@ -202,15 +175,15 @@ fn append_board(board: &Board, phase: Phase, row: &mut Vec<u8>) -> Result<(), Al
 /// Appends that the opponent has the turn, and his dice, if they are shown.
 fn append_opponents_turn(board: &Board, row: &mut Vec<u8>) -> Result<(), AllocError> {
     row.extend_from_slice(front(board.opponent().bytes()))?;
-    if die(board, 36) == 0 {
+    if board.die(OTHER_FIRST_DIE) == 0 {
         return row.extend_from_slice(b"'s turn.");
     }
     row.extend_from_slice(b" rolls ")?;
-    append_dice(die(board, 36), die(board, 37), row)
+    append_dice(board.die(OTHER_FIRST_DIE), board.die(OTHER_SECOND_DIE), row)
 }
 
 /// Appends two dice.
-fn append_dice(first: i32, second: i32, row: &mut Vec<u8>) -> Result<(), AllocError> {
+fn append_dice(first: u8, second: u8, row: &mut Vec<u8>) -> Result<(), AllocError> {
     let mut one = Buffer::new();
     let mut other = Buffer::new();
     append_all(

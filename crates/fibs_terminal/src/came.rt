@@ -1,7 +1,6 @@
 //! Where the opponent has moved to.
 
-use fibs_boards::board::Board;
-use fibs_position::Position;
+use fibs_position::{GameBoard, Position};
 
 /// How many checkers of the opponent have come to each place, by the player's own numbering.
 pub(crate) type Came = [u8; 25];
@@ -31,12 +30,9 @@ fn came_between(before: &Position, after: &Position) -> Came {
 }
 
 /// How many have come to each place since an earlier board, if that was of the same opponent.
-pub(crate) fn came_since(before: &Board, board: &Board, position: &Position) -> Came {
-    if before.opponent().bytes() != board.opponent().bytes() {
+pub(crate) fn came_since(before: &GameBoard, game: &GameBoard) -> Came {
+    if before.board().opponent().bytes() != game.board().opponent().bytes() {
         return nothing_came();
     }
-    match Position::of(before) {
-        Ok(earlier) => came_between(&earlier, position),
-        Err(_) => nothing_came(),
-    }
+    came_between(before.position(), game.position())
 }

@@ -187,9 +187,9 @@ impl<'a, C: Clock + Drop> Screen<'a, C> {
         if client.refusal(&decision) != Some(Refusal::IllegalPlay) {
             return Ok(());
         }
-        match client.shown() {
+        match client.game() {
             None => Ok(()),
-            Some(board) => append_rule(self.alloc, board, &play, &mut self.memory.rule),
+            Some(game) => append_rule(self.alloc, game, &play, &mut self.memory.rule),
         }
     }
 
@@ -228,9 +228,9 @@ impl<'a, C: Clock + Drop> Screen<'a, C> {
 
     /// Lists the legal moves of the board that is shown.
     fn say_plays(&mut self, client: &Client) -> Result<(), AllocError> {
-        match client.shown() {
+        match client.game() {
             None => self.say(b"No board on which you play was shown yet: type board.\n"),
-            Some(board) => append_plays(self.alloc, board, &mut self.text),
+            Some(game) => append_plays(self.alloc, game, &mut self.text),
         }
     }
 

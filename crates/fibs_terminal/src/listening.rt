@@ -48,14 +48,14 @@ fn is_answer(said: &[u8]) -> bool {
 }
 
 impl<'a, C: Clock + Drop> Screen<'a, C> {
-    /// Hears a line of the server.
+    /// Hears a line of the server. A board on which the user does not play is shown as the server sent it.
     pub(crate) fn hear_line(
         &mut self,
         line: &Line<'_>,
         reading: &Reading<'_>,
     ) -> Result<(), AllocError> {
         match reading {
-            Reading::Board(board) => self.hear_board(line.bytes, board),
+            Reading::Board(_) => self.show_row(line.bytes),
             Reading::Numbered(message) => self.hear_message(message),
             Reading::Text(_) => self.hear_text(line.bytes),
             Reading::Malformed {
@@ -76,7 +76,7 @@ impl<'a, C: Clock + Drop> Screen<'a, C> {
     fn is_passing(&self, said: &[u8]) -> bool {
         match &self.memory.heard {
             None => false,
-            Some((_, phase)) => *phase == Phase::Passing && said == CANT_MOVE,
+            Some(heard) => said == CANT_MOVE && heard.phase() == Phase::Passing,
         }
     }
 

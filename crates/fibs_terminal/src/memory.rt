@@ -1,8 +1,7 @@
 //! What a terminal remembers: only what the client does not know.
 
-use fibs_boards::board::Board;
 use fibs_fields::name::Name;
-use fibs_position::Phase;
+use fibs_position::GameBoard;
 use std::alloc::{AllocError, Global};
 
 /// What is remembered.
@@ -22,11 +21,11 @@ pub struct Memory {
     /// Whether shouts are hidden, and who comes and goes.
     pub quiet: bool,
     /// The board that was drawn last.
-    pub drawn: Option<Board>,
+    pub drawn: Option<GameBoard>,
     /// The board that was drawn before it, or before that one if no checker has moved.
-    pub drawn_before: Option<Board>,
-    /// The board that came last, and its phase.
-    pub heard: Option<(Board, Phase)>,
+    pub drawn_before: Option<GameBoard>,
+    /// The board that came last.
+    pub heard: Option<GameBoard>,
     /// How many players were listed since the last list ended.
     pub listed: usize,
     /// The row of the last of them.

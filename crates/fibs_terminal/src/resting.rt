@@ -9,14 +9,12 @@ ghost use Rattle.fibs_terminal.specs.Resting.{SaysOffers};
 use crate::screen::Screen;
 use fibs_advice::offers::{append_offers, offered};
 use fibs_front::fault::FrontFault;
+use fibs_lines::LOGIN_PROMPT;
 use fibs_session::{Client, Outstanding, Refusal};
 use fibs_wording::messages::front;
 use fibs_wording::reasons::refusal_words;
 use std::alloc::AllocError;
 use std::time::Clock;
-
-/// What a server prints when it waits for a login. The client sends one as soon as it is connected.
-const LOGIN_PROMPT: &[u8] = b"login: ";
 
 impl<'a, C: Clock + Drop> Screen<'a, C> {
     /// Says once what may be typed now, if a board has come; or why nothing goes on, if the server has answered a

@@ -4,7 +4,7 @@ use crate::screen::Screen;
 use fibs_front::said::Said;
 use fibs_session::{CommandText, DirectoryFault, Outstanding, PlainRefusal, Refusal};
 use fibs_wording::lists::append_row;
-use fibs_wording::reasons::{append_not_sent, append_refusal, append_unnoted};
+use fibs_wording::reasons::{append_not_sent, append_reason, append_refusal, append_unnoted};
 use itoa::Buffer;
 use std::alloc::AllocError;
 use std::io::ErrorKind;
@@ -26,11 +26,10 @@ impl<'a, C: Clock + Drop> Screen<'a, C> {
         match said {
             Said::Opened => self.hear_opened(),
             Said::NoConnection(why) => self.say_no_connection(*why),
-            Said::Heard(line, reading) => self.hear_line(line, reading),
-            Said::Phase(_) => {
-                self.memory.owes = true;
-                Ok(())
-            }
+            // its board is reported next
+            Said::Heard(_, _, Some(_)) => Ok(()),
+            Said::Heard(line, reading, None) => self.hear_line(line, reading),
+            Said::Game(game) => self.hear_game(game),
             Said::Confirmed(_) => {
                 self.hear_confirmed();
                 Ok(())
@@ -137,10 +136,11 @@ impl<'a, C: Clock + Drop> Screen<'a, C> {
     /// Says why a decision was refused: of a move against the rules which rule it is.
     fn say_refused(&mut self, why: Refusal) -> Result<(), AllocError> {
         if why == Refusal::IllegalPlay && !self.memory.rule.is_empty() {
-            self.text.extend_from_slice(self.memory.rule.as_slice())?;
-            return self.say(b" [9 IllegalPlay]\n");
+            let rule = self.memory.rule.as_slice();
+            append_reason(rule, why.number(), why, &mut self.text)?;
+        } else {
+            append_refusal(why, &mut self.text)?;
         }
-        append_refusal(why, &mut self.text)?;
         self.say(b"\n")
     }
 

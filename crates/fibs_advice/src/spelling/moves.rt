@@ -1,12 +1,10 @@
 //! Moves as players type them: `8/5 6/5`, `8-5 6-5`, `8/5(2)`, `bar/20`, `6/off`, `24/18/13`.
 ghost use Rattle.std.specs.Prelude.{◌≤◌, IfSome};
 
+use fibs_commands::BAR;
 use fibs_fields::decimal::read_decimal;
 use fibs_fields::split::split;
 use fibs_position::{Direction, Play, Step};
-
-/// The bar, in the player's own numbering.
-const BAR: u8 = 25;
 
 /// The most steps of a move.
 const MOST_STEPS: usize = 4;

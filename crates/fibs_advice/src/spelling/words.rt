@@ -6,7 +6,7 @@ use bstr::ByteSlice;
 use fibs_commands::{CommandText, decision_text};
 use fibs_fields::split::split;
 use fibs_fields::trailing_spaces::without_spaces;
-use fibs_position::{Decision, Play, Position};
+use fibs_position::{Decision, Play};
 use fibs_session::Client;
 use std::alloc::{AllocError, Global};
 
@@ -50,13 +50,10 @@ fn meant(alloc: Global, client: &Client, typed: &Play) -> Result<Play, AllocErro
     if is_taken(client, &Decision::Move(*typed)) {
         return Ok(*typed);
     }
-    let Some(board) = client.shown() else {
+    let Some(game) = client.game() else {
         return Ok(*typed);
     };
-    let Ok(position) = Position::of(board) else {
-        return Ok(*typed);
-    };
-    let plays = position.plays(alloc)?;
+    let plays = game.position().plays(alloc)?;
     match only_meaning(typed, plays.as_slice()) {
         Some(play) => Ok(play),
         None => Ok(*typed),

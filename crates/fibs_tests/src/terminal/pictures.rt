@@ -1,6 +1,9 @@
 //! Boards of both colours and directions, and their pictures, which were drawn by hand.
 
 use super::drawing::draw_line;
+use fibs_messages::Board;
+use fibs_picture::{MOST_SEEN, place_at};
+use fibs_position::GameBoard;
 use std::alloc::{AllocError, Global};
 use std::test::Fail;
 
@@ -129,4 +132,41 @@ fn a_write_that_fails_ends_the_drawing(rt: HostRuntime) -> Result<(), Fail> {
         assert_eq!(rt; &held[..room.min(1024)], &wanted[..room], "room for {room}");
     }
     Ok(())
+}
+
+/// How many letters are drawn of so many checkers: for more than five there is a number in place of the fifth.
+fn letters(count: u8) -> usize {
+    if count > MOST_SEEN {
+        usize::from(MOST_SEEN) - 1
+    } else {
+        usize::from(count)
+    }
+}
+
+/// How many letters of checkers are where a place is.
+fn letters_at(place: u8, lines: &[&[u8]]) -> usize {
+    let mut found = 0usize;
+    for row in 0..lines.len() {
+        let line = lines[row];
+        for column in 0..line.len() {
+            let is_letter = line[column] == b'O' || line[column] == b'X';
+            if is_letter && place_at(row, column) == place {
+                found = found.saturating_add(1);
+            }
+        }
+    }
+    found
+}
+
+#[test]
+fn a_place_is_where_its_checkers_are_drawn(rt: HostRuntime) {
+    for picture in &PICTURES {
+        let board = Board::read(picture.board).expect(&rt, "it is a board");
+        let game = GameBoard::of(&board).expect(&rt, "the user plays in its game");
+        for place in 1..25u8 {
+            let count = game.position().own(place).max(game.position().other(place));
+            let found = letters_at(place, &picture.lines);
+            assert_eq!(rt; found, letters(count), "{}: place {place}", picture.name);
+        }
+    }
 }

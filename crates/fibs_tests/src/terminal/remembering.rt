@@ -116,7 +116,7 @@ fn a_board_is_drawn_again(rt: HostRuntime) {
 /// An offer to resign is said once.
 static RESIGNED: [Scene; 1] = [(
     &[Step::Hears(RESIGNS), Step::Rests, Step::Rests],
-    "Your turn: roll, or double.\n\x07bob wants to resign. You will win 1 point.\nbob offers to resign: send accept, or send reject.\n",
+    " You roll, or double, or resign.\n\x07bob wants to resign. You will win 1 point.\nbob offers to resign: send accept, or send reject.\n",
 )];
 
 #[test]
@@ -169,7 +169,7 @@ fn what_is_quiet_is_not_shown(rt: HostRuntime) {
 static RUNG: [Scene; 4] = [
     (
         &[Step::Hears(MOVED)],
-        "Your turn: roll, or double.\nbob's turn.\n",
+        " You roll, or double, or resign.\nbob's turn.\n",
     ),
     (
         &[Step::Hears(MOVED), Step::Hears(TO_ROLL), Step::Rests],
@@ -177,11 +177,11 @@ static RUNG: [Scene; 4] = [
     ),
     (
         &[Step::Loses],
-        "Your turn: roll, or double.\n\x07lost: open connects again, quit ends\n",
+        " You roll, or double, or resign.\n\x07lost: open connects again, quit ends\n",
     ),
     (
         &[Step::Hears(b"9 carol 1041253132 see you\r\n")],
-        "double.\n\x07carol left a message on 30 December 2002, 12:58: see you\n",
+        "resign.\n\x07carol left a message on 30 December 2002, 12:58: see you\n",
     ),
 ];
 
@@ -255,18 +255,18 @@ bob's turn.\n",
             Step::Hears(MOVED_BEFORE_A_ROLL),
             Step::Hears(MOVED_BEFORE_A_ROLL),
         ],
-        "double.\nbob's turn.\nbob's turn.\n",
+        "resign.\nbob's turn.\nbob's turn.\n",
     ),
     (
         &[
             Step::Hears(ENTRY_CLOSED),
             Step::Hears(b"You can't move.\r\n"),
         ],
-        "double.\nYou can't move: the server passes for you.\n",
+        "resign.\nYou can't move: the server passes for you.\n",
     ),
     (
         &[Step::Hears(GAME_OVER), Step::Hears(GAME_OVER)],
-        "double.\nThe game is over. You 0, bob 1 of 3.\n",
+        "resign.\nThe game is over. You 0, bob 1 of 3.\n",
     ),
 ];
 

@@ -10,7 +10,7 @@ use fibs_front::typing::{Typed, read_typed};
 use fibs_front::wish::Wish;
 use fibs_front::words::Words;
 use fibs_messages::Reading;
-use fibs_position::phase_of;
+use fibs_position::GameBoard;
 use fibs_session::{Client, Directory, Login, Taken};
 use fibs_terminal::Terminal;
 use std::io;
@@ -165,7 +165,8 @@ fn tell_taken<F: Front>(
     taken: &Taken<'_>,
     front: &mut F,
 ) -> Result<(), FrontFault> {
-    front.tell(&Said::Heard(&taken.line, &taken.reading))?;
+    let game = game_in(&taken.reading);
+    front.tell(&Said::Heard(&taken.line, &taken.reading, game.as_ref()))?;
     note(directory, &taken.reading, front)?;
     match &taken.confirmed {
         Some(asked) => front.tell(&Said::Confirmed(asked)),
@@ -173,15 +174,23 @@ fn tell_taken<F: Front>(
     }
 }
 
-/// Tells the phase of a board, and notes a player.
+/// The board that a reading says, with its position, if the user plays in its game.
+fn game_in(reading: &Reading<'_>) -> Option<GameBoard> {
+    match reading {
+        Reading::Board(board) => GameBoard::of(board).ok(),
+        _ => None,
+    }
+}
+
+/// Tells of the user's game, and notes a player.
 fn note<F: Front>(
     directory: &mut Directory,
     reading: &Reading<'_>,
     front: &mut F,
 ) -> Result<(), FrontFault> {
     match reading {
-        Reading::Board(board) => match phase_of(board) {
-            Some(phase) => front.tell(&Said::Phase(phase)),
+        Reading::Board(_) => match game_in(reading) {
+            Some(game) => front.tell(&Said::Game(&game)),
             None => Ok(()),
         },
         Reading::Numbered(message) => match directory.note(message) {

@@ -18,5 +18,5 @@ returns g c =
     let rolled = rolled_told taken.rolled in
     on_ok_weaker c.tell_rolled.result
     (λ last. joined _ _ _ heard (phase ++ (confirmed ++ rolled)) c.in_ok-tell.ensures
-    (joined _ _ _ phase (confirmed ++ rolled) c.in_ok-tell_phase.ensures
+    (joined _ _ _ phase (confirmed ++ rolled) c.in_ok-tell_game.ensures
     (joined _ _ _ confirmed rolled c.in_ok-tell_confirmed.ensures last))) c.tell_rolled.ensures
