@@ -7,5 +7,6 @@ pub mod Numbered
 pub mod Final
 pub mod Steps
 pub mod OnceLemmas
+pub mod rest
 pub mod RealLaws
 pub mod Projection

@@ -30,8 +30,14 @@ use Rattle.fibs_machine.specs.Owed.{Owed}
 use Rattle.fibs_machine.specs.Stale.{NoneStale}
 use Rattle.fibs_machine.specs.Acts.{acts_after}
 use Rattle.fibs_machine.specs.Joint as S
+use Rattle.fibs_machine.specs.Agrees.{AgreesHolds, OnlyLoginHolds}
+use Rattle.fibs_machine.specs.CanRest.{CanRestHolds, ThisWayLeadsToRest}
 use Rattle.fibs_machine.proofs.Final.{headline_holds, never_stale}
 use Rattle.fibs_machine.proofs.joint.Stated.{joint_holds}
+use Rattle.fibs_machine.proofs.rest.Agreeing.{agrees_holds}
+use Rattle.fibs_machine.proofs.rest.Resting.{can_rest_holds, leads_to_rest}
+use Rattle.fibs_machine.proofs.rest.Saying.{only_login_holds}
+use Rattle.fibs_machine.proofs.rest.BeforeRolls.{Rules}
 use Rattle.fibs_machine.proofs.Lawful.{NoReturn, Lawful, IsQuiet, AllQuiet}
 
 -- a board that allows a decision to the client allows it
@@ -159,4 +165,30 @@ module _ (owed : Owed) where
   unfolding MayBe world_after acts_after
   real_joint name password b events is h =
       joint_holds lawful (login_text name password) (quiet _ (owed.login name password is)) b events
+      ((owed.good_exact b).1 h)
+
+  -- client and server agree, for every login and every good first board
+  pub real_agrees : AgreesHolds
+  unfolding MayBe world_after acts_after
+  real_agrees name password b events is h =
+      agrees_holds lawful (login_text name password) (quiet _ (owed.login name password is)) b events
+      ((owed.good_exact b).1 h)
+
+  -- a world can come to rest, for every login and every good first board
+  pub real_can_rest : Rules → CanRestHolds
+  real_can_rest rules name password b events is h =
+      can_rest_holds lawful rules (login_text name password) (quiet _ (owed.login name password is)) b events
+      ((owed.good_exact b).1 h)
+
+  -- what comes next leads it there
+  pub real_way : Rules → ThisWayLeadsToRest
+  real_way rules name password b events is h =
+      leads_to_rest lawful rules (login_text name password) (quiet _ (owed.login name password is)) b events
+      ((owed.good_exact b).1 h)
+
+  -- what the client sent at rest before a board is shown, for every login and every good first board
+  pub real_only_login : OnlyLoginHolds
+  unfolding MayBe world_after
+  real_only_login name password b events is h =
+      only_login_holds lawful (login_text name password) (quiet _ (owed.login name password is)) b events
       ((owed.good_exact b).1 h)

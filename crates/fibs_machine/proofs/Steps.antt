@@ -161,7 +161,7 @@ leaves : (w w' : World) → Adds w w' → Leaves w w'
 leaves w w' a = record { board = a.board; noted = a.more; log = a.log; none = none_taken a.more a.none }
 
 -- what is sent changes neither the board nor the log
-sends_board : (w : World) (t : List ℕ) → (sends w t).board ≡ w.board
+pub sends_board : (w : World) (t : List ℕ) → (sends w t).board ≡ w.board
 sends_board w t = if_fact (λ (x : World). x.board ≡ w.board) (is_talking w) _ _ (λ z. refl) (λ z. refl)
 
 pub sends_log : (w : World) (t : List ℕ) → (sends w t).log ≡ w.log

@@ -10,6 +10,8 @@ pub mod Once
 pub mod Stale
 pub mod Acts
 pub mod Joint
+pub mod Agrees
+pub mod CanRest
 pub mod Owed
 pub mod Laws
 pub mod Talks

@@ -1,5 +1,7 @@
 //! Laws of the machine. Each function does nothing else: its contract is the law.
 
+ghost use Rattle.fibs_machine.specs.Agrees.{AgreesHolds, OnlyLoginHolds};
+ghost use Rattle.fibs_machine.specs.CanRest.{CanRestHolds, ThisWayLeadsToRest};
 ghost use Rattle.fibs_machine.specs.Joint.{JointStatement};
 ghost use Rattle.fibs_machine.specs.Laws.{HeadlineHolds, NothingServedIsStale};
 ghost use Rattle.fibs_machine.specs.Once.{OneStep, OnceHolds};
@@ -48,6 +50,34 @@ pub fn joint_statement()
     ensures { JointStatement }
 {
     layers_below();
+}
+
+/// After every such list client and server agree on the board. The boards shown on each connection are the first of
+/// those that the server sent there, in their order. While the connection that is logged in is open, the last board sent
+/// there is the server's. At rest all of them are shown, so the board shown last is the server's, in all its fields; and
+/// if none is shown, the client sent its login there and nothing else.
+pub fn agrees()
+    ensures agrees { AgreesHolds }
+    ensures only_login { OnlyLoginHolds }
+{
+    layers_below();
+}
+
+/// After every such list, if a connection is open, the world can come to rest without a new one. Whatever the dice,
+/// serving its lines and delivering its bytes brings it there, by at most eight events more than there are lines on
+/// their way to the server; one way is to serve while there is a line, and otherwise to deliver all bytes. However the
+/// lines are served and the bytes delivered, at most five lines more are served than are on their way.
+pub fn can_rest()
+    ensures can_rest { CanRestHolds }
+    ensures way { ThisWayLeadsToRest }
+{
+    layers_below();
+    fibs_boards::laws::fields_have_their_ranges();
+    fibs_position::laws::phase_is_exact();
+    fibs_position::laws::allowed_is_carried_out();
+    fibs_position::laws::effect_is_exact();
+    fibs_position::laws::effect_is_good();
+    fibs_position::laws::no_three_in_a_row();
 }
 
 /// While the user decides on the server's board, an event that is accepted leaves that board as it is, or one decision

@@ -11,6 +11,8 @@ pub use Rattle.fibs_machine.specs.Once
 pub use Rattle.fibs_machine.specs.Stale
 pub use Rattle.fibs_machine.specs.Acts
 pub use Rattle.fibs_machine.specs.Joint
+pub use Rattle.fibs_machine.specs.Agrees
+pub use Rattle.fibs_machine.specs.CanRest
 pub use Rattle.fibs_machine.specs.Laws
 -- what is given to a carrier; the server, events and entries of the program; a wire
 pub use Rattle.fibs_carrier.specs.Carrying

@@ -144,7 +144,7 @@ module _ (law : Lawful) where
           }
 
   -- a good board is heard
-  note_shown : (w : World) (b : Board) (more : List Board) → Joint (b ∷ more) w → open_now w.log ≡ w.logged_in
+  pub note_shown : (w : World) (b : Board) (more : List Board) → Joint (b ∷ more) w → open_now w.log ≡ w.logged_in
       → 0 < w.logged_in
       → Joint more (noted w (Shown w.logged_in b ∷ []))
   note_shown w b more j here some =
@@ -187,10 +187,10 @@ module _ (law : Lawful) where
           absurd (true≢false (sym lk ∙ k.2))
 
   -- while lines are heard: the open connection is the one logged in, and more boards were delivered
-  record Hearing (c : ℕ) (more : List Board) (w : World) : Type 0 where
-    joint : Joint more w
-    here : open_now w.log ≡ c
-    mine : w.logged_in ≡ c
+  pub record Hearing (c : ℕ) (more : List Board) (w : World) : Type 0 where
+    pub joint : Joint more w
+    pub here : open_now w.log ≡ c
+    pub mine : w.logged_in ≡ c
 
   -- what is heard is noted, and commands that are no decisions are handed out
   finish : (c : ℕ) (more : List Board) (w : World) (h : Heard) → 0 < c → Joint more (noted w h.entries)
@@ -244,7 +244,7 @@ module _ (law : Lawful) where
           }
 
   -- a line is heard: its board is no longer among those delivered and not noted
-  hears_one : (c : ℕ) (more : List Board) (w : World) (x : ReadingValue) → 0 < c → Hearing c (board_of x ++ more) w
+  pub hears_one : (c : ℕ) (more : List Board) (w : World) (x : ReadingValue) → 0 < c → Hearing c (board_of x ++ more) w
       → Hearing c more (hears c w x)
   hears_one c more w (board_line b) some y = if_fact (λ h. Hearing c more (does_heard c w h)) (is_good b) _ _
       (λ z.
@@ -287,6 +287,38 @@ module _ (law : Lawful) where
       let y' = subst (λ bs. Hearing c bs w) (append_assoc (board_of (line_reading l)) (boards ls) more) y in
       hears_lines c ls more _ some (hears_one c (boards ls ++ more) w (line_reading l) some y')
 
+  -- bytes are delivered to the connection that is logged in: their lines are to be heard
+  pub hearing_begins : (w : World) (n : ℕ) → Joint [] w → open_now w.log ≡ w.logged_in → 0 < w.logged_in
+      → Hearing w.logged_in (boards (gained (w.links w.logged_in).heard (take n (w.links w.logged_in).coming)) ++ [])
+      (linked w w.logged_in (delivered (w.links w.logged_in) n))
+  hearing_begins w n j here have =
+      let l : Link = w.links w.logged_in in
+      let l' : Link = delivered (w.links w.logged_in) n in
+      let ls : List Line = gained l.heard (take n l.coming) in
+      let w' : World = linked w w.logged_in l' in
+      let cur = j.current have in
+      let ws : waiting (boards ls) l' ≡ waiting [] l = sym (boards_split law l.heard l.coming n) in
+      let v : Current (nat_eq (open_now w.log) w.logged_in) (with_link (view w w.logged_in) l') w.board
+      (waiting (boards ls) l') =
+      record {
+        p = cur.p;
+        way = cur.way;
+        begun = cur.begun;
+        owed = cur.owed;
+        held = cur.held;
+        live =
+            λ o. relink law (view w w.logged_in) l' w.board _ cur.p
+            (subst (λ bs. Live (view w w.logged_in) w.board bs cur.p) (sym ws) (cur.live o));
+      } in
+      let v' =
+      subst (λ (u : View). Current (nat_eq (open_now w.log) w.logged_in) u w.board (waiting (boards ls) u.link))
+      (sym (view_linked w w.logged_in l')) v in
+      let j' : Joint (boards ls) w' = joint_current [] (boards ls) w w' j have refl refl refl
+      (λ d m. same_view w w' [] d (sym (append-nil _)) refl refl refl (linked_other w w.logged_in d l' m))
+      j.good v' (j.moved w.logged_in)
+      (λ o. rw (linked_same w w.logged_in l') (whole_split law l.heard l.coming n (j.wire w.logged_in o have))) in
+      record { joint = subst (λ bs. Joint bs w') (sym (append-nil _)) j'; here = here; mine = refl }
+
   -- bytes are delivered to the open connection
   pub joint_deliver : (w : World) (c n : ℕ) → Joint [] w → open_now w.log ≡ c → 0 < c
       → Joint []
@@ -297,36 +329,10 @@ module _ (law : Lawful) where
           → Joint []
           (hears_all c (linked w c (delivered (w.links c) n)) (gained (w.links c).heard (take n (w.links c).coming)))
       at_current e =
-          let l : Link = w.links w.logged_in in
-          let l' : Link = delivered (w.links w.logged_in) n in
-          let ls : List Line = gained l.heard (take n l.coming) in
-          let w' : World = linked w w.logged_in l' in
           let have : 0 < w.logged_in = omega arith in
-          let t : nat_eq (open_now w.log) w.logged_in ≡ true = same_test _ _ (h ∙ e) in
-          let cur = j.current have in
-          let ws : waiting (boards ls) l' ≡ waiting [] l = sym (boards_split law l.heard l.coming n) in
-          let v : Current (nat_eq (open_now w.log) w.logged_in) (with_link (view w w.logged_in) l') w.board
-          (waiting (boards ls) l') =
-          record {
-            p = cur.p;
-            way = cur.way;
-            begun = cur.begun;
-            owed = cur.owed;
-            held = cur.held;
-            live =
-                λ o. relink law (view w w.logged_in) l' w.board _ cur.p
-                (subst (λ bs. Live (view w w.logged_in) w.board bs cur.p) (sym ws) (cur.live o));
-          } in
-          let v' =
-          subst (λ (u : View). Current (nat_eq (open_now w.log) w.logged_in) u w.board (waiting (boards ls) u.link))
-          (sym (view_linked w w.logged_in l')) v in
-          let j' : Joint (boards ls) w' = joint_current [] (boards ls) w w' j have refl refl refl
-          (λ d m. same_view w w' [] d (sym (append-nil _)) refl refl refl (linked_other w w.logged_in d l' m))
-          j.good v' (j.moved w.logged_in)
-          (λ o. rw (linked_same w w.logged_in l') (whole_split law l.heard l.coming n (j.wire w.logged_in o have))) in
-          let y : Hearing w.logged_in (boards ls ++ []) w' =
-          record { joint = subst (λ bs. Joint bs w') (sym (append-nil _)) j'; here = h ∙ e; mine = refl } in
-          rw e (hears_lines w.logged_in ls [] w' have y).joint
+          let ls : List Line = gained (w.links w.logged_in).heard (take n (w.links w.logged_in).coming) in
+          rw e (hears_lines w.logged_in ls [] (linked w w.logged_in (delivered (w.links w.logged_in) n)) have
+          (hearing_begins w n j (h ∙ e) have)).joint
 
       at_ahead : (c ≡ w.logged_in → ⊥)
           → Joint []
@@ -350,6 +356,7 @@ module _ (law : Lawful) where
             heard = ap (λ l. l ++ take n (w.links c).coming) a.heard ∙ tn;
             coming = dn;
             way = a.way;
+            asks = a.asks;
           } in
           let j' : Joint [] (linked w c l') = joint_ahead [] w (linked w c l') c j lt refl refl refl refl
           (λ d k. same_view w (linked w c l') [] d (sym (append-nil _)) refl refl refl (linked_other w c d l' k))

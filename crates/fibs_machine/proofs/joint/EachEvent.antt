@@ -1,7 +1,7 @@
 -- Each event keeps the joint statement.
 use Rattle.std.proofs.Common.{◌≡◌, ℕ, ◌<◌, ◌≤◌, Bool, true, false, not, ◌&&◌, ◌||◌, List, [], ◌∷◌, Option, Some, None}
 use Rattle.std.proofs.Common.{nat_eq, nat_lt, refl, sym, zero, suc, subst, inl, inr, true≢false, arith, if◌then◌else◌}
-use Rattle.std.proofs.Common.{is_some}
+use Rattle.std.proofs.Common.{is_some, ◌∙◌}
 use Rattle.std.proofs.lemmas.Bool.Decides.{nat_tests}
 use Rattle.std.proofs.lemmas.Bool.{eqb-true}
 use Rattle.fibs_boards.specs.Board.{BoardFields as Board}
@@ -25,7 +25,7 @@ use Rattle.fibs_machine.specs.Refusals.{refusal, is_board_text}
 use Rattle.fibs_machine.proofs.Lawful.{IsQuiet, Lawful}
 use Rattle.fibs_lines.specs.Lines.{lines_of}
 use Rattle.fibs_history.specs.Machine.{on_wire}
-use Rattle.fibs_history.proofs.Lists.{and_left, and_right}
+use Rattle.fibs_history.proofs.Lists.{and_left, and_right, other_number}
 use Rattle.fibs_machine.proofs.wires.Ways.{way_none}
 use Rattle.fibs_machine.proofs.wires.Boards.{whole_none, text_boards}
 use Rattle.fibs_machine.proofs.joint.Joint.{Joint}
@@ -192,6 +192,7 @@ module _ (law : Lawful) where
           heard = refl;
           coming = refl;
           way = way_none law _;
+          asks = λ z. absurd (true≢false (sym z ∙ other_number 0 c (λ e. absurd (omega arith))));
         };
     unopened = λ c h. refl;
     settled = λ c. record { p = None; owed = refl };

@@ -103,6 +103,8 @@ pub record Ahead (is_open : Bool) (v : View) : Type 0 where
   pub heard : v.link.heard ≡ []
   pub coming : v.link.coming ≡ []
   pub way : OnWay is_open None v.link.asked
+  -- while it is open its login is on its way
+  pub asks : is_open ≡ true → is_empty v.link.asked ≡ false
 
 -- all but at most one decision took effect
 pub record Settled (v : View) : Type 0 where

@@ -14,7 +14,7 @@ use Rattle.fibs_machine.proofs.wires.Cuts.{line_whole}
 use Rattle.fibs_machine.proofs.wires.Ways.{Queue, OnWay}
 
 -- the texts hold no CR
-abbrev Texts : List (List ℕ) → Type 0
+abbrev pub Texts : List (List ℕ) → Type 0
 Texts [] = Unit {0}
 Texts (t ∷ ts) = NoReturn t × Texts ts
 
@@ -24,7 +24,7 @@ quiet_texts [] gone h = tt
 quiet_texts (t ∷ ts) gone h = (h.0.text, quiet_texts ts gone h.1)
 
 -- nor all commands on their way
-queue_texts : (p : Option Ask) (ts gone : List (List ℕ)) → Queue p (ts ++ gone) → Texts ts
+pub queue_texts : (p : Option Ask) (ts gone : List (List ℕ)) → Queue p (ts ++ gone) → Texts ts
 queue_texts None ts gone q = quiet_texts ts gone q
 queue_texts (Some a) [] gone q = tt
 queue_texts (Some a) (t ∷ ts) gone q = elim q [

@@ -6,7 +6,7 @@ use Rattle.std.proofs.lemmas.Bool.Decides.{eqb_tells}
 use Rattle.std.proofs.lemmas.Bool.{eqb-true}
 use Rattle.fibs_boards.specs.Board.{BoardFields as Board}
 use Rattle.fibs_history.specs.Log.{Entry}
-use Rattle.fibs_history.specs.Words.{Ask, last, open_from, open_now, shown, sent, took}
+use Rattle.fibs_history.specs.Words.{Ask, is_empty, last, open_from, open_now, shown, sent, took}
 use Rattle.fibs_lines.specs.Lines.{lines_of}
 use Rattle.fibs_machine.specs.Wires.{Link, more_asked, more_coming}
 use Rattle.fibs_machine.specs.Server.{user_decides}
@@ -105,6 +105,11 @@ not_older x w c j h k =
 pub same_test : (c d : ℕ) → c ≡ d → nat_eq c d ≡ true
 same_test c d h = rw h (same_number d)
 
+-- more bytes after some
+more_bytes : (xs ys : List ℕ) → is_empty xs ≡ false → is_empty (xs ++ ys) ≡ false
+more_bytes [] ys h = absurd (true≢false h)
+more_bytes (x ∷ xs) ys h = refl
+
 module _ (law : Lawful) where
   -- the client of the open connection hands out commands that are no decisions
   pub joint_asks : (x : List Board) (w : World) (c : ℕ) (ts : List (List ℕ)) → Joint x w → open_now w.log ≡ c → 0 < c
@@ -137,6 +142,7 @@ module _ (law : Lawful) where
             heard = a.heard;
             coming = a.coming;
             way = way_more law None _ ts a.way q;
+            asks = λ z. more_bytes (w.links c).asked (flat_map on_wire ts) (a.asks refl);
           } in
           let v' = subst (Ahead true) (sym (view_linked w c _)) v in
           joint_ahead x w (asks w c ts) c j lt refl refl refl refl

@@ -41,6 +41,12 @@ no_number d h = other_number 0 d (λ e. absurd (omega arith))
 not_below : (c d : ℕ) → d < c → nat_lt c d ≡ false
 not_below c d h = grind (arith, nat_tests)
 
+-- bytes that a line was added to
+not_empty : (xs t : List ℕ) → is_empty (xs ++ on_wire t) ≡ false
+not_empty [] [] = refl
+not_empty [] (x ∷ t) = refl
+not_empty (x ∷ xs) t = refl
+
 module _ (law : Lawful) where
   -- what is said of a newer connection holds after its loss
   ahead_lost : (o : Bool) (v : View) → Ahead o v → Ahead false v
@@ -54,6 +60,7 @@ module _ (law : Lawful) where
         heard = a.heard;
         coming = a.coming;
         way = way_lost law o None v.link.asked a.way;
+        asks = λ z. absurd (true≢false (sym z));
       }
 
   -- what is said of the connection logged in holds after its loss, but for the boards on their way
@@ -140,6 +147,7 @@ module _ (law : Lawful) where
         heard = a.heard;
         coming = refl;
         way = way_lose law None (w.links c).asked k (subst (λ o. OnWay o None (w.links c).asked) t a.way);
+        asks = λ z. absurd (true≢false (sym z));
       }
 
       cut_current : w.logged_in ≡ c
@@ -191,6 +199,7 @@ module _ (law : Lawful) where
         heard = a.heard;
         coming = a.coming;
         way = wm;
+        asks = λ z. rw un (ap is_empty (append-nil (on_wire login)) ∙ not_empty [] login);
       } in
       let a'' : Ahead true (view w' (w.count + 1)) = subst (Ahead true) (sym here) a' in
       record {
@@ -226,12 +235,6 @@ module _ (law : Lawful) where
             (subst (λ (v : View). Whole (v.link.heard ++ v.link.coming)) (sym here)
             (rw (a.heard, a.coming) whole_none));
       }
-
-  -- bytes that a line was added to
-  not_empty : (xs t : List ℕ) → is_empty (xs ++ on_wire t) ≡ false
-  not_empty [] [] = refl
-  not_empty [] (x ∷ t) = refl
-  not_empty (x ∷ xs) t = refl
 
   -- the first line of a connection is its login
   joint_login : (w : World) (c : ℕ) (t rest : List ℕ) → Joint [] w → 0 < c → c ≤ w.count → w.logged_in < c

@@ -1,0 +1,656 @@
+-- A measure of what is still on its way on a connection, or may still be called forth: each line that is served, and
+-- each delivery of all bytes, makes it smaller.
+use Rattle.std.proofs.Common.{◌≡◌, ◌⊎◌, ℕ, ◌+◌, ◌<◌, ◌≤◌, Bool, true, false, ◌&&◌, ◌||◌, List, [], ◌∷◌, ◌++◌, Option}
+use Rattle.std.proofs.Common.{Some}
+use Rattle.std.proofs.Common.{None, nat_eq, flat_map, length, refl, sym, ◌∙◌, ap, subst, inl, inr, append-nil}
+use Rattle.std.proofs.Common.{append_assoc, true≢false, arith, if◌then◌else◌, length-append}
+use Rattle.std.proofs.lemmas.Bool.Decides.{eqb_tells}
+use Rattle.fibs_lines.specs.Lines.{ReadLine as Line}
+use Rattle.fibs_boards.specs.Board.{BoardFields as Board, spelling}
+use Rattle.fibs_messages.specs.Flags.{autoboard, moreboards}
+use Rattle.fibs_messages.specs.Line.{ReadingValue, numbered_line, board_line, text_line, malformed_line}
+use Rattle.fibs_messages.specs.Message.{MessageValue}
+use Rattle.fibs_commands.specs.FirstCommands.{style_text, autoboard_text, moreboards_text, board_text}
+use Rattle.fibs_position.specs.DecisionValue.{roll}
+use Rattle.fibs_position.specs.GamePart.{same_game}
+use Rattle.fibs_position.specs.GoodBoard.{good as is_good}
+use Rattle.fibs_position.specs.Phases.{phase_of}
+use Rattle.fibs_history.specs.Hearing.{Heard, nothing_heard, flags_of, line_reading, initial_commands}
+use Rattle.fibs_history.specs.Hearing.{shows_board}
+use Rattle.fibs_history.specs.Log.{Entry, Flags, Welcomed, Informed, Shown, Sent, Took, Undone}
+use Rattle.fibs_history.specs.Log as L
+use Rattle.fibs_history.specs.Machine.{on_wire, wire_of}
+use Rattle.fibs_history.specs.Orders.{is_due, is_to_roll}
+use Rattle.fibs_history.specs.Words.{Ask, one_if, is_empty, last, open_now, shown, sent, sent_by, took, took_by}
+use Rattle.fibs_history.specs.Words.{is_spent}
+use Rattle.fibs_history.specs.Words.{welcomed, welcomed_by, informed, informed_by}
+use Rattle.fibs_machine.specs.Joint.{AreLines}
+use Rattle.fibs_machine.specs.Server.{Served, command, user_decides}
+use Rattle.fibs_machine.specs.Server as V
+use Rattle.fibs_machine.specs.Wires.{Link, more_asked, more_coming, next_line, put}
+use Rattle.fibs_machine.specs.World.{World, noted, linked, sends, is_talking, does_heard, hears, hears_all}
+use Rattle.fibs_machine.specs.World.{does_served}
+use Rattle.fibs_machine.proofs.Lawful.{Lawful, NoReturn, AllQuiet}
+use Rattle.fibs_machine.proofs.Steps.{sends_board, sends_log}
+use Rattle.fibs_history.proofs.Lists.{same_number, other_number, and_left, and_right, map_more, map_no_more, to_list}
+use Rattle.fibs_history.proofs.Past.{open_append}
+use Rattle.fibs_history.proofs.Words.{own}
+use Rattle.fibs_machine.proofs.log.Due.{due_rolls}
+use Rattle.fibs_machine.proofs.joint.Deliver.{Hearing, hears_one, note_shown}
+use Rattle.fibs_machine.proofs.joint.Joint.{view, Live, Joint, linked_same, linked_other}
+use Rattle.fibs_machine.proofs.joint.Left.{Texts}
+use Rattle.fibs_machine.proofs.joint.Sending.{if_fact, same_test}
+use Rattle.fibs_machine.proofs.wires.Boards.{waiting, boards, board_of}
+use Rattle.fibs_machine.proofs.wires.Cuts.{line_whole}
+
+-- ---- how many lines are on their way to the server
+
+-- how many of the bytes are CR
+pub returns_in : List ℕ → ℕ
+returns_in [] = 0
+returns_in (b ∷ bytes) = (if nat_eq b 13 then 1 else 0) + returns_in bytes
+
+-- none of no bytes is a CR
+pub returns_none : returns_in [] ≡ 0
+unfolding returns_in
+returns_none = refl
+
+-- at most as many as there are bytes
+pub returns_most : (bytes : List ℕ) → returns_in bytes ≤ length bytes
+unfolding returns_in
+returns_most [] = omega arith
+returns_most (b ∷ bytes) =
+    let more = returns_most bytes in
+    if_fact (λ one. one + returns_in bytes ≤ length (b ∷ bytes)) (nat_eq b 13) _ _ (λ z. omega arith)
+    (λ z. omega arith)
+
+-- the CR of two parts are those of each
+pub returns_append : (xs ys : List ℕ) → returns_in (xs ++ ys) ≡ returns_in xs + returns_in ys
+unfolding returns_in
+returns_append [] ys = omega arith
+returns_append (x ∷ xs) ys = let h = returns_append xs ys in omega arith
+
+-- a text without CR has none
+returns_text : (t : List ℕ) → NoReturn t → returns_in t ≡ 0
+unfolding returns_in
+returns_text [] h = refl
+returns_text (b ∷ t) h = rw h.0 (let r = returns_text t h.1 in omega arith)
+
+-- CR LF has one
+returns_end : returns_in (13 ∷ 10 ∷ []) ≡ 1
+unfolding returns_in
+returns_end = refl
+
+-- so a text with CR LF has one
+pub returns_wire : (t : List ℕ) → NoReturn t → returns_in (on_wire t) ≡ 1
+returns_wire t h =
+    let r = returns_text t h in let a = returns_append t (13 ∷ 10 ∷ []) in let e = returns_end in omega arith
+
+-- commands on the wire have one CR each
+pub returns_commands : (ts : List (List ℕ)) → Texts ts → returns_in (wire_of ts) ≡ length ts
+returns_commands [] h = returns_none
+returns_commands (t ∷ ts) h =
+    let a = returns_append (on_wire t) (wire_of ts) in
+    let r = returns_wire t h.0 in
+    let s = returns_commands ts h.1 in omega arith
+
+-- commands that are no decisions are texts
+pub quiet_are_texts : (ts : List (List ℕ)) → AllQuiet ts → Texts ts
+quiet_are_texts [] h = tt
+quiet_are_texts (t ∷ ts) h = (h.0.text, quiet_are_texts ts h.1)
+
+-- a pair that is there is that pair
+some_pair : (x y : List ℕ × List ℕ) → Some x ≡ Some y → x ≡ y
+some_pair x y h = cc
+
+-- what is left after a line was taken has fewer
+pub returns_less : (bytes t rest : List ℕ) → next_line bytes ≡ Some (t, rest) → returns_in rest < returns_in bytes
+unfolding next_line returns_in
+returns_less [] t rest h = absurd cc
+returns_less (b ∷ []) t rest h = absurd cc
+returns_less (b ∷ c ∷ bytes) t rest h =
+    go (nat_eq b 13) (nat_eq c 10) refl h (λ u e. returns_less (c ∷ bytes) u rest e)
+  where
+    behind : (o : Option (List ℕ × List ℕ)) → put b o ≡ Some (t, rest)
+        → ((u : List ℕ) → o ≡ Some (u, rest) → returns_in rest < returns_in (c ∷ bytes))
+        → returns_in rest < returns_in (c ∷ bytes)
+    behind None e f = absurd cc
+    behind (Some p) e f =
+        let s = some_pair (b ∷ p.0, p.1) (t, rest) e in
+        let r : p.1 ≡ rest = ap (λ (q : List ℕ × List ℕ). q.1) s in
+        f p.0 (ap (λ x. Some (p.0, x)) r)
+
+    more : returns_in rest < returns_in (c ∷ bytes)
+        → returns_in rest < (if nat_eq b 13 then 1 else 0) + returns_in (c ∷ bytes)
+    more lt = omega arith
+
+    go : (x y : Bool) → nat_eq b 13 ≡ x
+        → (if x && y then Some ([], bytes) else put b (next_line (c ∷ bytes))) ≡ Some (t, rest)
+        → ((u : List ℕ) → next_line (c ∷ bytes) ≡ Some (u, rest) → returns_in rest < returns_in (c ∷ bytes))
+        → returns_in rest < (if nat_eq b 13 then 1 else 0) + returns_in (c ∷ bytes)
+    go true true is e f =
+        let s = some_pair ([], bytes) (t, rest) e in
+        let r : bytes ≡ rest = ap (λ (q : List ℕ × List ℕ). q.1) s in
+        rw is (rw (← r) (omega arith))
+    go true false is e f = more (behind (next_line (c ∷ bytes)) e f)
+    go false y is e f = more (behind (next_line (c ∷ bytes)) e f)
+
+-- whole commands have at most as many as there are lines
+pub returns_lines : (ts lines : List (List ℕ)) (bytes : List ℕ) → bytes ≡ flat_map on_wire ts → Texts ts
+    → AreLines bytes lines → returns_in bytes ≤ length lines
+returns_lines [] lines bytes e h a = let z = ap returns_in e ∙ returns_none in omega arith
+returns_lines (t ∷ ts) [] bytes e h a =
+    let n : next_line bytes ≡ Some (t, flat_map on_wire ts) =
+    ap next_line e ∙ line_whole t (flat_map on_wire ts) h.0 in absurd cc
+returns_lines (t ∷ ts) (l ∷ lines) bytes e h a =
+    let n : next_line bytes ≡ Some (t, flat_map on_wire ts) =
+    ap next_line e ∙ line_whole t (flat_map on_wire ts) h.0 in
+    let s = some_pair (l, a.0) (t, flat_map on_wire ts) (sym a.1 ∙ n) in
+    let r : a.0 ≡ flat_map on_wire ts = ap (λ (q : List ℕ × List ℕ). q.1) s in
+    let later = returns_lines ts lines a.0 r h.1 a.2 in
+    let c : returns_in bytes ≡ returns_in (on_wire t) + returns_in (flat_map on_wire ts) =
+    ap returns_in e ∙ returns_append (on_wire t) (flat_map on_wire ts) in
+    let one = returns_wire t h.0 in
+    let same = ap returns_in r in omega arith
+
+-- ---- what is on the wires to the server
+
+-- if what is asked stays on the wires that are set, it stays on all
+pub asked_linked : (w : World) (c : ℕ) (l : Link) → l.asked ≡ (w.links c).asked → (d : ℕ)
+    → ((linked w c l).links d).asked ≡ (w.links d).asked
+asked_linked w c l h d = elim (eqb_tells d c) [
+  | inl e ↦ subst (λ d. ((linked w c l).links d).asked ≡ (w.links d).asked) (sym e.1)
+      (ap (λ (x : Link). x.asked) (linked_same w c l) ∙ h)
+  | inr n ↦ ap (λ (x : Link). x.asked) (linked_other w c d l n.1)
+]
+
+-- what is sent to a client is on no wire to the server
+asked_sends : (w : World) (t : List ℕ) (d : ℕ) → ((sends w t).links d).asked ≡ (w.links d).asked
+asked_sends w t d =
+    if_fact (λ (x : World). (x.links d).asked ≡ (w.links d).asked) (is_talking w) _ _
+    (λ z. asked_linked w w.logged_in (more_coming (w.links w.logged_in) (on_wire t)) refl d) (λ z. refl)
+
+-- what is on the wire after commands
+asked_heard : (c : ℕ) (w : World) (h : Heard) → ((does_heard c w h).links c).asked ≡ (w.links c).asked ++ wire_of h.send
+asked_heard c w h = ap (λ (x : Link). x.asked) (linked_same w c (more_asked (w.links c) (wire_of h.send)))
+
+-- at most three commands answer the first message 2
+few_initial : (a m : Bool) → length
+    ((if a then [] else autoboard_text ∷ []) ++ (if m then [] else moreboards_text ∷ []) ++ board_text ∷ []) ≤ 3
+few_initial true true = omega arith
+few_initial true false = omega arith
+few_initial false true = omega arith
+few_initial false false = omega arith
+
+-- a board that a decision leads to is none on which the player is to roll
+abbrev pub NoRoll : Served → Type 0
+NoRoll (V.Took d b) = is_to_roll (phase_of b) ≡ false
+NoRoll s = Unit {0}
+
+-- ---- lines that are messages
+
+-- a line is a message
+abbrev pub is_message : ReadingValue → Bool
+is_message (numbered_line m) = true
+is_message (board_line b) = false
+is_message (text_line t) = false
+is_message (malformed_line n at f) = false
+
+-- one of the lines is
+abbrev pub has_message : List Line → Bool
+has_message [] = false
+has_message (l ∷ ls) = is_message (line_reading l) || has_message ls
+
+-- one of two holds if the first does
+either_left : (y z : Bool) → y ≡ true → (y || z) ≡ true
+either_left y z h = rw h refl
+
+-- or if the second does
+either_right : (y z : Bool) → z ≡ true → (y || z) ≡ true
+either_right true z h = refl
+either_right false z h = h
+
+-- lines without a message after others add none
+pub message_append : (xs ys : List Line) → has_message ys ≡ false → has_message (xs ++ ys) ≡ has_message xs
+message_append [] ys h = h
+message_append (x ∷ xs) ys h = ap (λ z. is_message (line_reading x) || z) (message_append xs ys h)
+
+-- ---- which answers a connection may still call forth: k more are counted for a roll
+
+module _ (k : ℕ) where
+  -- the first message 1, if there was none, is answered by one command
+  welcome_due : List ℕ → ℕ
+  welcome_due [] = 1
+  welcome_due (x ∷ xs) = 0
+
+  -- the first message 2, if there was none, is answered by at most three
+  inform_due : List Flags → ℕ
+  inform_due [] = 3
+  inform_due (x ∷ xs) = 0
+
+  -- a standing order may roll once, if the player is to roll and all that was sent took effect
+  roll_due : Bool → ℕ → ℕ → ℕ
+  roll_due rolls sends takes = if rolls && nat_eq sends takes then 1 + k else 0
+
+  -- all of these, by what the log says of the connection
+  due_of : List ℕ → List Flags → Bool → List Ask → List Ask → ℕ
+  due_of ws is rolls sends takes = welcome_due ws + inform_due is + roll_due rolls (length sends) (length takes)
+
+  -- what a connection may still call forth in a world
+  pub due : ℕ → World → ℕ
+  due c w =
+      due_of (welcomed c w.log) (informed c w.log) (is_to_roll (phase_of w.board)) (sent c w.log) (took c w.log)
+
+  -- if the player is not to roll no order does
+  roll_no : (n m : ℕ) → roll_due false n m ≡ 0
+  unfolding roll_due
+  roll_no n m = refl
+
+  -- for a roll at most 1 + k are counted
+  roll_most : (z : Bool) (n m : ℕ) → roll_due z n m ≤ 1 + k
+  unfolding roll_due
+  roll_most z n m = if_fact (λ i. i ≤ 1 + k) (z && nat_eq n m) _ _ (λ e. omega arith) (λ e. omega arith)
+
+  -- as many, if the player is to roll and all that was sent took effect
+  roll_yes : (z : Bool) (n m : ℕ) → z ≡ true → n ≡ m → roll_due z n m ≡ 1 + k
+  unfolding roll_due
+  roll_yes z n m h e = rw (h, e, same_number m) refl
+
+  -- none, if not all that was sent took effect
+  roll_spent : (z : Bool) (n m : ℕ) → (n ≡ m → ⊥) → roll_due z n m ≡ 0
+  unfolding roll_due
+  roll_spent true n m h = rw (other_number n m h) refl
+  roll_spent false n m h = refl
+
+  -- for the answer to a message 1 at most one is counted
+  welcome_most : (ws : List ℕ) → welcome_due ws ≤ 1
+  unfolding welcome_due
+  welcome_most [] = omega arith
+  welcome_most (x ∷ xs) = omega arith
+
+  -- for those to a message 2 at most three
+  inform_most : (is : List Flags) → inform_due is ≤ 3
+  unfolding inform_due
+  inform_most [] = omega arith
+  inform_most (x ∷ xs) = omega arith
+
+  -- it is at most 5 + k
+  pub due_most : (c : ℕ) (w : World) → due c w ≤ 5 + k
+  unfolding due due_of
+  due_most c w =
+      let a = welcome_most (welcomed c w.log) in
+      let b = inform_most (informed c w.log) in
+      let r = roll_most (is_to_roll (phase_of w.board)) (length (sent c w.log)) (length (took c w.log)) in omega arith
+
+  -- it depends on the log and the board alone
+  due_log : (c : ℕ) (w w' : World) (log : List Entry) (b : Board) → w'.log ≡ log → w'.board ≡ b
+      → due c w' ≡ due_of (welcomed c log) (informed c log) (is_to_roll (phase_of b)) (sent c log) (took c log)
+  unfolding due
+  due_log c w w' log b e same = rw (e, same) refl
+
+  -- entries of another kind leave it as it is
+  due_same : (c : ℕ) (w w' : World) (es : List Entry) → w'.log ≡ w.log ++ es → w'.board ≡ w.board
+      → welcomed c es ≡ [] → informed c es ≡ [] → sent c es ≡ [] → took c es ≡ [] → due c w' ≡ due c w
+  unfolding due
+  due_same c w w' es e same h1 h2 h3 h4 =
+      due_log c w w' (w.log ++ es) w.board e same
+      ∙ rw (
+        map_no_more (welcomed_by c) w.log es h1,
+        map_no_more (informed_by c) w.log es h2,
+        map_no_more (sent_by c) w.log es h3,
+        map_no_more (took_by c) w.log es h4,
+      ) refl
+
+  -- so does a change of the wires
+  pub due_relinked : (c : ℕ) (w : World) (l : Link) → due c (linked w c l) ≡ due c w
+  unfolding due
+  due_relinked c w l = refl
+
+  -- ---- a line is served
+
+  -- what the server's answer to a line of c leaves: these bytes on the wire, and no more that is due
+  pub record Lessens (c : ℕ) (w w' : World) (left : List ℕ) : Type 0 where
+    pub asked : (w'.links c).asked ≡ left
+    pub due : due c w' ≤ due c w
+    pub here : open_now w'.log ≡ open_now w.log
+
+  -- entries of another kind leave what is due
+  lessens_same : (c : ℕ) (w : World) (l : Link) (es : List Entry) (w' : World) → w'.log ≡ w.log ++ es
+      → w'.board ≡ w.board → (w'.links c).asked ≡ l.asked
+      → welcomed c es ≡ [] → informed c es ≡ [] → sent c es ≡ [] → took c es ≡ []
+      → open_now (w.log ++ es) ≡ open_now w.log → Lessens c w w' l.asked
+  lessens_same c w l es w' e b h h1 h2 h3 h4 o =
+      record {
+        asked = h;
+        due = let same = due_same c w w' es e b h1 h2 h3 h4 in omega arith;
+        here = ap open_now e ∙ o;
+      }
+
+  -- a decision that is carried out, after which the player is not to roll, leaves no more due
+  took_less : (c : ℕ) (w w' : World) (es : List Entry) (b : Board) → w'.log ≡ w.log ++ es → w'.board ≡ b
+      → welcomed c es ≡ [] → informed c es ≡ [] → is_to_roll (phase_of b) ≡ false → due c w' ≤ due c w
+  unfolding due due_of
+  took_less c w w' es b e is_b h1 h2 still =
+      let r : roll_due (is_to_roll (phase_of w'.board)) (length (sent c w'.log)) (length (took c w'.log)) ≡ 0 =
+      ap (λ z. roll_due z (length (sent c w'.log)) (length (took c w'.log)))
+      (ap (λ x. is_to_roll (phase_of x)) is_b ∙ still)
+      ∙ roll_no (length (sent c w'.log)) (length (took c w'.log)) in
+      let ws : welcomed c w'.log ≡ welcomed c w.log =
+      ap (welcomed c) e ∙ map_no_more (welcomed_by c) w.log es h1 in
+      let is : informed c w'.log ≡ informed c w.log =
+      ap (informed c) e ∙ map_no_more (informed_by c) w.log es h2 in
+      let a = ap welcome_due ws in
+      let i = ap inform_due is in omega arith
+
+  -- whatever the server answers to a line, no more is due after it
+  pub lessens_served : (c : ℕ) (w : World) (l : Link) (s : Served) → NoRoll s
+      → Lessens c w (does_served c (linked w c l) s) l.asked
+  lessens_served c w l V.Stale h =
+      lessens_same c w l [] (linked w c l) (sym (append-nil w.log)) refl
+      (ap (λ (x : Link). x.asked) (linked_same w c l)) refl refl refl refl (ap open_now (append-nil w.log))
+  lessens_served c w l V.LoggedIn h =
+      lessens_same c w l (L.LoggedIn c ∷ []) (does_served c (linked w c l) V.LoggedIn) refl refl
+      (ap (λ (x : Link). x.asked) (linked_same w c l)) refl refl refl refl (open_append 0 w.log (L.LoggedIn c ∷ []))
+  lessens_served c w l (V.Undone d) h =
+      let n : World = noted (linked w c l) (Undone c w.board d ∷ []) in
+      lessens_same c w l (Undone c w.board d ∷ []) (sends n (spelling w.board)) (sends_log n (spelling w.board))
+      (sends_board n (spelling w.board))
+      (asked_sends n (spelling w.board) c ∙ ap (λ (x : Link). x.asked) (linked_same w c l)) refl refl refl refl
+      (open_append 0 w.log (Undone c w.board d ∷ []))
+  lessens_served c w l V.Answered h =
+      let n : World = linked w c l in
+      lessens_same c w l [] (sends n (spelling w.board)) (sends_log n (spelling w.board) ∙ sym (append-nil w.log))
+      (sends_board n (spelling w.board))
+      (asked_sends n (spelling w.board) c ∙ ap (λ (x : Link). x.asked) (linked_same w c l)) refl refl refl refl
+      (ap open_now (append-nil w.log))
+  lessens_served c w l (V.Took d b) h =
+      let es : List Entry = Took c w.board d ∷ [] in
+      let n : World = noted (record (linked w c l) { board = b }) es in
+      let w' : World = sends n (spelling b) in
+      record {
+        asked = asked_sends n (spelling b) c ∙ ap (λ (x : Link). x.asked) (linked_same w c l);
+        due = took_less c w w' es b (sends_log n (spelling b)) (sends_board n (spelling b)) refl refl h;
+        here = ap open_now (sends_log n (spelling b)) ∙ open_append 0 w.log es;
+      }
+
+  -- ---- lines are heard
+
+  -- Nothing is handed out and no more is due; or a roll is handed out, and is due no longer; or answers to a message are
+  -- handed out that were due. z: whether there is a message among the lines.
+  abbrev pub Lighter : ℕ → Bool → World → World → Type 0
+  Lighter c z w w' =
+      (((w'.links c).asked ≡ (w.links c).asked) × (due c w' ≤ due c w))
+      ⊎ (returns_in (w'.links c).asked + due c w' + k ≤ returns_in (w.links c).asked + due c w)
+      ⊎ ((z ≡ true) × (returns_in (w'.links c).asked + due c w' ≤ returns_in (w.links c).asked + due c w))
+
+  -- from a world that is alike
+  pub lighter_from : (c : ℕ) (z : Bool) (u v w : World) → (v.links c).asked ≡ (u.links c).asked → due c v ≡ due c u
+      → Lighter c z v w → Lighter c z u w
+  lighter_from c z u v w e d (inl a) = inl (a.0 ∙ e, let x = a.1 in omega arith)
+  lighter_from c z u v w e d (inr (inl a)) = inr (inl (let r = ap returns_in e in omega arith))
+  lighter_from c z u v w e d (inr (inr a)) = inr (inr (a.0, let r = ap returns_in e in let x = a.1 in omega arith))
+
+  -- one after the other
+  lighter_then : (c : ℕ) (y z : Bool) (u v w : World) → Lighter c y u v → Lighter c z v w → Lighter c (y || z) u w
+  lighter_then c y z u v w (inl a) (inl b) = inl (b.0 ∙ a.0, let x = a.1 in let y = b.1 in omega arith)
+  lighter_then c y z u v w (inl a) (inr (inl b)) =
+      inr (inl (let e = ap returns_in a.0 in let x = a.1 in omega arith))
+  lighter_then c y z u v w (inl a) (inr (inr b)) =
+      inr (inr (either_right y z b.0, let e = ap returns_in a.0 in let x = a.1 in let n = b.1 in omega arith))
+  lighter_then c y z u v w (inr (inl a)) (inl b) =
+      inr (inl (let e = ap returns_in b.0 in let x = b.1 in omega arith))
+  lighter_then c y z u v w (inr (inl a)) (inr (inl b)) = inr (inl (omega arith))
+  lighter_then c y z u v w (inr (inl a)) (inr (inr b)) = inr (inl (let n = b.1 in omega arith))
+  lighter_then c y z u v w (inr (inr a)) (inl b) =
+      inr (inr (either_left y z a.0, let e = ap returns_in b.0 in let x = b.1 in let n = a.1 in omega arith))
+  lighter_then c y z u v w (inr (inr a)) (inr (inl b)) = inr (inl (let n = a.1 in omega arith))
+  lighter_then c y z u v w (inr (inr a)) (inr (inr b)) =
+      inr (inr (either_left y z a.0, let n = a.1 in let m = b.1 in omega arith))
+
+  -- nothing is handed out
+  lighter_quiet : (c : ℕ) (w : World) (h : Heard) → h.send ≡ [] → welcomed c h.entries ≡ [] → informed c h.entries ≡ []
+      → sent c h.entries ≡ [] → took c h.entries ≡ [] → Lighter c false w (does_heard c w h)
+  lighter_quiet c w h none h1 h2 h3 h4 =
+      inl (
+        asked_heard c w h ∙ ap (λ ts. (w.links c).asked ++ wire_of ts) none ∙ append-nil (w.links c).asked,
+        (let e = due_same c w (does_heard c w h) h.entries refl refl h1 h2 h3 h4 in omega arith),
+      )
+
+  -- commands are handed out that are due no longer: a roll, or the answers to a message
+  lighter_some : (c : ℕ) (w : World) (h : Heard) → Texts h.send
+      → length h.send + due c (does_heard c w h) + k ≤ due c w → Lighter c false w (does_heard c w h)
+  lighter_some c w h texts less =
+      inr (inl (let a = ap returns_in (asked_heard c w h) ∙ returns_append (w.links c).asked (wire_of h.send) in
+      let r = returns_commands h.send texts in omega arith))
+
+  -- answers to a message are handed out that are due no longer
+  lighter_message : (c : ℕ) (w : World) (h : Heard) → Texts h.send
+      → length h.send + due c (does_heard c w h) ≤ due c w → Lighter c true w (does_heard c w h)
+  lighter_message c w h texts less =
+      inr (inr (
+        refl,
+        let a = ap returns_in (asked_heard c w h) ∙ returns_append (w.links c).asked (wire_of h.send) in
+            let r = returns_commands h.send texts in omega arith,
+      ))
+
+  module _ (law : Lawful) where
+    -- a message 1 that is heard: its answer was due
+    lighter_welcome : (c : ℕ) (w : World) → Lighter c true w
+        (does_heard c w (record {
+          entries = Welcomed c ∷ [];
+          send = if is_empty (welcomed c w.log) then style_text ∷ [] else [];
+          confirmed = None;
+          rolled = false;
+        }))
+    unfolding due due_of welcome_due
+    lighter_welcome c w = go (welcomed c w.log) refl
+      where
+        heard : Bool → Heard
+        heard z = record {
+          entries = Welcomed c ∷ [];
+          send = if z then style_text ∷ [] else [];
+          confirmed = None;
+          rolled = false;
+        }
+
+        more : (z : Bool) → welcomed c (does_heard c w (heard z)).log ≡ welcomed c w.log ++ c ∷ []
+        more z = map_more (welcomed_by c) w.log (Welcomed c ∷ []) (c ∷ []) (own c c)
+
+        rest : (z : Bool) → (informed c (does_heard c w (heard z)).log ≡ informed c w.log)
+            × (sent c (does_heard c w (heard z)).log ≡ sent c w.log)
+            × (took c (does_heard c w (heard z)).log ≡ took c w.log)
+        rest z = (
+          map_no_more (informed_by c) w.log (Welcomed c ∷ []) refl,
+          map_no_more (sent_by c) w.log (Welcomed c ∷ []) refl,
+          map_no_more (took_by c) w.log (Welcomed c ∷ []) refl,
+        )
+
+        after : (z : Bool) (ws : List ℕ) → welcomed c w.log ≡ ws
+            → due c (does_heard c w (heard z))
+            ≡ due_of (ws ++ c ∷ []) (informed c w.log) (is_to_roll (phase_of w.board)) (sent c w.log) (took c w.log)
+        after z ws e =
+            let r = rest z in
+            let m = more z ∙ ap (λ l. l ++ c ∷ []) e in
+            rw (m, r.0, r.1, r.2) refl
+
+        go : (ws : List ℕ) → welcomed c w.log ≡ ws
+            → Lighter c true w (does_heard c w (heard (is_empty (welcomed c w.log))))
+        go [] e =
+            subst (λ l. Lighter c true w (does_heard c w (heard (is_empty l)))) (sym e)
+            (lighter_message c w (heard true) (law.style_quiet.text, tt)
+            (let a = after true [] e in
+            let b = ap welcome_due e in omega arith))
+        go (x ∷ xs) e =
+            subst (λ l. Lighter c true w (does_heard c w (heard (is_empty l)))) (sym e)
+            (inl (
+              asked_heard c w (heard false) ∙ append-nil (w.links c).asked,
+              (let a = after false (x ∷ xs) e in
+                  let b = ap welcome_due e in omega arith),
+            ))
+
+    -- a message 2 that is heard: its answers were due
+    lighter_inform : (c : ℕ) (w : World) (m : MessageValue) → Lighter c true w
+        (does_heard c w (record {
+          entries = Informed c (flags_of m) ∷ [];
+          send = if is_empty (informed c w.log) then initial_commands m else [];
+          confirmed = None;
+          rolled = false;
+        }))
+    unfolding due due_of inform_due
+    lighter_inform c w m = go (informed c w.log) refl
+      where
+        heard : Bool → Heard
+        heard z = record {
+          entries = Informed c (flags_of m) ∷ [];
+          send = if z then initial_commands m else [];
+          confirmed = None;
+          rolled = false;
+        }
+
+        more : (z : Bool) → informed c (does_heard c w (heard z)).log ≡ informed c w.log ++ flags_of m ∷ []
+        more z = map_more (informed_by c) w.log (Informed c (flags_of m) ∷ []) (flags_of m ∷ []) (own c (flags_of m))
+
+        rest : (z : Bool) → (welcomed c (does_heard c w (heard z)).log ≡ welcomed c w.log)
+            × (sent c (does_heard c w (heard z)).log ≡ sent c w.log)
+            × (took c (does_heard c w (heard z)).log ≡ took c w.log)
+        rest z = (
+          map_no_more (welcomed_by c) w.log (Informed c (flags_of m) ∷ []) refl,
+          map_no_more (sent_by c) w.log (Informed c (flags_of m) ∷ []) refl,
+          map_no_more (took_by c) w.log (Informed c (flags_of m) ∷ []) refl,
+        )
+
+        after : (z : Bool) (is : List Flags) → informed c w.log ≡ is
+            → due c (does_heard c w (heard z))
+            ≡ due_of (welcomed c w.log) (is ++ flags_of m ∷ []) (is_to_roll (phase_of w.board)) (sent c w.log)
+            (took c w.log)
+        after z is e =
+            let r = rest z in
+            let i = more z ∙ ap (λ l. l ++ flags_of m ∷ []) e in
+            rw (i, r.0, r.1, r.2) refl
+
+        go : (is : List Flags) → informed c w.log ≡ is
+            → Lighter c true w (does_heard c w (heard (is_empty (informed c w.log))))
+        go [] e =
+            subst (λ l. Lighter c true w (does_heard c w (heard (is_empty l)))) (sym e)
+            (lighter_message c w (heard true) (quiet_are_texts (initial_commands m) (law.info_quiet m))
+            (let a = after true [] e in
+            let b = ap inform_due e in
+            let f = few_initial (autoboard m) (moreboards m) in omega arith))
+        go (x ∷ xs) e =
+            subst (λ l. Lighter c true w (does_heard c w (heard (is_empty l)))) (sym e)
+            (inl (
+              asked_heard c w (heard false) ∙ append-nil (w.links c).asked,
+              (let a = after false (x ∷ xs) e in
+                  let b = ap inform_due e in omega arith),
+            ))
+
+    -- a standing order is due at a board that is heard: nothing waits, and the board is the server's
+    record Fresh (c : ℕ) (w : World) (b : Board) : Type 0 where
+      even : length (sent c w.log) ≡ length (took c w.log)
+      is : w.board ≡ b
+
+    -- at a board at which an order is due nothing waits, and it is the server's
+    fresh : (c : ℕ) (more : List Board) (w : World) (b : Board) → 0 < c → Hearing law c (b ∷ more) w
+        → is_due c (w.log ++ Shown c b ∷ []) b ≡ true → Fresh c w b
+    fresh c more w b some y due =
+        let r = due_rolls law c w.log b y.here due in
+        let mine = y.mine in
+        let some' : 0 < w.logged_in = omega arith in
+        let w1 : World = noted w (Shown w.logged_in b ∷ []) in
+        let j : Joint more w1 = note_shown law w b more y.joint (y.here ∙ sym y.mine) some' in
+        let cur = j.current some' in
+        let still : open_now w1.log ≡ w.logged_in =
+        open_append 0 w.log (Shown w.logged_in b ∷ []) ∙ y.here ∙ sym y.mine in
+        let quiet : is_spent same_game w.logged_in w1.log ≡ false =
+        subst (λ d. is_spent same_game d (w.log ++ Shown d b ∷ []) ≡ false) (sym y.mine) r.fresh in
+        let is_last : last (shown w.logged_in w1.log) ≡ Some b =
+        subst (λ d. last (shown d (w.log ++ Shown d b ∷ [])) ≡ Some b) (sym y.mine) r.is_last in
+        go w1 quiet is_last (law.allowed_decides b roll r.allowed) cur.p cur.owed (cur.live (same_test _ _ still))
+        (map_no_more (sent_by w.logged_in) w.log (Shown w.logged_in b ∷ []) refl)
+        (map_no_more (took_by w.logged_in) w.log (Shown w.logged_in b ∷ []) refl)
+      where
+        go : (w1 : World) → is_spent same_game w.logged_in w1.log ≡ false → last (shown w.logged_in w1.log) ≡ Some b
+            → user_decides b ≡ true → (p : Option Ask)
+            → sent w.logged_in w1.log ≡ took w.logged_in w1.log ++ to_list p
+            → Live (view w1 w.logged_in) w.board (waiting more (w1.links w.logged_in)) p
+            → sent w.logged_in w1.log ≡ sent w.logged_in w.log → took w.logged_in w1.log ≡ took w.logged_in w.log
+            → Fresh c w b
+        go w1 quiet is_last decides None owed (inl f) es et =
+            let calm = f.calm in
+            let all = (rw is_last at calm) in
+            let same : sent w.logged_in w.log ≡ took w.logged_in w.log =
+            sym es ∙ owed ∙ append-nil (took w.logged_in w1.log) ∙ et in
+            let even : length (sent c w.log) ≡ length (took c w.log) =
+            subst (λ d. length (sent d w.log) ≡ length (took d w.log)) y.mine (ap length same) in
+            record { even = even; is = (all.0 decides).1 }
+        go w1 quiet is_last decides None owed (inr d) es et = absurd (true≢false (sym d.spent ∙ quiet))
+        go w1 quiet is_last decides (Some a) owed live es et = absurd (true≢false (sym live.spent ∙ quiet))
+
+    -- an order is due only if the player is to roll
+    due_to_roll : (c : ℕ) (log : List Entry) (b : Board) → is_due c log b ≡ true → is_to_roll (phase_of b) ≡ true
+    unfolding is_due
+    due_to_roll c log b h = and_left _ _ (and_right _ _ (and_right _ _ h))
+
+    -- a good board that is heard: the roll that it calls forth was due
+    lighter_shows : (c : ℕ) (more : List Board) (w : World) (b : Board) → 0 < c → is_good b ≡ true
+        → Hearing law c (b ∷ more) w → (rolls : Bool) → is_due c (w.log ++ Shown c b ∷ []) b ≡ rolls
+        → Lighter c false w (does_heard c w (shows_board c w.log b rolls))
+    unfolding due due_of
+    lighter_shows c more w b some good y false h =
+        lighter_quiet c w (shows_board c w.log b false) refl refl refl refl refl
+    lighter_shows c more w b some good y true h =
+        let f = fresh c more w b some y h in
+        let r = due_rolls law c w.log b y.here h in
+        lighter_some c w (shows_board c w.log b true) (law.decision_text b roll good r.allowed, tt)
+        (spends f (due_to_roll c (w.log ++ Shown c b ∷ []) b h))
+      where
+        spends : Fresh c w b → is_to_roll (phase_of b) ≡ true
+            → 1 + due c (does_heard c w (shows_board c w.log b true)) + k ≤ due c w
+        spends f to =
+            let es : List Entry = Shown c b ∷ Sent c b roll ∷ [] in
+            let ws : welcomed c (w.log ++ es) ≡ welcomed c w.log = map_no_more (welcomed_by c) w.log es refl in
+            let is : informed c (w.log ++ es) ≡ informed c w.log = map_no_more (informed_by c) w.log es refl in
+            let ts : took c (w.log ++ es) ≡ took c w.log = map_no_more (took_by c) w.log es refl in
+            let ss : sent c (w.log ++ es) ≡ sent c w.log ++ (b, roll) ∷ [] =
+            map_more (sent_by c) w.log es ((b, roll) ∷ []) (own c (b, roll)) in
+            let n : length (sent c (w.log ++ es)) ≡ length (sent c w.log) + 1 =
+            ap length ss ∙ length-append (sent c w.log) ((b, roll) ∷ []) in
+            let m : length (took c (w.log ++ es)) ≡ length (took c w.log) = ap length ts in
+            let e = f.even in
+            let before : roll_due (is_to_roll (phase_of w.board)) (length (sent c w.log)) (length (took c w.log))
+            ≡ 1 + k =
+            roll_yes _ _ _ (ap (λ x. is_to_roll (phase_of x)) f.is ∙ to) e in
+            let later : roll_due (is_to_roll (phase_of w.board)) (length (sent c (w.log ++ es)))
+            (length (took c (w.log ++ es))) ≡ 0 = roll_spent _ _ _ (λ z. absurd (omega arith)) in
+            let a = ap welcome_due ws in
+            let i = ap inform_due is in omega arith
+
+    -- each line that is heard: what it calls forth was due
+    lighter_one : (c : ℕ) (more : List Board) (w : World) (x : ReadingValue) → 0 < c
+        → Hearing law c (board_of x ++ more) w → Lighter c (is_message x) w (hears c w x)
+    lighter_one c more w (board_line b) some y =
+        if_fact (λ h. Lighter c false w (does_heard c w h)) (is_good b) _ _
+        (λ z. lighter_shows c more w b some z
+        (record { joint = subst (λ t. Joint (one_if t b ++ more) w) z y.joint; here = y.here; mine = y.mine })
+        (is_due c (w.log ++ Shown c b ∷ []) b) refl)
+        (λ z. lighter_quiet c w nothing_heard refl refl refl refl refl)
+    lighter_one c more w (numbered_line m) some y =
+        if_fact (λ h. Lighter c true w (does_heard c w h)) (nat_eq m.number 1) _ _ (λ z. lighter_welcome c w)
+        (λ z. if_fact (λ h. Lighter c true w (does_heard c w h)) (nat_eq m.number 2) _ _ (λ z. lighter_inform c w m)
+        (λ z. inl (
+          asked_heard c w nothing_heard ∙ append-nil (w.links c).asked,
+          (let e = due_same c w (does_heard c w nothing_heard) [] refl refl refl refl refl refl in omega arith),
+        )))
+    lighter_one c more w (text_line t) some y = lighter_quiet c w nothing_heard refl refl refl refl refl
+    lighter_one c more w (malformed_line n at f) some y = lighter_quiet c w nothing_heard refl refl refl refl refl
+
+    -- so with lines, one after another
+    pub lighter_all : (c : ℕ) (ls : List Line) (more : List Board) (w : World) → 0 < c
+        → Hearing law c (boards ls ++ more) w → Lighter c (has_message ls) w (hears_all c w ls)
+    lighter_all c [] more w some y = inl (refl, omega arith)
+    lighter_all c (l ∷ ls) more w some y =
+        let x : ReadingValue = line_reading l in
+        let y' = subst (λ bs. Hearing law c bs w) (append_assoc (board_of x) (boards ls) more) y in
+        lighter_then c (is_message x) (has_message ls) w (hears c w x) (hears_all c (hears c w x) ls)
+        (lighter_one c (boards ls ++ more) w x some y')
+        (lighter_all c ls more (hears c w x) some (hears_one law c (boards ls ++ more) w x some y'))
