@@ -68,6 +68,55 @@ def both_ends_closed_at_each_loss():
     same('loop', run('loop', opens, STREAMS + LISTENER + ENDS), (0, wanted, ''))
 
 
+# -- long scripts ----------------------------------------------------------------------------------------------------
+
+# As many bytes as a script may have, and all that are on their way.
+LIMIT, ALL = 1048576, 4294967295
+
+# The opponent is to roll there: the server may make boards of its own.
+OF_OPPONENT = BOARD.replace(':1:0:0:0:0:1:1:1:', ':-1:0:0:0:0:1:1:1:')
+
+# A conversation in which so many boards are shown, and what is noted of it.
+BOARDS = 7500
+TALK = ['open', 'serve 1 1 1', 'text 1 ann 1041253132 localhost'] + ['repeat'] * BOARDS + ['deliver %d' % ALL]
+NOTED = ['opened 1', 'loggedin 1', 'welcomed 1'] + ['shown 1 ' + OF_OPPONENT] * BOARDS
+
+# How often each kind of event comes after it, and what is then noted. Message 1 was answered by one command; each
+# command is answered by a board.
+OFTEN = 2000
+KINDS = [
+    (['lose 0', 'open'] * OFTEN,
+     [line for at in range(1, OFTEN + 1) for line in ('lost %d' % at, 'opened %d' % (at + 1))]),
+    (['click roll'] * OFTEN, ['clicked 1 NotReady'] * OFTEN),
+    (['plain who'] * OFTEN + ['serve 1 1 1'] * (OFTEN + 1) + ['deliver %d' % ALL],
+     ['shown 1 ' + OF_OPPONENT] * (OFTEN + 1)),
+    (['own ' + OF_OPPONENT] * OFTEN + ['deliver %d' % ALL], ['shown 1 ' + OF_OPPONENT] * OFTEN),
+    (['repeat', 'deliver %d' % ALL] * OFTEN, ['shown 1 ' + OF_OPPONENT] * OFTEN),
+    (['text hello', 'deliver 1'] * OFTEN + ['deliver %d' % ALL], []),
+    (['order roll', 'withdraw roll'] * OFTEN, ['ordered 1', 'withdrawn 1'] * OFTEN),
+]
+
+
+def as_replayed(begins, events, log):
+    """Both do all of the events, and print this log."""
+    given = '\n'.join((begins, *events, '')).encode()
+    wanted = ''.join(line + '\n' for line in (*log, 'end %d' % len(events)))
+    for mode in ('replay', 'loop'):
+        status, out, err = run(mode, given)
+        same('%s of %d bytes' % (mode, len(given)), (status, out[-80:], err), (0, wanted[-80:], ''))
+        same('%s: all lines before the last' % mode, out == wanted, True)
+
+
+def as_many_events_as_a_script_may_have():
+    many = (LIMIT - len(BOARD) - 1) // len('repeat\n')
+    as_replayed(BOARD, ['repeat'] * many, [])
+
+
+def many_events_of_each_kind_after_a_long_log():
+    for events, log in KINDS:
+        as_replayed(OF_OPPONENT, TALK + events, NOTED + log)
+
+
 # -- how it listens -------------------------------------------------------------------------------------------------
 
 def own_sockets(pid):
@@ -225,7 +274,8 @@ def everything(stranger):
 
 CASES = [
     a_connection_for_which_no_file_may_be_opened, a_listener_alone_for_a_script_that_opens_nothing,
-    both_ends_closed_at_each_loss, a_listener_of_this_machine_alone, two_that_listen_at_the_same_time,
+    both_ends_closed_at_each_loss, as_many_events_as_a_script_may_have, many_events_of_each_kind_after_a_long_log,
+    a_listener_of_this_machine_alone, two_that_listen_at_the_same_time,
     a_stranger_who_stays_is_taken_for_the_client, a_stranger_who_says_other_bytes_of_the_same_length,
     a_stranger_who_says_nothing_and_leaves, a_stranger_who_says_nothing_and_stays,
 ]
