@@ -7,6 +7,7 @@ This is its command line; docs/SERVER.md says what it does, and what of it is a 
 
 import argparse
 import asyncio
+import math
 import os
 import signal
 import sys
@@ -15,7 +16,7 @@ sys.path.insert(0, os.path.dirname(os.path.abspath(__file__)))
 
 from bot import HABITS, Bot
 from commands import REFUSED
-from habits import AUTOROLLS, Habits
+from habits import AUTOROLLS, WITHOUT, Habits
 from players import SETTINGS, Player
 from room import Room
 from wire import Link, Manners
@@ -40,11 +41,13 @@ def dice_of(text):
 
 
 def setting_of(text):
-    """A setting of new accounts, as ready=0."""
+    """A setting of new accounts, as ready=0; or of one player, as ann:automove=1. The player, if one is named, the
+    setting and its value."""
     name, _, value = text.partition('=')
+    player, _, name = name.rpartition(':')
     if name not in SETTINGS or value not in ('0', '1'):
         raise ValueError(text)
-    return name, int(value)
+    return player, name, int(value)
 
 
 def refusal_of(text):
@@ -52,7 +55,7 @@ def refusal_of(text):
     word, _, count = text.partition('=')
     if word not in REFUSED:
         raise ValueError(text)
-    return word, int(count or 1)
+    return word, math.inf if count == 'always' else int(count or 1)
 
 
 def bot_of(text):
@@ -85,8 +88,8 @@ def parser():
         help='a player. Without any, a new name with its first password makes one')
     add('--bot', type=bot_of, action='append', default=[], metavar='NAME[:HABIT=VALUE,..]', help='a bot that plays')
     add('--bot-pause', type=float, default=50, metavar='MS', help='how long a bot thinks')
-    add('--set', type=setting_of, action='append', default=[], metavar='NAME=0|1', dest='settings',
-        help='a setting that new accounts have, as ready=0 or automove=1')
+    add('--set', type=setting_of, action='append', default=[], metavar='[PLAYER:]NAME=0|1', dest='settings',
+        help='a setting that new accounts have, or the account of a player, as ready=0 or ann:automove=1')
     add('--motd', default='Good luck.', metavar='TEXT', help='the message of the day')
     group = line.add_argument_group('habits')
     add = group.add_argument
@@ -96,12 +99,23 @@ def parser():
     add('--keep-turn-at-double', action='store_true', help='an open double is not shown as a turn given away')
     add('--show-resignations', action='store_true', help='an open offer to resign is shown as a turn given away')
     add('--loose-flags', action='store_true', help='boards say that one may double even if the match forbids it')
-    add('--refuse', type=refusal_of, action='append', default=[], metavar='COMMAND[=TIMES]',
+    add('--hide-doubles', action='store_true', help='no board says that one is offered a double')
+    add('--no-board', choices=WITHOUT, action='append', default=[], metavar='AFTER',
+        help='show no board after: %s (to the one who moved)' % ', '.join(WITHOUT))
+    add('--refuse', type=refusal_of, action='append', default=[], metavar='COMMAND[=TIMES|=always]',
         help='refuse a right command by a text alone: ' + ', '.join(REFUSED))
+    add('--play-past-offers', action='store_true',
+        help='an offer to resign stops nobody, and is over when one plays on')
     add('--keep-games', action='store_true', help='a game goes on after a connection breaks; who comes again plays on')
+    add('--forget-offers', action='store_true', help='a match that is saved forgets an offer that nobody has answered')
+    add('--say-how', action='store_true', help='the opponent of one who goes is told how he went')
     add('--mixed-sides', action='store_true', help='chance says who is O, and who goes from 24 to 1')
     add('--no-changes', action='store_true', help='a change of a player is not reported by lines 5 and 6')
     add('--prompts', action='store_true', help='a prompt `> ` after each answer, to a client too')
+    add('--greeting', type=int, default=0, metavar='BYTES',
+        help='the greeting and the prompt for a name are so many bytes, sent at once')
+    add('--tell-strangers', action='store_true',
+        help='who comes and goes is told also to those who are not logged in')
     group = line.add_argument_group('connections')
     add = group.add_argument
     add('--portions', type=int, default=0, metavar='BYTES', help='send in pieces of at most so many bytes')
@@ -116,12 +130,15 @@ def room_of(options):
     """The room that the options ask for."""
     habits = Habits(seed=options.seed, dice=options.dice, autoroll=options.autoroll,
                     shows_doubles=not options.keep_turn_at_double, shows_resignations=options.show_resignations,
+                    hides_doubles=options.hide_doubles, without=frozenset(options.no_board),
                     loose_flags=options.loose_flags, refuses=dict(options.refuse), keeps_games=options.keep_games,
+                    forgets_offers=options.forget_offers, plays_past_offers=options.play_past_offers,
+                    tells_how=options.say_how, tells_strangers=options.tell_strangers, greeting=options.greeting,
                     mixed_sides=options.mixed_sides, tells_changes=not options.no_changes, prompts=options.prompts)
     log = (lambda name, way, line: print(name, way, line, file=sys.stderr, flush=True)) if options.log else None
     # nobody logs in with the password of a bot, which is no text
     bots = [Player(name, object()) for name, _ in options.bot]
-    room = Room(habits, options.account + bots, not options.account, [options.motd], dict(options.settings), log)
+    room = Room(habits, options.account + bots, not options.account, [options.motd], options.settings, log)
     for name, chosen in options.bot:
         Bot(room, name, chosen, options.bot_pause / 1000)
     return room

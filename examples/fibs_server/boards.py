@@ -16,7 +16,7 @@ def places_of(match):
 
 def turn_of(match, habits):
     """The side whose turn the board shows: an open offer is shown as a turn given away, if the server does so."""
-    if match.doubler is not None and habits.shows_doubles:
+    if match.doubler is not None and habits.shows_doubles and not habits.hides_doubles:
         return 1 - match.doubler
     if match.resigner is not None and habits.shows_resignations:
         return 1 - match.resigner
@@ -38,7 +38,8 @@ def board_line(match, side, habits, name='You'):
     fields = ['board', name, match.names[other], match.length, match.score[side], match.score[other]]
     fields += places_of(match)
     fields += [0 if turn is None else match.colours[turn], *own_dice, *others_dice]
-    fields += [match.cube, *doublers_of(match, side, habits), int(match.doubler == other)]
+    is_doubled = match.doubler == other and not habits.hides_doubles
+    fields += [match.cube, *doublers_of(match, side, habits), int(is_doubled)]
     fields += [match.colours[side], match.directions[side], *HOME_AND_BAR[match.directions[side]]]
     fields += [match.position[one][rules.OFF] for one in (side, other)]
     fields += [match.position[one][rules.BAR] for one in (side, other)]

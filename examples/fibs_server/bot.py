@@ -14,6 +14,8 @@ HABITS = {
     'resigns': ('', 'TURN with n, g or b after it, as 2n: it offers to resign at this turn'),
     'answers': ('yes', 'yes, no or never: how it answers an offer to resign'),
     'leaves': ('', 'TURN: it leaves at this turn; roll or move: it leaves when the other has rolled, or moved'),
+    'drops': ('', 'TURN: its connection breaks at this turn, and it comes again'),
+    'returns': ('no', 'yes or no: whether it invites the other to the match that it left, once'),
     'next': ('join', 'join or leave: what it does between two games'),
     'says': ('', 'TEXT, without comma: its answer to what is said to it'),
 }
@@ -78,6 +80,20 @@ class Bot:
         saved = self.room.saved_match(self.player, other)
         self.does('invite ' + name if saved else 'invite %s %s' % (name, self.habits['invites']))
 
+    def returns(self, name):
+        """Invites to the match that it has left, if it does so."""
+        if self.habits['returns'] == 'yes':
+            self.habits['leaves'] = self.habits['drops'] = ''
+            self.later(self.invite, name)
+
+    def drop(self):
+        """Its connection breaks, and it has another one."""
+        player = self.player
+        self.room.leaves(player, 'drops connection.')
+        self.player = player
+        player.comes(self, 'bot')
+        self.room.comes_or_goes(player, 7, 'logs in.')
+
     def act(self):
         """Does what is to be done now."""
         self.is_awake = False
@@ -85,9 +101,13 @@ class Bot:
         if table is None:
             self.turns = 0
             return
-        command = self.command(table.match, table.side(self.player), table)
-        if command:
+        other, command = table.other(self.player).name, self.command(table.match, table.side(self.player), table)
+        if command == 'drop':
+            self.drop()
+        elif command:
             self.does(command)
+        if command in ('leave', 'drop'):
+            self.returns(other)
 
     def command(self, match, side, table):
         """The command for the match as it is, if there is one."""
@@ -111,6 +131,8 @@ class Bot:
         self.turns += 1
         if habits['leaves'] in ('move', str(self.turns)):
             return 'leave'
+        if habits['drops'] == str(self.turns):
+            return 'drop'
         if habits['resigns'][:-1] == str(self.turns):
             kind, habits['resigns'] = habits['resigns'][-1], ''
             self.turns -= 1

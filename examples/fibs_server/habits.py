@@ -7,6 +7,10 @@ from dataclasses import dataclass, field
 # turned `double` off.
 AUTOROLLS = 'never', 'no-double', 'always'
 
+# After what the server may show no board: an offer to double, an accepted one, a move (the one who moved sees none),
+# the end of a game, a saved match that goes on.
+WITHOUT = 'double', 'accept', 'move', 'end', 'resume'
+
 
 @dataclass
 class Habits:
@@ -18,12 +22,26 @@ class Habits:
     # an open double, an open offer to resign, is shown by a board on which the turn is given away
     shows_doubles: bool = True
     shows_resignations: bool = False
+    # no board says that one is offered a double
+    hides_doubles: bool = False
+    # after these no board is shown; one of WITHOUT
+    without: frozenset = frozenset()
     # the board says that a player may double even if the rules of the match forbid it
     loose_flags: bool = False
     # valid commands that are refused so many times, by a text alone
     refuses: dict = field(default_factory=dict)
     # a game goes on after its player's connection breaks
     keeps_games: bool = False
+    # a match that is saved forgets an offer that nobody has answered
+    forgets_offers: bool = False
+    # an offer to resign stops nobody, and is over when one plays on
+    plays_past_offers: bool = False
+    # the opponent of one who goes is told how he went
+    tells_how: bool = False
+    # who comes and goes is told also to those who are asked for a name
+    tells_strangers: bool = False
+    # so many bytes come before the first prompt ends, in one piece; 0: the greeting as it is
+    greeting: int = 0
     # who plays O, and who goes from 24 to 1, is random
     mixed_sides: bool = False
     # each change of a player is reported by a line 5 and a line 6

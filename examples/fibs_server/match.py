@@ -87,6 +87,7 @@ class Match:
     def passes_to(self, side):
         """The turn of a side begins."""
         self.turn, self.dice = side, None
+        self.declines()
 
     def is_open(self):
         """True while a double or a resignation waits for its answer."""
@@ -102,6 +103,7 @@ class Match:
     def rolls(self, dice):
         """The side whose turn it is has rolled."""
         self.dice = tuple(dice)
+        self.declines()
 
     def moves(self, steps):
         """Carries a play out. True if it ends the game."""
@@ -128,6 +130,7 @@ class Match:
     def doubles(self, side):
         """The side offers a double."""
         self.doubler = side
+        self.declines()
 
     def takes(self):
         """The offered double is accepted."""
@@ -138,8 +141,13 @@ class Match:
         self.resigner, self.offered = side, self.cube * RESIGNATIONS[kind]
 
     def declines(self):
-        """An offer to resign is not accepted."""
+        """An offer to resign is not accepted, or nobody thinks of it any more."""
         self.resigner, self.offered = None, 0
+
+    def forgets_offers(self):
+        """Nobody has doubled, or has offered to resign."""
+        self.doubler = None
+        self.declines()
 
     def won_by(self, side):
         """What the side has won that has borne off all its checkers."""

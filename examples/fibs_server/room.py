@@ -7,21 +7,45 @@ from match import Against
 from players import Player
 
 BANNER = ['', '        Welcome to a server that talks as FIBS does.', '']
+PROMPT = b'login: '
 TRIES = 3
 
 
+def greeting_of(count):
+    """The banner and the first prompt, made up to so many bytes by rows of dots."""
+    banner = '\r\n'.join([*BANNER, '']).encode()
+    missing = count - len(banner) - len(PROMPT)
+    rows = b''
+    while missing > 1:
+        dots = min(missing - 2, 70)
+        # what would be left for one row more has to hold its end
+        dots -= missing - 2 - dots == 1
+        rows += b'.' * dots + b'\r\n'
+        missing -= dots + 2
+    return banner + rows + PROMPT
+
+
 class Room:
-    """Everything that the server knows. If it `is_open`, a login with a new name makes an account."""
+    """Everything that the server knows. If it `is_open`, a login with a new name makes an account, which has these
+    settings: player (or '' for any), name and value of each."""
 
     def __init__(self, habits, accounts=(), is_open=True, motd=('Good luck.',), settings=None, log=None):
         self.habits, self.is_open, self.motd = habits, is_open, list(motd)
-        self.settings = settings or {}
+        self.settings = settings or []
         self.accounts = {player.name: player for player in accounts}
+        for player in accounts:
+            player.settings.update(self.settings_of(player.name))
         self.saved = {}
+        # the connections on which nobody is logged in
+        self.strangers = set()
         self.commands = Commands(self)
         self.log = log or (lambda *_: None)
 
     # -- who is there ----------------------------------------------------------------------------------------------
+
+    def settings_of(self, name, *others):
+        """The settings that were asked for by the name of this player, and by these other names."""
+        return {setting: value for player, setting, value in self.settings if player in (name, *others)}
 
     def present(self):
         """Those who are logged in."""
@@ -64,8 +88,12 @@ class Room:
 
     def opened(self, link):
         """A connection was made."""
-        link.send(*BANNER)
-        link.write(b'login: ')
+        self.strangers.add(link)
+        if self.habits.greeting:
+            link.write(greeting_of(self.habits.greeting))
+        else:
+            link.send(*BANNER)
+            link.write(PROMPT)
 
     def line(self, link, line):
         """A line has come on a connection."""
@@ -88,13 +116,13 @@ class Room:
             link.name = words[0]
             link.write(b'password: ')
         else:
-            link.write(b'login: ')
+            link.write(PROMPT)
 
     def check(self, link, name, password, client):
         """Logs a player in, or asks once more."""
         player = self.accounts.get(name)
         if player is None and self.is_open:
-            player = self.accounts[name] = Player(name, **self.settings)
+            player = self.accounts[name] = Player(name, **self.settings_of(name, ''))
         if player is None or player.password not in (None, password):
             self.refuse(link, client)
             return
@@ -105,9 +133,10 @@ class Room:
         link.name, link.tries = None, link.tries + 1
         link.send('' if client else '** User not known or wrong password.')
         if link.tries == TRIES:
+            self.strangers.discard(link)
             link.end()
         else:
-            link.write(b'login: ')
+            link.write(PROMPT)
 
     def take_in(self, link, player, client):
         """The player is logged in; if he already was, the new connection takes the place of the old one."""
@@ -117,6 +146,7 @@ class Room:
             old.end()
         player.comes(link, client)
         link.player = player
+        self.strangers.discard(link)
         self.log(player.name, '=', 'logs in')
         if was_here and old:
             player.tell('** Warning: You are already logged in.')
@@ -144,12 +174,16 @@ class Room:
         for one in self.present():
             if one is not player and one.is_on('notify'):
                 one.hears(number, player.name, '', '%s %s' % (player.name, how))
+        if self.habits.tells_strangers:
+            for link in self.strangers:
+                link.send('%d %s %s %s' % (number, player.name, player.name, how))
 
     # -- how players go --------------------------------------------------------------------------------------------
 
     def lost(self, link):
         """A connection has ended by itself."""
         player, link.player = link.player, None
+        self.strangers.discard(link)
         if player is None:
             return
         if self.habits.keeps_games and player.table:
@@ -165,7 +199,7 @@ class Room:
         # he is told nothing of it any more
         player.link, player.logged_in = None, 0
         if table:
-            table.leave(table.side(player))
+            table.leave(table.side(player), how)
         player.offline()
         for one in self.present():
             if one.watching is player:

@@ -58,9 +58,18 @@ class Table:
         else:
             viewer.tell(*picture(self.match, side, name))
 
-    def show_boards(self, setting='autoboard'):
-        """Shows the board to all who want it."""
-        for viewer, player in [*zip(self.players, self.players), *self.watchers()]:
+    def viewers(self, after):
+        """Those who may see a board after this, each with the player whose board it is."""
+        if after not in self.habits.without:
+            return [*zip(self.players, self.players), *self.watchers()]
+        if after == 'move':
+            player = self.players[self.match.turn]
+            return [(player, player)]
+        return []
+
+    def show_boards(self, setting='autoboard', after=None):
+        """Shows the board to all who want it; after some things the server shows none."""
+        for viewer, player in self.viewers(after):
             if viewer.is_on(setting):
                 self.show_board(viewer, player)
 
@@ -89,18 +98,18 @@ class Table:
             player.tell('turn: %s' % turn, 'match length: %s' % length,
                         *('points for user %s: %d' % pair for pair in zip(match.names, match.score)))
         if match.is_on:
-            self.show_boards()
+            self.show_boards(after='resume')
             self.ask()
         else:
             self.ask_for_next()
 
-    def begin_turn(self, side):
+    def begin_turn(self, side, after=None):
         """The turn passes to a side."""
         self.match.passes_to(side)
         if self.rolls_by_itself(side):
             self.roll_dice()
         else:
-            self.show_boards()
+            self.show_boards(after=after)
             self.ask()
 
     def rolls_by_itself(self, side):
@@ -172,7 +181,7 @@ class Table:
         if is_over:
             self.end_game(turn, match.won_by(turn))
         else:
-            self.begin_turn(1 - turn)
+            self.begin_turn(1 - turn, 'move')
 
     # -- what a player does ----------------------------------------------------------------------------------------
 
@@ -181,11 +190,15 @@ class Table:
         match = self.match
         if not match.is_on:
             raise Against("** You're not playing.")
-        if match.is_open():
+        if match.is_open() and not self.is_past_offer():
             raise Against('** Please wait until %s has accepted or rejected your offer.' % match.names[1 - side]
                           if side in (match.doubler, match.resigner) else "** Please type 'accept' or 'reject'.")
         if match.turn != side:
             raise Against("** It's not your turn to %s." % what)
+
+    def is_past_offer(self):
+        """True if an offer to resign stops nobody."""
+        return self.match.doubler is None and self.habits.plays_past_offers
 
     def roll(self, side):
         """`roll`"""
@@ -225,7 +238,7 @@ class Table:
         name, other = match.names[side], match.names[1 - side]
         self.tell_all(side, 'You double. Please wait for %s to accept or reject.' % other,
                       "%s doubles. Type 'accept' or 'reject'." % name, '%s doubles.' % name)
-        self.show_boards()
+        self.show_boards(after='double')
 
     def accept(self, side):
         """`accept`, of a double or of a resignation."""
@@ -235,7 +248,7 @@ class Table:
             match.takes()
             self.tell(side, 'You accept the double. The cube shows %d.' % match.cube,
                       '%s accepts the double. The cube shows %d.' % (name, match.cube))
-            self.begin_turn(1 - side)
+            self.begin_turn(1 - side, 'accept')
         elif match.resigner == 1 - side:
             points = match.offered
             self.tell(side, 'You accept and win %s.' % points_word(points),
@@ -285,7 +298,7 @@ class Table:
         match = self.match
         match.ends(winner, points)
         name, word = match.names[winner], points_word(points)
-        self.show_boards()
+        self.show_boards(after='end')
         self.tell_all(winner, 'You win the game and get %s. Congratulations!' % word,
                       '%s wins the game and gets %s. Sorry.' % (name, word),
                       '%s wins the game and gets %s.' % (name, word))
@@ -341,9 +354,14 @@ class Table:
             self.players[1 - side].tell('** Player %s wants to play the next game. Type \'join\' or \'leave\'.'
                                         % self.match.names[side])
 
-    def leave(self, side, own='** You terminated the game. The game was saved.'):
-        """`leave`, or the connection has ended: the match is saved."""
-        others = '** Player %s has left the game. The game was saved.' % self.match.names[side]
-        self.tell(side, own, others)
+    def leave(self, side, how=None):
+        """`leave`, or the connection has ended in a way that has words: the match is saved."""
+        name = self.match.names[side]
+        others = '** Player %s has left the game. The game was saved.' % name
+        if how and self.habits.tells_how:
+            others = '%s %s The game was saved.' % (name, how)
+        self.tell(side, '** You terminated the game. The game was saved.', others)
+        if self.habits.forgets_offers:
+            self.match.forgets_offers()
         self.room.save(self.match)
         self.dissolve()

@@ -332,6 +332,114 @@ def rolls_by_itself(server):
     bob.sees('ann moves 8-5 6-5 .', 'You roll 4 and 2.', 'board:..', 'Please move 2 pieces.')
 
 
+@served('--dice', '31,42,65', '--no-board', 'double', '--no-board', 'accept', '--no-board', 'move', '--no-board', 'end',
+        '--no-board', 'resume')
+def boards_that_are_left_out(server):
+    """A move, a double, the end of a game and a match that goes on are told by texts alone; `board` shows them."""
+    ann, bob = two_at_a_table(server, 5)
+    ann.send('move 8-5 6-5')
+    bob.sees('ann moves 8-5 6-5 .', 'board:..', "It's your turn to roll or double.")
+    ann.quiet()
+    bob.answers('double', 'You double. Please wait for ann to accept or reject.')
+    ann.sees("bob doubles. Type 'accept' or 'reject'.")
+    ann.answers('board', 'board:..')
+    same('the double is shown', fields(ann, 41), [1])
+    ann.answers('accept', 'You accept the double. The cube shows 2.')
+    bob.sees('ann accepts the double. The cube shows 2.', "It's your turn to roll.")
+    bob.send('leave')
+    ann.sees('** Player bob has left the game. The game was saved.')
+    bob.send('invite ann')
+    ann.sees("Type 'join bob' to accept.")
+    ann.send('join bob')
+    bob.sees('ann has joined you. Your running match was loaded.', 'turn: bob', 'match length: 5',
+             'points for user ann: 0', 'points for user bob: 0', "It's your turn to roll.")
+    bob.answers('resign n', 'You want to resign. ann will win 2 points.')
+    ann.sees('bob wants to resign. ..')
+    ann.answers('accept', 'You accept and win 2 points.', 'You win the game and get 2 points. Congratulations!',
+                "Type 'join' if you want to play the next game, type 'leave' if you don't.")
+    same('no board but these was shown', [sum(line.startswith('board:') for line in one.read) for one in (ann, bob)],
+         [2, 2])
+
+
+@served('--hide-doubles', '--refuse', 'roll=always', '--dice', '31,42')
+def a_double_that_no_board_shows(server):
+    ann, bob = two_at_a_table(server, 3)
+    ann.send('move 8-5 6-5')
+    bob.sees("It's your turn to roll or double.")
+    bob.answers('board', 'board:..')
+    bob.answers('double', 'You double. Please wait for ann to accept or reject.', 'board:..')
+    same('the board is as it was', bob.read[-1], bob.read[-3])
+    ann.sees("bob doubles. Type 'accept' or 'reject'.", 'board:..')
+    same('nor is it shown to ann', fields(ann, 33, 41), [-1, 0])
+    ann.answers('accept', 'You accept the double. The cube shows 2.', 'board:..')
+    bob.sees("It's your turn to roll.")
+    for _ in range(20):
+        bob.answers('roll', "** You can't roll now.")
+
+
+@served('--play-past-offers', '--dice', '31,42,65')
+def an_offer_to_resign_that_stops_nobody(server):
+    ann, bob = two_at_a_table(server, 3)
+    ann.answers('resign g', 'You want to resign. bob will win 2 points.')
+    bob.sees('ann wants to resign. ..')
+    ann.send('move 8-5 6-5')
+    bob.sees('ann moves 8-5 6-5 .', "It's your turn to roll or double.")
+    bob.answers('accept', "** Your opponent didn't double or resign.")
+
+
+@served('--forget-offers', '--say-how', '--dice', '31,42')
+def a_saved_match_forgets_a_double(server):
+    ann, bob = two_at_a_table(server, 3)
+    ann.send('move 8-5 6-5')
+    bob.sees("It's your turn to roll or double.")
+    bob.answers('double', 'You double. Please wait for ann to accept or reject.', 'board:..')
+    ann.close()
+    bob.sees('ann drops connection. The game was saved.')
+    ann = Client(server.port, 'ann')
+    ann.send('invite bob')
+    bob.sees("Type 'join ann' to accept.")
+    bob.send('join ann')
+    bob.sees('You are now playing with ann. Your running match was loaded.', "It's your turn to roll or double.")
+    ann.send('bye')
+    bob.sees('ann logs out. The game was saved.')
+
+
+@served('--tell-strangers', '--greeting', '1020', '--account', 'ann:secret', '--account', 'bob:secret')
+def those_who_are_not_logged_in(server):
+    """They hear who comes and goes; the greeting has a size that was chosen."""
+    ann = Client(server.port)
+    ann.shown('login: ')
+    same('the size of the greeting', len(ann.raw), 1020)
+    same('its rows fit', max(map(len, ann.raw.split(b'\r\n'))) <= 79, True)
+    ann.send('login tests 1008 ann wrong')
+    bob = Client(server.port, 'bob')
+    ann.shown('login: \r\nlogin: 7 bob bob logs in.')
+    bob.send('bye')
+    ann.shown('8 bob bob logs out.')
+
+
+@served('--set', 'ann:automove=1', '--set', 'ready=0')
+def settings_of_one_player(server):
+    ann, bob = Client(server.port, 'ann'), Client(server.port, 'bob')
+    same('automove and ready', [[line.split()[at] for at in (5, 16)] for client in (ann, bob) for line in client.read
+                                if line.startswith('2 ')], [['1', '0'], ['0', '0']])
+
+
+@served('--bot', 'eve:drops=2,returns=yes,plays=last', '--bot-pause', '0', '--dice', '31,42,65,31')
+def a_bot_that_drops_and_comes_back(server):
+    ann = Client(server.port, 'ann')
+    ann.send('invite eve 3')
+    ann.sees('Please move 2 pieces.')
+    plays(ann)
+    ann.sees("It's your turn to roll or double.")
+    ann.send('roll')
+    ann.sees('Please move 2 pieces.')
+    plays(ann)
+    ann.sees('** Player eve has left the game. The game was saved.', "Type 'join eve' to accept.")
+    ann.send('join eve')
+    ann.sees('You are now playing with eve. Your running match was loaded.', 'eve rolls ..')
+
+
 @served('--bot', 'eve:joins=no,says=no thanks', '--bot', 'bot:resigns=1g,answers=no,leaves=2,plays=last',
         '--bot-pause', '0', '--dice', '31,42,65')
 def bots_with_habits(server):
