@@ -11,11 +11,15 @@ import subprocess
 import sys
 
 import people
+import babble
 import costs
 import escapes
+import hints
 import logs
+import offers
 import play
-import stuck
+import refusals
+import resuming
 import whole
 
 # How many scenes are played at the same time: they wait most of the time. Those that measure are played alone.
@@ -33,7 +37,8 @@ def tried(scene):
 
 def main():
     words = sys.argv[2:]
-    beside = stuck.SCENES + whole.SCENES + play.SCENES + logs.SCENES
+    beside = (offers.SCENES + resuming.SCENES + refusals.SCENES + hints.SCENES + play.SCENES + logs.SCENES
+              + babble.SCENES + whole.SCENES)
     alone = escapes.SCENES + costs.SCENES
     chosen = [[scene for scene in scenes if not words or any(word in scene.__name__ for word in words)]
               for scenes in (beside, alone)]

@@ -17,6 +17,7 @@ sys.path[:0] = [str(ROOT / 'tests'), str(ROOT / 'tests' / 'server')]
 from clients import Client, Served
 from props.checks import PATIENCE, Failed, same
 from props.terminals import Terminal
+from words import REFUSED, read
 
 PROGRAM = os.path.realpath(sys.argv[1]) if len(sys.argv) > 1 else ''
 
@@ -27,37 +28,14 @@ ROOM = tempfile.TemporaryDirectory()
 PASSWORD_FILE = os.path.join(ROOM.name, 'password')
 pathlib.Path(PASSWORD_FILE).write_text(PASSWORD + '\n')
 
+# How long a row of advice may take to come.
+SOON = 20
+
 # What a terminal that knows bold letters is sent for them.
 BOLD = re.compile(r'\x1b\[[0-9;]*m')
 
-# What a screen says if something was not done.
-REFUSED = re.compile(r'.*\[\d+ [A-Z][A-Za-z]+\]|(?:refused|fault) \d+ \w+|unknown.*|No: .*')
-
-# Hints, and the lines that each names.
-HINTS = [
-    (re.compile(r'Your turn: (roll)\.'), ()),
-    (re.compile(r'Your turn: (roll), or (double)\.'), ()),
-    (re.compile(r' ?You are offered a double: (accept), or (reject)\.'), ()),
-    (re.compile(r' ?You are offered a double: (reject)\.'), ()),
-    # the last row of a picture without bold letters
-    (re.compile(r' You (roll), or (double), or resign\.'), ()),
-    (re.compile(r' You (roll), or resign\.'), ()),
-    (re.compile(r'Your move, as in: (move(?: (?:bar|\d+)-(?:off|\d+))+)'), ()),
-    (re.compile(r'\S+ offers to resign: (send accept), or (send reject)\.'), ()),
-    # the end of two lines: `roll was sent and nothing has changed: if bob declined`
-    (re.compile(r'(?:.* )?or the server refused, (send .*); or (bye) and open\.'), ()),
-    (re.compile(r'lost.*: (open) connects again, (quit) ends'), ()),
-    (re.compile(r'no connection to .*'), ('open', 'quit')),
-    (re.compile(r'Not logged in: wrong name or password\? (quit), and begin again\.'), ()),
-]
-
-
-def named_by(line):
-    """The lines that a hint names; None if it is no hint."""
-    for form, more in HINTS:
-        if found := form.fullmatch(line):
-            return [*found.groups(), *more]
-    return None
+# A far server: what it sends takes a while, and comes in pieces between which the screen rests.
+FAR = '--delay', '60', '--portions', '60', '--pause', '25'
 
 
 class Person(Terminal):
@@ -97,18 +75,36 @@ class Person(Terminal):
             pass
         return line
 
-    def hint(self, seconds=PATIENCE):
-        """Reads on to the next hint: the lines that it names."""
+    def advised(self, kind, *wanted, seconds=SOON):
+        """Reads on to a row of this kind that names a line for each of these beginnings: those lines."""
         end = time.monotonic() + seconds
-        while (named := named_by(self.next_line(max(0.01, end - time.monotonic())))) is None:
-            pass
-        return named
+        while True:
+            found, lines = read(self.next_line(max(0.01, end - time.monotonic())))
+            named = [line for text in wanted or [''] for line in lines if line.startswith(text)]
+            if found == kind and len(named) >= len(wanted):
+                return named
 
-    def hint_for(self, *wanted):
-        """The next hint names these, in whatever words."""
-        named = self.hint()
-        same('the hint names', [one for one in wanted if one not in named], [])
-        return named
+    def rows_of(self, kinds, seconds):
+        """The rows of these kinds that are read within so many seconds."""
+        found, end = [], time.monotonic() + seconds
+        while (left := end - time.monotonic()) > 0:
+            try:
+                row = self.next_line(left)
+            except Failed:
+                break
+            if read(row)[0] in kinds:
+                found.append(row)
+        return found
+
+    def hint(self):
+        """The line that the next hint names first."""
+        return self.advised('hint')[0]
+
+    def types_what(self, kind, *wanted):
+        """Types the line that a row of this kind names, the first of those that begin so: the line."""
+        line = self.advised(kind, *wanted)[0]
+        self.type(line)
+        return line
 
     def was_refused(self):
         """The lines that say of something that it was not done."""
@@ -143,16 +139,21 @@ class Table:
         self.bob.sees('turn: ..')
 
     def comes_again(self):
-        """Ann says goodbye and connects again, as a hint has it."""
+        """Ann says goodbye and connects again, as the screen has it."""
         self.ann.type('bye')
-        self.ann.hint_for('open', 'quit')
-        self.ann.type('open')
+        self.ann.types_what('open', 'open')
         self.ann.reads('Welcome, ann')
 
     def close(self):
         self.ann.close()
         self.bob.close()
         self.server.close()
+
+
+def named(scene, does, more=''):
+    """The scene, with the name of what it does."""
+    scene.__name__ = does.__name__ + more
+    return scene
 
 
 def at_a_table(*options, **more):
@@ -164,6 +165,14 @@ def at_a_table(*options, **more):
                 does(table)
             finally:
                 table.close()
-        scene.__name__ = does.__name__
-        return scene
+        return named(scene, does)
+    return decorated
+
+
+def near_and_far(scenes, *options):
+    """A decorator: the scene is played twice, over a wire of this machine and over a far one; both are added."""
+    def decorated(does):
+        scenes.append(at_a_table(*options)(does))
+        scenes.append(named(at_a_table(*options, *FAR)(does), does, '_far_away'))
+        return does
     return decorated

@@ -8,7 +8,7 @@ import subprocess
 import tempfile
 import time
 
-from people import BOLD, PASSWORD, PATIENCE, PROGRAM, ROOM, ROOT, Failed, Served, Terminal, same
+from people import BOLD, PASSWORD, PATIENCE, PROGRAM, ROOM, ROOT, Client, Failed, Served, Terminal, same
 
 PLAY = str(ROOT / 'scripts' / 'fibs-play')
 RLWRAP = shutil.which('rlwrap')
@@ -32,6 +32,29 @@ class Typist(Terminal):
     def plain(self):
         return DRAWN.sub('', self.screen())
 
+    def drawn(self):
+        """The rows as they stand on the terminal."""
+        rows, at = [[]], 0
+        for found in re.finditer(r'\x1b\[(\d*)([a-zA-Z@])|(.)', self.screen(), re.S):
+            count, order, letter = found.groups()
+            row = rows[-1]
+            if letter == '\n':
+                rows.append([])
+                at = 0
+            elif letter == '\r':
+                at = 0
+            elif order == 'K':
+                del row[at:]
+            elif order in ('C', 'D'):
+                at = max(0, at + (1 if order == 'C' else -1) * int(count or 1))
+            elif letter == '\b':
+                at = max(0, at - 1)
+            elif letter and letter >= ' ':
+                row += ' ' * (at + 1 - len(row))
+                row[at] = letter
+                at += 1
+        return [''.join(row) for row in rows]
+
     def is_shown(self, text, count=1, seconds=PATIENCE):
         """Waits until a text is on the screen so often, whatever is drawn between its letters."""
         end = time.monotonic() + seconds
@@ -42,18 +65,18 @@ class Typist(Terminal):
                 self.news.wait(0.2)
 
 
-def with_server(scene):
+def with_server(scene, *options, more=''):
     """A decorator: the scene is given a server with a bot. If rlwrap is not installed it is left out."""
     def run():
         if not RLWRAP:
             print('        without rlwrap: not tried', flush=True)
             return
-        server = Served('--bot', 'eve:says=hello', '--no-changes')
+        server = Served('--bot', 'eve:says=hello', '--no-changes', *options)
         try:
             scene(server)
         finally:
             server.close()
-    run.__name__ = scene.__name__
+    run.__name__ = scene.__name__ + more
     return run
 
 
@@ -210,6 +233,40 @@ def a_log(server):
         time.sleep(0.3)
 
 
+def pictures_stand_straight(server):
+    """Also if what is drawn comes a while after the line that asked for it."""
+    player = in_play(server)
+    player.type('invite eve 3')
+    player.is_shown('as in: move')
+    for _ in range(3):
+        player.type('board')
+        player.shown(1)
+    rows = [row for row in player.drawn() if '+13-14-15' in row]
+    same('pictures were drawn', len(rows) > 3, True)
+    same('rows that do not begin where the others do', [row for row in rows if not row.startswith(' +13-14-15')], [])
+    player.close()
+
+
+def a_half_typed_line_is_kept(server):
+    """What comes does not tear it."""
+    player = in_play(server)
+    player.type_bytes(b'tell eve al')
+    player.shown(0.3)
+    for _ in range(3):
+        other = Client(server.port, 'bob')
+        other.send('tell ann hi')
+        player.shown(0.3)
+        other.close()
+    player.type_bytes(b'most there\n')
+    player.is_shown('You say to eve: almost there')
+    player.close()
+
+
+# how the wire is, after an opening with which ann begins
+WIRES = [((), ''), (('--delay', '80'), '_over_a_wire_with_delay'), (('--portions', '60', '--pause', '30'), '_in_pieces')]
+FAR_SCENES = [with_server(scene, '--dice', '31', *options, more=more)
+              for scene in (pictures_stand_straight, a_half_typed_line_is_kept) for options, more in WIRES]
+
 SCENES = [ctrl_c_cancels_the_line_and_not_the_game, ctrl_c_after_a_stop, tab_completes_the_players_names, a_prompt,
           a_small_terminal, a_word_where_rlwrap_is_missing, what_can_not_be_is_refused_before_a_password_is_typed,
-          a_log]
+          a_log, *FAR_SCENES]

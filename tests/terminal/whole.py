@@ -1,207 +1,266 @@
-"""Whole matches in which ann types only what the screen names, and what such a screen looks like."""
+#!/usr/bin/env python3
+"""Whole matches of two players who know the screen alone: python3 -B tests/terminal/whole.py PROGRAM [--matches N]
+[--seed N] [--beside N] [--log FILE]
 
+Each sits at a pseudo-terminal, reads rows, and types what a hint or an advice names; sometimes he doubles, resigns,
+talks, leaves, or says goodbye. The habits of the server, the delays, portions and cuts of the wires are by lot. By what
+the server knew at that moment it is judged whether each row was true and led on, whether the match stood still, what
+was sent and how often, and what the pictures showed. The last line is 'N passed, M failed', of the matches.
+"""
+
+import argparse
+import asyncio
+import json
 import random
-import re
+import sys
 import time
+from collections import Counter
 
-from people import REFUSED, ROOT, Failed, Person, Served, named_by, same
+from people import Failed
+from seats import Seat
+from witness import Wire, Witnessed, unlike
 
-# How long a screen may wait for the other one before ann counts as stuck.
-STUCK = 15
+from habits import AUTOROLLS, WITHOUT, Habits
+from wire import Manners
 
-INVITED = re.compile(r"Type '(join \S+)' to accept\.")
-NEXT = re.compile(r"Type '(join)' if you want to play the next game, .*")
-ENDED = re.compile(r'(?:You win|\S+ wins) the \d+ point match .*')
-# A picture: its edges are the first and the last of these.
-PICTURE = re.compile(r' [+|].*')
+# How long a match may take, and the program its last row.
+LONGEST = 100
+LAST_ROW = 0.4
+
+# What the gate plays.
+MATCHES, BESIDE, SEED = 30, 10, 1
 
 
-class Follower:
-    """One who reads the screen, and types one of the lines that it names last."""
+class Game:
+    """A match: a server with habits by lot, and two seats."""
 
-    def __init__(self, server, seed, **more):
-        self.chance = random.Random(seed)
-        self.ann = Person(server.port, **more)
-        self.typed, self.lost = [], 0
+    def __init__(self, number, seed):
+        self.chance = chance = random.Random('%s %s' % (seed, number))
+        self.names = chance.sample(['ann', 'bob', 'fritz_the_cat', 'x', 'Type', 'n' * 24], 2)
+        self.doubles, self.resigns = chance.choice([0.05, 0.2, 0.5]), chance.choice([0, 0.02, 0.05])
+        self.talks, self.leaves = chance.choice([0, 0.02, 0.05]), chance.choice([0, 0, 0.003, 0.01])
+        self.length = chance.choice([1, 1, 2, 3])
+        self.habits, self.settings = self.habits_by_lot(), []
+        if chance.random() < 0.1:
+            self.settings = [(self.names[0], chance.choice(['automove', 'greedy']), 1)]
+        self.manners = [self.manners_by_lot() for _ in self.names]
+        self.links = {name: [] for name in self.names}
 
-    def line_for(self, line):
-        """What she types because of a line of the screen, if anything."""
-        named = named_by(line)
-        if named:
-            self.lost += line.startswith('lost')
-            # a double now and then; the end of the program never
-            named = [one for one in named if one != 'quit']
-            return self.chance.choice(named if self.chance.random() < 0.2 else named[:1]) if named else None
-        found = INVITED.fullmatch(line) or NEXT.fullmatch(line)
-        return found[1] if found else None
+    def habits_by_lot(self):
+        chance = self.chance
+        return Habits(seed=chance.randrange(10 ** 6), autoroll=chance.choice(['never', 'never', *AUTOROLLS]),
+                      shows_doubles=chance.random() < 0.7, shows_resignations=chance.random() < 0.3,
+                      hides_doubles=chance.random() < 0.15, loose_flags=chance.random() < 0.3,
+                      without=frozenset(one for one in WITHOUT if chance.random() < 0.35),
+                      refuses={word: chance.choice([1, 2]) for word in ('roll', 'move', 'double', 'accept')
+                               if chance.random() < 0.12},
+                      keeps_games=chance.random() < 0.3, forgets_offers=chance.random() < 0.3,
+                      plays_past_offers=chance.random() < 0.2, tells_how=chance.random() < 0.5,
+                      mixed_sides=chance.random() < 0.5, tells_changes=chance.random() < 0.7,
+                      prompts=chance.random() < 0.2)
 
-    def plays_to_the_end(self):
-        """Plays until a match is over."""
-        ann = self.ann
-        while True:
+    def manners_by_lot(self):
+        chance = self.chance
+        portions, pause = chance.choice([(0, 0), (0, 0), (200, 15), (60, 25), (20, 3)])
+        return Manners(portions=portions, pause=pause, delay=chance.choice([0, 0, 30, 80]),
+                       cut=chance.choice([0, 0, 0, 400, 150]), telnet=chance.random() < 0.15,
+                       seed=chance.randrange(10 ** 6))
+
+    def is_invited_by(self, name, waited):
+        """The first of the two invites at once; the other one after a while, if he was not invited."""
+        return name == self.names[0] or waited > 1.5
+
+    # -- how it is played --------------------------------------------------------------------------------------------
+
+    async def begin(self):
+        loop = asyncio.get_running_loop()
+        self.room = Witnessed(loop.time, self.names, self.habits, (), True, ['Good luck.'], self.settings)
+        self.servers, self.seats = [], []
+        for name, other, manners in zip(self.names, self.names[::-1], self.manners):
+            server = await loop.create_server(self.wire_of(name, manners), '127.0.0.1', 0)
+            self.servers.append(server)
+            self.seats.append(Seat(self, name, other, server.sockets[0].getsockname()[1]))
+
+    def wire_of(self, name, manners):
+        def wire():
+            link = Wire(self.room, manners, len(self.links[name]))
+            self.links[name].append(link)
+            return link
+        return wire
+
+    async def play(self):
+        """Plays it, and says what was found."""
+        await self.begin()
+        began = time.monotonic()
+        players = []
+        try:
+            await asyncio.wait_for(self.invite(), LONGEST)
+            players = [asyncio.ensure_future(seat.plays()) for seat in self.seats]
+            while not self.room.ended and time.monotonic() - began < LONGEST:
+                await asyncio.sleep(0.05)
+            await asyncio.sleep(LAST_ROW + max(manners.delay for manners in self.manners) / 1000)
+            return self.found(time.monotonic() - began)
+        finally:
+            for one in players:
+                one.cancel()
+            self.close()
+
+    async def invite(self):
+        """The first player invites the other until the match has begun."""
+        first, second = self.seats
+        while self.room.now().match is None:
+            if first.row and first.row[0] == 'open':
+                first.row = None
+                first.type('open', 'open')
+            elif second.row and second.row[0] == 'open':
+                second.row = None
+                second.type('open', 'open')
+            elif second.inviting:
+                line, second.inviting = second.inviting, None
+                second.type(line, 'invited')
+            elif len(self.room.now().online) == 2 and time.monotonic() - first.last_typed > 2:
+                first.type('invite %s %d' % (second.name, self.length), 'begin')
+            await asyncio.sleep(0.02)
+
+    def close(self):
+        for seat in self.seats:
+            seat.close()
+        for server in self.servers:
+            server.close()
+        for links in self.links.values():
+            for link in links:
+                if link.timer:
+                    link.timer.cancel()
+                if link.transport:
+                    link.transport.abort()
+
+    # -- what was found ----------------------------------------------------------------------------------------------
+
+    def found(self, seconds):
+        counts, stalls, alarms, faults, turns = Counter(), [], [], [], []
+        for seat in self.seats:
+            counts.update(seat.counts)
+            stalls += [(seat.name, *stall) for stall in seat.stalls]
+            alarms += [(seat.name, *alarm) for alarm in seat.alarms]
+            turns += seat.turns
+            faults += self.sent_otherwise(seat)
+        illegal = [one for one in self.room.refused if is_against_the_rules(one)]
+        faults += ['a move against the rules: %r' % (one,) for one in illegal]
+        counts['lines that the server refused'] += len(self.room.refused)
+        counts['connections'] += sum(map(len, self.links.values()))
+        return {'counts': counts, 'stalls': stalls, 'alarms': alarms, 'faults': faults, 'turns': turns,
+                'ended': self.room.ended, 'seconds': seconds, 'habits': repr(self.habits),
+                'manners': repr(self.manners)}
+
+    def sent_otherwise(self, seat):
+        """Each line of a connection is a row of the screen, and no row is there twice."""
+        found, links = [], self.links[seat.name]
+        for number, link in enumerate(links):
+            rows = seat.sent[number] if number < len(seat.sent) else []
+            why = unlike(link.lines, rows, is_whole=not link.is_over and number + 1 == len(links))
+            if why:
+                found.append('%s, connection %d: %s' % (seat.name, number, why))
+        return found
+
+
+def is_against_the_rules(refused):
+    """True if a line was refused since its move is against the rules."""
+    from witness import AGAINST_THE_RULES
+    _, line, reason = refused
+    return line.startswith('m') and bool(AGAINST_THE_RULES.match(reason)) and reason != "** You can't move now."
+
+
+async def play_all(numbers, seed, beside, tell):
+    """Plays these matches, so many at the same time."""
+    turn = asyncio.Semaphore(beside)
+
+    async def one(number):
+        async with turn:
             try:
-                line = ann.next_line(STUCK)
-            except Failed as stuck:
-                raise Failed('stuck after %r: %s' % (self.typed[-4:], stuck)) from None
-            if REFUSED.fullmatch(line):
-                raise Failed('%r was refused: %r' % (self.typed[-1:], line))
-            if ENDED.fullmatch(line):
-                return
-            typed = self.line_for(line)
-            if typed:
-                self.typed.append(typed)
-                ann.type(typed)
+                result = await Game(number, seed).play()
+            except (OSError, asyncio.TimeoutError, LookupError, ValueError) as error:
+                result = {'counts': Counter(), 'stalls': [], 'alarms': [], 'turns': [], 'ended': False, 'seconds': 0,
+                          'faults': [repr(error)], 'habits': '', 'manners': ''}
+            tell(number, result)
+            return result
+    return await asyncio.gather(*map(one, numbers))
 
 
-def match_by_hints(*options, seed=1, bot='invites=2,plays=random,resigns=4n', **more):
-    """The screen of a match against a bot, that is played by the hints."""
-    server = Served('--bot', 'eve:' + bot, '--bot-pause', '20', '--seed', str(seed), *options)
-    try:
-        follower = Follower(server, seed, **more)
-        follower.plays_to_the_end()
-        follower.ann.type('quit')
-        follower.ann.ends(0)
-        follower.ann.close()
-        return follower
-    finally:
-        server.close()
+def table(results):
+    """What was found, in rows."""
+    counts = sum((result['counts'] for result in results), Counter())
+    turns = sorted(rows for result in results for rows in result['turns'])
+    yield '%d matches, %d to their end, %.0f s each' % (
+        len(results), sum(result['ended'] for result in results),
+        sum(result['seconds'] for result in results) / max(1, len(results)))
+    for name, count in sorted(counts.items()):
+        yield '%8d  %s' % (count, name)
+    if turns:
+        yield '%8d  turns; rows a turn: median %d, nine in ten %d, most %d' % (
+            len(turns), turns[len(turns) // 2], turns[len(turns) * 9 // 10], turns[-1])
 
 
-def by_hints_alone():
-    """Whatever the habits of the server are, nothing that the screen names is refused, and nobody is stuck."""
-    for seed, options in enumerate(([], ['--autoroll', 'no-double'], ['--mixed-sides'], ['--loose-flags'],
-                                    ['--show-resignations'], ['--refuse', 'roll=1', '--refuse', 'move=1'],
-                                    ['--prompts', '--portions', '9'], ['--no-changes', '--telnet'])):
-        match_by_hints(*options, seed=seed + 1)
+def is_sound(result):
+    """True if nothing stood still, nothing was false, and nothing was sent otherwise than the screen says."""
+    bad = ('false', 'wrong remedy', 'pictures that no board had', 'refused by the client', 'wider')
+    return result['ended'] and not result['stalls'] and not result['faults'] and not any(
+        word in name for name, count in result['counts'].items() if count for word in bad)
 
 
-def by_hints_over_connections_that_are_cut():
-    """The game outlives its connections; she opens them again as the screen says."""
-    cuts = 0
-    for seed in range(3):
-        cuts += match_by_hints('--cut', '60', '--keep-games', '--no-changes', seed=seed + 20).lost
-    same('connections were cut', cuts > 3, True)
+def report(results):
+    """Prints the table, and the transcripts of what is wrong."""
+    for row in table(results):
+        print(row)
+    seen = Counter()
+    for number, result in enumerate(results):
+        if is_sound(result):
+            continue
+        for what in [('stall', *stall) for stall in result['stalls']] + result['alarms']:
+            kind = what[0] if what[0] == 'stall' else what[1]
+            seen[kind] += 1
+            if seen[kind] <= 4:
+                print('-- match %d: %s' % (number, ' | '.join(map(str, what[:-1]))))
+                for row in what[-1]:
+                    print('      |', row[:100])
+        for fault in result['faults'][:3]:
+            print('-- match %d: %s' % (number, fault))
+    sound = sum(map(is_sound, results))
+    print('%d passed, %d failed' % (sound, len(results) - sound))
 
 
-# -- rows and columns ------------------------------------------------------------------------------------------------
-
-def turns(lines):
-    """The rows of each turn of both players: from one hint to roll to the next."""
-    starts = [at for at, line in enumerate(lines) if (named_by(line) or [''])[0] == 'roll']
-    return [lines[start + 1:end + 1] for start, end in zip(starts, starts[1:])]
-
-
-def at_most_thirty_rows_a_turn():
-    """On a recorded match: the same dice and plays each time."""
-    follower = match_by_hints(seed=3, bot='invites=1,plays=random')
-    played = turns(follower.ann.lines())
-    rows = [len(turn) for turn in played]
-    same('turns were counted', len(rows) > 15, True)
-    worst = max(played, key=len)
-    if max(rows) > 30:
-        middle = sorted(rows)[len(rows) // 2]
-        raise Failed('%d rows a turn; the middle is %d; the worst is %r' % (max(rows), middle, worst))
+def thirty_matches_by_the_screen_alone():
+    """Side by side: nobody stands still, and no advice is false."""
+    results = asyncio.run(play_all(range(MATCHES), SEED, BESIDE, lambda *_: None))
+    bad = [(number, result) for number, result in enumerate(results) if not is_sound(result)]
+    if bad:
+        number, result = bad[0]
+        raise Failed('%d of %d matches, the first is %d: ended %s, stalls %r, alarms %r, faults %r' % (
+            len(bad), len(results), number, result['ended'], result['stalls'][:1], result['alarms'][:1],
+            result['faults'][:1]))
 
 
-def the_game_of_the_docs():
-    """It was recorded: its turns take at most 30 rows too, from the login to the end."""
-    page = (ROOT / 'docs' / 'GAME.md').read_text().split('```')[1].split('\n')[1:-1]
-    same('it is whole', (page[0].startswith('connected to '), any(ENDED.fullmatch(line) for line in page)),
-         (True, True))
-    rows = [len(turn) for turn in turns(page)]
-    same('turns were counted', len(rows) > 3, True)
-    same('turns of more than 30 rows', [count for count in rows if count > 30], [])
-    same('lines of more than 79 columns', [line for line in page if len(line) > 79], [])
+SCENES = [thirty_matches_by_the_screen_alone]
 
 
-def at_most_79_columns():
-    follower = match_by_hints('--mixed-sides', seed=4)
-    lines = follower.ann.lines()
-    same('lines of more than 79 columns', [line for line in lines if len(line) > 79], [])
-    lines_alone = {chr(code) for code in [10, *range(32, 127)]}
-    same('what else the terminal is told', sorted(set(follower.ann.screen()) - lines_alone), [])
+def main():
+    line = argparse.ArgumentParser()
+    line.add_argument('program')
+    line.add_argument('--matches', type=int, default=MATCHES)
+    line.add_argument('--first', type=int, default=0)
+    line.add_argument('--seed', type=int, default=SEED)
+    line.add_argument('--beside', type=int, default=BESIDE)
+    line.add_argument('--log')
+    options = line.parse_args()
+    log = open(options.log, 'a') if options.log else None
+
+    def tell(number, result):
+        if log:
+            print(json.dumps({'number': number, **result}), file=log, flush=True)
+    numbers = range(options.first, options.first + options.matches)
+    results = asyncio.run(play_all(numbers, options.seed, options.beside, tell))
+    report(results)
+    return 0 if all(map(is_sound, results)) else 1
 
 
-def on_a_small_terminal():
-    """60 by 15, as the environment has it: the picture and its hint fit."""
-    follower = match_by_hints(seed=5, columns=60, rows=15, COLUMNS='60')
-    lines = follower.ann.lines()
-    drawn = [line for line in lines if PICTURE.fullmatch(line)]
-    same('boards were drawn', len(drawn) > 50, True)
-    same('lines of a picture that are wider than the terminal', [line for line in drawn if len(line) > 60], [])
-    same('hints that are wider', [line for line in lines if named_by(line) and len(line) > 60
-                                  and 'nothing has changed' not in line], [])
-    tallest, height = 0, 0
-    for line in lines:
-        height = height + 1 if PICTURE.fullmatch(line) else 0
-        tallest = max(tallest, height)
-    same('the tallest picture leaves a row for its hint', tallest <= 14, True)
-
-
-def letters_in_bold():
-    """If the terminal has them, and never if it does not or one does not want them."""
-    seen = {}
-    for name, more in (('xterm', {'TERM': 'xterm'}), ('dumb', {'TERM': 'dumb'}),
-                       ('NO_COLOR', {'TERM': 'xterm', 'NO_COLOR': '1'})):
-        screen = match_by_hints(seed=6, **more).ann.screen()
-        seen[name] = '\x1b[1m' in screen, '\x1b[35m' in screen
-        rest = re.sub(r'\x1b\[[0-9;]*m', '', screen)
-        same('what else acts on the terminal with ' + name, '\x1b' in rest, False)
-    same('bold letters, and a last move that is marked', seen,
-         {'xterm': (True, True), 'dumb': (False, False), 'NO_COLOR': (False, False)})
-
-
-def the_bell():
-    """It rings at her turn after the other's, at what is said to her, at a loss; never if FIBS_QUIET is set."""
-    server = Served('--bot', 'eve:invites=1,says=hello', '--dice', '31,31,31,31')
-    try:
-        for quiet in None, '1':
-            ann = Person(server.port, FIBS_QUIET=quiet)
-            ann.reads("Type 'join eve' to accept.")
-            ann.type('join eve')
-            ann.hint()
-            ann.type('tell eve hi')
-            ann.reads('eve says: hello')
-            ann.type('bye')
-            ann.reads('lost')
-            rings = ann.screen().count('\a')
-            same('it rings with FIBS_QUIET=%s' % quiet, rings == 0 if quiet else rings >= 3, True)
-            ann.type('quit')
-            ann.ends(0)
-            ann.close()
-            time.sleep(0.3)
-    finally:
-        server.close()
-
-
-def help_lists_the_words():
-    """On one screen, what can be done now first; and there is more to read of each word."""
-    server = Served('--bot', 'eve:invites=1', '--dice', '13')
-    try:
-        ann = Person(server.port)
-        ann.reads("Type 'join eve' to accept.")
-        ann.type('join eve')
-        hint = ann.hint()
-        ann.type('help')
-        ann.reads('help')
-        first = ann.next_line()
-        same('what can be done now is first', named_by(first), hint)
-        screen = [first]
-        while 'help WORD' not in screen[-1]:
-            screen.append(ann.next_line())
-        same('it fits a screen', (len(screen) <= 23, max(map(len, screen)) <= 79), (True, True))
-        words = sorted({line.split(' ')[0] for line in (ROOT / 'completions' / 'typed').read_text().splitlines()})
-        told = set(re.findall(r'[a-z]+', ' '.join(screen)))
-        same('words that are not there', [word for word in words if word not in told], [])
-        for word in words:
-            ann.type('help ' + word)
-            ann.reads('help ' + word)
-            same('nothing is known of ' + word, ann.next_line().startswith('No such word'), False)
-        ann.was_not_refused()
-        ann.close()
-    finally:
-        server.close()
-
-
-SCENES = [help_lists_the_words, by_hints_alone, by_hints_over_connections_that_are_cut, at_most_thirty_rows_a_turn,
-          the_game_of_the_docs, at_most_79_columns, on_a_small_terminal, letters_in_bold, the_bell]
+if __name__ == '__main__':
+    sys.exit(main())

@@ -1,0 +1,204 @@
+"""Whole matches in which ann types only what the screen names, and what such a screen looks like."""
+
+import random
+import re
+import time
+
+from people import ROOT, Failed, Person, Served, same
+from words import ENDED, INVITED, NEXT, REFUSED, read
+
+# How long a screen may wait for the other one before ann counts as stuck.
+STUCK = 15
+
+# A picture: its edges are the first and the last of these.
+PICTURE = re.compile(r' [+|].*')
+
+
+class Follower:
+    """One who reads the screen, and types one of the lines that it names last."""
+
+    def __init__(self, server, seed, **more):
+        self.chance = random.Random(seed)
+        self.ann = Person(server.port, **more)
+        self.typed, self.lost = [], 0
+
+    def line_for(self, line):
+        """What she types because of a line of the screen, if anything."""
+        _, named = read(line)
+        if named:
+            self.lost += line.startswith('lost')
+            # a double now and then; the end of the program never
+            named = [one for one in named if one != 'quit']
+            return self.chance.choice(named if self.chance.random() < 0.2 else named[:1]) if named else None
+        found = INVITED.fullmatch(line) or NEXT.fullmatch(line)
+        return found[1] if found else None
+
+    def plays_to_the_end(self):
+        """Plays until a match is over."""
+        ann = self.ann
+        while True:
+            try:
+                line = ann.next_line(STUCK)
+            except Failed as stuck:
+                raise Failed('stuck after %r: %s' % (self.typed[-4:], stuck)) from None
+            if REFUSED.fullmatch(line):
+                raise Failed('%r was refused: %r' % (self.typed[-1:], line))
+            if ENDED.fullmatch(line):
+                return
+            typed = self.line_for(line)
+            if typed:
+                self.typed.append(typed)
+                ann.type(typed)
+
+
+def match_by_hints(*options, seed=1, bot='invites=2,plays=random,resigns=4n', **more):
+    """The screen of a match against a bot, that is played by the hints."""
+    server = Served('--bot', 'eve:' + bot, '--bot-pause', '20', '--seed', str(seed), *options)
+    try:
+        follower = Follower(server, seed, **more)
+        follower.plays_to_the_end()
+        follower.ann.type('quit')
+        follower.ann.ends(0)
+        follower.ann.close()
+        return follower
+    finally:
+        server.close()
+
+
+def by_hints_alone():
+    """Whatever the habits of the server are, nothing that the screen names is refused, and nobody is stuck."""
+    for seed, options in enumerate(([], ['--autoroll', 'no-double'], ['--mixed-sides'], ['--loose-flags'],
+                                    ['--show-resignations'], ['--refuse', 'roll=1', '--refuse', 'move=1'],
+                                    ['--prompts', '--portions', '9'], ['--no-changes', '--telnet'])):
+        match_by_hints(*options, seed=seed + 1)
+
+
+def by_hints_over_connections_that_are_cut():
+    """The game outlives its connections; she opens them again as the screen says."""
+    cuts = 0
+    for seed in range(3):
+        cuts += match_by_hints('--cut', '60', '--keep-games', '--no-changes', seed=seed + 20).lost
+    same('connections were cut', cuts > 3, True)
+
+
+# -- rows and columns ------------------------------------------------------------------------------------------------
+
+def turns(lines):
+    """The rows of each turn of both players: from one hint to roll to the next."""
+    starts = [at for at, line in enumerate(lines) if (read(line)[1] or [''])[0] == 'roll']
+    return [lines[start + 1:end + 1] for start, end in zip(starts, starts[1:])]
+
+
+def at_most_thirty_rows_a_turn():
+    """On a recorded match: the same dice and plays each time."""
+    follower = match_by_hints(seed=3, bot='invites=1,plays=random')
+    played = turns(follower.ann.lines())
+    rows = [len(turn) for turn in played]
+    same('turns were counted', len(rows) > 15, True)
+    worst = max(played, key=len)
+    if max(rows) > 30:
+        middle = sorted(rows)[len(rows) // 2]
+        raise Failed('%d rows a turn; the middle is %d; the worst is %r' % (max(rows), middle, worst))
+
+
+def the_game_of_the_docs():
+    """It was recorded: its turns take at most 30 rows too, from the login to the end."""
+    page = (ROOT / 'docs' / 'GAME.md').read_text().split('```')[1].split('\n')[1:-1]
+    same('it is whole', (page[0].startswith('connected to '), any(ENDED.fullmatch(line) for line in page)),
+         (True, True))
+    rows = [len(turn) for turn in turns(page)]
+    same('turns were counted', len(rows) > 3, True)
+    same('turns of more than 30 rows', [count for count in rows if count > 30], [])
+    same('lines of more than 79 columns', [line for line in page if len(line) > 79], [])
+
+
+def at_most_79_columns():
+    follower = match_by_hints('--mixed-sides', seed=4)
+    lines = follower.ann.lines()
+    same('lines of more than 79 columns', [line for line in lines if len(line) > 79], [])
+    lines_alone = {chr(code) for code in [10, *range(32, 127)]}
+    same('what else the terminal is told', sorted(set(follower.ann.screen()) - lines_alone), [])
+
+
+def on_a_small_terminal():
+    """60 by 15, as the environment has it: the picture and its hint fit."""
+    follower = match_by_hints(seed=5, columns=60, rows=15, COLUMNS='60')
+    lines = follower.ann.lines()
+    drawn = [line for line in lines if PICTURE.fullmatch(line)]
+    same('boards were drawn', len(drawn) > 50, True)
+    same('lines of a picture that are wider than the terminal', [line for line in drawn if len(line) > 60], [])
+    same('hints that are wider', [line for line in lines if read(line)[0] == 'hint' and len(line) > 60], [])
+    tallest, height = 0, 0
+    for line in lines:
+        height = height + 1 if PICTURE.fullmatch(line) else 0
+        tallest = max(tallest, height)
+    same('the tallest picture leaves a row for its hint', tallest <= 14, True)
+
+
+def letters_in_bold():
+    """If the terminal has them, and never if it does not or one does not want them."""
+    seen = {}
+    for name, more in (('xterm', {'TERM': 'xterm'}), ('dumb', {'TERM': 'dumb'}),
+                       ('NO_COLOR', {'TERM': 'xterm', 'NO_COLOR': '1'})):
+        screen = match_by_hints(seed=6, **more).ann.screen()
+        seen[name] = '\x1b[1m' in screen, '\x1b[35m' in screen
+        rest = re.sub(r'\x1b\[[0-9;]*m', '', screen)
+        same('what else acts on the terminal with ' + name, '\x1b' in rest, False)
+    same('bold letters, and a last move that is marked', seen,
+         {'xterm': (True, True), 'dumb': (False, False), 'NO_COLOR': (False, False)})
+
+
+def the_bell():
+    """It rings at her turn after the other's, at what is said to her, at a loss; never if FIBS_QUIET is set."""
+    server = Served('--bot', 'eve:invites=1,says=hello', '--dice', '31,31,31,31')
+    try:
+        for quiet in None, '1':
+            ann = Person(server.port, FIBS_QUIET=quiet)
+            ann.reads("Type 'join eve' to accept.")
+            ann.type('join eve')
+            ann.hint()
+            ann.type('tell eve hi')
+            ann.reads('eve says: hello')
+            ann.type('bye')
+            ann.reads('lost')
+            rings = ann.screen().count('\a')
+            same('it rings with FIBS_QUIET=%s' % quiet, rings == 0 if quiet else rings >= 3, True)
+            ann.type('quit')
+            ann.ends(0)
+            ann.close()
+            time.sleep(0.3)
+    finally:
+        server.close()
+
+
+def help_lists_the_words():
+    """On one screen, what can be done now first; and there is more to read of each word."""
+    server = Served('--bot', 'eve:invites=1', '--dice', '13')
+    try:
+        ann = Person(server.port)
+        ann.reads("Type 'join eve' to accept.")
+        ann.type('join eve')
+        hint = ann.hint()
+        ann.type('help')
+        ann.reads('help')
+        first = ann.next_line()
+        same('what can be done now is first', read(first), ('hint', [hint]))
+        screen = [first]
+        while 'help WORD' not in screen[-1]:
+            screen.append(ann.next_line())
+        same('it fits a screen', (len(screen) <= 23, max(map(len, screen)) <= 79), (True, True))
+        words = sorted({line.split(' ')[0] for line in (ROOT / 'completions' / 'typed').read_text().splitlines()})
+        told = set(re.findall(r'[a-z]+', ' '.join(screen)))
+        same('words that are not there', [word for word in words if word not in told], [])
+        for word in words:
+            ann.type('help ' + word)
+            ann.reads('help ' + word)
+            same('nothing is known of ' + word, ann.next_line().startswith('No such word'), False)
+        ann.was_not_refused()
+        ann.close()
+    finally:
+        server.close()
+
+
+SCENES = [help_lists_the_words, by_hints_alone, by_hints_over_connections_that_are_cut, at_most_thirty_rows_a_turn,
+          the_game_of_the_docs, at_most_79_columns, on_a_small_terminal, letters_in_bold, the_bell]

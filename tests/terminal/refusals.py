@@ -1,0 +1,188 @@
+"""Scenes of what is refused: a login, a connection, a word that the client does not have; and of a server that plays by
+itself."""
+
+import time
+
+from people import PASSWORD, Client, Failed, Person, Served, at_a_table, near_and_far, same
+from offers import ANN_BEGINS
+from words import read
+
+SCENES = []
+
+
+# -- a login ---------------------------------------------------------------------------------------------------------
+
+def with_a_wrong_password(*options):
+    """A decorator: ann has given a wrong password; the server asks for the login again, and says nothing else."""
+    def decorated(does):
+        def scene():
+            server = Served('--account', 'ann:' + PASSWORD[::-1], '--account', 'bob:secret', *options)
+            try:
+                ann = Person(server.port)
+                ann.reads('Welcome to a server')
+                does(ann, server)
+                ann.type('quit')
+                ann.ends(0)
+                ann.close()
+            finally:
+                server.close()
+        scene.__name__ = does.__name__
+        SCENES.append(scene)
+        return scene
+    return decorated
+
+
+@with_a_wrong_password()
+def a_wrong_password(ann, _server):
+    """What she types then is answered by what is wrong."""
+    ann.type('roll')
+    ann.advised('login', 'quit')
+
+
+@with_a_wrong_password()
+def a_wrong_password_at_rest(ann, _server):
+    """It is said without a line being typed."""
+    ann.advised('login', 'quit')
+
+
+@with_a_wrong_password('--delay', '80', '--portions', '30', '--pause', '25')
+def a_wrong_password_far_away(ann, _server):
+    ann.advised('login', 'quit')
+
+
+@with_a_wrong_password('--tell-strangers')
+def a_wrong_password_while_others_come_and_go(ann, server):
+    """Each of them is told, behind the prompt that she is asked by."""
+    end = time.monotonic() + 4
+    while time.monotonic() < end:
+        bob = Client(server.port, 'bob')
+        bob.send('bye')
+        bob.close()
+        time.sleep(0.3)
+    same('it is said, and once', [row for row in ann.lines() if read(row)[0] == 'login'] != [], True)
+
+
+# each line of the server comes a while after the one before it
+SLOW = '--portions', '1000000', '--pause', '60'
+
+
+def a_right_password(name, *options):
+    """A scene: the prompt comes in pieces and the answer takes a while. That the login was refused is never said."""
+    def scene():
+        server = Served(*options)
+        try:
+            ann = Person(server.port)
+            ann.reads('Welcome, ann')
+            time.sleep(2.5)
+            same('a login that is said to be refused', [row for row in ann.lines() if read(row)[0] == 'login'], [])
+            ann.was_not_refused()
+            ann.close()
+        finally:
+            server.close()
+    scene.__name__ = 'a_right_password_' + name
+    return scene
+
+
+SCENES += [a_right_password('and_a_prompt_in_pieces', '--portions', '4', '--pause', '5', '--delay', '150'),
+           a_right_password('and_a_prompt_in_slow_pieces', '--portions', '4', '--pause', '30', '--delay', '60'),
+           # by this seed the command comes last
+           a_right_password('and_a_telnet_command_behind_the_prompt', '--telnet', '--seed', '3', *SLOW),
+           *(a_right_password('and_a_greeting_of_%d_bytes' % size, '--greeting', str(size), *SLOW)
+             for size in (1025, 1027, 1030))]
+
+
+# -- no connection ---------------------------------------------------------------------------------------------------
+
+def no_server():
+    """Nobody listens: the reason is said, and the prompt stays."""
+    server = Served()
+    port = server.port
+    server.close()
+    ann = Person(port)
+    wanted = 'no connection to 127.0.0.1:%d: connection refused' % port
+    same('the first time', ann.reads('no connection').startswith(wanted), True)
+    ann.type('open')
+    same('the second time', ann.reads('no connection').startswith(wanted), True)
+    ann.type('quit')
+    ann.ends(0)
+    ann.was_not_refused()
+    ann.close()
+
+
+def no_such_name():
+    """The name of the server has no address, since it is misspelled: that is said."""
+    ann = Person(4321, host='nowhere.invalid')
+    ann.reads('no connection to nowhere.invalid:4321: no address is known; open tries again')
+    ann.type('quit')
+    ann.ends(0)
+    ann.was_not_refused()
+    ann.close()
+
+
+SCENES += [no_server, no_such_name]
+
+
+# -- a server that plays by itself -----------------------------------------------------------------------------------
+
+def by_itself(*turned_on):
+    """A scene: the account has these on. The screen says so at the login and under the board, and each line of the
+    way that it names is typed as it comes."""
+    settings = [word for name in turned_on for word in ('--set', 'ann:%s=1' % name)]
+
+    def scene(table):
+        ann, bob = table.ann, table.bob
+        ann.advised('auto', *('toggle ' + name for name in turned_on))
+        table.begins()
+        for name in turned_on:
+            ann.types_what('auto', 'toggle ' + name)
+        ann.advised('auto', 'bye')
+        ann.type('help')
+        ann.types_what('auto', 'bye')
+        ann.types_what('open', 'open')
+        ann.reads('Welcome, ann')
+        ann.types_what('gone', 'invite bob')
+        bob.sees("Type 'join ann' to accept.")
+        bob.send('join ann')
+        ann.types_what('hint', 'move')
+        bob.sees('ann moves ..')
+        ann.was_not_refused()
+    scene.__name__ = 'the_server_plays_by_itself_with_' + '_and_'.join(turned_on)
+    near_and_far(SCENES, *ANN_BEGINS, *settings)(scene)
+
+
+by_itself('automove')
+by_itself('greedy')
+by_itself('automove', 'greedy')
+
+
+# -- words -----------------------------------------------------------------------------------------------------------
+
+# What a player of FIBS may type that this client does not have, and the line that its answer names.
+OTHER_WORDS = ['leave', 'watch bob', 'unwatch', 'whois bob', 'redouble', 'pip', 'away', 'back', 'show saved',
+               'toggle report', 'who bob', 'invite bob unlimited', 'blind bob', 'look bob']
+
+
+@at_a_table(*ANN_BEGINS)
+def each_word_of_the_server_leads_on(table):
+    """Nothing is sent by a guess; the line that is named sends it."""
+    ann = table.ann
+    missing = []
+    for word in OTHER_WORDS:
+        ann.type(word)
+        try:
+            ann.reads('send ' + word, seconds=5)
+        except Failed:
+            missing.append(word)
+    for word, wanted in (('exit', 'quit'), ('q', 'quit'), ('resign', 'resign n')):
+        ann.type(word)
+        try:
+            ann.reads(wanted, seconds=5)
+        except Failed:
+            missing.append(word)
+    same('words that lead nowhere', missing, [])
+    same('what was sent', [row for row in ann.lines() if row.startswith('sent')], [])
+    ann.type('send show saved')
+    ann.reads('no saved games.')
+
+
+SCENES.append(each_word_of_the_server_leads_on)

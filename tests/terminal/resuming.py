@@ -1,0 +1,339 @@
+"""Scenes of matches that are left, saved, and taken up again, and of what comes between two games."""
+
+from offers import (ANN_BEGINS, BOB_BEGINS, ann_is_to_roll, ann_rolls, bob_is_to_roll, goes_on_to_the_next_game,
+                    never_advised)
+from people import PASSWORD, Client, at_a_table, near_and_far
+
+SCENES = []
+
+# everything that the server says is so long on its way that a line typed now crosses what bob does now
+CROSSING = '--delay', '500'
+
+
+def bob_joins(table):
+    """Bob accepts her invitation to the match that was saved."""
+    table.bob.sees("Type 'join ann' to accept.")
+    table.bob.send('join ann')
+
+
+def takes_up(table):
+    """She invites him as the screen says, and he joins."""
+    table.ann.types_what('gone', 'invite bob')
+    bob_joins(table)
+
+
+def moves_as(table, kind, line):
+    table.ann.types_what(kind, line)
+    table.bob.sees('ann moves ..')
+    table.ann.was_not_refused()
+
+
+# -- the opponent goes -----------------------------------------------------------------------------------------------
+
+@near_and_far(SCENES, *BOB_BEGINS)
+def he_leaves_while_she_thinks_and_comes_back_to_the_same_board(table):
+    """The picture comes again, and the hint below it."""
+    ann_is_to_roll(table)
+    table.bob.send('leave')
+    takes_up(table)
+    table.ann.reads('Your running match was loaded.')
+    table.ann.reads(' +13-14-15-16-17-18-+---+19-20-21-22-23-24-+')
+    ann_rolls(table, 'hint')
+
+
+@near_and_far(SCENES, *ANN_BEGINS)
+def he_leaves_before_she_moves_and_comes_back(table):
+    table.begins()
+    table.ann.hint()
+    table.bob.send('leave')
+    takes_up(table)
+    table.ann.reads(' +13-14-15-16-17-18-+---+19-20-21-22-23-24-+')
+    moves_as(table, 'hint', 'move')
+
+
+@near_and_far(SCENES, *BOB_BEGINS, '--say-how')
+def he_drops_while_she_thinks_and_invites_her(table):
+    """She is told that he may, and joins him."""
+    ann_is_to_roll(table)
+    table.bob.close()
+    table.ann.reads('bob drops connection. The game was saved.')
+    never_advised(table.ann, ('hint', 'go on', 'board', 'old'), 0.5)
+    comes_again(table)
+    table.bob.send('invite ann')
+    table.ann.reads("Type 'join bob' to accept.")
+    table.ann.types_what('invited', 'join bob')
+    ann_rolls(table, 'hint')
+
+
+def comes_again(table):
+    """Bob logs in again, and now the match that was saved can go on: she is told so."""
+    table.bob = Client(table.server.port, 'bob')
+    table.ann.advised('gone', 'invite bob')
+
+
+@near_and_far(SCENES, *BOB_BEGINS, '--no-board', 'resume')
+def a_match_to_roll_goes_on_without_a_board(table):
+    ann_is_to_roll(table)
+    table.bob.send('leave')
+    takes_up(table)
+    table.ann.types_what('hint', 'roll')
+    table.bob.sees('ann rolls ..')
+    table.ann.was_not_refused()
+
+
+def comes_again_to_a_match_without_a_board(table):
+    """She connects again: the new connection has shown no board."""
+    table.comes_again()
+    takes_up(table)
+    table.ann.types_what('board', 'board')
+
+
+@near_and_far(SCENES, *BOB_BEGINS, '--no-board', 'resume')
+def a_match_to_roll_goes_on_without_a_board_on_a_new_connection(table):
+    ann_is_to_roll(table)
+    comes_again_to_a_match_without_a_board(table)
+    ann_rolls(table, 'hint')
+
+
+@near_and_far(SCENES, *ANN_BEGINS, '--no-board', 'resume')
+def a_match_to_move_goes_on_without_a_board_on_a_new_connection(table):
+    table.begins()
+    table.ann.hint()
+    comes_again_to_a_match_without_a_board(table)
+    moves_as(table, 'hint', 'move')
+
+
+# -- what crosses his going ------------------------------------------------------------------------------------------
+
+@at_a_table(*BOB_BEGINS, *CROSSING)
+def a_roll_crosses_his_leaving(table):
+    """The same board comes when the match goes on: the roll that waits is sent."""
+    ann_is_to_roll(table)
+    table.bob.send('leave')
+    table.ann.type('roll')
+    table.ann.reads("** You're not playing.")
+    takes_up(table)
+    table.ann.reads(' +13-14-15-16-17-18-+---+19-20-21-22-23-24-+')
+    ann_rolls(table, 'go on', 'send roll')
+
+
+@at_a_table(*ANN_BEGINS, *CROSSING)
+def a_move_crosses_his_leaving(table):
+    table.begins()
+    move = table.ann.hint()
+    table.bob.send('leave')
+    table.ann.type(move)
+    table.ann.reads("** You're not playing.")
+    takes_up(table)
+    moves_as(table, 'go on', 'send ' + move)
+
+
+@at_a_table(*ANN_BEGINS, *CROSSING, '--say-how')
+def a_move_crosses_his_drop_and_he_invites_her(table):
+    table.begins()
+    move = table.ann.hint()
+    table.bob.close()
+    table.ann.type(move)
+    table.ann.reads("** You're not playing.")
+    comes_again(table)
+    table.bob.send('invite ann')
+    table.ann.types_what('invited', 'join bob')
+    moves_as(table, 'go on', 'send ' + move)
+
+
+@at_a_table(*BOB_BEGINS, *CROSSING)
+def a_roll_crosses_his_leaving_and_she_connects_again(table):
+    ann_is_to_roll(table)
+    table.bob.send('leave')
+    table.ann.type('roll')
+    table.ann.reads("** You're not playing.")
+    table.ann.advised('gone')
+    table.comes_again()
+    takes_up(table)
+    ann_rolls(table, 'hint')
+
+
+@at_a_table(*BOB_BEGINS, *CROSSING, '--no-board', 'resume')
+def a_roll_crosses_his_leaving_and_no_board_comes(table):
+    ann_is_to_roll(table)
+    table.bob.send('leave')
+    table.ann.type('roll')
+    table.ann.reads("** You're not playing.")
+    takes_up(table)
+    table.ann.types_what('board', 'board')
+    ann_rolls(table, 'go on', 'send roll')
+
+
+@near_and_far(SCENES, *BOB_BEGINS, '--forget-offers')
+def her_double_is_forgotten(table):
+    """He goes while her double is open; the server knows nothing of it when the match goes on."""
+    ann_is_to_roll(table)
+    table.ann.type('double')
+    table.bob.sees("ann doubles. Type 'accept' or 'reject'.")
+    table.bob.send('leave')
+    takes_up(table)
+    table.ann.types_what('hint', 'roll')
+    table.bob.sees('ann rolls ..')
+    table.ann.was_not_refused()
+
+
+@near_and_far(SCENES, *BOB_BEGINS, '--forget-offers', '--no-board', 'double')
+def her_double_is_forgotten_and_the_board_is_the_same(table):
+    """No board showed the double, so that the board that comes is the one on which she doubled."""
+    ann_is_to_roll(table)
+    table.ann.type('double')
+    table.bob.sees("ann doubles. Type 'accept' or 'reject'.")
+    table.bob.send('leave')
+    takes_up(table)
+    ann_rolls(table, 'go on', 'send roll', )
+
+
+# -- games and matches that follow ------------------------------------------------------------------------------------
+
+@near_and_far(SCENES, '--dice', '31,31,42', '--no-board', 'end')
+def the_same_first_board_in_the_next_match(table):
+    """She resigned on the very board that comes again. Nothing offers to resign the new match."""
+    ann, bob = table.ann, table.bob
+    table.begins(1)
+    move = ann.hint()
+    ann.type('resign b')
+    bob.sees('ann wants to resign. ..')
+    bob.send('accept')
+    ann.reads('bob wins the 1 point match 3-0 .')
+    never_advised(ann, ('hint', 'go on', 'board', 'wait', 'gone', 'next', 'old'), 0.5)
+    ann.type('invite bob 1')
+    bob_joins(table)
+    ann.reads('Starting a new game with bob.')
+    ann.reads(' +13-14-15-16-17-18-+---+19-20-21-22-23-24-+')
+    moves_as(table, 'go on', 'send ' + move)
+
+
+@near_and_far(SCENES, '--dice', '31,31,42', '--delay', '500')
+def the_same_first_board_after_a_match_that_he_left(table):
+    ann, bob = table.ann, table.bob
+    table.begins()
+    move = ann.hint()
+    bob.send('leave')
+    ann.type(move)
+    ann.reads("** You're not playing.")
+    ann.type('invite bob 3')
+    bob_joins(table)
+    ann.reads('Starting a new game with bob.')
+    ann.reads(' +13-14-15-16-17-18-+---+19-20-21-22-23-24-+')
+    moves_as(table, 'go on', 'send ' + move)
+
+
+@near_and_far(SCENES, *ANN_BEGINS)
+def she_waits_for_him_between_two_games(table):
+    """She is told to wait, and nothing that is not so."""
+    table.begins()
+    table.ann.hint()
+    table.ann.type('resign n')
+    table.bob.sees('ann wants to resign. ..')
+    table.bob.send('accept')
+    table.ann.types_what('next', 'join')
+    table.ann.reads('** Please wait for bob to join too.')
+    never_advised(table.ann, ('hint', 'go on', 'board', 'next', 'old'), 0.5)
+    table.ann.type('help')
+    table.ann.advised('wait')
+    table.bob.send('join')
+    table.bob.sees('Starting a new game with ann.')
+    table.ann.was_not_refused()
+
+
+@near_and_far(SCENES, *ANN_BEGINS)
+def she_leaves_between_two_games(table):
+    """By the line that the row names; then she is told how the match goes on."""
+    table.begins()
+    table.ann.hint()
+    table.ann.type('resign n')
+    table.bob.sees('ann wants to resign. ..')
+    table.bob.send('accept')
+    table.ann.advised('next', 'send leave')
+    table.ann.type('send leave')
+    table.bob.sees('** Player ann has left the game. The game was saved.')
+    takes_up(table)
+    goes_on_to_the_next_game(table)
+
+
+@near_and_far(SCENES, *ANN_BEGINS, '--keep-games')
+def she_connects_again_between_two_games(table):
+    """The board of the new connection says that a game is over."""
+    ann, bob = table.ann, table.bob
+    table.begins()
+    ann.hint()
+    ann.type('resign n')
+    bob.sees('ann wants to resign. ..')
+    bob.send('accept')
+    ann.advised('next')
+    # somebody logs in by her name and goes: her connection ends, and the table keeps her place
+    Client(table.server.port, 'ann', PASSWORD).close()
+    ann.types_what('open', 'open')
+    ann.reads('Welcome, ann')
+    goes_on_to_the_next_game(table)
+
+
+# -- what changes nothing --------------------------------------------------------------------------------------------
+
+@near_and_far(SCENES, *ANN_BEGINS)
+def somebody_else_invites_her_in_a_match(table):
+    bob_is_to_roll(table)
+    eve = Client(table.server.port, 'eve')
+    table.bob.send('roll', 'move 1-5 12-14')
+    table.ann.advised('hint', 'roll')
+    eve.send('watch bob', 'kibitz ann rejects. The game continues.', 'unwatch', 'invite ann 3',
+             'tell ann bob drops connection. The game was saved.')
+    table.ann.reads('The game was saved.')
+    never_advised(table.ann, ('go on', 'board', 'gone', 'invited', 'next', 'old'), 0.5)
+    ann_is_still_to_roll(table)
+    eve.close()
+
+
+def ann_is_still_to_roll(table):
+    table.ann.type('help')
+    ann_rolls(table, 'hint')
+
+
+@near_and_far(SCENES, *BOB_BEGINS)
+def others_come_and_go_while_she_thinks(table):
+    ann_is_to_roll(table)
+    Client(table.server.port, 'eve').close()
+    never_advised(table.ann, ('go on', 'board', 'gone', 'invited', 'next', 'old'), 0.5)
+    ann_is_still_to_roll(table)
+
+
+# -- a new connection ------------------------------------------------------------------------------------------------
+
+@near_and_far(SCENES, *ANN_BEGINS)
+def a_connection_that_ends(table):
+    table.begins()
+    table.ann.hint()
+    table.comes_again()
+    takes_up(table)
+    moves_as(table, 'hint', 'move')
+
+
+@near_and_far(SCENES, *ANN_BEGINS)
+def after_a_new_connection_she_is_invited(table):
+    """The other way that the row names."""
+    table.begins()
+    table.ann.hint()
+    table.comes_again()
+    table.ann.advised('gone', 'join bob')
+    table.bob.send('invite ann')
+    table.ann.types_what('invited', 'join bob')
+    moves_as(table, 'hint', 'move')
+
+
+@near_and_far(SCENES, *BOB_BEGINS, '--keep-games')
+def a_connection_that_ends_at_a_server_that_keeps_the_game(table):
+    """Her place is still hers: the first board of the new connection says all."""
+    ann_is_to_roll(table)
+    Client(table.server.port, 'ann', PASSWORD).close()
+    table.ann.types_what('open', 'open')
+    table.ann.reads('Welcome, ann')
+    ann_rolls(table, 'hint')
+
+
+SCENES += [a_roll_crosses_his_leaving, a_move_crosses_his_leaving, a_move_crosses_his_drop_and_he_invites_her,
+           a_roll_crosses_his_leaving_and_she_connects_again, a_roll_crosses_his_leaving_and_no_board_comes]

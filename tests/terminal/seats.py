@@ -1,0 +1,328 @@
+"""A player of whole matches: the program at a pseudo-terminal, and one who reads its rows and types what they name."""
+
+import asyncio
+import fcntl
+import os
+import re
+import struct
+import subprocess
+import termios
+import time
+from collections import Counter, deque
+
+from people import BOLD, PASSWORD_FILE, PROGRAM
+from words import ENDED, INVITED, REFUSED, read, sent_by
+
+# A row is read with those that came with it, and then something is typed.
+READS = 0.03
+# After so long without a row the player asks for help, and after so long the match stands still.
+ASKS, STUCK = 3.0, 7.0
+
+# Said in the words of the server, by those who play.
+TALK = ['kibitz %s rejects. The game continues.', 'say %s accepts the double.', 'kibitz You give up. %s wins 1 point.',
+        'shout %s drops connection. The game was saved.', 'say hello', 'whisper %s wants to resign.', 'players', 'help',
+        'board', 'plays', 'send pip']
+
+# The first and the last row of a picture.
+EDGE = re.compile(r' \+[-\d]+\+---\+[-\d]+\+.*')
+HINT_ALONE = ('hint', 'go on', 'answer', 'board', 'next', 'gone', 'invited', 'auto', 'open')
+
+
+class Picture:
+    """The rows of a picture, as they come."""
+
+    def __init__(self):
+        self.rows = []
+
+    def takes(self, row):
+        """The picture that this row ends, or None."""
+        if EDGE.fullmatch(row):
+            self.rows.append(row)
+            if len(self.rows) > 1:
+                rows, self.rows = self.rows, []
+                return rows
+        elif self.rows and row.startswith(' |'):
+            self.rows.append(row)
+        else:
+            self.rows = []
+        return None
+
+
+def drawn(rows):
+    """The checkers of a picture by the numbers on its edges: positive are those of the player, who is O."""
+    places = {}
+    for half, letters in ((rows[0], rows[1:6]), (rows[-1], rows[-2:-7:-1])):
+        for at in [2 + 3 * k for k in range(6)] + [25 + 3 * k for k in range(6)]:
+            cells = [row[at:at + 2].strip() for row in letters]
+            side = {'O': 1, 'X': -1}.get(cells[0], 0)
+            count = int(cells[4]) if cells[4].isdigit() else sum(cell in ('O', 'X') for cell in cells)
+            places[int(half[at:at + 2].strip('-'))] = side * count
+    return places
+
+
+def is_of(rows, board):
+    """True if a picture shows the checkers of a board line."""
+    fields = board.split(':')
+    colour = int(fields[41])
+    wanted = {place: colour * int(fields[6 + place]) for place in range(1, 25)}
+    return drawn(rows) == wanted
+
+
+class Seat:
+    """The player `name`, who plays against `other` on a wire of his own."""
+
+    def __init__(self, game, name, other, port):
+        self.game, self.name, self.other = game, name, other
+        self.chance = game.chance
+        self.begin(port)
+        self.half, self.picture, self.rows = b'', Picture(), deque(maxlen=80)
+        # what is sent on each connection by the screen
+        self.sent = []
+        # what the rows have named since the last line that was typed; and what was typed last, and why
+        self.row, self.inviting, self.typed, self.why = None, None, '', ''
+        self.last_row = self.last_typed = self.answered = time.monotonic()
+        self.has_asked = self.is_stuck = self.is_over = self.is_invited = False
+        self.counts, self.faults, self.stalls, self.alarms = Counter(), [], [], []
+        # rows since the last move
+        self.since_move, self.turns = None, []
+        self.read_to, self.last_kind = {}, ''
+
+    def begin(self, port):
+        self.fd, tty = os.openpty()
+        fcntl.ioctl(self.fd, termios.TIOCSWINSZ, struct.pack('HHHH', 24, 80, 0, 0))
+        attributes = termios.tcgetattr(tty)
+        attributes[3] &= ~termios.ECHO
+        termios.tcsetattr(tty, termios.TCSANOW, attributes)
+        self.process = subprocess.Popen(
+            [PROGRAM, 'connect', '--password-file', PASSWORD_FILE, '127.0.0.1', str(port), self.name], stdin=tty,
+            stdout=tty, stderr=tty, start_new_session=True,
+            env={**os.environ, 'TERM': 'dumb', 'FIBS_QUIET': '1', 'LC_ALL': 'C', 'TZ': 'UTC'})
+        os.close(tty)
+        asyncio.get_running_loop().add_reader(self.fd, self.readable)
+
+    def close(self):
+        asyncio.get_running_loop().remove_reader(self.fd)
+        self.process.kill()
+        self.process.wait()
+        os.close(self.fd)
+
+    # -- what is read ------------------------------------------------------------------------------------------------
+
+    def readable(self):
+        try:
+            piece = os.read(self.fd, 65536)
+        except OSError:
+            asyncio.get_running_loop().remove_reader(self.fd)
+            return
+        *rows, self.half = (self.half + piece).split(b'\n')
+        for row in rows:
+            self.reads(BOLD.sub('', row.rstrip(b'\r').decode('latin-1')))
+
+    def reads(self, row):
+        """A row of the screen."""
+        self.last_row = time.monotonic()
+        self.rows.append(row)
+        if self.since_move is not None:
+            self.since_move += 1
+        if len(row) > 79:
+            self.counts['rows wider than 79 columns'] += 1
+        if picture := self.picture.takes(row):
+            self.judge_picture(picture)
+        if row.startswith('connected to '):
+            self.sent.append([])
+        self.follow_the_server(row)
+        if line := sent_by(row):
+            self.sent[-1].append(line)
+            self.counts['lines sent'] += 1
+            self.note_turn(line)
+        if REFUSED.fullmatch(row):
+            self.counts['what was typed because of %s was refused by the client' % (self.why or 'nothing')] += 1
+            if self.why in HINT_ALONE:
+                self.alarm('the client refused what it named', row)
+        kind, lines = read(row)
+        # below the answer that an offer waits for, the hint is of the board alone
+        if kind and not (kind == 'hint' and self.last_kind == 'answer'):
+            self.judge(kind, row, lines)
+            self.takes_note(kind, lines)
+        self.last_kind = kind
+        if found := INVITED.fullmatch(row):
+            self.inviting = found[1]
+        elif ENDED.fullmatch(row):
+            self.is_over = True
+
+    def takes_note(self, kind, lines):
+        """What a row names is kept: of two rows that belong together what both name."""
+        if kind in ('gone', 'auto') and self.row and self.row[0] == kind:
+            lines = self.row[1] + lines
+        if kind == 'wait' and self.row and self.row[0] in HINT_ALONE:
+            return
+        self.row = kind, lines
+
+    def note_turn(self, line):
+        if line.startswith('move '):
+            if self.since_move is not None:
+                self.turns.append(self.since_move)
+            self.since_move = 0
+
+    # -- the judge ---------------------------------------------------------------------------------------------------
+
+    def link(self):
+        links = self.game.links[self.name]
+        return links[-1] if links else None
+
+    def follow_the_server(self, row):
+        """A text of the server that is shown was read: the server has nothing older to say."""
+        link = self.link()
+        if not link:
+            return
+        at = self.read_to.get(link, 0)
+        for further in range(at, min(at + 80, len(link.said))):
+            if link.said[further][0] == row and row:
+                self.read_to[link] = further + 1
+                return
+
+    def moments(self):
+        """What the server knew since the moment from which the last byte is that has come to the screen."""
+        moments, link = self.game.room.moments, self.link()
+        if not link:
+            return moments[-1:]
+        shown = self.read_to.get(link, 0)
+        first = max(link.moment_of(time.monotonic()), link.said[shown - 1][1] if shown else 0)
+        return moments[min(first, len(moments) - 1):]
+
+    def verdict(self, kind, row, lines):
+        """Whether a row is right: at one moment at least, since it may cross what has just happened."""
+        moments = self.moments()
+        if kind in ('open', 'login'):
+            return 'right' if not self.link() or self.link().is_over or kind == 'open' else 'false'
+        if kind == 'auto':
+            return 'right' if self.game.room.informed.get(self.name) else 'false'
+        if kind == 'gone':
+            return 'right' if any(one.is_saved or self.name not in one.online for one in moments) else 'false'
+        if kind == 'board':
+            return 'right' if any(one.must_act(self.name) for one in moments) else 'false'
+        if kind == 'wait':
+            return self.verdict_of_waiting(moments, row)
+        lines = [line.removeprefix('send ') for line in lines if line not in ('bye', 'open', 'quit')]
+        taken = [[one.takes(self.name, line) for line in lines] for one in moments]
+        if any(all(one) for one in taken):
+            return 'right'
+        if any(any(one) for one in taken):
+            return 'one of two lines is not taken'
+        return 'wrong remedy' if any(one.must_act(self.name) for one in moments) else 'false'
+
+    def verdict_of_waiting(self, moments, row):
+        if 'has not answered' in row:
+            return 'right' if any(one.has_offered(self.name) for one in moments) else 'false'
+        if 'has not joined' in row:
+            return 'right' if any(one.match and self.name in one.joined for one in moments) else 'false'
+        return 'right'
+
+    def judge(self, kind, row, lines):
+        verdict = self.verdict(kind, row, lines)
+        self.counts['row %s: %s' % (kind, verdict)] += 1
+        if verdict != 'right':
+            self.alarm(verdict, row)
+
+    def judge_picture(self, picture):
+        link = self.link()
+        self.counts['pictures'] += 1
+        if not link or not any(is_of(picture, board) for board in link.boards[-6:]):
+            self.counts['pictures that no board had'] += 1
+            self.alarm('a picture of no board', picture[0])
+
+    def alarm(self, what, row):
+        if len(self.alarms) < 6:
+            self.alarms.append((what, row, self.game.room.now().in_words(self.name) if self.name in (
+                self.game.room.now().match.names if self.game.room.now().match else []) else
+                self.game.room.now().in_words(self.name), list(self.rows)[-14:]))
+
+    # -- what is typed -----------------------------------------------------------------------------------------------
+
+    def type(self, line, why):
+        self.typed, self.why, self.last_typed = line, why, time.monotonic()
+        self.rows.append('> ' + line)
+        os.write(self.fd, line.encode() + b'\n')
+
+    async def plays(self):
+        """Plays until the match is over."""
+        while not self.is_over:
+            await asyncio.sleep(0.01)
+            now = time.monotonic()
+            if now - max(self.last_row, self.last_typed) < READS:
+                continue
+            if not self.does_something(now):
+                self.waits(now)
+
+    def does_something(self, now):
+        """Types what the last rows name, if they name something."""
+        if self.inviting and not (self.row and self.row[0] == 'open'):
+            line, self.inviting, self.row = self.inviting, None, None
+            self.type(line, 'invited')
+            return True
+        if not self.row:
+            return False
+        kind, lines = self.row
+        chosen = self.choice(kind, lines, now)
+        if not chosen:
+            return False
+        line, is_done = chosen
+        if is_done:
+            self.row = None
+            self.has_asked = False
+        self.type(line, kind if is_done else 'talk')
+        return True
+
+    def choice(self, kind, lines, now):
+        """A line for a row, and whether it is what the row asks for."""
+        roll = self.chance.random()
+        game = self.game
+        if kind in ('wait', 'login'):
+            sends = [line for line in lines if line.startswith('send ')]
+            return (sends[0], True) if sends and now - self.last_row > 1 else None
+        if kind == 'gone' and not self.game.is_invited_by(self.name, now - self.last_row):
+            return None
+        if kind in HINT_ALONE and kind != 'open' and roll < game.talks:
+            line = self.chance.choice(TALK)
+            return (line % self.other if '%s' in line else line), False
+        if kind == 'hint' and roll < game.talks + game.leaves:
+            return self.chance.choice(['bye', 'send leave']), True
+        if kind == 'hint' and lines[0] != 'accept' and lines[0] != 'reject' and roll > 1 - game.resigns:
+            return 'resign ' + self.chance.choice('nnngb'), True
+        if kind == 'hint' and 'double' in lines:
+            return ('double' if self.chance.random() < game.doubles else 'roll'), True
+        if kind == 'next':
+            return (lines[1] if self.chance.random() < game.leaves * 3 else lines[0]), True
+        if kind in ('hint', 'answer', 'go on', 'old') and len(lines) > 1 and 'reject' in lines[1]:
+            return self.chance.choice([lines[0], lines[0], lines[1]]), True
+        if kind == 'go on' and len(lines) > 1:
+            return self.chance.choice([lines[0], lines[0], lines[0], lines[1]]), True
+        return lines[0], True
+
+    def waits(self, now):
+        """Nothing is named. If the server waits for him he asks for help once, and then he is stuck."""
+        moment, link = self.game.room.now(), self.link()
+        needed = moment.match is not None and moment.must_act(self.name) or moment.match is None and moment.is_saved \
+            and len(moment.online) == 2
+        idle = now - max(self.last_row, self.last_typed)
+        if not needed or not link or link.is_over:
+            return
+        if idle > ASKS and not self.has_asked:
+            self.has_asked = True
+            self.counts['asked for help'] += 1
+            self.type('help', 'idle')
+        elif idle > STUCK:
+            self.stuck(moment)
+
+    def stuck(self, moment):
+        """The match stands still. It is helped on by what the server would take."""
+        self.counts['stalls'] += 1
+        self.stalls.append((moment.in_words(self.name), list(self.rows)[-34:]))
+        self.has_asked = False
+        if moment.match is None:
+            self.type('invite ' + self.other, 'stuck')
+            return
+        line = moment.way_on(self.name)
+        self.type('send ' + line, 'stuck')
+        self.row = None
+        asyncio.get_running_loop().call_later(0.5, self.type, line, 'stuck')

@@ -1,0 +1,75 @@
+"""What the rows of a screen say: each kind of row, its words, and the lines that it tells to type.
+
+This is the one place of the exact words: a scene asks for a kind, and for a line that a row of it names.
+"""
+
+import re
+
+MOVE = r'move(?: (?:bar|\d+)-(?:off|\d+))+'
+SEND = r'send (?:roll|double|accept|reject|%s)' % MOVE
+# one line with `send`, or two
+SENDS = r'(%s)(?:, or (%s))?' % (SEND, SEND)
+
+# Kinds: `hint`, what the client takes now; `answer`, an offer of which texts alone tell; `board`, that is to be asked
+# for; `go on`, a line that goes as it is; `wait`, what is said if one asks; `next`, between two games; `gone`, a match
+# that may be saved; `invited`; `auto`, the server plays by itself; `open`, there is no connection; `login`, refused.
+ROWS = [(kind, re.compile(form), more) for kind, form, *more in [
+    ('hint', r'Your turn: (roll)\.'),
+    ('hint', r'Your turn: (roll), or (double)\.'),
+    ('hint', r' ?You are offered a double: (accept), or (reject)\.'),
+    ('hint', r' ?You are offered a double: (reject)\.'),
+    # the last row of a picture without bold letters
+    ('hint', r' You (roll), or (double), or resign\.'),
+    ('hint', r' You (roll), or resign\.'),
+    ('hint', r'Your move, as in: (%s)' % MOVE),
+    ('answer', r'\S+ offers to resign: (send accept), or (send reject)\.'),
+    ('answer', r'\S+ waits for your answer: (send accept), or (send reject)\.'),
+    ('board', r'\S+ doubles: (board), then accept, or reject\.'),
+    ('board', r'It may be your turn: (board) shows the game\.'),
+    ('board', r'\S+ was refused: (board) shows the game\.'),
+    ('go on', r'\S+ declined\? Go on: %s' % SENDS),
+    ('go on', r'The board is as it was: %s' % SENDS),
+    ('wait', r'If it is your turn: %s' % SENDS),
+    ('wait', r'\S+ has not answered yet\.'),
+    ('wait', r'If the game goes on: %s' % SENDS),
+    ('wait', r'\S+ was sent: (board) asks what became of it\.'),
+    ('next', r'The game is over: (join) goes on, (send leave) ends the match\.'),
+    ('wait', r'\S+ has not joined yet\.'),
+    ('gone', r'Your match may be saved: (invite \S+),'),
+    ('gone', r'or (join \S+), if you are invited\.'),
+    ('wait', r'\S+ is not here now: your match may be saved\.'),
+    ('invited', r'You are invited: (join \S+)'),
+    ('auto', r'The server plays for you: (?:(toggle automove), then )?(?:(toggle greedy), then )?(bye),'),
+    ('auto', r'then (open)(?:, and (invite \S+))?\.'),
+    ('open', r'lost.*: (open) connects again, (quit) ends'),
+    ('open', r'no connection to .*', 'open', 'quit'),
+    ('login', r'Not logged in: wrong name or password\? (quit), and begin again\.'),
+    # what was said in place of `go on`, before the screen knew what a text says
+    ('old', r'(?:.* )?or the server refused, (send .*); or (bye) and open\.'),
+]]
+
+# What a screen says if something was not done.
+REFUSED = re.compile(r'.*\[\d+ [A-Z][A-Za-z]+\]|(?:refused|fault) \d+ \w+|unknown.*|No: .*|Type it without send: .*'
+                     r'|[Nn]ot a word of this client.*')
+
+# What went to the server, in full.
+SENT = re.compile(r'sent as it is: (.*)|sent (.*?)(?:, as ordered)?')
+
+# What the server says, that one goes by too.
+INVITED = re.compile(r"Type '(join \S+)' to accept\.")
+NEXT = re.compile(r"Type '(join)' if you want to play the next game, .*")
+ENDED = re.compile(r'(?:You win|\S+ wins) the \d+ point match .*')
+
+
+def read(row):
+    """The kind of a row, and the lines that it names; ('', []) if it advises nothing."""
+    for kind, form, more in ROWS:
+        if found := form.fullmatch(row):
+            return kind, [line for line in found.groups() if line] + more
+    return '', []
+
+
+def sent_by(row):
+    """The line that went to the server, if a row says so."""
+    found = SENT.fullmatch(row)
+    return (found[1] or found[2]) if found else None
