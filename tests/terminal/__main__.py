@@ -14,6 +14,7 @@ import people
 import babble
 import costs
 import escapes
+import game
 import hints
 import logs
 import offers
@@ -38,7 +39,7 @@ def tried(scene):
 def main():
     words = sys.argv[2:]
     beside = (offers.SCENES + resuming.SCENES + refusals.SCENES + hints.SCENES + play.SCENES + logs.SCENES
-              + babble.SCENES + whole.SCENES)
+              + game.SCENES + babble.SCENES + whole.SCENES)
     alone = escapes.SCENES + costs.SCENES
     chosen = [[scene for scene in scenes if not words or any(word in scene.__name__ for word in words)]
               for scenes in (beside, alone)]

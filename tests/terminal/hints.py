@@ -5,6 +5,7 @@ import re
 import time
 
 from people import ROOT, Failed, Person, Served, same
+from game import rows_of_the_page
 from words import ENDED, INVITED, NEXT, REFUSED, read
 
 # How long a screen may wait for the other one before ann counts as stuck.
@@ -103,7 +104,7 @@ def at_most_thirty_rows_a_turn():
 
 def the_game_of_the_docs():
     """It was recorded: its turns take at most 30 rows too, from the login to the end."""
-    page = (ROOT / 'docs' / 'GAME.md').read_text().split('```')[1].split('\n')[1:-1]
+    page = rows_of_the_page()
     same('it is whole', (page[0].startswith('connected to '), any(ENDED.fullmatch(line) for line in page)),
          (True, True))
     rows = [len(turn) for turn in turns(page)]

@@ -1,0 +1,117 @@
+#!/usr/bin/env python3
+"""The whole game of docs/GAME.md: python3 -B tests/terminal/game.py PROGRAM records it once more, into the page.
+
+The dice, eve's plays and what ann types are the same each time, so that the page can be compared with the program.
+"""
+
+import re
+import sys
+import time
+
+from people import ROOT, Failed, Person, Served, same
+from words import ENDED, read
+
+PAGE = ROOT / 'docs' / 'GAME.md'
+SERVER = ('--bot', 'eve:plays=last,resigns=6n,says=good luck', '--no-changes',
+          '--dice', '53,63,66,65,14,26,12,13,42,45,15')
+# Ann rolls by a short word, and types each move as players write it.
+TYPED = ['invite eve 1', 'tell eve hi']
+SHORT = {'roll': 'r'}
+
+# What is another one each time.
+ANOTHER = [(re.compile(r'127\.0\.0\.1:\d+'), '127.0.0.1:4321'),
+           (re.compile(r'Last login: .*, from'), 'Last login: 28 December 2002, 23:00, from'),
+           (re.compile(r'^\d\d:\d\d '), '23:00 ')]
+
+
+def same_each_time(row):
+    for form, text in ANOTHER:
+        row = form.sub(text, row)
+    return row
+
+
+def written(line):
+    """A line as ann types it: a move with slashes."""
+    if line.startswith('move '):
+        return re.sub('-', '/', line[5:])
+    return SHORT.get(line, line)
+
+
+class Recorded:
+    """Ann's screen, and what she has typed there."""
+
+    def __init__(self):
+        self.server = Served(*SERVER)
+        self.ann = Person(self.server.port, TERM='xterm')
+        self.rows = []
+
+    def close(self):
+        self.ann.close()
+        self.server.close()
+
+    def reads(self, seconds):
+        """Rows are read until nothing more comes for so long."""
+        while True:
+            try:
+                self.rows.append(same_each_time(self.ann.next_line(seconds)))
+            except Failed:
+                return
+
+    def types(self, line):
+        """A line is typed; the terminal shows it, and the page shows it after a prompt."""
+        self.ann.type(line)
+        same('what the terminal shows of a line', self.ann.next_line(), line)
+        self.rows.append('> ' + line)
+
+    def next_line(self, typed):
+        """What the last hint names, or what was to be typed before."""
+        if typed:
+            return typed.pop(0)
+        named = [lines for kind, lines in map(read, self.rows) if kind in ('hint', 'answer')]
+        return written(named[-1][0])
+
+    def plays(self):
+        """Plays the game to its end."""
+        typed = list(TYPED)
+        self.reads(1.5)
+        while not any(ENDED.fullmatch(row) for row in self.rows):
+            # the talk comes when the first move is to be made
+            self.types(self.next_line(typed))
+            self.reads(0.7)
+        self.ann.type('quit')
+        self.rows.append('> quit')
+        return self.rows
+
+
+def recorded():
+    """The rows of the game."""
+    screen = Recorded()
+    try:
+        return screen.plays()
+    finally:
+        screen.close()
+
+
+def rows_of_the_page():
+    return PAGE.read_text().split('```')[1].split('\n')[1:-1]
+
+
+def the_page_is_the_game():
+    """The page shows the very rows."""
+    rows, wanted = recorded(), rows_of_the_page()
+    for number, (found, row) in enumerate(zip(rows, wanted)):
+        same('row %d' % number, found, row)
+    same('rows', len(rows), len(wanted))
+
+
+def main():
+    before, _, after = PAGE.read_text().split('```')
+    began = time.monotonic()
+    PAGE.write_text('```'.join([before, '\n' + '\n'.join(recorded()) + '\n', after]))
+    print('recorded in %.0f s' % (time.monotonic() - began))
+
+
+SCENES = [the_page_is_the_game]
+
+if __name__ == '__main__':
+    sys.exit(main())
