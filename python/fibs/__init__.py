@@ -1,7 +1,7 @@
 """FIBS, the First Internet Backgammon Server, from Python: its lines, boards, rules, a client, and the players.
 
     import fibs
-    for line in fibs.Lines(open('session.log', 'rb')):
+    for line in fibs.Lines('session.log'):
         if line.kind == fibs.BOARD:
             print(line.board.phase.name, [str(play) for play in fibs.plays(line.text)])
 
@@ -10,17 +10,18 @@ sends is bytes; a text of your own may also be a str. A call that can't be done 
 The package has no thread and no socket of its own. Use each Client, Lines and Directory from one thread at a time.
 """
 
-from . import _library
+from . import _library, messages
 from ._boards import Board, Phase, allows, phase, plays, print_board, refusal
 from ._client import Client, Heard, Outstanding
 from ._decisions import (ACCEPT, DOUBLE, REJECT, RESIGN_BACKGAMMON, RESIGN_GAMMON, RESIGN_NORMAL, ROLL, Decision,
                          DecisionKind, Step)
-from ._directory import Directory, Player
-from ._lines import Counts, Fault, Kind, Line, Lines, fields, read
+from ._directory import Directory
+from ._lines import Counts, Fault, Kind, Line, Lines, Stream, fields, read
 from .errors import (AlreadyOpen, AlreadyOrdered, BadCommand, BadName, BadText, Closed, Error, FieldBadName, FieldExtra,
                      FieldMissing, FieldNotANumber, FieldOutOfRange, Full, IllegalPlay, NoBoard, NoCommand, NoDecision,
                      NoField, NoPlayer, NoPosition, NotABoard, NotOn, NotOrdered, NotReady, NotYou, NotYours, Offline,
                      Refused, ServerPlays, TooLong, TooManyOther, TooManyOwn, Waiting, WrongKind)
+from .messages import Player
 
 TEXT, MESSAGE, BOARD, MALFORMED = Kind.TEXT, Kind.MESSAGE, Kind.BOARD, Kind.MALFORMED
 
@@ -36,10 +37,10 @@ __version__ = '0.2.0'
 __all__ = [
     'ACCEPT', 'AlreadyOpen', 'AlreadyOrdered', 'BOARD', 'BadCommand', 'BadName', 'BadText', 'Board', 'Client', 'Closed',
     'Counts', 'DOUBLE', 'Decision', 'DecisionKind', 'Directory', 'Error', 'Fault', 'FieldBadName', 'FieldExtra',
-    'FieldMissing', 'FieldNotANumber', 'FieldOutOfRange', 'Full', 'Heard', 'IllegalPlay', 'Kind', 'MAX_LINE', 'Line',
-    'Lines', 'MALFORMED', 'MESSAGE', 'NoBoard', 'NoCommand', 'NoDecision', 'NoField', 'NoPlayer', 'NoPosition',
+    'FieldMissing', 'FieldNotANumber', 'FieldOutOfRange', 'Full', 'Heard', 'IllegalPlay', 'Kind', 'Line', 'Lines',
+    'MALFORMED', 'MAX_LINE', 'MESSAGE', 'NoBoard', 'NoCommand', 'NoDecision', 'NoField', 'NoPlayer', 'NoPosition',
     'NotABoard', 'NotOn', 'NotOrdered', 'NotReady', 'NotYou', 'NotYours', 'Offline', 'Outstanding', 'Phase', 'Player',
-    'REJECT', 'RESIGN_BACKGAMMON', 'RESIGN_GAMMON', 'RESIGN_NORMAL', 'ROLL', 'Refused', 'ServerPlays', 'Step', 'TEXT',
-    'TooLong', 'TooManyOther', 'TooManyOwn', 'UNLIMITED', 'Waiting', 'WrongKind', 'allows', 'fields', 'phase', 'plays',
-    'print_board', 'read', 'refusal',
+    'REJECT', 'RESIGN_BACKGAMMON', 'RESIGN_GAMMON', 'RESIGN_NORMAL', 'ROLL', 'Refused', 'ServerPlays', 'Step', 'Stream',
+    'TEXT', 'TooLong', 'TooManyOther', 'TooManyOwn', 'UNLIMITED', 'Waiting', 'WrongKind', 'allows', 'fields',
+    'messages', 'phase', 'plays', 'print_board', 'read', 'refusal',
 ]

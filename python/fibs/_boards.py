@@ -7,8 +7,8 @@ from typing import Any, List, Optional, Tuple, Union
 
 from . import _library
 from ._decisions import Decision, decision_of, record_of
-from ._texts import Text, Word, bytes_of, told_text
-from .errors import Refused, TooManyOther, TooManyOwn, check
+from ._texts import Text, Word, bytes_of, told
+from .errors import Refused, TooManyOther, TooManyOwn, check_board
 
 class Phase(Word):
     """What a player may do on a board."""
@@ -157,13 +157,15 @@ def _line_of(board: BoardLine) -> bytes:
 def print_board(board: BoardLine) -> bytes:
     """The one line that says the board of a line, as the library prints it. One of NotABoard."""
     line = _line_of(board)
-    return told_text(_library.lib.fibs_print_board, line, len(line))
+    status, text = told(_library.lib.fibs_print_board, line, len(line))
+    check_board(status, line)
+    return text
 
 
 def phase(board: BoardLine) -> Phase:
     """What the player may do on a board. One of NoPosition or NotABoard."""
     line, number = _line_of(board), c_uint8()
-    check(_library.lib.fibs_phase(line, len(line), byref(number)))
+    check_board(_library.lib.fibs_phase(line, len(line), byref(number)), line)
     return Phase(number.value)
 
 
@@ -172,7 +174,7 @@ def refusal(board: BoardLine, decision: Decision) -> Optional[Refused]:
     None if he may. One of NoPosition or NotABoard; NoDecision."""
     line = _line_of(board)
     try:
-        check(_library.lib.fibs_allows(line, len(line), byref(record_of(decision))))
+        check_board(_library.lib.fibs_allows(line, len(line), byref(record_of(decision))), line)
     except Refused as why:
         return why
     return None
@@ -191,5 +193,5 @@ def plays(board: BoardLine) -> List[Decision]:
     if status == _library.SHORT:
         room = (_library.Decision * count.value)()
         status = _library.lib.fibs_plays(line, len(line), room, len(room), byref(count))
-    check(status)
+    check_board(status, line)
     return [decision_of(play) for play in room[:count.value]]

@@ -3,65 +3,40 @@
 from __future__ import annotations
 
 from ctypes import byref, c_size_t
-from typing import Iterator, NamedTuple, Optional, Union
+from typing import Iterator, Optional, Union
 
 from . import _library
+from ._handles import Handle
 from ._texts import Text, bytes_of, number_of, told_field
 from .errors import NoPlayer, check
-
-
-class Player(NamedTuple):
-    """A player, by the twelve fields of message 5: `-` means no opponent, none watched, no client or no email. rating
-    is in hundredths, idle in seconds, login in seconds since 1970."""
-
-    name: bytes
-    opponent: bytes
-    watching: bytes
-    ready: bool
-    away: bool
-    rating: int
-    experience: int
-    idle: int
-    login: int
-    hostname: bytes
-    client: bytes
-    email: bytes
-
+from .messages import Player
 
 _FIELDS = range(1, len(Player._fields) + 1)
 
 
-class Directory:
+class Directory(Handle):
     """The players of messages 5 and 8: each as the last message 5 has it, in the order in which the server first
     listed them. At most 4096."""
 
     def __init__(self) -> None:
-        self._directory = _library.Owned('fibs_directory_new', 'fibs_directory_free')
-        check(self._directory.status)
+        super().__init__('fibs_directory_new', 'fibs_directory_free')
 
-    def close(self) -> None:
-        """Gives the memory back. Once more does nothing."""
-        self._directory.release()
-
-    def __enter__(self) -> Directory:
-        return self
-
-    def __exit__(self, *error: object) -> None:
-        self.close()
+    def _state(self) -> str:
+        return '%d players' % len(self)
 
     def note(self, line: Text) -> None:
         """Takes note of a line that was not cut: message 5 sets the player of its name, message 8 takes it out, and
         every other line changes nothing. Full."""
         data = bytes_of(line)
-        check(_library.lib.fibs_directory_note(self._directory.at, data, len(data)))
+        check(_library.lib.fibs_directory_note(self._owned.at, data, len(data)))
 
     def clear(self) -> None:
         """Forgets all players."""
-        check(_library.lib.fibs_directory_clear(self._directory.at))
+        check(_library.lib.fibs_directory_clear(self._owned.at))
 
     def __len__(self) -> int:
         size = c_size_t()
-        check(_library.lib.fibs_directory_len(self._directory.at, byref(size)))
+        check(_library.lib.fibs_directory_len(self._owned.at, byref(size)))
         return size.value
 
     def __getitem__(self, place: int) -> Player:
@@ -69,7 +44,7 @@ class Directory:
         if not 0 <= number_of(place, -1 << 63, (1 << 63) - 1, 'a place') < len(self):
             raise IndexError('there is no player at %d' % place)
         get = _library.lib.fibs_directory_field
-        return Player._make(told_field(get, self._directory.at, place, n) for n in _FIELDS)
+        return Player._make(told_field(get, self._owned.at, place, n) for n in _FIELDS)
 
     def __iter__(self) -> Iterator[Player]:
         return (self[place] for place in range(len(self)))
@@ -84,6 +59,6 @@ class Directory:
         """The player of a name, or None."""
         data, get = bytes_of(name), _library.lib.fibs_directory_field_of
         try:
-            return Player._make(told_field(get, self._directory.at, data, len(data), n) for n in _FIELDS)
+            return Player._make(told_field(get, self._owned.at, data, len(data), n) for n in _FIELDS)
         except NoPlayer:
             return None

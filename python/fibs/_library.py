@@ -227,6 +227,11 @@ class Owned:
         self.at = byref(self._handle)
         self.status: int = getattr(lib, made_by)(self.at, *words)
 
+    @property
+    def holds(self) -> bool:
+        """True up to release()."""
+        return bool(self._handle)
+
     def release(self) -> None:
         """Gives the memory back. Once more does nothing."""
         getattr(lib, self._free)(self.at)

@@ -2,13 +2,17 @@
 
 from __future__ import annotations
 
+import os
 from ctypes import byref, c_size_t, c_uint8
-from typing import Any, Iterator, List, NamedTuple, Optional, Tuple, Union
+from typing import Any, Generator, Iterator, List, NamedTuple, Optional, Protocol, Tuple, Union
 
 from . import _library
 from ._boards import Board
+from ._handles import Handle
 from ._texts import Bytes, Text, Value, Word, bytes_of, piece_of, told_field
 from .errors import NoField, check
+from .messages import KINDS as MESSAGES
+from .messages import Message
 
 
 class Kind(Word):
@@ -51,9 +55,14 @@ class Line(NamedTuple):
         return Board(self.text)
 
     @property
+    def message(self) -> Optional[Message]:
+        """The message that the line is, one of `fibs.messages`; None if the line is anything else."""
+        return _message(self.text, self.number) if self.kind == Kind.MESSAGE else None
+
+    @property
     def fields(self) -> Tuple[Value, ...]:
-        """The fields of a message; no fields if the line is anything else."""
-        return fields(self.text) if self.kind == Kind.MESSAGE else ()
+        """The fields of a message: the same tuple; no fields if the line is anything else."""
+        return self.message or ()
 
 
 _KINDS = tuple(Kind)
@@ -75,58 +84,74 @@ def read(text: Text) -> Line:
 def fields(text: Text) -> Tuple[Value, ...]:
     """The fields of a message: names, words and texts as bytes, flags, numbers, and ratings in hundredths. No fields if
     the line is no message."""
-    data = bytes_of(text)
+    return read(text).fields
+
+
+def _message(data: bytes, number: int) -> Message:
+    """The message of this number that a line is."""
     found: List[Value] = []
     try:
         while True:
             found.append(told_field(_library.lib.fibs_read_field, data, len(data), len(found) + 1))
     except NoField:
-        return tuple(found)
+        message: Message = MESSAGES[number]._make(found)
+        return message
 
 
-class Lines:
-    """The lines of a stream: of bytes, of a binary file or of any object that has a read(size).
+class Stream(Protocol):
+    """What lines are read from: a file that is open in binary mode, a socket's makefile('rb'), or any other object with
+    a read(size) that gives bytes, and none at its end."""
 
-        for line in fibs.Lines(open('session.log', 'rb')):
+    def read(self, size: int, /) -> Optional[bytes]: ...
+
+
+# What Lines takes: bytes, the path of a file, or a stream.
+Source = Union[Bytes, str, 'os.PathLike[str]', Stream]
+
+
+class Lines(Handle):
+    """The lines of bytes, of the file of a path, of a binary file that is open, or of any object that has a read(size).
+
+        for line in fibs.Lines('session.log'):
             print(line.kind.name, line.text)
 
-    Without a stream you feed it: feed(piece) gives the lines that end in the piece, however the bytes of the
-    stream are cut. close(), or a `with`, gives its memory back; the stream stays open.
+    Without one you feed it: feed(piece) gives the lines that end in the piece, however the bytes of the
+    stream are cut. close(), or a `with`, gives its memory back; a stream that you gave stays open.
     """
 
-    def __init__(self, stream: Union[Bytes, Any] = b'', *, rows: int = 4096, room: int = 1 << 18) -> None:
+    def __init__(self, source: Source = b'', *, rows: int = 4096, room: int = 1 << 18) -> None:
         if rows < 1 or room < _library.MAX_LINE:
             raise ValueError('no room for a line')
-        if not isinstance(stream, (bytes, bytearray, memoryview)) and not hasattr(stream, 'read'):
-            raise TypeError('bytes or a binary file are wanted, not %s' % type(stream).__name__)
-        self._lines = _library.Owned('fibs_lines_new', 'fibs_lines_free')
-        check(self._lines.status)
+        self._pieces = _pieces(source)
+        super().__init__('fibs_lines_new', 'fibs_lines_free')
         self._text = (c_uint8 * room)()
         self._rows = (c_uint8 * (rows * _library.ROW.size))()
         self._most = rows
         self._told = _library.Told()
-        self._iterator = self._through(stream)
+        # lines that were read and not yet taken
+        self._found: Iterator[Line] = iter(())
+
+    def _state(self) -> str:
+        return '%d bytes after the last line end' % self.held
 
     def close(self) -> None:
-        """Gives the memory back. Once more does nothing."""
-        self._lines.release()
-
-    def __enter__(self) -> Lines:
-        return self
-
-    def __exit__(self, *error: object) -> None:
-        self.close()
+        """Gives the memory back, and closes the file of a path. Once more does nothing."""
+        self._pieces.close()
+        super().close()
 
     def __iter__(self) -> Iterator[Line]:
-        return self._iterator
+        """The lines that are left. After a break a new loop goes on with the next line."""
+        while True:
+            yield from self._found
+            piece = next(self._pieces, None)
+            if piece is None:
+                return
+            self._found = iter(self.feed(piece))
 
     def __next__(self) -> Line:
-        return next(self._iterator)
-
-    def _through(self, stream: Any) -> Iterator[Line]:
-        """The lines of the stream. After a break a new loop goes on with the next line."""
-        for piece in _pieces(stream):
-            yield from self.feed(piece)
+        for line in self:
+            return line
+        raise StopIteration
 
     def _calls(self, piece: Bytes) -> Iterator[Tuple[bytes, memoryview]]:
         """Reads a piece, in as many calls as it takes: after each the text and the rows of its lines."""
@@ -134,7 +159,7 @@ class Lines:
         start, size = _library.address_of(data), len(data)
         told, at = self._told, 0
         while True:
-            check(_library.lib.fibs_read_lines(self._lines.at, start + at, size - at, self._text, len(self._text),
+            check(_library.lib.fibs_read_lines(self._owned.at, start + at, size - at, self._text, len(self._text),
                                                self._rows, self._most, byref(told)))
             at += told.used
             yield bytes(memoryview(self._text)[:told.bytes]), memoryview(self._rows)[:told.lines * _library.ROW.size]
@@ -163,13 +188,13 @@ class Lines:
 
     def reset(self) -> None:
         """Forgets what has come: the next byte is the first of a new stream. Closed."""
-        check(_library.lib.fibs_lines_reset(self._lines.at))
+        check(_library.lib.fibs_lines_reset(self._owned.at))
 
     @property
     def held(self) -> int:
         """How many bytes follow the last line end, at most MAX_LINE. Closed."""
         size = c_size_t()
-        check(_library.lib.fibs_lines_held(self._lines.at, byref(size)))
+        check(_library.lib.fibs_lines_held(self._owned.at, byref(size)))
         return size.value
 
 
@@ -183,12 +208,30 @@ class Counts(NamedTuple):
     cut: int
 
 
-def _pieces(stream: Any, size: int = 1 << 16) -> Iterator[bytes]:
-    """The pieces of a stream, each as soon as it comes."""
-    if isinstance(stream, (bytes, bytearray, memoryview)):
-        data = memoryview(bytes(stream))
-        yield from (bytes(data[at:at + size]) for at in range(0, len(data), size))
-        return
+def _pieces(source: Source, size: int = 1 << 16) -> Generator[bytes, None, None]:
+    """The pieces of what lines are read from, each as soon as it comes."""
+    if isinstance(source, (bytes, bytearray, memoryview)):
+        data = memoryview(bytes(source))
+        return (bytes(data[at:at + size]) for at in range(0, len(data), size))
+    if isinstance(source, (str, os.PathLike)):
+        return _opened(source, size)
+    if hasattr(source, 'read'):
+        return _read(source, size)
+    raise TypeError('bytes, a path or a binary file are wanted, not %s' % type(source).__name__)
+
+
+def _read(stream: Stream, size: int) -> Generator[bytes, None, None]:
     read_some = getattr(stream, 'read1', None) or stream.read
     while piece := read_some(size):
         yield piece
+
+
+def _opened(path: Union[str, 'os.PathLike[str]'], size: int) -> Generator[bytes, None, None]:
+    """The pieces of a file, which is opened at once, and closed with the generator."""
+    def pieces() -> Generator[bytes, None, None]:
+        with open(path, 'rb') as file:
+            yield b''
+            yield from _read(file, size)
+    found = pieces()
+    next(found)
+    return found

@@ -5,7 +5,7 @@ from __future__ import annotations
 import ctypes
 import enum
 from ctypes import byref, c_size_t
-from typing import Any, Callable, Union
+from typing import Any, Callable, Tuple, Union
 
 from . import _library
 from .errors import check
@@ -57,15 +57,21 @@ def number_of(number: int, least: int, most: int, what: str) -> int:
     return number
 
 
-def told_text(function: Callable[..., int], *words: Any) -> bytes:
-    """The bytes that a function hands out, however many they are."""
+def told(function: Callable[..., int], *words: Any) -> Tuple[int, bytes]:
+    """What a function answers, and the bytes that it hands out, however many they are."""
     room, size = ctypes.create_string_buffer(512), c_size_t()
     status = function(*words, room, len(room), byref(size))
     if status == _library.SHORT:
         room = ctypes.create_string_buffer(size.value)
         status = function(*words, room, len(room), byref(size))
+    return status, room.raw[:size.value]
+
+
+def told_text(function: Callable[..., int], *words: Any) -> bytes:
+    """The bytes that a function hands out."""
+    status, text = told(function, *words)
     check(status)
-    return room.raw[:size.value]
+    return text
 
 
 def told_field(function: Callable[..., int], *words: Any) -> Value:

@@ -5,7 +5,7 @@ Memory that runs out is Python's own MemoryError, a value of a wrong type its Ty
 
 from __future__ import annotations
 
-from typing import ClassVar
+from typing import Any, ClassVar, Dict, Optional, Tuple, Type
 
 from . import _library
 
@@ -17,7 +17,11 @@ class Error(Exception):
     status: ClassVar[int] = 0
 
     def __init__(self) -> None:
-        super().__init__((type(self).__doc__ or '').rstrip('.'))
+        super().__init__((type(self).__doc__ or '').split('\n')[0].rstrip('.'))
+
+    def __reduce__(self) -> Tuple[Type[Error], Tuple[()], Dict[str, Any]]:
+        # an exception crosses to another process by this
+        return type(self), (), self.__dict__
 
     @property
     def name(self) -> str:
@@ -55,7 +59,7 @@ class NoBoard(Refused):
 
 
 class Waiting(Refused):
-    """A decision was sent, and no board of another game was shown since."""
+    """A decision was sent, and no board that differs was shown since."""
     status = 6
 
 
@@ -128,7 +132,12 @@ class TooManyOther(NoPosition):
 
 
 class NotABoard(Error, ValueError):
-    """The line is not a board."""
+    """The line is not a board.
+
+    field is the first wrong field, counted from 1, which is `board`; None if no line was read.
+    """
+
+    field: Optional[int] = None
 
 
 class FieldMissing(NotABoard):
@@ -206,7 +215,7 @@ class NoStatus(Error, LookupError):
     status = 509
 
 
-def _named(kind: type[Error]) -> dict[int, type[Error]]:
+def _named(kind: Type[Error]) -> Dict[int, Type[Error]]:
     """Each exception at or below one, by its status."""
     found = {kind.status: kind} if kind.status else {}
     for below in kind.__subclasses__():
@@ -224,3 +233,16 @@ def check(status: int) -> None:
     if status == _library.MEMORY:
         raise MemoryError('the library was given no memory')
     raise BY_STATUS.get(status, Error)()
+
+
+def check_board(status: int, line: bytes) -> None:
+    """The same for a call that reads a board from a line: a NotABoard has the wrong field."""
+    try:
+        check(status)
+    except NotABoard as why:
+        if line.startswith(b'board:'):
+            why.field = _library.lib.fibs_read(line, len(line)).field
+        else:
+            # no more than the first field is there, or it is another word
+            why.field = 2 if isinstance(why, FieldMissing) else 1
+        raise

@@ -1,12 +1,17 @@
 """Each call of the package: what it answers, and what it raises."""
 
+import copy
 import io
+import multiprocessing
 import os
+import pathlib
 import pickle
 import re
 import socket
 import subprocess
 import sys
+import tempfile
+import weakref
 
 from props.package import ROOT, fibs
 from fibs import _library, errors
@@ -54,9 +59,31 @@ def a_stream_may_be_anything_that_is_read(counts):
         for text in b'one', b'two':
             ours.sendall(text + b'\n')
             counts.same(next(lines).text, text, 'a line of a socket comes as soon as it is there')
-    for stream in 5, None, 'capture.txt':
+    for stream in 5, None, [b'a']:
         counts.raises(TypeError, fibs.Lines, stream)
     counts.raises(TypeError, lambda: next(fibs.Lines(io.StringIO('a\n'))))
+
+
+def a_path_is_opened_and_closed(counts):
+    with tempfile.TemporaryDirectory() as name:
+        path = pathlib.Path(name) / 'session.log'
+        path.write_bytes(b'a\nb\n' * 20000)
+        for source in path, str(path):
+            counts.same(sum(1 for line in fibs.Lines(source)), 40000, 'a path')
+        before = len(os.listdir('/proc/self/fd'))
+        with fibs.Lines(path) as lines:
+            counts.same((next(lines).text, len(os.listdir('/proc/self/fd'))), (b'a', before + 1), 'it is open')
+        counts.same(len(os.listdir('/proc/self/fd')), before, 'it is closed')
+        lines = fibs.Lines(path)
+        left = weakref.ref(lines)
+        next(lines)
+        del lines
+        counts.same((left(), len(os.listdir('/proc/self/fd'))), (None, before), 'nothing is kept in a cycle')
+        counts.raises(FileNotFoundError, fibs.Lines, path.with_name('nothing'))
+    stream = io.BytesIO(b'a\n')
+    with fibs.Lines(stream) as lines:
+        list(lines)
+    counts.check(not stream.closed, 'a stream stays open')
 
 
 def after_a_break_the_iteration_goes_on(counts):
@@ -126,14 +153,26 @@ def both_colours_and_directions_count_from_their_own_side(counts):
                 colour, direction))
 
 
+def wrong_field(call, line):
+    """The field that an exception of a call names."""
+    try:
+        call(line)
+    except fibs.NotABoard as why:
+        return why.field
+    return None
+
+
 def lines_that_are_no_board_say_why(counts):
-    for line, kind in [(b'hello', fibs.FieldBadName), (b'', fibs.FieldBadName), (b'board', fibs.FieldMissing),
-                       (b'board:You', fibs.FieldMissing), (REAL + b':1', fibs.FieldExtra),
-                       (REAL.replace(b':6:2:', b':06:2:'), fibs.FieldNotANumber),
-                       (REAL.replace(b':6:2:', b':7:2:'), fibs.FieldOutOfRange), (b'5 bob', fibs.FieldBadName),
-                       (REAL.replace(b':someplayer:', b'::'), fibs.FieldBadName)]:
+    for line, kind, field in [(b'hello', fibs.FieldBadName, 1), (b'', fibs.FieldBadName, 1),
+                              (b'board', fibs.FieldMissing, 2), (b'board:You', fibs.FieldMissing, 3),
+                              (REAL + b':1', fibs.FieldExtra, 54),
+                              (REAL.replace(b':6:2:', b':06:2:'), fibs.FieldNotANumber, 34),
+                              (REAL.replace(b':6:2:', b':7:2:'), fibs.FieldOutOfRange, 34),
+                              (b'5 bob', fibs.FieldBadName, 1), (b'boards:You', fibs.FieldBadName, 1),
+                              (REAL.replace(b':someplayer:', b'::'), fibs.FieldBadName, 3)]:
         for call in fibs.Board, fibs.phase, fibs.plays, fibs.print_board:
             counts.raises(kind, call, line)
+            counts.same(wrong_field(call, line), field, '%r of %r' % (call, line))
         counts.raises(kind, fibs.allows, line, fibs.ROLL)
     for call in fibs.phase, fibs.plays:
         counts.raises(fibs.NotYou, call, REAL.replace(b':You:', b':ann:'))
@@ -199,6 +238,45 @@ def messages_have_fields(counts):
     counts.same(fibs.read('caf\xe9').text, 'caf\xe9'.encode(), 'a str is its UTF-8')
 
 
+# A line of each message, and the message that it is.
+MESSAGES = [
+    ('1 ann 1041253132 host', fibs.messages.Welcome(b'ann', 1041253132, b'host')),
+    ('2 ann 1 0 0 0 0 0 1 1 10 0 0 0 1 1500.5 0 0 none 0 0 UTC', fibs.messages.OwnInfo(
+        b'ann', True, False, False, False, False, False, True, True, 10, False, False, False, True, 150050, False,
+        False, b'none', False, False, b'UTC')),
+    ('3', fibs.messages.MotdBegin()),
+    ('4', fibs.messages.MotdEnd()),
+    ('5 bob - ann 1 0 1500.5 3 2 1 host pro a b', fibs.Player(
+        b'bob', b'-', b'ann', True, False, 150050, 3, 2, 1, b'host', b'pro', b'a b')),
+    ('6', fibs.messages.WhoInfoEnd()),
+    ('7 bob bob logs in.', fibs.messages.Login(b'bob', b'bob logs in.')),
+    ('8 bob bob logs out.', fibs.messages.Logout(b'bob', b'bob logs out.')),
+    ('9 bob 1041253132 hi', fibs.messages.MessageReceived(b'bob', 1041253132, b'hi')),
+    ('10 bob', fibs.messages.MessageDelivered(b'bob')),
+    ('11 bob', fibs.messages.MessageSaved(b'bob')),
+    ('12 bob hi', fibs.messages.Says(b'bob', b'hi')),
+    ('13 bob hi', fibs.messages.Shouts(b'bob', b'hi')),
+    ('14 bob hi', fibs.messages.Whispers(b'bob', b'hi')),
+    ('15 bob hi', fibs.messages.Kibitzes(b'bob', b'hi')),
+    ('16 bob hi', fibs.messages.YouSay(b'bob', b'hi')),
+    ('17 hi', fibs.messages.YouShout(b'hi')),
+    ('18 hi', fibs.messages.YouWhisper(b'hi')),
+    ('19 hi', fibs.messages.YouKibitz(b'hi')),
+]
+
+
+def each_message_has_a_tuple_of_its_own(counts):
+    for number, (text, message) in enumerate(MESSAGES, 1):
+        line = fibs.read(text)
+        counts.same((line.number, type(line.message), line.message), (number, type(message), message), text)
+        counts.same((fibs.fields(text), line.fields), (message, message), text)
+        counts.same(type(pickle.loads(pickle.dumps(line.message))), type(message), text)
+    counts.same([kind.__doc__.split(':')[0] for kind in fibs.messages.KINDS.values()],
+                [str(number) for number in range(1, 20)], 'each says its number')
+    for text in '', 'hello', '5 bob', BOARD:
+        counts.same(fibs.read(text).message, None, 'no message')
+
+
 def ready():
     client = fibs.Client('ann', b'secret')
     client.open()
@@ -252,6 +330,10 @@ def what_is_not_taken_is_heard_later(counts):
     client.lose()
     client.open()
     counts.same([heard.line.text for heard in client.feed(b'new\n')], [b'new'], 'nothing of the last connection')
+    client.lose()
+    client.feed(b'dropped at once\n')
+    client.open()
+    counts.same([heard.line.text for heard in client.feed(b'new\n')], [b'new'], 'nothing from between connections')
 
 
 def a_client_says_why_not(counts):
@@ -289,16 +371,14 @@ def unready():
 
 def handles_are_given_back_once(counts):
     """All that can happen to a value, in a Python that reports every warning."""
-    script = """import copy, gc, fibs
+    script = """import copy, gc, pickle, fibs
 for make in (lambda: fibs.Client('ann', 'secret'), fibs.Lines, fibs.Directory):
-    try:
-        copy.deepcopy(make())
-    except ValueError:
-        pass
-    one = make()
-    other = copy.copy(one)
-    one.close()
-    del one, other
+    for again in copy.copy, copy.deepcopy, pickle.dumps:
+        try:
+            again(make())
+            print('%s of a handle' % again)
+        except TypeError:
+            pass
     ring = [make()]
     ring.append(ring)
     del ring
@@ -313,6 +393,46 @@ hears = left_open.feed(b'half')
     told = subprocess.run([sys.executable, '-X', 'dev', '-B', '-c', script], capture_output=True, text=True,
                           env={**os.environ, 'PYTHONPATH': str(ROOT / 'python')})
     counts.same((told.returncode, told.stdout, told.stderr), (0, '', ''), 'nothing is said')
+
+
+def handles_say_their_state(counts):
+    client, lines, players = fibs.Client('ann', 'secret'), fibs.Lines(), fibs.Directory()
+    counts.same(repr(client), '<fibs.Client: ann, not connected>', 'a client')
+    client.open()
+    counts.same(repr(client), '<fibs.Client: ann, connected>', 'a client that is connected')
+    list(client.feed(GREETING + MOVES + b'\n'))
+    client.decide(fibs.Decision.move([(5, 3), (3, 2)]))
+    counts.same(repr(client), '<fibs.Client: ann, connected, move 5-3 3-2 waits>', 'a client that waits')
+    client.lose()
+    counts.same(repr(client), '<fibs.Client: ann, not connected>', 'a client that lost its connection')
+    lines.feed(b'a\nbcd')
+    players.note(WHO[0])
+    counts.same((repr(lines), repr(players)),
+                ('<fibs.Lines: 3 bytes after the last line end>', '<fibs.Directory: 1 players>'), 'the others')
+    for one in client, lines, players:
+        one.close()
+        counts.same(repr(one), '<fibs.%s: closed>' % type(one).__name__, 'closed')
+
+
+def fails(line):
+    """What a worker of a pool raises."""
+    return fibs.phase(line)
+
+
+def exceptions_go_to_other_processes(counts):
+    for kind in errors.BY_STATUS.values():
+        why = kind()
+        why.noted = 'here'
+        for again in pickle.loads(pickle.dumps(why)), copy.copy(why), copy.deepcopy(why):
+            counts.same((type(again), str(again), again.status, again.noted), (kind, str(why), why.status, 'here'),
+                        'an exception again')
+    with multiprocessing.get_context('fork').Pool(1) as pool:
+        try:
+            pool.map_async(fails, [REAL, REAL[:20]]).get(20)
+        except fibs.FieldMissing as why:
+            counts.same(why.field, 4, 'what a pool raises')
+        else:
+            counts.check(False, 'a pool raises nothing')
 
 
 def players_come_and_go(counts):
@@ -379,17 +499,16 @@ def the_library_is_found_or_named(counts):
 
 def the_version_is_that_of_the_library(counts):
     header = re.search(r'#define FIBS_VERSION "(\S+)"', HEADER)[1]
-    project = re.search(r'(?m)^version = "(\S+)"', (ROOT / 'python' / 'pyproject.toml').read_text())[1]
-    counts.same({header, project, fibs.__version__, _library.VERSION}, {header}, 'one version')
+    counts.same({header, fibs.__version__, _library.VERSION}, {header}, 'one version')
     counts.same(_library.SONAME, 'libfibs.so.' + '.'.join(header.split('.')[:2]), 'one soname')
     counts.check((ROOT / 'lib' / _library.SONAME).exists(), 'the library has it')
 
 
 TESTS = [lines_have_their_kinds, a_stream_may_be_anything_that_is_read, after_a_break_the_iteration_goes_on,
-         pieces_are_fed_by_hand, boards_have_names_for_their_numbers,
-         both_colours_and_directions_count_from_their_own_side,
-         lines_that_are_no_board_say_why, the_rules_are_those_of_the_program, decisions_are_spelled_and_read,
-         messages_have_fields, a_client_sends_and_waits, what_is_not_taken_is_heard_later, a_client_says_why_not,
-         handles_are_given_back_once, players_come_and_go, each_status_has_its_exception, records_lie_as_in_c,
-         the_library_is_found_or_named,
-         the_version_is_that_of_the_library]
+         a_path_is_opened_and_closed, pieces_are_fed_by_hand, boards_have_names_for_their_numbers,
+         both_colours_and_directions_count_from_their_own_side, lines_that_are_no_board_say_why,
+         the_rules_are_those_of_the_program, decisions_are_spelled_and_read, messages_have_fields,
+         each_message_has_a_tuple_of_its_own, a_client_sends_and_waits, what_is_not_taken_is_heard_later,
+         a_client_says_why_not, handles_are_given_back_once, handles_say_their_state,
+         exceptions_go_to_other_processes, players_come_and_go, each_status_has_its_exception, records_lie_as_in_c,
+         the_library_is_found_or_named, the_version_is_that_of_the_library]

@@ -56,7 +56,8 @@ def the_example_of_asyncio_plays_a_game(counts):
 def names_of_the_page_are_in_the_package(counts):
     """What is in the table of calls, and each exception that is named."""
     words = set(re.findall(r'\b[A-Z][A-Za-z]+\b|\b[A-Z][A-Z_]+\b', ' '.join(re.findall(r'`([^`\n]+)`', PAGE))))
-    builtin = {'ImportError', 'TypeError', 'ValueError', 'MemoryError', 'FIBS_LIBRARY', 'LD_LIBRARY_PATH'}
+    builtin = {'ImportError', 'KeyboardInterrupt', 'TypeError', 'ValueError', 'MemoryError', 'FIBS_LIBRARY',
+               'LD_LIBRARY_PATH'}
     counts.same({word for word in words - builtin if not hasattr(fibs, word)}, set(), 'names that are nowhere')
 
 

@@ -15,7 +15,7 @@ class Lines(fibs.Lines):
         """How many bytes of the piece were read, and the line that ended with them and whether it is cut, or None."""
         text, fed = create_string_buffer(LIMIT), _library.Fed()
         feed = _library.lib.fibs_lines_feed
-        fibs.errors.check(feed(self._lines.at, _library.address_of(piece), len(piece), text, LIMIT, byref(fed)))
+        fibs.errors.check(feed(self._owned.at, _library.address_of(piece), len(piece), text, LIMIT, byref(fed)))
         return fed.used, (text.raw[:fed.len], fed.cut == 1) if fed.ended else None
 
 
