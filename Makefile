@@ -34,7 +34,7 @@ all: ## proves and builds the program: bin/fibs, with bin/fibs-play beside it
 lib: ## proves and builds the library for C: lib/libfibs.a, lib/libfibs.so and lib/fibs.pc
 	@scripts/tools lib
 	@scripts/prove fibs_c
-	@$(MAKE) --no-print-directory lib/libfibs.a lib/libfibs.so lib/fibs.pc
+	@$(MAKE) --no-print-directory lib/libfibs.a lib/libfibs.so lib/fibs.pc python/fibs/libfibs.so
 
 test: ## passes all tests: the proofs, the edits that must fail, the tests of what was built
 	@scripts/tools test
@@ -75,6 +75,10 @@ lib/libfibs.so: lib/libfibs.a lib/fibs.map
 	$(CC) -shared -o lib/$(SONAME) -Wl,-soname,$(SONAME) -Wl,--version-script=lib/fibs.map -Wl,--gc-sections -Wl,-z,defs \
 		-Wl,--whole-archive lib/libfibs.a -Wl,--no-whole-archive
 	install -m 755 lib/$(SONAME) $@
+
+# beside the package, which so finds it where it lies; pip before 21.3 copies no more than python/ to build it
+python/fibs/libfibs.so: lib/libfibs.so
+	install -m 644 $< $@
 
 lib/fibs.pc: lib/fibs.pc.in Makefile
 	sed -e 's|@PREFIX@|$(PREFIX)|; s|@VERSION@|$(VERSION)|' $< > $@
@@ -140,7 +144,7 @@ bench-more: all lib $(PEER) ## measures each part on its own, the libraries for 
 	bench/seat bin/fibs
 
 clean: ## removes what the other targets made
-	rm -rf bin dist out lib/*.a lib/*.so* lib/fibs.pc crates/*/out
+	rm -rf bin dist out lib/*.a lib/*.so* lib/fibs.pc python/fibs/libfibs.so crates/*/out
 
 help: ## lists the targets
 	@awk -F ': .*## ' '/^[a-z$$][^:]*:.*## / { name = $$1; sub(/^\$$\(CRATES\)/, "CRATE", name); printf "make %-16s %s\n", name, $$2 }' Makefile
