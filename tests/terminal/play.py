@@ -1,4 +1,4 @@
-"""fibs-play on real terminals: its keys, its prompt, what it refuses, and what it hands through."""
+"""fibs-play on real terminals: its keys, its rows, what it refuses, and what it hands through."""
 
 import os
 import pathlib
@@ -151,15 +151,6 @@ def tab_completes_the_players_names(server):
 
 
 @with_server
-def a_prompt(server):
-    player = in_play(server)
-    same('the prompt', player.plain().endswith('> '), True)
-    player.type('quit')
-    player.ends(0)
-    player.close()
-
-
-@with_server
 def a_small_terminal(server):
     """The program is told how many columns there are: no row of a picture is wider."""
     for kind in 'xterm', 'dumb':
@@ -223,6 +214,7 @@ def a_log(server):
         player.type('quit')
         player.ends(0)
         player.close()
+        same('who may read it', os.stat(log).st_mode & 0o777, 0o600)
         held = pathlib.Path(log).read_bytes()
         same('the password is not in it', PASSWORD.encode() in held, False)
         for text in b'1 ann ', b'12 eve hello', b'tell eve hi':
@@ -267,6 +259,6 @@ WIRES = [((), ''), (('--delay', '80'), '_over_a_wire_with_delay'), (('--portions
 FAR_SCENES = [with_server(scene, '--dice', '31', *options, more=more)
               for scene in (pictures_stand_straight, a_half_typed_line_is_kept) for options, more in WIRES]
 
-SCENES = [ctrl_c_cancels_the_line_and_not_the_game, ctrl_c_after_a_stop, tab_completes_the_players_names, a_prompt,
+SCENES = [ctrl_c_cancels_the_line_and_not_the_game, ctrl_c_after_a_stop, tab_completes_the_players_names,
           a_small_terminal, a_word_where_rlwrap_is_missing, what_can_not_be_is_refused_before_a_password_is_typed,
           a_log, *FAR_SCENES]
