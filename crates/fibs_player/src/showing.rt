@@ -31,9 +31,10 @@ fn game_in(reading: &Reading<'_>) -> Option<GameBoard> {
 /// Reports a line, and the board of the user's game that it says.
 fn tell_line<F: Front>(line: &Line<'_>, front: &mut F) -> Result<(), FrontFault> {
     let reading = reading(line);
-    let game = game_in(&reading);
-    front.tell(&Said::Heard(line, &reading, game.as_ref()))?;
-    match &game {
+    let found = game_in(&reading);
+    let game = found.as_ref();
+    front.tell(&Said::Heard(&*line, &reading, game))?;
+    match &found {
         Some(game) => front.tell(&Said::Game(game)),
         None => Ok(()),
     }

@@ -165,8 +165,9 @@ fn tell_taken<F: Front>(
     taken: &Taken<'_>,
     front: &mut F,
 ) -> Result<(), FrontFault> {
-    let game = game_in(&taken.reading);
-    front.tell(&Said::Heard(&taken.line, &taken.reading, game.as_ref()))?;
+    let found = game_in(&taken.reading);
+    let game = found.as_ref();
+    front.tell(&Said::Heard(&taken.line, &taken.reading, game))?;
     note(directory, &taken.reading, front)?;
     match &taken.confirmed {
         Some(asked) => front.tell(&Said::Confirmed(asked)),
