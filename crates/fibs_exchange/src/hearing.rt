@@ -10,7 +10,7 @@ ghost use Rattle.fibs_session.specs.History.Machine.{Talk};
 ghost use Rattle.fibs_session.specs.Calls.SessionOf.{ask_of, taken_of};
 ghost use Rattle.fibs_session.specs.Calls.Standing.{StandsAfter};
 ghost use Rattle.fibs_exchange.specs.Turns.Lines.{phase_told, confirmed_told, rolled_told, messages_in, taken_act};
-ghost use Rattle.fibs_exchange.specs.Turns.Script.{Did, Notes, outside, directory_told, noted_unless};
+ghost use Rattle.fibs_exchange.specs.Turns.Script.{Did, Notes, OnlyWhoRefused, outside, directory_told, noted_unless};
 ghost use Rattle.fibs_exchange.specs.Turns.Turn.{Talked, FedToALine};
 ghost use Rattle.fibs_directory.specs.declared.fault.DirectoryFault.{DirectoryFault};
 
@@ -121,7 +121,8 @@ fn note_taken<F: Front>(
 ) -> Result<(), ExchangeFault>
     ensures { OnOk result ((refused : Option DirectoryFault)
         × F.tells front.old (directory_told refused) front.new
-        × Notes directory.old directory.new (noted_unless refused (messages_in (reading_of reading.now)))) }
+        × Notes directory.old directory.new (noted_unless refused (messages_in (reading_of reading.now)))
+        × OnlyWhoRefused refused (messages_in (reading_of reading.now))) }
 {
     match reading {
         Reading::Numbered(message) => match directory.note(message) {

@@ -13,7 +13,7 @@ use Rattle.fibs_engine.specs.Writing.{Progress, Whole, Broken}
 use Rattle.fibs_front.specs.Told.{SaidValue, Joins}
 use Rattle.fibs_exchange.specs.Turns.Acts.{Act}
 use Rattle.fibs_exchange.specs.Turns.Script.{Outside, Done, directory_told, done_told, noted_unless}
-use Rattle.fibs_exchange.specs.Turns.Script.{calls_of}
+use Rattle.fibs_exchange.specs.Turns.Script.{calls_of, OnlyWhoRefused, AllOnlyWhoRefused}
 use Rattle.fibs_exchange.specs.Turns.Script.{acts_of, writes_of, tells_of, notes_of, Notes, Did, Called}
 
 -- the directory stays
@@ -25,6 +25,11 @@ pub notes_joined : (a b c : List MessageValue) (xs ys : List MessageValue) → N
     → Notes a c (xs ++ ys)
 notes_joined a b c xs ys f g = λ before is. subst (λ ms. IsDirectory ms c) (append_assoc before xs ys)
     (g (before ++ xs) (f before is))
+
+-- acts after others: of all of them only a message 5 is refused
+refused_joined : (ds es : List Done) → AllOnlyWhoRefused ds → AllOnlyWhoRefused es → AllOnlyWhoRefused (ds ++ es)
+refused_joined [] es h k = k
+refused_joined (d ∷ ds) es h k = (h.0, refused_joined ds es h.1 k)
 
 module _ {F : Type 0} {Tells : F → List SaidValue → F → Type 0} (joins : Joins Tells) where
   -- nothing was done
@@ -38,6 +43,7 @@ module _ {F : Type 0} {Tells : F → List SaidValue → F → Type 0} (joins : J
     wrote = Appends-nil a.wrote;
     told = joins.nothing a.front;
     noted = notes_nothing a.players;
+    refused = tt;
   }
 
   -- one script after another
@@ -66,13 +72,15 @@ module _ {F : Type 0} {Tells : F → List SaidValue → F → Type 0} (joins : J
         noted = subst (Notes a.players c.players)
             (sym (flat_map-append (λ (x : Done). noted_unless x.refused x.act.notes) d.done e.done))
             (notes_joined a.players b.players c.players (notes_of d.done) (notes_of e.done) d.noted e.noted);
+        refused = refused_joined d.done e.done d.refused e.refused;
       }
 
   -- an act that was written whole, reported and noted
   pub did_act : (a b : Outside F) (act : Act) (refused : Option DirectoryFault) → Appends a.wrote b.wrote act.writes
       → Tells a.front (act.tells ++ directory_told refused) b.front
-      → Notes a.players b.players (noted_unless refused act.notes) → Did Tells a b (act ∷ []) Whole
-  did_act a b act refused wrote told noted = record {
+      → Notes a.players b.players (noted_unless refused act.notes) → OnlyWhoRefused refused act.notes
+      → Did Tells a b (act ∷ []) Whole
+  did_act a b act refused wrote told noted only = record {
     done = record { act = act; refused = refused } ∷ [];
     hand = [];
     part = [];
@@ -81,6 +89,7 @@ module _ {F : Type 0} {Tells : F → List SaidValue → F → Type 0} (joins : J
     wrote = subst (Appends a.wrote b.wrote) (sym (append-nil act.writes) ∙ sym (append-nil (act.writes ++ []))) wrote;
     told = subst (λ l. Tells a.front l b.front) (sym (append-nil (act.tells ++ directory_told refused))) told;
     noted = subst (Notes a.players b.players) (sym (append-nil (noted_unless refused act.notes))) noted;
+    refused = (only, tt);
   }
 
   -- the same with no word of the directory
@@ -88,7 +97,7 @@ module _ {F : Type 0} {Tells : F → List SaidValue → F → Type 0} (joins : J
       → Tells a.front act.tells b.front
       → Notes a.players b.players act.notes → Did Tells a b (act ∷ []) Whole
   did_alone a b act wrote told noted = did_act a b act None wrote
-      (subst (λ l. Tells a.front l b.front) (sym (append-nil act.tells)) told) noted
+      (subst (λ l. Tells a.front l b.front) (sym (append-nil act.tells)) told) noted tt
 
   -- an act whose writing failed
   pub did_part : (a b : Outside F) (act : Act) → Wrote Broken a.wrote b.wrote act.writes → b.front ≡ a.front
@@ -102,6 +111,7 @@ module _ {F : Type 0} {Tells : F → List SaidValue → F → Type 0} (joins : J
     wrote = w.4;
     told = subst (λ o. Tells a.front [] o) (sym front) (joins.nothing a.front);
     noted = subst (λ d. Notes a.players d []) (sym players) (notes_nothing a.players);
+    refused = tt;
   }
 
   -- what was written stays, and nothing more was reported
@@ -117,6 +127,7 @@ module _ {F : Type 0} {Tells : F → List SaidValue → F → Type 0} (joins : J
     told = subst (λ l. Tells a.front l c.front) (append-nil (tells_of d.done))
         (joins.joined a.front b.front c.front (tells_of d.done) [] d.told rested);
     noted = subst (λ x. Notes a.players x (notes_of d.done)) (sym players) d.noted;
+    refused = d.refused;
   }
 
 -- the commands of acts that were done

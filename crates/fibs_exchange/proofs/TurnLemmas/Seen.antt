@@ -29,6 +29,7 @@ module _ {F G : Type 0} {Tells : F → List SaidValue → F → Type 0} {Gains :
     wrote = d.wrote;
     told = seen a.front b.front (tells_of d.done) d.told;
     noted = d.noted;
+    refused = d.refused;
   }
 
   ended_seen : (p : Progress) (t : Talk) (new : ClientValue) (a b : Outside F) (e : Ending) → Ended Tells p t new a b e

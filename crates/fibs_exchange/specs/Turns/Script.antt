@@ -2,7 +2,7 @@
 use Rattle.std.specs.Prelude.{◌≡◌, ℕ, List, [], ◌∷◌, ◌++◌, map, Option, Some, None, ◌⊎◌}
 use Rattle.std.proofs.Common.{inl, inr}
 use Rattle.std.specs.Borrow.{MutBor}
-use Rattle.std.specs.List.{flat_map}
+use Rattle.std.specs.List.{AllByRecursion, flat_map}
 use Rattle.std.specs.Io.KnownBytes.{Appends}
 use Rattle.fibs_messages.specs.Message.{MessageValue}
 use Rattle.fibs_directory.specs.declared.fault.DirectoryFault.{DirectoryFault}
@@ -34,6 +34,20 @@ directory_told (Some why) = unnoted_said why ∷ []
 -- what is reported of an act, and after it what the directory refused
 abbrev pub done_told : Done → List SaidValue
 done_told d = d.act.tells ++ directory_told d.refused
+
+-- one of the messages is a message 5, which says who a player is
+abbrev pub SayWho : List MessageValue → Type 0
+SayWho [] = ⊥
+SayWho (m ∷ later) = (m.number ≡ 5) ⊎ SayWho later
+
+-- the directory refuses at most a message 5
+abbrev pub OnlyWhoRefused : Option DirectoryFault → List MessageValue → Type 0
+OnlyWhoRefused None messages = Unit {0}
+OnlyWhoRefused (Some why) messages = SayWho messages
+
+-- the same of acts that were done
+abbrev pub AllOnlyWhoRefused : List Done → Type 0
+AllOnlyWhoRefused = AllByRecursion (λ d. OnlyWhoRefused d.refused d.act.notes)
 
 -- what the directory has noted: nothing that it refused
 abbrev pub noted_unless : Option DirectoryFault → List MessageValue → List MessageValue
@@ -78,6 +92,7 @@ pub record Did {F : Type 0} (Tells : F → List SaidValue → F → Type 0) (a b
   pub wrote : Appends a.wrote b.wrote (writes_of done ++ part)
   pub told : Tells a.front (tells_of done) b.front
   pub noted : Notes a.players b.players (notes_of done)
+  pub refused : AllOnlyWhoRefused done
 
 -- the commands of a script were written, each act's whole, up to the last act, at which a write failed: of its commands
 -- a part was written

@@ -25,7 +25,7 @@ returns-clause-did g c =
     did_act joins _ _ act note.0
     (subst (λ l. Wrote Whole (g.S.Write.contents c.args.stream.now) (g.S.Write.contents c.send_commands.new.stream)
     (wire_of (texts_of l))) c.as_slice.ensures.value c.in_ok-send_commands.ensures.wrote)
-    (joins.joined _ _ _ act.tells (directory_told note.0) c.in_ok-tell_taken.ensures note.1) note.2
+    (joins.joined _ _ _ act.tells (directory_told note.0) c.in_ok-tell_taken.ensures note.1) note.2 note.3
 
 pub returns-in_err-tell_taken-clause-stopped : goal.returns-in_err-tell_taken-clause-stopped
 returns-in_err-tell_taken-clause-stopped g c =
