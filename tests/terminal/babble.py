@@ -265,7 +265,7 @@ def babbled(seed, texts):
     babble, said = Babble(seed), 0
     try:
         while said < texts:
-            count = babble.chance.choice([1, 1, 2, 3, 5, 10, 30, 100, 200])
+            count = babble.chance.choice([1, 1, 2, 2, 3, 5, 10, 30, 80])
             babble.burst(count)
             said += count
             if babble.chance.random() < 0.01:

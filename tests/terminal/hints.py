@@ -6,10 +6,13 @@ import time
 
 from people import ROOT, Failed, Person, Served, same
 from game import rows_of_the_page
-from words import ENDED, INVITED, NEXT, REFUSED, read
+from words import ENDED, REFUSED, read
 
 # How long a screen may wait for the other one before ann counts as stuck.
 STUCK = 15
+
+# The kinds of rows that are followed.
+FOLLOWED = 'hint', 'answer', 'board', 'doubles', 'go on', 'next', 'invited', 'open'
 
 # A picture: its edges are the first and the last of these.
 PICTURE = re.compile(r' [+|].*')
@@ -24,15 +27,14 @@ class Follower:
         self.typed, self.lost = [], 0
 
     def line_for(self, line):
-        """What she types because of a line of the screen, if anything."""
-        _, named = read(line)
-        if named:
-            self.lost += line.startswith('lost')
-            # a double now and then; the end of the program never
-            named = [one for one in named if one != 'quit']
-            return self.chance.choice(named if self.chance.random() < 0.2 else named[:1]) if named else None
-        found = INVITED.fullmatch(line) or NEXT.fullmatch(line)
-        return found[1] if found else None
+        """What she types because of a line of the screen, if anything: a double now and then, and never what ends."""
+        kind, named = read(line)
+        if kind not in FOLLOWED:
+            return None
+        self.lost += kind == 'open'
+        if kind == 'hint' and self.chance.random() < 0.2:
+            return self.chance.choice(named)
+        return named[0]
 
     def plays_to_the_end(self):
         """Plays until a match is over."""
@@ -42,7 +44,8 @@ class Follower:
                 line = ann.next_line(STUCK)
             except Failed as stuck:
                 raise Failed('stuck after %r: %s' % (self.typed[-4:], stuck)) from None
-            if REFUSED.fullmatch(line):
+            # what was typed when the connection had just ended is not taken
+            if REFUSED.fullmatch(line) and not line.endswith('[2 Offline]'):
                 raise Failed('%r was refused: %r' % (self.typed[-1:], line))
             if ENDED.fullmatch(line):
                 return
@@ -173,7 +176,7 @@ def the_bell():
 
 
 def help_lists_the_words():
-    """On one screen, what can be done now first; and there is more to read of each word."""
+    """On one screen, and what can be done now, which it ends with; and there is more to read of each word."""
     server = Served('--bot', 'eve:invites=1', '--dice', '13')
     try:
         ann = Person(server.port)
@@ -182,10 +185,8 @@ def help_lists_the_words():
         hint = ann.hint()
         ann.type('help')
         ann.reads('help')
-        first = ann.next_line()
-        same('what can be done now is first', read(first), ('hint', [hint]))
-        screen = [first]
-        while 'help WORD' not in screen[-1]:
+        screen = [ann.next_line()]
+        while read(screen[-1]) != ('hint', [hint]):
             screen.append(ann.next_line())
         same('it fits a screen', (len(screen) <= 23, max(map(len, screen)) <= 79), (True, True))
         words = sorted({line.split(' ')[0] for line in (ROOT / 'completions' / 'typed').read_text().splitlines()})

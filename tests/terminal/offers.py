@@ -49,7 +49,7 @@ def a_double_that_the_board_shows(table):
 def a_double_by_text_alone(table):
     bob_is_to_roll(table)
     table.bob.send('double')
-    table.ann.types_what('board', 'board')
+    table.ann.types_what('doubles', 'board')
     table.ann.types_what('hint', 'accept', 'reject')
     table.bob.sees('ann accepts the double. The cube shows 2.')
     table.ann.was_not_refused()
@@ -61,9 +61,9 @@ def a_double_by_text_alone_and_what_one_types_then(table):
     bob_is_to_roll(table)
     table.bob.send('double')
     table.ann.reads("bob doubles. Type 'accept' or 'reject'.")
-    table.ann.advised('board', 'board')
+    table.ann.advised('doubles', 'board')
     table.ann.type('accept')
-    table.ann.types_what('board', 'board')
+    table.ann.types_what('doubles', 'board')
     table.ann.types_what('hint', 'accept', 'reject')
     table.bob.sees('ann accepts the double. The cube shows 2.')
 
@@ -72,7 +72,7 @@ def a_double_by_text_alone_and_what_one_types_then(table):
 def a_double_that_no_board_shows(table):
     bob_is_to_roll(table)
     table.bob.send('double')
-    table.ann.types_what('board', 'board')
+    table.ann.types_what('doubles', 'board')
     table.ann.types_what('answer', 'send accept', 'send reject')
     table.bob.sees('ann accepts the double. The cube shows 2.')
     table.ann.was_not_refused()
@@ -82,7 +82,7 @@ def a_double_that_no_board_shows(table):
 def a_double_by_text_alone_while_a_move_waits(table):
     bob_is_to_roll(table)
     table.bob.send('double')
-    table.ann.types_what('board', 'board')
+    table.ann.types_what('doubles', 'board')
     table.ann.types_what('hint', 'accept', 'reject')
     table.bob.sees('ann accepts the double. The cube shows 2.')
     table.ann.was_not_refused()

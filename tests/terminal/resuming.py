@@ -1,5 +1,7 @@
 """Scenes of matches that are left, saved, and taken up again, and of what comes between two games."""
 
+import time
+
 from offers import (ANN_BEGINS, BOB_BEGINS, ann_is_to_roll, ann_rolls, bob_is_to_roll, goes_on_to_the_next_game,
                     never_advised)
 from people import PASSWORD, Client, at_a_table, near_and_far
@@ -60,7 +62,6 @@ def he_drops_while_she_thinks_and_invites_her(table):
     never_advised(table.ann, ('hint', 'go on', 'board', 'old'), 0.5)
     comes_again(table)
     table.bob.send('invite ann')
-    table.ann.reads("Type 'join bob' to accept.")
     table.ann.types_what('invited', 'join bob')
     ann_rolls(table, 'hint')
 
@@ -133,6 +134,8 @@ def a_move_crosses_his_drop_and_he_invites_her(table):
     table.begins()
     move = table.ann.hint()
     table.bob.close()
+    # he is gone before the move comes
+    time.sleep(0.2)
     table.ann.type(move)
     table.ann.reads("** You're not playing.")
     comes_again(table)

@@ -15,6 +15,7 @@ from words import ENDED, INVITED, REFUSED, read, sent_by
 
 # A row is read with those that came with it, and then something is typed.
 READS = 0.03
+AWAITS = 2.0
 # After so long without a row the player asks for help, and after so long the match stands still.
 ASKS, STUCK = 3.0, 7.0
 
@@ -25,7 +26,11 @@ TALK = ['kibitz %s rejects. The game continues.', 'say %s accepts the double.', 
 
 # The first and the last row of a picture.
 EDGE = re.compile(r' \+[-\d]+\+---\+[-\d]+\+.*')
-HINT_ALONE = ('hint', 'go on', 'answer', 'board', 'next', 'gone', 'invited', 'auto', 'open')
+# what somebody has said, at a time
+SAID = re.compile(r'\d\d:\d\d ')
+# how the second of two rows begins
+SECOND = 'or join ', 'then open'
+HINT_ALONE = ('hint', 'go on', 'answer', 'board', 'doubles', 'next', 'gone', 'invited', 'auto', 'open')
 
 
 class Picture:
@@ -81,6 +86,8 @@ class Seat:
         # what the rows have named since the last line that was typed; and what was typed last, and why
         self.row, self.inviting, self.typed, self.why = None, None, '', ''
         self.last_row = self.last_typed = self.answered = time.monotonic()
+        # a line that was typed, and is neither sent nor refused yet
+        self.awaited = ''
         self.has_asked = self.is_stuck = self.is_over = self.is_invited = False
         self.counts, self.faults, self.stalls, self.alarms = Counter(), [], [], []
         # rows since the last move
@@ -124,35 +131,48 @@ class Seat:
         self.rows.append(row)
         if self.since_move is not None:
             self.since_move += 1
-        if len(row) > 79:
-            self.counts['rows wider than 79 columns'] += 1
         if picture := self.picture.takes(row):
             self.judge_picture(picture)
         if row.startswith('connected to '):
             self.sent.append([])
-        self.follow_the_server(row)
+        is_said = self.follow_the_server(row)
+        if len(row) > 79 and not is_said and not SAID.match(row):
+            self.counts['rows wider than 79 columns'] += 1
+            self.alarm('a row of %d columns' % len(row), row)
         if line := sent_by(row):
+            # what was named before a decision is done
+            if line == self.awaited.removeprefix('send ') and line != 'board':
+                self.row = None
+            self.awaited = ''
             self.sent[-1].append(line)
             self.counts['lines sent'] += 1
             self.note_turn(line)
         if REFUSED.fullmatch(row):
-            self.counts['what was typed because of %s was refused by the client' % (self.why or 'nothing')] += 1
-            if self.why in HINT_ALONE:
-                self.alarm('the client refused what it named', row)
+            self.hears_a_refusal(row)
         kind, lines = read(row)
         # below the answer that an offer waits for, the hint is of the board alone
         if kind and not (kind == 'hint' and self.last_kind == 'answer'):
             self.judge(kind, row, lines)
-            self.takes_note(kind, lines)
+            self.takes_note(kind, lines, row)
         self.last_kind = kind
         if found := INVITED.fullmatch(row):
             self.inviting = found[1]
         elif ENDED.fullmatch(row):
             self.is_over = True
 
-    def takes_note(self, kind, lines):
+    def hears_a_refusal(self, row):
+        """The client refuses what was typed. It may cross what has come since, or the end of the connection."""
+        self.awaited = ''
+        crosses = self.rows[-2] != '> ' + self.typed or row.endswith('[2 Offline]')
+        if self.why in HINT_ALONE and not crosses:
+            self.counts['refused by the client, that had named it'] += 1
+            self.alarm('the client refused what it named', row)
+        else:
+            self.counts['not taken by the client: %s' % ('crossing' if self.why in HINT_ALONE else self.why)] += 1
+
+    def takes_note(self, kind, lines, row):
         """What a row names is kept: of two rows that belong together what both name."""
-        if kind in ('gone', 'auto') and self.row and self.row[0] == kind:
+        if row.startswith(SECOND) and self.row and self.row[0] == kind:
             lines = self.row[1] + lines
         if kind == 'wait' and self.row and self.row[0] in HINT_ALONE:
             return
@@ -171,15 +191,16 @@ class Seat:
         return links[-1] if links else None
 
     def follow_the_server(self, row):
-        """A text of the server that is shown was read: the server has nothing older to say."""
+        """True if a row is a text of the server: it was read, and the server has nothing older to say."""
         link = self.link()
         if not link:
-            return
+            return False
         at = self.read_to.get(link, 0)
         for further in range(at, min(at + 80, len(link.said))):
             if link.said[further][0] == row and row:
                 self.read_to[link] = further + 1
-                return
+                return True
+        return False
 
     def moments(self):
         """What the server knew since the moment from which the last byte is that has come to the screen."""
@@ -199,7 +220,7 @@ class Seat:
             return 'right' if self.game.room.informed.get(self.name) else 'false'
         if kind == 'gone':
             return 'right' if any(one.is_saved or self.name not in one.online for one in moments) else 'false'
-        if kind == 'board':
+        if kind in ('board', 'doubles'):
             return 'right' if any(one.must_act(self.name) for one in moments) else 'false'
         if kind == 'wait':
             return self.verdict_of_waiting(moments, row)
@@ -235,12 +256,13 @@ class Seat:
         if len(self.alarms) < 6:
             self.alarms.append((what, row, self.game.room.now().in_words(self.name) if self.name in (
                 self.game.room.now().match.names if self.game.room.now().match else []) else
-                self.game.room.now().in_words(self.name), list(self.rows)[-14:]))
+                self.game.room.now().in_words(self.name), list(self.rows)[-40:]))
 
     # -- what is typed -----------------------------------------------------------------------------------------------
 
     def type(self, line, why):
         self.typed, self.why, self.last_typed = line, why, time.monotonic()
+        self.awaited = line if why in HINT_ALONE and line not in ('open', 'quit') else ''
         self.rows.append('> ' + line)
         os.write(self.fd, line.encode() + b'\n')
 
@@ -255,7 +277,9 @@ class Seat:
                 self.waits(now)
 
     def does_something(self, now):
-        """Types what the last rows name, if they name something."""
+        """Types what the last rows name, if they name something. He waits to see what he has typed before."""
+        if self.awaited and now - self.last_typed < AWAITS:
+            return False
         if self.inviting and not (self.row and self.row[0] == 'open'):
             line, self.inviting, self.row = self.inviting, None, None
             self.type(line, 'invited')
@@ -317,7 +341,7 @@ class Seat:
     def stuck(self, moment):
         """The match stands still. It is helped on by what the server would take."""
         self.counts['stalls'] += 1
-        self.stalls.append((moment.in_words(self.name), list(self.rows)[-34:]))
+        self.stalls.append((moment.in_words(self.name), list(self.rows)[-60:]))
         self.has_asked = False
         if moment.match is None:
             self.type('invite ' + self.other, 'stuck')

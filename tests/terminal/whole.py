@@ -202,7 +202,7 @@ def table(results):
 
 def is_sound(result):
     """True if nothing stood still, nothing was false, and nothing was sent otherwise than the screen says."""
-    bad = ('false', 'wrong remedy', 'pictures that no board had', 'refused by the client', 'wider')
+    bad = ('false', 'wrong remedy', 'pictures that no board had', 'had named it', 'wider')
     return result['ended'] and not result['stalls'] and not result['faults'] and not any(
         word in name for name, count in result['counts'].items() if count for word in bad)
 
@@ -216,9 +216,9 @@ def report(results):
         if is_sound(result):
             continue
         for what in [('stall', *stall) for stall in result['stalls']] + result['alarms']:
-            kind = what[0] if what[0] == 'stall' else what[1]
-            seen[kind] += 1
-            if seen[kind] <= 4:
+            kind = what[0] if what[0] == 'stall' else (what[1], what[2].split(' ')[-3:])
+            seen[str(kind)] += 1
+            if seen[str(kind)] <= 4:
                 print('-- match %d: %s' % (number, ' | '.join(map(str, what[:-1]))))
                 for row in what[-1]:
                     print('      |', row[:100])

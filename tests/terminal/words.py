@@ -11,8 +11,9 @@ SEND = r'send (?:roll|double|accept|reject|%s)' % MOVE
 SENDS = r'(%s)(?:, or (%s))?' % (SEND, SEND)
 
 # Kinds: `hint`, what the client takes now; `answer`, an offer of which texts alone tell; `board`, that is to be asked
-# for; `go on`, a line that goes as it is; `wait`, what is said if one asks; `next`, between two games; `gone`, a match
-# that may be saved; `invited`; `auto`, the server plays by itself; `open`, there is no connection; `login`, refused.
+# for, and `doubles`, that it is for a double; `go on`, a line that goes as it is; `wait`, what is said if one asks;
+# `next`, between two games; `gone`, a match that may be saved; `invited`; `auto`, the server plays by itself; `open`,
+# there is no connection; `login`, it was refused.
 ROWS = [(kind, re.compile(form), more) for kind, form, *more in [
     ('hint', r'Your turn: (roll)\.'),
     ('hint', r'Your turn: (roll), or (double)\.'),
@@ -24,7 +25,7 @@ ROWS = [(kind, re.compile(form), more) for kind, form, *more in [
     ('hint', r'Your move, as in: (%s)' % MOVE),
     ('answer', r'\S+ offers to resign: (send accept), or (send reject)\.'),
     ('answer', r'\S+ waits for your answer: (send accept), or (send reject)\.'),
-    ('board', r'\S+ doubles: (board), then accept, or reject\.'),
+    ('doubles', r'\S+ doubles: (board), then accept, or reject\.'),
     ('board', r'It may be your turn: (board) shows the game\.'),
     ('board', r'\S+ was refused: (board) shows the game\.'),
     ('go on', r'\S+ declined\? Go on: %s' % SENDS),
@@ -57,7 +58,6 @@ SENT = re.compile(r'sent as it is: (.*)|sent (.*?)(?:, as ordered)?')
 
 # What the server says, that one goes by too.
 INVITED = re.compile(r"Type '(join \S+)' to accept\.")
-NEXT = re.compile(r"Type '(join)' if you want to play the next game, .*")
 ENDED = re.compile(r'(?:You win|\S+ wins) the \d+ point match .*')
 
 
