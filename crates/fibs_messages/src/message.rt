@@ -84,9 +84,11 @@ pub struct WhoInfo<'a> {
 pub enum Message<'a> {
     /// 1: the user is logged in.
     Welcome {
+        /// The user's name.
         name: Name<'a>,
         /// In seconds since 1970.
         last_login: u64,
+        /// Where the user last logged in from.
         last_host: Word<'a>,
     },
     /// 2: the user's settings.
@@ -101,64 +103,85 @@ pub enum Message<'a> {
     WhoInfoEnd,
     /// 7: a player logged in.
     Login {
+        /// Who logged in.
         name: Name<'a>,
+        /// What the server says of it.
         text: &'a [u8],
     },
     /// 8: a player logged out.
     Logout {
+        /// Who logged out.
         name: Name<'a>,
+        /// What the server says of it.
         text: &'a [u8],
     },
     /// 9: a message that was left for the user.
     MessageReceived {
+        /// Who left it.
         sender: Name<'a>,
         /// In seconds since 1970.
         time: u64,
+        /// What it says.
         text: &'a [u8],
     },
     /// 10: the user's message reached a player.
     MessageDelivered {
+        /// Whom it reached.
         name: Name<'a>,
     },
     /// 11: the user's message is kept for a player.
     MessageSaved {
+        /// For whom it is kept.
         name: Name<'a>,
     },
     /// 12: a player says something to the user.
     Says {
+        /// Who says it.
         name: Name<'a>,
+        /// What is said.
         text: &'a [u8],
     },
     /// 13: a player shouts to all.
     Shouts {
+        /// Who shouts.
         name: Name<'a>,
+        /// What is shouted.
         text: &'a [u8],
     },
     /// 14: a player whispers to those who watch.
     Whispers {
+        /// Who whispers.
         name: Name<'a>,
+        /// What is whispered.
         text: &'a [u8],
     },
     /// 15: a player kibitzes to those who play and watch.
     Kibitzes {
+        /// Who kibitzes.
         name: Name<'a>,
+        /// What is kibitzed.
         text: &'a [u8],
     },
     /// 16: what the user said to a player.
     YouSay {
+        /// To whom.
         name: Name<'a>,
+        /// What was said.
         text: &'a [u8],
     },
     /// 17: what the user shouted.
     YouShout {
+        /// What was shouted.
         text: &'a [u8],
     },
     /// 18: what the user whispered.
     YouWhisper {
+        /// What was whispered.
         text: &'a [u8],
     },
     /// 19: what the user kibitzed.
     YouKibitz {
+        /// What was kibitzed.
         text: &'a [u8],
     },
 }
