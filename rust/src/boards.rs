@@ -1,6 +1,8 @@
 //! What a Rust author expects of boards, positions, plays and messages. Written by hand.
 
-use crate::{AllocError, Board, FieldFault, Message, Play, Position, PositionFault, Reading, Step, print_message, read};
+use crate::{
+    AllocError, Board, FieldFault, Message, Play, Position, PositionFault, Reading, Step, print_message, read,
+};
 use std::fmt;
 use std::hash::{Hash, Hasher};
 use std::str::FromStr;

@@ -58,21 +58,26 @@ mod handles;
 mod lines;
 mod people;
 // it has also what only the program uses
-#[allow(missing_docs, unused_imports)]
+#[allow(missing_docs, unused_imports, dead_code)]
 mod rattle;
 #[cfg(feature = "serde")]
 mod serde;
 
 pub use client::{Client, Heard};
-pub use fibs_commands::{AnswerText, CommandText, Login, Plain, PlainFault, decision_text, plain_text, read_command,
-    read_plain};
+pub use fibs_commands::{
+    AnswerText, CommandText, Login, Plain, PlainFault, decision_text, plain_text, read_command, read_plain,
+};
 pub use fibs_directory::{Directory, DirectoryFault, Player};
 pub use fibs_history::{PlainRefusal, Refusal};
 pub use fibs_lines::{Fed, LIMIT, Line, Lines, WholeLine, sent_line};
-pub use fibs_messages::{Board, Fault, Field, FieldFault, Message, Name, OwnInfo, Reading, Tail, WhoInfo, Word,
-    is_board_line, message_number, print_message, read, read_decimal};
-pub use fibs_position::{Decision, Direction, Disallowed, Phase, Play, Position, PositionFault, Stake, Step, differs,
-    effect, is_die, is_good, phase_of};
+pub use fibs_messages::{
+    Board, Fault, Field, FieldFault, Message, Name, OwnInfo, Reading, Tail, WhoInfo, Word, is_board_line,
+    message_number, print_message, read, read_decimal,
+};
+pub use fibs_position::{
+    Decision, Direction, Disallowed, Phase, Play, Position, PositionFault, Stake, Step, differs, effect, is_die,
+    is_good, phase_of,
+};
 pub use fibs_session::Outstanding;
 pub use lines::{OwnedLine, OwnedLines, ReadLines};
 pub use rattle::alloc::AllocError;
