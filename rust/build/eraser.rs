@@ -233,7 +233,8 @@ impl Eraser<'_> {
 
     /// A form of `WRITTEN`.
     fn written(&mut self) -> bool {
-        let found = WRITTEN.iter().find_map(|(from, to)| {
+        let first = self.text(self.at);
+        let found = WRITTEN.iter().filter(|(from, _)| from.starts_with(first)).find_map(|(from, to)| {
             let (mut at, mut word) = (self.at, "");
             for token in tokens_of(from).iter().filter(|token| token.kind != Kind::Space) {
                 at = self.next(at);
