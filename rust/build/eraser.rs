@@ -35,6 +35,7 @@ pub const WRITTEN: &[(&str, &str)] = &[
     ("format!(in alloc; ", "crate::rattle::may_format!("),
     (".write_fmt($)", ".write_fmt(format_args!(\"{$}\"))"),
     ("<Global>", ""),
+    ("AllocGlobal", "crate::rattle::alloc::AllocGlobal"),
     ("assert!(rt; ", "assert!("),
     ("assert_eq!(rt; ", "assert_eq!("),
     ("assert_ne!(rt; ", "assert_ne!("),

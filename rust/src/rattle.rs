@@ -24,6 +24,11 @@ pub mod alloc {
 
     /// The allocator, which the sources name and Rust does not.
     pub struct Global;
+
+    /// Those who have it, in the sources.
+    pub trait AllocGlobal {}
+    #[cfg(test)]
+    impl AllocGlobal for super::HostRuntime {}
 }
 
 pub mod cell {
@@ -179,6 +184,13 @@ pub mod may {
         }
     }
 
+    /// So many copies of a value.
+    pub fn may_from_elem<T: Clone>(item: T, count: usize) -> Result<Vec<T>, AllocError> {
+        let mut items = Vec::may_with_capacity(count)?;
+        items.resize(count, item);
+        Ok(items)
+    }
+
     /// Stable Rust has no box that may fail: this one ends the process if memory runs out.
     pub fn may_box<T>(value: T) -> Result<Box<T>, AllocError> {
         Ok(Box::new(value))
@@ -317,3 +329,28 @@ pub mod simd {
         }
     }
 }
+
+/// What Rattle's tests use of its runtime.
+#[cfg(test)]
+mod tests {
+    #[derive(Clone, Copy)]
+    pub struct HostRuntime;
+
+    pub mod process {
+        pub trait Abort {}
+        impl Abort for super::HostRuntime {}
+    }
+
+    pub mod test {
+        pub type Fail = Box<dyn std::error::Error>;
+    }
+
+    #[allow(unused_macros)]
+    macro_rules! may_format {
+        ($($part:tt)*) => { Ok::<String, $crate::rattle::alloc::AllocError>(format!($($part)*)) };
+    }
+    #[allow(unused_imports)]
+    pub(crate) use may_format;
+}
+#[cfg(test)]
+pub(crate) use tests::*;

@@ -1,0 +1,3 @@
+//! The functions of `fibs.h`.
+
+pub use fibs::c::*;

@@ -1,0 +1,265 @@
+//! What the crate says of a session, of a client, and of bad input.
+
+use fibs::{
+    Board, Client, Decision, Directory, Disallowed, Fault, FieldFault, Lines, Login, Message, OwnedLine, Phase, Plain,
+    PlainFault, PlainRefusal, Play, Position, PositionFault, Reading, Refusal, Step,
+};
+use std::collections::HashSet;
+use std::io::{self, ErrorKind, Read, Write};
+
+const BOARD: &str = "board:You:bob:3:0:1:0:-2:0:0:0:0:5:0:3:0:0:0:-5:5:0:0:0:-3:0:-5:0:0:0:0:2:0:1:6:2:0:0:1:1:1:0:1:\
+    -1:0:25:0:0:0:0:2:0:0:0";
+const ROLL: &str = "board:You:bob:3:0:1:0:-2:0:0:0:0:5:0:3:0:0:0:-5:5:0:0:0:-3:0:-5:0:0:0:0:2:0:1:0:0:0:0:1:1:1:0:1:\
+    -1:0:25:0:0:0:0:2:0:0:0";
+const GREETING: &str =
+    "login: 1 ann 1041253132 localhost\r\n2 ann 1 1 0 0 0 0 1 1 10 0 1 0 1 1500.00 0 0 0 0 0 UTC\r\n";
+
+fn client() -> Client {
+    Client::new(Login::new(b"ann", b"secret").unwrap())
+}
+
+/// The lines that a client hears, with the decision that each confirms.
+fn hear(client: &mut Client, text: &str) -> Vec<(Vec<u8>, Option<Decision>)> {
+    let (mut piece, mut found) = (text.as_bytes(), Vec::new());
+    while let Some(heard) = client.hear(&mut piece) {
+        found.push((heard.line.bytes.to_vec(), heard.confirmed.map(|was| was.decision)));
+    }
+    assert!(piece.is_empty());
+    found
+}
+
+#[test]
+fn lines_are_the_same_however_they_are_cut() {
+    let mut session = [GREETING, BOARD, "\r\nHello\r\n\r\n"].concat().into_bytes();
+    session.extend(vec![b'x'; 40_000]);
+    session.extend(b"\r\n\xff\xfb\x01last\n");
+    let told = |size: usize| -> Vec<OwnedLine> {
+        let mut lines = Lines::new();
+        let found = session.chunks(size).flat_map(|piece| lines.owned(piece).collect::<Vec<_>>()).collect();
+        assert_eq!(lines.unfinished(), b"");
+        found
+    };
+    let whole = told(session.len());
+    assert_eq!(whole.len(), 7);
+    assert!(whole[5].cut && whole[5].bytes.len() == fibs::LIMIT);
+    assert_eq!(whole[6].bytes, b"last");
+    for size in [1, 2, 7, 4096] {
+        assert_eq!(told(size), whole, "pieces of {size}");
+    }
+    let read: Vec<OwnedLine> = Lines::of(&session[..]).map(Result::unwrap).collect();
+    assert_eq!(read, whole);
+    let mut each: Vec<OwnedLine> = Vec::new();
+    Lines::new().each(&session, |line| each.push(line.into()));
+    assert_eq!(each, whole);
+}
+
+#[test]
+fn a_stream_that_fails_is_asked_again() {
+    struct Stream(Vec<Result<&'static [u8], ErrorKind>>);
+    impl Read for Stream {
+        fn read(&mut self, room: &mut [u8]) -> io::Result<usize> {
+            let piece = self.0.remove(0)?;
+            room[..piece.len()].copy_from_slice(piece);
+            Ok(piece.len())
+        }
+    }
+    let parts = vec![Ok(&b"a\nb"[..]), Err(ErrorKind::Interrupted), Err(ErrorKind::WouldBlock), Ok(b"c\nd"), Ok(b"")];
+    let mut lines = Lines::of(Stream(parts));
+    assert_eq!(lines.next().unwrap().unwrap().bytes, b"a");
+    assert_eq!(lines.next().unwrap().unwrap_err().kind(), ErrorKind::WouldBlock);
+    assert_eq!(lines.next().unwrap().unwrap().bytes, b"bc");
+    assert!(lines.next().is_none());
+    assert_eq!(lines.unfinished(), b"d");
+}
+
+#[test]
+fn what_is_not_asked_for_is_not_read() {
+    let mut lines = Lines::new();
+    assert_eq!(lines.owned(b"a\nb\nc").next().unwrap().bytes, b"a");
+    let mut rest = lines.owned(b"d\n");
+    assert_eq!(rest.next().unwrap().bytes, b"d");
+    assert_eq!((rest.next(), rest.next()), (None, None));
+}
+
+#[test]
+fn a_client_plays() {
+    let mut client = client();
+    assert_eq!(client.plain(&Plain::Who), Err(PlainRefusal::Offline));
+    client.open().unwrap();
+    assert_eq!(client.open(), Err(Refusal::AlreadyOpen));
+    assert_eq!(hear(&mut client, GREETING).len(), 2);
+    assert_eq!(client.decide(&Decision::Roll), Err(Refusal::NoBoard));
+    hear(&mut client, &format!("{ROLL}\r\n"));
+    let position = Position::try_from(client.shown().unwrap()).unwrap();
+    assert_eq!(position.phase(), Phase::RollOrDouble);
+    client.sent(client.outgoing().len());
+    assert_eq!(client.refusal(&Decision::Roll), None);
+    client.decide(&Decision::Roll).unwrap();
+    assert_eq!(client.outgoing(), b"roll\r\n");
+    assert_eq!(client.decide(&Decision::Roll), Err(Refusal::Waiting));
+    assert_eq!(client.waiting().unwrap().decision, Decision::Roll);
+    assert_eq!(client.outgoing(), b"roll\r\n", "a refusal changes nothing");
+    assert_eq!(hear(&mut client, &format!("{BOARD}\r\n"))[0].1, Some(Decision::Roll));
+    let play = Decision::Move(Position::try_from(client.shown().unwrap()).unwrap().plays().unwrap()[0]);
+    client.decide(&play).unwrap();
+    assert_eq!(client.outgoing(), b"roll\r\nmove 24-22 24-18\r\n");
+    let lost = client.lose().unwrap();
+    assert_eq!((lost.decision, lost.board), (play, BOARD.parse().unwrap()));
+    assert!(client.shown().is_none() && client.lose().is_none() && client.outgoing().is_empty());
+    assert!(hear(&mut client, GREETING).is_empty(), "offline nothing is heard");
+}
+
+#[test]
+fn what_is_to_be_sent_is_kept_until_it_is() {
+    /// Takes so many bytes at each write, or fails.
+    struct Socket(Vec<Result<usize, ErrorKind>>, Vec<u8>);
+    impl Write for Socket {
+        fn write(&mut self, bytes: &[u8]) -> io::Result<usize> {
+            let taken = self.0.remove(0)?.min(bytes.len());
+            self.1.extend(&bytes[..taken]);
+            Ok(taken)
+        }
+        fn flush(&mut self) -> io::Result<()> {
+            Ok(())
+        }
+    }
+    let login = b"login fibs_client 1008 ann secret\r\n";
+    let mut client = client();
+    client.open().unwrap();
+    assert_eq!(client.outgoing(), login);
+    let mut socket = Socket(vec![Ok(3), Err(ErrorKind::Interrupted), Ok(2), Err(ErrorKind::WouldBlock)], Vec::new());
+    assert_eq!(client.write_to(&mut socket).unwrap_err().kind(), ErrorKind::WouldBlock);
+    assert_eq!((&socket.1[..], client.outgoing()), (&login[..5], &login[5..]));
+    hear(&mut client, "1 ann 1 here\r\n");
+    socket.0 = vec![Ok(0)];
+    assert_eq!(client.write_to(&mut socket).unwrap_err().kind(), ErrorKind::WriteZero);
+    socket.0 = vec![Ok(20), Ok(100)];
+    client.write_to(&mut socket).unwrap();
+    assert_eq!(socket.1, [&login[..], b"set boardstyle 3\r\n"].concat());
+    assert_eq!(client.outgoing(), b"");
+    client.sent(usize::MAX);
+    client.lose();
+    client.open().unwrap();
+    client.sent(3);
+    assert_eq!(client.outgoing(), &login[3..]);
+    client.lose();
+    client.open().unwrap();
+    assert_eq!(client.outgoing(), login, "what was left of a connection is forgotten");
+}
+
+#[test]
+fn a_standing_order_rolls() {
+    let mut client = client();
+    assert_eq!(client.order_roll(), Err(Refusal::Offline));
+    client.open().unwrap();
+    client.order_roll().unwrap();
+    assert!(client.is_ordered());
+    assert_eq!(client.order_roll(), Err(Refusal::AlreadyOrdered));
+    hear(&mut client, GREETING);
+    let board = ROLL.replace(":1:1:1:0:1:-1:", ":1:0:1:0:1:-1:") + "\r\n";
+    assert!(client.hear(&mut board.as_bytes()).unwrap().rolled);
+    assert!(client.outgoing().ends_with(b"\r\nroll\r\n"));
+    client.withdraw_roll().unwrap();
+    assert_eq!(client.withdraw_roll(), Err(Refusal::NotOrdered));
+}
+
+#[test]
+fn bad_input_is_an_error() {
+    assert_eq!(Login::new(b"", b"x").err(), Some(PlainFault::BadName));
+    assert_eq!(Login::new(b"ann", "x".repeat(65).as_bytes()).err(), Some(PlainFault::TooLong));
+    assert_eq!(Login::new(b"ann", b"a b").err(), Some(PlainFault::BadText));
+    assert!(Board::read(b"").is_err() && Board::try_from(&b"board:"[..]).is_err());
+    let fault: FieldFault = "board:You:bob:x".parse::<Board>().unwrap_err();
+    assert_eq!((fault.field, fault.fault), (4, Fault::NotANumber));
+    assert_eq!(Step::new(26, 1), None);
+    assert_eq!(Play::of([Step::new(6, 5).unwrap(); 5]), None);
+    let position = Position::try_from(&BOARD.parse::<Board>().unwrap()).unwrap();
+    let step = Step::new(24, 18).unwrap();
+    assert_eq!(position.allows(&Decision::Move(Play::of([step]).unwrap())), Err(Disallowed::IllegalPlay));
+    assert_eq!(position.allows(&Decision::Roll), Err(Disallowed::WrongKind));
+    let legal = Play::of([step, Step::new(13, 11).unwrap()]).unwrap();
+    assert_eq!(position.allows(&Decision::Move(legal)), Ok(()));
+    assert_eq!((position.own_on(26), position.other_on(0), position.other_on(25)), (None, None, None));
+    let watched: Board = BOARD.replace("You", "joe").parse().unwrap();
+    assert_eq!(Position::try_from(&watched).err(), Some(PositionFault::NotYou));
+    assert_eq!(fibs::read(b""), Reading::Text(b""));
+    let board: Board = BOARD.parse().unwrap();
+    assert_eq!([3, 4, 53, 54].map(|n| board.get(n)), [None, Some(3), Some(0), None]);
+    assert_eq!(board.to_string().parse::<Board>(), Ok(board));
+    assert_eq!(HashSet::from([board, board, ROLL.parse().unwrap()]).len(), 2);
+}
+
+#[test]
+fn messages_have_names_for_their_fields() {
+    let Reading::Numbered(Message::Says { name, text }) = fibs::read(b"12 bob hi\xff there") else { panic!() };
+    assert_eq!((name.to_string(), name.as_ref(), text), ("bob".into(), &b"bob"[..], &b"hi\xff there"[..]));
+    let Reading::Numbered(Message::Welcome { last_host, .. }) = fibs::read(b"1 ann 2 h\xc3\xb6st") else { panic!() };
+    assert_eq!(last_host.to_string(), "h\\xc3\\xb6st");
+    assert!(matches!(fibs::read(b"12 b:b hi"), Reading::Malformed { number: 12, field: 1, fault: Fault::BadName }));
+}
+
+#[test]
+fn a_directory_lists() {
+    let mut directory = Directory::new();
+    let note = |directory: &mut Directory, line: String| {
+        let Reading::Numbered(message) = fibs::read(line.as_bytes()) else { panic!("{line}") };
+        directory.note(&message)
+    };
+    for i in 0..4096 {
+        note(&mut directory, format!("5 p{i} - - 1 0 1500.05 0 3 1040515752 host client mail")).unwrap();
+    }
+    let full = note(&mut directory, "5 more - - 1 0 1500.05 0 3 1040515752 host client mail".into());
+    assert_eq!(full.unwrap_err().to_string(), "Full");
+    note(&mut directory, "8 p0 p0 drops connection.".into()).unwrap();
+    assert_eq!((directory.len(), directory.iter().count()), (4095, 4095));
+    assert_eq!(directory.iter().next().unwrap().name, b"p1");
+    assert!(directory.get(b"p0").is_none() && directory.at(4095).is_none());
+    directory.clear();
+    assert!(directory.is_empty());
+}
+
+#[test]
+fn a_debug_print_shows_no_password() {
+    let mut client = client();
+    client.open().unwrap();
+    for text in [format!("{client:?}"), format!("{:?}", Login::new(b"ann", b"secret").unwrap())] {
+        assert!(!text.contains("secret"), "{text}");
+    }
+}
+
+#[test]
+fn errors_are_errors_and_values_go_to_other_threads() {
+    fn is_error<T: std::error::Error + Send + Sync + 'static>() {}
+    fn goes<T: Send + Sync>() {}
+    is_error::<Refusal>();
+    is_error::<PlainRefusal>();
+    is_error::<PlainFault>();
+    is_error::<FieldFault>();
+    is_error::<Fault>();
+    is_error::<PositionFault>();
+    is_error::<Disallowed>();
+    is_error::<fibs::DirectoryFault>();
+    is_error::<fibs::AllocError>();
+    is_error::<fibs::show::EngineFault>();
+    goes::<(Client, Lines, Directory, Board, Position, Decision)>();
+}
+
+#[cfg(feature = "serde")]
+#[test]
+fn values_go_through_serde() {
+    let board: Board = BOARD.parse().unwrap();
+    assert_eq!(serde_json::to_string(&board).unwrap(), format!("{BOARD:?}"));
+    assert_eq!(serde_json::from_str::<Board>(&format!("{BOARD:?}")).unwrap(), board);
+    assert!(serde_json::from_str::<Board>("\"board:You\"").is_err());
+    let play = Position::try_from(&board).unwrap().plays().unwrap()[0];
+    for (decision, text) in [
+        (Decision::Roll, "\"Roll\""),
+        (Decision::Move(play), r#"{"Move":[[24,22],[24,18]]}"#),
+        (Decision::Resign(fibs::Stake::Gammon), r#"{"Resign":"Gammon"}"#),
+    ] {
+        assert_eq!(serde_json::to_string(&decision).unwrap(), text);
+        assert_eq!(serde_json::from_str::<Decision>(text).unwrap(), decision);
+    }
+    assert!(serde_json::from_str::<Play>("[[30,1]]").is_err());
+    assert!(serde_json::from_str::<Play>("[[6,5],[6,5],[6,5],[6,5],[6,5]]").is_err());
+}
