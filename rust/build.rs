@@ -14,7 +14,7 @@ fn main() {
     let is_wanted = |feature: &str| feature.is_empty() || env::var_os(format!("CARGO_FEATURE_{feature}")).is_some();
     let mut crates: Vec<&str> =
         CRATES.iter().filter(|part| is_wanted(part.0)).flat_map(|part| part.1).copied().collect();
-    if env::var_os("FIBS_RATTLE_TESTS").is_some() {
+    if env::var_os("FIBS_RATTLE_TESTS").is_some() && is_wanted("MODEL") {
         crates.extend(TESTS);
     }
     let plan = eraser::Plan { crates: &crates, by_hand: BY_HAND, contracts: true, attributes };

@@ -69,7 +69,8 @@ impl Position {
     /// let board: fibs::Board = line.parse()?;
     /// let position = fibs::Position::try_from(&board)?;
     /// assert_eq!(position.own_on(24), Some(2));
-    /// assert_eq!(position.plays()?[0].to_string(), "24-22 24-18");
+    /// let best = fibs::Decision::Move(position.plays()?[0]);
+    /// assert_eq!(fibs::decision_text(&best, position.direction()).as_str(), "move 24-22 24-18");
     /// # Ok::<(), Box<dyn std::error::Error>>(())
     /// ```
     pub fn own_on(&self, place: u8) -> Option<u8> {

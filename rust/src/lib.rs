@@ -97,6 +97,11 @@ pub mod show {
 #[cfg(feature = "model")]
 pub mod model;
 
+/// The page for authors, whose blocks are run.
+#[cfg(doctest)]
+#[doc = include_str!("../../docs/RUST.md")]
+struct Page;
+
 /// The functions of `fibs.h`, for a package that makes a library of them.
 #[cfg(feature = "c")]
 #[doc(hidden)]

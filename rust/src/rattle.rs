@@ -197,8 +197,33 @@ pub mod may {
     }
 }
 
+/// What Rattle's tests use of its runtime.
+#[cfg(test)]
+mod runtime {
+    #[derive(Clone, Copy)]
+    pub struct HostRuntime;
+
+    pub mod process {
+        pub trait Abort {}
+        impl Abort for super::HostRuntime {}
+    }
+
+    pub mod test {
+        pub type Fail = Box<dyn std::error::Error>;
+    }
+
+    #[allow(unused_macros)]
+    macro_rules! may_format {
+        ($($part:tt)*) => { Ok::<String, $crate::rattle::alloc::AllocError>(format!($($part)*)) };
+    }
+    #[allow(unused_imports)]
+    pub(crate) use may_format;
+}
+#[cfg(test)]
+pub(crate) use runtime::*;
+
 /// The part of `std::simd` that is used, which stable Rust has not. The compiler makes lanes of it.
-#[allow(non_camel_case_types)]
+#[allow(non_camel_case_types, clippy::needless_range_loop)]
 pub mod simd {
     pub mod prelude {
         pub use super::{Simd, u8x16, u8x32};
@@ -329,28 +354,3 @@ pub mod simd {
         }
     }
 }
-
-/// What Rattle's tests use of its runtime.
-#[cfg(test)]
-mod tests {
-    #[derive(Clone, Copy)]
-    pub struct HostRuntime;
-
-    pub mod process {
-        pub trait Abort {}
-        impl Abort for super::HostRuntime {}
-    }
-
-    pub mod test {
-        pub type Fail = Box<dyn std::error::Error>;
-    }
-
-    #[allow(unused_macros)]
-    macro_rules! may_format {
-        ($($part:tt)*) => { Ok::<String, $crate::rattle::alloc::AllocError>(format!($($part)*)) };
-    }
-    #[allow(unused_imports)]
-    pub(crate) use may_format;
-}
-#[cfg(test)]
-pub(crate) use tests::*;

@@ -35,6 +35,6 @@ fn what_the_eraser_changes_is_written_down() {
     let exports: Vec<&str> = public.split("pub use ").skip(1).filter_map(|text| text.split(';').next()).collect();
     for name in required {
         let is_exported = |list: &&str| list.split(|c: char| !c.is_alphanumeric() && c != '_').any(|word| word == name);
-        assert!(!exports.iter().any(|list| is_exported(list)), "{name} asks something of its callers");
+        assert!(!exports.iter().any(is_exported), "{name} asks something of its callers");
     }
 }
