@@ -113,7 +113,7 @@ def two_connections_in_one_log(server):
 
 @with_server
 def a_log_that_is_full(server):
-    """What can't be written any more is left out, and the game goes on."""
+    """That is said once, what can't be written any more is left out, and the game goes on."""
     ann = Person(server.port, words=('--log', '/dev/full'))
     server.accept()
     server.line()
@@ -124,8 +124,44 @@ def a_log_that_is_full(server):
         same('received', server.line(), wanted)
     ann.type('quit')
     ann.ends(0)
+    same('what is said of it', [line for line in ann.lines() if 'the log' in line],
+         ["fibs: the log can't be written: no space left on device"])
     ann.close()
 
 
+@with_server
+def a_log_of_a_pipe_that_is_full(server):
+    """The account is as without it, and standard error says it once."""
+    program = subprocess.Popen([PROGRAM, 'connect', '--log', '/dev/full', '--password-file', PASSWORD_FILE, '127.0.0.1',
+                                str(server.port), 'ann'],
+                               stdin=subprocess.PIPE, stdout=subprocess.PIPE, stderr=subprocess.PIPE)
+    server.accept()
+    server.line()
+    server.send(WELCOME, '12 bob hi')
+    printed, said = program.communicate(b'\nsay hi\nquit\n', timeout=PATIENCE)
+    same('the end', (program.returncode, printed.decode(), said.decode()),
+         (0, 'message %s\nmessage 12 bob hi\nsent say hi\n' % WELCOME,
+          "fibs: the log can't be written: no space left on device\n"))
+
+
+@with_server
+def a_log_is_for_its_owner_alone(server):
+    """One that is there already stays as it is."""
+    path = os.path.join(ROOM.name, 'log of one')
+    for mode in 0o600, 0o640:
+        ann = Person(server.port, words=('--log', path))
+        server.accept()
+        server.line()
+        server.send(WELCOME)
+        ann.reads('Welcome, ann')
+        holds(path, WELCOME.encode())
+        same('who may read it', os.stat(path).st_mode & 0o777, mode)
+        ann.type('quit')
+        ann.ends(0)
+        ann.close()
+        os.chmod(path, 0o640)
+
+
 SCENES = [each_line_as_it_came_and_what_was_sent, the_login_is_kept_without_its_password,
-          two_connections_in_one_log, a_log_that_is_full]
+          two_connections_in_one_log, a_log_that_is_full, a_log_of_a_pipe_that_is_full,
+          a_log_is_for_its_owner_alone]

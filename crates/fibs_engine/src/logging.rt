@@ -2,12 +2,14 @@
 
 use crate::dial::Dial;
 use crate::link::Link;
+use crate::noting::{Noted, Trouble, write_trouble};
 use crate::writing::{Broken, write_bytes};
 use arrayvec::ArrayVec;
 use fibs_lines::Lines;
 use std::fs::{File, OpenOptions};
 use std::io;
-use std::io::{ErrorKind, Read, Write};
+use std::io::{ErrorKind, Read, Stderr, Write};
+use std::os::unix::fs::OpenOptionsExt;
 
 /// What is written before a line that was sent. The server's prompt is the same, and is dropped from its lines.
 const SENT: &[u8] = b"> ";
@@ -15,21 +17,61 @@ const SENT: &[u8] = b"> ";
 /// How many bytes of a line that is sent are kept: no line is longer.
 const SENT_ROOM: usize = 4200;
 
+/// Who may read a log that is made, and write it: its owner alone, since it has all private talk.
+const OWNER_ALONE: u32 = 0o600;
+
+/// What is said of a log before the reason.
+const LOG: &[u8] = b"the log can't be written";
+
+/// A log, and where it is said if it can't be written any more. That is said once.
+#[derive(Drop)]
+pub struct Log<W: Write + Drop, E: Write + Drop> {
+    file: Option<Noted<W>>,
+    err: E,
+}
+
+impl<W: Write + Drop, E: Write + Drop> Log<W, E> {
+    /// A log, if one is kept.
+    pub fn new(file: Option<W>, err: E) -> Log<W, E> {
+        Log {
+            file: match file {
+                None => None,
+                Some(file) => Some(Noted::new(file)),
+            },
+            err,
+        }
+    }
+
+    /// Appends a line behind a mark. If it can't be written that is said, and no other line is kept.
+    fn keep(&mut self, mark: &[u8], line: &[u8]) {
+        let trouble = match &mut self.file {
+            None => return,
+            Some(file) => match append(mark, line, file) {
+                Ok(()) => return,
+                Err(_) => file.trouble(),
+            },
+        };
+        self.file = None;
+        // if it can't be said, the game goes on all the same
+        let _said = write_trouble(LOG, trouble, &mut self.err);
+    }
+}
+
 /// A stream with a log: each line as it came, without telnet's commands and prompts, and after `> ` each
 /// line that was sent, but for the first, which is the login. A log that can no longer be written is left as it is.
 #[derive(Drop)]
-pub struct Logged<S: Link + Drop, W: Write + Drop> {
+pub struct Logged<S: Link + Drop, W: Write + Drop, E: Write + Drop> {
     stream: S,
-    log: Option<W>,
+    log: Log<W, E>,
     lines: Lines,
     sent: ArrayVec<u8, SENT_ROOM>,
     /// The login was sent.
     is_in: bool,
 }
 
-impl<S: Link + Drop, W: Write + Drop> Logged<S, W> {
+impl<S: Link + Drop, W: Write + Drop, E: Write + Drop> Logged<S, W, E> {
     /// The same stream, with a log or without one.
-    pub fn new(stream: S, log: Option<W>) -> Logged<S, W> {
+    pub fn new(stream: S, log: Log<W, E>) -> Logged<S, W, E> {
         Logged {
             stream,
             log,
@@ -45,11 +87,9 @@ impl<S: Link + Drop, W: Write + Drop> Logged<S, W> {
         while !rest.is_empty() {
             let fed = self.lines.feed(rest);
             let used = fed.used;
-            match (&fed.line, &mut self.log) {
-                (Some(line), Some(log)) => {
-                    let _kept = append(b"", line.bytes, log);
-                }
-                _ => {}
+            match &fed.line {
+                Some(line) => self.log.keep(b"", line.bytes),
+                None => {}
             }
             rest = &rest[used..];
         }
@@ -71,9 +111,7 @@ impl<S: Link + Drop, W: Write + Drop> Logged<S, W> {
     /// A line that was sent has ended.
     fn end_sent(&mut self) {
         if self.is_in {
-            if let Some(log) = &mut self.log {
-                let _kept = append(SENT, self.sent.as_slice(), log);
-            }
+            self.log.keep(SENT, self.sent.as_slice());
         }
         self.is_in = true;
         self.sent.clear();
@@ -87,13 +125,13 @@ fn append<W: Write>(mark: &[u8], line: &[u8], log: &mut W) -> Result<(), Broken>
     write_bytes(b"\n", log)
 }
 
-impl<S: Link + Drop, W: Write + Drop> Read for Logged<S, W> {
+impl<S: Link + Drop, W: Write + Drop, E: Write + Drop> Read for Logged<S, W, E> {
     fn read(&mut self, buf: &mut [u8]) -> io::Result<usize> {
         self.receive(buf)
     }
 }
 
-impl<S: Link + Drop, W: Write + Drop> Write for Logged<S, W> {
+impl<S: Link + Drop, W: Write + Drop, E: Write + Drop> Write for Logged<S, W, E> {
     fn write(&mut self, buf: &[u8]) -> io::Result<usize> {
         self.transmit(buf)
     }
@@ -103,7 +141,7 @@ impl<S: Link + Drop, W: Write + Drop> Write for Logged<S, W> {
     }
 }
 
-impl<S: Link + Drop, W: Write + Drop> Link for Logged<S, W> {
+impl<S: Link + Drop, W: Write + Drop, E: Write + Drop> Link for Logged<S, W, E> {
     fn receive(&mut self, buf: &mut [u8]) -> io::Result<usize> {
         let count = self.stream.receive(buf)?;
         self.keep_heard(&buf[..count]);
@@ -117,9 +155,13 @@ impl<S: Link + Drop, W: Write + Drop> Link for Logged<S, W> {
     }
 }
 
-/// Opens a file to which is appended.
+/// Opens a file to which is appended. If it is made, nobody but its owner may read it.
 pub fn open(rt: &HostRuntime, path: &str) -> io::Result<File> {
-    OpenOptions::new().append(true).create(true).open(rt, path)
+    OpenOptions::new()
+        .append(true)
+        .create(true)
+        .mode(OWNER_ALONE)
+        .open(rt, path)
 }
 
 /// A server whose connections have a log, if one is asked for.
@@ -136,21 +178,29 @@ impl<'a, D: Dial + Drop> LoggedServer<'a, D> {
         LoggedServer { server, rt, path }
     }
 
-    /// The log, if one is asked for and can be written.
+    /// The log, if one is asked for and can be opened. If it can't, that is said.
     fn log(&self) -> Option<File> {
-        match self.path {
-            None => None,
-            Some(path) => open(self.rt, path).ok(),
+        match open(self.rt, self.path?) {
+            Ok(file) => Some(file),
+            Err(error) => {
+                let trouble = Some(Trouble::of(&error));
+                // if it can't be said, the game goes on all the same
+                let _said = write_trouble(LOG, trouble, &mut self.rt.stderr());
+                None
+            }
         }
     }
 }
 
 impl<D: Dial + Drop> Dial for LoggedServer<'_, D> {
-    type Stream = Logged<D::Stream, File>;
+    type Stream = Logged<D::Stream, File, Stderr>;
 
-    fn dial(&mut self) -> Result<Logged<D::Stream, File>, ErrorKind> {
+    fn dial(&mut self) -> Result<Logged<D::Stream, File, Stderr>, ErrorKind> {
         match self.server.dial() {
-            Ok(stream) => Ok(Logged::new(stream, self.log())),
+            Ok(stream) => {
+                let log = Log::new(self.log(), self.rt.stderr());
+                Ok(Logged::new(stream, log))
+            }
             Err(why) => Err(why),
         }
     }

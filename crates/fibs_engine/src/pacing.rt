@@ -1,9 +1,13 @@
 //! Connections that leave a person time to type.
 
+ghost use Rattle.std.specs.Prelude.{◌≤◌, length, IfSome};
 ghost use Rattle.std.specs.Io.{ReadsAtMost};
 
 use crate::dial::{Dial, Server};
+use crate::limits::READ_PORTION;
 use crate::link::Link;
+use arrayvec::ArrayVec;
+use fibs_lines::Lines;
 use std::io;
 use std::io::{ErrorKind, Read, Write};
 use std::net::{Net, TcpStream};
@@ -17,17 +21,28 @@ const LOGIN_MILLIS: u64 = 2000;
 /// What a server prints when it waits for a login.
 const LOGIN_PROMPT: &[u8] = b"login: ";
 
+/// With what the line begins in which a server greets the user.
+const GREETING: &[u8] = b"1 ";
+
 /// A stream that is quiet after so many reads, though more may have come. So a turn ends in time, whatever is sent.
-/// Once it is not quiet for a while: if the server has just asked for the login. So a turn that ends then was not
-/// answered.
+///
+/// Once it is not quiet for a while: if the last that came is the question for the login, and the user was not greeted
+/// on this connection. Whatever comes meanwhile is kept, up to the greeting, so that a turn that ends then was not
+/// answered, and the question is what was heard last. What was kept is read after that.
 #[derive(Drop)]
 pub struct Paced<S: Link + Drop> {
     stream: S,
     reads: u32,
     /// How often a quiet stream is read again if the server asks for the login.
     patience: u64,
-    /// The server has asked for the login, and has said nothing since.
+    /// What has come, as lines, up to the greeting.
+    lines: Lines,
+    /// The user was greeted.
+    greeted: bool,
+    /// The server has asked for the login, which was not waited for.
     asked: bool,
+    /// What came after the question, and is not yet read.
+    kept: ArrayVec<u8, READ_PORTION>,
 }
 
 impl<S: Link + Drop> Paced<S> {
@@ -37,30 +52,109 @@ impl<S: Link + Drop> Paced<S> {
             stream,
             reads: 0,
             patience,
+            lines: Lines::new(),
+            greeted: false,
             asked: false,
+            kept: ArrayVec::new(),
         }
     }
 
-    /// Reads once more after each quiet read, if the server asks for the login.
+    /// Hears what has come: whether the user is greeted, and whether the server asks for the login.
+    fn hear(&mut self, bytes: &[u8]) {
+        if self.greeted {
+            return;
+        }
+        let mut rest = bytes;
+        while !rest.is_empty() {
+            let fed = self.lines.feed(rest);
+            let used = fed.used;
+            match &fed.line {
+                Some(line) if line.bytes.starts_with(GREETING) => self.greeted = true,
+                _ => {}
+            }
+            rest = &rest[used..];
+        }
+        self.asked = !self.greeted && self.lines.unfinished().ends_with(LOGIN_PROMPT);
+    }
+
+    /// Reads once.
+    fn receive_heard(&mut self, buf: &mut [u8]) -> io::Result<usize>
+        ensures { ReadsAtMost result buf.new }
+    {
+        let count = self.stream.receive(buf)?;
+        self.hear(&buf[..count]);
+        Ok(count)
+    }
+
+    /// Gives what was kept, or as much of it as there is room for.
+    fn give_kept(&mut self, buf: &mut [u8]) -> usize
+        ensures room { result ≤ length buf.new }
+    {
+        let count = buf.len().min(self.kept.len());
+        buf[..count].copy_from_slice(&self.kept.as_slice()[..count]);
+        let _given = self.kept.drain(..count);
+        count
+    }
+
+    /// Reads once, and keeps what has come. The answer, if there is nothing more to wait for: the user is greeted, the
+    /// connection is over, or there is no room for more.
+    fn keep_more(&mut self, buf: &mut [u8]) -> Option<io::Result<usize>>
+        ensures { IfSome result (λ answer. ReadsAtMost answer buf.new) }
+    {
+        let room = buf.len().min(self.kept.remaining_capacity());
+        if room == 0 {
+            return Some(Ok(self.give_kept(buf)));
+        }
+        match self.stream.receive(&mut buf[..room]) {
+            Err(error) if is_quiet(error.kind()) => None,
+            Ok(count) if count > 0 => {
+                self.hear(&buf[..count]);
+                let _fits = self.kept.try_extend_from_slice(&buf[..count]);
+                if self.greeted {
+                    return Some(Ok(self.give_kept(buf)));
+                }
+                None
+            }
+            over => {
+                if self.kept.is_empty() {
+                    return Some(over);
+                }
+                Some(Ok(self.give_kept(buf)))
+            }
+        }
+    }
+
+    /// Waits for the answer to a login.
+    fn receive_answer(&mut self, buf: &mut [u8]) -> io::Result<usize>
+        ensures { ReadsAtMost result buf.new }
+    {
+        for _ in 0..self.patience {
+            match self.keep_more(buf) {
+                Some(answer) => return answer,
+                None => {}
+            }
+        }
+        self.asked = false;
+        Err(io::Error::from(ErrorKind::WouldBlock))
+    }
+
+    /// Reads what was kept, else what comes; if the server asks for the login, the answer to it.
     fn receive_patiently(&mut self, buf: &mut [u8]) -> io::Result<usize>
         ensures { ReadsAtMost result buf.new }
     {
-        if self.asked {
-            self.asked = false;
-            for _ in 0..self.patience {
-                match self.stream.receive(buf) {
-                    Err(error) if is_quiet(error.kind()) => {}
-                    answer => return answer,
-                }
-            }
+        if !self.kept.is_empty() {
+            return Ok(self.give_kept(buf));
         }
-        self.stream.receive(buf)
+        if self.asked {
+            return self.receive_answer(buf);
+        }
+        self.receive_heard(buf)
     }
 }
 
 impl<S: Link + Drop> Read for Paced<S> {
     fn read(&mut self, buf: &mut [u8]) -> io::Result<usize> {
-        self.stream.read(buf)
+        self.receive(buf)
     }
 }
 
@@ -82,10 +176,7 @@ impl<S: Link + Drop> Link for Paced<S> {
         }
         self.reads += 1;
         match self.receive_patiently(buf) {
-            Ok(count) => {
-                self.asked = buf[..count].ends_with(LOGIN_PROMPT);
-                Ok(count)
-            }
+            Ok(count) => Ok(count),
             Err(error) => {
                 self.reads = 0;
                 Err(error)
