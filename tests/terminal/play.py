@@ -255,7 +255,8 @@ def a_half_typed_line_is_kept(server):
 
 
 # how the wire is, after an opening with which ann begins
-WIRES = [((), ''), (('--delay', '80'), '_over_a_wire_with_delay'), (('--portions', '60', '--pause', '30'), '_in_pieces')]
+WIRES = [((), ''), (('--delay', '80'), '_over_a_wire_with_delay'),
+         (('--portions', '60', '--pause', '30'), '_in_pieces')]
 FAR_SCENES = [with_server(scene, '--dice', '31', *options, more=more)
               for scene in (pictures_stand_straight, a_half_typed_line_is_kept) for options, more in WIRES]
 

@@ -174,7 +174,7 @@ class Seat:
         """What a row names is kept: of two rows that belong together what both name."""
         if row.startswith(SECOND) and self.row and self.row[0] == kind:
             lines = self.row[1] + lines
-        if kind == 'wait' and self.row and self.row[0] in HINT_ALONE:
+        if kind == 'login' or kind == 'wait' and self.row and self.row[0] in HINT_ALONE:
             return
         self.row = kind, lines
 
@@ -215,11 +215,14 @@ class Seat:
         """Whether a row is right: at one moment at least, since it may cross what has just happened."""
         moments = self.moments()
         if kind in ('open', 'login'):
-            return 'right' if not self.link() or self.link().is_over or kind == 'open' else 'false'
+            # each password is right
+            return 'right' if kind == 'open' else 'false'
         if kind == 'auto':
             return 'right' if self.game.room.informed.get(self.name) else 'false'
         if kind == 'gone':
-            return 'right' if any(one.is_saved or self.name not in one.online for one in moments) else 'false'
+            # who has lost the connection in the last moment can't know that the match was over
+            may_be = self.game.room.ended or any(one.is_saved or self.name not in one.online for one in moments)
+            return 'right' if may_be else 'false'
         if kind in ('board', 'doubles'):
             return 'right' if any(one.must_act(self.name) for one in moments) else 'false'
         if kind == 'wait':
