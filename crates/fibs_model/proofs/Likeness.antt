@@ -13,4 +13,5 @@ pub mod Hearing
 pub mod Delivering
 pub mod Stepping
 pub mod Running
+pub mod Settling
 pub mod Beginning

@@ -6,6 +6,8 @@ use Rattle.fibs_position.specs.DecisionValue.{DecisionValue}
 use Rattle.fibs_history.specs.declared.refusal.Refusal.{Refusal}
 use Rattle.fibs_history.specs.Log as L
 use Rattle.fibs_history.specs.Machine.{on_wire, wire_of}
+use Rattle.fibs_history.specs.Words.{is_empty}
+use Rattle.fibs_machine.specs.Events.{Event, Serve, Deliver}
 use Rattle.fibs_model.specs.LinksOf.{LinkValue, link_at, set_link}
 use Rattle.fibs_machine.specs.Server as V
 use Rattle.fibs_position.specs.BoardEffect.{is_die}
@@ -49,6 +51,12 @@ serve_refusal links logged_in c d1 d2 =
     else (if nat_lt c logged_in || not (is_some (next_line (link_at links c).asked))
     then Some NothingToServe
     else None))
+
+-- what comes next on the wires of a connection, by what their value says
+abbrev pub next_on : LinkValue → ℕ → ℕ → ℕ → Option Event
+next_on l c d1 d2 =
+    if is_some (next_line l.asked) then Some (Serve c d1 d2)
+    else (if is_empty l.coming then None else Some (Deliver (length l.coming)))
 
 -- the server took the first len bytes that are on their way, with their line end, and this was its answer
 pub record TakesLine (old new : ServerValue) (before after : C.Link) (c len d1 d2 : ℕ) (served : V.Served)

@@ -28,3 +28,4 @@ pub mod Crossings
 pub mod Calls
 pub mod HearingOf
 pub mod WorldCalls
+pub mod Settling

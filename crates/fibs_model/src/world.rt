@@ -1,7 +1,8 @@
 //! The world: a server, a client, and the wires between them.
 
 ghost use Rattle.std.specs.Prelude.{◌≡◌, ◌≤◌, ◌≢◌, ◌↔◌, ◌++◌, ℕ, List, [], None, Some, Option, IsOk, IfOk, OnErr};
-ghost use Rattle.std.specs.Prelude.{true, IsErrOf, OnOk, length, map, take, drop, option_map, if◌then◌else◌};
+ghost use Rattle.std.specs.Prelude.{true, IsErrOf, OnOk, length, map, take, drop, option_map, slice_index};
+ghost use Rattle.std.specs.Prelude.{if◌then◌else◌};
 ghost use Rattle.std.specs.Option.{option_copied};
 ghost use Rattle.std.specs.Result.{result_err};
 ghost use Rattle.fibs_boards.specs.Board.{BoardFields};
@@ -11,6 +12,7 @@ ghost use Rattle.fibs_history.specs.Words.{last, shown, open_now};
 ghost use Rattle.fibs_commands.specs.LoginOf.{name_of, password_of};
 ghost use Rattle.fibs_commands.specs.Logins.{login_text};
 ghost use Rattle.fibs_model.specs.Crossings.{crossings_of};
+ghost use Rattle.fibs_model.specs.Settling.{Settled, settle_refusal};
 ghost use Rattle.fibs_model_server.specs.EntryOf.{entry_of};
 ghost use Rattle.fibs_model_server.specs.EventOf.{event_of};
 ghost use Rattle.fibs_machine.specs.Events as E;
@@ -31,6 +33,7 @@ mod ordering;
 mod refusing;
 mod sending;
 mod serving;
+mod settling;
 mod stepping;
 
 use crate::halt::{Halt, Stop};
@@ -203,6 +206,60 @@ impl World {
         }
         RunEnd {
             done,
+            refusal: None,
+        }
+    }
+
+    /// Brings the world to rest, with these dice: the server takes the lines of the open connection, and the bytes on
+    /// their way to the client are delivered, until there are none. Says how many events it did.
+    ///
+    /// The board that the client then shows is the one that the server has. `NotOpen` if no connection is open, then
+    /// `BadDice` if one of the two is no die; nothing is done then. `Memory` only if neither holds: the world is reached
+    /// by the events done, and a further call goes on.
+    pub fn settle(&mut self, dice: [u8; 2]) -> RunEnd
+        ensures refusal { (name password : List ℕ) (first : BoardFields) (before : List E.Event) →
+            WorldStandsAfter self.old name password first before →
+            Agrees result.refusal
+            (settle_refusal (slice_index dice 0) (slice_index dice 1) (machine_after name password first before)) }
+        ensures settles { (name password : List ℕ) (first : BoardFields) (before : List E.Event) →
+            WorldStandsAfter self.old name password first before →
+            Settled self.new name password first before (slice_index dice 0) (slice_index dice 1)
+            result.done result.refusal }
+    {
+        laws::agrees();
+        laws::can_rest();
+        match self.settle_refusal(dice) {
+            Some(why) => {
+                return RunEnd {
+                    done: 0,
+                    refusal: Some(why),
+                };
+            }
+            None => {}
+        }
+        let most = self.most_to_rest();
+        for done in 0..most {
+            let event = match self.next_to_rest(dice) {
+                Some(event) => event,
+                None => {
+                    return RunEnd {
+                        done,
+                        refusal: None,
+                    };
+                }
+            };
+            match self.step(&event) {
+                Ok(()) => {}
+                Err(why) => {
+                    return RunEnd {
+                        done,
+                        refusal: Some(why),
+                    };
+                }
+            }
+        }
+        RunEnd {
+            done: most,
             refusal: None,
         }
     }

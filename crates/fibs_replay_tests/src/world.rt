@@ -2,7 +2,7 @@
 //! after a refused growth. More histories, worked out by hand, are told by the built program: tests/worlds.
 
 use crate::boards::*;
-use crate::lines::{INFO, WELCOME};
+use crate::lines::{INFO, INFO_NO_BOARDS, WELCOME};
 use fibs_messages::Board;
 use fibs_model::{Event, World, WorldRefusal};
 use fibs_position::Decision;
@@ -24,6 +24,53 @@ fn a_text_of_two_lines_may_not_be(rt: HostRuntime) {
     let mut world = world(&rt, TO_ROLL);
     let is_refused = world.step(&Event::Text(b"a\nb")) == Err(WorldRefusal::BoardAsText);
     assert!(rt; is_refused && world.log().is_empty() && world.shown().is_none());
+}
+
+#[test]
+fn a_world_does_not_begin_with_a_board_of_others(rt: HostRuntime) {
+    let others = board(OF_OTHERS).expect(&rt, "it is a board");
+    let login = Login::new(b"ann", b"secret").expect(&rt, "it is a login");
+    let is_refused = matches!(
+        World::new(rt.alloc(), others, login),
+        Err(WorldRefusal::BadBoard)
+    );
+    assert!(rt; is_refused);
+}
+
+/// Why each of the events is refused on a world in which the user decides, if it is.
+fn refusals(world: &mut World, own: Board) -> [Option<WorldRefusal>; 7] {
+    let serve = Event::Serve {
+        conn: 1,
+        dice: [1, 1],
+    };
+    let with_no_die = Event::Serve {
+        conn: 1,
+        dice: [0, 1],
+    };
+    [
+        world.step(&Event::Own(own)).err(),
+        world.step(&Event::Text(TO_ROLL)).err(),
+        world.step(&Event::Deliver(1)).err(),
+        world.step(&serve).err(),
+        world.step(&Event::Open).err(),
+        world.step(&Event::Open).err(),
+        world.step(&with_no_die).err(),
+    ]
+}
+
+#[test]
+fn each_event_has_its_refusals(rt: HostRuntime) {
+    let mut world = world(&rt, TO_ROLL);
+    let own = board(TO_MOVE).expect(&rt, "it is a board");
+    assert!(rt; refusals(&mut world, own) == [
+        Some(WorldRefusal::UserDecides),
+        Some(WorldRefusal::BoardAsText),
+        Some(WorldRefusal::NotOpen),
+        Some(WorldRefusal::NoSuchConnection),
+        None,
+        Some(WorldRefusal::AlreadyOpen),
+        Some(WorldRefusal::BadDice),
+    ]);
 }
 
 /// How many of so many events are done, and the length of the log then, if none is refused.
@@ -152,4 +199,92 @@ fn a_run_goes_on_under_refused_memory(rt: HostRuntime) {
     let is_done = run_on(&mut world, &ordered_twice()) == (14, None);
     let is_shown = world.shown() == Some(&rolled);
     assert!(rt; is_done && is_shown && world.log().len() == 12);
+}
+
+/// Both messages are on their way, and an order will be due at the board that answers what they call for. No line is on
+/// its way to the server.
+fn before_the_longest_way() -> [Event<'static>; 5] {
+    [
+        Event::Open,
+        Event::Serve {
+            conn: 1,
+            dice: [1, 1],
+        },
+        Event::Order,
+        Event::Text(WELCOME),
+        Event::Text(INFO_NO_BOARDS),
+    ]
+}
+
+/// How many events bring the world to rest, and why one is refused.
+fn settle(world: &mut World, dice: [u8; 2]) -> (usize, Option<WorldRefusal>) {
+    let end = world.settle(dice);
+    (end.done, end.refusal)
+}
+
+/// The messages come; four answers are served; their boards come, and the order rolls; the roll is served; its board
+/// comes. A world at rest stays as it is.
+#[test]
+fn a_world_settles_by_eight_events_more_than_lines(rt: HostRuntime) {
+    let mut world = world(&rt, MUST_ROLL);
+    let rolled = board(ROLLED).expect(&rt, "it is a board");
+    let is_begun = run_in_a_row(&mut world, &before_the_longest_way()) == (5, None);
+    let is_settled = settle(&mut world, [6, 2]) == (8, None)
+        && settle(&mut world, [1, 1]) == (0, None);
+    assert!(rt; is_begun && is_settled && world.shown() == Some(&rolled));
+}
+
+/// The same as serving and delivering event by event.
+#[test]
+fn a_world_settles_after_a_second_click(rt: HostRuntime) {
+    let mut settled = world(&rt, TO_ROLL);
+    let mut stepwise = world(&rt, TO_ROLL);
+    let moves = board(TO_MOVE).expect(&rt, "it is a board");
+    let events = clicked_twice();
+    let is_begun = run_in_a_row(&mut settled, events.get(..10).unwrap_or(&[])) == (10, None);
+    let is_run = run_in_a_row(&mut stepwise, events.get(..12).unwrap_or(&[])) == (12, None);
+    let is_settled = settle(&mut settled, [6, 2]) == (2, None);
+    assert!(rt; is_begun && is_run && is_settled && are_at(&settled, &stepwise, 11, &moves));
+}
+
+/// Why a new world, and then one with a connection, does not settle with dice that are none.
+fn refusals_to_settle(world: &mut World) -> [(usize, Option<WorldRefusal>); 4] {
+    let closed = [settle(world, [1, 1]), settle(world, [0, 7])];
+    let opened = run_in_a_row(world, &[Event::Open]);
+    [closed[0], closed[1], opened, settle(world, [6, 7])]
+}
+
+#[test]
+fn a_world_settles_on_a_connection_with_dice(rt: HostRuntime) {
+    let mut world = world(&rt, TO_ROLL);
+    let refused = refusals_to_settle(&mut world);
+    let not_open = (0, Some(WorldRefusal::NotOpen));
+    assert!(rt;
+        refused
+            == [
+                not_open,
+                not_open,
+                (1, None),
+                (0, Some(WorldRefusal::BadDice))
+            ]
+    );
+}
+
+/// How many events bring the world to rest, if it goes on after a growth that is refused.
+fn settle_on(world: &mut World, dice: [u8; 2]) -> (usize, Option<WorldRefusal>) {
+    let (done, refusal) = settle(world, dice);
+    if refusal != Some(WorldRefusal::Memory) {
+        return (done, refusal);
+    }
+    let (more, refusal) = settle(world, dice);
+    (done.saturating_add(more), refusal)
+}
+
+#[test]
+fn a_world_settles_under_refused_memory(rt: HostRuntime) {
+    let mut world = world(&rt, MUST_ROLL);
+    let rolled = board(ROLLED).expect(&rt, "it is a board");
+    let is_begun = run_on(&mut world, &before_the_longest_way()) == (5, None);
+    let is_settled = settle_on(&mut world, [6, 2]) == (8, None);
+    assert!(rt; is_begun && is_settled && world.shown() == Some(&rolled));
 }

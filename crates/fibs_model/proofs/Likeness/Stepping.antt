@@ -29,7 +29,7 @@ IsTold None = Unit {0}
 IsTold (Some Memory) = ⊥
 IsTold (Some why) = Unit {0}
 
-if_told : (b : Bool) (x y : Option WorldRefusal) → IsTold x → IsTold y → IsTold (if b then x else y)
+pub if_told : (b : Bool) (x y : Option WorldRefusal) → IsTold x → IsTold y → IsTold (if b then x else y)
 if_told true x y p q = p
 if_told false x y p q = q
 
