@@ -51,6 +51,8 @@ class Engines:
         print('show: %d lines of %d bytes' % (done, size))
 
     def plays(self, boards):
+        if not boards:
+            return
         words = [fuzz.plays_word(self.rng).rstrip(b'\r') for _ in range(boards)]
         told = b''
         for word in words:
