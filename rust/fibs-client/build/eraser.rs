@@ -1,0 +1,1 @@
+../../build/eraser.rs

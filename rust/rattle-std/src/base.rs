@@ -1,0 +1,319 @@
+//! What stands for Rattle's `std` and its ports. The modules have the names that the sources use, with what Rust has alike;
+//! the rest is written by hand.
+
+pub use std::{cmp, error, fmt, hash, mem, ptr, str};
+
+pub mod alloc {
+    use std::error::Error;
+    use std::fmt;
+
+    /// Memory ran out.
+    #[derive(Clone, Copy, Debug, PartialEq, Eq)]
+    pub struct AllocError;
+
+    impl fmt::Display for AllocError {
+        fn fmt(&self, f: &mut fmt::Formatter<'_>) -> fmt::Result {
+            f.write_str("memory ran out")
+        }
+    }
+
+    impl Error for AllocError {}
+
+    /// Memory ran out for a value, which Rattle hands back. Here it is dropped, so that nothing makes one.
+    pub struct AllocFailed<T>(#[allow(dead_code)] T);
+
+    /// The allocator, which the sources name and Rust does not.
+    pub struct Global;
+}
+
+pub mod cell {
+    pub use std::cell::Cell;
+}
+
+pub mod collections {
+    pub use std::collections::{HashMap, hash_map};
+}
+
+pub mod io {
+    pub use std::io::{BufRead, BufReader, Error, ErrorKind, Read, Result, Write};
+}
+
+pub mod marker {
+    /// What a type is in Rattle's contracts: nothing is left of it.
+    pub trait Model {}
+}
+
+pub mod time {
+    pub use std::time::Duration;
+}
+
+pub mod itoa {
+    pub use itoa::{Buffer, Integer};
+
+    /// Writes the digits so that they end before `end`, and gives where they start.
+    pub fn write_digits(number: u64, text: &mut [u8], end: usize) -> usize {
+        let mut digits = Buffer::new();
+        let digits = digits.format(number).as_bytes();
+        let start = end - digits.len();
+        text[start..end].copy_from_slice(digits);
+        start
+    }
+}
+
+/// The calls that take memory, and may fail.
+pub mod may {
+    use super::alloc::AllocError;
+    use indexmap::IndexMap;
+    use std::collections::HashMap;
+    use std::collections::hash_map::Entry;
+    use std::hash::{BuildHasher, Hash};
+
+    pub trait MayVec<T>: Sized {
+        fn may_push(&mut self, item: T) -> Result<(), AllocError>;
+        fn may_reserve(&mut self, more: usize) -> Result<(), AllocError>;
+        fn may_reserve_exact(&mut self, more: usize) -> Result<(), AllocError>;
+        fn may_with_capacity(capacity: usize) -> Result<Self, AllocError>;
+        fn may_push_reserved(&mut self, item: T);
+    }
+
+    impl<T> MayVec<T> for Vec<T> {
+        #[inline]
+        fn may_push(&mut self, item: T) -> Result<(), AllocError> {
+            if self.len() == self.capacity() {
+                self.may_reserve(1)?;
+            }
+            self.push(item);
+            Ok(())
+        }
+
+        #[inline]
+        fn may_reserve(&mut self, more: usize) -> Result<(), AllocError> {
+            self.try_reserve(more).map_err(|_| AllocError)
+        }
+
+        fn may_reserve_exact(&mut self, more: usize) -> Result<(), AllocError> {
+            self.try_reserve_exact(more).map_err(|_| AllocError)
+        }
+
+        fn may_with_capacity(capacity: usize) -> Result<Vec<T>, AllocError> {
+            let mut items = Vec::new();
+            items.may_reserve_exact(capacity)?;
+            Ok(items)
+        }
+
+        #[inline]
+        fn may_push_reserved(&mut self, item: T) {
+            self.push(item);
+        }
+    }
+
+    /// Vectors of values that are copied.
+    pub trait MayCopies<T>: Sized {
+        fn may_extend_from_slice(&mut self, items: &[T]) -> Result<(), AllocError>;
+        fn may_from_slice(items: &[T]) -> Result<Self, AllocError>;
+    }
+
+    impl<T: Copy> MayCopies<T> for Vec<T> {
+        #[inline]
+        fn may_extend_from_slice(&mut self, items: &[T]) -> Result<(), AllocError> {
+            self.may_reserve(items.len())?;
+            self.extend_from_slice(items);
+            Ok(())
+        }
+
+        fn may_from_slice(items: &[T]) -> Result<Vec<T>, AllocError> {
+            let mut copy = Vec::may_with_capacity(items.len())?;
+            copy.extend_from_slice(items);
+            Ok(copy)
+        }
+    }
+
+    pub trait MaySlice<T> {
+        fn may_to_vec(&self) -> Result<Vec<T>, AllocError>;
+    }
+
+    impl<T: Copy> MaySlice<T> for [T] {
+        fn may_to_vec(&self) -> Result<Vec<T>, AllocError> {
+            Vec::may_from_slice(self)
+        }
+    }
+
+    pub trait MayIterator: Iterator + Sized {
+        fn may_collect(self) -> Result<Vec<Self::Item>, AllocError> {
+            let mut items = Vec::may_with_capacity(self.size_hint().0)?;
+            for item in self {
+                items.may_push(item)?;
+            }
+            Ok(items)
+        }
+    }
+
+    impl<I: Iterator> MayIterator for I {}
+
+    pub trait MayHashMap<K, V>: Sized {
+        fn may_with_capacity(capacity: usize) -> Result<Self, AllocError>;
+        fn may_entry(&mut self, key: K) -> Result<Entry<'_, K, V>, AllocError>;
+    }
+
+    impl<K: Eq + Hash, V, S: BuildHasher + Default> MayHashMap<K, V> for HashMap<K, V, S> {
+        fn may_with_capacity(capacity: usize) -> Result<Self, AllocError> {
+            let mut map = HashMap::with_hasher(S::default());
+            map.try_reserve(capacity).map_err(|_| AllocError)?;
+            Ok(map)
+        }
+
+        fn may_entry(&mut self, key: K) -> Result<Entry<'_, K, V>, AllocError> {
+            self.try_reserve(1).map_err(|_| AllocError)?;
+            Ok(self.entry(key))
+        }
+    }
+
+    pub trait MayIndexMap<K, V> {
+        fn may_insert(&mut self, key: K, value: V) -> Result<Option<V>, AllocError>;
+    }
+
+    impl<K: Eq + Hash, V, S: BuildHasher> MayIndexMap<K, V> for IndexMap<K, V, S> {
+        /// Version 1 of the crate can't refuse: it ends the process if memory runs out, as `may_box` does.
+        fn may_insert(&mut self, key: K, value: V) -> Result<Option<V>, AllocError> {
+            Ok(self.insert(key, value))
+        }
+    }
+
+    /// Stable Rust has no box that may fail: this one ends the process if memory runs out.
+    pub fn may_box<T>(value: T) -> Result<Box<T>, AllocError> {
+        Ok(Box::new(value))
+    }
+}
+
+/// The part of `std::simd` that is used, which stable Rust has not. The compiler makes lanes of it.
+#[allow(non_camel_case_types)]
+pub mod simd {
+    pub mod prelude {
+        pub use super::{Simd, u8x16, u8x32};
+    }
+
+    use std::ops::BitOr;
+
+    #[derive(Clone, Copy)]
+    pub struct Simd<T, const N: usize>([T; N]);
+
+    pub type u8x16 = Simd<u8, 16>;
+    pub type u8x32 = Simd<u8, 32>;
+
+    /// 255 or 0 for each lane.
+    #[derive(Clone, Copy)]
+    pub struct Mask<const N: usize>([u8; N]);
+
+    impl<T: Copy, const N: usize> Simd<T, N> {
+        #[inline(always)]
+        pub fn splat(value: T) -> Self {
+            Simd([value; N])
+        }
+
+        #[inline(always)]
+        pub fn from_slice(items: &[T]) -> Self {
+            Simd(*items.first_chunk::<N>().unwrap())
+        }
+
+        #[inline(always)]
+        pub fn to_array(self) -> [T; N] {
+            self.0
+        }
+    }
+
+    impl Simd<u16, 1> {
+        #[inline(always)]
+        pub fn from_le_bytes(bytes: Simd<u8, 2>) -> Self {
+            Simd([u16::from_le_bytes(bytes.0)])
+        }
+    }
+
+    impl<const N: usize> Simd<u8, N> {
+        #[inline(always)]
+        fn compared(self, other: Self, holds: impl Fn(u8, u8) -> bool) -> Mask<N> {
+            let mut lanes = [0; N];
+            for i in 0..N {
+                lanes[i] = if holds(self.0[i], other.0[i]) { 255 } else { 0 };
+            }
+            Mask(lanes)
+        }
+
+        #[inline(always)]
+        pub fn simd_lt(self, other: Self) -> Mask<N> {
+            self.compared(other, |a, b| a < b)
+        }
+
+        #[inline(always)]
+        pub fn simd_gt(self, other: Self) -> Mask<N> {
+            self.compared(other, |a, b| a > b)
+        }
+
+        #[inline(always)]
+        pub fn simd_eq(self, other: Self) -> Mask<N> {
+            self.compared(other, |a, b| a == b)
+        }
+    }
+
+    impl<const N: usize> BitOr for Mask<N> {
+        type Output = Self;
+
+        #[inline(always)]
+        fn bitor(self, other: Self) -> Self {
+            let mut lanes = self.0;
+            for i in 0..N {
+                lanes[i] |= other.0[i];
+            }
+            Mask(lanes)
+        }
+    }
+
+    impl<const N: usize> Mask<N> {
+        /// Bit k is set if lane k is.
+        #[inline(always)]
+        pub fn to_bitmask(self) -> u64 {
+            let mut mask = 0;
+            for (i, lanes) in self.0.chunks_exact(16).enumerate() {
+                mask |= bits_of(lanes.first_chunk().unwrap()) << (16 * i);
+            }
+            mask
+        }
+    }
+
+    /// The highest bit of each of 16 bytes.
+    #[cfg(target_arch = "x86_64")]
+    #[inline(always)]
+    #[allow(unsafe_code)]
+    fn bits_of(lanes: &[u8; 16]) -> u64 {
+        use std::arch::x86_64::{_mm_loadu_si128, _mm_movemask_epi8};
+        // SAFETY: each processor of this architecture has SSE2, and the pointer is to 16 bytes.
+        unsafe { _mm_movemask_epi8(_mm_loadu_si128(lanes.as_ptr().cast())) as u16 as u64 }
+    }
+
+    /// The lowest bit of each of 16 bytes.
+    #[cfg(not(target_arch = "x86_64"))]
+    #[inline(always)]
+    fn bits_of(lanes: &[u8; 16]) -> u64 {
+        let byte = |lanes: &[u8]| {
+            let ones = u64::from_le_bytes(*lanes.first_chunk().unwrap()) & 0x0101_0101_0101_0101;
+            ones.wrapping_mul(0x0102_0408_1020_4080) >> 56
+        };
+        byte(lanes) | byte(&lanes[8..]) << 8
+    }
+
+    #[cfg(test)]
+    mod tests {
+        use super::*;
+
+        #[test]
+        fn a_mask_has_a_bit_for_each_lane() {
+            for lane in 0..32 {
+                let mut bytes = [7; 32];
+                bytes[lane] = 200;
+                let window = u8x32::from_slice(&bytes);
+                assert_eq!(window.simd_gt(u8x32::splat(7)).to_bitmask(), 1 << lane);
+                assert_eq!(window.simd_lt(u8x32::splat(8)).to_bitmask(), 0xffff_ffff ^ (1 << lane));
+                assert_eq!(window.simd_eq(u8x32::splat(200)).to_bitmask(), 1 << lane);
+            }
+        }
+    }
+}

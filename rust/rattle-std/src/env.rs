@@ -1,0 +1,22 @@
+//! `std::env` of Rattle: the words of the command line and the environment, which are text.
+
+use crate::HostRuntime;
+use crate::runtime::spare_memory;
+use std::io::{Error, ErrorKind};
+
+pub use std::env::VarError;
+
+/// The words of the command line; an error if one of them is not text.
+pub fn args(_rt: &HostRuntime) -> Result<std::vec::IntoIter<String>, Error> {
+    spare_memory()?;
+    let words: Result<Vec<String>, _> = std::env::args_os().map(|word| word.into_string()).collect();
+    match words {
+        Ok(words) => Ok(words.into_iter()),
+        Err(_) => Err(ErrorKind::InvalidData.into()),
+    }
+}
+
+/// A variable; an error if it is not there, or not text.
+pub fn var(_rt: &HostRuntime, name: &str) -> Result<String, VarError> {
+    std::env::var(name)
+}
