@@ -46,7 +46,7 @@ AgreesHolds =
     → BoardsAgree (acts_after (login_text name password) first events)
     (world_after (login_text name password) first events)
 
--- and so does this
+-- and at rest without a board shown the client sent its login alone, under the same premises
 abbrev pub OnlyLoginHolds : Type 0
 OnlyLoginHolds =
     (name password : List ℕ) (first : BoardFields) (events : List Event) → IsLogin name password → IsGood first

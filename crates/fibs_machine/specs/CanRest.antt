@@ -31,7 +31,7 @@ WithDice d1 d2 (e ∷ later) = WithDice d1 d2 later
 abbrev pub asked_now : World → List ℕ
 asked_now w = (w.links (open_now w.log)).asked
 
--- and to the client
+-- the bytes on their way on it, to the client
 abbrev pub coming_now : World → List ℕ
 coming_now w = (w.links (open_now w.log)).coming
 
@@ -52,7 +52,7 @@ pub record ComesToRest (login : List ℕ) (first : BoardFields) (before : List E
   pub few : (lines : List (List ℕ)) → AreLines (asked_now (world_after login first before)) lines
       → length events ≤ length lines + 8
 
--- of the world after a list of events, in which a connection is open
+-- what holds of the world after a list of events, in which a connection is open
 pub record CanRest (login : List ℕ) (first : BoardFields) (before : List Event) : Type 0 where
   -- it comes to rest by such events, whatever the dice;
   pub rest : (d1 d2 : ℕ) → IsDie d1 → IsDie d2 → ComesToRest login first before d1 d2
@@ -83,7 +83,7 @@ abbrev pub EachNext : List ℕ → ℕ → ℕ → World → List Event → Type
 EachNext login d1 d2 w [] = Unit {0}
 EachNext login d1 d2 w (e ∷ later) = (next_to_rest d1 d2 w ≡ Some e) × EachNext login d1 d2 (after login w e) later
 
--- such events after a list of events
+-- what such events after a list of events lead to
 pub record LeadsToRest (login : List ℕ) (first : BoardFields) (before : List Event) (d1 d2 : ℕ) (events : List Event)
     : Type 0 where
   pub only_wires : OnlyWires (open_now (world_after login first before).log) events
