@@ -607,7 +607,9 @@ def output_that_cannot_be_written(server):
     with open('/dev/full', 'wb') as full:
         done = subprocess.run([PROGRAM, 'connect', '127.0.0.1', str(free_port()), 'ann'], input=b'secret\n',
                               stdout=full, stderr=subprocess.PIPE, timeout=PATIENCE)
-        same('the run', (done.returncode, done.stderr), (4, b'fibs: device\n'))
+        same('the run', (done.returncode, done.stderr),
+             (4, b'fibs: device\nfibs: standard output: no space left on device\n'))
+    # nobody wants to know more of a pipe whose reader has gone
     read_end, write_end = os.pipe()
     program = subprocess.Popen([PROGRAM, 'connect', '127.0.0.1', str(server.port), 'ann'], stdin=subprocess.PIPE,
                                stdout=write_end, stderr=subprocess.PIPE)
@@ -618,7 +620,7 @@ def output_that_cannot_be_written(server):
     server.accept()
     server.send('12 bob hi')
     _, said = program.communicate(b'\n', PATIENCE)
-    same('the run', (program.returncode, said), (4, b'fibs: device\n'))
+    same('the run', (program.returncode, said), (4, b''))
 
 
 def input_that_cannot_be_read(_server):
@@ -626,7 +628,53 @@ def input_that_cannot_be_read(_server):
     done = subprocess.run([PROGRAM, 'connect', '127.0.0.1', '4321', 'ann'], stdin=folder, capture_output=True,
                           timeout=PATIENCE)
     os.close(folder)
-    same('the run', (done.returncode, done.stdout, done.stderr), (4, b'', b'fibs: device\n'))
+    same('the run', (done.returncode, done.stdout, done.stderr),
+         (4, b'', b'fibs: device\nfibs: standard input: it is a directory\n'))
+
+
+# How a shell closes each standard stream, and what is said of it.
+CLOSED = {0: ('<&-', 'standard input'), 1: ('>&-', 'standard output'), 2: ('2>&-', '')}
+
+
+def streams_that_are_closed(server):
+    """Whichever of the three: a connection is none of them. What is printed does not go to the server, nor to a log,
+    and what the server says is no typed line."""
+    rows = [[fd for fd in CLOSED if number >> fd & 1] for number in range(1, 8)]
+    for closed in rows:
+        with tempfile.TemporaryDirectory() as room:
+            password, log = os.path.join(room, 'password'), os.path.join(room, 'log')
+            with open(password, 'w') as file:
+                file.write('secret\n')
+            words = [PROGRAM, 'connect', '--password-file', password, '--log', log, '127.0.0.1', str(server.port), 'ann']
+            program = subprocess.Popen(['sh', '-c', 'exec "$@" ' + ' '.join(CLOSED[fd][0] for fd in closed), 'sh', *words],
+                                       stdin=subprocess.PIPE, stdout=subprocess.PIPE, stderr=subprocess.PIPE)
+            server.accept()
+            same('the login without %s' % closed, server.line(), LOGIN)
+            if 0 not in closed:
+                # it waits for a typed line
+                same('what is in place of %s' % closed,
+                     {os.readlink('/proc/%d/fd/%d' % (program.pid, fd)) for fd in closed}, {'/dev/null'})
+            server.send('who', 'say obeyed', WELCOME)
+            # an empty line hears the server
+            printed, said = program.communicate(b'\n\nquit\n', PATIENCE)
+            try:
+                while server.line() is not None:
+                    pass
+            except ConnectionResetError:
+                # it ended before it had read all
+                pass
+            heard, failed = 0 not in closed, 0 in closed or 1 in closed
+            received = [LOGIN, STYLE] if heard and 1 not in closed else [LOGIN]
+            # without an output it ends at the first line that it can't print
+            same('received without %s' % closed, server.received, received)
+            same('printed without %s' % closed, printed.decode(),
+                 '' if failed else 'text who\ntext say obeyed\nmessage %s\n' % WELCOME)
+            why = 'fibs: device\nfibs: %s: it is closed\n' % CLOSED[closed[0]][1] if failed and 2 not in closed else ''
+            same('the end without %s' % closed, (program.returncode, said.decode()), (4 if failed else 0, why))
+            with open(log) as file:
+                kept = file.read()
+            same('the log without %s' % closed, [line for line in kept.split('\n') if 'text ' in line], [])
+            server.received.clear()
 
 
 CASES = [
@@ -641,6 +689,7 @@ CASES = [
     a_quiet_server_is_waited_for_half_a_second, stopped_while_the_server_is_heard, stopped_while_a_line_is_waited_for,
     stopped_while_it_connects, an_address_that_does_not_answer, stopped_while_it_writes,
     long_and_odd_lines, a_line_that_is_typed_in_parts, output_that_cannot_be_written, input_that_cannot_be_read,
+    streams_that_are_closed,
 ]
 
 

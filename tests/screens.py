@@ -41,6 +41,9 @@ LOGIN = 'login fibs_client 1008 ann ' + PASSWORD
 
 STYLE = 'set boardstyle 3'
 
+# What a person is told of a password that is not valid.
+NO_PASSWORD = 'A password has printable ASCII characters, at least one, no space. [2 BadText]'
+
 WELCOME = '1 ann 1041253132 localhost'
 
 # What is shown when it is the player's turn, and of what was typed: at a terminal, and to a program.
@@ -333,8 +336,9 @@ def the_question_ends(server):
     rows = [
         (b'\x03', 130, 'password: \n'), (b'\x1c', 131, 'password: \n'), (b'\x04', 0, 'password: \n'),
         (signal.SIGTERM, 143, 'password: \n'), (signal.SIGHUP, 129, 'password: \n'),
-        (b'hun\x03', 130, 'password: \n'), (b'\n', 3, 'password: \nfault 2 BadText\n'),
-        (b'a b\n', 3, 'password: \nfault 2 BadText\n'), (b'a' * 65 + b'\n', 3, 'password: \nfault 3 TooLong\n'),
+        (b'hun\x03', 130, 'password: \n'), (b'\n', 3, 'password: \n%s\n' % NO_PASSWORD),
+        (b'a b\n', 3, 'password: \n%s\n' % NO_PASSWORD),
+        (b'a' * 65 + b'\n', 3, 'password: \nA password has at most 64 characters. [3 TooLong]\n'),
     ]
     for shell in SHELLS:
         for given, status, wanted in rows:
@@ -472,6 +476,54 @@ def a_wrong_password(server):
     player.sees('[3 NotReady]')
     server.drop()
     player.sees('lost')
+    player.type('quit')
+    player.ends(0)
+
+
+def names_and_passwords_that_are_none(server):
+    """A person is told in words why he can't log in so; a program reads the number and the name."""
+    rows = [('ann', '', NO_PASSWORD), ('ann', 'a b', NO_PASSWORD), ('ann', '\xfc', NO_PASSWORD),
+            ('ann', 'a' * 65, 'A password has at most 64 characters.'),
+            ('a:b', 'secret', 'A name has 1 to 64 printable ASCII characters')]
+    for name, password, words in rows:
+        player = Terminal([PROGRAM, 'connect', '127.0.0.1', str(server.port), name])
+        player.sees('password: ')
+        player.type(password)
+        player.ends(3)
+        same('words for %r, %r' % (name, password), (words in player.screen(), 'fault' in player.screen()), (True, False))
+        player.close()
+    no_login(server)
+
+
+def the_login_is_asked_for_in_any_cut(server):
+    """It was sent already, and the answer takes its time: nothing is wrong yet, however the question comes."""
+    full = [b'x' * count + b'\r\nlogin: ' for count in range(1014, 1024)]
+    rows = [[b'Hello.\r\nlog', b'in: '], [b'Hello.\r\nlogin:', b' '], [b'login: \xff\xf1'], [b'login: ', b'\xff\xf1'],
+            *[[piece] for piece in full]]
+    for pieces in rows:
+        player = at_a_terminal(server)
+        for piece in pieces:
+            time.sleep(0.1)
+            server.send_bytes(piece)
+        time.sleep(0.3)
+        server.send(WELCOME)
+        player.sees('Welcome, ann')
+        same('what is wrong after %r' % pieces[-1][-12:], 'Not logged in' in player.screen(), False)
+        player.close()
+        server.received.clear()
+
+
+def a_wrong_password_while_others_come_and_go(server):
+    """Nothing hides that the login was refused, and what came meanwhile is shown."""
+    player = at_a_terminal(server)
+    server.send_bytes(b'login: ')
+    for line in '7 bob bob logs in.', '8 eve eve drops connection.':
+        time.sleep(0.5)
+        server.send(line)
+    player.sees('Not logged in: wrong name or password?')
+    server.send('12 bob hi')
+    player.sees('bob logs in.', 'eve drops connection.', 'bob says: hi')
+    same('how often', player.screen().count('Not logged in'), 1)
     player.type('quit')
     player.ends(0)
 
@@ -763,6 +815,7 @@ CASES = [
     words_are_completed, the_question_ends, a_stop_does_not_show_the_password, a_game_ends,
     the_password_is_in_no_list_of_processes, fibs_play_without_a_terminal, a_password_from_a_file,
     password_files_that_are_none, the_program_itself_asks_for_the_password, a_wrong_password,
+    names_and_passwords_that_are_none, the_login_is_asked_for_in_any_cut, a_wrong_password_while_others_come_and_go,
     the_picture_of_the_pages, a_capture_is_drawn, plays_below_their_board, forty_columns,
     boards_of_every_malformed_kind, odd_boards, twenty_boards_in_a_second, heard_while_nothing_is_typed,
     a_server_that_never_stops_talking, eight_megabytes_at_once,

@@ -327,9 +327,10 @@ def the_header_and_the_package_mean_the_same(_program):
 
 
 def the_words_of_a_terminal_mean_the_same(_program):
-    words = text_of('crates/fibs_wording/src/reasons.rt')
-    for name, table in ('Refusal', meanings.REFUSALS), ('PlainFault', meanings.FAULTS):
-        rows = re.findall(r'^ +%s::(\w+) => b"(.*)",' % name, words, re.M)
+    words, _, logins = text_of('crates/fibs_wording/src/reasons.rt').partition('fn login_words')
+    for name, table, code in (('Refusal', meanings.REFUSALS, words), ('PlainFault', meanings.FAULTS, words),
+                              ('PlainFault', meanings.LOGINS, logins)):
+        rows = re.findall(r'^ +%s::(\w+) =>\s+(?:\{\s+)?b"(.*)"' % name, code, re.M)
         same(name, [one for one, _said in rows], [row[1] for row in table])
         held('a terminal', [([one], said) for one, said in rows], {one: meaning for _number, one, meaning in table})
 

@@ -69,6 +69,12 @@ FAULTS = [
     (3, 'TooLong', r'text.*(400|too many)'),
 ]
 
+# Of a login, what a text may not be and how long it may be is another thing; its name is as any other.
+LOGINS = [
+    (2, 'BadText', r'password.*printable'),
+    (3, 'TooLong', r'password.*64'),
+]
+
 POSITIONS = [
     (1, 'NotYou', r'`You`|watch'),
     (2, 'TooManyOwn', r'the player.*15'),

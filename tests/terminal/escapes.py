@@ -1,10 +1,14 @@
 """Servers that flood, and that send what a terminal would obey."""
 
+import datetime
+import os
 import random
+import shutil
 import socket
 import tempfile
 import threading
 import time
+import zoneinfo
 
 import people  # noqa: F401
 from people import Failed, PATIENCE, PROGRAM, Person, Terminal, same
@@ -248,6 +252,9 @@ ENVIRONMENTS = [
     ({'LC_ALL': '', 'LC_CTYPE': '', 'LANG': 'C.UTF-8'}, False, AS_IT_IS, THEN),
     ({'LC_ALL': 'en_US.utf8'}, False, AS_IT_IS, THEN),
     ({'TZ': 'XYZ-5'}, False, ESCAPED, '17:58'),
+    # a name that leads out of the place of the zones is none, and so is one that is not there
+    ({'TZ': '../zoneinfo/Asia/Tokyo'}, False, ESCAPED, THEN),
+    ({'TZ': 'Nowhere/Nothing'}, False, ESCAPED, THEN),
     ({'COLUMNS': '0'}, False, ESCAPED, THEN),
 ]
 
@@ -267,6 +274,44 @@ def what_the_environment_says(server):
         ann.type('quit')
         ann.ends(0)
         ann.close()
+
+
+# Where the system has its time zones.
+ZONES = '/usr/share/zoneinfo'
+
+# What `TZ` says, and the zone that it names: north and south, with and without a summer time, and half an hour off.
+PLACES = [('Europe/Berlin', 'Europe/Berlin'), (':America/New_York', 'America/New_York'),
+          ('Australia/Sydney', 'Australia/Sydney'), (':Asia/Kolkata', 'Asia/Kolkata'),
+          (ZONES + '/America/St_Johns', 'America/St_Johns'), (':%s/Asia/Tokyo' % ZONES, 'Asia/Tokyo'), ('UTC', 'UTC')]
+
+# Winter, summer, and the seconds about the change of the clock in Berlin, New York and Sydney.
+TIMES = [1041253132, 1057000000, 1743296399, 1743296400, 1762063199, 1762063200, 1743868799, 1743868800, 0]
+
+
+@with_server
+def the_clock_of_the_place(server):
+    """By what Python says of the same zones; also if the zones are elsewhere."""
+    if not os.path.isdir(ZONES):
+        print('        without time zones: not tried', flush=True)
+        return
+    with tempfile.TemporaryDirectory() as room:
+        shutil.copy(os.path.join(ZONES, 'Asia', 'Kathmandu'), os.path.join(room, 'here'))
+        for more, name in [*(({'TZ': tz}, name) for tz, name in PLACES),
+                           ({'TZ': 'here', 'TZDIR': room}, 'Asia/Kathmandu')]:
+            ann = greeted(server, **more)
+            server.send(*['9 bob %d at %d' % (time, time) for time in TIMES])
+            for then in TIMES:
+                shown = datetime.datetime.fromtimestamp(then, zoneinfo.ZoneInfo(name))
+                wanted = '%d %s %d, %02d:%02d' % (shown.day, shown.strftime('%B'), shown.year, shown.hour, shown.minute)
+                same('%r at %d' % (more, then), ann.reads(' at %d' % then), 'bob left a message on %s: at %d' % (wanted, then))
+            server.send('12 bob hi')
+            hour = datetime.datetime.now(zoneinfo.ZoneInfo(name))
+            said = ann.reads('bob says: hi').split(' ')[0]
+            ways = {(hour + datetime.timedelta(minutes=late)).strftime('%H:%M') for late in (-1, 0, 1)}
+            same('%s, the time of talk, is one of %s' % (said, ways), said in ways, True)
+            ann.type('quit')
+            ann.ends(0)
+            ann.close()
 
 
 def a_password_that_is_typed():
@@ -304,12 +349,14 @@ def a_password_that_is_asked_for_beside_the_output():
 
 
 def what_show_says_at_a_terminal():
-    """What is left over at the end of its input; what is too long is a text; and an input that can't be read."""
+    """What is left over at the end of its input; what is too long is a text; and an input that can't be read. Nobody knows
+    when the talk was said."""
     rows = [
-        (b'12 bob hi\nhalf', ['bob says: hi\n', 'unfinished 4\n'], [], 0),
+        (b'12 bob hi\nhalf', ['bob says: hi\n', 'unfinished 4\n'], [' bob says'], 0),
+        (b'text\n16 bob hi\n', ['text\nYou say to bob: hi\n'], [], 0),
         (b'12 bob hi\n', ['bob says: hi\n'], ['unfinished'], 0),
         (b'12 bob ' + b'a' * 16384 + b'\n', ['12 bob aaa'], ['says'], 0),
-        (None, ['fibs: device\n'], [], 4),
+        (None, ['fibs: device\nfibs: standard input: it is a directory\n'], [], 4),
     ]
     for given, wanted, never, status in rows:
         with tempfile.NamedTemporaryFile() as file:
@@ -326,5 +373,5 @@ def what_show_says_at_a_terminal():
 SCENES = [a_million_lines, letters_of_other_scripts, what_is_malformed_is_shown, a_flood_does_not_hold_a_typed_line,
           a_host_of_which_one_address_alone_answers, lines_that_are_pasted_are_all_answered,
           nothing_typed_is_lost_when_a_line_comes, the_server_is_heard_after_a_stop, a_server_that_is_slow_to_log_in,
-          what_the_environment_says, a_password_that_is_typed, a_password_that_is_asked_for_beside_the_output,
+          what_the_environment_says, the_clock_of_the_place, a_password_that_is_typed, a_password_that_is_asked_for_beside_the_output,
           what_show_says_at_a_terminal]

@@ -4,7 +4,8 @@
 use fibs_arguments::{Answer, Request};
 use fibs_cli::{READ_MILLIS, program};
 use fibs_engine::fault::EngineFault;
-use fibs_player::Call;
+use fibs_engine::standard::take_closed;
+use fibs_player::{Call, Streams};
 use std::env;
 use std::io::{ErrorKind, IsTerminal};
 use std::process::ExitCode;
@@ -14,24 +15,47 @@ use std::time::Duration;
 const UNREADABLE: &str = "error: an argument is not UTF-8 text\n";
 
 fn main(rt: HostRuntime) -> ExitCode {
-    let ending = run(&rt);
-    ExitCode::from(program::status(ending, &mut rt.stderr()))
+    if take_closed(&rt).is_err() {
+        return ExitCode::from(program::status(Err(EngineFault::Device), &mut rt.stderr()));
+    }
+    let mut streams = Streams::new(&rt);
+    let ending = run(&rt, &mut streams);
+    ExitCode::from(end(&rt, &streams, ending))
+}
+
+/// The exit status. If a device failed it says which and why; of a pipe whose reader has gone it says nothing.
+fn end(rt: &HostRuntime, streams: &Streams, ending: Result<u8, EngineFault>) -> u8 {
+    let mut err = rt.stderr();
+    match ending {
+        Err(EngineFault::Device) if streams.is_unread() => EngineFault::Device.status(),
+        Err(EngineFault::Device) => {
+            let status = program::status(ending, &mut err);
+            // if it can't be printed, the status alone says it
+            let _said = streams.say_trouble(&mut err);
+            status
+        }
+        ending => program::status(ending, &mut err),
+    }
 }
 
 /// Reads the command line, and does what it calls for on the standard streams.
-fn run(rt: &HostRuntime) -> Result<u8, EngineFault> {
+fn run(rt: &HostRuntime, streams: &mut Streams) -> Result<u8, EngineFault> {
     let alloc = rt.alloc();
     let words = words(rt)?;
     let answer = match &words {
         Some(words) => fibs_arguments::read(alloc, words.as_slice()),
         None => Answer::Refused(String::from_str(alloc, UNREADABLE)?),
     };
-    carry_out(rt, &answer)
+    carry_out(rt, streams, &answer)
 }
 
 /// Does what a command line asks for: as a person is shown it if the standard output is a terminal, else as the engines
 /// print it.
-fn carry_out(rt: &HostRuntime, answer: &Answer<'_>) -> Result<u8, EngineFault> {
+fn carry_out(
+    rt: &HostRuntime,
+    streams: &mut Streams,
+    answer: &Answer<'_>,
+) -> Result<u8, EngineFault> {
     match answer {
         Answer::Engine(
             Request::Connect {
@@ -49,13 +73,13 @@ fn carry_out(rt: &HostRuntime, answer: &Answer<'_>) -> Result<u8, EngineFault> {
                 password_file: *password_file,
                 log: *log,
             };
-            return fibs_player::connect(rt, call);
+            return fibs_player::connect(rt, streams, call);
         }
         Answer::Engine(Request::Show) if rt.stdout().is_terminal() => {
-            return fibs_player::show(rt);
+            return fibs_player::show(rt, streams);
         }
         Answer::Engine(Request::Plays(line)) if rt.stdout().is_terminal() => {
-            fibs_player::draw(rt, line.as_bytes())?;
+            fibs_player::draw(rt, streams, line.as_bytes())?;
         }
         _ => {}
     }
@@ -64,8 +88,8 @@ fn carry_out(rt: &HostRuntime, answer: &Answer<'_>) -> Result<u8, EngineFault> {
         rt.alloc(),
         answer,
         Duration::from_millis(READ_MILLIS),
-        &mut rt.stdin(),
-        &mut rt.stdout(),
+        &mut streams.input,
+        &mut streams.out,
         &mut rt.stderr(),
     )
 }

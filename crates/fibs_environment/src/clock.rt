@@ -1,7 +1,7 @@
 //! What a clock and a calendar show.
 
+use crate::zone::Zone;
 use jiff::Timestamp;
-use jiff::tz::Offset;
 
 /// The latest time that is shown, in seconds since 1970: it is in the year 9987.
 const LATEST: u64 = 253_000_000_000;
@@ -22,14 +22,14 @@ pub struct ClockTime {
 }
 
 impl ClockTime {
-    /// What the clock shows at a time, which is in seconds since 1970, in a place that is so many seconds ahead of UTC.
-    /// None if the time is later than the calendar goes, or the place too far ahead or behind.
-    pub fn at(seconds: u64, offset: i32) -> Option<ClockTime> {
+    /// What the clock of a zone shows at a time, which is in seconds since 1970. None if the time is later than the
+    /// calendar goes.
+    pub fn at(seconds: u64, zone: &Zone<'_>) -> Option<ClockTime> {
         if seconds > LATEST {
             return None;
         }
         let timestamp = Timestamp::from_second(seconds as i64).ok()?;
-        let shown = Offset::from_seconds(offset).ok()?.to_datetime(timestamp);
+        let shown = zone.rules.to_datetime(timestamp);
         Some(ClockTime {
             year: shown.year().unsigned_abs(),
             month: shown.month().unsigned_abs(),

@@ -1,8 +1,7 @@
 //! What the environment says of a terminal.
 
 use crate::settings::Settings;
-use jiff::tz::{SystemTimeZone, TimeZoneDatabase};
-use jiff::{Error, Timestamp};
+use crate::zone::Zone;
 use std::env;
 
 /// The columns of a terminal if the environment does not say them.
@@ -59,31 +58,20 @@ fn is_utf8(rt: &HostRuntime) -> bool {
     false
 }
 
-/// How many seconds local time is ahead of UTC; 0 if that is not known.
-fn offset(rt: &HostRuntime) -> i32 {
-    match offset_now(rt) {
-        Ok(seconds) => seconds,
-        Err(_) => 0,
-    }
-}
-
-/// The same by the system's time zone, now.
-fn offset_now(rt: &HostRuntime) -> Result<i32, Error> {
-    let system = SystemTimeZone::read(rt)?;
-    let names = TimeZoneDatabase::new(rt.alloc());
-    let zone = system.time_zone(&names)?;
-    Ok(zone.to_offset(Timestamp::now(rt)?).seconds())
-}
-
-/// The settings of the terminal at which a person talks with this server.
-pub fn terminal_settings<'a>(rt: &HostRuntime, host: &'a str, port: u16) -> Settings<'a> {
+/// The settings of the terminal at which a person talks with this server, by the clock of this zone.
+pub fn terminal_settings<'a>(
+    rt: &HostRuntime,
+    zone: Zone<'a>,
+    host: &'a str,
+    port: u16,
+) -> Settings<'a> {
     let dumb = is(rt, "TERM", "dumb") || !is_set(rt, "TERM");
     Settings {
         columns: number(rt, "COLUMNS", COLUMNS),
         colour: !dumb && !is_set(rt, "NO_COLOR"),
         bell: !is_set(rt, "FIBS_QUIET"),
         utf8: is_utf8(rt),
-        offset: offset(rt),
+        zone,
         host: host.as_bytes(),
         port,
     }

@@ -4,7 +4,9 @@
 mod clock;
 mod environment;
 mod settings;
+mod zone;
 
 pub use clock::ClockTime;
 pub use environment::terminal_settings;
 pub use settings::Settings;
+pub use zone::{Place, Zone};

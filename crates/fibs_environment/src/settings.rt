@@ -1,5 +1,7 @@
 //! What a terminal is.
 
+use crate::zone::Zone;
+
 /// What kind of terminal it is, as the environment says, and the address of the server.
 #[derive(Clone, Copy)]
 pub struct Settings<'a> {
@@ -11,8 +13,8 @@ pub struct Settings<'a> {
     pub bell: bool,
     /// Whether it shows letters beyond ASCII, as UTF-8.
     pub utf8: bool,
-    /// How many seconds the clock of the place is ahead of UTC.
-    pub offset: i32,
+    /// The clock of the place.
+    pub zone: Zone<'a>,
     /// The server's name.
     pub host: &'a [u8],
     /// The server's port.

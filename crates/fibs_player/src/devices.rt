@@ -1,17 +1,19 @@
 //! The program on its devices: what a person types and sees. If standard output is a pipe or a file, it gets the plain
 //! account.
 
-use crate::playing::play;
+use crate::playing::{play, unless_memory_ran_out};
 use crate::showing::show_on;
+use crate::streams::Streams;
 use arrayvec::ArrayVec;
 use fibs_connect::converse_at;
 use fibs_engine::dial::{Place, READ_MILLIS};
 use fibs_engine::fault::EngineFault;
 use fibs_engine::fixed::{append, append_number};
 use fibs_engine::limits::MOST_INPUT_READS;
+use fibs_engine::noting::Noted;
 use fibs_engine::status::Status;
 use fibs_engine::writing::write_bytes;
-use fibs_environment::terminal_settings;
+use fibs_environment::{Place as Clocks, Settings, terminal_settings};
 use fibs_messages::Board;
 use fibs_position::GameBoard;
 use fibs_terminal::{Terminal, append_picture};
@@ -19,10 +21,10 @@ use fibs_watch::{PollWatch, TypedOrHeard, WatchedNet, first_line};
 use mio::Poll;
 use std::fs::File;
 use std::io;
-use std::io::{BufRead, BufReader, ErrorKind, IsTerminal, Read};
+use std::io::{BufRead, BufReader, ErrorKind, IsTerminal, Read, Stdout};
 use std::net::{Net, TcpListener, TcpStream};
 use std::os::fd::AsRawFd;
-use std::time::Duration;
+use std::time::{Clock, Duration};
 
 /// How many milliseconds a server has to be quiet before the next line is read at a terminal. It is short, since the
 /// server is also heard while the program waits for that line.
@@ -49,34 +51,65 @@ pub struct Call<'a> {
     pub log: Option<&'a str>,
 }
 
-/// Shows the standard input at a terminal.
+/// A clock that tells no time: nobody knows when what is shown was said.
+#[derive(Clone, Copy)]
+struct NoClock;
+
+impl Clock for NoClock {
+    fn monotonic(&self) -> io::Result<Duration> {
+        Err(io::Error::from(ErrorKind::Unsupported))
+    }
+
+    fn since_1970(&self) -> io::Result<Duration> {
+        Err(io::Error::from(ErrorKind::Unsupported))
+    }
+}
+
+/// The settings of a terminal without a server.
+fn settings_of<'a>(rt: &HostRuntime, clocks: &'a Clocks) -> Settings<'a> {
+    terminal_settings(rt, clocks.zone(), "", 0)
+}
+
+/// Shows the standard input at a terminal. Talk has no time: it was said at another one.
 ///
 /// Errors: `Device` if a stream fails, `Memory`.
-pub fn show(rt: &HostRuntime) -> Result<u8, EngineFault> {
-    let alloc = rt.alloc();
-    let mut front = Terminal::new(alloc, rt.stdout(), rt, terminal_settings(rt, "", 0));
-    let held = show_on(MOST_INPUT_READS, &mut rt.stdin(), &mut front)?;
+pub fn show(rt: &HostRuntime, streams: &mut Streams) -> Result<u8, EngineFault> {
+    let clocks = Clocks::read(rt);
+    let held = show_lines(rt, &clocks, streams)?;
     if held > 0 {
         let mut line = ArrayVec::<u8, 64>::new();
         append(&mut line, b"unfinished ");
         append_number(&mut line, held);
         append(&mut line, b"\n");
-        write_bytes(line.as_slice(), &mut rt.stdout())?;
+        write_bytes(line.as_slice(), &mut streams.out)?;
     }
     Ok(Status::Done.code())
+}
+
+/// Shows each line, and answers how many bytes follow the last.
+fn show_lines(
+    rt: &HostRuntime,
+    clocks: &Clocks,
+    streams: &mut Streams,
+) -> Result<usize, EngineFault> {
+    let settings = settings_of(rt, clocks);
+    let mut front = Terminal::new(rt.alloc(), &mut streams.out, NoClock, settings);
+    let shown = show_on(MOST_INPUT_READS, &mut streams.input, &mut front);
+    unless_memory_ran_out(shown, &front)
 }
 
 /// Draws the board that a line says, if the user plays in its game; nothing for any other line.
 ///
 /// Errors: `Device` if the standard output fails, `Memory`.
-pub fn draw(rt: &HostRuntime, line: &[u8]) -> Result<(), EngineFault> {
+pub fn draw(rt: &HostRuntime, streams: &mut Streams, line: &[u8]) -> Result<(), EngineFault> {
     let alloc = rt.alloc();
+    let clocks = Clocks::read(rt);
     match Board::read(line) {
         Ok(board) => match GameBoard::of(&board) {
             Ok(game) => {
                 let mut text = Vec::new(alloc);
-                append_picture(alloc, &game, &terminal_settings(rt, "", 0), &mut text)?;
-                write_bytes(text.as_slice(), &mut rt.stdout())?;
+                append_picture(alloc, &game, &settings_of(rt, &clocks), &mut text)?;
+                write_bytes(text.as_slice(), &mut streams.out)?;
                 Ok(())
             }
             Err(_) => Ok(()),
@@ -88,17 +121,17 @@ pub fn draw(rt: &HostRuntime, line: &[u8]) -> Result<(), EngineFault> {
 /// Talks with a server. The password is the first line of a file, or typed. Answers the exit status.
 ///
 /// Errors: `Device` if a stream fails, `Memory`.
-pub fn connect(rt: &HostRuntime, call: Call<'_>) -> Result<u8, EngineFault> {
+pub fn connect(rt: &HostRuntime, streams: &mut Streams, call: Call<'_>) -> Result<u8, EngineFault> {
     match call.password_file {
         None => {
             if rt.stdin().is_terminal() {
                 // if it can't be asked for, it is read all the same
                 let _asked = write_bytes(b"password: ", &mut rt.stderr());
             }
-            converse(rt, b"", call)
+            converse(rt, streams, b"", call)
         }
         Some(file) => match password_line(rt, file) {
-            Ok(line) => converse(rt, line.as_slice(), call),
+            Ok(line) => converse(rt, streams, line.as_slice(), call),
             Err(error) if error.kind() == ErrorKind::OutOfMemory => Err(EngineFault::Memory),
             Err(_) => {
                 // if it can't be printed, the status alone says it
@@ -117,17 +150,30 @@ fn password_line(rt: &HostRuntime, file: &str) -> io::Result<Vec<u8>> {
 }
 
 /// Talks with a server. The first bytes that are read may be known.
-fn converse(rt: &HostRuntime, first: &[u8], call: Call<'_>) -> Result<u8, EngineFault> {
+fn converse(
+    rt: &HostRuntime,
+    streams: &mut Streams,
+    first: &[u8],
+    call: Call<'_>,
+) -> Result<u8, EngineFault> {
+    let Streams { input, out } = streams;
     if rt.stdin().is_terminal() {
         // without a `Poll` the standard input is read as if it were no terminal
         if let Ok(heard) = Poll::new(rt) {
             let watch = PollWatch::new(rt, rt.alloc(), rt.stdin().as_raw_fd(), &heard).ok();
-            let typed = TypedOrHeard::new(rt.stdin(), watch);
+            let typed = TypedOrHeard::new(input, watch);
             let net = WatchedNet::new(rt, heard.registry());
-            return shown(rt, &net, call, TERMINAL_MILLIS, &mut first.chain(typed));
+            return shown(
+                rt,
+                &net,
+                call,
+                TERMINAL_MILLIS,
+                &mut first.chain(typed),
+                out,
+            );
         }
     }
-    shown(rt, rt, call, READ_MILLIS, &mut first.chain(rt.stdin()))
+    shown(rt, rt, call, READ_MILLIS, &mut first.chain(input), out)
 }
 
 /// Talks at a terminal, or with a log; else on the standard output as it is.
@@ -137,6 +183,7 @@ fn shown<N: Net<Listener = TcpListener, Stream = TcpStream>, R: Read>(
     call: Call<'_>,
     millis: u64,
     input: &mut R,
+    out: &mut Noted<Stdout>,
 ) -> Result<u8, EngineFault> {
     let place = Place {
         host: call.host,
@@ -144,7 +191,7 @@ fn shown<N: Net<Listener = TcpListener, Stream = TcpStream>, R: Read>(
         quiet: Duration::from_millis(millis),
     };
     if call.log.is_some() || rt.stdout().is_terminal() {
-        return play(rt, net, place, millis, call.name, call.log, input);
+        return play(rt, net, place, millis, call.name, call.log, input, out);
     }
     converse_at(
         net,
@@ -152,7 +199,7 @@ fn shown<N: Net<Listener = TcpListener, Stream = TcpStream>, R: Read>(
         place,
         call.name.as_bytes(),
         input,
-        &mut rt.stdout(),
+        out,
         &mut rt.stderr(),
     )
 }

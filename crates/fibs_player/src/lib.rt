@@ -5,5 +5,7 @@
 mod devices;
 mod playing;
 pub mod showing;
+mod streams;
 
 pub use devices::{Call, connect, draw, show};
+pub use streams::Streams;

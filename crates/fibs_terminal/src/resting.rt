@@ -36,7 +36,10 @@ impl<'a, C: Clock + Drop> Screen<'a, C> {
         self.text.clear();
         match self.rest(client) {
             Ok(()) => Ok(()),
-            Err(_) => Err(FrontFault::Output),
+            Err(_) => {
+                self.ran_out = true;
+                Err(FrontFault::Output)
+            }
         }
     }
 

@@ -18,6 +18,8 @@ pub struct Screen<'a, C: Clock + Drop> {
     pub memory: Memory,
     /// What is written next.
     pub text: Vec<u8>,
+    /// Memory ran out, and nothing was written since.
+    pub ran_out: bool,
 }
 
 impl<'a, C: Clock + Drop> Screen<'a, C> {
@@ -29,14 +31,15 @@ impl<'a, C: Clock + Drop> Screen<'a, C> {
             settings,
             memory: Memory::new(alloc),
             text: Vec::new(alloc),
+            ran_out: false,
         }
     }
 
-    /// The time, in seconds since 1970; 0 if there is no clock.
-    pub fn now(&self) -> u64 {
+    /// The time, in seconds since 1970; None if there is no clock.
+    pub fn now(&self) -> Option<u64> {
         match self.clock.since_1970() {
-            Ok(time) => time.as_secs(),
-            Err(_) => 0,
+            Ok(time) => Some(time.as_secs()),
+            Err(_) => None,
         }
     }
 

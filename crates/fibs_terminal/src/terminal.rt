@@ -25,4 +25,9 @@ impl<'a, W: Write + Drop, C: Clock + Drop> Terminal<'a, W, C> {
             out,
         }
     }
+
+    /// Whether it stopped since memory ran out. Its fault alone does not say so.
+    pub fn is_out_of_memory(&self) -> bool {
+        self.screen.ran_out
+    }
 }

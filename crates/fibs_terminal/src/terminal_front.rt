@@ -27,7 +27,10 @@ impl<W: Write + Drop, C: Clock + Drop> Front for Terminal<'_, W, C> {
 
     fn tell(&mut self, said: &Said<'_>) -> Result<(), FrontFault> {
         self.screen.text.clear();
-        self.screen.hear(said).map_err(|_| FrontFault::Output)?;
+        if self.screen.hear(said).is_err() {
+            self.screen.ran_out = true;
+            return Err(FrontFault::Output);
+        }
         write_text(self.screen.text.as_slice(), &mut self.out)
     }
 

@@ -43,11 +43,15 @@ impl<W: Write + Drop, C: Clock + Drop> Words for Terminal<'_, W, C> {
         ensures sent { SendsUntaken client.now line.new.items result }
     {
         self.screen.text.clear();
-        let wish = self
-            .screen
-            .wish(client, directory, line)
-            .map_err(|_| FrontFault::Output)?;
-        write_text(self.screen.text.as_slice(), &mut self.out)?;
-        Ok(wish)
+        match self.screen.wish(client, directory, line) {
+            Ok(wish) => {
+                write_text(self.screen.text.as_slice(), &mut self.out)?;
+                Ok(wish)
+            }
+            Err(_) => {
+                self.screen.ran_out = true;
+                Err(FrontFault::Output)
+            }
+        }
     }
 }

@@ -1,7 +1,7 @@
 //! Dates and times in words.
 
 use crate::pieces::{append_all, append_number};
-use fibs_environment::ClockTime;
+use fibs_environment::{ClockTime, Zone};
 use std::alloc::AllocError;
 
 /// The names of the months.
@@ -45,8 +45,8 @@ fn month_name(month: u8) -> &'static [u8] {
 }
 
 /// Appends the hour and the minute of a time: `14:05`.
-pub fn append_time(seconds: u64, offset: i32, text: &mut Vec<u8>) -> Result<(), AllocError> {
-    let Some(shown) = ClockTime::at(seconds, offset) else {
+pub fn append_time(seconds: u64, zone: &Zone<'_>, text: &mut Vec<u8>) -> Result<(), AllocError> {
+    let Some(shown) = ClockTime::at(seconds, zone) else {
         return text.extend_from_slice(b"--:--");
     };
     append_two(shown.hour, text)?;
@@ -55,11 +55,11 @@ pub fn append_time(seconds: u64, offset: i32, text: &mut Vec<u8>) -> Result<(), 
 }
 
 /// Appends the date and the time in words: `5 January 2003, 14:05`.
-pub fn append_date(seconds: u64, offset: i32, text: &mut Vec<u8>) -> Result<(), AllocError> {
-    let Some(shown) = ClockTime::at(seconds, offset) else {
+pub fn append_date(seconds: u64, zone: &Zone<'_>, text: &mut Vec<u8>) -> Result<(), AllocError> {
+    let Some(shown) = ClockTime::at(seconds, zone) else {
         return append_number(seconds, text);
     };
     append_day(&shown, text)?;
     text.extend_from_slice(b", ")?;
-    append_time(seconds, offset, text)
+    append_time(seconds, zone, text)
 }

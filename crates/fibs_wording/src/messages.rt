@@ -123,18 +123,21 @@ pub fn front(name: &[u8]) -> &[u8] {
     &name[..name.len().min(24)]
 }
 
-/// Appends a line of talk: when, who, and what.
+/// Appends a line of talk: when, if that is known, who, and what.
 fn append_talk(
     who: &[u8],
     verb: &[u8],
     whom: &[u8],
     said: &[u8],
-    now: u64,
+    now: Option<u64>,
     settings: &Settings<'_>,
     text: &mut Vec<u8>,
 ) -> Result<(), AllocError> {
-    append_time(now, settings.offset, text)?;
-    append_all(&[b" ", who, verb, whom, b": "], text)?;
+    if let Some(now) = now {
+        append_time(now, &settings.zone, text)?;
+        text.extend_from_slice(b" ")?;
+    }
+    append_all(&[who, verb, whom, b": "], text)?;
     append_shown(said, settings.utf8, text)
 }
 
@@ -161,7 +164,7 @@ fn append_dated(
     text: &mut Vec<u8>,
 ) -> Result<(), AllocError> {
     append_all(before, text)?;
-    append_date(time, settings.offset, text)?;
+    append_date(time, &settings.zone, text)?;
     text.extend_from_slice(after)
 }
 
@@ -262,10 +265,11 @@ fn append_notice(
     }
 }
 
-/// Appends a message in words, without its line end. The time now is in seconds since 1970.
+/// Appends a message in words, without its line end. The time now is in seconds since 1970; None if it is not when the
+/// message came.
 pub fn append_message(
     message: &Message<'_>,
-    now: u64,
+    now: Option<u64>,
     settings: &Settings<'_>,
     text: &mut Vec<u8>,
 ) -> Result<(), AllocError> {

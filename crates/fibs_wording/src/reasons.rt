@@ -35,6 +35,16 @@ fn plain_fault_words(why: PlainFault) -> &'static [u8] {
     }
 }
 
+/// What is wrong with the name or the password of a login.
+fn login_words(why: PlainFault) -> &'static [u8] {
+    match why {
+        PlainFault::BadName => plain_fault_words(why),
+        PlainFault::BadText =>
+            b"A password has printable ASCII characters, at least one, no space.",
+        PlainFault::TooLong => b"A password has at most 64 characters.",
+    }
+}
+
 /// What the refusal of a plain command says.
 pub fn plain_words(why: PlainRefusal) -> &'static [u8] {
     match why {
@@ -76,6 +86,12 @@ fn unnoted_words(why: DirectoryFault) -> &'static [u8] {
         DirectoryFault::Memory => b"The list of players lacks one: no memory is left.",
         DirectoryFault::Full => b"The list of players lacks one: it holds 4096.",
     }
+}
+
+/// Appends why nobody can log in so.
+pub fn append_login_fault(why: PlainFault, text: &mut Vec<u8>) -> Result<(), AllocError> {
+    let name = plain_name(PlainRefusal::Fault(why));
+    append_reason(login_words(why), why.number(), name, text)
 }
 
 /// Appends why the directory took no note of a player.

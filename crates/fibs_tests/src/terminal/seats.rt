@@ -1,7 +1,7 @@
 //! A client and a terminal, to which a server's lines and typed lines are given.
 
 use super::lines::FIRST_BOARD;
-use fibs_environment::Settings;
+use fibs_environment::{Settings, Zone};
 use fibs_front::fault::FrontFault;
 use fibs_front::front::Front;
 use fibs_front::said::Said;
@@ -56,7 +56,7 @@ pub fn plain_settings() -> Settings<'static> {
         colour: false,
         bell: false,
         utf8: false,
-        offset: 0,
+        zone: Zone::utc(),
         host: b"fibs.com",
         port: 4321,
     }
