@@ -1,8 +1,10 @@
-/* Logs in at a server and plays its first legal play until the match is over: bot HOST PORT NAME. The password is the
- * first line of standard input.
+/* Logs in at a server and plays its first legal play until the match is over: bot HOST PORT NAME [OPPONENT]. The
+ * password is the first line of standard input. It invites the opponent to a match of one point; if none is named, it
+ * joins who invites it. It accepts each offer to resign.
  *
  * It prints each phase, and each command that it sends except the login. If the connection is lost it opens another,
- * and the game goes on as the server has it. The status is 0 if the match was played out, else 4.
+ * and the game goes on as the server has it. The status is 0 if the match was played out, else 4; it is 4 at once if
+ * the server refuses the login.
  *
  *     cc -Iinclude -o bot examples/bot.c lib/libfibs.a
  */
@@ -16,16 +18,18 @@
 #include <stdlib.h>
 #include <string.h>
 #include <sys/socket.h>
+#include <sys/time.h>
 #include <time.h>
 #include <unistd.h>
 
-/* How often a connection is opened in vain, one second apart, before it gives up. */
-enum { MOST_TRIES = 10 };
+/* How often a connection is opened in vain, one second apart, before it gives up; how long a read waits. */
+enum { MOST_TRIES = 10, SECONDS = 5 };
 
 struct bot {
     fibs_client client;
+    const char *opponent;
     int server;
-    bool is_over;
+    bool has_invited, is_refused, is_over;
 };
 
 /* A socket to the server, or -1. */
@@ -43,6 +47,10 @@ static int dial(const char *host, const char *port) {
         }
     }
     freeaddrinfo(found);
+    const struct timeval longest = { .tv_sec = SECONDS };
+    if (server >= 0) {
+        setsockopt(server, SOL_SOCKET, SO_RCVTIMEO, &longest, sizeof longest);
+    }
     return server;
 }
 
@@ -75,25 +83,71 @@ static bool decide(struct bot *bot, const fibs_decision *decision) {
     return send_wire(bot, &wire, false);
 }
 
+/* Sends a command that decides nothing in the game: two words, the second of a length. */
+static bool say(struct bot *bot, const char *word, const char *name, size_t len) {
+    static fibs_wire wire;
+    char text[FIBS_MAX_COMMAND];
+    int size = snprintf(text, sizeof text, "%s %.*s", word, (int)len, name);
+    if (size > 0 && (size_t)size < sizeof text) {
+        fibs_client_plain(&bot->client, text, (size_t)size, &wire);
+        return send_wire(bot, &wire, false);
+    }
+    return true;
+}
+
+/* Sends a line of its own, of which the client does not know. */
+static bool send_own(const struct bot *bot, const char *line) {
+    static fibs_wire wire;
+    wire.len = (size_t)snprintf(wire.bytes, sizeof wire.bytes, "%s\r\n", line);
+    return send_wire(bot, &wire, false);
+}
+
+/* Answers a text of the server. */
+static bool answer(struct bot *bot, const char *line, size_t len) {
+    static const char invites[] = " wants to play ", resumes[] = " wants to resume ", resigns[] = " wants to resign.";
+    const char *space = memchr(line, ' ', len);
+    if (space == NULL) {
+        return true;
+    }
+    size_t name = (size_t)(space - line), left = len - name;
+#define GOES_ON(text) (left >= sizeof text - 1 && memcmp(space, text, sizeof text - 1) == 0)
+    if (GOES_ON(resigns)) {
+        return send_own(bot, "accept");
+    }
+    return bot->opponent != NULL || (!GOES_ON(invites) && !GOES_ON(resumes)) || say(bot, "join", line, name);
+}
+
+/* Invites the opponent, as soon as the server knows the bot. */
+static bool invite(struct bot *bot) {
+    char words[FIBS_MAX_NAME + 3];
+    if (bot->opponent == NULL || bot->has_invited || fibs_client_ready(&bot->client) != FIBS_STATUS_DONE) {
+        return true;
+    }
+    bot->has_invited = true;
+    int len = snprintf(words, sizeof words, "%s 1", bot->opponent);
+    return len < 0 || (size_t)len >= sizeof words || say(bot, "invite", words, (size_t)len);
+}
+
+/* Whether the server asks for the login, though one was sent and nothing more comes. */
+static bool is_refused(struct bot *bot) {
+    char text[FIBS_MAX_LINE];
+    size_t len = 0;
+    return fibs_client_ready(&bot->client) == FIBS_STATUS_NOT_READY
+           && fibs_client_unfinished(&bot->client, text, sizeof text, &len) == FIBS_STATUS_DONE
+           && len >= 7 && memcmp(text + len - 7, "login: ", 7) == 0;
+}
+
 /* A decision of a kind that has no steps. */
 static fibs_decision plain_decision(uint8_t kind) {
     fibs_decision decision = { kind, 0, { { 0, 0 } } };
     return decision;
 }
 
-/* Whether the match is over with this game. */
-static bool ends_match(const fibs_board *board) {
-    int32_t length = board->number[FIBS_BOARD_LENGTH];
-    return length <= 1 || board->number[FIBS_BOARD_SCORE] >= length
-           || board->number[FIBS_BOARD_OPPONENT_SCORE] >= length;
-}
-
 /* The game is over. */
 static bool finish(struct bot *bot, const char *line, size_t len) {
     static fibs_wire wire;
-    fibs_board board;
-    bool is_board = fibs_read_board(line, len, &board).kind == FIBS_KIND_BOARD;
-    bot->is_over = is_board && ends_match(&board);
+    uint8_t over = 0;
+    bot->is_over = fibs_match_over(line, len, &over) == FIBS_STATUS_DONE && over == 1;
     const char *command = bot->is_over ? "bye" : "join";
     fibs_client_plain(&bot->client, command, strlen(command), &wire);
     return send_wire(bot, &wire, false);
@@ -138,7 +192,10 @@ static bool hear(struct bot *bot, const char *piece, size_t len) {
         if (status != FIBS_STATUS_DONE || !send_wire(bot, &wire, false)) {
             return false;
         }
-        if (heard.ended && heard.kind.kind == FIBS_KIND_BOARD && !play(bot, line, heard.len)) {
+        bool goes_on = !heard.ended
+            || (heard.kind.kind == FIBS_KIND_BOARD ? play(bot, line, heard.len)
+                : heard.kind.kind == FIBS_KIND_TEXT ? answer(bot, line, heard.len) : invite(bot));
+        if (!goes_on) {
             return false;
         }
     }
@@ -154,7 +211,12 @@ static void play_connection(struct bot *bot) {
     }
     while (!bot->is_over) {
         ssize_t got = recv(bot->server, piece, sizeof piece, 0);
-        if (got < 0 && errno == EINTR) {
+        if (got < 0 && (errno == EAGAIN || errno == EWOULDBLOCK) && is_refused(bot)) {
+            fputs("bot: the server refuses the login\n", stderr);
+            bot->is_refused = true;
+            return;
+        }
+        if (got < 0 && (errno == EINTR || errno == EAGAIN || errno == EWOULDBLOCK)) {
             continue;
         }
         if (got <= 0 || !hear(bot, piece, (size_t)got)) {
@@ -176,7 +238,7 @@ static void lose(struct bot *bot) {
 /* Plays until the match is over. */
 static bool play_match(struct bot *bot, const char *host, const char *port) {
     const struct timespec second = { .tv_sec = 1 };
-    for (int tries = 0; tries < MOST_TRIES && !bot->is_over; tries++) {
+    for (int tries = 0; tries < MOST_TRIES && !bot->is_over && !bot->is_refused; tries++) {
         bot->server = dial(host, port);
         if (bot->server >= 0) {
             tries = 0;
@@ -186,7 +248,7 @@ static bool play_match(struct bot *bot, const char *host, const char *port) {
             }
             close(bot->server);
         }
-        if (!bot->is_over) {
+        if (!bot->is_over && !bot->is_refused) {
             nanosleep(&second, NULL);
         }
     }
@@ -196,10 +258,11 @@ static bool play_match(struct bot *bot, const char *host, const char *port) {
 int main(int argc, char **argv) {
     struct bot bot = { .client = NULL };
     char password[256] = "";
-    if (argc != 4) {
-        fputs("bot HOST PORT NAME < PASSWORD\n", stderr);
+    if (argc != 4 && argc != 5) {
+        fputs("bot HOST PORT NAME [OPPONENT] < PASSWORD\n", stderr);
         return 2;
     }
+    bot.opponent = argv[4];
     if (fgets(password, sizeof password, stdin) == NULL) {
         password[0] = '\0';
     }

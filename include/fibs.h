@@ -49,6 +49,8 @@
  * - A text is a pointer and how many bytes it has. It needs no zero at its end. NULL with the length 0 is the empty
  *   text.
  * - `room` counts the bytes that a call may write, `count` the records; NULL with 0 is no room.
+ * - What follows the bytes of a text, of a name or of a wire, and the rows and plays that are told, is as it was. The
+ *   steps after the count of a decision that is told are zeros.
  * - Every other pointer is not null. Each is valid for what its length, its room or its type says, and what a call
  *   writes through one pointer does not overlap what another pointer of that call points to.
  *
@@ -73,9 +75,9 @@ extern "C" {
 
 /* The version of this header. While the first number is 0, you have to build your program again when the second one
  * changes; the shared library's name has both. When only the third one changes, faults were mended and nothing else. */
-#define FIBS_VERSION "0.2.0"
+#define FIBS_VERSION "0.3.0"
 #define FIBS_VERSION_MAJOR 0
-#define FIBS_VERSION_MINOR 2
+#define FIBS_VERSION_MINOR 3
 #define FIBS_VERSION_PATCH 0
 
 /* The version of the library, as FIBS_VERSION has it. */
@@ -143,13 +145,15 @@ enum {
     FIBS_STATUS_NO_HANDLE = 501,      /* the handle holds nothing */
     FIBS_STATUS_HELD = 502,           /* the handle already holds something, and keeps it */
     FIBS_STATUS_SHORT = 503,          /* the room is too short */
-    FIBS_STATUS_NO_DECISION = 504,    /* not a decision: an unknown kind, more than FIBS_MAX_STEPS steps, or a step that
-                                         does not go from 1 to 25 to a place 0 to 24 */
+    FIBS_STATUS_NO_DECISION = 504,    /* not a decision: an unknown kind, or a move of more than FIBS_MAX_STEPS steps or
+                                         of a step that does not go from 1 to 25 to a place 0 to 24 */
     FIBS_STATUS_NO_COMMAND = 505,     /* the text is not a command */
     FIBS_STATUS_NO_FIELD = 506,       /* there is no field of this number */
     FIBS_STATUS_NOTHING_WAITS = 507,  /* no decision waits */
     FIBS_STATUS_NO_PLAYER = 508,      /* the directory has no such player */
-    FIBS_STATUS_NO_STATUS = 509       /* there is no status of this number */
+    FIBS_STATUS_NO_STATUS = 509,      /* there is no status of this number */
+    FIBS_STATUS_NO_EFFECT = 510,      /* the server does not carry the decision out on the board */
+    FIBS_STATUS_NO_DIRECTION = 511    /* the direction is neither -1 nor 1 */
 };
 
 /* The name of a status, such as `NotYours`, with a zero at its end; the empty text if there is no such status. */
@@ -188,6 +192,11 @@ fibs_status fibs_lines_reset(fibs_lines *lines);
 /* How many bytes follow the last line end, at most FIBS_MAX_LINE. NO_HANDLE. */
 fibs_status fibs_lines_held(fibs_lines *lines, size_t *len);
 
+/* These bytes, without telnet commands: at most FIBS_MAX_LINE. *len is their number. They have a prompt of the server,
+ * since no line end follows that. At the end of a file they are a last line without its end: if fibs_lines_held is not
+ * 0, feed a `\n`, which gives it as a line. NO_HANDLE; SHORT, and *len is set. */
+fibs_status fibs_lines_unfinished(fibs_lines *lines, char *text, size_t room, size_t *len);
+
 /* ---- What a line says ---- */
 
 /* The kind of a line. */
@@ -208,6 +217,9 @@ typedef struct fibs_kind {
 
 /* The name of a kind, `text`, `message`, `board` or `malformed`; the empty text if there is no such kind. */
 const char *fibs_kind_name(uint8_t kind);
+
+/* The name of a fault, such as `OutOfRange`; the empty text if there is no such fault. */
+const char *fibs_fault_name(uint8_t fault);
 
 /* A line among those of fibs_read_lines. */
 typedef struct fibs_line {
@@ -271,8 +283,9 @@ enum {
     FIBS_BOARD_NUMBERS = 50                /* how many numbers there are */
 };
 
-/* What a line is; if it is a board, its fields too. *board stays as it was if it is not a board. */
-fibs_kind fibs_read_board(const char *line, size_t len, fibs_board *board);
+/* The fields of a line's board. FIELD_MISSING to FIELD_BAD_NAME if the line says no board: *field is then the first
+ * wrong field, counted from 1, which is `board`; else it is 0. */
+fibs_status fibs_read_board(const char *line, size_t len, fibs_board *board, size_t *field);
 
 /* The one line that says the board of a line: canonical decimals, no spaces at its end, at most FIBS_MAX_BOARD bytes.
  * *printed is its length. FIELD_MISSING to FIELD_BAD_NAME if the line says no board; SHORT, and *printed is set. */
@@ -283,6 +296,10 @@ enum {
     FIBS_FIELD_NAME = 1, FIBS_FIELD_WORD = 2, FIBS_FIELD_TAIL = 3, FIBS_FIELD_FLAG = 4, FIBS_FIELD_NUMBER = 5,
     FIBS_FIELD_RATING = 6, FIBS_FIELD_TEXT = 7
 };
+
+/* The name of a kind of fields, `name`, `word`, `tail`, `flag`, `number`, `rating` or `text`; the empty text if there
+ * is no such kind. */
+const char *fibs_field_name(uint8_t kind);
 
 typedef struct fibs_field {
     size_t len;                /* how many bytes a name, a word, a tail or a text has; else 0 */
@@ -296,9 +313,8 @@ fibs_status fibs_read_field(const char *line, size_t len, size_t number, fibs_fi
 
 /* ---- The rules ---- */
 
-/* The calls of this part take a board's line, so keep the line that came: fibs_client_shown and fibs_client_waiting
- * give only its fields. You can also make the line of these: `board`, the two names and the 50 numbers, joined by
- * colons. */
+/* The calls of this part take a board's line: the one that came, that of fibs_client_shown_line, or that of
+ * fibs_effect. fibs_read_board gives the fields of a line. */
 
 /* A step of one checker, in the player's own numbering, in which he goes down: from a place 1 to 24 or the bar, 25, to
  * a place 1 to 24 or off, 0. Place p of the board has the number p in it if FIBS_BOARD_DIRECTION is -1, else 25 - p. */
@@ -314,7 +330,8 @@ enum {
 /* What a player decides. */
 typedef struct fibs_decision {
     uint8_t kind;              /* one of FIBS_DECISION_.. */
-    uint8_t count;             /* how many steps a move has, at most FIBS_MAX_STEPS; 0 for every other kind */
+    uint8_t count;             /* how many steps a move has, at most FIBS_MAX_STEPS. For every other kind a call ignores
+                                  it, and writes 0 */
     fibs_step steps[4];        /* the steps; those after count are ignored */
 } fibs_decision;
 
@@ -343,12 +360,30 @@ fibs_status fibs_allows(const char *line, size_t len, const fibs_decision *decis
  * FIBS_MAX_PLAYS; plays has room for count. Those of fibs_phase; MEMORY; SHORT, and *found is set. */
 fibs_status fibs_plays(const char *line, size_t len, fibs_decision *plays, size_t count, size_t *found);
 
+/* The line of the board after the server carried out a decision on the board of a line, at most FIBS_MAX_BOARD bytes;
+ * after a move with the checkers moved and hit, and the dice taken away. *printed is its length. A roll throws the dice
+ * first and second; for every other decision they are ignored. Of a move nothing is asked but a checker at each source
+ * and no two opponents at each target: fibs_allows says what is legal. NO_DECISION; those of fibs_phase; NO_EFFECT;
+ * SHORT, and *printed is set. */
+fibs_status fibs_effect(const char *line, size_t len, const fibs_decision *decision, uint8_t first, uint8_t second,
+                        char *text, size_t room, size_t *printed);
+
+/* Whether the boards of two lines differ in what the game is (docs/FORMATS.md: fields 3 to 6, 8 to 31, 33 to 43, 46 and
+ * 47): a board that differs ends the waiting of a decision. FIELD_MISSING to FIELD_BAD_NAME if one of the lines says no
+ * board. */
+fibs_status fibs_differs(const char *line, size_t len, const char *other, size_t other_len, uint8_t *differ);
+
+/* Whether the board of a line says that the match is over: the game is over, and a side has the points that it is to,
+ * or it is to one point. A server shows the board of the end of a game with the new score. FIELD_MISSING to
+ * FIELD_BAD_NAME if the line says no board. */
+fibs_status fibs_match_over(const char *line, size_t len, uint8_t *over);
+
 /* The command of a decision, such as `move 24-18`, without a line end, at most FIBS_MAX_COMMAND bytes. *len is its
- * length. direction is number[FIBS_BOARD_DIRECTION] of the board on which it is made. NO_DECISION; SHORT, and *len is
- * set. */
+ * length. direction is number[FIBS_BOARD_DIRECTION] of the board on which it is made. NO_DECISION; NO_DIRECTION; SHORT,
+ * and *len is set. */
 fibs_status fibs_decision_text(const fibs_decision *decision, int32_t direction, char *text, size_t room, size_t *len);
 
-/* The decision whose command the text is, to the byte. NO_COMMAND. */
+/* The decision whose command the text is, to the byte. NO_DIRECTION; NO_COMMAND. */
 fibs_status fibs_read_decision(const char *text, size_t len, int32_t direction, fibs_decision *decision);
 
 /* ---- The client ---- */
@@ -357,7 +392,8 @@ fibs_status fibs_read_decision(const char *text, size_t len, int32_t direction, 
 typedef struct fibs_client_held *fibs_client;
 
 /* What you have to send at once, unchanged: some commands, each with CR LF. It is empty if a call answers another
- * status than DONE. */
+ * status than DONE. The next call overwrites it: if your socket does not take all of it (one that does not block), copy
+ * the rest into a queue of your own. */
 typedef struct fibs_wire {
     size_t len;                /* at most FIBS_MAX_WIRE */
     char bytes[1542];
@@ -395,12 +431,23 @@ fibs_status fibs_client_open(fibs_client *client, fibs_wire *wire);
 fibs_status fibs_client_feed(fibs_client *client, const char *piece, size_t len, char *text, size_t room,
                              fibs_heard *heard, fibs_wire *wire);
 
+/* DONE if the server has sent messages 1 and 2 on the open connection. Before that it may take what is sent for a name
+ * or a password: send nothing but the login. NO_HANDLE; OFFLINE, NOT_READY. */
+fibs_status fibs_client_ready(fibs_client *client);
+
+/* What follows the last line end of the connection, without telnet commands: at most FIBS_MAX_LINE bytes. *len is their
+ * number. A server that refuses a login sends no message: it asks again. So if nothing comes for some seconds after the
+ * login, these bytes end in `login: ` and fibs_client_ready answers NOT_READY, it was refused. NO_HANDLE; SHORT, and
+ * *len is set. */
+fibs_status fibs_client_unfinished(fibs_client *client, char *text, size_t room, size_t *len);
+
 /* The user decides: hands out the command, and the decision waits from then on. NO_DECISION; NO_HANDLE; OFFLINE to
  * ILLEGAL_PLAY. */
 fibs_status fibs_client_decide(fibs_client *client, const fibs_decision *decision, fibs_wire *wire);
 
 /* Hands out a command that decides nothing in the game, by its text: `who`, `tell bob hi`, `toggle automove` and so on
- * (docs/FORMATS.md). NO_COMMAND; NO_HANDLE; OFFLINE, NOT_ON; BAD_NAME to TOO_LONG. */
+ * (docs/FORMATS.md). It is handed out before the login is answered too: wait for fibs_client_ready. NO_COMMAND;
+ * NO_HANDLE; OFFLINE, NOT_ON; BAD_NAME to TOO_LONG. */
 fibs_status fibs_client_plain(fibs_client *client, const char *text, size_t len, fibs_wire *wire);
 
 /* Gives a standing order for this connection: at each new board on which the user is to roll and may not double the
@@ -419,6 +466,10 @@ fibs_status fibs_client_lose(fibs_client *client, fibs_outstanding *waited);
 
 /* The board that was shown last on this connection. NO_HANDLE; NO_BOARD. */
 fibs_status fibs_client_shown(fibs_client *client, fibs_board *board);
+
+/* The line of that board, at most FIBS_MAX_BOARD bytes. *len is its length. NO_HANDLE; NO_BOARD; SHORT, and *len is
+ * set. */
+fibs_status fibs_client_shown_line(fibs_client *client, char *text, size_t room, size_t *len);
 
 /* The decision that waits, with its board. NO_HANDLE; NOTHING_WAITS. */
 fibs_status fibs_client_waiting(fibs_client *client, fibs_outstanding *waiting);

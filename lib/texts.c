@@ -11,9 +11,11 @@ static const char *const position_faults[] = { "", "NotYou", "TooManyOwn", "TooM
 static const char *const field_faults[] = { "", "Missing", "Extra", "NotANumber", "OutOfRange", "BadName" };
 static const char *const directory_faults[] = { "", "Memory", "Full" };
 static const char *const own[] = {
-    "", "NoHandle", "Held", "Short", "NoDecision", "NoCommand", "NoField", "NothingWaits", "NoPlayer", "NoStatus"
+    "", "NoHandle", "Held", "Short", "NoDecision", "NoCommand", "NoField", "NothingWaits", "NoPlayer", "NoStatus",
+    "NoEffect", "NoDirection"
 };
 static const char *const kinds[] = { "text", "message", "board", "malformed" };
+static const char *const fields[] = { "", "name", "word", "tail", "flag", "number", "rating", "text" };
 static const char *const phases[] = {
     "", "Over", "AnswerDouble", "OpponentActs", "RollOrDouble", "Move", "Passing"
 };
@@ -45,6 +47,14 @@ const char *fibs_status_name(fibs_status status) {
 
 const char *fibs_kind_name(uint8_t kind) {
     return name_at(kinds, COUNT(kinds), kind);
+}
+
+const char *fibs_fault_name(uint8_t fault) {
+    return name_at(field_faults, COUNT(field_faults), fault);
+}
+
+const char *fibs_field_name(uint8_t kind) {
+    return name_at(fields, COUNT(fields), kind);
 }
 
 const char *fibs_decision_name(uint8_t kind) {

@@ -3,9 +3,11 @@
 
 COMMAND is the bot, or a tool that watches it and the bot. The bot has to play the match to its end, on the boards that
 it is shown. The connection is lost once while a roll waits that the server has received, and once in the middle of a
-board's line. Prints `N passed, M failed`.
+board's line. It also plays with the bots of examples/fibs_server, as it invites one, as one invites it, and as one
+resigns; and it sees that a login is refused. Prints `N passed, M failed`.
 """
 
+import pathlib
 import subprocess
 import sys
 import threading
@@ -42,6 +44,31 @@ def serve(server, faults):
     faults.append(server.received[-1] != 'bye' and 'no bye: %s' % server.received)
 
 
+def at_the_example(words, name, opponent, habits):
+    """How the bot ends on the server of the examples, and what it prints."""
+    place = pathlib.Path(__file__).resolve().parent.parent / 'examples' / 'fibs_server'
+    served = [sys.executable, '-B', str(place), '0', '--seed', '5', *habits]
+    with subprocess.Popen(served, stdout=subprocess.PIPE, text=True) as server:
+        try:
+            port = server.stdout.readline().strip()
+            bot = subprocess.run([*words, '127.0.0.1', port, name, *opponent], input=b'secret\n', capture_output=True,
+                                 timeout=240)
+        finally:
+            server.terminate()
+    return bot.returncode, (bot.stdout + bot.stderr).decode()
+
+
+def plays_at_the_example(words):
+    """What is wrong with the matches there."""
+    for what, name, opponent, habits, status, said in [
+            ('it invites', 'ann', ['eve'], ['--bot', 'eve'], 0, '> invite eve 1'),
+            ('it joins', 'ann', [], ['--bot', 'eve:invites=1'], 0, '> join eve'),
+            ('the other resigns', 'ann', ['eve'], ['--bot', 'eve:resigns=3n'], 0, '> accept'),
+            ('its login is refused', 'ann', [], ['--account', 'ann:other'], 4, 'refuses the login')]:
+        found, out = at_the_example(words, name, opponent, habits)
+        yield (found, said in out) != (status, True) and '%s: %d: %s' % (what, found, out[-3000:])
+
+
 def main():
     server, faults = Server(), []
     thread = threading.Thread(target=serve, args=(server, faults), daemon=True)
@@ -55,6 +82,7 @@ def main():
     faults.append(out.count('\nlost ') != 2 and 'it did not lose two connections')
     faults.append('lost roll\n' not in out and 'the roll that waited is not reported')
     faults.append('secret' in out and 'it shows the password')
+    faults.extend(plays_at_the_example(sys.argv[1:]))
     told = [fault for fault in faults if fault]
     for fault in told:
         print('FAILED', fault)

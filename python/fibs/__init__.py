@@ -17,10 +17,11 @@ from ._decisions import (ACCEPT, DOUBLE, REJECT, RESIGN_BACKGAMMON, RESIGN_GAMMO
                          DecisionKind, Step)
 from ._directory import Directory
 from ._lines import Counts, Fault, Kind, Line, Lines, Stream, fields, read
-from .errors import (AlreadyOpen, AlreadyOrdered, BadCommand, BadName, BadText, Closed, Error, FieldBadName, FieldExtra,
-                     FieldMissing, FieldNotANumber, FieldOutOfRange, Full, IllegalPlay, NoBoard, NoCommand, NoDecision,
-                     NoField, NoPlayer, NoPosition, NotABoard, NotOn, NotOrdered, NotReady, NotYou, NotYours, Offline,
-                     Refused, ServerPlays, TooLong, TooManyOther, TooManyOwn, Waiting, WrongKind)
+from .errors import (AlreadyOpen, AlreadyOrdered, BadCommand, BadName, BadText, Closed, Error, FieldBadName,
+                     FieldExtra, FieldMissing, FieldNotANumber, FieldOutOfRange, Full, IllegalPlay, NoBoard,
+                     NoCommand, NoDecision, NoDirection, NoEffect, NoField, NoPlayer, NoPosition, NotABoard, NotOn,
+                     NotOrdered, NotReady, NotYou, NotYours, Offline, Refused, ServerPlays, TooLong, TooManyOther,
+                     TooManyOwn, Waiting, WrongKind)
 from .messages import Player
 
 TEXT, MESSAGE, BOARD, MALFORMED = Kind.TEXT, Kind.MESSAGE, Kind.BOARD, Kind.MALFORMED
@@ -32,15 +33,15 @@ UNLIMITED = 9999
 MAX_LINE = _library.MAX_LINE
 
 # The version of the package and of the library that it is for.
-__version__ = '0.2.0'
+__version__ = '0.3.0'
 
 __all__ = [
     'ACCEPT', 'AlreadyOpen', 'AlreadyOrdered', 'BOARD', 'BadCommand', 'BadName', 'BadText', 'Board', 'Client', 'Closed',
     'Counts', 'DOUBLE', 'Decision', 'DecisionKind', 'Directory', 'Error', 'Fault', 'FieldBadName', 'FieldExtra',
     'FieldMissing', 'FieldNotANumber', 'FieldOutOfRange', 'Full', 'Heard', 'IllegalPlay', 'Kind', 'Line', 'Lines',
-    'MALFORMED', 'MAX_LINE', 'MESSAGE', 'NoBoard', 'NoCommand', 'NoDecision', 'NoField', 'NoPlayer', 'NoPosition',
-    'NotABoard', 'NotOn', 'NotOrdered', 'NotReady', 'NotYou', 'NotYours', 'Offline', 'Outstanding', 'Phase', 'Player',
-    'REJECT', 'RESIGN_BACKGAMMON', 'RESIGN_GAMMON', 'RESIGN_NORMAL', 'ROLL', 'Refused', 'ServerPlays', 'Step', 'Stream',
-    'TEXT', 'TooLong', 'TooManyOther', 'TooManyOwn', 'UNLIMITED', 'Waiting', 'WrongKind', 'allows', 'fields',
-    'messages', 'phase', 'plays', 'print_board', 'read', 'refusal',
+    'MALFORMED', 'MAX_LINE', 'MESSAGE', 'NoBoard', 'NoCommand', 'NoDecision', 'NoDirection', 'NoEffect', 'NoField',
+    'NoPlayer', 'NoPosition', 'NotABoard', 'NotOn', 'NotOrdered', 'NotReady', 'NotYou', 'NotYours', 'Offline',
+    'Outstanding', 'Phase', 'Player', 'REJECT', 'RESIGN_BACKGAMMON', 'RESIGN_GAMMON', 'RESIGN_NORMAL', 'ROLL',
+    'Refused', 'ServerPlays', 'Step', 'Stream', 'TEXT', 'TooLong', 'TooManyOther', 'TooManyOwn', 'UNLIMITED', 'Waiting',
+    'WrongKind', 'allows', 'fields', 'messages', 'phase', 'plays', 'print_board', 'read', 'refusal',
 ]

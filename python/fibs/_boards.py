@@ -7,8 +7,8 @@ from typing import Any, List, Optional, Tuple, Union
 
 from . import _library
 from ._decisions import Decision, decision_of, record_of
-from ._texts import Text, Word, bytes_of, told
-from .errors import Refused, TooManyOther, TooManyOwn, check_board
+from ._texts import Text, Word, bytes_of, number_of, told, told_text
+from .errors import Refused, TooManyOther, TooManyOwn, check, check_board
 
 class Phase(Word):
     """What a player may do on a board."""
@@ -19,6 +19,12 @@ class Phase(Word):
     ROLL_OR_DOUBLE = 4
     MOVE = 5
     PASSING = 6
+
+
+def _fields_of(record: Any) -> Tuple[bytes, bytes, Tuple[int, ...]]:
+    """The fields of the library's board."""
+    return (bytes(record.player[:record.player_len]), bytes(record.opponent[:record.opponent_len]),
+            tuple(record.number))
 
 
 def _number(field: int, what: str) -> Any:
@@ -37,33 +43,65 @@ def _dice(field: int, what: str) -> Any:
 class Board:
     """A board: two names, and the numbers of fields 4 to 53 of its line. It does not change.
 
-    Board(line) reads it, and raises one of NotABoard if the line says none.
+    Board(line) raises one of NotABoard if the line says none. Two boards are equal if their 53 fields are.
     """
 
-    __slots__ = ('player', 'opponent', 'numbers')
+    __slots__ = ('line', '_fields')
 
-    player: bytes
-    opponent: bytes
-    numbers: Tuple[int, ...]
+    # The one line that says this board: canonical decimals, and no spaces at its end.
+    line: bytes
+
+    _fields: Optional[Tuple[bytes, bytes, Tuple[int, ...]]]
 
     def __init__(self, line: Text) -> None:
-        record, data = _library.Board(), bytes_of(line)
-        if _library.lib.fibs_read_board(data, len(data), byref(record)).kind != _library.BOARD:
-            # which says why not
-            print_board(data)
-        self._take(record)
+        self._take(bytes_of(line).rstrip(b' '), None)
+        self._read()
+
+    @classmethod
+    def _said(cls, line: bytes) -> Board:
+        """The board of a line of which the library has said that it is one. Its fields are read when they are asked
+        for."""
+        board = cls.__new__(cls)
+        board._take(line.rstrip(b' '), None)
+        return board
 
     @classmethod
     def _of(cls, record: Any) -> Board:
         """The library's board."""
         board = cls.__new__(cls)
-        board._take(record)
+        player, opponent, numbers = fields = _fields_of(record)
+        board._take(b':'.join([b'board', player, opponent, *(b'%d' % number for number in numbers)]), fields)
         return board
 
-    def _take(self, record: Any) -> None:
-        object.__setattr__(self, 'player', bytes(record.player[:record.player_len]))
-        object.__setattr__(self, 'opponent', bytes(record.opponent[:record.opponent_len]))
-        object.__setattr__(self, 'numbers', tuple(record.number))
+    def _take(self, line: bytes, fields: Optional[Tuple[bytes, bytes, Tuple[int, ...]]]) -> None:
+        object.__setattr__(self, 'line', line)
+        object.__setattr__(self, '_fields', fields)
+
+    def _read(self) -> Tuple[bytes, bytes, Tuple[int, ...]]:
+        """The fields."""
+        fields = self._fields
+        if fields is None:
+            record, field = _library.Board(), c_size_t()
+            line = self.line
+            check_board(_library.lib.fibs_read_board(line, len(line), byref(record), byref(field)), line)
+            fields = _fields_of(record)
+            object.__setattr__(self, '_fields', fields)
+        return fields
+
+    @property
+    def player(self) -> bytes:
+        """The player's name; You in a game of the user."""
+        return self._read()[0]
+
+    @property
+    def opponent(self) -> bytes:
+        """The opponent's name."""
+        return self._read()[1]
+
+    @property
+    def numbers(self) -> Tuple[int, ...]:
+        """The numbers of fields 4 to 53."""
+        return self._read()[2]
 
     def __setattr__(self, name: str, value: object) -> None:
         raise AttributeError('a board does not change')
@@ -74,14 +112,11 @@ class Board:
     def __reduce__(self) -> Tuple[type, Tuple[bytes]]:
         return Board, (self.line,)
 
-    def _key(self) -> Tuple[bytes, bytes, Tuple[int, ...]]:
-        return self.player, self.opponent, self.numbers
-
     def __eq__(self, other: object) -> bool:
-        return isinstance(other, Board) and self._key() == other._key()
+        return isinstance(other, Board) and self.line == other.line
 
     def __hash__(self) -> int:
-        return hash(self._key())
+        return hash(self.line)
 
     def __repr__(self) -> str:
         return 'Board(%r)' % self.line
@@ -91,11 +126,6 @@ class Board:
         if not _library.FIRST_FIELD <= n < _library.FIRST_FIELD + len(self.numbers):
             raise IndexError('a board has the numbers of fields 4 to 53')
         return self.numbers[n - _library.FIRST_FIELD]
-
-    @property
-    def line(self) -> bytes:
-        """The one line that says this board: canonical decimals, and no spaces at its end."""
-        return b':'.join([b'board', self.player, self.opponent, *(b'%d' % number for number in self.numbers)])
 
     length: int = _number(4, 'How many points the match is to; 9999 if it is unlimited.')
     score: int = _number(5, "The player's points.")
@@ -144,6 +174,42 @@ class Board:
     def allows(self, decision: Decision) -> bool:
         """True if the player may decide so on this board. One of NoPosition; NoDecision."""
         return allows(self, decision)
+
+    def after(self, decision: Decision, dice: Tuple[int, int] = (0, 0)) -> Board:
+        """The board after the server carried out a decision: after a play with the checkers moved and hit. A roll
+        throws the dice; for every other decision they are ignored. Of a play it is not asked if it is legal, but only
+        that there is a checker at each source and no two opponents at each target. NoEffect; one of NoPosition;
+        NoDecision."""
+        first, second = (number_of(die, 0, 255, 'a die') for die in dice)
+        line, record = self.line, record_of(decision)
+        return Board._said(told_text(_library.lib.fibs_effect, line, len(line), byref(record), first, second))
+
+    def turned(self) -> Board:
+        """The same board with the sides exchanged, as if the user were the opponent: its plays are the opponent's. What
+        this board does not tell of the opponent is 0: was_doubled, and fields 50 and 51."""
+        player, opponent, numbers = self._read()
+        turned = list(numbers)
+        for one, other in (5, 6), (34, 36), (35, 37), (39, 40), (44, 45), (46, 47), (48, 49):
+            turned[one - 4], turned[other - 4] = numbers[other - 4], numbers[one - 4]
+        for field in 42, 43:
+            turned[field - 4] = -numbers[field - 4]
+        for field in 41, 50, 51:
+            turned[field - 4] = 0
+        return Board(b':'.join([b'board', player, opponent, *(b'%d' % number for number in turned)]))
+
+    def differs(self, other: Board) -> bool:
+        """True if the boards differ in what the game is: the other one, if it is shown, ends the waiting of a decision
+        that was made on this one."""
+        found = c_uint8()
+        check(_library.lib.fibs_differs(self.line, len(self.line), other.line, len(other.line), byref(found)))
+        return found.value == 1
+
+    @property
+    def match_over(self) -> bool:
+        """True if the game is over, and the match with it."""
+        found = c_uint8()
+        check(_library.lib.fibs_match_over(self.line, len(self.line), byref(found)))
+        return found.value == 1
 
 
 # A board, or a line that says one.

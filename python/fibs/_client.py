@@ -11,7 +11,7 @@ from ._boards import Board
 from ._decisions import Decision, decision_of, record_of
 from ._handles import Handle
 from ._lines import Line, line_of
-from ._texts import Bytes, Text, bytes_of, piece_of
+from ._texts import Bytes, Text, bytes_of, piece_of, told, told_text
 from .errors import check
 
 
@@ -98,21 +98,26 @@ class Client(Handle):
         super().__init__('fibs_client_new', 'fibs_client_free', who, len(who), word, len(word))
         self._name = who.decode('ascii')
         self._text = ctypes.create_string_buffer(_library.MAX_LINE)
-        self._is_open, self._kept = False, _nothing_kept()
+        self._kept = _nothing_kept()
         # what the library says of a line, in turn
         self._records = _library.Heard(), _library.Heard()
         # what the library said of lost connections that was not handed out yet
         self._losses: List[_library.Outstanding] = []
 
     def _state(self) -> str:
-        waits = self.waiting
-        return '%s, %s%s' % (self._name, 'connected' if self._is_open else 'not connected',
-                             ', %s waits' % (waits.decision,) if waits else '')
+        waits, status = self.waiting, _library.lib.fibs_client_ready(self._owned.at)
+        how = {_library.OFFLINE: 'not connected', _library.NOT_READY: 'not logged in'}.get(status, 'logged in')
+        return '%s, %s%s' % (self._name, how, ', %s waits' % (waits.decision,) if waits else '')
+
+    def _is_open(self) -> bool:
+        """True if there is a connection. Closed."""
+        self._check_held()
+        return bool(_library.lib.fibs_client_ready(self._owned.at) != _library.OFFLINE)
 
     def open(self) -> bytes:
         """A connection was made: gives the login. What is left of an earlier one is dropped. AlreadyOpen."""
-        if not self._is_open:
-            self._losses, self._kept, self._is_open = [], _nothing_kept(), True
+        if not self._is_open():
+            self._losses, self._kept = [], _nothing_kept()
         check(_library.lib.fibs_client_open(self._owned.at, byref(self._kept.wire())))
         sent, self._kept = self._kept.commands(), _nothing_kept()
         return sent
@@ -122,8 +127,7 @@ class Client(Handle):
         what it hands out, and decide() if you like, before you take the next one. The next feed first hears what you
         have not taken. Without a connection all bytes are dropped at once. Closed."""
         data, kept, heard = piece_of(piece), self._kept, self._hear()
-        self._check_held()
-        if self._is_open:
+        if self._is_open():
             data = kept.data[kept.place:] + data
             self._kept = kept._replace(data=data, address=_library.address_of(data), start=-kept.heard.used)
         return heard
@@ -155,6 +159,22 @@ class Client(Handle):
                 found = new(Heard, (line, _decision_of(heard.confirmed), b'', heard.rolled == 1))
                 heard.ended = 0
             yield found
+
+    @property
+    def ready(self) -> bool:
+        """True if the server has sent messages 1 and 2 on the open connection. Before that it may take what you send
+        for a name or a password: send nothing but the login."""
+        status = _library.lib.fibs_client_ready(self._owned.at)
+        if status not in (_library.OFFLINE, _library.NOT_READY):
+            check(status)
+        return bool(status == _library.DONE)
+
+    @property
+    def unfinished(self) -> bytes:
+        """What follows the last line end of the connection, without telnet commands. A server that refuses a login
+        sends no message, but asks again: so if nothing comes for some seconds, the client is not ready and this ends
+        in `login: `, the login was refused."""
+        return told_text(_library.lib.fibs_client_unfinished, self._owned.at)
 
     def decide(self, decision: Decision) -> bytes:
         """The user decides: gives the command, and the decision waits from then on. One of Refused; NoDecision."""
@@ -190,7 +210,7 @@ class Client(Handle):
         """The connection ended: nothing of it is kept, also no command that an interrupted call left. The decision that
         waited, with its board, or None. The client never sends it again by itself."""
         self._check_held()
-        self._is_open, self._kept = False, _nothing_kept()
+        self._kept = _nothing_kept()
         waited = _library.Outstanding()
         self._losses.append(waited)
         check(_library.lib.fibs_client_lose(self._owned.at, byref(waited)))
@@ -202,12 +222,11 @@ class Client(Handle):
     @property
     def shown(self) -> Optional[Board]:
         """The board that was shown last on this connection, or None."""
-        found = _library.Board()
-        status = _library.lib.fibs_client_shown(self._owned.at, byref(found))
+        status, line = told(_library.lib.fibs_client_shown_line, self._owned.at)
         if status == _library.NO_BOARD:
             return None
         check(status)
-        return Board._of(found)
+        return Board._said(line)
 
     @property
     def waiting(self) -> Optional[Outstanding]:

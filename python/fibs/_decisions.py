@@ -46,13 +46,15 @@ class Decision(NamedTuple):
 
     @classmethod
     def parse(cls, text: Text, direction: int = -1) -> Decision:
-        """The decision whose command the text is, for a player of this direction (field 43 of a board). NoCommand."""
+        """The decision whose command the text is, for a player of this direction (field 43 of a board). NoDirection;
+        NoCommand."""
         record, data = _library.Decision(), bytes_of(text)
         check(_library.lib.fibs_read_decision(data, len(data), direction_of(direction), byref(record)))
         return decision_of(record)
 
     def command(self, direction: int = -1) -> str:
-        """The command, for a player of this direction (field 43 of a board), such as `move 24-18`. NoDecision."""
+        """The command, for a player of this direction (field 43 of a board), such as `move 24-18`. NoDecision;
+        NoDirection."""
         record = record_of(self)
         return told_text(_library.lib.fibs_decision_text, byref(record), direction_of(direction)).decode('ascii')
 

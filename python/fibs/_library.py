@@ -13,14 +13,11 @@ from typing import Any
 
 # The library that this package is for. While the first number is 0 the second one changes with the records and
 # functions.
-VERSION = '0.2.0'
-SONAME = 'libfibs.so.0.2'
+VERSION = '0.3.0'
+SONAME = 'libfibs.so.0.3'
 
 # The statuses for which this package has no exception of its own.
-DONE, NO_BOARD, MEMORY, SHORT, NO_COMMAND, NO_FIELD, NOTHING_WAITS, NO_PLAYER = 0, 5, 401, 503, 505, 506, 507, 508
-
-# The kind of a line that is a board.
-BOARD = 2
+DONE, OFFLINE, NOT_READY, NO_BOARD, MEMORY, SHORT, NOTHING_WAITS = 0, 2, 3, 5, 401, 503, 507
 
 # The kinds of a field's value; those that are left have bytes.
 FLAG, NUMBER, RATING = 4, 5, 6
@@ -139,28 +136,34 @@ _FUNCTIONS: dict[str, tuple[Any, list[Any]]] = {
     'fibs_lines_free': (None, [_HANDLE]),
     'fibs_lines_reset': (c_uint32, [_HANDLE]),
     'fibs_lines_held': (c_uint32, [_HANDLE, _LENGTH]),
+    'fibs_lines_unfinished': (c_uint32, [_HANDLE, *_ROOM, _LENGTH]),
     'fibs_lines_feed': (c_uint32, [_HANDLE, *_PIECE, *_ROOM, POINTER(Fed)]),
     'fibs_read_lines': (c_uint32, [_HANDLE, *_PIECE, *_ROOM, c_void_p, c_size_t, POINTER(Told)]),
     'fibs_read': (Kind, _DATA),
-    'fibs_read_board': (Kind, [*_DATA, POINTER(Board)]),
+    'fibs_read_board': (c_uint32, [*_DATA, POINTER(Board), _LENGTH]),
     'fibs_print_board': (c_uint32, [*_DATA, *_ROOM, _LENGTH]),
     'fibs_read_field': (c_uint32, [*_DATA, c_size_t, POINTER(Field), *_ROOM]),
     'fibs_phase': (c_uint32, [*_DATA, POINTER(c_uint8)]),
     'fibs_allows': (c_uint32, [*_DATA, POINTER(Decision)]),
     'fibs_plays': (c_uint32, [*_DATA, POINTER(Decision), c_size_t, _LENGTH]),
+    'fibs_effect': (c_uint32, [*_DATA, POINTER(Decision), c_uint8, c_uint8, *_ROOM, _LENGTH]),
+    'fibs_differs': (c_uint32, [*_DATA, *_DATA, POINTER(c_uint8)]),
+    'fibs_match_over': (c_uint32, [*_DATA, POINTER(c_uint8)]),
     'fibs_decision_text': (c_uint32, [POINTER(Decision), c_int32, *_ROOM, _LENGTH]),
     'fibs_read_decision': (c_uint32, [*_DATA, c_int32, POINTER(Decision)]),
     'fibs_client_new': (c_uint32, [_HANDLE, *_DATA, *_DATA]),
     'fibs_client_free': (None, [_HANDLE]),
     'fibs_client_open': (c_uint32, [_HANDLE, POINTER(Wire)]),
     'fibs_client_feed': (c_uint32, [_HANDLE, *_PIECE, *_ROOM, POINTER(Heard), POINTER(Wire)]),
+    'fibs_client_ready': (c_uint32, [_HANDLE]),
+    'fibs_client_unfinished': (c_uint32, [_HANDLE, *_ROOM, _LENGTH]),
     'fibs_client_decide': (c_uint32, [_HANDLE, POINTER(Decision), POINTER(Wire)]),
     'fibs_client_plain': (c_uint32, [_HANDLE, *_DATA, POINTER(Wire)]),
     'fibs_client_order_roll': (c_uint32, [_HANDLE]),
     'fibs_client_withdraw_roll': (c_uint32, [_HANDLE]),
     'fibs_client_ordered': (c_uint32, [_HANDLE, POINTER(c_uint8)]),
     'fibs_client_lose': (c_uint32, [_HANDLE, POINTER(Outstanding)]),
-    'fibs_client_shown': (c_uint32, [_HANDLE, POINTER(Board)]),
+    'fibs_client_shown_line': (c_uint32, [_HANDLE, *_ROOM, _LENGTH]),
     'fibs_client_waiting': (c_uint32, [_HANDLE, POINTER(Outstanding)]),
     'fibs_directory_new': (c_uint32, [_HANDLE]),
     'fibs_directory_free': (None, [_HANDLE]),

@@ -9,7 +9,7 @@ from typing import Any, Generator, Iterator, List, NamedTuple, Optional, Protoco
 from . import _library
 from ._boards import Board
 from ._handles import Handle
-from ._texts import Bytes, Text, Value, Word, bytes_of, piece_of, told_field
+from ._texts import Bytes, Text, Value, Word, bytes_of, piece_of, told_field, told_text
 from .errors import NoField, check
 from .messages import KINDS as MESSAGES
 from .messages import Message
@@ -52,7 +52,7 @@ class Line(NamedTuple):
     @property
     def board(self) -> Board:
         """The board that the line says. One of NotABoard."""
-        return Board(self.text)
+        return Board._said(self.text) if self.kind == Kind.BOARD else Board(self.text)
 
     @property
     def message(self) -> Optional[Message]:
@@ -116,7 +116,8 @@ class Lines(Handle):
             print(line.kind.name, line.text)
 
     Without one you feed it: feed(piece) gives the lines that end in the piece, however the bytes of the
-    stream are cut. close(), or a `with`, gives its memory back; a stream that you gave stays open.
+    stream are cut. What follows the last line end is no line: finish() gives it as one. close(), or a `with`,
+    gives its memory back; a stream that you gave stays open.
     """
 
     def __init__(self, source: Source = b'', *, rows: int = 4096, room: int = 1 << 18) -> None:
@@ -185,6 +186,15 @@ class Lines(Handle):
                 counts[kind] += kinds.count(kind)
             counts[4] += told[_library.CUT_AT::_library.ROW.size].count(1)
         return Counts(*counts)
+
+    def finish(self) -> List[Line]:
+        """The line that has not ended, as if it ended here; none if nothing follows the last line end. Closed."""
+        return self.feed(b'\n') if self.held else []
+
+    @property
+    def unfinished(self) -> bytes:
+        """What follows the last line end, without telnet commands: at most MAX_LINE bytes, such as a prompt. Closed."""
+        return told_text(_library.lib.fibs_lines_unfinished, self._owned.at)
 
     def reset(self) -> None:
         """Forgets what has come: the next byte is the first of a new stream. Closed."""

@@ -5,6 +5,7 @@ Memory that runs out is Python's own MemoryError, a value of a wrong type its Ty
 
 from __future__ import annotations
 
+from ctypes import byref, c_size_t
 from typing import Any, ClassVar, Dict, Optional, Tuple, Type
 
 from . import _library
@@ -215,6 +216,16 @@ class NoStatus(Error, LookupError):
     status = 509
 
 
+class NoEffect(Error, ValueError):
+    """The server does not carry the decision out on the board."""
+    status = 510
+
+
+class NoDirection(Error, ValueError):
+    """The direction is neither -1 nor 1."""
+    status = 511
+
+
 def _named(kind: Type[Error]) -> Dict[int, Type[Error]]:
     """Each exception at or below one, by its status."""
     found = {kind.status: kind} if kind.status else {}
@@ -240,9 +251,7 @@ def check_board(status: int, line: bytes) -> None:
     try:
         check(status)
     except NotABoard as why:
-        if line.startswith(b'board:'):
-            why.field = _library.lib.fibs_read(line, len(line)).field
-        else:
-            # no more than the first field is there, or it is another word
-            why.field = 2 if isinstance(why, FieldMissing) else 1
+        field = c_size_t()
+        _library.lib.fibs_read_board(line, len(line), byref(_library.Board()), byref(field))
+        why.field = field.value
         raise

@@ -112,16 +112,21 @@ static bool is_kept(const char *bytes, size_t from, size_t to) {
 
 static void is_kind(const fibs_kind *kind) {
     must(kind->kind <= FIBS_KIND_MALFORMED && kind->number <= 19 && kind->fault <= FIBS_FAULT_BAD_NAME
-         && kind->field <= 53 && (kind->kind == FIBS_KIND_MALFORMED) == (kind->fault != FIBS_FAULT_NONE), "a kind");
+         && kind->field <= 54 && (kind->kind == FIBS_KIND_MALFORMED) == (kind->fault != FIBS_FAULT_NONE), "a kind");
 }
 
 static void is_board(const fibs_board *board) {
     must(board->player_len <= FIBS_MAX_NAME && board->opponent_len <= FIBS_MAX_NAME, "a name's length");
+    must(is_kept(board->player, board->player_len, FIBS_MAX_NAME)
+         && is_kept(board->opponent, board->opponent_len, FIBS_MAX_NAME), "what follows a name");
 }
 
 static void is_decision(const fibs_decision *decision) {
     must(decision->kind <= FIBS_DECISION_RESIGN_BACKGAMMON
          && decision->count <= (decision->kind == FIBS_DECISION_MOVE ? FIBS_MAX_STEPS : 0), "a decision");
+    for (size_t i = decision->count; i < FIBS_MAX_STEPS; i++) {
+        must(decision->steps[i].source == 0 && decision->steps[i].target == 0, "what follows the steps");
+    }
 }
 
 static fibs_decision some_decision(void) {
@@ -146,6 +151,7 @@ static bool answered(fibs_status status, unsigned may_write) {
 
 static void is_wire(fibs_status status) {
     must(out.wire.len <= FIBS_MAX_WIRE && (status == FIBS_STATUS_DONE || out.wire.len == 0), "a wire");
+    must(is_kept(out.wire.bytes, out.wire.len, FIBS_MAX_WIRE), "what follows the commands");
 }
 
 static struct handles {
@@ -153,6 +159,19 @@ static struct handles {
     fibs_client client;
     fibs_directory directory;
 } held;
+
+/* Bytes were handed out. */
+static void is_text(fibs_status status, const char *text, size_t room, size_t most) {
+    answered(status, status == FIBS_STATUS_DONE || status == FIBS_STATUS_SHORT ? SIZE : NOTHING);
+    must(is_kept(text, status == FIBS_STATUS_DONE ? out.size : 0, room), "a text's room");
+    must((written() & SIZE) == 0 || out.size <= most, "a text's length");
+}
+
+/* A direction, or any other number. */
+static int32_t direction(void) {
+    uint8_t byte = one_byte();
+    return byte % 4 == 0 ? (int32_t)number() : byte % 2 == 0 ? -1 : 1;
+}
 
 static void call_lines(uint8_t which) {
     struct text piece = some_text();
@@ -197,6 +216,9 @@ static void call_lines(uint8_t which) {
     case 4:
         answered(fibs_lines_reset(&held.lines), NOTHING);
         break;
+    case 5:
+        is_text(fibs_lines_unfinished(&held.lines, text, room, &out.size), text, room, FIBS_MAX_LINE);
+        break;
     default:
         status = fibs_lines_held(&held.lines, &out.size);
         if (answered(status, status == FIBS_STATUS_DONE ? SIZE : NOTHING)) {
@@ -215,15 +237,8 @@ static void is_field(fibs_status status, const char *text, size_t room) {
     must(!is_told || (out.field.kind >= FIBS_FIELD_NAME && out.field.kind <= FIBS_FIELD_TEXT), "a field's kind");
 }
 
-/* Bytes were handed out. */
-static void is_text(fibs_status status, const char *text, size_t room, size_t most) {
-    answered(status, status == FIBS_STATUS_DONE || status == FIBS_STATUS_SHORT ? SIZE : NOTHING);
-    must(is_kept(text, status == FIBS_STATUS_DONE ? out.size : 0, room), "a text's room");
-    must((written() & SIZE) == 0 || out.size <= most, "a text's length");
-}
-
 static void call_readings(uint8_t which) {
-    struct text line = some_text();
+    struct text line = some_text(), other = some_text();
     size_t room, count;
     char *text = some_room(&room);
     fibs_status status;
@@ -236,12 +251,11 @@ static void call_readings(uint8_t which) {
         answered(FIBS_STATUS_DONE, NOTHING);
         break;
     case 1:
-        kind = fibs_read_board(line.bytes, line.len, &out.board);
-        is_kind(&kind);
-        answered(FIBS_STATUS_DONE, kind.kind == FIBS_KIND_BOARD ? BOARD : NOTHING);
-        if (kind.kind == FIBS_KIND_BOARD) {
+        status = fibs_read_board(line.bytes, line.len, &out.board, &out.size);
+        if (answered(status, status == FIBS_STATUS_DONE ? SIZE | BOARD : SIZE)) {
             is_board(&out.board);
         }
+        must(out.size <= 54 && (out.size == 0) == (status == FIBS_STATUS_DONE), "the wrong field");
         break;
     case 2:
         is_text(fibs_print_board(line.bytes, line.len, text, room, &out.size), text, room, FIBS_MAX_BOARD);
@@ -271,21 +285,36 @@ static void call_readings(uint8_t which) {
         break;
     case 7:
         decision = some_decision();
-        is_text(fibs_decision_text(&decision, (int32_t)number(), text, room, &out.size), text, room, FIBS_MAX_COMMAND);
+        is_text(fibs_decision_text(&decision, direction(), text, room, &out.size), text, room, FIBS_MAX_COMMAND);
         break;
     case 8:
-        status = fibs_read_decision(line.bytes, line.len, (int32_t)number(), &out.decision);
+        status = fibs_read_decision(line.bytes, line.len, direction(), &out.decision);
         if (answered(status, status == FIBS_STATUS_DONE ? DECISION : NOTHING)) {
             is_decision(&out.decision);
         }
+        break;
+    case 9:
+        decision = some_decision();
+        status = fibs_effect(line.bytes, line.len, &decision, one_byte() % 8, one_byte() % 8, text, room, &out.size);
+        is_text(status, text, room, FIBS_MAX_BOARD);
+        break;
+    case 10:
+        status = fibs_differs(line.bytes, line.len, other.bytes, other.len, &out.byte);
+        must(!answered(status, status == FIBS_STATUS_DONE ? BYTE : NOTHING) || out.byte <= 1, "they differ or not");
+        break;
+    case 11:
+        status = fibs_match_over(line.bytes, line.len, &out.byte);
+        must(!answered(status, status == FIBS_STATUS_DONE ? BYTE : NOTHING) || out.byte <= 1, "it is over or not");
         break;
     default:
         is_text(fibs_status_text((fibs_status)(number() * 4 + one_byte()), text, room, &out.size), text, room,
                 FIBS_MAX_STATUS_NAME);
         must(fibs_max_line() == FIBS_MAX_LINE && fibs_version()[0] != '\0' && fibs_kind_name(one_byte()) != NULL
-             && fibs_phase_name(one_byte()) != NULL && fibs_decision_name(one_byte()) != NULL, "names");
+             && fibs_phase_name(one_byte()) != NULL && fibs_decision_name(one_byte()) != NULL
+             && fibs_fault_name(one_byte()) != NULL && fibs_field_name(one_byte()) != NULL, "names");
     }
     free(line.bytes);
+    free(other.bytes);
     free(text);
 }
 
@@ -352,6 +381,15 @@ static void call_client(uint8_t which) {
             is_decision(&out.waited.decision);
         }
         break;
+    case 11:
+        answered(fibs_client_ready(&held.client), NOTHING);
+        break;
+    case 12:
+        is_text(fibs_client_unfinished(&held.client, text, room, &out.size), text, room, FIBS_MAX_LINE);
+        break;
+    case 13:
+        is_text(fibs_client_shown_line(&held.client, text, room, &out.size), text, room, FIBS_MAX_BOARD);
+        break;
     default:
         room = FIBS_MAX_LINE - 1 + one_byte() % 2;
         free(text);
@@ -415,16 +453,16 @@ int LLVMFuzzerTestOneInput(const uint8_t *data, size_t size) {
     left = data;
     left_len = size;
     while (left_len > 0) {
-        uint8_t which = one_byte() % 35;
+        uint8_t which = one_byte() % 42;
         fill();
-        if (which < 6) {
+        if (which < 7) {
             call_lines(which);
-        } else if (which < 16) {
-            call_readings(which - 6);
-        } else if (which < 28) {
-            call_client(which - 16);
+        } else if (which < 20) {
+            call_readings(which - 7);
+        } else if (which < 35) {
+            call_client(which - 20);
         } else {
-            call_directory(which - 28);
+            call_directory(which - 35);
         }
     }
     fibs_lines_free(&held.lines);

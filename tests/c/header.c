@@ -13,7 +13,7 @@ int main(void) {
     if (status == FIBS_STATUS_DONE && fibs_read("12 bob hi", 9).kind == FIBS_KIND_MESSAGE) {
         status = fibs_decision_text(&decision, -1, text, sizeof text, &len);
     }
-    if (fibs_read_board("board", 5, &board).kind == FIBS_KIND_BOARD && board.number[FIBS_BOARD_TURN] < 0) {
+    if (fibs_read_board("board", 5, &board, &len) == FIBS_STATUS_DONE && board.number[FIBS_BOARD_TURN] < 0) {
         status = fibs_status_text(FIBS_STATUS_SHORT, text, sizeof text, &len);
     }
     fibs_client_free(&other);

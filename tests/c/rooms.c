@@ -172,6 +172,12 @@ static void check_texts(void) {
     check(fibs_read_decision(TEXT("move 1-7 7-9"), 1, &decision) == S(DONE) && decision.kind == FIBS_DECISION_MOVE
           && decision.count == 2 && decision.steps[0].source == 24 && decision.steps[1].target == 16, "and back");
     check(fibs_read_decision(TEXT("move 1-7  7-9"), 1, &decision) == S(NO_COMMAND), "no command");
+    static const int32_t no_directions[] = { 0, 2, -2, 25, INT32_MAX, INT32_MIN };
+    for (size_t i = 0; i < sizeof no_directions / sizeof no_directions[0]; i++) {
+        check(fibs_read_decision(TEXT("roll"), no_directions[i], &decision) == S(NO_DIRECTION)
+              && fibs_decision_text(&decision, no_directions[i], text, sizeof text, &len) == S(NO_DIRECTION),
+              "no direction");
+    }
     check(fibs_read_decision(TEXT("resign g"), 1, &decision) == S(DONE) && decision.kind == FIBS_DECISION_RESIGN_GAMMON,
           "resign");
     check(fibs_decision_text(&decision, 1, text, sizeof text, &len) == S(DONE) && len == 8
@@ -181,7 +187,8 @@ static void check_texts(void) {
 static void check_rules(void) {
     static fibs_decision plays[64];
     fibs_decision decision = { 0, 0, { { 0, 0 } } };
-    uint8_t phase = 0;
+    uint8_t phase = 0, flag = 7;
+    size_t len = 0;
     size_t count = 0;
     check(fibs_phase(TEXT(board), &phase) == S(DONE) && phase == FIBS_PHASE_MOVE, "the phase");
     check(fibs_phase(TEXT("board:ann"), &phase) == S(FIELD_MISSING), "no board has no phase");
@@ -190,6 +197,11 @@ static void check_rules(void) {
     check(fibs_plays(TEXT(board), plays, count, &count) == S(DONE) && plays[count - 1].kind == FIBS_DECISION_MOVE,
           "all plays");
     check(fibs_allows(TEXT(board), &plays[0]) == S(DONE), "the first play");
+    check(fibs_effect(TEXT(board), &plays[0], 9, 9, text, sizeof text, &len) == S(DONE) && len <= FIBS_MAX_BOARD
+          && fibs_phase(text, len, &phase) == S(DONE) && phase == FIBS_PHASE_OPPONENT_ACTS, "the board after it");
+    check(fibs_differs(TEXT(board), text, len, &flag) == S(DONE) && flag == 1, "it differs");
+    check(fibs_differs(TEXT(board), TEXT(board), &flag) == S(DONE) && flag == 0, "a board does not differ from itself");
+    check(fibs_match_over(TEXT(board), &flag) == S(DONE) && flag == 0, "the match goes on");
     for (unsigned kind = 0; kind < 256; kind++) {
         decision.kind = (uint8_t)kind;
         fibs_status status = fibs_allows(TEXT(board), &decision);
@@ -217,7 +229,8 @@ static void check_names(void) {
         { 12, "NotOrdered" }, { 101, "BadName" },
         { 102, "BadText" }, { 103, "TooLong" }, { 201, "NotYou" }, { 202, "TooManyOwn" }, { 203, "TooManyOther" },
         { 301, "Missing" }, { 302, "Extra" }, { 303, "NotANumber" }, { 304, "OutOfRange" }, { 305, "BadName" },
-        { 401, "Memory" }, { 402, "Full" }, { 501, "NoHandle" }, { 509, "NoStatus" },
+        { 401, "Memory" }, { 402, "Full" }, { 501, "NoHandle" }, { 509, "NoStatus" }, { 510, "NoEffect" },
+        { 511, "NoDirection" },
     };
     size_t len = 0, known = 0;
     for (size_t i = 0; i < sizeof names / sizeof names[0]; i++) {
@@ -233,9 +246,14 @@ static void check_names(void) {
         }
     }
     check(fibs_status_name(UINT32_MAX)[0] == '\0' && fibs_kind_name(4)[0] == '\0' && fibs_phase_name(0)[0] == '\0'
-          && fibs_phase_name(7)[0] == '\0' && fibs_decision_name(9)[0] == '\0', "no names");
+          && fibs_phase_name(7)[0] == '\0' && fibs_decision_name(9)[0] == '\0' && fibs_fault_name(0)[0] == '\0'
+          && fibs_fault_name(6)[0] == '\0' && fibs_field_name(0)[0] == '\0' && fibs_field_name(8)[0] == '\0',
+          "no names");
+    check(strcmp(fibs_fault_name(FIBS_FAULT_OUT_OF_RANGE), "OutOfRange") == 0
+          && strcmp(fibs_field_name(FIBS_FIELD_NAME), "name") == 0
+          && strcmp(fibs_field_name(FIBS_FIELD_TEXT), "text") == 0, "names of faults and fields");
     check(strcmp(fibs_version(), FIBS_VERSION) == 0, "the version");
-    check(known == 35, "as many statuses as the header has");
+    check(known == 37, "as many statuses as the header has");
     check(fibs_status_text(UINT32_MAX, text, sizeof text, &len) == S(NO_STATUS), "no such status");
     check(fibs_status_text(S(DONE), text, 3, &len) == S(SHORT) && len == 4, "room for a name");
 }

@@ -67,7 +67,8 @@ static void print_board(const char *line, size_t len) {
     char again[FIBS_MAX_BOARD + 512];
     size_t printed = 0, wanted = 0;
     fibs_board board;
-    must(fibs_read_board(line, len, &board).kind == FIBS_KIND_BOARD, "it is not a board");
+    size_t field;
+    must(fibs_read_board(line, len, &board, &field) == FIBS_STATUS_DONE, "it is not a board");
     must(fibs_print_board(line, len, text, 4, &wanted) == FIBS_STATUS_SHORT, "four bytes are room for a board");
     must(fibs_print_board(line, len, text, wanted, &printed) == FIBS_STATUS_DONE && printed == wanted,
          "a board was not printed");

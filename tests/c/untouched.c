@@ -34,6 +34,10 @@ static void is(const char *what, fibs_status wanted, fibs_status got, unsigned m
 static void sends(const char *what, fibs_status wanted, fibs_status got, unsigned members) {
     bool is_empty = out.wire.len == 0 && memcmp(out.wire.bytes, pattern.wire.bytes, sizeof out.wire.bytes) == 0;
     check(out.wire.len <= FIBS_MAX_WIRE && (got == FIBS_STATUS_DONE || is_empty), what);
+    size_t len = out.wire.len;
+    check(len <= FIBS_MAX_WIRE
+          && memcmp(out.wire.bytes + len, pattern.wire.bytes + len, FIBS_MAX_WIRE - len) == 0,
+          "what follows the commands is as it was");
     is(what, wanted, got, members | WIRE);
 }
 
@@ -84,6 +88,8 @@ static void check_lines(void) {
            fibs_read_lines(&lines, T("a\n"), out.text, sizeof out.text, out.rows, 3, &out.told), NOTHING);
         is("reset of none", S(NO_HANDLE), fibs_lines_reset(&lines), NOTHING);
         is("held of none", S(NO_HANDLE), fibs_lines_held(&lines, &out.size), NOTHING);
+        is("unfinished of none", S(NO_HANDLE), fibs_lines_unfinished(&lines, out.text, sizeof out.text, &out.size),
+           NOTHING);
         is("new", S(DONE), fibs_lines_new(&lines), NOTHING);
         fibs_lines held = lines;
         is("new of one", S(HELD), fibs_lines_new(&lines), NOTHING);
@@ -112,6 +118,14 @@ static void check_lines(void) {
         check(memcmp(&out.rows[2], &pattern.rows[2], sizeof out.rows[2]) == 0, "just their rows are written");
         fill();
         is("held", S(DONE), fibs_lines_held(&lines, &out.size), SIZE);
+        is("nothing is unfinished", S(DONE), fibs_lines_unfinished(&lines, NULL, 0, &out.size), SIZE);
+        fibs_lines_feed(&lines, T("\377\373\1login: "), out.text, sizeof out.text, &out.fed);
+        fill();
+        is("no room for what is unfinished", S(SHORT), fibs_lines_unfinished(&lines, out.text, 6, &out.size), SIZE);
+        fibs_lines_unfinished(&lines, out.text, sizeof out.text, &out.size);
+        check(out.size == 7 && memcmp(out.text, "login: ", 7) == 0
+              && memcmp(out.text + 7, pattern.text + 7, sizeof out.text - 7) == 0, "just a prompt is written");
+        is("what is unfinished", 0, 0, SIZE | TEXT);
         is("reset", S(DONE), fibs_lines_reset(&lines), NOTHING);
         fibs_lines_free(&lines);
         check(lines == NULL, "free makes the handle null");
@@ -122,14 +136,22 @@ static void check_lines(void) {
 static void check_readings(void) {
     fill();
     check(fibs_read(NULL, 0).kind == FIBS_KIND_TEXT, "the empty line");
-    fibs_read_board(T("hello"), &out.board);
-    is("no board", 0, 0, NOTHING);
-    fibs_read_board(NULL, 0, &out.board);
-    is("the empty line is no board", 0, 0, NOTHING);
-    fibs_read_board(T("board:You"), &out.board);
-    is("half a board", 0, 0, NOTHING);
-    fibs_read_board(T(board), &out.board);
-    is("a board", 0, 0, BOARD);
+    static const struct { const char *line; fibs_status status; size_t field; } wrong[] = {
+        { "hello", S(FIELD_BAD_NAME), 1 }, { "", S(FIELD_BAD_NAME), 1 }, { "5 bob", S(FIELD_BAD_NAME), 1 },
+        { "board", S(FIELD_MISSING), 2 }, { "board:You", S(FIELD_MISSING), 3 },
+        { "board:You:a b", S(FIELD_BAD_NAME), 3 }, { "board:You:bob:3:x", S(FIELD_NOT_A_NUMBER), 5 },
+        { "board:You:bob:10000", S(FIELD_OUT_OF_RANGE), 4 }
+    };
+    for (size_t i = 0; i < sizeof wrong / sizeof wrong[0]; i++) {
+        fibs_status status = fibs_read_board(T(wrong[i].line), &out.board, &out.size);
+        check(out.size == wrong[i].field, wrong[i].line);
+        is(wrong[i].line, wrong[i].status, status, SIZE);
+    }
+    is("the empty line is no board", S(FIELD_BAD_NAME), fibs_read_board(NULL, 0, &out.board, &out.size), SIZE);
+    check(fibs_read_board(T(board), &out.board, &out.size) == S(DONE) && out.size == 0 && out.board.player_len == 3
+          && memcmp(out.board.player + 3, pattern.board.player + 3, FIBS_MAX_NAME - 3) == 0,
+          "just the bytes of its names are written");
+    is("a board", 0, 0, SIZE | BOARD);
     is("half a board is not printed", S(FIELD_MISSING),
        fibs_print_board(T("board:You"), out.text, sizeof out.text, &out.size), NOTHING);
     is("no board is not printed", S(FIELD_BAD_NAME), fibs_print_board(NULL, 0, out.text, sizeof out.text, &out.size),
@@ -153,7 +175,26 @@ static void check_rules(void) {
         is("no phase", lines[i].status, fibs_phase(T(lines[i].line), &out.byte), NOTHING);
         is("no plays", lines[i].status, fibs_plays(T(lines[i].line), out.plays, 32, &out.size), NOTHING);
         is("nothing is allowed", lines[i].status, fibs_allows(T(lines[i].line), &roll), NOTHING);
+        is("no effect", lines[i].status,
+           fibs_effect(T(lines[i].line), &roll, 1, 2, out.text, sizeof out.text, &out.size), NOTHING);
     }
+    for (size_t i = 0; i < 2; i++) {
+        is("a match of no board", lines[i].status, fibs_match_over(T(lines[i].line), &out.byte), NOTHING);
+        is("no difference", lines[i].status, fibs_differs(T(lines[i].line), T(board), &out.byte), NOTHING);
+        is("no difference either", lines[i].status, fibs_differs(T(board), T(lines[i].line), &out.byte), NOTHING);
+    }
+    is("a match", S(DONE), fibs_match_over(T(watched), &out.byte), BYTE);
+    is("a difference", S(DONE), fibs_differs(T(board), T(watched), &out.byte), BYTE);
+    is("no decision has no effect", S(NO_DECISION),
+       fibs_effect(T(board), &none, 1, 2, out.text, sizeof out.text, &out.size), NOTHING);
+    is("a roll where dice lie", S(NO_EFFECT),
+       fibs_effect(T(board), &roll, 1, 2, out.text, sizeof out.text, &out.size), NOTHING);
+    is("a roll of no dice", S(NO_EFFECT),
+       fibs_effect(T(to_roll), &roll, 0, 7, out.text, sizeof out.text, &out.size), NOTHING);
+    is("no room for a board", S(SHORT), fibs_effect(T(to_roll), &roll, 6, 2, NULL, 0, &out.size), SIZE);
+    fibs_effect(T(to_roll), &roll, 6, 2, out.text, sizeof out.text, &out.size);
+    check(out.size == strlen(board) && memcmp(out.text, board, out.size) == 0, "the board after a roll");
+    is("a roll", 0, 0, SIZE | TEXT);
     is("a phase", S(DONE), fibs_phase(T(board), &out.byte), BYTE);
     is("no room for plays", S(SHORT), fibs_plays(T(board), out.plays, 13, &out.size), SIZE);
     is("no room for plays at all", S(SHORT), fibs_plays(T(board), NULL, 0, &out.size), SIZE);
@@ -170,11 +211,20 @@ static void check_rules(void) {
        NOTHING);
     is("no room for a command", S(SHORT), fibs_decision_text(&roll, 1, NULL, 0, &out.size), SIZE);
     is("a command", S(DONE), fibs_decision_text(&roll, 1, out.text, sizeof out.text, &out.size), SIZE | TEXT);
+    is("no direction of a command", S(NO_DIRECTION),
+       fibs_decision_text(&roll, 0, out.text, sizeof out.text, &out.size), NOTHING);
+    is("no direction", S(NO_DIRECTION), fibs_read_decision(T("roll"), 2, &out.decision), NOTHING);
     is("no command", S(NO_COMMAND), fibs_read_decision(T("rol"), 1, &out.decision), NOTHING);
     is("an empty command", S(NO_COMMAND), fibs_read_decision(NULL, 0, 1, &out.decision), NOTHING);
     fibs_read_decision(T("roll"), 1, &out.decision);
     check(out.decision.kind == FIBS_DECISION_ROLL && out.decision.count == 0, "a decision without steps");
     is("a decision", 0, 0, DECISION);
+    fibs_read_decision(T("move 24-18"), -1, &out.decision);
+    check(out.decision.count == 1 && out.decision.steps[0].source == 24 && out.decision.steps[1].source == 0
+          && out.decision.steps[1].target == 0 && out.decision.steps[3].source == 0
+          && out.decision.steps[3].target == 0,
+          "the steps after the count are zeros");
+    is("a move", 0, 0, DECISION);
 }
 
 /* Gives the client a text, line by line. */
@@ -212,6 +262,11 @@ static void check_client(void) {
         is("lose of none", S(NO_HANDLE), fibs_client_lose(&client, &out.waited), NOTHING);
         is("shown of none", S(NO_HANDLE), fibs_client_shown(&client, &out.board), NOTHING);
         is("waiting of none", S(NO_HANDLE), fibs_client_waiting(&client, &out.waited), NOTHING);
+        is("ready of none", S(NO_HANDLE), fibs_client_ready(&client), NOTHING);
+        is("unfinished of none", S(NO_HANDLE),
+           fibs_client_unfinished(&client, out.text, sizeof out.text, &out.size), NOTHING);
+        is("shown line of none", S(NO_HANDLE),
+           fibs_client_shown_line(&client, out.text, sizeof out.text, &out.size), NOTHING);
         is("new", S(DONE), fibs_client_new(&client, T("ann"), T("secret")), NOTHING);
         is("new of one", S(HELD), fibs_client_new(&client, T("ann"), T("secret")), NOTHING);
         all_refused(&client, S(OFFLINE));
@@ -222,13 +277,24 @@ static void check_client(void) {
         sends("offline all is dropped", S(DONE),
               fibs_client_feed(&client, T("a\n"), out.text, sizeof out.text, &out.heard, &out.wire), HEARD);
         is("nothing shown", S(NO_BOARD), fibs_client_shown(&client, &out.board), NOTHING);
+        is("no line shown", S(NO_BOARD),
+           fibs_client_shown_line(&client, out.text, sizeof out.text, &out.size), NOTHING);
+        is("ready offline", S(OFFLINE), fibs_client_ready(&client), NOTHING);
         is("nothing waits", S(NOTHING_WAITS), fibs_client_waiting(&client, &out.waited), NOTHING);
         sends("open", S(DONE), fibs_client_open(&client, &out.wire), NOTHING);
         sends("open of an open one", S(ALREADY_OPEN), fibs_client_open(&client, &out.wire), NOTHING);
         all_refused(&client, S(NOT_READY));
+        is("not ready", S(NOT_READY), fibs_client_ready(&client), NOTHING);
+        hear(&client, "\r\nlogin: ");
+        fibs_client_unfinished(&client, out.text, sizeof out.text, &out.size);
+        check(out.size == 7 && memcmp(out.text, "login: ", 7) == 0, "the login is asked for again");
+        is("what is unfinished", 0, 0, SIZE | TEXT);
+        is("no room for it", S(SHORT), fibs_client_unfinished(&client, NULL, 0, &out.size), SIZE);
+        hear(&client, "\n");
         is("not ordered", S(NOT_ORDERED), fibs_client_withdraw_roll(&client), NOTHING);
         hear(&client, ready_automove);
         all_refused(&client, S(SERVER_PLAYS));
+        is("ready", S(DONE), fibs_client_ready(&client), NOTHING);
         sends("toggle", S(DONE), fibs_client_plain(&client, T("toggle automove"), &out.wire), NOTHING);
         sends("toggle again", S(NOT_ON), fibs_client_plain(&client, T("toggle automove"), &out.wire), NOTHING);
         sends("no command", S(NO_COMMAND), fibs_client_plain(&client, NULL, 0, &out.wire), NOTHING);
@@ -257,6 +323,10 @@ static void check_client(void) {
               "just its bytes are written");
         fill();
         is("shown", S(DONE), fibs_client_shown(&client, &out.board), BOARD);
+        is("no room for what is shown", S(SHORT), fibs_client_shown_line(&client, NULL, 0, &out.size), SIZE);
+        fibs_client_shown_line(&client, out.text, sizeof out.text, &out.size);
+        check(out.size == strlen(board) && memcmp(out.text, board, out.size) == 0, "the line of what is shown");
+        is("the line shown", 0, 0, SIZE | TEXT);
         fibs_client_lose(&client, &out.waited);
         check(out.waited.decision.kind == FIBS_DECISION_NONE && out.waited.decision.count == 0
               && memcmp(&out.waited.board, &pattern.waited.board, sizeof out.waited.board) == 0,

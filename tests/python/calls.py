@@ -203,6 +203,83 @@ def the_rules_are_those_of_the_program(counts):
         counts.same([play.command() for play in fibs.plays(line)], listed.splitlines()[1:], 'the plays of the program')
 
 
+def a_board_after_a_decision(counts):
+    board = fibs.Board(MOVES)
+    for play in board.plays():
+        after = board.after(play)
+        counts.check(board.differs(after) and after.phase == fibs.Phase.OPPONENT_ACTS, 'a board that differs')
+    after = board.after(fibs.Decision.move([(5, 3), (3, 2)]))
+    counts.same((after.checkers[2], after.checkers[5], after.dice, after.turn), (1, 0, (0, 0), -1), 'a play')
+    counts.same(fibs.Board(BOARD).after(fibs.ROLL, (2, 1)), board, 'a roll')
+    counts.check(not board.differs(fibs.Board(MOVES + b' ')), 'the same board')
+    for decision, dice in [(fibs.ROLL, (2, 1)), (fibs.ACCEPT, (0, 0)), (fibs.Decision.move([(8, 7)]), (0, 0))]:
+        counts.raises(fibs.NoEffect, board.after, decision, dice)
+    counts.raises(fibs.NoEffect, fibs.Board(BOARD).after, fibs.ROLL, (0, 7))
+    counts.raises(fibs.NotYou, fibs.Board(MOVES.replace(b':You:', b':ann:')).after, fibs.ROLL, (2, 1))
+    counts.raises(fibs.NoDecision, board.after, fibs.Decision.move([(0, 1)]))
+    counts.raises(ValueError, fibs.Board(BOARD).after, fibs.ROLL, (-1, 256))
+    counts.raises(TypeError, board.after, 'roll')
+    blot = fibs.Board(REAL.replace(b':-5:0:0:0:0:2:0:1:6:2:', b':-4:0:0:-1:0:2:0:1:6:2:'))
+    after = blot.after(fibs.Decision.move([(24, 22), (22, 16)]))
+    counts.same((after.opponent_checkers[25], after.opponent_checkers[3], after.checkers[16]), (1, 0, 1), 'a hit')
+
+
+def a_board_of_the_other_side(counts):
+    real = fibs.Board(REAL)
+    turned = real.turned()
+    counts.same((turned.checkers, turned.opponent_checkers, turned.score, turned.opponent_score, turned.colour,
+                 turned.direction, turned.opponent_dice, turned.turn),
+                (real.opponent_checkers, real.checkers, 1, 0, -1, 1, (6, 2), 1), 'the sides')
+    counts.same(turned.phase, fibs.Phase.OPPONENT_ACTS, 'the user acts')
+    theirs = fibs.Board(REAL.replace(b':1:6:2:0:0:', b':-1:0:0:6:2:'))
+    counts.same((theirs.phase, theirs.plays()), (fibs.Phase.OPPONENT_ACTS, []), 'the opponent acts')
+    counts.same(theirs.turned().plays(), real.plays(), 'the start is alike for both')
+    counts.same(theirs.turned().turned().field(50), 0, 'what is not told')
+    for line in REAL, MOVES, BOARD:
+        board = fibs.Board(line)
+        again = board.turned().turned()
+        counts.same([again.field(n) for n in range(4, 54) if n not in (41, 50, 51)],
+                    [board.field(n) for n in range(4, 54) if n not in (41, 50, 51)], 'turned twice')
+
+
+def the_end_of_a_match(counts):
+    for fields, is_over in [((1, 0, 0, 0), True), ((1, 0, 0, 1), False), ((5, 5, 2, 0), True), ((5, 2, 5, 0), True),
+                            ((5, 4, 4, 0), False), ((5, 6, 0, 0), True), ((5, 6, 0, -1), False),
+                            ((9999, 50, 7, 0), False)]:
+        length, own, other, turn = fields
+        line = b':'.join(b'%d' % one for one in (length, own, other))
+        board = fibs.Board(REAL.replace(b':3:0:1:', b':%s:' % line, 1).replace(b':1:6:2:', b':%d:6:2:' % turn))
+        counts.same(board.match_over, is_over, 'a match: %s' % (fields,))
+
+
+def what_is_unfinished_is_told(counts):
+    lines = fibs.Lines(b'a\nlogin: ')
+    counts.same([line.text for line in lines], [b'a'], 'the lines that ended')
+    counts.same((lines.unfinished, lines.finish(), lines.unfinished, lines.finish()),
+                (b'login: ', [fibs.read(b'')], b'', []), 'a prompt')
+    lines.feed(b'> 3\r')
+    counts.same((lines.unfinished, lines.finish()), (b'> 3\r', [fibs.read(b'3')]), 'a message without its line end')
+    lines.feed(b'x' * (fibs.MAX_LINE + 9))
+    counts.same((len(lines.unfinished), lines.finish()[0].cut), (fibs.MAX_LINE, True), 'a long one')
+    client = fibs.Client('ann', 'secret')
+    counts.same((client.ready, client.unfinished), (False, b''), 'not connected')
+    client.open()
+    list(client.feed(b'\xff\xfb\x01\r\nlogin: '))
+    counts.same((client.ready, client.unfinished), (False, b'login: '), 'a refused login')
+    list(client.feed(b'\r\n' + GREETING[:30]))
+    counts.same(client.ready, False, 'message 1 alone')
+    list(client.feed(GREETING[30:] + b'> '))
+    counts.same((client.ready, client.unfinished), (True, b'> '), 'logged in')
+    client.lose()
+    counts.same(client.ready, False, 'not connected again')
+    client.open()
+    counts.same((client.ready, client.unfinished), (False, b''), 'another connection')
+    lines.close()
+    client.close()
+    for ask in (lambda: lines.unfinished, lines.finish, lambda: client.ready, lambda: client.unfinished):
+        counts.raises(fibs.Closed, ask)
+
+
 def decisions_are_spelled_and_read(counts):
     for decision, down, up in [(fibs.ROLL, 'roll', 'roll'), (fibs.RESIGN_GAMMON, 'resign g', 'resign g'),
                                (fibs.Decision.move([(25, 20), (6, 0)]), 'move bar-20 6-off', 'move bar-5 19-off'),
@@ -224,6 +301,9 @@ def decisions_are_spelled_and_read(counts):
         counts.raises(TypeError, fibs.Decision.parse, text)
     counts.raises(TypeError, fibs.ROLL.command, 'down')
     counts.raises(ValueError, fibs.ROLL.command, 1 << 40)
+    for direction in 0, 2, -2:
+        counts.raises(fibs.NoDirection, fibs.ROLL.command, direction)
+        counts.raises(fibs.NoDirection, fibs.Decision.parse, 'roll', direction)
 
 
 def messages_have_fields(counts):
@@ -399,10 +479,11 @@ def handles_say_their_state(counts):
     client, lines, players = fibs.Client('ann', 'secret'), fibs.Lines(), fibs.Directory()
     counts.same(repr(client), '<fibs.Client: ann, not connected>', 'a client')
     client.open()
-    counts.same(repr(client), '<fibs.Client: ann, connected>', 'a client that is connected')
+    counts.same(repr(client), '<fibs.Client: ann, not logged in>', 'a client that is connected')
     list(client.feed(GREETING + MOVES + b'\n'))
+    counts.same(repr(client), '<fibs.Client: ann, logged in>', 'a client that is logged in')
     client.decide(fibs.Decision.move([(5, 3), (3, 2)]))
-    counts.same(repr(client), '<fibs.Client: ann, connected, move 5-3 3-2 waits>', 'a client that waits')
+    counts.same(repr(client), '<fibs.Client: ann, logged in, move 5-3 3-2 waits>', 'a client that waits')
     client.lose()
     counts.same(repr(client), '<fibs.Client: ann, not connected>', 'a client that lost its connection')
     lines.feed(b'a\nbcd')
@@ -504,7 +585,8 @@ def the_version_is_that_of_the_library(counts):
     counts.check((ROOT / 'lib' / _library.SONAME).exists(), 'the library has it')
 
 
-TESTS = [lines_have_their_kinds, a_stream_may_be_anything_that_is_read, after_a_break_the_iteration_goes_on,
+TESTS = [a_board_after_a_decision, a_board_of_the_other_side, the_end_of_a_match, what_is_unfinished_is_told,
+         lines_have_their_kinds, a_stream_may_be_anything_that_is_read, after_a_break_the_iteration_goes_on,
          a_path_is_opened_and_closed, pieces_are_fed_by_hand, boards_have_names_for_their_numbers,
          both_colours_and_directions_count_from_their_own_side, lines_that_are_no_board_say_why,
          the_rules_are_those_of_the_program, decisions_are_spelled_and_read, messages_have_fields,

@@ -13,6 +13,9 @@ from props.package import fibs
 
 PACKAGE = os.path.dirname(fibs.__file__)
 
+# The number of a tool of Python's monitoring.
+TOOL = 4
+
 
 def tail(code):
     """The instructions of a function that hands something out, from the one that notes it as handed out: nothing is
@@ -37,10 +40,28 @@ class Interrupting:
         self.left, self.kind = after, kind
 
     def __enter__(self):
-        sys.settrace(self.called)
+        # from Python 3.12 on; a trace there leaves instructions out
+        self.monitoring = getattr(sys, 'monitoring', None)
+        if self.monitoring:
+            event = self.monitoring.events.INSTRUCTION
+            self.monitoring.use_tool_id(TOOL, 'interrupts')
+            self.monitoring.register_callback(TOOL, event, self.reached)
+            self.monitoring.set_events(TOOL, event)
+        else:
+            sys.settrace(self.called)
 
     def __exit__(self, *error):
-        sys.settrace(None)
+        if self.monitoring:
+            self.monitoring.set_events(TOOL, 0)
+            self.monitoring.free_tool_id(TOOL)
+        else:
+            sys.settrace(None)
+
+    def reached(self, code, offset):
+        if os.path.dirname(code.co_filename) == PACKAGE and offset not in TAILS.get(code, ()):
+            self.left -= 1
+            if self.left == 0:
+                raise self.kind()
 
     def called(self, frame, event, _):
         if os.path.dirname(frame.f_code.co_filename) != PACKAGE:

@@ -6,7 +6,9 @@ import os
 import re
 import shutil
 import subprocess
+import sys
 import threading
+import warnings
 
 from props.package import ROOT, fibs
 from props.server import Game, Server
@@ -53,6 +55,23 @@ def the_example_of_asyncio_plays_a_game(counts):
     server.close()
 
 
+def it_plays_at_the_server_of_the_examples(counts):
+    """As it invites a bot, and as a bot invites it; in a Python that reports every warning."""
+    names = {}
+    for block in blocks('python'):
+        exec(block, names)
+    for opponent, bot in [('eve', 'eve'), (None, 'eve:invites=1')]:
+        served = [sys.executable, '-B', str(ROOT / 'examples' / 'fibs_server'), '0', '--seed', '5', '--bot', bot]
+        with subprocess.Popen(served, stdout=subprocess.PIPE, text=True) as server, warnings.catch_warnings():
+            warnings.simplefilter('error')
+            try:
+                port = int(server.stdout.readline())
+                score = asyncio.run(asyncio.wait_for(names['play']('127.0.0.1', port, 'ann', 'secret', opponent), 60))
+                counts.check(15 in score, 'with %s: %s' % (bot, score))
+            finally:
+                server.terminate()
+
+
 def names_of_the_page_are_in_the_package(counts):
     """What is in the table of calls, and each exception that is named."""
     words = set(re.findall(r'\b[A-Z][A-Za-z]+\b|\b[A-Z][A-Z_]+\b', ' '.join(re.findall(r'`([^`\n]+)`', PAGE))))
@@ -75,4 +94,5 @@ def the_types_hold(counts):
 
 
 TESTS = [the_sessions_of_the_page_are_as_they_run, the_example_of_asyncio_plays_a_game,
+         it_plays_at_the_server_of_the_examples,
          names_of_the_page_are_in_the_package, the_types_hold]

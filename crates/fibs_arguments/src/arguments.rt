@@ -21,7 +21,7 @@ Exit status: 0 done, 2 wrong arguments, 3 refused input,
 4 input, output or a socket of `loop` failed, 5 out of memory";
 
 /// What `--version` says after the program's name. CHANGELOG.md has the same number.
-const VERSION: &str = "0.2.0 (proved with rattle-kit-13)";
+const VERSION: &str = "0.3.0 (proved with rattle-kit-13)";
 
 const SHOW: &str = "Print what each line of the server says";
 

@@ -1,11 +1,12 @@
 -- What the functions for C do with a client.
-use Rattle.std.specs.Prelude.{◌≡◌, ◌≢◌, ℕ, ◌+◌, List, [], Option, None, Some}
+use Rattle.std.specs.Prelude.{◌≡◌, ◌≢◌, ℕ, ◌+◌, ◌≤◌, List, [], Option, None, Some, take, nat_le, if◌then◌else◌}
+use Rattle.fibs_lines.specs.Lines.{kept_limit, rest_of}
 use Rattle.fibs_commands.specs.Logins.{login_fault, login_text}
 use Rattle.fibs_commands.specs.PlainCommands.{PlainValue}
 use Rattle.fibs_commands.specs.PlainFaults.{plain_fault_number}
 use Rattle.fibs_commands.specs.declared.plain.PlainFault.{PlainFault}
-use Rattle.fibs_boards.specs.Board.{BoardFields}
-use Rattle.fibs_position.specs.DecisionValue.{DecisionValue}
+use Rattle.fibs_boards.specs.Board.{BoardFields, spelling}
+use Rattle.fibs_position.specs.DecisionValue.{DecisionValue, roll}
 use Rattle.fibs_session.specs.Calls.Standing.{ClientValue, StandsAfter}
 use Rattle.fibs_session.specs.History.Words.{Ask}
 use Rattle.fibs_session.specs.History.Machine.{Talk, InputValue, start, step, Open, Lose, Click, PlainInput, wire_of}
@@ -13,6 +14,7 @@ use Rattle.fibs_session.specs.History.Machine.{open_refusal, unconfirmed_now, an
 use Rattle.fibs_records.specs.Asks.{IsAskAs, IsMaybeAsk}
 use Rattle.fibs_records.specs.BoardOf.{IsBoardAs}
 use Rattle.fibs_records.specs.Statuses.{refusal_status, plain_status}
+use Rattle.fibs_records.specs.Texts.{HandsOut}
 use Rattle.fibs_records.specs.Wires.{Holds, IsEmptied}
 use Rattle.fibs_records.specs.declared.boards.BoardRecord.{BoardRecord}
 use Rattle.fibs_records.specs.declared.outstanding.OutstandingRecord.{OutstandingRecord}
@@ -107,3 +109,33 @@ abbrev pub IsWaiting : Option ClientValue → Option ClientValue → Outstanding
 IsWaiting None new out out' status = (status ≡ 501) × (new ≡ None) × (out' ≡ out)
 IsWaiting (Some c) new out out' status =
     (new ≡ Some c) × ((t : Talk) → StandsAfter c t → IsWaitingAsk (unconfirmed_now t) out out' status)
+
+-- what follows the last line end of the connection is handed out; and the client is as it was
+abbrev pub IsClientUnfinished : Option ClientValue → Option ClientValue → List ℕ → List ℕ → ℕ → ℕ → ℕ → Type 0
+IsClientUnfinished None new text text' len len' status =
+    (status ≡ 501) × (new ≡ None) × (text' ≡ text) × (len' ≡ len)
+IsClientUnfinished (Some c) new text text' len len' status =
+    (new ≡ Some c)
+    × ((t : Talk) → StandsAfter c t → HandsOut (take kept_limit (rest_of t.stream)) text text' len' status)
+
+-- of the refusals of a decision the first two that it can meet: no connection is open, or message 1 or 2 has not come
+abbrev pub ready_status : ℕ → ℕ
+ready_status status = if nat_le status 3 then status else 0
+
+-- the client is ready, or why not; and it is as it was
+abbrev pub IsReady : Option ClientValue → Option ClientValue → ℕ → Type 0
+IsReady None new status = (status ≡ 501) × (new ≡ None)
+IsReady (Some c) new status =
+    (new ≡ Some c)
+    × ((t : Talk) → StandsAfter c t → status ≡ ready_status (refusal_status (answer_now t roll)))
+
+-- the board that is shown is printed; or no board is shown, and nothing is written
+abbrev pub IsShownPrinted : Option BoardFields → List ℕ → List ℕ → ℕ → ℕ → ℕ → Type 0
+IsShownPrinted None old new len len' status = (status ≡ 5) × (new ≡ old) × (len' ≡ len)
+IsShownPrinted (Some b) old new len len' status = HandsOut (spelling b) old new len' status × (len' ≤ 329)
+
+-- and the client is as it was
+abbrev pub IsShownLine : Option ClientValue → Option ClientValue → List ℕ → List ℕ → ℕ → ℕ → ℕ → Type 0
+IsShownLine None new text text' len len' status = (status ≡ 501) × (new ≡ None) × (text' ≡ text) × (len' ≡ len)
+IsShownLine (Some c) new text text' len len' status =
+    (new ≡ Some c) × ((t : Talk) → StandsAfter c t → IsShownPrinted (shown_now t) text text' len len' status)

@@ -4,6 +4,7 @@ pub mod ManyLines
 pub mod ReadingsDoor
 pub mod BoardDoor
 pub mod PositionDoor
+pub mod EffectDoor
 pub mod ClientDoor
 pub mod OrderDoor
 pub mod FeedDoor

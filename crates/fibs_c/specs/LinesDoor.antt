@@ -3,7 +3,7 @@ use Rattle.std.specs.Prelude.{◌≡◌, ℕ, ◌<◌, ◌≤◌, ◌++◌, ◌�
 use Rattle.std.specs.Prelude.{Option, None, Some, if◌then◌else◌}
 use Rattle.fibs_lines.specs.Lines.{ReadLine, lines_of, rest_of, kept_limit}
 use Rattle.fibs_lines.specs.LinesValue.{LinesValue, StandsAfter}
-use Rattle.fibs_records.specs.Texts.{is_set}
+use Rattle.fibs_records.specs.Texts.{HandsOut, is_set}
 use Rattle.fibs_c.specs.declared.lines.FedLine.{FedLine}
 
 -- the line that was copied, if one ended
@@ -61,3 +61,11 @@ IsHeld None new len len' status = (status ≡ 501) × (new ≡ None) × (len' �
 IsHeld (Some v) new len len' status =
     (status ≡ 0) × (new ≡ Some v) × (len' ≤ kept_limit)
     × ((s : List ℕ) → StandsAfter v s → len' ≡ min kept_limit (length (rest_of s)))
+
+-- what follows the last line end is handed out, without telnet commands, and as much of it as is kept of a line; and
+-- the reader is as it was
+abbrev pub IsUnfinished : Option LinesValue → Option LinesValue → List ℕ → List ℕ → ℕ → ℕ → ℕ → Type 0
+IsUnfinished None new text text' len len' status = (status ≡ 501) × (new ≡ None) × (text' ≡ text) × (len' ≡ len)
+IsUnfinished (Some v) new text text' len len' status =
+    (new ≡ Some v)
+    × ((s : List ℕ) → StandsAfter v s → HandsOut (take kept_limit (rest_of s)) text text' len' status)

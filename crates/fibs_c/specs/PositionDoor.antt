@@ -1,8 +1,9 @@
 -- What C gets of a position.
-use Rattle.std.specs.Prelude.{◌≡◌, ℕ, ℤ, ◌+◌, ◌<◌, ◌≤◌, ◌⊎◌, negsuc, List, length, map, take, drop, Option, None, Some}
+use Rattle.std.specs.Prelude.{◌≡◌, ℕ, ℤ, ◌+◌, ◌<◌, ◌≤◌, ◌⊎◌, pos, negsuc, List, length, map, take, drop, Option, None, Some}
 use Rattle.std.specs.Prelude.{if◌then◌else◌}
 use Rattle.std.specs.Ordering.{int_eq}
 use Rattle.fibs_boards.specs.Board.{BoardFields, BoardText}
+use Rattle.fibs_commands.specs.CommandReading.{read_command}
 use Rattle.fibs_commands.specs.Commands.{command_of}
 use Rattle.fibs_position.specs.Allowed.{refusal_of}
 use Rattle.fibs_position.specs.DecisionValue.{DecisionValue}
@@ -97,17 +98,24 @@ ArePlaysTold line old new count count' status =
     ((IsNoPosition line status ⊎ (status ≡ 401)) × (new ≡ old) × (count' ≡ count))
     ⊎ TellsPlays line old new count' status
 
--- the direction by its number in field 43 (FIBS board style 3)
-abbrev pub direction_in : ℤ → Direction
-direction_in direction = if int_eq direction (negsuc 0) then Down else Up
+-- the direction by its number in field 43 (FIBS board style 3), if it is one
+abbrev pub direction_in : ℤ → Option Direction
+direction_in direction =
+    if int_eq direction (negsuc 0) then Some Down else if int_eq direction (pos 1) then Some Up else None
 
--- the command of a decision is handed out; or there is no decision, and nothing is written
-abbrev pub IsTextTold : Option DecisionValue → Direction → List ℕ → List ℕ → ℕ → ℕ → ℕ → Type 0
-IsTextTold None direction old new len len' status = (status ≡ 504) × (new ≡ old) × (len' ≡ len)
-IsTextTold (Some d) direction old new len len' status =
-    HandsOut (command_of direction d) old new len' status × (len' ≤ 512)
+-- the command of a decision is handed out; or there is no decision or no direction, and nothing is written
+abbrev pub IsTextTold : Option DecisionValue → Option Direction → List ℕ → List ℕ → ℕ → ℕ → ℕ → Type 0
+IsTextTold None way old new len len' status = (status ≡ 504) × (new ≡ old) × (len' ≡ len)
+IsTextTold (Some d) None old new len len' status = (status ≡ 511) × (new ≡ old) × (len' ≡ len)
+IsTextTold (Some d) (Some way) old new len len' status =
+    HandsOut (command_of way d) old new len' status × (len' ≤ 512)
 
 -- the decision that was read; or the text is no command, and nothing is written
 abbrev pub IsDecisionRead : Option DecisionValue → DecisionRecord → DecisionRecord → ℕ → Type 0
 IsDecisionRead None r r' status = (status ≡ 505) × (r' ≡ r)
 IsDecisionRead (Some d) r r' status = (status ≡ 0) × IsDecisionAs r' d
+
+-- the same for a player of this direction, if it is one
+abbrev pub IsDecisionReadIn : Option Direction → List ℕ → DecisionRecord → DecisionRecord → ℕ → Type 0
+IsDecisionReadIn None text r r' status = (status ≡ 511) × (r' ≡ r)
+IsDecisionReadIn (Some way) text r r' status = IsDecisionRead (read_command way text) r r' status

@@ -1,27 +1,33 @@
 //! Boards of lines.
 
-ghost use Rattle.std.specs.Prelude.{◌≡◌};
-ghost use Rattle.fibs_messages.specs.Line.{reading_value};
-ghost use Rattle.fibs_c.specs.BoardDoor.{IsToldBoard, IsPrintedBoard};
-ghost use Rattle.fibs_records.specs.Kinds.{told_kind};
+ghost use Rattle.std.specs.Prelude.{◌≡◌, not};
+ghost use Rattle.fibs_boards.specs.StoredBoard.{fields_of};
+ghost use Rattle.fibs_position.specs.GamePart.{same_game};
+ghost use Rattle.fibs_c.specs.BoardDoor.{IsBoardRead, IsPrintedBoard, IsOverTold, IsDifferenceTold, ends_match};
+ghost use Rattle.fibs_c.specs.BoardDoor.{is_won};
 
-use fibs_messages::{Board, Reading, read};
+use fibs_messages::Board;
+use fibs_position::differs;
 use fibs_records::boards::{BoardRecord, put_board};
-use fibs_records::kinds::LineKind;
-use fibs_records::status::field_fault_status;
-use fibs_records::text::hand_out;
+use fibs_records::status::{DONE, field_fault_status};
+use fibs_records::text::{flag, hand_out};
 
-/// What a line that was not cut is; if it is a board, its fields too.
+/// The fields of a line's board; or why the line says none, and its first wrong field, counted from 1.
 #[unsafe(no_mangle)]
-pub extern "C" fn fibs_read_board(line: &[u8], board: &mut BoardRecord) -> LineKind
-    ensures kind { result ≡ told_kind (reading_value line.now) }
-    ensures board { IsToldBoard (reading_value line.now) board.old board.new }
+pub extern "C" fn fibs_read_board(line: &[u8], board: &mut BoardRecord, field: &mut usize) -> u32
+    ensures { IsBoardRead line.now board.old board.new field.new result }
 {
-    let reading = read(line);
-    if let Reading::Board(found) = &reading {
-        put_board(board, found);
+    match Board::read(line) {
+        Err(wrong) => {
+            *field = wrong.field;
+            field_fault_status(wrong.fault)
+        }
+        Ok(found) => {
+            put_board(board, &found);
+            *field = 0;
+            DONE
+        }
     }
-    LineKind::of(&reading)
 }
 
 /// The one line that says the board of a line, without a line end: at most 329 bytes.
@@ -32,5 +38,55 @@ pub extern "C" fn fibs_print_board(line: &[u8], text: &mut [u8], len: &mut usize
     match Board::read(line) {
         Err(wrong) => field_fault_status(wrong.fault),
         Ok(board) => hand_out(board.print().as_slice(), text, len),
+    }
+}
+
+/// Whether a game is over by its turn, and with it a match of this length, in which the sides have these points.
+fn is_won(turn: i32, length: i32, own: i32, other: i32) -> bool
+    ensures { result ≡ is_won turn length own other }
+{
+    turn == 0 && (length <= 1 || (length <= own || length <= other))
+}
+
+/// Whether the game is over, and the match with it.
+fn ends_match(board: &Board) -> bool
+    ensures { result ≡ ends_match (fields_of board.now) }
+{
+    is_won(
+        board.field(33),
+        board.field(4),
+        board.field(5),
+        board.field(6),
+    )
+}
+
+/// Whether the board of a line says that the match is over.
+#[unsafe(no_mangle)]
+pub extern "C" fn fibs_match_over(line: &[u8], over: &mut u8) -> u32
+    ensures { IsOverTold line.now over.old over.new result }
+{
+    match Board::read(line) {
+        Err(wrong) => field_fault_status(wrong.fault),
+        Ok(board) => {
+            *over = flag(ends_match(&board));
+            DONE
+        }
+    }
+}
+
+/// Whether the boards of two lines differ in what the game is: so a client hears that a decision was carried out.
+#[unsafe(no_mangle)]
+pub extern "C" fn fibs_differs(line: &[u8], other: &[u8], differ: &mut u8) -> u32
+    ensures { IsDifferenceTold line.now other.now differ.old differ.new result }
+{
+    match Board::read(line) {
+        Err(wrong) => field_fault_status(wrong.fault),
+        Ok(board) => match Board::read(other) {
+            Err(wrong) => field_fault_status(wrong.fault),
+            Ok(second) => {
+                *differ = flag(differs(&board, &second));
+                DONE
+            }
+        },
     }
 }

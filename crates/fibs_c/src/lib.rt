@@ -17,9 +17,11 @@ macro_rules! with {
     };
 }
 
+mod asking;
 mod boards;
 mod client;
 mod directory;
+mod effects;
 mod feeding;
 mod lines;
 mod many_lines;

@@ -1,13 +1,15 @@
 //! Lines of a stream.
 
-ghost use Rattle.std.specs.Prelude.{◌≡◌, ◌≤◌, None, length};
-ghost use Rattle.fibs_lines.specs.Lines.{kept_limit};
-ghost use Rattle.fibs_c.specs.LinesDoor.{FeedsLine, WritesLine, IsFed, IsNewLines, IsReset, IsHeld};
+ghost use Rattle.std.specs.Prelude.{◌≡◌, ◌≤◌, List, None, ℕ, length, take};
+ghost use Rattle.fibs_lines.specs.Lines.{kept_limit, rest_of};
+ghost use Rattle.fibs_lines.specs.LinesValue.{StandsAfter};
+ghost use Rattle.fibs_c.specs.LinesDoor.{FeedsLine, WritesLine, IsFed, IsNewLines, IsReset, IsHeld, IsUnfinished};
+ghost use Rattle.fibs_records.specs.Texts.{HandsOut};
 
 use fibs_lines::{LIMIT, Lines, laws};
 use fibs_records::LinesHandle;
 use fibs_records::status::{DONE, HELD, MEMORY, NO_HANDLE, SHORT};
-use fibs_records::text::{flag, put};
+use fibs_records::text::{flag, hand_out, put};
 use std::alloc::Global;
 
 /// What was read of a piece.
@@ -124,5 +126,29 @@ pub extern "C" fn fibs_lines_held(alloc: Global, lines: &mut LinesHandle, len: &
     with!(LinesHandle, lines, alloc, |held| {
         *len = held.held();
         DONE
+    })
+}
+
+/// Hands out the bytes that follow the last line end.
+fn hand_out_unfinished(lines: &Lines, text: &mut [u8], len: &mut usize) -> u32
+    ensures { (s : List ℕ) → StandsAfter lines.now s →
+        HandsOut (take kept_limit (rest_of s)) text.old text.new len.new result }
+{
+    hand_out(lines.unfinished(), text, len)
+}
+
+/// The bytes that follow the last line end, without telnet commands, and at most as many as are kept of a line. They
+/// have a prompt of the server, since no line end follows that.
+#[unsafe(no_mangle)]
+pub extern "C" fn fibs_lines_unfinished(
+    alloc: Global,
+    lines: &mut LinesHandle,
+    text: &mut [u8],
+    len: &mut usize,
+) -> u32
+    ensures { IsUnfinished lines.old.value lines.new.value text.old text.new len.old len.new result }
+{
+    with!(LinesHandle, lines, alloc, |held| {
+        hand_out_unfinished(&held, text, len)
     })
 }

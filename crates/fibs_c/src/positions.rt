@@ -1,21 +1,22 @@
 //! Positions, and what the rules allow there.
 
-ghost use Rattle.std.specs.Prelude.{◌≡◌, ◌≤◌, IfOk, IfErr, length, map, take, drop};
+ghost use Rattle.std.specs.Prelude.{◌≡◌, ◌≤◌, IfOk, IfErr, Some, length, map, take, drop};
 ghost use Rattle.fibs_commands.specs.CommandReading.{read_command};
+ghost use Rattle.fibs_position.specs.DecisionValue.{decision_of as value_of};
 ghost use Rattle.fibs_position.specs.PositionValue.{position_value};
 ghost use Rattle.fibs_rules.specs.PlayValue.{hops_of};
 ghost use Rattle.fibs_records.specs.Decisions.{decision_in, as_move, move_in};
 ghost use Rattle.fibs_c.specs.PositionDoor.{IsPositionIn, IsNoPosition, IsPhaseTold, IsAllowedTold, phase_number};
 ghost use Rattle.fibs_c.specs.PositionDoor.{ArePlaysTold, HandsOutPlays, direction_in, IsTextTold};
-ghost use Rattle.fibs_c.specs.PositionDoor.{IsDecisionRead};
+ghost use Rattle.fibs_c.specs.PositionDoor.{IsDecisionRead, IsDecisionReadIn};
 
 use fibs_commands::{decision_text, read_command};
 use fibs_messages::Board;
-use fibs_position::{Direction, Phase, Play, Position};
+use fibs_position::{Decision, Direction, Phase, Play, Position};
 use fibs_records::decisions::{DecisionRecord, decision_of, decision_record, play_record};
 use fibs_records::status::{
-    DONE, MEMORY, NO_COMMAND, NO_DECISION, SHORT, disallowed_status, field_fault_status,
-    position_fault_status,
+    DONE, MEMORY, NO_COMMAND, NO_DECISION, NO_DIRECTION, SHORT, disallowed_status,
+    field_fault_status, position_fault_status,
 };
 use fibs_records::text::hand_out;
 use std::alloc::Global;
@@ -126,14 +127,24 @@ pub extern "C" fn fibs_plays(
 }
 
 /// Which way a player goes whose board has this number in field 43.
-fn direction_in(direction: i32) -> Direction
+fn direction_in(direction: i32) -> Option<Direction>
     ensures { result ≡ direction_in direction }
 {
     if direction == -1 {
-        Direction::Down
+        Some(Direction::Down)
+    } else if direction == 1 {
+        Some(Direction::Up)
     } else {
-        Direction::Up
+        None
     }
+}
+
+/// Hands out the command of a decision.
+fn hand_out_command(decision: &Decision, way: Direction, text: &mut [u8], len: &mut usize) -> u32
+    ensures { IsTextTold (Some (value_of decision.now)) (Some way) text.old text.new len.old len.new result }
+{
+    let command = decision_text(decision, way);
+    hand_out(command.as_bytes(), text, len)
 }
 
 /// The command of a decision, without its line end, for a player who goes in this direction: the number of field 43 of
@@ -147,29 +158,39 @@ pub extern "C" fn fibs_decision_text(
 ) -> u32
     ensures { IsTextTold (decision_in decision.now) (direction_in direction) text.old text.new len.old len.new result }
 {
-    match decision_of(decision) {
-        None => NO_DECISION,
-        Some(decision) => {
-            let command = decision_text(&decision, direction_in(direction));
-            hand_out(command.as_bytes(), text, len)
+    let Some(decision) = decision_of(decision) else {
+        return NO_DECISION;
+    };
+    match direction_in(direction) {
+        None => NO_DIRECTION,
+        Some(way) => hand_out_command(&decision, way, text, len),
+    }
+}
+
+/// Reads the decision whose command the text is, for a player of this direction.
+fn read_in(text: &[u8], way: Direction, decision: &mut DecisionRecord) -> u32
+    ensures { IsDecisionRead (read_command way text.now) decision.old decision.new result }
+{
+    match read_command(text, way) {
+        None => NO_COMMAND,
+        Some(read) => {
+            *decision = decision_record(&read);
+            DONE
         }
     }
 }
 
-/// The decision whose command the text is.
+/// The decision whose command the text is, for a player who goes in this direction.
 #[unsafe(no_mangle)]
 pub extern "C" fn fibs_read_decision(
     text: &[u8],
     direction: i32,
     decision: &mut DecisionRecord,
 ) -> u32
-    ensures { IsDecisionRead (read_command (direction_in direction) text.now) decision.old decision.new result }
+    ensures { IsDecisionReadIn (direction_in direction) text.now decision.old decision.new result }
 {
-    match read_command(text, direction_in(direction)) {
-        None => NO_COMMAND,
-        Some(read) => {
-            *decision = decision_record(&read);
-            DONE
-        }
+    match direction_in(direction) {
+        None => NO_DIRECTION,
+        Some(way) => read_in(text, way, decision),
     }
 }

@@ -71,7 +71,8 @@ own_named n =
     if nat_eq n 1 then codes "NoHandle" else if nat_eq n 2 then codes "Held" else if nat_eq n 3 then codes "Short"
     else if nat_eq n 4 then codes "NoDecision" else if nat_eq n 5 then codes "NoCommand"
     else if nat_eq n 6 then codes "NoField" else if nat_eq n 7 then codes "NothingWaits"
-    else if nat_eq n 8 then codes "NoPlayer" else if nat_eq n 9 then codes "NoStatus" else []
+    else if nat_eq n 8 then codes "NoPlayer" else if nat_eq n 9 then codes "NoStatus"
+    else if nat_eq n 10 then codes "NoEffect" else if nat_eq n 11 then codes "NoDirection" else []
 
 abbrev pub name_in : ℕ → ℕ → List ℕ
 name_in family n =

@@ -70,6 +70,12 @@ pub const NO_PLAYER: u32 = 508;
 /// There is no such status.
 pub const NO_STATUS: u32 = 509;
 
+/// The server does not carry the decision out on the board.
+pub const NO_EFFECT: u32 = 510;
+
+/// The number is not that of a direction.
+pub const NO_DIRECTION: u32 = 511;
+
 /// Why a client refuses.
 pub fn refusal_status(why: Refusal) -> u32
     ensures { result ≡ refusal_number why }
@@ -208,6 +214,8 @@ fn own_named(number: u32) -> &'static str
         7 => "NothingWaits",
         8 => "NoPlayer",
         9 => "NoStatus",
+        10 => "NoEffect",
+        11 => "NoDirection",
         _ => "",
     }
 }
