@@ -48,8 +48,8 @@ WELCOME = '1 ann 1041253132 localhost'
 
 # What is shown when it is the player's turn, and of what was typed: at a terminal, and to a program.
 TO_ROLL, TO_MOVE = ' You roll, or ', 'Your move, as in: '
-AT_A_TERMINAL = {'roll': TO_ROLL, 'move': TO_MOVE, 'rolled': TO_MOVE, 'won': 'You win', 'wrong': '[8 WrongKind]',
-                 'illegal': '[9 IllegalPlay]', 'lost': 'roll may have reached the server or not',
+AT_A_TERMINAL = {'roll': TO_ROLL, 'move': TO_MOVE, 'rolled': TO_MOVE, 'won': 'You win', 'wrong': 'Your turn: roll',
+                 'illegal': TO_MOVE, 'lost': 'roll may have reached the server or not',
                  'offline': '[2 Offline]', 'bob': '1623.50'}
 TO_A_PROGRAM = {'roll': 'phase RollOrDouble\n', 'move': 'phase Move\n', 'rolled': 'confirmed roll\n',
                 'won': 'confirmed move 3-off 2-off\n', 'wrong': 'refused 8 WrongKind',

@@ -1,1 +1,4 @@
+pub mod Advised
 pub mod Offers
+pub mod Rows
+pub mod Standings

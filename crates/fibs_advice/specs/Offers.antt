@@ -1,5 +1,6 @@
 -- What may be decided now, and how a terminal says it (the project's own).
-use Rattle.std.specs.Prelude.{◌≡◌, ◌++◌, ℕ, List, [], codes, Bool, true, false, is_none, Option, Some, None, IfSome}
+use Rattle.std.specs.Prelude.{◌≡◌, ◌++◌, ◌||◌, ℕ, List, [], codes, Bool, true, false}
+use Rattle.std.specs.Prelude.{Option, Some, None, IfSome, is_none, is_some}
 use Rattle.fibs_commands.specs.Commands.{command_of}
 use Rattle.fibs_position.specs.declared.direction.Direction.{Direction}
 use Rattle.fibs_position.specs.DecisionValue.{DecisionValue, roll, double, accept, reject, move}
@@ -19,6 +20,10 @@ pub record OffersNow (t : Talk) (o : Offers) : Type 0 where
   pub accept : o.accept ≡ is_taken t accept
   pub reject : o.reject ≡ is_taken t reject
   pub example : IfSome o.example (λ play. is_taken t (move (hops_of play)) ≡ true)
+
+-- something may be decided now
+abbrev pub may_decide : Offers → Bool
+may_decide o = o.roll || (o.double || (o.accept || (o.reject || is_some o.example)))
 
 -- a move in the numbers of the board
 abbrev pub example_text : Direction → Option Play → List ℕ

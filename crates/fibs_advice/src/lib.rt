@@ -1,7 +1,14 @@
-//! What may be typed: what the client takes now, how it may be spelled, and which rule a move breaks.
+//! What may be typed: what the user waits for and what is advised then, what the client takes now, how it may be
+//! spelled, and which rule a move breaks.
 #![tactic(auto)]
 
+pub mod advised;
 pub mod offers;
 pub mod plays;
+pub mod row;
 pub mod rules;
+pub mod saying;
+pub mod situation;
 pub mod spelling;
+pub mod standing;
+pub mod told;

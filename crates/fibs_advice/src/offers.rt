@@ -4,7 +4,7 @@ ghost use Rattle.fibs_position.specs.DecisionValue.{decision_of, move};
 ghost use Rattle.fibs_rules.specs.PlayValue.{hops_of};
 ghost use Rattle.fibs_session.specs.History.Machine.{Talk};
 ghost use Rattle.fibs_session.specs.Calls.Standing.{StandsAfter};
-ghost use Rattle.fibs_advice.specs.Offers.{OffersNow, is_taken, example_text, hint_words, hint_text};
+ghost use Rattle.fibs_advice.specs.Offers.{OffersNow, is_taken, may_decide, example_text, hint_words, hint_text};
 
 use fibs_commands::decision_text;
 use fibs_position::{Decision, Direction, Play, Position};
@@ -26,6 +26,15 @@ pub struct Offers {
     pub example: Option<Play>,
     /// Which way the player goes by the numbers of the board.
     pub direction: Direction,
+}
+
+impl Offers {
+    /// Whether something may be decided now.
+    pub fn may_decide(&self) -> bool
+        ensures { result ≡ may_decide self.now }
+    {
+        self.roll || self.double || self.accept || self.reject || self.example.is_some()
+    }
 }
 
 /// Whether the client takes a decision now.

@@ -1,12 +1,11 @@
 //! Which rule a move breaks.
 ghost use Rattle.std.specs.Prelude.{◌≤◌};
 
-use crate::offers::first_of;
 use crate::plays::append_number;
 use fibs_boards::fields::{FIRST_DIE, SECOND_DIE};
-use fibs_commands::{BAR, decision_text};
-use fibs_position::{Decision, Direction, GameBoard, Play, Position, Step};
-use std::alloc::{AllocError, Global};
+use fibs_commands::BAR;
+use fibs_position::{Direction, GameBoard, Play, Position, Step};
+use std::alloc::AllocError;
 
 /// A rule that a move breaks.
 #[derive(Clone, Copy)]
@@ -173,33 +172,13 @@ fn append_broken(
 }
 
 /// Appends the rule that a move breaks on a board, or that it breaks one.
-fn append_why(game: &GameBoard, play: &Play, text: &mut Vec<u8>) -> Result<(), AllocError> {
+///
+/// Errors: if memory runs out.
+pub fn append_rule(game: &GameBoard, play: &Play, text: &mut Vec<u8>) -> Result<(), AllocError> {
     let board = game.board();
     let dice = (board.die(FIRST_DIE), board.die(SECOND_DIE));
     match broken_rule(game.position(), dice, play) {
         Some(broken) => append_broken(&broken, game.direction(), text),
         None => text.extend_from_slice(b"The rules don't allow this move."),
-    }
-}
-
-/// Appends a move that is legal.
-fn append_legal(legal: Play, direction: Direction, text: &mut Vec<u8>) -> Result<(), AllocError> {
-    text.extend_from_slice(b" Legal: ")?;
-    text.extend_from_slice(decision_text(&Decision::Move(legal), direction).as_bytes())
-}
-
-/// Appends the rule that a move breaks on a board, and a move that is legal, if there is one.
-///
-/// Errors: if memory runs out.
-pub fn append_rule(
-    alloc: Global,
-    game: &GameBoard,
-    play: &Play,
-    text: &mut Vec<u8>,
-) -> Result<(), AllocError> {
-    append_why(game, play, text)?;
-    match first_of(alloc, game.position())? {
-        Some(legal) => append_legal(legal, game.direction(), text),
-        None => Ok(()),
     }
 }

@@ -6,7 +6,7 @@ use Rattle.std.proofs.KnownBytes.{Appends-kept, Appends-nil}
 use Rattle.fibs_session.specs.Calls.Standing.{ClientValue}
 use Rattle.fibs_terminal.specs.declared.memory.Memory.{Memory}
 use Rattle.fibs_terminal.specs.Grown.{Grown}
-use Rattle.fibs_terminal.specs.Resting.{SaysOffers, ShowsOffers}
+use Rattle.fibs_terminal.specs.Resting.{SaysAdvice, ShowsAdvice}
 
 pub on_any_ok : {T E P : Type 0} (r : Result T E) → P → OnOk r P
 on_any_ok (Ok x) p = p
@@ -21,8 +21,7 @@ pub grown_then_kept : (a b c : Option (List ℕ)) (text : List ℕ) → Appends 
 grown_then_kept a b c text p k = (text, Appends-kept a b c text p k)
 
 -- what is said is shown
-pub offers_shown : (client : ClientValue) (m : Memory) (a b c : Option (List ℕ)) (text written : List ℕ)
-    → SaysOffers client m [] text → written ≡ text → Appends a b written → Keeps b c → ShowsOffers client m a c
-offers_shown client m a b c text written said same p k = λ t at none quiet owes.
-    let h = said t at none quiet owes in
-    (h.0, h.1, subst (Appends a c) (same ∙ h.2) (Appends-kept a b c written p k))
+pub advice_shown : (client : ClientValue) (m : Memory) (a b c : Option (List ℕ)) (text written : List ℕ)
+    → SaysAdvice client m [] text → written ≡ text → Appends a b written → Keeps b c → ShowsAdvice client m a c
+advice_shown client m a b c text written said same p k =
+    (text, said, subst (Appends a c) same (Appends-kept a b c written p k))

@@ -44,6 +44,7 @@ impl<'a, C: Clock + Drop> Screen<'a, C> {
     /// Hears a board of the user's game.
     pub(crate) fn hear_game(&mut self, game: &GameBoard) -> Result<(), AllocError> {
         self.memory.owes = true;
+        self.memory.inquired = self.memory.inquired || self.memory.situation.asks_board;
         let phase = game.phase();
         self.ring_at_turn(phase)?;
         let again = self.is_heard_again(game.board());
@@ -55,7 +56,8 @@ impl<'a, C: Clock + Drop> Screen<'a, C> {
         if !again {
             self.say_outcome(game.board(), phase)?;
         }
-        self.keep_heard(game, again);
+        self.keep_heard(game);
+        self.memory.situation.hear_board(game);
         Ok(())
     }
 
@@ -101,23 +103,22 @@ impl<'a, C: Clock + Drop> Screen<'a, C> {
         }
     }
 
-    /// Keeps the board that came last. If it is the very board that came before, the server has answered by it.
-    fn keep_heard(&mut self, game: &GameBoard, again: bool) {
-        if again {
-            self.memory.answered = true;
-            self.memory.advised = false;
-        }
+    /// Keeps the board that came last.
+    fn keep_heard(&mut self, game: &GameBoard) {
         self.memory.heard = Some(*game);
         self.memory.said.clear();
     }
 
-    /// Draws a board. If the words below it say what may be typed, no hint is owed: only a move is more than they say.
+    /// Draws a board. If the words below it say what the client takes, that is not owed: only a move is more than they
+    /// say.
     fn draw(&mut self, game: &GameBoard, phase: Phase) -> Result<(), AllocError> {
         self.memory.asked = false;
         let came = self.came(game);
         append_marked(self.alloc, game, &came, &self.settings, &mut self.text)?;
         if is_plain(&self.settings) && phase != Phase::Move {
             self.memory.owes = false;
+            self.memory.is_hinted = true;
+            self.memory.advised.clear();
         }
         self.memory.drawn = Some(*game);
         Ok(())

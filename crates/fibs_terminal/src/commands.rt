@@ -1,10 +1,10 @@
 //! What a line that is typed at a terminal asks for.
-ghost use Rattle.std.specs.Prelude.{IfOk};
+ghost use Rattle.std.specs.Prelude.{IfOk, List, ℕ};
 ghost use Rattle.fibs_front.specs.Wishes.{wish_value};
 ghost use Rattle.fibs_terminal.specs.Asking.{AsksInBounds, KnownStays, SendsUntaken};
 
 use crate::screen::Screen;
-use fibs_advice::offers::{append_offers, offered};
+use bstr::ByteSlice;
 use fibs_advice::plays::append_plays;
 use fibs_advice::rules::append_rule;
 use fibs_advice::spelling::words::append_spelled;
@@ -17,6 +17,7 @@ use fibs_position::Decision;
 use fibs_session::{Client, Directory, Refusal};
 use fibs_wording::help;
 use fibs_wording::lists::append_players;
+use fibs_wording::server_words::{is_leaving_word, is_server_word};
 use fibs_wording::shown::append_shown;
 use std::alloc::AllocError;
 use std::time::Clock;
@@ -45,6 +46,9 @@ const OWN_WORDS: [(&[u8], Own); 8] = [
     (b"loud", Own::Loud),
     (b"send", Own::Send),
 ];
+
+/// How many bytes of what follows a word are shown in a row: with the longest word the row fits.
+const MOST_SHOWN: usize = 19;
 
 /// The words of the conversation.
 const TALK_WORDS: [&[u8]; 2] = [b"open", b"quit"];
@@ -153,13 +157,25 @@ impl<'a, C: Clock + Drop> Screen<'a, C> {
     {
         let rest = after_word(typed);
         match own_word(split(typed, b' ').0) {
-            None => Ok(Wish::Say),
+            None => self.wish_foreign(client, typed),
             Some(Own::Send) => self.send(client, rest, line),
             Some(own) => {
                 self.answer_own(client, directory, own, rest)?;
                 Ok(Wish::Answered)
             }
         }
+    }
+
+    /// What a line asks for that is no word of the terminal: the client takes it, or it is answered by the line to
+    /// type.
+    fn wish_foreign(&mut self, client: &Client, typed: &[u8]) -> Result<Wish, AllocError>
+        ensures { (text : List ℕ) → SendsUntaken client.now text result }
+    {
+        if is_command(client, typed) {
+            return Ok(Wish::Say);
+        }
+        self.say_unknown(typed)?;
+        Ok(Wish::Answered)
     }
 
     /// Respells a line, if the client then knows it, or if it then begins with a word of the terminal.
@@ -189,7 +205,7 @@ impl<'a, C: Clock + Drop> Screen<'a, C> {
         }
         match client.game() {
             None => Ok(()),
-            Some(game) => append_rule(self.alloc, game, &play, &mut self.memory.rule),
+            Some(game) => append_rule(game, &play, &mut self.memory.rule),
         }
     }
 
@@ -202,7 +218,7 @@ impl<'a, C: Clock + Drop> Screen<'a, C> {
         rest: &[u8],
     ) -> Result<(), AllocError> {
         match own {
-            Own::Help => self.say_help(client, rest),
+            Own::Help => self.say_help(rest),
             Own::Plays => self.say_plays(client),
             Own::Players => append_players(self.alloc, directory, &mut self.text),
             Own::Gag => self.gag(rest),
@@ -213,11 +229,10 @@ impl<'a, C: Clock + Drop> Screen<'a, C> {
         }
     }
 
-    /// Says what may be typed: what can be decided now first.
-    fn say_help(&mut self, client: &Client, word: &[u8]) -> Result<(), AllocError> {
+    /// Says what may be typed. What is advised now follows.
+    fn say_help(&mut self, word: &[u8]) -> Result<(), AllocError> {
         if word.is_empty() {
-            let offers = offered(self.alloc, client)?;
-            append_offers(&offers, &mut self.text)?;
+            self.memory.inquired = true;
             return self.say(help::SCREEN);
         }
         match help::word_help(word) {
@@ -232,6 +247,38 @@ impl<'a, C: Clock + Drop> Screen<'a, C> {
             None => self.say(b"No board on which you play was shown yet: type board.\n"),
             Some(game) => append_plays(self.alloc, game, &mut self.text),
         }
+    }
+
+    /// Says what to type in place of a line that is no command: nothing is sent by a guess.
+    fn say_unknown(&mut self, line: &[u8]) -> Result<(), AllocError> {
+        let (word, rest) = split(line, b' ');
+        let small = word.to_ascii_lowercase(self.alloc)?;
+        let word = small.as_slice();
+        if is_leaving_word(word) {
+            return self.say(b"quit ends the program, bye leaves the server\n");
+        }
+        if is_server_word(word) {
+            return self.say_foreign(word, rest);
+        }
+        match help::word_help(word) {
+            Some(words) => self.say(words),
+            None => self.say(b"unknown: help lists the words\n"),
+        }
+    }
+
+    /// Says how a command of the server is sent that the client does not have. If much follows its word, that is left
+    /// out.
+    fn say_foreign(&mut self, word: &[u8], rest: Option<&[u8]>) -> Result<(), AllocError> {
+        self.say_all(&[b"not a word of this client: send ", word])?;
+        if let Some(rest) = rest {
+            self.say(b" ")?;
+            if rest.len() <= MOST_SHOWN {
+                append_shown(rest, self.settings.utf8, &mut self.text)?;
+            } else {
+                self.say(b"..")?;
+            }
+        }
+        self.say(b" sends it as it is\n")
     }
 
     /// Hides what a player says.

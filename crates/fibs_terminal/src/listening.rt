@@ -1,8 +1,7 @@
 //! What a terminal shows of what the server sends.
 
 use crate::screen::Screen;
-use fibs_fields::name::Name;
-use fibs_fields::split::split;
+use fibs_advice::told::Told;
 use fibs_lines::Line;
 use fibs_messages::{Fault, Message, Reading, WhoInfo};
 use fibs_position::Phase;
@@ -12,9 +11,6 @@ use fibs_wording::reasons::append_malformed;
 use fibs_wording::shown::append_shown;
 use std::alloc::AllocError;
 use std::time::Clock;
-
-/// What the server says of who offers to resign, after his name.
-const OFFERS_TO_RESIGN: &[u8] = b"wants to resign";
 
 /// What the server says to a player who can't move.
 const CANT_MOVE: &[u8] = b"You can't move.";
@@ -27,24 +23,9 @@ fn front_of(said: &[u8]) -> &[u8] {
     &said[..said.len().min(MOST_KEPT)]
 }
 
-/// Who offers to resign, if a text says that.
-fn resigner(said: &[u8]) -> Option<&[u8]> {
-    let (name, rest) = split(said, b' ');
-    if Name::new(name).is_some() && rest?.starts_with(OFFERS_TO_RESIGN) {
-        Some(name)
-    } else {
-        None
-    }
-}
-
 /// Whether a text of the server says no more than the hint does, or nothing.
 fn is_said_by_hint(said: &[u8]) -> bool {
     said.is_empty() || said.starts_with(b"Please move ") || said.starts_with(b"It's your turn to ")
-}
-
-/// Whether a text of the server may be all that it answers to a decision: not if it tells the user what he does.
-fn is_answer(said: &[u8]) -> bool {
-    !said.starts_with(b"You ")
 }
 
 impl<'a, C: Clock + Drop> Screen<'a, C> {
@@ -80,28 +61,43 @@ impl<'a, C: Clock + Drop> Screen<'a, C> {
         }
     }
 
-    /// Hears a line without a number.
+    /// Hears a line without a number. What it says of the match counts even if it is not shown.
     fn hear_text(&mut self, said: &[u8]) -> Result<(), AllocError> {
+        self.note_told(said)?;
         if is_said_by_hint(said) || self.is_passing(said) {
             return Ok(());
         }
         self.memory.said.clear();
         self.memory.said.extend_from_slice(front_of(said))?;
-        if is_answer(said) {
-            self.memory.answered = true;
-        }
-        self.note_resigner(said)?;
         self.show_row(said)
     }
 
-    /// Keeps who offers to resign, if a text says that, and rings the bell.
-    fn note_resigner(&mut self, said: &[u8]) -> Result<(), AllocError> {
-        let Some(name) = resigner(said) else {
-            return Ok(());
-        };
-        self.memory.resigner.clear();
-        self.memory.resigner.extend_from_slice(name)?;
-        self.ring()
+    /// Takes note of what a text says of the match, and rings the bell if the opponent offers to resign.
+    fn note_told(&mut self, said: &[u8]) -> Result<(), AllocError> {
+        match self.memory.situation.hear_text(said) {
+            Some(Told::Begins) => {
+                self.memory.forget_drawn();
+                Ok(())
+            }
+            Some(Told::NotPlaying | Told::NextGame) => {
+                self.hear_no_board();
+                Ok(())
+            }
+            Some(Told::NotInvited) => {
+                self.memory.owes = true;
+                Ok(())
+            }
+            Some(Told::Resigns) => self.ring(),
+            _ => Ok(()),
+        }
+    }
+
+    /// The server has no board to show: if the user has asked for it, that is the answer.
+    fn hear_no_board(&mut self) {
+        if self.memory.situation.asks_board {
+            self.memory.situation.asks_board = false;
+            self.memory.inquired = true;
+        }
     }
 
     /// Hears a line that can't be read: it is shown too.
@@ -145,15 +141,33 @@ impl<'a, C: Clock + Drop> Screen<'a, C> {
         }
     }
 
+    /// Takes note of a message: the user was greeted, or the message of the day begins or ends.
+    fn note_message(&mut self, message: &Message<'_>) {
+        match message {
+            Message::Welcome { .. } => {
+                self.memory.situation.hear_welcome();
+                self.memory.is_list_due = true;
+            }
+            Message::Login { .. } => self.memory.situation.hear_others(),
+            Message::MotdBegin => self.memory.situation.hear_motd(true),
+            Message::MotdEnd => self.memory.situation.hear_motd(false),
+            Message::Logout { name, .. } => {
+                self.memory.situation.hear_others();
+                self.memory.situation.hear_logout(name.bytes());
+            }
+            _ => {}
+        }
+    }
+
     /// Hears a message.
     fn hear_message(&mut self, message: &Message<'_>) -> Result<(), AllocError> {
+        self.note_message(message);
         if self.is_kept(message) {
             return Ok(());
         }
         match message {
             Message::WhoInfo(info) => return self.hear_player(info),
             Message::WhoInfoEnd => return self.hear_list_end(),
-            Message::Welcome { .. } => self.memory.logging_in = false,
             Message::Says { .. } | Message::MessageReceived { .. } => self.ring()?,
             _ => {}
         }
@@ -174,11 +188,13 @@ impl<'a, C: Clock + Drop> Screen<'a, C> {
         self.say(b"\n")
     }
 
-    /// A list of players has ended: one row for a list, and one for a player.
+    /// A list of players has ended: one row for a list that was asked for, and one for a player who has changed. What
+    /// else has changed is in the list already.
     fn hear_list_end(&mut self) -> Result<(), AllocError> {
-        let listed = self.memory.listed;
+        let (listed, is_due) = (self.memory.listed, self.memory.is_list_due);
         self.memory.listed = 0;
-        if listed > 1 {
+        self.memory.is_list_due = false;
+        if listed > 1 && is_due {
             append_count(listed, &mut self.text)?;
             self.say(b": type players\n")
         } else if listed == 1 && !self.memory.quiet {

@@ -1,21 +1,26 @@
 //! What a terminal remembers: only what the client does not know.
 
+use fibs_advice::situation::Situation;
 use fibs_fields::name::Name;
 use fibs_position::GameBoard;
 use std::alloc::{AllocError, Global};
+use std::time::Duration;
 
 /// What is remembered.
 #[derive(Drop)]
 pub struct Memory {
-    /// Whether to say what may be typed: a board has come since that was said.
+    /// What the user waits for.
+    pub situation: Situation,
+    /// When the connection was made.
+    pub opened: Duration,
+    /// Whether to say what is advised even if it is what was said last: a board has come, or a decision or a line as it
+    /// is was sent.
     pub owes: bool,
-    /// Whether a login was sent on this connection, and the server has not greeted the user.
-    pub logging_in: bool,
-    /// Whether the server has answered by a text, or by the same board, since a decision was sent.
-    pub answered: bool,
-    /// Whether it was said what to do while that decision waits, and neither the same board nor a line that was sent
-    /// as it is has come since.
-    pub advised: bool,
+    /// Whether the user has asked what is advised: by `help`, by a word that was refused, or by `board`, which has
+    /// come.
+    pub inquired: bool,
+    /// What was advised last.
+    pub advised: Vec<u8>,
     /// Whether the next board is to be drawn whole, since the user has asked for it.
     pub asked: bool,
     /// Whether shouts are hidden, and who comes and goes.
@@ -26,12 +31,14 @@ pub struct Memory {
     pub drawn_before: Option<GameBoard>,
     /// The board that came last.
     pub heard: Option<GameBoard>,
+    /// Whether the words below the picture that was drawn last say what the client takes, and nothing was said since.
+    pub is_hinted: bool,
+    /// Whether the next list of players is one that was asked for: that of a login, or of `who`.
+    pub is_list_due: bool,
     /// How many players were listed since the last list ended.
     pub listed: usize,
     /// The row of the last of them.
     pub change: Vec<u8>,
-    /// Who offers to resign, if that is to be said.
-    pub resigner: Vec<u8>,
     /// The text of the server that was shown last, if no board has come since.
     pub said: Vec<u8>,
     /// Which rule the move breaks that was typed last, if it breaks one.
@@ -44,37 +51,44 @@ impl Memory {
     /// Nothing was shown.
     pub fn new(alloc: Global) -> Memory {
         Memory {
+            situation: Situation::new(),
+            opened: Duration::from_secs(0),
             owes: false,
-            logging_in: false,
-            answered: false,
-            advised: false,
+            inquired: false,
+            advised: Vec::new(alloc),
             asked: false,
             quiet: false,
             drawn: None,
             drawn_before: None,
             heard: None,
+            is_hinted: false,
+            is_list_due: false,
             listed: 0,
             change: Vec::new(alloc),
-            resigner: Vec::new(alloc),
             said: Vec::new(alloc),
             rule: Vec::new(alloc),
             gagged: Vec::new(alloc),
         }
     }
 
-    /// A connection begins: no board of another one counts.
+    /// A connection begins, or has ended: no board of another one counts.
     pub fn forget_boards(&mut self) {
         self.owes = false;
-        self.logging_in = false;
-        self.answered = false;
-        self.advised = false;
+        self.inquired = false;
+        self.advised.clear();
         self.asked = false;
+        self.heard = None;
+        self.is_hinted = false;
+        self.forget_drawn();
+        self.is_list_due = false;
+        self.listed = 0;
+        self.said.clear();
+    }
+
+    /// A match or a game begins, or is resumed: its first board is drawn.
+    pub fn forget_drawn(&mut self) {
         self.drawn = None;
         self.drawn_before = None;
-        self.heard = None;
-        self.listed = 0;
-        self.resigner.clear();
-        self.said.clear();
     }
 
     /// Whether the words of a player are hidden.

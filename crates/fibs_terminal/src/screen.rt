@@ -4,7 +4,7 @@ use crate::memory::Memory;
 use fibs_environment::Settings;
 use fibs_wording::pieces::append_all;
 use std::alloc::{AllocError, Global};
-use std::time::Clock;
+use std::time::{Clock, Duration};
 
 /// The byte that rings the bell.
 const BELL: u8 = 7;
@@ -40,6 +40,14 @@ impl<'a, C: Clock + Drop> Screen<'a, C> {
         match self.clock.since_1970() {
             Ok(time) => Some(time.as_secs()),
             Err(_) => None,
+        }
+    }
+
+    /// A moment, by which times are measured; always the same if there is no clock.
+    pub fn moment(&self) -> Duration {
+        match self.clock.monotonic() {
+            Ok(time) => time,
+            Err(_) => Duration::from_secs(0),
         }
     }
 

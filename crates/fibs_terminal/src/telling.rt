@@ -10,10 +10,9 @@ use std::alloc::AllocError;
 use std::io::ErrorKind;
 use std::time::Clock;
 
-/// What is said of a roll by order, of an order, of its end, and of a line that is unknown.
+/// What is said of an order, of its end, and of a line that is unknown.
 fn fixed_words(said: &Said<'_>) -> &'static [u8] {
     match said {
-        Said::Rolled => b"sent roll, as ordered\n",
         Said::Ordered => b"ordered: the client rolls if you may not double\n",
         Said::Withdrawn => b"withdrawn: you roll yourself\n",
         _ => b"unknown: help lists the words\n",
@@ -55,18 +54,27 @@ impl<'a, C: Clock + Drop> Screen<'a, C> {
             Said::Passed(line) => self.say_passed(line),
             Said::Refused(why) => self.say_refused(*why),
             Said::NotSent(why) => self.say_not_sent(*why),
+            Said::Rolled => self.hear_rolled(),
             _ => self.say(fixed_words(said)),
         }
     }
 
-    /// A board has come that confirms a decision.
+    /// The board that was reported last confirms a decision.
     fn hear_confirmed(&mut self) {
-        self.memory.owes = true;
-        self.forget_answer();
+        self.memory.situation.hear_confirmed();
+    }
+
+    /// A standing order has sent `roll`.
+    fn hear_rolled(&mut self) -> Result<(), AllocError> {
+        let _decides = self.memory.situation.hear_sent(b"roll");
+        self.say(b"sent roll, as ordered\n")
     }
 
     /// Says why a plain command was not sent.
     fn say_not_sent(&mut self, why: PlainRefusal) -> Result<(), AllocError> {
+        if why == PlainRefusal::NotOn {
+            self.memory.inquired = true;
+        }
         append_not_sent(why, &mut self.text)?;
         self.say(b"\n")
     }
@@ -80,7 +88,8 @@ impl<'a, C: Clock + Drop> Screen<'a, C> {
     /// A connection was made.
     fn hear_opened(&mut self) -> Result<(), AllocError> {
         self.memory.forget_boards();
-        self.memory.logging_in = true;
+        self.memory.situation.hear_opened();
+        self.memory.opened = self.moment();
         self.say(b"connected to ")?;
         self.say_place(b"\n")
     }
@@ -113,31 +122,35 @@ impl<'a, C: Clock + Drop> Screen<'a, C> {
         self.say(b"; open tries again\n")
     }
 
-    /// What the server has answered to a decision no longer counts.
-    fn forget_answer(&mut self) {
-        self.memory.answered = false;
-        self.memory.advised = false;
-    }
-
     /// A command was sent: it is shown in full.
     fn hear_sent(&mut self, command: &CommandText) -> Result<(), AllocError> {
-        self.forget_answer();
-        self.memory.asked = command.as_bytes() == b"board".as_slice();
-        self.say_all(&[b"sent ", command.as_bytes(), b"\n"])
+        let bytes = command.as_bytes();
+        if self.memory.situation.hear_sent(bytes) {
+            self.memory.owes = true;
+        }
+        self.memory.asked = bytes == b"board".as_slice();
+        if bytes == b"who".as_slice() {
+            self.memory.is_list_due = true;
+        }
+        self.say_all(&[b"sent ", bytes, b"\n"])
     }
 
     /// Says that a line was sent as it is.
     fn say_passed(&mut self, line: &[u8]) -> Result<(), AllocError> {
-        self.forget_answer();
+        self.memory.situation.hear_passed(line);
+        self.memory.owes = true;
         self.say(b"sent as it is: ")?;
         self.show_row(line)
     }
 
-    /// Says why a decision was refused: of a move against the rules which rule it is.
+    /// Says why a decision was refused: of a move against the rules which rule it is. What is advised follows.
     fn say_refused(&mut self, why: Refusal) -> Result<(), AllocError> {
+        self.memory.inquired = why != Refusal::NotReady;
         if why == Refusal::IllegalPlay && !self.memory.rule.is_empty() {
             let rule = self.memory.rule.as_slice();
             append_reason(rule, why.number(), why, &mut self.text)?;
+        } else if why == Refusal::NotYours && self.memory.situation.standing.is_told_by_text() {
+            append_reason(b"No board shows it yet.", why.number(), why, &mut self.text)?;
         } else {
             append_refusal(why, &mut self.text)?;
         }

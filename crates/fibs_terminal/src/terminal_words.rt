@@ -3,7 +3,7 @@ ghost use Rattle.std.specs.Prelude.{OnOk, IfOk};
 ghost use Rattle.fibs_front.specs.Wishes.{wish_value};
 ghost use Rattle.fibs_terminal.specs.Asking.{AsksInBounds, KnownStays, SendsUntaken};
 ghost use Rattle.fibs_terminal.specs.Grown.{Grown};
-ghost use Rattle.fibs_terminal.specs.Resting.{ShowsOffers};
+ghost use Rattle.fibs_terminal.specs.Resting.{ShowsAdvice};
 
 use crate::terminal::Terminal;
 use crate::terminal_front::write_text;
@@ -18,13 +18,13 @@ use std::time::Clock;
 impl<W: Write + Drop, C: Clock + Drop> Words for Terminal<'_, W, C> {
     ghost asks = { λ _ line wish. AsksInBounds line wish };
 
-    fn rest(&mut self, client: &Client, _directory: &Directory) -> Result<(), FrontFault>
+    fn rest(&mut self, client: &Client, directory: &Directory) -> Result<(), FrontFault>
         ensures told { OnOk result (Grown (W.contents self.old.out) (W.contents self.new.out)) }
-        // It names only what the client takes, by the history.
-        ensures hint { OnOk result (ShowsOffers client.now self.old.screen.memory
+        // It names only what may be advised in the state of the conversation, by the history.
+        ensures advice { OnOk result (ShowsAdvice client.now self.old.screen.memory
             (W.contents self.old.out) (W.contents self.new.out)) }
     {
-        self.screen.rest_anew(client)?;
+        self.screen.rest_anew(client, directory)?;
         write_text(self.screen.text.as_slice(), &mut self.out)?;
         self.out.flush().map_err(|_| FrontFault::Output)
     }

@@ -1,6 +1,8 @@
 //! A terminal: what a player sees of a board and of a conversation, and how what he types, and a password file, are
 //! read.
 
+mod advice;
+mod any_order;
 mod conversations;
 mod deeds;
 mod drawing;
@@ -12,5 +14,6 @@ mod reading;
 mod remembering;
 mod seats;
 mod spellings;
+mod texts;
 mod watching;
 mod wordings;

@@ -1,6 +1,6 @@
 //! The help of a terminal.
 
-/// One screen of help, below what can be done now.
+/// One screen of help. What is advised now follows.
 pub const SCREEN: &[u8] = b"\
 The game    roll  double  accept  reject  move 8-5 6-5  resign n|g|b
             also: r, m 8-5 6-5, 8/5 6/5, bar/20, 6/off, 8/5(2), 24/18/13
@@ -69,7 +69,7 @@ To decline an offer to resign, type: send reject.\n",
     (
         b"resign",
         b"resign n, resign g, resign b: offers to give up a game, a gammon, a backgammon.\n\
-The client then waits for a new board. If the offer is declined: bye and open.\n",
+The client then waits for a new board. If it is declined, the screen says more.\n",
     ),
     (b"order", ORDER),
     (b"withdraw", ORDER),
@@ -85,7 +85,8 @@ The client then waits for a new board. If the offer is declined: bye and open.\n
     (
         b"toggle",
         b"toggle ready: says whether you are ready to play.\n\
-toggle automove, toggle greedy: turns off what the server plays by itself.\n",
+toggle automove, toggle greedy: turns off what the server plays by itself.\n\
+It counts from the next login on: bye, open, and invite NAME to resume a match.\n",
     ),
     (
         b"who",
@@ -121,9 +122,12 @@ For what the client can't do: send accept, send watch bob, send redouble ..\n",
     ),
     (
         b"bye",
-        b"bye: leaves the server, which ends the connection. A match is kept.\n",
+        b"bye: leaves the server, which ends the connection, and mostly saves a match.\n",
     ),
-    (b"open", b"open: connects again.\n"),
+    (
+        b"open",
+        b"open: connects again. invite NAME then resumes a match that was saved.\n",
+    ),
     (b"quit", b"quit: ends the program.\n"),
     (b"help", HELP),
     (b"?", HELP),

@@ -8,4 +8,5 @@ pub mod messages;
 pub mod outcomes;
 pub mod pieces;
 pub mod reasons;
+pub mod server_words;
 pub mod shown;

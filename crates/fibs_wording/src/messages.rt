@@ -1,4 +1,5 @@
 //! The words of messages.
+ghost use Rattle.std.specs.Prelude.{◌≡◌, take};
 
 use crate::dates::{append_date, append_time};
 use crate::pieces::{append_all, append_number};
@@ -119,8 +120,10 @@ pub fn append_player(info: &WhoInfo<'_>, text: &mut Vec<u8>) -> Result<(), Alloc
 }
 
 /// The first bytes of a name.
-pub fn front(name: &[u8]) -> &[u8] {
-    &name[..name.len().min(24)]
+pub fn front(name: &[u8]) -> &[u8]
+    ensures { result.now ≡ take 24 name.now }
+{
+    if name.len() > 24 { &name[..24] } else { name }
 }
 
 /// Appends a line of talk: when, if that is known, who, and what.

@@ -14,7 +14,7 @@ pub fn refusal_words(why: Refusal) -> &'static [u8] {
         Refusal::AlreadyOpen => b"You are connected already.",
         Refusal::Offline => b"There is no connection: type open.",
         Refusal::NotReady => b"Not logged in: wrong name or password? quit, and begin again.",
-        Refusal::ServerPlays => b"The server plays for you: toggle automove, or toggle greedy.",
+        Refusal::ServerPlays => b"You don't play yourself: automove or greedy is on.",
         Refusal::NoBoard => b"No board on which you play was shown yet: type board.",
         Refusal::Waiting => b"You have decided, and no new board has come yet.",
         Refusal::NotYours => b"There is nothing for you to decide on this board.",
@@ -90,8 +90,7 @@ fn unnoted_words(why: DirectoryFault) -> &'static [u8] {
 
 /// Appends why nobody can log in so.
 pub fn append_login_fault(why: PlainFault, text: &mut Vec<u8>) -> Result<(), AllocError> {
-    let name = plain_name(PlainRefusal::Fault(why));
-    append_reason(login_words(why), why.number(), name, text)
+    append_reason(login_words(why), why.number(), why, text)
 }
 
 /// Appends why the directory took no note of a player.

@@ -31,7 +31,8 @@ On: allowpip autoboard crawford double
 sent roll
 You roll 6 and 2.
 Your move, as in: move 24-22 24-18
-You have no checker on 23. Legal: move 24-22 24-18 [9 IllegalPlay]
+You have no checker on 23. [9 IllegalPlay]
+Your move, as in: move 24-22 24-18
 sent move 24-18 13-11
 ";
 
@@ -60,55 +61,8 @@ fn a_turn_shows_one_picture(rt: HostRuntime) {
     assert_shows(&rt, plain_settings(), &TURN_STEPS, TURN);
 }
 
-/// What is sent and changes nothing, and the last rows that are shown then.
-static UNCHANGED: [Scene; 4] = [
-    (
-        &[
-            Step::Types(b"roll"),
-            Step::Hears(b"bob drops connection.\r\n"),
-            Step::Rests,
-            Step::Hears(b"carol wins a 3 point match.\r\n"),
-            Step::Rests,
-        ],
-        "; or bye and open.\ncarol wins a 3 point match.\n",
-    ),
-    (
-        &[
-            Step::Types(b"roll"),
-            Step::Hears(b"** Not now.\r\n"),
-            Step::Rests,
-            Step::Types(b"send roll"),
-            Step::Hears(b"** Not now.\r\n"),
-            Step::Rests,
-        ],
-        "** Not now.\nroll was sent and nothing has changed: if bob declined\nor the server refused, send roll; or bye and open.\n",
-    ),
-    (
-        &[
-            Step::Types(b"roll"),
-            Step::Hears(b"bob drops connection.\r\n"),
-            Step::Rests,
-        ],
-        "roll was sent and nothing has changed: if bob declined\nor the server refused, send roll; or bye and open.\n",
-    ),
-    (
-        &[
-            Step::Types(b"resign n"),
-            Step::Hears(b"bob declines.\r\n"),
-            Step::Hears(TO_ROLL),
-            Step::Rests,
-        ],
-        "resign n was sent and nothing has changed: if bob declined\nor the server refused, send resign n; or bye and open.\n",
-    ),
-];
-
-#[test]
-fn what_changes_nothing_is_sent_again(rt: HostRuntime) {
-    assert_scenes(&rt, plain_settings(), &UNCHANGED);
-}
-
 /// Connections that come and go, and the last rows that are shown then.
-static CONNECTIONS: [Scene; 4] = [
+static CONNECTIONS: [Scene; 5] = [
     (
         &[
             Step::Loses,
@@ -132,6 +86,15 @@ static CONNECTIONS: [Scene; 4] = [
         "connected to fibs.com:4321\nWelcome, ann. Last login: 30 December 2002, 12:58, from localhost.\n",
     ),
     (
+        &[
+            Step::Loses,
+            Step::Opens,
+            Step::Hears(b"login: 7 carol carol logs in.\r\n"),
+            Step::Rests,
+        ],
+        "connected to fibs.com:4321\ncarol logs in.\n",
+    ),
+    (
         &[Step::Types(b"roll"), Step::Loses],
         "roll may have reached the server or not\nlost: open connects again, quit ends\n",
     ),
@@ -147,15 +110,7 @@ fn connections_come_and_go(rt: HostRuntime) {
 }
 
 /// Lines that are typed, and the last rows that are shown then.
-static TYPED: [Scene; 7] = [
-    (
-        &[
-            Step::Hears(b"bob wants to resign. You will win 1 point.\r\n"),
-            Step::Types(b"roll"),
-            Step::Rests,
-        ],
-        "bob offers to resign: send accept, or send reject.\n",
-    ),
+static TYPED: [Scene; 18] = [
     (&[Step::Types(b"send accept")], "sent as it is: accept\n"),
     (&[Step::Types(b"send roll")], "Type it without send: roll\n"),
     (
@@ -167,12 +122,64 @@ static TYPED: [Scene; 7] = [
         "unknown: help lists the words\n",
     ),
     (
-        &[Step::Types(b"accept")],
-        "That can't be done on this board: help says what can. [8 WrongKind]\n",
+        &[Step::Types(b"leave")],
+        "not a word of this client: send leave sends it as it is\n",
+    ),
+    (
+        &[Step::Types(b"Show Saved")],
+        "not a word of this client: send show Saved sends it as it is\n",
+    ),
+    (
+        &[Step::Types(b"toggle double")],
+        "not a word of this client: send toggle double sends it as it is\n",
+    ),
+    (
+        &[Step::Types(b"invite carol unlimited")],
+        "not a word of this client: send invite carol unlimited sends it as it is\n",
+    ),
+    (
+        &[Step::Types(b"away for a cup of tea, back at ten")],
+        "not a word of this client: send away .. sends it as it is\n",
+    ),
+    (
+        &[Step::Types(b"exit")],
+        "quit ends the program, bye leaves the server\n",
+    ),
+    (
+        &[Step::Types(b"q")],
+        "quit ends the program, bye leaves the server\n",
+    ),
+    (
+        &[Step::Types(b"resign")],
+        "The client then waits for a new board. If it is declined, the screen says more.\n",
+    ),
+    (
+        &[Step::Types(b"accept"), Step::Rests],
+        "That can't be done on this board: help says what can. [8 WrongKind]\nYour turn: roll, or double.\n",
+    ),
+    (
+        &[Step::Types(b"toggle greedy"), Step::Rests],
+        "It is off already, or will be at your next login. [10 NotOn]\nYour turn: roll, or double.\n",
+    ),
+    (
+        &[Step::Types(b"help"), Step::Rests],
+        "help WORD says more about a word.\nYour turn: roll, or double.\n",
+    ),
+    (
+        &[Step::Types(b"help roll"), Step::Rests],
+        "roll (or r): rolls your dice.\n",
     ),
     (
         &[Step::Types(b"help DOUBLE")],
         "No such word: help lists the words.\n",
+    ),
+    (
+        &[
+            Step::Types(b"say hi"),
+            Step::Hears(b"** 1 user heard you.\r\n"),
+            Step::Rests,
+        ],
+        "sent say hi\n** 1 user heard you.\n",
     ),
 ];
 
@@ -203,6 +210,7 @@ static HEARD: [Scene; 3] = [
     ),
     (
         &[
+            Step::Types(b"who"),
             Step::Hears(b"5 bob ann - 0 0 1623.45 0 0 1 host - -\r\n"),
             Step::Hears(b"5 carol - bob 0 1 1701.00 0 0 1 host - -\r\n"),
             Step::Hears(b"5 dave - - 1 0 900.05 0 0 1 host - -\r\n"),
@@ -264,7 +272,7 @@ fn the_opponents_last_move_is_marked(rt: HostRuntime) {
 }
 
 /// A conversation in which each kind of text is made.
-static OF_EACH_KIND: [Step<'static>; 29] = [
+static OF_EACH_KIND: [Step<'static>; 33] = [
     Step::Fails,
     Step::Opens,
     Step::Hears(b"login: "),
@@ -284,6 +292,10 @@ static OF_EACH_KIND: [Step<'static>; 29] = [
     Step::Hears(b"** Not now.\r\n"),
     Step::Rests,
     Step::Types(b"send roll"),
+    Step::Hears(b"** You can't roll now.\r\n"),
+    Step::Hears(TO_ROLL),
+    Step::Rests,
+    Step::Types(b"leave"),
     Step::Hears(b"bob wants to resign.\r\n"),
     Step::Hears(TO_MOVE),
     Step::Rests,

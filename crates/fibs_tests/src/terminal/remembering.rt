@@ -113,17 +113,6 @@ fn a_board_is_drawn_again(rt: HostRuntime) {
     assert_scenes(&rt, bell_settings(), &DRAWN_AGAIN);
 }
 
-/// An offer to resign is said once.
-static RESIGNED: [Scene; 1] = [(
-    &[Step::Hears(RESIGNS), Step::Rests, Step::Rests],
-    " You roll, or double, or resign.\n\x07bob wants to resign. You will win 1 point.\nbob offers to resign: send accept, or send reject.\n",
-)];
-
-#[test]
-fn an_offer_to_resign_is_said_once(rt: HostRuntime) {
-    assert_scenes(&rt, bell_settings(), &RESIGNED);
-}
-
 /// What is quiet, and whose words are kept.
 static QUIET: [Scene; 3] = [
     (
@@ -190,35 +179,6 @@ fn the_bell_rings(rt: HostRuntime) {
     assert_scenes(&rt, bell_settings(), &RUNG);
 }
 
-/// What the server says of a roll is no answer that leaves it undone; the same board is one, each time that it comes.
-static ANSWERED: [Scene; 2] = [
-    (
-        &[
-            Step::Types(b"roll"),
-            Step::Hears(b"You roll 6 and 2.\r\n"),
-            Step::Rests,
-        ],
-        "sent roll\nYou roll 6 and 2.\n",
-    ),
-    (
-        &[
-            Step::Types(b"roll"),
-            Step::Hears(TO_ROLL),
-            Step::Rests,
-            Step::Hears(TO_ROLL),
-            Step::Rests,
-        ],
-        "sent roll\n\
-            roll was sent and nothing has changed: if bob declined\nor the server refused, send roll; or bye and open.\n\
-            roll was sent and nothing has changed: if bob declined\nor the server refused, send roll; or bye and open.\n",
-    ),
-];
-
-#[test]
-fn a_roll_is_answered_by_what_the_server_says(rt: HostRuntime) {
-    assert_scenes(&rt, bell_settings(), &ANSWERED);
-}
-
 /// A board of another opponent is drawn; one that was asked for is drawn once; what it says is said once.
 static BOARDS: [Scene; 5] = [
     (
@@ -283,8 +243,7 @@ static MOVES: [Scene; 1] = [(
         Step::Types(b"move 23-22"),
         Step::Types(b"move 22-21"),
     ],
-    "You have no checker on 23. Legal: move 24-22 24-18 [9 IllegalPlay]\n\
-            You have no checker on 22. Legal: move 24-22 24-18 [9 IllegalPlay]\n",
+    "You have no checker on 23. [9 IllegalPlay]\nYou have no checker on 22. [9 IllegalPlay]\n",
 )];
 
 #[test]
@@ -292,17 +251,18 @@ fn the_rule_is_that_of_the_last_move(rt: HostRuntime) {
     assert_scenes(&rt, bell_settings(), &MOVES);
 }
 
-/// Each list is counted anew, and a player who comes alone is in a row.
-static LISTS: [Scene; 2] = [
+/// A list that was asked for is counted, each anew; who changes alone is in a row, and what else changes is listed.
+static LISTS: [Scene; 3] = [
     (
         &[
+            Step::Types(b"who"),
             Step::Hears(b"5 bob - - 1 0 1623.45 0 0 1 host - -\r\n"),
             Step::Hears(b"5 carol - - 1 0 1701.00 0 0 1 host - -\r\n"),
             Step::Hears(b"6\r\n"),
             Step::Hears(b"5 dave - - 1 0 900.05 0 0 1 host - -\r\n"),
             Step::Hears(b"6\r\n"),
         ],
-        "2 players: type players\ndave (900.05): ready\n",
+        "sent who\n2 players: type players\ndave (900.05): ready\n",
     ),
     (
         &[
@@ -312,6 +272,20 @@ static LISTS: [Scene; 2] = [
             Step::Hears(b"6\r\n"),
         ],
         "bob (1623.45): ready\ndave (900.05): ready\n",
+    ),
+    (
+        &[
+            Step::Loses,
+            Step::Opens,
+            Step::Hears(WELCOME),
+            Step::Hears(b"5 bob - - 1 0 1623.45 0 0 1 host - -\r\n"),
+            Step::Hears(b"5 carol - - 1 0 1701.00 0 0 1 host - -\r\n"),
+            Step::Hears(b"6\r\n"),
+            Step::Hears(b"5 bob carol - 0 0 1623.45 0 0 1 host - -\r\n"),
+            Step::Hears(b"5 carol bob - 0 0 1701.00 0 0 1 host - -\r\n"),
+            Step::Hears(b"6\r\n"),
+        ],
+        "from localhost.\n2 players: type players\n",
     ),
 ];
 

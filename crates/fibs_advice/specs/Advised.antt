@@ -1,0 +1,132 @@
+-- What is advised in a state, and how a terminal says it (the project's own).
+use Rattle.std.specs.Prelude.{◌≡◌, ◌≢◌, ◌++◌, ◌∷◌, ℕ, List, [], codes, Bool, true, false}
+use Rattle.std.specs.Prelude.{Option, Some, None, IfSome, is_none}
+use Rattle.fibs_boards.specs.Board.{BoardFields}
+use Rattle.fibs_position.specs.Allowed.{allowed_of}
+use Rattle.fibs_position.specs.DecisionValue.{DecisionValue, accept, reject, decision_of}
+use Rattle.fibs_commands.specs.Commands.{command_of}
+use Rattle.fibs_commands.specs.PlainCommands.{automove_off, greedy_off}
+use Rattle.fibs_position.specs.declared.decision.Decision.{Decision}
+use Rattle.fibs_position.specs.declared.decision.Decision.TheVariants as D
+use Rattle.fibs_position.specs.declared.direction.Direction.{Direction}
+use Rattle.fibs_history.specs.Machine.{Talk, shown_now, unconfirmed_now, plain_refusal}
+use Rattle.fibs_history.specs.Words.{Ask}
+use Rattle.fibs_advice.specs.Offers.{OffersNow, is_taken, may_decide, hint_text}
+use Rattle.fibs_advice.specs.Standings.{hides_offers, repeats, owes_answer}
+use Rattle.fibs_advice.specs.Rows.{answers, plain_in, shows_offers, words_before, words_after}
+use Rattle.fibs_advice.specs.declared.row.Row.{Row}
+use Rattle.fibs_advice.specs.declared.row.Row.TheVariants as R
+use Rattle.fibs_advice.specs.declared.standing.Standing.{Standing}
+use Rattle.fibs_advice.specs.declared.advised.Advice.{Advice}
+
+-- the rules allow a decision on the board that is shown
+abbrev pub rules_allow : Option BoardFields → DecisionValue → Bool
+rules_allow None d = false
+rules_allow (Some b) d = is_none (allowed_of b d)
+
+-- a decision that waits is another one
+abbrev pub IsAnother : Option Ask → DecisionValue → Type 0
+IsAnother asked d = IfSome asked (λ ask. ask.1 ≢ d)
+
+-- a decision may go as it is: the client would refuse it, the rules allow it on the board that is shown, and it is not
+-- the one that waits, unless the server has shown the board again on which that was made
+pub record MaySend (t : Talk) (standing : Standing) (d : DecisionValue) : Type 0 where
+  pub untaken : is_taken t d ≡ false
+  pub allowed : rules_allow (shown_now t) d ≡ true
+  pub another : repeats standing ≡ false → IsAnother (unconfirmed_now t) d
+
+-- an offer of which texts alone tell is answered as it is: the client would refuse both answers
+pub record MayAnswer (t : Talk) (standing : Standing) : Type 0 where
+  pub owed : owes_answer standing ≡ true
+  pub accept : is_taken t accept ≡ false
+  pub reject : is_taken t reject ≡ false
+
+-- what is advised: what the client takes now is said, unless the state hides it; without `send` only what the client
+-- takes now, with `send` only what may go as it is
+pub record Advises (t : Talk) (standing : Standing) (a : Advice) : Type 0 where
+  pub offers : OffersNow t a.offers
+  pub shown : hides_offers standing ≡ false → may_decide a.offers ≡ true → shows_offers a.row ≡ true
+  pub plain : IfSome (plain_in a.row) (λ p. plain_refusal t p ≡ None)
+  pub automove : a.automove ≡ true → plain_refusal t automove_off ≡ None
+  pub greedy : a.greedy ≡ true → plain_refusal t greedy_off ≡ None
+  pub send : IfSome a.send (λ d. MaySend t standing (decision_of d))
+  pub other : IfSome a.other (λ d. MaySend t standing (decision_of d))
+  pub answer : answers a.row ≡ true → MayAnswer t standing
+
+-- a line that goes as it is: the command of a decision, in the numbers of the board
+abbrev pub line_text : Direction → Decision → List ℕ
+line_text direction d = codes "send " ++ command_of direction (decision_of d)
+
+-- one such line, or two
+abbrev pub send_text : Direction → Option Decision → Option Decision → List ℕ
+send_text direction None None = []
+send_text direction (Some d) None = line_text direction d
+send_text direction None (Some d) = line_text direction d
+send_text direction (Some d) (Some e) = line_text direction d ++ (codes ", or " ++ line_text direction e)
+
+-- the same in a row of its own, if there is one
+abbrev pub goes_on_text : Direction → Option Decision → List ℕ
+goes_on_text direction None = []
+goes_on_text direction (Some d) = codes "If the game goes on: " ++ (line_text direction d ++ codes "\n")
+
+-- who plays against the user
+abbrev pub opponent_text : List ℕ → List ℕ
+opponent_text [] = codes "your opponent"
+opponent_text (byte ∷ rest) = byte ∷ rest
+
+-- the first word of a decision that was sent
+abbrev pub decision_word : Option Decision → List ℕ
+decision_word None = codes "It"
+decision_word (Some D.Roll) = codes "roll"
+decision_word (Some D.Double) = codes "double"
+decision_word (Some D.Accept) = codes "accept"
+decision_word (Some D.Reject) = codes "reject"
+decision_word (Some (D.Move play)) = codes "move"
+decision_word (Some (D.Resign kind)) = codes "resign"
+
+-- the whole way out of what the server plays by itself
+abbrev pub toggles_text : Bool → Bool → List ℕ
+toggles_text true true = codes "toggle automove, then toggle greedy, then bye,\nthen open"
+toggles_text true false = codes "toggle automove, then bye,\nthen open"
+toggles_text false true = codes "toggle greedy, then bye,\nthen open"
+toggles_text false false = codes "bye,\nthen open"
+
+-- and of the match that is saved then, if there is an opponent
+abbrev pub invite_words : List ℕ → List ℕ
+invite_words [] = []
+invite_words (byte ∷ rest) = codes ", and invite "
+
+abbrev pub resumes_text : List ℕ → List ℕ
+resumes_text opponent = invite_words opponent ++ (opponent ++ codes ".\n")
+
+-- how a row begins: with who plays against the user, or with what was sent
+abbrev pub beginning : Row → List ℕ → List ℕ → List ℕ
+beginning R.Resigns who word = who
+beginning R.Owes who word = who
+beginning R.Doubles who word = who
+beginning R.Declined who word = who
+beginning R.Thinks who word = who
+beginning R.Joined who word = who
+beginning R.Absent who word = who
+beginning R.Refused who word = word
+beginning R.Waits who word = word
+beginning row who word = []
+
+-- what a row names: decisions that the client takes, lines that go as they are, a player
+abbrev pub named_in : Row → List ℕ → List ℕ → Advice → List ℕ
+named_in R.Offers opponent inviter a = hint_text a.offers
+named_in R.Resigns opponent inviter a = hint_text a.offers
+named_in R.Owes opponent inviter a = hint_text a.offers
+named_in R.ServerPlays opponent inviter a = toggles_text a.automove a.greedy ++ resumes_text opponent
+named_in R.Declined opponent inviter a = send_text a.offers.direction a.send a.other
+named_in R.Same opponent inviter a = send_text a.offers.direction a.send a.other
+named_in R.Back opponent inviter a = send_text a.offers.direction a.send a.other
+named_in R.Thinks opponent inviter a = goes_on_text a.offers.direction a.send
+named_in R.Saved opponent inviter a = opponent ++ (codes ",\nor join " ++ opponent)
+named_in R.Invited opponent inviter a = inviter
+named_in row opponent inviter a = []
+
+-- what is said
+abbrev pub advice_text : List ℕ → List ℕ → Advice → List ℕ
+advice_text opponent inviter a = beginning a.row (opponent_text opponent) (decision_word a.asked)
+    ++ (words_before a.row ++ (named_in a.row opponent inviter a ++ words_after a.row))

@@ -1,0 +1,67 @@
+-- Rows: what is said to who plays, and what they name (the project's own).
+use Rattle.std.specs.Prelude.{ℕ, List, [], codes, Bool, true, false, Option, Some, None}
+use Rattle.fibs_commands.specs.PlainCommands.{PlainValue, board_again, join}
+use Rattle.fibs_advice.specs.declared.row.Row.{Row}
+use Rattle.fibs_advice.specs.declared.row.Row.TheVariants as R
+
+-- it says how an offer is answered by a line that goes as it is
+abbrev pub answers : Row → Bool
+answers R.Resigns = true
+answers R.Owes = true
+answers row = false
+
+-- it says what the client takes now
+abbrev pub shows_offers : Row → Bool
+shows_offers R.Offers = true
+shows_offers R.Resigns = true
+shows_offers R.Owes = true
+shows_offers row = false
+
+-- it is said only if the user asks: there is nothing to do then, or it is not sure
+abbrev pub is_asked_for : Row → Bool
+is_asked_for R.Back = true
+is_asked_for R.Thinks = true
+is_asked_for R.Waits = true
+is_asked_for R.Joined = true
+is_asked_for R.Absent = true
+is_asked_for row = false
+
+-- the line that it names, if that has no argument and decides nothing
+abbrev pub plain_in : Row → Option PlainValue
+plain_in R.Next = Some join
+plain_in R.Doubles = Some board_again
+plain_in R.Turn = Some board_again
+plain_in R.Refused = Some board_again
+plain_in R.Waits = Some board_again
+plain_in row = None
+
+-- its words before what it names
+abbrev pub words_before : Row → List ℕ
+words_before R.Nothing = []
+words_before R.Offers = []
+words_before R.NotLoggedIn = codes "Not logged in: wrong name or password? quit, and begin again.\n"
+words_before R.ServerPlays = codes "The server plays for you: "
+words_before R.Resigns = codes " offers to resign: send accept, or send reject.\n"
+words_before R.Owes = codes " waits for your answer: send accept, or send reject.\n"
+words_before R.Doubles = codes " doubles: board, then accept, or reject.\n"
+words_before R.Turn = codes "It may be your turn: board shows the game.\n"
+words_before R.Declined = codes " declined? Go on: "
+words_before R.Refused = codes " was refused: board shows the game.\n"
+words_before R.Same = codes "The board is as it was: "
+words_before R.Back = codes "If it is your turn: "
+words_before R.Thinks = codes " has not answered yet.\n"
+words_before R.Waits = codes " was sent: board asks what became of it.\n"
+words_before R.Next = codes "The game is over: join goes on, send leave ends the match.\n"
+words_before R.Joined = codes " has not joined yet.\n"
+words_before R.Saved = codes "Your match may be saved: invite "
+words_before R.Absent = codes " is not here now: your match may be saved.\n"
+words_before R.Invited = codes "You are invited: join "
+
+-- its words after what it names
+abbrev pub words_after : Row → List ℕ
+words_after R.Declined = codes "\n"
+words_after R.Same = codes "\n"
+words_after R.Back = codes "\n"
+words_after R.Invited = codes "\n"
+words_after R.Saved = codes ", if you are invited.\n"
+words_after row = []

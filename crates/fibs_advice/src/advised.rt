@@ -1,0 +1,366 @@
+//! What is advised in a state.
+ghost use Rattle.std.specs.Prelude.{◌≡◌, true, false, None, IfOk, IfSome, IsTrue};
+ghost use Rattle.fibs_history.specs.Machine.{Talk, shown_now, unconfirmed_now, plain_refusal};
+ghost use Rattle.fibs_position.specs.DecisionValue.{decision_of};
+ghost use Rattle.fibs_commands.specs.PlainOf.{plain_value};
+ghost use Rattle.fibs_session.specs.Calls.Standing.{StandsAfter};
+ghost use Rattle.fibs_advice.specs.Advised.{Advises, IsAnother, MayAnswer, MaySend, rules_allow};
+ghost use Rattle.fibs_advice.specs.Rows.{answers, plain_in, shows_offers};
+ghost use Rattle.fibs_advice.specs.Standings.{hides_offers};
+ghost use Rattle.fibs_advice.specs.Offers.{may_decide};
+
+use crate::offers::{Offers, first_of, is_taken, offered};
+use crate::row::Row;
+use crate::situation::Situation;
+use crate::standing::Standing;
+use fibs_commands::Plain;
+use fibs_position::laws::decisions_are_their_values;
+use fibs_position::{Decision, GameBoard, Phase, Position};
+use fibs_session::{Client, Refusal};
+use std::alloc::{AllocError, Global};
+
+/// What is advised.
+#[derive(Clone, Copy)]
+pub struct Advice {
+    /// What is said.
+    pub row: Row,
+    /// What the client takes now.
+    pub offers: Offers,
+    /// Whether `toggle automove` turns something off now.
+    pub automove: bool,
+    /// Whether `toggle greedy` does.
+    pub greedy: bool,
+    /// A decision that goes as it is.
+    pub send: Option<Decision>,
+    /// Another one.
+    pub other: Option<Decision>,
+    /// The decision that was sent, and that no board has confirmed.
+    pub asked: Option<Decision>,
+}
+
+/// What is known beside the conversation.
+#[derive(Clone, Copy)]
+pub struct Aside {
+    /// Whether the opponent is listed.
+    pub is_listed: bool,
+    /// Whether the server had time to answer the login.
+    pub had_time: bool,
+}
+
+/// Whether the rules allow a decision on the board that is shown.
+fn is_allowed(client: &Client, decision: &Decision) -> bool
+    ensures { IsTrue result → (t : Talk) → StandsAfter client.now t →
+        rules_allow (shown_now t) (decision_of decision.now) ≡ true }
+{
+    match client.game() {
+        None => false,
+        Some(game) => game.position().allows(decision).is_ok(),
+    }
+}
+
+/// Whether a decision is not the one that waits.
+fn is_another(client: &Client, decision: &Decision) -> bool
+    ensures { IsTrue result → (t : Talk) → StandsAfter client.now t →
+        IsAnother (unconfirmed_now t) (decision_of decision.now) }
+{
+    match client.waiting() {
+        None => true,
+        Some(asked) => !decisions_are_their_values(&asked.decision, decision),
+    }
+}
+
+/// A decision, if it may go as it is.
+fn sendable(client: &Client, standing: Standing, decision: Option<Decision>) -> Option<Decision>
+    ensures { IfSome result (λ d. (t : Talk) → StandsAfter client.now t → MaySend t standing (decision_of d)) }
+{
+    let Some(decision) = decision else {
+        return None;
+    };
+    if is_taken(client, &decision) || !is_allowed(client, &decision) {
+        return None;
+    }
+    if standing.repeats() || is_another(client, &decision) {
+        Some(decision)
+    } else {
+        None
+    }
+}
+
+/// Whether the client takes a line now.
+fn is_plain_taken(client: &Client, plain: &Plain<'_>) -> bool
+    ensures { IsTrue result → (t : Talk) → StandsAfter client.now t →
+        plain_refusal t (plain_value plain.now) ≡ None }
+{
+    client.plain_refusal(plain).is_none()
+}
+
+/// Whether the client takes the line that a row names, if it names one.
+fn is_row_taken(client: &Client, row: Row) -> bool
+    ensures { IsTrue result → (t : Talk) → StandsAfter client.now t →
+        IfSome (plain_in row) (λ p. plain_refusal t p ≡ None) }
+{
+    match row.plain() {
+        Some(plain) => is_plain_taken(client, &plain),
+        None => true,
+    }
+}
+
+/// Whether an offer of which texts alone tell is answered as it is.
+fn may_answer(client: &Client, standing: Standing) -> bool
+    ensures { IsTrue result → (t : Talk) → StandsAfter client.now t → MayAnswer t standing }
+{
+    standing.owes_answer()
+        && !is_taken(client, &Decision::Accept)
+        && !is_taken(client, &Decision::Reject)
+}
+
+/// Whether a row is what is to be said: what the client takes now is not left out.
+fn says_offers(standing: Standing, offers: &Offers, row: Row) -> bool
+    ensures { IsTrue result → hides_offers standing ≡ false → may_decide offers.now ≡ true → shows_offers row ≡ true }
+{
+    standing.hides_offers() || !offers.may_decide() || row.shows_offers()
+}
+
+/// Whether all that a row names may be typed.
+fn is_true(client: &Client, standing: Standing, row: Row) -> bool
+    ensures plain { IsTrue result → (t : Talk) → StandsAfter client.now t →
+        IfSome (plain_in row) (λ p. plain_refusal t p ≡ None) }
+    ensures answer { IsTrue result → answers row ≡ true → (t : Talk) → StandsAfter client.now t → MayAnswer t standing }
+{
+    is_row_taken(client, row) && (!row.answers() || may_answer(client, standing))
+}
+
+/// A row, if it is true and leaves nothing out that the client takes now; else what the client takes.
+fn true_row(client: &Client, standing: Standing, offers: &Offers, row: Row) -> Row
+    ensures shown { hides_offers standing ≡ false → may_decide offers.now ≡ true → shows_offers result ≡ true }
+    ensures plain { (t : Talk) → StandsAfter client.now t →
+        IfSome (plain_in result) (λ p. plain_refusal t p ≡ None) }
+    ensures answer { answers result ≡ true → (t : Talk) → StandsAfter client.now t → MayAnswer t standing }
+{
+    if is_true(client, standing, row) && says_offers(standing, offers, row) {
+        row
+    } else {
+        Row::Offers
+    }
+}
+
+/// A legal move of a board: the one that waits, if the rules allow it there too.
+fn move_on(
+    alloc: Global,
+    client: &Client,
+    position: &Position,
+) -> Result<Option<Decision>, AllocError> {
+    if let Some(asked) = client.waiting() {
+        if let Decision::Move(_) = asked.decision {
+            if position.allows(&asked.decision).is_ok() {
+                return Ok(Some(asked.decision));
+            }
+        }
+    }
+    let first = first_of(alloc, position)?;
+    Ok(first.map(Decision::Move))
+}
+
+/// The decisions by which a game goes on, on a board.
+fn ways_on(
+    alloc: Global,
+    client: &Client,
+    game: &GameBoard,
+) -> Result<(Option<Decision>, Option<Decision>), AllocError> {
+    match game.phase() {
+        Phase::RollOrDouble => Ok((Some(Decision::Roll), Some(Decision::Double))),
+        Phase::AnswerDouble => Ok((Some(Decision::Accept), Some(Decision::Reject))),
+        Phase::Move => Ok((move_on(alloc, client, game.position())?, None)),
+        Phase::Over | Phase::OpponentActs | Phase::Passing => Ok((None, None)),
+    }
+}
+
+/// Whether a decision is an offer, which changes no board.
+fn is_offer(decision: &Decision) -> bool {
+    matches!(decision, Decision::Double | Decision::Resign(_))
+}
+
+/// Whether a state asks for lines that go as they are, while a decision waits. A decision that was refused, and is no
+/// offer, was made on a board that is no longer the game's: that board is asked for first.
+fn sends(standing: Standing, waiting: &Decision) -> bool {
+    match standing {
+        Standing::Same | Standing::Back => true,
+        Standing::Refused | Standing::Offered => is_offer(waiting),
+        _ => false,
+    }
+}
+
+/// The decisions that are advised, before each of them is tested.
+fn ways(
+    alloc: Global,
+    client: &Client,
+    standing: Standing,
+) -> Result<(Option<Decision>, Option<Decision>), AllocError> {
+    let (Some(asked), Some(game)) = (client.waiting(), client.game()) else {
+        return Ok((None, None));
+    };
+    if sends(standing, &asked.decision) {
+        ways_on(alloc, client, game)
+    } else {
+        Ok((None, None))
+    }
+}
+
+/// A second decision: a double is not advised if the server has refused one in this game, or if the opponent has an
+/// offer before him.
+fn second_way(situation: &Situation, second: Option<Decision>) -> Option<Decision> {
+    match second {
+        Some(Decision::Double)
+            if situation.refuses_double || situation.standing == Standing::Offered => { None }
+        _ => second,
+    }
+}
+
+/// Whether the user decides on the board that is shown.
+fn is_deciding(client: &Client) -> bool {
+    let Some(game) = client.game() else {
+        return false;
+    };
+    matches!(
+        game.phase(),
+        Phase::RollOrDouble | Phase::AnswerDouble | Phase::Move
+    )
+}
+
+/// What is said of a decision that was refused, or that waits though its board came again.
+fn row_of_refused(client: &Client, standing: Standing, has_way: bool) -> Row {
+    if client.waiting().is_none() {
+        return Row::Offers;
+    }
+    match standing {
+        Standing::Refused if has_way => Row::Declined,
+        Standing::Same if has_way => Row::Same,
+        _ if is_deciding(client) => Row::Refused,
+        _ => Row::Nothing,
+    }
+}
+
+/// What is said if a decision waits of which nothing was heard, or if none waits: what the client takes.
+fn row_of_waiting(client: &Client) -> Row {
+    if client.waiting().is_some() {
+        Row::Waits
+    } else {
+        Row::Offers
+    }
+}
+
+/// What is said if the server has said that it is the user's turn: what the client takes, else that the board shows it.
+fn row_of_turn(offers: &Offers) -> Row {
+    if offers.may_decide() {
+        Row::Offers
+    } else {
+        Row::Turn
+    }
+}
+
+/// What is said in a game.
+fn row_in_game(client: &Client, standing: Standing, offers: &Offers, has_way: bool) -> Row {
+    match standing {
+        Standing::Resigned => Row::Resigns,
+        Standing::Owed => Row::Owes,
+        Standing::Offered => Row::Thinks,
+        Standing::Doubled => Row::Doubles,
+        Standing::Refused | Standing::Same => row_of_refused(client, standing, has_way),
+        Standing::Back if has_way => Row::Back,
+        Standing::Anew if client.waiting().is_none() => Row::Nothing,
+        Standing::Asked | Standing::Anew => row_of_waiting(client),
+        Standing::Due => row_of_turn(offers),
+        Standing::Playing if client.game().is_none() => Row::Turn,
+        _ => Row::Offers,
+    }
+}
+
+/// What is said of a match that is off the table.
+fn row_of_saved(situation: &Situation, is_listed: bool) -> Row {
+    match situation.standing {
+        Standing::Invited => Row::Invited,
+        Standing::Reopened => Row::Nothing,
+        _ if situation.opponent.is_empty() => Row::Nothing,
+        _ if is_listed => Row::Saved,
+        _ => Row::Absent,
+    }
+}
+
+/// Whether a state's row comes before that of a server that plays by itself.
+fn comes_first(standing: Standing) -> bool {
+    matches!(
+        standing,
+        Standing::Resigned
+            | Standing::Owed
+            | Standing::Gone
+            | Standing::Reopened
+            | Standing::Invited
+            | Standing::Ended
+            | Standing::Next
+            | Standing::Joined
+    )
+}
+
+/// Why the client would refuse to roll, if it is not the board that forbids it: so one knows whether it is logged in,
+/// and whether the server plays by itself.
+fn hindrance(client: &Client) -> Option<Refusal> {
+    client.refusal(&Decision::Roll)
+}
+
+/// What is said, before it is tested that all that it names may be typed.
+fn row_of(
+    client: &Client,
+    situation: &Situation,
+    aside: Aside,
+    offers: &Offers,
+    has_way: bool,
+) -> Row {
+    let standing = situation.standing;
+    if situation.is_login_refused(client.unfinished(), aside.had_time) {
+        return Row::NotLoggedIn;
+    }
+    match hindrance(client) {
+        Some(Refusal::Offline | Refusal::NotReady) => return Row::Nothing,
+        Some(Refusal::ServerPlays) if !comes_first(standing) => return Row::ServerPlays,
+        _ => {}
+    }
+    match standing {
+        Standing::Free | Standing::Ended => Row::Nothing,
+        Standing::Next => Row::Next,
+        Standing::Joined => Row::Joined,
+        Standing::Gone | Standing::Reopened | Standing::Invited => {
+            row_of_saved(situation, aside.is_listed)
+        }
+        _ => row_in_game(client, standing, offers, has_way),
+    }
+}
+
+/// What is advised: without `send` only what the client takes now; with `send` only what it would refuse and the rules
+/// allow, and not the decision that waits, unless the server has shown the board again on which that was made.
+///
+/// Errors: if memory runs out.
+pub fn advised(
+    alloc: Global,
+    client: &Client,
+    situation: &Situation,
+    aside: Aside,
+) -> Result<Advice, AllocError>
+    ensures { IfOk result (λ a. (t : Talk) → StandsAfter client.now t → Advises t situation.now.standing a) }
+{
+    let standing = situation.standing;
+    let offers = offered(alloc, client)?;
+    let (first, second) = ways(alloc, client, standing)?;
+    let send = sendable(client, standing, first);
+    let other = sendable(client, standing, second_way(situation, second));
+    let has_way = send.is_some() || other.is_some();
+    let row = row_of(client, situation, aside, &offers, has_way);
+    Ok(Advice {
+        row: true_row(client, standing, &offers, row),
+        offers,
+        automove: is_plain_taken(client, &Plain::AutomoveOff),
+        greedy: is_plain_taken(client, &Plain::GreedyOff),
+        send,
+        other,
+        asked: client.waiting().map(|asked| asked.decision),
+    })
+}

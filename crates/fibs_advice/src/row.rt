@@ -1,0 +1,124 @@
+//! Rows: what is said to who plays, and what they name.
+ghost use Rattle.std.specs.Prelude.{◌≡◌, option_map};
+ghost use Rattle.fibs_commands.specs.PlainOf.{plain_value};
+ghost use Rattle.fibs_advice.specs.Rows.{plain_in, answers, is_asked_for, shows_offers, words_before, words_after};
+
+use fibs_commands::Plain;
+
+/// What is said.
+#[derive(Clone, Copy, Debug, PartialEq, Eq)]
+pub enum Row {
+    /// Nothing.
+    Nothing,
+    /// That the server asks for the login again.
+    NotLoggedIn,
+    /// What the client takes now.
+    Offers,
+    /// That the server plays by itself, and how one plays oneself.
+    ServerPlays,
+    /// That the opponent offers to resign, and how that is answered.
+    Resigns,
+    /// That the opponent waits for an answer, and how it is given.
+    Owes,
+    /// That the opponent doubles: the board has to say so first.
+    Doubles,
+    /// That it may be the user's turn: the board says it.
+    Turn,
+    /// How the game goes on if the opponent has declined.
+    Declined,
+    /// That a decision was refused: the board says what is left.
+    Refused,
+    /// How the game goes on, on the board that came again.
+    Same,
+    /// The same, if it is the user's turn.
+    Back,
+    /// That the opponent has not answered, and how the game goes on if it does.
+    Thinks,
+    /// What was sent, and how one asks what became of it.
+    Waits,
+    /// That the next game waits for `join`.
+    Next,
+    /// That the opponent has not joined.
+    Joined,
+    /// How a match that was saved is resumed.
+    Saved,
+    /// That its opponent is not here.
+    Absent,
+    /// How an invitation is accepted.
+    Invited,
+}
+
+impl Row {
+    /// Whether it says how an offer is answered by a line that goes as it is.
+    pub fn answers(self) -> bool
+        ensures { result ≡ answers self }
+    {
+        matches!(self, Row::Resigns | Row::Owes)
+    }
+
+    /// The line that it names, if that has no argument and decides nothing.
+    pub fn plain(self) -> Option<Plain<'static>>
+        ensures { option_map plain_value result ≡ plain_in self }
+    {
+        match self {
+            Row::Next => Some(Plain::Join(None)),
+            Row::Doubles | Row::Turn | Row::Refused | Row::Waits => Some(Plain::Board),
+            _ => None,
+        }
+    }
+
+    /// Whether it says what the client takes now.
+    pub fn shows_offers(self) -> bool
+        ensures { result ≡ shows_offers self }
+    {
+        matches!(self, Row::Offers | Row::Resigns | Row::Owes)
+    }
+
+    /// Whether it is said only if the user asks: by `help`, `board`, or a word that is refused. There is nothing to do
+    /// then, or it is not sure.
+    pub fn is_asked_for(self) -> bool
+        ensures { result ≡ is_asked_for self }
+    {
+        matches!(
+            self,
+            Row::Back | Row::Thinks | Row::Waits | Row::Joined | Row::Absent
+        )
+    }
+
+    /// Its words before what it names.
+    pub(crate) fn words_before(self) -> &'static [u8]
+        ensures { result.now ≡ words_before self }
+    {
+        match self {
+            Row::Nothing | Row::Offers => b"",
+            Row::NotLoggedIn => b"Not logged in: wrong name or password? quit, and begin again.\n",
+            Row::ServerPlays => b"The server plays for you: ",
+            Row::Resigns => b" offers to resign: send accept, or send reject.\n",
+            Row::Owes => b" waits for your answer: send accept, or send reject.\n",
+            Row::Doubles => b" doubles: board, then accept, or reject.\n",
+            Row::Turn => b"It may be your turn: board shows the game.\n",
+            Row::Declined => b" declined? Go on: ",
+            Row::Refused => b" was refused: board shows the game.\n",
+            Row::Same => b"The board is as it was: ",
+            Row::Back => b"If it is your turn: ",
+            Row::Thinks => b" has not answered yet.\n",
+            Row::Waits => b" was sent: board asks what became of it.\n",
+            Row::Next => b"The game is over: join goes on, send leave ends the match.\n",
+            Row::Joined => b" has not joined yet.\n",
+            Row::Saved => b"Your match may be saved: invite ",
+            Row::Absent => b" is not here now: your match may be saved.\n",
+            Row::Invited => b"You are invited: join ",
+        }
+    }
+
+    /// Its words after what it names.
+    pub(crate) fn words_after(self) -> &'static [u8]
+        ensures { result.now ≡ words_after self }
+    {
+        match self {
+            Row::Declined | Row::Same | Row::Back | Row::Invited => b"\n",
+            Row::Saved => b", if you are invited.\n",
+            _ => b"",
+        }
+    }
+}

@@ -1,0 +1,204 @@
+//! How what is advised is said.
+ghost use Rattle.std.specs.Prelude.{◌≡◌, ◌++◌, codes, OnOk};
+ghost use Rattle.fibs_advice.specs.Rows.{words_before, words_after};
+ghost use Rattle.fibs_advice.specs.Advised.{advice_text, beginning, goes_on_text, line_text, named_in, send_text};
+ghost use Rattle.fibs_advice.specs.Advised.{decision_word, invite_words, opponent_text, resumes_text, toggles_text};
+
+use crate::advised::Advice;
+use crate::offers::append_offers;
+use crate::row::Row;
+use fibs_commands::decision_text;
+use fibs_position::{Decision, Direction};
+use std::alloc::AllocError;
+
+/// Appends a decision as a line that goes as it is.
+fn append_line(
+    direction: Direction,
+    decision: Decision,
+    text: &mut Vec<u8>,
+) -> Result<(), AllocError>
+    ensures { OnOk result (text.new.items ≡ text.old.items ++ line_text direction decision) }
+{
+    let command = decision_text(&decision, direction);
+    text.extend_from_slice(b"send ")?;
+    text.extend_from_slice(command.as_bytes())
+}
+
+/// Appends the lines that go as they are: one decision, or two.
+fn append_send(
+    direction: Direction,
+    send: Option<Decision>,
+    other: Option<Decision>,
+    text: &mut Vec<u8>,
+) -> Result<(), AllocError>
+    ensures { OnOk result (text.new.items ≡ text.old.items ++ send_text direction send other) }
+{
+    match (send, other) {
+        (None, None) => Ok(()),
+        (Some(one), None) | (None, Some(one)) => append_line(direction, one, text),
+        (Some(one), Some(two)) => {
+            append_line(direction, one, text)?;
+            text.extend_from_slice(b", or ")?;
+            append_line(direction, two, text)
+        }
+    }
+}
+
+/// Appends a line that goes as it is in a row of its own, if there is one.
+fn append_goes_on(
+    direction: Direction,
+    send: Option<Decision>,
+    text: &mut Vec<u8>,
+) -> Result<(), AllocError>
+    ensures { OnOk result (text.new.items ≡ text.old.items ++ goes_on_text direction send) }
+{
+    match send {
+        None => Ok(()),
+        Some(decision) => {
+            text.extend_from_slice(b"If the game goes on: ")?;
+            append_line(direction, decision, text)?;
+            text.extend_from_slice(b"\n")
+        }
+    }
+}
+
+/// Who plays against the user.
+fn opponent_text(opponent: &[u8]) -> &[u8]
+    ensures { result.now ≡ opponent_text opponent.now }
+{
+    if opponent.is_empty() {
+        b"your opponent"
+    } else {
+        opponent
+    }
+}
+
+/// The first word of a decision that was sent.
+fn decision_word(asked: Option<Decision>) -> &'static [u8]
+    ensures { result.now ≡ decision_word asked }
+{
+    match asked {
+        None => b"It",
+        Some(Decision::Roll) => b"roll",
+        Some(Decision::Double) => b"double",
+        Some(Decision::Accept) => b"accept",
+        Some(Decision::Reject) => b"reject",
+        Some(Decision::Move(_)) => b"move",
+        Some(Decision::Resign(_)) => b"resign",
+    }
+}
+
+/// The lines that turn off what the server plays by itself, and those after them.
+fn toggles_text(automove: bool, greedy: bool) -> &'static [u8]
+    ensures { result.now ≡ toggles_text automove greedy }
+{
+    match (automove, greedy) {
+        (true, true) => b"toggle automove, then toggle greedy, then bye,\nthen open",
+        (true, false) => b"toggle automove, then bye,\nthen open",
+        (false, true) => b"toggle greedy, then bye,\nthen open",
+        (false, false) => b"bye,\nthen open",
+    }
+}
+
+/// What comes before the opponent whom one invites, if there is one.
+fn invite_words(opponent: &[u8]) -> &'static [u8]
+    ensures { result.now ≡ invite_words opponent.now }
+{
+    if opponent.is_empty() {
+        b""
+    } else {
+        b", and invite "
+    }
+}
+
+/// Appends how one plays on against an opponent after a new connection, if there is an opponent.
+fn append_resumes(opponent: &[u8], text: &mut Vec<u8>) -> Result<(), AllocError>
+    ensures { OnOk result (text.new.items ≡ text.old.items ++ resumes_text opponent.now) }
+{
+    text.extend_from_slice(invite_words(opponent))?;
+    text.extend_from_slice(opponent)?;
+    text.extend_from_slice(b".\n")
+}
+
+/// How a row begins.
+fn beginning<'a>(row: Row, who: &'a [u8], word: &'a [u8]) -> &'a [u8]
+    ensures { result.now ≡ beginning row who.now word.now }
+{
+    match row {
+        Row::Resigns
+        | Row::Owes
+        | Row::Doubles
+        | Row::Declined
+        | Row::Thinks
+        | Row::Joined
+        | Row::Absent => who,
+        Row::Refused | Row::Waits => word,
+        _ => b"",
+    }
+}
+
+/// Appends how one leaves what the server plays by itself.
+fn append_way_out(
+    automove: bool,
+    greedy: bool,
+    opponent: &[u8],
+    text: &mut Vec<u8>,
+) -> Result<(), AllocError>
+    ensures { OnOk result (text.new.items
+        ≡ text.old.items ++ (toggles_text automove greedy ++ resumes_text opponent.now)) }
+{
+    text.extend_from_slice(toggles_text(automove, greedy))?;
+    append_resumes(opponent, text)
+}
+
+/// Appends an opponent with whom a match is resumed: whom one invites, or who invites.
+fn append_opponent(opponent: &[u8], text: &mut Vec<u8>) -> Result<(), AllocError>
+    ensures { OnOk result (text.new.items ≡ text.old.items ++ (opponent.now ++ (codes ",\nor join " ++ opponent.now))) }
+{
+    text.extend_from_slice(opponent)?;
+    text.extend_from_slice(b",\nor join ")?;
+    text.extend_from_slice(opponent)
+}
+
+/// Appends what a row names.
+fn append_named(
+    advice: &Advice,
+    opponent: &[u8],
+    inviter: &[u8],
+    text: &mut Vec<u8>,
+) -> Result<(), AllocError>
+    ensures { OnOk result (text.new.items
+        ≡ text.old.items ++ named_in advice.now.row opponent.now inviter.now advice.now) }
+{
+    let direction = advice.offers.direction;
+    match advice.row {
+        Row::Offers | Row::Resigns | Row::Owes => append_offers(&advice.offers, text),
+        Row::ServerPlays => append_way_out(advice.automove, advice.greedy, opponent, text),
+        Row::Declined | Row::Same | Row::Back => append_send(
+            direction,
+            advice.send,
+            advice.other,
+            text,
+        ),
+        Row::Thinks => append_goes_on(direction, advice.send, text),
+        Row::Saved => append_opponent(opponent, text),
+        Row::Invited => text.extend_from_slice(inviter),
+        _ => Ok(()),
+    }
+}
+
+/// Appends what is advised to a user who plays against this opponent, or whom this player invites.
+pub fn append_advice(
+    advice: &Advice,
+    opponent: &[u8],
+    inviter: &[u8],
+    text: &mut Vec<u8>,
+) -> Result<(), AllocError>
+    ensures { OnOk result (text.new.items ≡ text.old.items ++ advice_text opponent.now inviter.now advice.now) }
+{
+    let who = opponent_text(opponent);
+    text.extend_from_slice(beginning(advice.row, who, decision_word(advice.asked)))?;
+    text.extend_from_slice(advice.row.words_before())?;
+    append_named(advice, opponent, inviter, text)?;
+    text.extend_from_slice(advice.row.words_after())
+}

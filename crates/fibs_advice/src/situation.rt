@@ -1,0 +1,233 @@
+//! What the user waits for, of whom, and on what.
+
+use crate::standing::{Shown, Standing};
+use crate::told::{Report, Told, read_told};
+use arrayvec::ArrayVec;
+use fibs_boards::board::Board;
+use fibs_boards::fields::{MATCH_LENGTH, OTHER_SCORE, OWN_SCORE, UNLIMITED};
+use fibs_fields::split::split;
+use fibs_lines::LOGIN_PROMPT;
+use fibs_position::{GameBoard, Phase};
+
+/// The first words of the commands of decisions: those that are offers, which change no board, and the others.
+const OFFERS: [&[u8]; 2] = [b"double", b"resign"];
+
+const OTHER_DECISIONS: [&[u8]; 4] = [b"roll", b"move", b"accept", b"reject"];
+
+/// The name of a player, kept; empty if none is known.
+pub type KeptName = ArrayVec<u8, 64>;
+
+/// A decision that the client has sent, and that no board has confirmed.
+#[derive(Clone, Copy, Debug, PartialEq, Eq)]
+enum Waiting {
+    /// There is none.
+    Nothing,
+    /// It is an offer.
+    Offer,
+    /// It is another one.
+    Other,
+}
+
+/// What the user waits for, and what of it the client does not know.
+#[derive(Drop)]
+pub struct Situation {
+    /// What the user waits for.
+    pub standing: Standing,
+    /// The opponent of the board that came last, else of a text.
+    pub opponent: KeptName,
+    /// Who invites the user.
+    pub inviter: KeptName,
+    /// Whether the server has refused a double in this game.
+    pub refuses_double: bool,
+    /// Whether `board` was sent after the last decision, and no board has come since.
+    pub asks_board: bool,
+    /// What waits.
+    waiting: Waiting,
+    /// Whether a login was sent on this connection, and the server has not greeted the user.
+    logs_in: bool,
+    /// Whether a message has come since that is not the greeting.
+    hears_others: bool,
+    /// Whether the message of the day is being said: its lines may have any words.
+    is_motd: bool,
+}
+
+/// What waits after a command: None if it is no decision.
+fn decision_in(line: &[u8]) -> Option<Waiting> {
+    let word = split(line, b' ').0;
+    if OFFERS.contains(&word) {
+        Some(Waiting::Offer)
+    } else if OTHER_DECISIONS.contains(&word) {
+        Some(Waiting::Other)
+    } else {
+        None
+    }
+}
+
+/// Keeps a name.
+fn keep_name(name: &[u8], kept: &mut KeptName) {
+    kept.clear();
+    let _fits = kept.try_extend_from_slice(name);
+}
+
+/// Whether a board says that the match is over: a player has the points of its length.
+fn is_match_over(board: &Board) -> bool {
+    let length = board.field(MATCH_LENGTH);
+    length != UNLIMITED && (board.field(OWN_SCORE) >= length || board.field(OTHER_SCORE) >= length)
+}
+
+impl Situation {
+    /// Nothing was said.
+    pub fn new() -> Situation {
+        Situation {
+            standing: Standing::Free,
+            opponent: KeptName::new(),
+            inviter: KeptName::new(),
+            refuses_double: false,
+            asks_board: false,
+            waiting: Waiting::Nothing,
+            logs_in: false,
+            hears_others: false,
+            is_motd: false,
+        }
+    }
+
+    /// A connection was made: nothing waits on it.
+    pub fn hear_opened(&mut self) {
+        self.standing = if self.opponent.is_empty() {
+            Standing::Free
+        } else {
+            Standing::Reopened
+        };
+        self.refuses_double = false;
+        self.asks_board = false;
+        self.waiting = Waiting::Nothing;
+        self.logs_in = true;
+        self.hears_others = false;
+        self.is_motd = false;
+    }
+
+    /// The server has greeted the user.
+    pub fn hear_welcome(&mut self) {
+        self.logs_in = false;
+    }
+
+    /// A player has logged out: nobody is invited by him any more.
+    pub fn hear_logout(&mut self, name: &[u8]) {
+        if self.inviter.as_slice() == name {
+            self.standing = self.standing.after_not_invited();
+        }
+    }
+
+    /// The message of the day begins, or ends.
+    pub fn hear_motd(&mut self, begins: bool) {
+        self.is_motd = begins;
+    }
+
+    /// Another message has come.
+    pub fn hear_others(&mut self) {
+        self.hears_others = true;
+    }
+
+    /// Whether the login was refused, by the line that has not ended: the server asks for it, or has said something
+    /// else in place of the greeting, though there was time for it.
+    pub fn is_login_refused(&self, unfinished: &[u8], had_time: bool) -> bool {
+        self.logs_in && (unfinished.ends_with(LOGIN_PROMPT) || (self.hears_others && had_time))
+    }
+
+    /// The user has sent a command, and the client has taken note of it. True if it is a decision.
+    pub fn hear_sent(&mut self, command: &[u8]) -> bool {
+        if let Some(waiting) = decision_in(command) {
+            self.waiting = waiting;
+            self.asks_board = false;
+            self.standing = self.standing.after_sent();
+            return true;
+        }
+        if command == b"board".as_slice() {
+            self.asks_board = true;
+        } else if command == b"bye".as_slice() {
+            self.standing = self.standing.after_bye();
+        }
+        false
+    }
+
+    /// The user has sent a line as it is.
+    pub fn hear_passed(&mut self, line: &[u8]) {
+        if decision_in(line).is_some() {
+            self.standing = self.standing.after_sent();
+        }
+    }
+
+    /// Whether a text is of others: of a game that the user watches.
+    fn is_of_others(&self, report: &Report<'_>) -> bool {
+        report.told.is_of_opponent()
+            && !self.opponent.is_empty()
+            && self.opponent.as_slice() != report.name
+    }
+
+    /// Keeps the name that a text has: of who invites the user, or of the opponent.
+    fn keep_name_of(&mut self, report: &Report<'_>) {
+        if report.name.is_empty() {
+            return;
+        }
+        match report.told {
+            Told::Invited => keep_name(report.name, &mut self.inviter),
+            Told::Begins | Told::Joined => keep_name(report.name, &mut self.opponent),
+            _ if self.opponent.is_empty() => keep_name(report.name, &mut self.opponent),
+            _ => {}
+        }
+    }
+
+    /// Hears a text of the server. What it says of the match, if it says anything that counts.
+    pub fn hear_text(&mut self, text: &[u8]) -> Option<Told> {
+        if self.is_motd {
+            return None;
+        }
+        let report = read_told(text)?;
+        if self.is_of_others(&report) {
+            return None;
+        }
+        self.hear_report(&report);
+        Some(report.told)
+    }
+
+    /// Hears what a text says.
+    fn hear_report(&mut self, report: &Report<'_>) {
+        let after = self.standing.after(report.told);
+        if after != self.standing || report.told == Told::Begins {
+            self.keep_name_of(report);
+        }
+        match report.told {
+            Told::Begins => self.refuses_double = false,
+            Told::NoDouble => self.refuses_double = true,
+            Told::MatchOver | Told::NoMatch if after != self.standing => self.opponent.clear(),
+            _ => {}
+        }
+        self.standing = after;
+    }
+
+    /// What a board says to who waits.
+    fn shown_by(&self, game: &GameBoard) -> Shown {
+        match (game.phase(), self.waiting) {
+            (Phase::Over, _) if is_match_over(game.board()) => Shown::MatchOver,
+            (Phase::Over, _) => Shown::GameOver,
+            (Phase::AnswerDouble, _) => Shown::Double,
+            (_, Waiting::Nothing) => Shown::Plain,
+            (_, Waiting::Offer) => Shown::OfferStands,
+            (_, Waiting::Other) => Shown::Stands,
+        }
+    }
+
+    /// Hears a board of the user's game. If it confirms the decision that waits, that is said next.
+    pub fn hear_board(&mut self, game: &GameBoard) {
+        keep_name(game.board().opponent().bytes(), &mut self.opponent);
+        let shown = self.shown_by(game);
+        self.standing = self.standing.after_board(shown, self.asks_board);
+        self.asks_board = false;
+    }
+
+    /// The board that came last confirms the decision that waited.
+    pub fn hear_confirmed(&mut self) {
+        self.waiting = Waiting::Nothing;
+        self.standing = self.standing.after_confirmed();
+    }
+}

@@ -1,0 +1,310 @@
+//! What the user waits for.
+ghost use Rattle.std.specs.Prelude.{◌≡◌};
+ghost use Rattle.fibs_advice.specs.Standings.{hides_offers, repeats, owes_answer};
+
+use crate::told::Told;
+
+/// What the user waits for, by what the server has said. What the client knows is no part of it.
+#[derive(Clone, Copy, Debug, PartialEq, Eq)]
+pub enum Standing {
+    /// No match.
+    Free,
+    /// Somebody invites the user.
+    Invited,
+    /// The board says all.
+    Playing,
+    /// A decision was sent, and no text has answered it.
+    Asked,
+    /// The user's own offer is before the opponent.
+    Offered,
+    /// The opponent has declined, or the server has refused, and nothing has changed.
+    Refused,
+    /// The board came again on which the decision that waits was made, and the server waits for the user.
+    Same,
+    /// The double was accepted, and a board is due.
+    Taken,
+    /// The server has said that it is the user's turn, and no board has come since.
+    Due,
+    /// The opponent doubles, and the board does not say so.
+    Doubled,
+    /// The opponent offers to resign.
+    Resigned,
+    /// The opponent has made an offer that no board shows: a double, or one that no text has named.
+    Owed,
+    /// The game is over.
+    Ended,
+    /// The next game waits for `join`.
+    Next,
+    /// The next game waits for the opponent.
+    Joined,
+    /// The match is no longer on the table.
+    Gone,
+    /// A connection was made after one on which there was an opponent, and nothing is known of the match.
+    Reopened,
+    /// A match or a game has begun, or was resumed, and no board has come since.
+    Anew,
+    /// The same, and its board is the one on which the decision that waits was made.
+    Back,
+}
+
+/// What a board says to the user.
+#[derive(Clone, Copy, Debug, PartialEq, Eq)]
+pub enum Shown {
+    /// The game is over, and the match goes on.
+    GameOver,
+    /// The match is over.
+    MatchOver,
+    /// A double that is to be answered.
+    Double,
+    /// It is the board on which an offer was made that waits.
+    OfferStands,
+    /// It is the board on which another decision was made that waits.
+    Stands,
+    /// Nothing waits.
+    Plain,
+}
+
+impl Standing {
+    /// Whether a decision that waits may be made once more: the server has shown the board again that it was made on.
+    pub fn repeats(self) -> bool
+        ensures { result ≡ repeats self }
+    {
+        matches!(self, Standing::Same | Standing::Back)
+    }
+
+    /// Whether an offer waits for the user of which texts alone tell.
+    pub fn owes_answer(self) -> bool
+        ensures { result ≡ owes_answer self }
+    {
+        matches!(self, Standing::Resigned | Standing::Owed)
+    }
+
+    /// Whether an offer of the opponent is told by texts, and no board shows it.
+    pub fn is_told_by_text(self) -> bool {
+        self == Standing::Doubled || self.owes_answer()
+    }
+
+    /// Whether what the client takes is not what the user waits for: there is no game, or its board is still to come,
+    /// or his own offer is before the opponent.
+    pub fn hides_offers(self) -> bool
+        ensures { result ≡ hides_offers self }
+    {
+        matches!(
+            self,
+            Standing::Free
+                | Standing::Invited
+                | Standing::Offered
+                | Standing::Ended
+                | Standing::Next
+                | Standing::Joined
+                | Standing::Gone
+                | Standing::Reopened
+                | Standing::Anew
+        )
+    }
+
+    /// Whether a match is on the table.
+    fn is_in_match(self) -> bool {
+        !matches!(
+            self,
+            Standing::Free | Standing::Invited | Standing::Gone | Standing::Reopened
+        )
+    }
+
+    /// Whether a game is on the table.
+    fn is_in_game(self) -> bool {
+        self.is_in_match() && !matches!(self, Standing::Ended | Standing::Next | Standing::Joined)
+    }
+
+    /// The state after a text.
+    pub fn after(self, told: Told) -> Standing {
+        match told {
+            Told::Begins => Standing::Anew,
+            Told::Doubles => Standing::Doubled,
+            Told::Resigns => Standing::Resigned,
+            Told::Joined => Standing::Joined,
+            Told::NextGame => self.after_next_game(),
+            Told::YourTurn => self.after_your_turn(),
+            Told::Invited => self.after_invitation(),
+            Told::NoMatch => self.after_no_match(),
+            Told::NotInvited => self.after_not_invited(),
+            Told::NotPlaying => self.after_not_playing(),
+            Told::Saved if self.is_in_match() => Standing::Gone,
+            Told::MatchOver if self.is_in_match() => Standing::Free,
+            Told::GameOver if self.is_in_game() => Standing::Ended,
+            _ if self.is_in_game() => self.after_game_text(told),
+            _ => self,
+        }
+    }
+
+    /// The state after the next game was said to wait for `join`.
+    fn after_next_game(self) -> Standing {
+        match self {
+            Standing::Joined => self,
+            _ => Standing::Next,
+        }
+    }
+
+    /// The state after the server has said that it is the user's turn: what is known better stays.
+    fn after_your_turn(self) -> Standing {
+        match self {
+            Standing::Back => Standing::Same,
+            Standing::Offered
+            | Standing::Refused
+            | Standing::Same
+            | Standing::Doubled
+            | Standing::Resigned
+            | Standing::Owed => self,
+            _ => Standing::Due,
+        }
+    }
+
+    /// The state after an invitation: in a match it changes nothing.
+    fn after_invitation(self) -> Standing {
+        match self {
+            Standing::Free | Standing::Gone | Standing::Reopened | Standing::Ended =>
+                Standing::Invited,
+            _ => self,
+        }
+    }
+
+    /// The state after an invitation has come to nothing: a match that was saved before it still is.
+    pub fn after_not_invited(self) -> Standing {
+        match self {
+            Standing::Invited => Standing::Gone,
+            _ => self,
+        }
+    }
+
+    /// The state after the server has said that there is no such match.
+    fn after_no_match(self) -> Standing {
+        match self {
+            Standing::Invited | Standing::Gone | Standing::Reopened => Standing::Free,
+            _ => self,
+        }
+    }
+
+    /// The state after the server has said that the user plays with nobody.
+    fn after_not_playing(self) -> Standing {
+        if self.is_in_game() || self == Standing::Reopened {
+            Standing::Gone
+        } else {
+            self
+        }
+    }
+
+    /// The state after a text of a game, in a game.
+    fn after_game_text(self, told: Told) -> Standing {
+        match told {
+            Told::Declined if self != Standing::Playing && !self.keeps_offer() => Standing::Refused,
+            Told::Refused | Told::NoDouble if !self.keeps_offer() => Standing::Refused,
+            Told::Offered => Standing::Offered,
+            Told::MustAnswer if !self.keeps_offer() => Standing::Owed,
+            Told::Taken => Standing::Taken,
+            Told::Continues if self != Standing::Offered => Standing::Due,
+            Told::Plays if !self.keeps_while_he_plays() => Standing::Asked,
+            _ => self,
+        }
+    }
+
+    /// Whether a refusal changes nothing: an offer of the opponent, or his answer, is known.
+    fn keeps_offer(self) -> bool {
+        matches!(
+            self,
+            Standing::Taken | Standing::Doubled | Standing::Resigned | Standing::Owed
+        )
+    }
+
+    /// Whether a roll or a move of the opponent changes nothing.
+    fn keeps_while_he_plays(self) -> bool {
+        matches!(
+            self,
+            Standing::Playing | Standing::Resigned | Standing::Owed | Standing::Anew
+        )
+    }
+
+    /// The state after a board; `asked` if the user has asked for it.
+    pub fn after_board(self, shown: Shown, asked: bool) -> Standing {
+        match shown {
+            Shown::GameOver => self.after_game_over(asked),
+            Shown::MatchOver => Standing::Ended,
+            Shown::Double => Standing::Playing,
+            _ if self == Standing::Doubled => self.after_undoubled(asked),
+            _ if self.owes_answer() => self,
+            Shown::OfferStands => self.after_offer_stands(asked),
+            Shown::Stands => self.after_stands(asked),
+            Shown::Plain if self == Standing::Offered => self,
+            Shown::Plain => Standing::Playing,
+        }
+    }
+
+    /// The state after a board of a game that is over. The server asks for `join` by a text, unless the match is over;
+    /// a board that was asked for, or the first of a connection, is not followed by it.
+    fn after_game_over(self, asked: bool) -> Standing {
+        match self {
+            Standing::Joined | Standing::Next => self,
+            Standing::Ended if !asked => self,
+            _ if self.is_in_game() => Standing::Ended,
+            _ => Standing::Next,
+        }
+    }
+
+    /// The state after a board that does not show a double: if it was asked for, no other one will.
+    fn after_undoubled(self, asked: bool) -> Standing {
+        if asked { Standing::Owed } else { self }
+    }
+
+    /// The state after the board on which an offer was made: it says nothing of the offer.
+    fn after_offer_stands(self, asked: bool) -> Standing {
+        match self {
+            Standing::Due => Standing::Same,
+            Standing::Asked if asked => Standing::Offered,
+            _ => self.after_old_board(),
+        }
+    }
+
+    /// The state after the board on which a decision was made that is no offer.
+    fn after_stands(self, asked: bool) -> Standing {
+        match self {
+            Standing::Refused | Standing::Due => Standing::Same,
+            Standing::Asked if asked => Standing::Same,
+            _ => self.after_old_board(),
+        }
+    }
+
+    /// The state after a board that says nothing of the decision that waits.
+    fn after_old_board(self) -> Standing {
+        if self.is_in_game() && self != Standing::Anew {
+            self
+        } else {
+            Standing::Back
+        }
+    }
+
+    /// The state after the board that came last was found to confirm the decision that waited.
+    pub fn after_confirmed(self) -> Standing {
+        if self.is_in_game() && !self.is_told_by_text() {
+            Standing::Playing
+        } else {
+            self
+        }
+    }
+
+    /// The state after a decision was sent, by the client or as it is.
+    pub fn after_sent(self) -> Standing {
+        if self.is_in_game() {
+            Standing::Asked
+        } else {
+            self
+        }
+    }
+
+    /// The state after the user took leave of the server: nothing more is said before the connection ends.
+    pub fn after_bye(self) -> Standing {
+        if self.is_in_match() || self == Standing::Gone {
+            Standing::Ended
+        } else {
+            self
+        }
+    }
+}
