@@ -7,6 +7,7 @@ in their name. Prints a line for each scene, and what was measured; the last lin
 """
 
 import concurrent.futures
+import itertools
 import subprocess
 import sys
 
@@ -24,7 +25,7 @@ import resuming
 import whole
 
 # How many scenes are played at the same time: they wait most of the time. Those that measure are played alone.
-BESIDE = 4
+BESIDE = 6
 
 
 def tried(scene):
@@ -45,7 +46,8 @@ def main():
               for scenes in (beside, alone)]
     failed = 0
     with concurrent.futures.ThreadPoolExecutor(BESIDE) as pool:
-        for scene, why in [*zip(chosen[0], pool.map(tried, chosen[0])), *((scene, None) for scene in chosen[1])]:
+        for scene, why in itertools.chain(zip(chosen[0], pool.map(tried, chosen[0])),
+                                          ((scene, None) for scene in chosen[1])):
             why = tried(scene) if why is None else why
             name = 'terminal: ' + scene.__name__.replace('_', ' ')
             print('FAILED  %s: %s' % (name, why) if why else 'ok      ' + name, flush=True)

@@ -24,6 +24,9 @@ TALK = ['kibitz %s rejects. The game continues.', 'say %s accepts the double.', 
         'shout %s drops connection. The game was saved.', 'say hello', 'whisper %s wants to resign.', 'players', 'help',
         'board', 'plays', 'send pip']
 
+# With bold letters, and without.
+TERMINALS = 'xterm', 'dumb'
+
 # The first and the last row of a picture.
 EDGE = re.compile(r' \+[-\d]+\+---\+[-\d]+\+.*')
 # what somebody has said, at a time
@@ -87,12 +90,12 @@ class Seat:
         self.row, self.inviting, self.typed, self.why = None, None, '', ''
         self.last_row = self.last_typed = self.answered = time.monotonic()
         # a line that was typed, and is neither sent nor refused yet
-        self.awaited = ''
+        self.awaited, self.rescue = '', None
         self.has_asked = self.is_stuck = self.is_over = self.is_invited = False
         self.counts, self.faults, self.stalls, self.alarms = Counter(), [], [], []
         # rows since the last move
         self.since_move, self.turns = None, []
-        self.read_to, self.last_kind = {}, ''
+        self.read_to, self.last_kind, self.of_picture = {}, '', ''
 
     def begin(self, port):
         self.fd, tty = os.openpty()
@@ -103,12 +106,14 @@ class Seat:
         self.process = subprocess.Popen(
             [PROGRAM, 'connect', '--password-file', PASSWORD_FILE, '127.0.0.1', str(port), self.name], stdin=tty,
             stdout=tty, stderr=tty, start_new_session=True,
-            env={**os.environ, 'TERM': 'dumb', 'FIBS_QUIET': '1', 'LC_ALL': 'C', 'TZ': 'UTC'})
+            env={**os.environ, 'TERM': self.chance.choice(TERMINALS), 'FIBS_QUIET': '1', 'LC_ALL': 'C', 'TZ': 'UTC'})
         os.close(tty)
         asyncio.get_running_loop().add_reader(self.fd, self.readable)
 
     def close(self):
         asyncio.get_running_loop().remove_reader(self.fd)
+        if self.rescue:
+            self.rescue.cancel()
         self.process.kill()
         self.process.wait()
         os.close(self.fd)
@@ -151,7 +156,10 @@ class Seat:
             self.hears_a_refusal(row)
         kind, lines = read(row)
         # below the answer that an offer waits for, the hint is of the board alone
-        if kind and not (kind == 'hint' and self.last_kind == 'answer'):
+        if row.startswith(' ') and kind:
+            # the last row of a picture: it is followed if no other row comes with it
+            self.row, self.of_picture = (kind, lines), row
+        elif kind and not (kind == 'hint' and self.last_kind == 'answer'):
             self.judge(kind, row, lines)
             self.takes_note(kind, lines, row)
         self.last_kind = kind
@@ -174,9 +182,9 @@ class Seat:
         """What a row names is kept: of two rows that belong together what both name."""
         if row.startswith(SECOND) and self.row and self.row[0] == kind:
             lines = self.row[1] + lines
-        if kind == 'login' or kind == 'wait' and self.row and self.row[0] in HINT_ALONE:
+        if kind == 'login' or kind == 'wait' and self.row and self.row[0] in HINT_ALONE and not self.of_picture:
             return
-        self.row = kind, lines
+        self.row, self.of_picture = (kind, lines), ''
 
     def note_turn(self, line):
         if line.startswith('move '):
@@ -294,6 +302,9 @@ class Seat:
         if not chosen:
             return False
         line, is_done = chosen
+        if self.of_picture:
+            self.judge(kind, self.of_picture, lines)
+            self.of_picture = ''
         if is_done:
             self.row = None
             self.has_asked = False
@@ -352,4 +363,4 @@ class Seat:
         line = moment.way_on(self.name)
         self.type('send ' + line, 'stuck')
         self.row = None
-        asyncio.get_running_loop().call_later(0.5, self.type, line, 'stuck')
+        self.rescue = asyncio.get_running_loop().call_later(0.5, self.type, line, 'stuck')
