@@ -15,12 +15,14 @@ owes_answer S.Resigned = true
 owes_answer S.Owed = true
 owes_answer standing = false
 
--- what the client takes is not what the user waits for: there is no game, or its board is still to come, or his own
--- offer is before the opponent
+-- what the client takes is not what the user waits for: there is no game, or its board is still to come, or an offer is
+-- before the opponent or was just answered
 abbrev pub hides_offers : Standing → Bool
 hides_offers S.Free = true
 hides_offers S.Invited = true
 hides_offers S.Offered = true
+hides_offers S.Answered = true
+hides_offers S.Continued = true
 hides_offers S.Ended = true
 hides_offers S.Next = true
 hides_offers S.Joined = true

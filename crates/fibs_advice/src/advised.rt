@@ -270,6 +270,8 @@ fn row_in_game(client: &Client, standing: Standing, offers: &Offers, has_way: bo
         Standing::Anew if client.waiting().is_none() => Row::Nothing,
         Standing::Asked | Standing::Anew => row_of_waiting(client),
         Standing::Due => row_of_turn(offers),
+        Standing::Continued if is_deciding(client) => Row::Turn,
+        Standing::Answered | Standing::Continued => Row::Nothing,
         Standing::Playing if client.game().is_none() => Row::Turn,
         _ => Row::Offers,
     }
@@ -316,11 +318,12 @@ fn row_of(
     has_way: bool,
 ) -> Row {
     let standing = situation.standing;
-    if situation.is_login_refused(client.unfinished(), aside.had_time) {
-        return Row::NotLoggedIn;
-    }
     match hindrance(client) {
-        Some(Refusal::Offline | Refusal::NotReady) => return Row::Nothing,
+        Some(Refusal::Offline) => return Row::Nothing,
+        _ if situation.is_login_refused(client.unfinished(), aside.had_time) => {
+            return Row::NotLoggedIn;
+        }
+        Some(Refusal::NotReady) => return Row::Nothing,
         Some(Refusal::ServerPlays) if !comes_first(standing) => return Row::ServerPlays,
         _ => {}
     }

@@ -43,6 +43,8 @@ pub struct Situation {
     pub asks_board: bool,
     /// What waits.
     waiting: Waiting,
+    /// The turn in which the last decision was sent, until the opponent plays.
+    sent_in: Option<Told>,
     /// Whether a login was sent on this connection, and the server has not greeted the user.
     logs_in: bool,
     /// Whether a message has come since that is not the greeting.
@@ -61,6 +63,20 @@ fn decision_in(line: &[u8]) -> Option<Waiting> {
     } else {
         None
     }
+}
+
+/// The turn in which a decision is sent, by the first word of its command, if that tells it.
+fn turn_of(line: &[u8]) -> Option<Told> {
+    match split(line, b' ').0 {
+        b"roll" | b"double" => Some(Told::ToRoll),
+        b"move" => Some(Told::ToMove),
+        _ => None,
+    }
+}
+
+/// Whether a line is an answer to an offer.
+fn is_answer(line: &[u8]) -> bool {
+    line == b"accept".as_slice() || line == b"reject".as_slice()
 }
 
 /// Keeps a name.
@@ -85,6 +101,7 @@ impl Situation {
             refuses_double: false,
             asks_board: false,
             waiting: Waiting::Nothing,
+            sent_in: None,
             logs_in: false,
             hears_others: false,
             is_motd: false,
@@ -101,6 +118,7 @@ impl Situation {
         self.refuses_double = false;
         self.asks_board = false;
         self.waiting = Waiting::Nothing;
+        self.sent_in = None;
         self.logs_in = true;
         self.hears_others = false;
         self.is_motd = false;
@@ -138,6 +156,7 @@ impl Situation {
     pub fn hear_sent(&mut self, command: &[u8]) -> bool {
         if let Some(waiting) = decision_in(command) {
             self.waiting = waiting;
+            self.sent_in = turn_of(command);
             self.asks_board = false;
             self.standing = self.standing.after_sent();
             return true;
@@ -152,7 +171,9 @@ impl Situation {
 
     /// The user has sent a line as it is.
     pub fn hear_passed(&mut self, line: &[u8]) {
-        if decision_in(line).is_some() {
+        if is_answer(line) {
+            self.standing = self.standing.after_answer();
+        } else if decision_in(line).is_some() {
             self.standing = self.standing.after_sent();
         }
     }
@@ -162,6 +183,12 @@ impl Situation {
         report.told.is_of_opponent()
             && !self.opponent.is_empty()
             && self.opponent.as_slice() != report.name
+    }
+
+    /// Whether a text says that it is the user's turn, of the board on which the decision was made that was sent: it was
+    /// on its way then.
+    fn is_of_old_board(&self, told: Told) -> bool {
+        self.standing == Standing::Asked && self.sent_in == Some(told)
     }
 
     /// Keeps the name that a text has: of who invites the user, or of the opponent.
@@ -183,7 +210,7 @@ impl Situation {
             return None;
         }
         let report = read_told(text)?;
-        if self.is_of_others(&report) {
+        if self.is_of_others(&report) || self.is_of_old_board(report.told) {
             return None;
         }
         self.hear_report(&report);
@@ -199,6 +226,7 @@ impl Situation {
         match report.told {
             Told::Begins => self.refuses_double = false,
             Told::NoDouble => self.refuses_double = true,
+            Told::Plays => self.sent_in = None,
             Told::MatchOver | Told::NoMatch if after != self.standing => self.opponent.clear(),
             _ => {}
         }
@@ -210,7 +238,8 @@ impl Situation {
         match (game.phase(), self.waiting) {
             (Phase::Over, _) if is_match_over(game.board()) => Shown::MatchOver,
             (Phase::Over, _) => Shown::GameOver,
-            (Phase::AnswerDouble, _) => Shown::Double,
+            (Phase::AnswerDouble, Waiting::Nothing) => Shown::Double,
+            (Phase::AnswerDouble, _) => Shown::DoubleStands,
             (_, Waiting::Nothing) => Shown::Plain,
             (_, Waiting::Offer) => Shown::OfferStands,
             (_, Waiting::Other) => Shown::Stands,

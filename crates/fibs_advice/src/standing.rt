@@ -31,6 +31,10 @@ pub enum Standing {
     Resigned,
     /// The opponent has made an offer that no board shows: a double, or one that no text has named.
     Owed,
+    /// The user has answered an offer of which texts alone told, and no board has come since.
+    Answered,
+    /// The user has declined an offer to resign, and no board has come since.
+    Continued,
     /// The game is over.
     Ended,
     /// The next game waits for `join`.
@@ -56,6 +60,8 @@ pub enum Shown {
     MatchOver,
     /// A double that is to be answered.
     Double,
+    /// The same, while a decision waits.
+    DoubleStands,
     /// It is the board on which an offer was made that waits.
     OfferStands,
     /// It is the board on which another decision was made that waits.
@@ -85,7 +91,7 @@ impl Standing {
     }
 
     /// Whether what the client takes is not what the user waits for: there is no game, or its board is still to come,
-    /// or his own offer is before the opponent.
+    /// or an offer is before the opponent or was just answered.
     pub fn hides_offers(self) -> bool
         ensures { result ≡ hides_offers self }
     {
@@ -94,6 +100,8 @@ impl Standing {
             Standing::Free
                 | Standing::Invited
                 | Standing::Offered
+                | Standing::Answered
+                | Standing::Continued
                 | Standing::Ended
                 | Standing::Next
                 | Standing::Joined
@@ -124,7 +132,7 @@ impl Standing {
             Told::Resigns => Standing::Resigned,
             Told::Joined => Standing::Joined,
             Told::NextGame => self.after_next_game(),
-            Told::YourTurn => self.after_your_turn(),
+            Told::ToRoll | Told::ToMove => self.after_your_turn(),
             Told::Invited => self.after_invitation(),
             Told::NoMatch => self.after_no_match(),
             Told::NotInvited => self.after_not_invited(),
@@ -197,11 +205,12 @@ impl Standing {
     fn after_game_text(self, told: Told) -> Standing {
         match told {
             Told::Declined if self != Standing::Playing && !self.keeps_offer() => Standing::Refused,
+            Told::Refused if self == Standing::Answered => Standing::Owed,
             Told::Refused | Told::NoDouble if !self.keeps_offer() => Standing::Refused,
             Told::Offered => Standing::Offered,
             Told::MustAnswer if !self.keeps_offer() => Standing::Owed,
             Told::Taken => Standing::Taken,
-            Told::Continues if self != Standing::Offered => Standing::Due,
+            Told::Continues if self != Standing::Offered => Standing::Continued,
             Told::Plays if !self.keeps_while_he_plays() => Standing::Asked,
             _ => self,
         }
@@ -219,7 +228,12 @@ impl Standing {
     fn keeps_while_he_plays(self) -> bool {
         matches!(
             self,
-            Standing::Playing | Standing::Resigned | Standing::Owed | Standing::Anew
+            Standing::Playing
+                | Standing::Resigned
+                | Standing::Owed
+                | Standing::Answered
+                | Standing::Continued
+                | Standing::Anew
         )
     }
 
@@ -229,6 +243,7 @@ impl Standing {
             Shown::GameOver => self.after_game_over(asked),
             Shown::MatchOver => Standing::Ended,
             Shown::Double => Standing::Playing,
+            Shown::DoubleStands => self.after_double_stands(asked),
             _ if self == Standing::Doubled => self.after_undoubled(asked),
             _ if self.owes_answer() => self,
             Shown::OfferStands => self.after_offer_stands(asked),
@@ -246,6 +261,16 @@ impl Standing {
             Standing::Ended if !asked => self,
             _ if self.is_in_game() => Standing::Ended,
             _ => Standing::Next,
+        }
+    }
+
+    /// The state after a board with a double that is to be answered, while a decision waits: an answer that was refused,
+    /// or one that the board confirms.
+    fn after_double_stands(self, asked: bool) -> Standing {
+        match self {
+            Standing::Refused | Standing::Due => Standing::Same,
+            Standing::Asked if asked => Standing::Same,
+            _ => Standing::Playing,
         }
     }
 
@@ -287,6 +312,15 @@ impl Standing {
             Standing::Playing
         } else {
             self
+        }
+    }
+
+    /// The state after an answer was sent as it is.
+    pub fn after_answer(self) -> Standing {
+        if self.owes_answer() {
+            Standing::Answered
+        } else {
+            self.after_sent()
         }
     }
 

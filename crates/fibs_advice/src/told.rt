@@ -22,8 +22,10 @@ pub enum Told {
     Continues,
     /// The opponent has accepted the double.
     Taken,
-    /// The user is to roll or to move.
-    YourTurn,
+    /// The user is to roll, or may double.
+    ToRoll,
+    /// The user is to move.
+    ToMove,
     /// The opponent has rolled or moved.
     Plays,
     /// The opponent doubles.
@@ -110,7 +112,7 @@ const NAMING: [Shape; 8] = [
 ];
 
 /// Shapes of the other texts. Refusals that say where the match is come before those that refuse a decision.
-const OTHERS: [Shape; 39] = [
+const OTHERS: [Shape; 40] = [
     (
         b"** You're not playing. Type 'join'",
         b"",
@@ -188,8 +190,9 @@ const OTHERS: [Shape; 39] = [
         b"",
         Told::NextGame,
     ),
-    (b"It's your turn to ", b"", b"", Told::YourTurn),
-    (b"Please move ", b" piece", b"", Told::YourTurn),
+    (b"It's your turn to move", b"", b"", Told::ToMove),
+    (b"It's your turn to ", b"", b"", Told::ToRoll),
+    (b"Please move ", b" piece", b"", Told::ToMove),
 ];
 
 /// The shapes of texts that begin with the name of a player.

@@ -190,10 +190,10 @@ static TEXTS: [Row; 58] = [
     ),
     (
         "It's your turn to roll or double.  ",
-        Some(Told::YourTurn),
+        Some(Told::ToRoll),
         "",
     ),
-    ("Please move 2 pieces.", Some(Told::YourTurn), ""),
+    ("Please move 2 pieces.", Some(Told::ToMove), ""),
     ("bob wants to resign. eve will win 1 point.", None, ""),
     ("You roll 3 and 1.", None, ""),
     ("bob kibitzes: ann rejects. The game continues.", None, ""),
