@@ -2,7 +2,7 @@
 ghost use Rattle.std.specs.Prelude.{◌≡◌, take};
 
 use crate::dates::{append_date, append_time};
-use crate::pieces::{append_all, append_number};
+use crate::pieces::{append_all, append_number, break_row};
 use crate::shown::append_shown;
 use fibs_environment::Settings;
 use fibs_fields::rating::append_rating;
@@ -197,10 +197,15 @@ fn append_welcome(
     settings: &Settings<'_>,
     text: &mut Vec<u8>,
 ) -> Result<(), AllocError> {
-    let greeting: [&[u8]; 3] = [b"Welcome, ", name, b". Last login: "];
-    append_dated(&greeting, last_login, b", from ", settings, text)?;
+    let start = text.len();
+    let greeting: [&[u8]; 3] = [b"Welcome, ", front(name), b". Last login: "];
+    append_dated(&greeting, last_login, b",", settings, text)?;
+    let comma = text.len();
+    text.extend_from_slice(b" from ")?;
     append_shown(last_host, settings.utf8, text)?;
-    text.extend_from_slice(b".")
+    text.extend_from_slice(b".")?;
+    break_row(start, comma, text);
+    Ok(())
 }
 
 /// Appends a message that arrived or is kept.

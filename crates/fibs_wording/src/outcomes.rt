@@ -2,7 +2,7 @@
 ghost use Rattle.std.specs.Prelude.{◌≤◌};
 
 use crate::messages::front;
-use crate::pieces::append_all;
+use crate::pieces::{append_all, break_row};
 use fibs_boards::fields::{
     CUBE, MATCH_LENGTH, OTHER_OFF, OTHER_SCORE, OWN_OFF, OWN_SCORE, UNLIMITED,
 };
@@ -141,12 +141,17 @@ fn append_winner(
     }
 }
 
-/// Appends how the game of a board has ended, by the board that was shown before it. The board says that it is over.
+/// Appends how the game of a board has ended, by the board that was shown before it. The board says that it is over. The
+/// score has a row of its own if the names are long.
 pub fn append_outcome(
     before: Option<&Board>,
     board: &Board,
     text: &mut Vec<u8>,
 ) -> Result<(), AllocError> {
+    let start = text.len();
     append_winner(before, board, text)?;
-    append_score(board, text)
+    let full_stop = text.len();
+    append_score(board, text)?;
+    break_row(start, full_stop.saturating_add(1), text);
+    Ok(())
 }

@@ -15,3 +15,13 @@ pub fn append_all(pieces: &[&[u8]], text: &mut Vec<u8>) -> Result<(), AllocError
 pub fn append_number(number: u64, text: &mut Vec<u8>) -> Result<(), AllocError> {
     text.extend_from_slice(Buffer::new().format(number).as_bytes())
 }
+
+/// The columns of a row.
+const COLUMNS: usize = 79;
+
+/// Makes two rows of one that begins at `start`, if it is wider than a terminal: the space at `place` ends the first.
+pub fn break_row(start: usize, place: usize, text: &mut Vec<u8>) {
+    if text.len().saturating_sub(start) > COLUMNS && place < text.len() {
+        text[place] = b'\n';
+    }
+}
