@@ -1,9 +1,9 @@
 #!/usr/bin/env python3
 """Compares the engines of two programs, byte by byte: tests/engines.py PROGRAM OTHER [LINES] [BOARDS] [SCRIPTS] [SEED]
 
-OTHER takes `show`, `plays` and `replay` as `fibs` does, and `many`, which is `plays` of each line of its input with what
-is refused and the status. Lines, boards and scripts are those of fuzz.py. Prints what differs, how much was compared, and
-then `N passed, M failed`.
+OTHER takes `show`, `plays` and `replay` as `fibs` does, and `many`, which is `plays` of each line of its input with
+what is refused and the status. Lines, boards and scripts are those of fuzz.py. Prints what differs, how much was
+compared, and then `N passed, M failed`.
 """
 
 import random

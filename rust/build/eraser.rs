@@ -1,7 +1,7 @@
 //! Makes Rust of the proved sources: the same text without its proofs.
 //!
-//! It works on tokens and knows no type. Each form of Rattle that Rust has not is a row of `FORMS` or `WRITTEN`, or a name
-//! of `MAY`; it refuses what it doesn't know. Rattle's `std` and some of its ports have another shape than Rust's:
+//! It works on tokens and knows no type. Each form of Rattle that Rust has not is a row of `FORMS` or `WRITTEN`, or a
+//! name of `MAY`; it refuses what it doesn't know. Rattle's `std` and some of its ports have another shape than Rust's:
 //! `crate::rattle`, which is written by hand, stands for them, and rustc refuses what that has not.
 
 use std::collections::BTreeSet;
@@ -18,7 +18,8 @@ pub const FORMS: &[(&str, &[&str], Rule)] = &[
     ("attributes of the prover are deleted, and `Drop` in a derive", &["#"], |e| e.attribute()),
     ("`impl Model` is deleted", &["impl"], |e| e.model()),
     ("`Drop` as a bound is deleted: it is another trait in Rust", &["Drop"], |e| e.bound()),
-    ("an allocator is no parameter, field, argument or variable", &["alloc", "_alloc", "$", "self", "rt", "let"], |e| e.alloc()),
+    ("an allocator is no parameter, field, argument or variable",
+        &["alloc", "_alloc", "$", "self", "rt", "let"], |e| e.alloc()),
     ("a slice that C gives is a pointer and a length", &["extern", ":", "{"], |e| e.of_c()),
     ("a test takes nothing, and the runtime is a type without a field", &["HostRuntime"], |e| e.runtime()),
     ("paths begin with this crate, or its layer by hand", &[], |e| e.path()),
@@ -43,7 +44,8 @@ pub const WRITTEN: &[(&str, &str)] = &[
     (".expect(&rt, ", ".expect("),
 ];
 
-/// Methods that take memory and may fail, if the result is tested at once (else they are others); then those that always.
+/// Methods that take memory and may fail, if the result is tested at once (else they are others); then those that
+/// always.
 #[rustfmt::skip]
 pub const MAY: [&[&str]; 2] = [
     &["push", "insert", "entry", "collect", "with_capacity", "to_vec", "reserve", "from_slice", "to_ascii_lowercase",
@@ -74,8 +76,8 @@ pub struct Plan<'a> {
 }
 
 /// Erases crates that are below a folder: `CRATES/NAME/src/FILE.rt` becomes `OUT/NAME/FILE.rs`, and `OUT/modules.rs`
-/// declares the modules. Gives the functions, but for methods of types, that ask something of their callers: they are not
-/// to be made public.
+/// declares the modules. Gives the functions, but for methods of types, that ask something of their callers: they are
+/// not to be made public.
 pub fn erase_all(crates: &Path, out: &Path, plan: &Plan) -> Result<Vec<String>, String> {
     let (mut required, mut modules) = (Vec::new(), String::new());
     let failed = |path: &Path, why: io::Error| format!("{}: {why}", path.display());

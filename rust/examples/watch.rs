@@ -1,5 +1,5 @@
-//! Two clients on one thread, without waiting on either: each plays the first legal play in a match of one point against
-//! somebody who takes invitations: watch HOST:PORT NAME NAME OPPONENT OPPONENT
+//! Two clients on one thread, without waiting on either: each plays the first legal play in a match of one point
+//! against somebody who takes invitations: watch HOST:PORT NAME NAME OPPONENT OPPONENT
 
 use fibs::{Client, Decision, Login, Message, Phase, Plain, Position, Reading};
 use std::error::Error;

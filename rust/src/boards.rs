@@ -11,7 +11,8 @@ impl Board {
     /// The number of field `n`. None if `n` is not 4 to 53.
     ///
     /// ```
-    /// # let line = "board:You:bob:1:0:0:0:-2:0:0:0:0:5:0:3:0:0:0:-5:5:0:0:0:-3:0:-5:0:0:0:0:2:0:1:6:2:0:0:1:1:1:0:1:-1:0:25:0:0:0:0:2:0:0:0";
+    /// # let line = "board:You:bob:1:0:0:0:-2:0:0:0:0:5:0:3:0:0:0:-5:5:0:0:0:-3:0:-5:0:0:0:0:2:0:1:\
+    /// #     6:2:0:0:1:1:1:0:1:-1:0:25:0:0:0:0:2:0:0:0";
     /// let board: fibs::Board = line.parse()?;
     /// assert_eq!(board.get(fibs::field::FIRST_DIE), Some(6));
     /// assert_eq!(board.get(3), None);
@@ -65,7 +66,8 @@ impl Position {
     /// None for another place.
     ///
     /// ```
-    /// # let line = "board:You:bob:1:0:0:0:-2:0:0:0:0:5:0:3:0:0:0:-5:5:0:0:0:-3:0:-5:0:0:0:0:2:0:1:6:2:0:0:1:1:1:0:1:-1:0:25:0:0:0:0:2:0:0:0";
+    /// # let line = "board:You:bob:1:0:0:0:-2:0:0:0:0:5:0:3:0:0:0:-5:5:0:0:0:-3:0:-5:0:0:0:0:2:0:1:\
+    /// #     6:2:0:0:1:1:1:0:1:-1:0:25:0:0:0:0:2:0:0:0";
     /// let board: fibs::Board = line.parse()?;
     /// let position = fibs::Position::try_from(&board)?;
     /// assert_eq!(position.own_on(24), Some(2));

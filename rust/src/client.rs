@@ -8,8 +8,8 @@ use std::io::{self, ErrorKind, Write};
 /// What is to be sent is kept until you have sent it: [`outgoing`](Client::outgoing) with [`sent`](Client::sent), or
 /// [`write_to`](Client::write_to). A write may take a part of it, and the client may be asked anything meanwhile.
 ///
-/// A decision waits from [`decide`](Client::decide) until a board of another game is shown. Until then each other one is
-/// refused, and the client never sends it again by itself: also not after the connection is lost
+/// A decision waits from [`decide`](Client::decide) until a board of another game is shown. Until then each other one
+/// is refused, and the client never sends it again by itself: also not after the connection is lost
 /// ([`lose`](Client::lose) says which decision that was).
 ///
 /// ```
@@ -18,7 +18,8 @@ use std::io::{self, ErrorKind, Write};
 /// let mut client = Client::new(Login::new(b"ann", b"secret")?);
 /// client.open()?;
 /// # let greeting = b"1 ann 1 here\r\n2 ann 1 1 0 0 0 0 1 1 55 0 1 0 1 3457.85 0 0 unlimited 0 0 UTC\r\n";
-/// # let board = b"board:You:bob:1:0:0:0:-2:0:0:0:0:5:0:3:0:0:0:-5:5:0:0:0:-3:0:-5:0:0:0:0:2:0:1:0:0:0:0:1:1:1:0:1:-1:0:25:0:0:0:0:0:0:0:0\r\n";
+/// # let board = b"board:You:bob:1:0:0:0:-2:0:0:0:0:5:0:3:0:0:0:-5:5:0:0:0:-3:0:-5:0:0:0:0:2:0:1:\
+/// #     0:0:0:0:1:1:1:0:1:-1:0:25:0:0:0:0:0:0:0:0\r\n";
 /// # let from_the_server = [&greeting[..], board].concat();
 /// let mut piece = &from_the_server[..];
 /// while let Some(heard) = client.hear(&mut piece) {
@@ -71,8 +72,8 @@ impl Client {
         Ok(())
     }
 
-    /// Reads the piece up to and with the next line end, hears the line, and takes it off the piece. Without a line end it
-    /// takes all, and gives nothing. The commands that answer the line are then to be sent.
+    /// Reads the piece up to and with the next line end, hears the line, and takes it off the piece. Without a line end
+    /// it takes all, and gives nothing. The commands that answer the line are then to be sent.
     ///
     /// Offline all bytes are dropped.
     pub fn hear(&mut self, piece: &mut &[u8]) -> Option<Heard<'_>> {
@@ -105,8 +106,8 @@ impl Client {
         }
     }
 
-    /// Writes what is to be sent. After an error, as [`WouldBlock`](ErrorKind::WouldBlock), what was written is no longer
-    /// kept, and the rest is; a write that a signal interrupts is made again.
+    /// Writes what is to be sent. After an error, as [`WouldBlock`](ErrorKind::WouldBlock), what was written is no
+    /// longer kept, and the rest is; a write that a signal interrupts is made again.
     ///
     /// # Errors
     /// That of the writer, or [`WriteZero`](ErrorKind::WriteZero) if it takes no more.
@@ -159,8 +160,8 @@ impl Client {
         self.client.withdraw_roll()
     }
 
-    /// The connection was lost: nothing of it is kept. Gives the decision that waited, if one did, with its board: whether
-    /// the server took it is not known, so ask the user.
+    /// The connection was lost: nothing of it is kept. Gives the decision that waited, if one did, with its board:
+    /// whether the server took it is not known, so ask the user.
     pub fn lose(&mut self) -> Option<Outstanding> {
         self.forget();
         self.client.lose()

@@ -33,8 +33,8 @@
 //! This crate is built of the sources of Liftplum's crates in Rattle, without their proofs. There each function is
 //! proved to meet its contract, for all inputs; a contract is the text under *Contract*, and what its words mean stands
 //! in the `specs` of the sources. That rustc makes the same of the text is **tested, not proved**. Trusted besides are
-//! the eraser (`build/eraser.rs`), what is written by hand (`src`), rustc, and the crates arrayvec, bstr, indexmap, itoa,
-//! memchr and thiserror. `usize` has 64 bits in the proofs.
+//! the eraser (`build/eraser.rs`), what is written by hand (`src`), rustc, and the crates arrayvec, bstr, indexmap,
+//! itoa, memchr and thiserror. `usize` has 64 bits in the proofs.
 //!
 //! What a contract `requires` of its callers is not public, so no call of this crate panics.
 //!

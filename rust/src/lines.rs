@@ -86,8 +86,8 @@ impl Iterator for OwnedLines<'_> {
 
 impl FusedIterator for OwnedLines<'_> {}
 
-/// The lines of a stream: see [`Lines::of`]. A read that a signal interrupts is made again; after another error the next
-/// line is asked of the stream again.
+/// The lines of a stream: see [`Lines::of`]. A read that a signal interrupts is made again; after another error the
+/// next line is asked of the stream again.
 #[derive(Debug)]
 pub struct ReadLines<R> {
     stream: R,

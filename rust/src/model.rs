@@ -1,5 +1,5 @@
-//! A server in memory, to test a client with: [`Table`] for a client of your own, byte by byte; [`World`] and [`replay`]
-//! for histories of the proved client, the wires and the server, with cut and lost connections.
+//! A server in memory, to test a client with: [`Table`] for a client of your own, byte by byte; [`World`] and
+//! [`replay`] for histories of the proved client, the wires and the server, with cut and lost connections.
 
 pub use crate::fibs_model::{
     Broken, Carrier, Entry, Event, InMemory, RunEnd, Served, Server, Stop, Way, World, WorldRefusal,
@@ -10,8 +10,8 @@ use crate::{Board, Lines, Plain, PositionFault, read_plain};
 
 impl std::error::Error for WorldRefusal {}
 
-/// A server with one table, at which a client plays. It is the model of a server that is proved, with a wire: bytes of the
-/// client go in, bytes for the client come out.
+/// A server with one table, at which a client plays. It is the model of a server that is proved, with a wire: bytes of
+/// the client go in, bytes for the client come out.
 ///
 /// The first line of a connection logs in, and is answered by messages 1 and 2; each later one is obeyed if it is a
 /// decision that is allowed, and is answered by the board.
@@ -19,7 +19,8 @@ impl std::error::Error for WorldRefusal {}
 /// ```
 /// use fibs::{Client, Decision, Login, model::Table};
 ///
-/// let line = "board:You:bob:1:0:0:0:-2:0:0:0:0:5:0:3:0:0:0:-5:5:0:0:0:-3:0:-5:0:0:0:0:2:0:1:0:0:0:0:1:1:1:0:1:-1:0:25:0:0:0:0:0:0:0:0";
+/// let line = "board:You:bob:1:0:0:0:-2:0:0:0:0:5:0:3:0:0:0:-5:5:0:0:0:-3:0:-5:0:0:0:0:2:0:1:\
+///     0:0:0:0:1:1:1:0:1:-1:0:25:0:0:0:0:0:0:0:0";
 /// let mut table = Table::new(line.parse()?)?;
 /// let mut client = Client::new(Login::new(b"ann", b"secret")?);
 /// client.open()?;

@@ -1,5 +1,5 @@
-//! What stands for Rattle's `std` and its ports. The modules have the names that the sources use, with what Rust has alike;
-//! the rest is written by hand.
+//! What stands for Rattle's `std` and its ports. The modules have the names that the sources use, with what Rust has
+//! alike; the rest is written by hand.
 
 pub use std::{cmp, error, fmt, hash, mem, ptr, str};
 

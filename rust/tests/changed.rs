@@ -10,7 +10,8 @@ mod second_look;
 use std::path::{Path, PathBuf};
 use std::{env, fs};
 
-/// Erases the library into a folder of its own. Gives the folder, and the functions that ask something of their callers.
+/// Erases the library into a folder of its own. Gives the folder, and the functions that ask something of their
+/// callers.
 fn erased(name: &str) -> (PathBuf, Vec<String>) {
     let out = Path::new(env!("CARGO_TARGET_TMPDIR")).join(name);
     let crates = crates();

@@ -97,7 +97,11 @@ const ERASED: &[(&str, &str, &str)] = &[
     (
         "a slice",
         "pub extern \"C\" fn f(a: &[u8], b: &mut [Play], c: &mut u8) -> u32\n    ensures { true }\n{\n    0\n}",
-        "pub extern \"C\" fn f(a: *const u8, a_len: usize, b: *mut Play, b_len: usize, c: &mut u8) -> u32 {\n    let a = unsafe { crate::handles::slice(a, a_len) };\n    let b = unsafe { crate::handles::slice_mut(b, b_len) };\n    0\n}",
+        concat!(
+            "pub extern \"C\" fn f(a: *const u8, a_len: usize, b: *mut Play, b_len: usize, c: &mut u8) -> u32 {\n",
+            "    let a = unsafe { crate::handles::slice(a, a_len) };\n",
+            "    let b = unsafe { crate::handles::slice_mut(b, b_len) };\n    0\n}",
+        ),
     ),
     ("a slice", "fn f(a: &[u8]) {}", "fn f(a: &[u8]) {}"),
     (
@@ -109,12 +113,21 @@ const ERASED: &[(&str, &str, &str)] = &[
     (
         "paths",
         "use crate::line::Line;\nuse fibs_fields::{Name, a::B};\npub(crate) fn f() -> fibs_lines::A { super::g() }",
-        "use crate::fibs_lines::line::Line;\nuse crate::fibs_fields::{Name, a::B};\npub(crate) fn f() -> crate::fibs_lines::A { super::g() }",
+        concat!(
+            "use crate::fibs_lines::line::Line;\nuse crate::fibs_fields::{Name, a::B};\n",
+            "pub(crate) fn f() -> crate::fibs_lines::A { super::g() }",
+        ),
     ),
     (
         "paths",
-        "use std::alloc::{AllocError, Global};\nuse std::{env, io};\nuse itoa::Buffer;\nuse libc::net as c;\nuse arrayvec::ArrayVec;",
-        "use crate::rattle::alloc::{AllocError, Global};\nuse crate::rattle::{env, io};\nuse crate::rattle::itoa::Buffer;\nuse crate::rattle::libc::net as c;\nuse arrayvec::ArrayVec;",
+        concat!(
+            "use std::alloc::{AllocError, Global};\nuse std::{env, io};\nuse itoa::Buffer;\n",
+            "use libc::net as c;\nuse arrayvec::ArrayVec;",
+        ),
+        concat!(
+            "use crate::rattle::alloc::{AllocError, Global};\nuse crate::rattle::{env, io};\n",
+            "use crate::rattle::itoa::Buffer;\nuse crate::rattle::libc::net as c;\nuse arrayvec::ArrayVec;",
+        ),
     ),
     (
         "paths",
@@ -123,8 +136,14 @@ const ERASED: &[(&str, &str, &str)] = &[
     ),
     (
         "a call",
-        "//! A.\n\nfn f() {\n    a.push(b'?')?;\n    c.push(1);\n    Vec::with_capacity(3)?;\n    a.extend_from_slice(b\"x\")\n}",
-        "//! A.\n\nuse crate::rattle::may::*;\nfn f() {\n    a.may_push(b'?')?;\n    c.push(1);\n    Vec::may_with_capacity(3)?;\n    a.may_extend_from_slice(b\"x\")\n}",
+        concat!(
+            "//! A.\n\nfn f() {\n    a.push(b'?')?;\n    c.push(1);\n    Vec::with_capacity(3)?;\n",
+            "    a.extend_from_slice(b\"x\")\n}",
+        ),
+        concat!(
+            "//! A.\n\nuse crate::rattle::may::*;\nfn f() {\n    a.may_push(b'?')?;\n    c.push(1);\n",
+            "    Vec::may_with_capacity(3)?;\n    a.may_extend_from_slice(b\"x\")\n}",
+        ),
     ),
     // what looks like a form and is text
     (
@@ -221,14 +240,26 @@ fn each_form_that_is_not_known_is_refused() {
 
 #[test]
 fn what_asks_of_its_callers_is_named() {
-    let text = "pub fn f(a: u8)\n    requires { a ≤ 4 }\n{}\n\npub trait T {\n    fn g(a: u8)\n        requires { a ≤ 4 };\n    fn h(a: u8)\n        ensures { true };\n}\n\nfn own(a: u8)\n    requires { a ≤ 4 }\n{}";
+    let text = concat!(
+        "pub fn f(a: u8)\n    requires { a ≤ 4 }\n{}\n\npub trait T {\n    fn g(a: u8)\n",
+        "        requires { a ≤ 4 };\n    fn h(a: u8)\n        ensures { true };\n}\n\nfn own(a: u8)\n",
+        "    requires { a ≤ 4 }\n{}",
+    );
     assert_eq!(erase(text, "fibs_lines", &PLAN).unwrap().1, ["f", "T::g"]);
 }
 
 #[test]
 fn clauses_become_text_of_the_documentation() {
-    let text = "impl A {\n    /// Does.\n    #[inline(always)]\n    pub fn f(a: u8) -> u8\n        ensures one { a\n            ≡ b }\n        ensures two { true }\n    {\n        a\n    }\n\n    fn own()\n        ensures { true }\n    {}\n}";
-    let wanted = "impl A {\n    /// Does.\n    #[inline(always)]\n    ///\n    /// # Contract\n    ///\n    /// ```text\n    /// ensures one { a\n    ///         ≡ b }\n    /// ensures two { true }\n    /// ```\n    pub fn f(a: u8) -> u8 {\n        a\n    }\n\n    fn own() {}\n}";
+    let text = concat!(
+        "impl A {\n    /// Does.\n    #[inline(always)]\n    pub fn f(a: u8) -> u8\n",
+        "        ensures one { a\n            ≡ b }\n        ensures two { true }\n    {\n        a\n",
+        "    }\n\n    fn own()\n        ensures { true }\n    {}\n}",
+    );
+    let wanted = concat!(
+        "impl A {\n    /// Does.\n    #[inline(always)]\n    ///\n    /// # Contract\n    ///\n",
+        "    /// ```text\n    /// ensures one { a\n    ///         ≡ b }\n    /// ensures two { true }\n",
+        "    /// ```\n    pub fn f(a: u8) -> u8 {\n        a\n    }\n\n    fn own() {}\n}",
+    );
     assert_eq!(erase(text, "fibs_lines", &Plan { contracts: true, ..PLAN }).unwrap().0, wanted);
 }
 

@@ -1,7 +1,8 @@
-//! A second look at the eraser, by another way: it compares lines, and knows no token and no form but how a proof begins.
+//! A second look at the eraser, by another way: it compares lines, and knows no token and no form but how a proof
+//! begins.
 //!
-//! A line that is in a source and in what is erased of it is the same code. Each other line is printed, but for `use`s and
-//! comments: with `-` if the source has it and it lies in no proof, with `+` if the erased text has it.
+//! A line that is in a source and in what is erased of it is the same code. Each other line is printed, but for `use`s
+//! and comments: with `-` if the source has it and it lies in no proof, with `+` if the erased text has it.
 
 use std::collections::HashMap;
 use std::fs;
@@ -11,7 +12,8 @@ use std::path::{Path, PathBuf};
 const PROOFS: &[&str] =
     &["ghost ", "pub ghost ", "requires", "ensures", "#[tactic", "#![tactic", "#[derive(Drop)]", "impl Model for"];
 
-/// What is changed of the crates that are erased in a folder, but for files by hand, and how many lines of code are new.
+/// What is changed of the crates that are erased in a folder, but for files by hand, and how many lines of code are
+/// new.
 pub fn changed(crates: &Path, erased: &Path, names: &[&str], by_hand: &[(&str, &str, &str)]) -> (String, usize) {
     let (mut told, mut count) = (String::new(), 0);
     for name in names {
