@@ -43,8 +43,8 @@ pub struct Situation {
     pub asks_board: bool,
     /// What waits.
     waiting: Waiting,
-    /// The turn in which the last decision was sent, until the opponent plays.
-    sent_in: Option<Told>,
+    /// Whether the user was to roll or to move on the board that came last, until the opponent plays.
+    turn: Option<Told>,
     /// Whether a login was sent on this connection, and the server has not greeted the user.
     logs_in: bool,
     /// Whether a message has come since that is not the greeting.
@@ -65,12 +65,12 @@ fn decision_in(line: &[u8]) -> Option<Waiting> {
     }
 }
 
-/// The turn in which a decision is sent, by the first word of its command, if that tells it.
-fn turn_of(line: &[u8]) -> Option<Told> {
-    match split(line, b' ').0 {
-        b"roll" | b"double" => Some(Told::ToRoll),
-        b"move" => Some(Told::ToMove),
-        _ => None,
+/// What a server says of the user's turn in a phase.
+fn turn_of(phase: Phase) -> Option<Told> {
+    match phase {
+        Phase::RollOrDouble => Some(Told::ToRoll),
+        Phase::Move => Some(Told::ToMove),
+        Phase::Over | Phase::AnswerDouble | Phase::OpponentActs | Phase::Passing => None,
     }
 }
 
@@ -101,7 +101,7 @@ impl Situation {
             refuses_double: false,
             asks_board: false,
             waiting: Waiting::Nothing,
-            sent_in: None,
+            turn: None,
             logs_in: false,
             hears_others: false,
             is_motd: false,
@@ -118,7 +118,7 @@ impl Situation {
         self.refuses_double = false;
         self.asks_board = false;
         self.waiting = Waiting::Nothing;
-        self.sent_in = None;
+        self.turn = None;
         self.logs_in = true;
         self.hears_others = false;
         self.is_motd = false;
@@ -156,7 +156,6 @@ impl Situation {
     pub fn hear_sent(&mut self, command: &[u8]) -> bool {
         if let Some(waiting) = decision_in(command) {
             self.waiting = waiting;
-            self.sent_in = turn_of(command);
             self.asks_board = false;
             self.standing = self.standing.after_sent();
             return true;
@@ -188,7 +187,7 @@ impl Situation {
     /// Whether a text says that it is the user's turn, of the board on which the decision was made that was sent: it was
     /// on its way then.
     fn is_of_old_board(&self, told: Told) -> bool {
-        self.standing == Standing::Asked && self.sent_in == Some(told)
+        self.standing == Standing::Asked && self.turn == Some(told)
     }
 
     /// Keeps the name that a text has: of who invites the user, or of the opponent.
@@ -226,7 +225,7 @@ impl Situation {
         match report.told {
             Told::Begins => self.refuses_double = false,
             Told::NoDouble => self.refuses_double = true,
-            Told::Plays => self.sent_in = None,
+            Told::Plays => self.turn = None,
             Told::MatchOver | Told::NoMatch if after != self.standing => self.opponent.clear(),
             _ => {}
         }
@@ -252,6 +251,7 @@ impl Situation {
         let shown = self.shown_by(game);
         self.standing = self.standing.after_board(shown, self.asks_board);
         self.asks_board = false;
+        self.turn = turn_of(game.phase());
     }
 
     /// The board that came last confirms the decision that waited.

@@ -264,13 +264,13 @@ impl Standing {
         }
     }
 
-    /// The state after a board with a double that is to be answered, while a decision waits: an answer that was refused,
-    /// or one that the board confirms.
+    /// The state after a board with a double that is to be answered, while a decision waits: the answer was refused or
+    /// lost. If the board confirms the decision instead, that is said next.
     fn after_double_stands(self, asked: bool) -> Standing {
-        match self {
-            Standing::Refused | Standing::Due => Standing::Same,
-            Standing::Asked if asked => Standing::Same,
-            _ => Standing::Playing,
+        if self == Standing::Asked && !asked {
+            self
+        } else {
+            Standing::Same
         }
     }
 
