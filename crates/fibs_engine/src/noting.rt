@@ -90,8 +90,8 @@ impl<S: Drop> Noted<S> {
     }
 }
 
-/// Writes a line that says what failed, and why: `fibs: standard output: no space left on device`. Nothing if the reason
-/// is not known.
+/// Writes a line that says what failed, and why: `fibs: standard output: no space left on device`. Nothing if the
+/// reason is not known.
 pub fn write_trouble<W: Write>(
     what: &[u8],
     trouble: Option<Trouble>,

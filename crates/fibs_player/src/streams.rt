@@ -22,8 +22,8 @@ impl Streams {
         }
     }
 
-    /// Whether the last that was printed went to a pipe that its reader has closed, as that of `head`. He wants no more,
-    /// so nothing is wrong.
+    /// Whether the last that was printed went to a pipe that its reader has closed, as `head` does: nothing is wrong
+    /// then.
     pub fn is_unread(&self) -> bool {
         matches!(self.out.trouble(), Some(Trouble::Unread))
     }
