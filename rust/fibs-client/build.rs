@@ -42,7 +42,7 @@ fn erase() -> Result<(), String> {
 /// A crate and all that it uses, in the order of crates.txt, whose lines are `NAME: the libraries that it uses`.
 fn used_by(program: &str, list: &str) -> Vec<String> {
     let rows = list.lines().filter(|line| !line.starts_with('#')).filter_map(|line| line.split_once(':'));
-    let rows: Vec<(&str, Vec<&str>)> = rows.map(|(name, uses)| (name.trim(), uses.split_whitespace().collect())).collect();
+    let rows: Vec<(&str, Vec<&str>)> = rows.map(|row| (row.0.trim(), row.1.split_whitespace().collect())).collect();
     let uses: BTreeMap<&str, &Vec<&str>> = rows.iter().map(|(name, uses)| (*name, uses)).collect();
     let mut needed = vec![program];
     let mut at = 0;
