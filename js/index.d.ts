@@ -1,0 +1,152 @@
+/** Bytes: a string whose characters are bytes, 0 to 255, or the bytes themselves. */
+export type Bytes = string | Uint8Array;
+
+export type Fault = 'Missing' | 'Extra' | 'NotANumber' | 'OutOfRange' | 'BadName';
+export type Phase = 'Over' | 'AnswerDouble' | 'OpponentActs' | 'RollOrDouble' | 'Move' | 'Passing';
+export type Side = 'player' | 'opponent';
+type Pair = [number, number];
+
+/** A board. Of a pair the first is the player's, the second the opponent's. */
+export interface Board {
+  kind: 'board';
+  /** The line that says it. */
+  line: string;
+  player: string;
+  opponent: string;
+  /** Points of the match; null if it is unlimited. */
+  length: number | null;
+  score: Pair;
+  /** 1 plays O, -1 plays X. */
+  colour: 1 | -1;
+  /** -1 goes from 24 to 1, 1 from 1 to 24. */
+  direction: 1 | -1;
+  /** Null if the game is over. */
+  turn: Side | null;
+  dice: Pair | null;
+  opponentDice: Pair | null;
+  cube: number;
+  mayDouble: boolean;
+  opponentMayDouble: boolean;
+  wasDoubled: boolean;
+  /** Null if the user does not play in this game: then `noPosition` says why. */
+  phase: Phase | null;
+  noPosition: 'NotYou' | 'TooManyOwn' | 'TooManyOther' | null;
+  /** Each side's checkers in its own numbers: those borne off, the places 1 to 24, the bar. */
+  checkers: [number[], number[]] | null;
+}
+
+export interface OwnInfo {
+  message: 'ownInfo'; number: 2;
+  name: string; redoubles: string; timezone: string; experience: number; rating: number;
+  allowpip: boolean; autoboard: boolean; autodouble: boolean; automove: boolean; away: boolean; bell: boolean;
+  crawford: boolean; double: boolean; greedy: boolean; moreboards: boolean; moves: boolean; notify: boolean;
+  ratings: boolean; ready: boolean; report: boolean; silent: boolean;
+}
+
+/** A player. A name, a client or an email that is not there is `-`. */
+export interface Player {
+  name: string; opponent: string; watching: string; ready: boolean; away: boolean; rating: number;
+  experience: number; idle: number; login: number; hostname: string; client: string; email: string;
+}
+
+/** A message of the server. A number above 2^53 is the nearest that JavaScript has. */
+export type Message = { kind: 'message' } & (
+  | { message: 'welcome'; number: 1; name: string; lastLogin: number; lastHost: string }
+  | OwnInfo
+  | { message: 'motdBegin'; number: 3 }
+  | { message: 'motdEnd'; number: 4 }
+  | { message: 'whoInfo'; number: 5 } & Player
+  | { message: 'whoInfoEnd'; number: 6 }
+  | { message: 'login'; number: 7; name: string; text: string }
+  | { message: 'logout'; number: 8; name: string; text: string }
+  | { message: 'messageReceived'; number: 9; sender: string; time: number; text: string }
+  | { message: 'messageDelivered'; number: 10; name: string }
+  | { message: 'messageSaved'; number: 11; name: string }
+  | { message: 'says'; number: 12; name: string; text: string }
+  | { message: 'shouts'; number: 13; name: string; text: string }
+  | { message: 'whispers'; number: 14; name: string; text: string }
+  | { message: 'kibitzes'; number: 15; name: string; text: string }
+  | { message: 'youSay'; number: 16; name: string; text: string }
+  | { message: 'youShout'; number: 17; text: string }
+  | { message: 'youWhisper'; number: 18; text: string }
+  | { message: 'youKibitz'; number: 19; text: string }
+);
+
+/** What a line says. */
+export type Reading =
+  | Board
+  | Message
+  | { kind: 'text'; text: string }
+  | { kind: 'malformed'; number: number; field: number; fault: Fault };
+
+/** A line of a stream: at most 16,384 bytes; `cut` if it had more. */
+export interface Line { text: string; cut: boolean; reading: Reading }
+
+/** A decision that waits, and the line of the board on which it was made. */
+export interface Outstanding { command: string; board: string }
+
+/** A line that a client has heard. */
+export interface Heard extends Line {
+  /** The decision that the line, a board, confirms. */
+  confirmed: Outstanding | null;
+  /** Whether the standing order to roll has rolled. */
+  rolled: boolean;
+  /** What is to be sent now, with its line ends; often nothing. */
+  send: string;
+}
+
+/** A refusal, or what is wrong with an input: `name` says which. */
+export class FibsError extends Error {}
+
+/** What a line says. */
+export function read(line: Bytes): Reading;
+
+/** The legal plays of a board, as commands, the greatest first. */
+export function plays(line: Bytes): string[];
+
+/** The lines of a stream that comes in pieces. */
+export class Lines {
+  /** The lines that end in a piece. */
+  feed(piece: Bytes): Line[];
+  /** What follows the last line end. */
+  get unfinished(): string;
+  /** Forgets it. */
+  reset(): void;
+  close(): void;
+}
+
+/** The players that the server listed. */
+export class Directory {
+  /** Notes a line of the server; one that says nothing of a player changes nothing. */
+  note(line: Bytes): void;
+  get(name: Bytes): Player | null;
+  get players(): Player[];
+  clear(): void;
+  close(): void;
+}
+
+/** A client: it is given what comes, and says what is to be sent, as it is. It opens no connection. */
+export class Client {
+  constructor(name: string, password: string);
+  /** A connection was made: the login. */
+  open(): string;
+  /** The lines that end in a piece, and what is to be sent after each. */
+  feed(piece: Bytes): Heard[];
+  /** A decision, as `roll` or `move 8-5 6-5`. It then waits. */
+  decide(command: Bytes): string;
+  /** Another command, as `say hello`. */
+  plain(command: Bytes): string;
+  /** From now on it rolls by itself on a board on which the player may not double. */
+  orderRoll(): void;
+  withdrawRoll(): void;
+  /** The connection was lost: the decision that still waited. It is never sent again by itself. */
+  lose(): Outstanding | null;
+  /** The board that was shown last on this connection. */
+  get shown(): Board | null;
+  get waiting(): Outstanding | null;
+  get ordered(): boolean;
+  get unfinished(): string;
+  /** The players that the server listed on this connection. */
+  get players(): Player[];
+  close(): void;
+}
