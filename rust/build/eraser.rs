@@ -49,7 +49,7 @@ pub const WRITTEN: &[(&str, &str)] = &[
 #[rustfmt::skip]
 pub const MAY: [&[&str]; 2] = [
     &["push", "insert", "entry", "collect", "with_capacity", "to_vec", "reserve", "from_slice", "to_ascii_lowercase",
-      "to_string", "from_str", "sort_by_key"],
+      "to_string", "from_str", "push_str", "sort_by_key"],
     &["extend_from_slice", "reserve_exact", "push_reserved"],
 ];
 

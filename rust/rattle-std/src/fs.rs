@@ -1,7 +1,26 @@
 //! `std::fs` of Rattle: files, which are opened by the handle.
 
 use crate::HostRuntime;
+use crate::os::fd::{IntoRawFd, RawFd};
+use crate::os::unix::fs::OpenOptionsExt;
 use std::io;
+
+/// What the system says of a file.
+pub struct Metadata {
+    inner: std::fs::Metadata,
+}
+
+impl Metadata {
+    /// Whether it is one with bytes, and no directory, pipe or device.
+    pub fn is_file(&self) -> bool {
+        self.inner.is_file()
+    }
+}
+
+/// What the system says of the file at a path, which may be a link to it.
+pub fn metadata(_rt: &HostRuntime, path: &str) -> io::Result<Metadata> {
+    Ok(Metadata { inner: std::fs::metadata(path)? })
+}
 
 /// A file. It is closed when it is dropped.
 pub struct File {
@@ -12,6 +31,19 @@ impl File {
     /// Opens a file, to read it.
     pub fn open(_rt: &HostRuntime, path: &str) -> io::Result<File> {
         Ok(File { inner: std::fs::File::open(path)? })
+    }
+}
+
+/// The descriptor stays open.
+impl IntoRawFd for File {
+    #[cfg(unix)]
+    fn into_raw_fd(self) -> RawFd {
+        self.inner.into_raw_fd()
+    }
+
+    #[cfg(windows)]
+    fn into_raw_fd(self) -> RawFd {
+        std::os::windows::io::IntoRawHandle::into_raw_handle(self.inner) as RawFd
     }
 }
 
@@ -43,6 +75,12 @@ impl OpenOptions {
         OpenOptions { inner: std::fs::OpenOptions::new() }
     }
 
+    /// Whether it is written to.
+    pub fn write(mut self, write: bool) -> OpenOptions {
+        self.inner.write(write);
+        self
+    }
+
     /// Whether it is written to at its end.
     pub fn append(mut self, append: bool) -> OpenOptions {
         self.inner.append(append);
@@ -58,5 +96,18 @@ impl OpenOptions {
     /// Opens a file so.
     pub fn open(&self, _rt: &HostRuntime, path: &str) -> io::Result<File> {
         Ok(File { inner: self.inner.open(path)? })
+    }
+}
+
+impl OpenOptionsExt for OpenOptions {
+    #[cfg(unix)]
+    fn mode(mut self, mode: u32) -> OpenOptions {
+        std::os::unix::fs::OpenOptionsExt::mode(&mut self.inner, mode);
+        self
+    }
+
+    #[cfg(not(unix))]
+    fn mode(self, _mode: u32) -> OpenOptions {
+        self
     }
 }

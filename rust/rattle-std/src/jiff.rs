@@ -1,16 +1,35 @@
-//! The calendar and the time zone of the system, in the shapes of the crate `jiff`, over the crate `chrono`: no Debian
-//! has `jiff`, and `chrono` reads `TZ` and `/etc/localtime` as it does.
+//! The calendar and time zones, in the shapes of the crate `jiff`, which no Debian has. The calendar is that of the crate
+//! `chrono`; the files of the time zones are read here.
 
+use crate::alloc::AllocError;
 use crate::time::Clock;
-use chrono::{DateTime, Datelike, FixedOffset, TimeZone, Timelike, Utc};
+use chrono::{DateTime, Datelike, Duration, NaiveDateTime, TimeZone, Timelike, Utc};
+use std::io::{self, ErrorKind};
 
-/// What can't be told.
-#[derive(Clone, Copy, Debug)]
-pub struct Error;
+pub mod tz;
 
-impl From<std::io::Error> for Error {
-    fn from(_error: std::io::Error) -> Error {
-        Error
+/// What can go wrong.
+#[derive(Clone, Copy, Debug, PartialEq, Eq)]
+pub enum Error {
+    /// A value is outside of its range.
+    Range,
+    /// The bytes are no time zone, or the text names none.
+    Zone,
+    /// A file or the clock can't be read.
+    Io(ErrorKind),
+    /// Memory ran out.
+    OutOfMemory,
+}
+
+impl From<io::Error> for Error {
+    fn from(error: io::Error) -> Error {
+        Error::Io(error.kind())
+    }
+}
+
+impl From<AllocError> for Error {
+    fn from(_error: AllocError) -> Error {
+        Error::OutOfMemory
     }
 }
 
@@ -23,18 +42,35 @@ pub struct Timestamp {
 impl Timestamp {
     /// The time that is so many seconds after 1970 began.
     pub fn from_second(second: i64) -> Result<Timestamp, Error> {
-        Utc.timestamp_opt(second, 0).single().map(|inner| Timestamp { inner }).ok_or(Error)
+        Utc.timestamp_opt(second, 0).single().map(|inner| Timestamp { inner }).ok_or(Error::Range)
     }
 
     /// What a clock says.
     pub fn now<C: Clock>(clock: &C) -> Result<Timestamp, Error> {
         Timestamp::from_second(clock.since_1970()?.as_secs() as i64)
     }
+
+    fn second(self) -> i64 {
+        self.inner.timestamp()
+    }
+
+    /// What a clock shows that is so many seconds ahead of UTC.
+    fn shown(self, ahead: i32) -> Civil {
+        let utc = self.inner.naive_utc();
+        Civil { inner: utc.checked_add_signed(Duration::seconds(ahead.into())).unwrap_or(utc) }
+    }
+
+    /// How far the place of the system is ahead.
+    #[cfg(not(unix))]
+    fn local_ahead(self) -> i32 {
+        use chrono::Offset;
+        chrono::Local.offset_from_utc_datetime(&self.inner.naive_utc()).fix().local_minus_utc()
+    }
 }
 
 /// A date and a time of day.
 pub struct Civil {
-    inner: DateTime<FixedOffset>,
+    inner: NaiveDateTime,
 }
 
 impl Civil {
@@ -61,71 +97,5 @@ impl Civil {
     /// The minute.
     pub fn minute(&self) -> i8 {
         self.inner.minute() as i8
-    }
-}
-
-/// Time zones.
-pub mod tz {
-    use super::{Civil, Error, Timestamp};
-    use crate::HostRuntime;
-    use chrono::{FixedOffset, Local, Offset as _, TimeZone};
-
-    /// How far a place is ahead of UTC.
-    #[derive(Clone, Copy)]
-    pub struct Offset {
-        inner: FixedOffset,
-    }
-
-    impl Offset {
-        /// So many seconds ahead.
-        pub fn from_seconds(seconds: i32) -> Result<Offset, Error> {
-            FixedOffset::east_opt(seconds).map(|inner| Offset { inner }).ok_or(Error)
-        }
-
-        /// How many seconds it is ahead.
-        pub fn seconds(self) -> i32 {
-            self.inner.local_minus_utc()
-        }
-
-        /// What the clock of the place shows.
-        pub fn to_datetime(self, time: Timestamp) -> Civil {
-            Civil { inner: time.inner.with_timezone(&self.inner) }
-        }
-    }
-
-    /// The time zones by name. The crate below finds them by itself.
-    pub struct TimeZoneDatabase;
-
-    impl TimeZoneDatabase {
-        /// All that the system has.
-        #[allow(clippy::new_without_default)]
-        pub fn new() -> TimeZoneDatabase {
-            TimeZoneDatabase
-        }
-    }
-
-    /// What names the time zone of the system: `TZ`, or else `/etc/localtime`.
-    pub struct SystemTimeZone;
-
-    impl SystemTimeZone {
-        /// That of this process.
-        pub fn read(_rt: &HostRuntime) -> Result<SystemTimeZone, Error> {
-            Ok(SystemTimeZone)
-        }
-
-        /// The zone that it names.
-        pub fn time_zone(&self, _names: &TimeZoneDatabase) -> Result<Zone, Error> {
-            Ok(Zone)
-        }
-    }
-
-    /// The time zone of the system.
-    pub struct Zone;
-
-    impl Zone {
-        /// How far it is ahead of UTC at a time.
-        pub fn to_offset(&self, time: Timestamp) -> Offset {
-            Offset { inner: Local.offset_from_utc_datetime(&time.inner.naive_utc()).fix() }
-        }
     }
 }

@@ -1,8 +1,38 @@
-//! The one call of C that the sources make themselves. An option that a system has not is not set.
+//! The calls of C that the sources make themselves. An option that a system has not is not set.
 
-/// Options of sockets.
+use crate::os::fd::RawFd;
+
+/// The descriptor of the standard input.
+pub const STDIN_FILENO: RawFd = 0;
+
+/// The descriptor of the standard output.
+pub const STDOUT_FILENO: RawFd = 1;
+
+/// The descriptor of the standard error.
+pub const STDERR_FILENO: RawFd = 2;
+
+/// The error of a call to a descriptor that is closed, or not open in this direction.
+pub const EBADF: i32 = 9;
+
+/// What the calls take.
+pub mod types {
+    #[cfg(unix)]
+    pub use libc::pollfd;
+
+    /// A descriptor, what is asked of it, and the answer.
+    #[cfg(not(unix))]
+    #[allow(missing_docs, non_camel_case_types)]
+    pub struct pollfd {
+        pub fd: crate::os::fd::RawFd,
+        pub events: i16,
+        pub revents: i16,
+    }
+}
+
+/// Options of sockets, and what descriptors are ready for.
 #[cfg(unix)]
 pub mod net {
+    use super::types::pollfd;
     use std::os::fd::RawFd;
 
     pub use libc::{IPPROTO_TCP, SO_KEEPALIVE, SOL_SOCKET, TCP_KEEPCNT, TCP_KEEPINTVL};
@@ -21,12 +51,19 @@ pub mod net {
         // SAFETY: the system reads `len` bytes, which `value` has.
         unsafe { libc::setsockopt(fd, level, name, value.as_ptr().cast(), len) }
     }
+
+    /// Waits until a descriptor is ready, for so many milliseconds at most, and says what each is ready for.
+    pub fn poll(fds: &mut [pollfd], timeout: i32) -> i32 {
+        // SAFETY: the system reads and writes as many as `fds` has.
+        unsafe { libc::poll(fds.as_mut_ptr(), fds.len() as libc::nfds_t, timeout) }
+    }
 }
 
 /// Options of sockets: none is set.
 #[cfg(not(unix))]
 #[allow(missing_docs)]
 pub mod net {
+    use super::types::pollfd;
     use crate::os::fd::RawFd;
 
     pub const IPPROTO_TCP: i32 = 6;
@@ -41,6 +78,11 @@ pub mod net {
     /// # Safety
     /// It does nothing.
     pub unsafe fn setsockopt(_fd: RawFd, _level: i32, _name: i32, _value: &[u8; 16], _len: u32) -> i32 {
+        -1
+    }
+
+    /// It says nothing of any descriptor, so none is closed.
+    pub fn poll(_fds: &mut [pollfd], _timeout: i32) -> i32 {
         -1
     }
 }

@@ -21,6 +21,10 @@ impl<T> MaySort<T> for [T] {
 pub trait MayString: Sized {
     /// A copy.
     fn may_from_str(text: &str) -> Result<Self, AllocError>;
+    /// Appends a text.
+    fn may_push_str(&mut self, text: &str) -> Result<(), AllocError>;
+    /// Appends a letter.
+    fn may_push(&mut self, letter: char) -> Result<(), AllocError>;
 }
 
 impl MayString for String {
@@ -29,6 +33,16 @@ impl MayString for String {
         copy.try_reserve_exact(text.len()).map_err(|_| AllocError)?;
         copy.push_str(text);
         Ok(copy)
+    }
+
+    fn may_push_str(&mut self, text: &str) -> Result<(), AllocError> {
+        self.try_reserve(text.len()).map_err(|_| AllocError)?;
+        self.push_str(text);
+        Ok(())
+    }
+
+    fn may_push(&mut self, letter: char) -> Result<(), AllocError> {
+        self.may_push_str(letter.encode_utf8(&mut [0; 4]))
     }
 }
 

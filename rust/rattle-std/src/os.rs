@@ -3,7 +3,7 @@
 /// Descriptors.
 #[cfg(unix)]
 pub mod fd {
-    pub use std::os::fd::{AsRawFd, RawFd};
+    pub use std::os::fd::{AsRawFd, IntoRawFd, RawFd};
 }
 
 /// Descriptors.
@@ -16,5 +16,23 @@ pub mod fd {
     pub trait AsRawFd {
         /// Its descriptor.
         fn as_raw_fd(&self) -> RawFd;
+    }
+
+    /// What can give its descriptor away.
+    pub trait IntoRawFd {
+        /// Its descriptor, which stays open.
+        fn into_raw_fd(self) -> RawFd;
+    }
+}
+
+/// What Unix alone has. Elsewhere it is asked for in vain.
+pub mod unix {
+    /// Files.
+    pub mod fs {
+        /// How a file is opened.
+        pub trait OpenOptionsExt {
+            /// Who may do what with the file, if it is made.
+            fn mode(self, mode: u32) -> Self;
+        }
     }
 }

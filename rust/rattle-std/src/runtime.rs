@@ -6,18 +6,12 @@ use crate::io::{Stderr, Stdin, Stdout};
 /// What a program does before its `main`, in place of Rust's own start, which `no_main` leaves out: that one opens
 /// `/dev/null` for each standard stream that is closed, on which nothing fails, and panics if it finds no memory.
 ///
-/// A write to a pipe that is closed is an error, and ends no program. A standard stream that is closed stays one that
-/// fails, and no other file takes its place.
+/// A write to a pipe that is closed is an error, and ends no program.
 pub fn start() {
     #[cfg(unix)]
-    for (fd, mode) in [(0, libc::O_WRONLY), (1, libc::O_RDONLY), (2, libc::O_RDONLY)] {
-        // SAFETY: no handler is set, the name ends with 0, and a descriptor is opened only if none is there.
-        unsafe {
-            libc::signal(libc::SIGPIPE, libc::SIG_IGN);
-            if libc::fcntl(fd, libc::F_GETFD) == -1 {
-                libc::open(c"/dev/null".as_ptr(), mode);
-            }
-        }
+    // SAFETY: no handler is set.
+    unsafe {
+        libc::signal(libc::SIGPIPE, libc::SIG_IGN);
     }
 }
 
