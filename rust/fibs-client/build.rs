@@ -1,6 +1,6 @@
-//! Erases the proved sources of the program into `OUT_DIR`: see `build/eraser.rs`.
+//! Erases the proved sources of the program into `OUT_DIR`: see `../build/eraser.rs`.
 
-#[path = "build/eraser.rs"]
+#[path = "../build/eraser.rs"]
 mod eraser;
 
 use std::collections::BTreeMap;
@@ -23,10 +23,9 @@ fn main() {
 }
 
 fn erase() -> Result<(), String> {
-    let root = PathBuf::from(env::var_os("CARGO_MANIFEST_DIR").unwrap_or_default());
+    let root = PathBuf::from(env::var_os("CARGO_MANIFEST_DIR").unwrap_or_default()).join("../..");
     let out = PathBuf::from(env::var_os("OUT_DIR").unwrap_or_default());
-    // (a link to crates.txt of the repository, whose name no other file may have)
-    let list = root.join("uses.txt");
+    let list = root.join("crates.txt");
     let text = fs::read_to_string(&list).map_err(|why| format!("{}: {why}", list.display()))?;
     let crates = used_by(PROGRAM, &text);
     let crates: Vec<&str> = crates.iter().map(String::as_str).collect();
@@ -40,7 +39,7 @@ fn erase() -> Result<(), String> {
     Ok(())
 }
 
-/// A crate and all that it uses, in the order of the list, whose lines are `NAME: the libraries that it uses`.
+/// A crate and all that it uses, in the order of crates.txt, whose lines are `NAME: the libraries that it uses`.
 fn used_by(program: &str, list: &str) -> Vec<String> {
     let rows = list.lines().filter(|line| !line.starts_with('#')).filter_map(|line| line.split_once(':'));
     let rows: Vec<(&str, Vec<&str>)> = rows.map(|row| (row.0.trim(), row.1.split_whitespace().collect())).collect();

@@ -7,6 +7,7 @@
 
 // its `io` and `time` are hidden by those here
 #[allow(missing_docs, unused_imports)]
+#[path = "../../src/rattle.rs"]
 mod base;
 pub mod clap;
 pub mod env;

@@ -1,1 +1,0 @@
-../../build/eraser.rs
