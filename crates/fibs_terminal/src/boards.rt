@@ -1,6 +1,6 @@
 //! What a terminal shows of a board.
 use crate::came::{Came, came_since, nothing_came};
-use crate::picture::{append_marked, is_plain};
+use crate::picture::append_marked;
 use crate::screen::Screen;
 use fibs_boards::board::Board;
 use fibs_boards::fields::{
@@ -49,7 +49,7 @@ impl<'a, C: Clock + Drop> Screen<'a, C> {
         self.ring_at_turn(phase)?;
         let again = self.is_heard_again(game.board());
         if self.is_drawn_whole(game.board(), phase) {
-            self.draw(game, phase)?;
+            self.draw(game)?;
         } else if !again {
             self.say_board(game.board(), phase)?;
         }
@@ -109,17 +109,11 @@ impl<'a, C: Clock + Drop> Screen<'a, C> {
         self.memory.said.clear();
     }
 
-    /// Draws a board. If the words below it say what the client takes, that is not owed: only a move is more than they
-    /// say.
-    fn draw(&mut self, game: &GameBoard, phase: Phase) -> Result<(), AllocError> {
+    /// Draws a board.
+    fn draw(&mut self, game: &GameBoard) -> Result<(), AllocError> {
         self.memory.asked = false;
         let came = self.came(game);
         append_marked(self.alloc, game, &came, &self.settings, &mut self.text)?;
-        if is_plain(&self.settings) && phase != Phase::Move {
-            self.memory.owes = false;
-            self.memory.is_hinted = true;
-            self.memory.advised.clear();
-        }
         self.memory.drawn = Some(*game);
         Ok(())
     }

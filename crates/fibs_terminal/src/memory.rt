@@ -31,8 +31,6 @@ pub struct Memory {
     pub drawn_before: Option<GameBoard>,
     /// The board that came last.
     pub heard: Option<GameBoard>,
-    /// Whether the words below the picture that was drawn last say what the client takes, and nothing was said since.
-    pub is_hinted: bool,
     /// Whether the next list of players is one that was asked for: that of a login, or of `who`.
     pub is_list_due: bool,
     /// How many players were listed since the last list ended.
@@ -61,7 +59,6 @@ impl Memory {
             drawn: None,
             drawn_before: None,
             heard: None,
-            is_hinted: false,
             is_list_due: false,
             listed: 0,
             change: Vec::new(alloc),
@@ -78,7 +75,6 @@ impl Memory {
         self.advised.clear();
         self.asked = false;
         self.heard = None;
-        self.is_hinted = false;
         self.forget_drawn();
         self.is_list_due = false;
         self.listed = 0;

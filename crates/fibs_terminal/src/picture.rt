@@ -146,7 +146,7 @@ fn append_rows(
 }
 
 /// Whether the terminal takes a picture as it is.
-pub(crate) fn is_plain(settings: &Settings<'_>) -> bool
+fn is_plain(settings: &Settings<'_>) -> bool
     ensures { result ≡ is_plain settings.now }
 {
     !settings.colour && settings.columns >= PICTURE_COLUMNS

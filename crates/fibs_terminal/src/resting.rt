@@ -5,7 +5,6 @@ ghost use Rattle.fibs_terminal.specs.Resting.{SaysAdvice, SaysRow};
 
 use crate::screen::Screen;
 use fibs_advice::advised::{Advice, Aside, advised};
-use fibs_advice::row::Row;
 use fibs_advice::saying::append_advice;
 use fibs_front::fault::FrontFault;
 use fibs_session::{Client, Directory};
@@ -71,7 +70,6 @@ impl<'a, C: Clock + Drop> Screen<'a, C> {
         }
         self.memory.owes = false;
         self.memory.inquired = false;
-        self.memory.is_hinted = false;
         self.memory.advised = row;
         Ok(())
     }
@@ -80,13 +78,12 @@ impl<'a, C: Clock + Drop> Screen<'a, C> {
     fn says(&self, advice: &Advice, row: &[u8]) -> bool
         ensures { self.now.memory.owes ≡ true → is_asked_for advice.now.row ≡ false → result ≡ true }
     {
-        let is_asked_for = advice.row.is_asked_for();
-        if self.memory.owes && !is_asked_for {
+        if self.memory.inquired {
             return true;
         }
-        if self.memory.is_hinted && advice.row == Row::Offers {
+        if advice.row.is_asked_for() {
             return false;
         }
-        self.memory.inquired || (!is_asked_for && self.memory.advised.as_slice() != row)
+        self.memory.owes || self.memory.advised.as_slice() != row
     }
 }

@@ -97,7 +97,7 @@ static OFFERS: [Scene; 12] = [
             Step::Hears(TAKEN),
             Step::Rests,
         ],
-        " You roll, or resign.\n",
+        " You roll, or resign.\nYour turn: roll.\n",
     ),
     (
         &[
@@ -297,7 +297,7 @@ static DECIDED: [Scene; 9] = [
             Step::Hears(TO_ROLL),
             Step::Rests,
         ],
-        " You roll, or double, or resign.\n",
+        " You roll, or double, or resign.\nYour turn: roll, or double.\n",
     ),
 ];
 

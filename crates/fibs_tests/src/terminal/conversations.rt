@@ -28,6 +28,7 @@ On: allowpip autoboard crawford double
  | X           O    |   | O              X |     score 0
  +12-11-10--9--8--7-+---+-6--5--4--3--2--1-+   O You
  You roll, or double, or resign.
+Your turn: roll, or double.
 sent roll
 You roll 6 and 2.
 Your move, as in: move 24-22 24-18

@@ -158,7 +158,7 @@ fn what_is_quiet_is_not_shown(rt: HostRuntime) {
 static RUNG: [Scene; 4] = [
     (
         &[Step::Hears(MOVED)],
-        " You roll, or double, or resign.\nbob's turn.\n",
+        "Your turn: roll, or double.\nbob's turn.\n",
     ),
     (
         &[Step::Hears(MOVED), Step::Hears(TO_ROLL), Step::Rests],
@@ -166,11 +166,11 @@ static RUNG: [Scene; 4] = [
     ),
     (
         &[Step::Loses],
-        " You roll, or double, or resign.\n\x07lost: open connects again, quit ends\n",
+        "Your turn: roll, or double.\n\x07lost: open connects again, quit ends\n",
     ),
     (
         &[Step::Hears(b"9 carol 1041253132 see you\r\n")],
-        "resign.\n\x07carol left a message on 30 December 2002, 12:58: see you\n",
+        "double.\n\x07carol left a message on 30 December 2002, 12:58: see you\n",
     ),
 ];
 
@@ -215,18 +215,18 @@ bob's turn.\n",
             Step::Hears(MOVED_BEFORE_A_ROLL),
             Step::Hears(MOVED_BEFORE_A_ROLL),
         ],
-        "resign.\nbob's turn.\nbob's turn.\n",
+        "double.\nbob's turn.\nbob's turn.\n",
     ),
     (
         &[
             Step::Hears(ENTRY_CLOSED),
             Step::Hears(b"You can't move.\r\n"),
         ],
-        "resign.\nYou can't move: the server passes for you.\n",
+        "double.\nYou can't move: the server passes for you.\n",
     ),
     (
         &[Step::Hears(GAME_OVER), Step::Hears(GAME_OVER)],
-        "resign.\nThe game is over. You 0, bob 1 of 3.\n",
+        "double.\nThe game is over. You 0, bob 1 of 3.\n",
     ),
 ];
 
