@@ -249,6 +249,8 @@ impl Standing {
             Shown::OfferStands => self.after_offer_stands(asked),
             Shown::Stands => self.after_stands(asked),
             Shown::Plain if self == Standing::Offered => self,
+            // it was on its way when the answer was sent: what becomes of that is said by a text
+            Shown::Plain if self == Standing::Answered && !asked => self,
             Shown::Plain => Standing::Playing,
         }
     }

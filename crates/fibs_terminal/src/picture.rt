@@ -87,7 +87,7 @@ fn append_row(
     settings: &Settings<'_>,
     text: &mut Vec<u8>,
 ) -> Result<(), AllocError> {
-    let shown = &bytes[..bytes.len().min(settings.columns)];
+    let shown = &bytes[..bytes.len().min(settings.columns).min(PICTURE_COLUMNS)];
     for column in 0..shown.len() {
         let mark = if settings.colour {
             mark_of(shown[column], row, column, position, came)
