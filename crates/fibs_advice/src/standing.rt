@@ -249,7 +249,7 @@ impl Standing {
             Shown::OfferStands => self.after_offer_stands(asked),
             Shown::Stands => self.after_stands(asked),
             Shown::Plain if self == Standing::Offered => self,
-            // it was on its way when the answer was sent: what becomes of that is said by a text
+            // it was on its way when the answer was sent, and a text says what that did
             Shown::Plain if self == Standing::Answered && !asked => self,
             Shown::Plain => Standing::Playing,
         }
