@@ -62,15 +62,18 @@ fn refusals(world: &mut World, own: Board) -> [Option<WorldRefusal>; 7] {
 fn each_event_has_its_refusals(rt: HostRuntime) {
     let mut world = world(&rt, TO_ROLL);
     let own = board(TO_MOVE).expect(&rt, "it is a board");
-    assert!(rt; refusals(&mut world, own) == [
-        Some(WorldRefusal::UserDecides),
-        Some(WorldRefusal::BoardAsText),
-        Some(WorldRefusal::NotOpen),
-        Some(WorldRefusal::NoSuchConnection),
-        None,
-        Some(WorldRefusal::AlreadyOpen),
-        Some(WorldRefusal::BadDice),
-    ]);
+    assert!(rt;
+        refusals(&mut world, own)
+            == [
+                Some(WorldRefusal::UserDecides),
+                Some(WorldRefusal::BoardAsText),
+                Some(WorldRefusal::NotOpen),
+                Some(WorldRefusal::NoSuchConnection),
+                None,
+                Some(WorldRefusal::AlreadyOpen),
+                Some(WorldRefusal::BadDice),
+            ]
+    );
 }
 
 /// How many of so many events are done, and the length of the log then, if none is refused.

@@ -159,6 +159,15 @@ impl Seat {
     }
 }
 
+/// Tells of a line, with the board of the user's game that it says.
+fn tell_heard<F: Front>(
+    game: Option<&GameBoard>,
+    taken: &Taken<'_>,
+    front: &mut F,
+) -> Result<(), FrontFault> {
+    front.tell(&Said::Heard(&taken.line, &taken.reading, game))
+}
+
 /// Tells what was taken of a line.
 fn tell_taken<F: Front>(
     directory: &mut Directory,
@@ -166,8 +175,7 @@ fn tell_taken<F: Front>(
     front: &mut F,
 ) -> Result<(), FrontFault> {
     let found = game_in(&taken.reading);
-    let game = found.as_ref();
-    front.tell(&Said::Heard(&taken.line, &taken.reading, game))?;
+    tell_heard(found.as_ref(), taken, front)?;
     note(directory, &taken.reading, front)?;
     match &taken.confirmed {
         Some(asked) => front.tell(&Said::Confirmed(asked)),
