@@ -54,7 +54,7 @@ test('each message has its fields', () => {
 });
 
 test('however a stream is cut, it gives the same lines', () => {
-  const stream = `login: > ${board}\r\n12 bob hi\xff\xfb\x01!\r\n${'a'.repeat(20000)}\nrest`;
+  const stream = `login: > ${board}\r\n12 bob hi\xff\xfb\x01!\r\n12 bob ${'a'.repeat(20000)}\nrest`;
   const whole = new Lines();
   const wanted = whole.feed(stream);
   assert.deepEqual(wanted.map((line) => [line.reading.kind, line.cut, line.text.length]),

@@ -151,7 +151,9 @@ fn of_lines(lines: &mut Lines, what: u32, piece: &[u8]) -> String {
         0 => Json::of(|json| {
             json.open('[');
             lines.each(piece, |line| {
-                json.line(line.bytes, line.cut, &fibs::read(line.bytes));
+                // a line that was cut is a text, as a client hears it
+                let reading = if line.cut { Reading::Text(line.bytes) } else { fibs::read(line.bytes) };
+                json.line(line.bytes, line.cut, &reading);
                 json.close('}');
             });
             json.close(']');
