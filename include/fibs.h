@@ -37,8 +37,8 @@
  * Handles
  * - fibs_lines, fibs_client and fibs_directory are opaque pointers. A handle begins as NULL, which holds nothing; `new`
  *   makes it hold something, `free` gives the memory back and makes the handle NULL.
- * - A function takes the address of a handle, and that address is not null. For a handle that is NULL a call answers
- *   FIBS_STATUS_NO_HANDLE; `free` then does nothing.
+ * - A function takes the address of a handle, and that address is not null. For a handle that is NULL `free` does
+ *   nothing, and each other call but `new` answers FIBS_STATUS_NO_HANDLE, or a reason that its comment lists before it.
  * - An assignment copies the pointer and not what it points to: two handles then refer to one thing. After `free` of
  *   one the other must not be used. What is proved does not cover copies.
  * - Calls for different handles may run in different threads at the same time; calls for one handle run one at a time.
@@ -57,7 +57,8 @@
  * Statuses
  * - A call answers FIBS_STATUS_DONE, or the first reason against it, in the order in which its comment lists them.
  * - After any other status nothing was changed, and nothing was written but what the comment says.
- * - FIBS_STATUS_SHORT: the room is too short. The call says how much is needed, and wrote no byte of the room.
+ * - FIBS_STATUS_SHORT: the room is too short. The call wrote no byte of it. It says how much is needed, but for
+ *   fibs_lines_feed and fibs_client_feed, which always need FIBS_MAX_LINE.
  * - FIBS_STATUS_MEMORY: memory ran out. Only `new`, fibs_plays and fibs_directory_note take memory.
  * - Each function returns, whatever bytes it is given, and reads and writes nothing else. Flags are 0 or 1.
  */
@@ -362,9 +363,9 @@ fibs_status fibs_plays(const char *line, size_t len, fibs_decision *plays, size_
 
 /* The line of the board after the server carried out a decision on the board of a line, at most FIBS_MAX_BOARD bytes;
  * after a move with the checkers moved and hit, and the dice taken away. *printed is its length. A roll throws the dice
- * first and second; for every other decision they are ignored. Of a move nothing is asked but a checker at each source
- * and no two opponents at each target: fibs_allows says what is legal. NO_DECISION; those of fibs_phase; NO_EFFECT;
- * SHORT, and *printed is set. */
+ * first and second; for every other decision they are ignored. Of a move nothing is asked but the turn, dice, no double
+ * to answer, a checker at each source and no two opponents at each target: fibs_allows says what is legal. NO_DECISION;
+ * those of fibs_phase; NO_EFFECT; SHORT, and *printed is set. */
 fibs_status fibs_effect(const char *line, size_t len, const fibs_decision *decision, uint8_t first, uint8_t second,
                         char *text, size_t room, size_t *printed);
 
@@ -388,7 +389,8 @@ fibs_status fibs_read_decision(const char *text, size_t len, int32_t direction, 
 
 /* ---- The client ---- */
 
-/* A client: connection after connection, what was heard on each, and the decision that waits. */
+/* A client, for one connection after another. Of the one that is open it keeps what was heard, and the decision that
+ * waits; of an earlier one nothing. */
 typedef struct fibs_client_held *fibs_client;
 
 /* What you have to send at once, unchanged: some commands, each with CR LF. It is empty if a call answers another
@@ -476,8 +478,8 @@ fibs_status fibs_client_waiting(fibs_client *client, fibs_outstanding *waiting);
 
 /* ---- The players that the server listed ---- */
 
-/* The players of messages 5 and 8: each as the latest message 5 has him, in the order in which they were first listed.
- * At most FIBS_MAX_PLAYERS. */
+/* The players of messages 5 and 8: each as the latest message 5 has him, in the order in which they were first listed,
+ * or first listed again after a message 8. At most FIBS_MAX_PLAYERS. */
 typedef struct fibs_directory_held *fibs_directory;
 
 /* Makes a directory of no messages. HELD; MEMORY. */
