@@ -26,7 +26,7 @@ pub const FORMS: &[(&str, &[&str], Rule)] = &[
     ("a call that takes memory, and may fail, is named `may_`", &[], |e| e.may()),
 ];
 
-/// The forms that are written in another way. A `$` stands for a word, a space for any space.
+/// The forms that are written in another way. A `$` stands for a word, the last one of its form; a space for any space.
 pub const WRITTEN: &[(&str, &str)] = &[
     ("fn fmt<W: fmt::Write>(&self, f: &mut fmt::Formatter<W>)", "fn fmt(&self, f: &mut fmt::Formatter<'_>)"),
     ("fn main(", "pub fn main("),
@@ -238,17 +238,9 @@ impl Eraser<'_> {
     fn written(&mut self) -> bool {
         let first = self.text(self.at);
         let found = WRITTEN.iter().filter(|(from, _)| from.starts_with(first)).find_map(|(from, to)| {
-            let (mut at, mut word) = (self.at, "");
-            for token in tokens_of(from).iter().filter(|token| token.kind != Kind::Space) {
-                at = self.next(at);
-                match token.text.as_str() {
-                    "$" if self.is_word(at) => word = self.text(at),
-                    text if text == self.text(at) => {}
-                    _ => return None,
-                }
-                at += 1;
-            }
-            Some((to.replace('$', word), if from.ends_with(' ') { self.next(at) } else { at }))
+            let end = self.follows(from)?;
+            let word = (self.at..end).rfind(|i| self.is_word(*i)).map_or("", |i| self.text(i));
+            Some((to.replace('$', word), if from.ends_with(' ') { self.next(end) } else { end }))
         });
         found.is_some_and(|(to, end)| self.emit(&to, end).is_ok())
     }
@@ -368,10 +360,7 @@ impl Eraser<'_> {
             self.pop(false);
             return self.emit("", self.find(";")? + 1);
         }
-        let forms = [
-            "$ alloc : ident", "$ alloc", "alloc : Global", "_alloc : Global", "self . alloc", "rt . alloc ( )",
-            "alloc",
-        ];
+        let forms = ["$alloc: ident", "$alloc", "alloc: Global", "_alloc: Global", "self.alloc", "rt.alloc()", "alloc"];
         let Some(end) = forms.iter().find_map(|form| self.follows(form)) else { return Ok(false) };
         self.pop_public();
         if !matches!((self.last(), self.text(self.next(end))), ("(" | "," | "{", ",") | ("(" | ",", ")" | "}")) {
@@ -428,10 +417,9 @@ impl Eraser<'_> {
         let is_first = self.text(self.at + 1) == "::" && self.last() != "::";
         let is_local = |i: usize| self.text(i) == "mod" && self.text(self.next(i + 1)) == word;
         let name = match word {
-            _ if !is_first => return Ok(false),
+            _ if !is_first || matches!(word, "super" | "self") => return Ok(false),
             "crate" => self.name,
             "std" => "rattle",
-            "super" | "self" => return Ok(false),
             _ if self.crates.contains(&word) => word,
             _ if RATTLE.contains(&word) => &format!("rattle::{word}"),
             _ if word.starts_with("fibs_") => return Err(format!("the crate `{word}` is not erased here")),
@@ -449,8 +437,7 @@ impl Eraser<'_> {
 
     fn may(&mut self) -> Result<bool, String> {
         let name = self.text(self.at);
-        let is_named = MAY.iter().any(|names| names.contains(&name));
-        if !is_named || self.text(self.at + 1) != "(" || !matches!(self.last(), "." | "::") {
+        if !MAY.concat().contains(&name) || self.text(self.at + 1) != "(" || !matches!(self.last(), "." | "::") {
             return Ok(false);
         }
         let after = self.closing(self.at + 1)? + 1;
@@ -475,9 +462,12 @@ impl Eraser<'_> {
         self.from.get(at).is_some_and(|token| token.kind == Kind::Word)
     }
 
-    /// Where these tokens end, if they follow.
-    fn follows(&self, texts: &str) -> Option<usize> {
-        texts.split(' ').try_fold(self.at, |at, text| Some(self.next(at) + 1).filter(|end| self.text(end - 1) == text))
+    /// Where this form ends, if it follows. A `$` stands for any word.
+    fn follows(&self, form: &str) -> Option<usize> {
+        tokens_of(form).iter().filter(|token| is_code(token)).try_fold(self.at, |at, token| {
+            let at = self.next(at);
+            (self.text(at) == token.text || token.text == "$" && self.is_word(at)).then_some(at + 1)
+        })
     }
 
     fn find(&self, text: &str) -> Result<usize, String> {
