@@ -18,6 +18,11 @@ VERSION := $(shell sed -n 's/^.define FIBS_VERSION "\(.*\)"$$/\1/p' include/fibs
 SONAME := libfibs.so.$(basename $(VERSION))
 OBJCOPY ?= objcopy
 C_ARCHIVE := crates/fibs_c/out/libfibs_c.a
+# what is installed and packed as it is: the program, and the folder of the library
+PROGRAM = bin/fibs
+LIBRARY = lib
+# the machine that packages are for, if not this one (it is no variable of the environment)
+TARGET =
 # the heap of the toolchain's library, over malloc, realloc and free
 KIT_ARCHIVE = $(dir $(shell rt doc))c/liblibc_c.a
 
@@ -52,14 +57,20 @@ $(CRATES): ## (the name of a crate) proves it, and what it uses
 fmt: ## lays out the files of each crate
 	@for crate in $(CRATES); do (cd crates/$$crate && rt fmt) || exit 1; done
 
-dist: ## makes dist/: packages of the program and of the library, for machines without a prover
+dist: ## makes dist/: packages for machines without a prover. TARGET=aarch64: for ARM, of the text without its proofs
+ifneq ($(TARGET),)
+	@scripts/tools erased
+	@scripts/erased $(TARGET) out/$(TARGET)
+	@$(MAKE) --no-print-directory dist-files PROGRAM=out/$(TARGET)/fibs LIBRARY=out/$(TARGET)
+else
 	@scripts/tools dist
 	@$(MAKE) --no-print-directory all lib
 	@$(MAKE) --no-print-directory dist-files
+endif
 
 # packs what is built as it is
 dist-files:
-	@VERSION=$(VERSION) SONAME=$(SONAME) scripts/dist
+	@VERSION=$(VERSION) SONAME=$(SONAME) PROGRAM=$(PROGRAM) LIBRARY=$(LIBRARY) TARGET=$(TARGET) scripts/dist
 
 # one archive, which needs the C library alone and shows only fibs_*
 lib/libfibs.a: $(C_ARCHIVE) lib/texts.c include/fibs.h
@@ -89,7 +100,7 @@ install-program: all install-program-files ## the program alone, with fibs-play,
 
 # the program as it is
 install-program-files: install-surface
-	install -m 755 bin/fibs $(DESTDIR)$(PREFIX)/bin/fibs
+	install -m 755 $(PROGRAM) $(DESTDIR)$(PREFIX)/bin/fibs
 
 # what is built of nothing
 install-surface:
@@ -115,8 +126,8 @@ install-lib-files:
 	install -d $(DESTDIR)$(PREFIX)/include $(DESTDIR)$(PREFIX)/lib/pkgconfig $(DESTDIR)$(PREFIX)/lib/cmake/fibs \
 		$(DESTDIR)$(SHARE)/doc/fibs
 	install -m 644 include/fibs.h $(DESTDIR)$(PREFIX)/include/fibs.h
-	install -m 644 lib/libfibs.a $(DESTDIR)$(PREFIX)/lib/libfibs.a
-	install -m 755 lib/$(SONAME) $(DESTDIR)$(PREFIX)/lib/$(SONAME)
+	install -m 644 $(LIBRARY)/libfibs.a $(DESTDIR)$(PREFIX)/lib/libfibs.a
+	install -m 755 $(LIBRARY)/libfibs.so $(DESTDIR)$(PREFIX)/lib/$(SONAME)
 	ln -sf $(SONAME) $(DESTDIR)$(PREFIX)/lib/libfibs.so
 	sed -e 's|@PREFIX@|$(PREFIX)|; s|@VERSION@|$(VERSION)|' lib/fibs.pc.in > $(DESTDIR)$(PREFIX)/lib/pkgconfig/fibs.pc
 	sed -e 's|@VERSION@|$(VERSION)|; s|@SONAME@|$(SONAME)|' lib/fibs-config.cmake.in \

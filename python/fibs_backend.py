@@ -1,8 +1,9 @@
 """Builds the wheel of the package, by the standard library alone: what pip calls (PEP 517, PEP 660).
 
 A library that `make lib` has built goes into the wheel, which is then named for what the library needs; without one the
-wheel fits every machine, and the package uses the library that is installed. The same files give the same bytes: each
-has the time of SOURCE_DATE_EPOCH, or that of the first day that an archive can name. It leaves nothing in the tree.
+wheel fits every machine, and the package uses the library that is installed. The settings of the build may name another
+`library`, and a `label` for the version. The same files give the same bytes: each has the time of SOURCE_DATE_EPOCH, or
+that of the first day that an archive can name. It leaves nothing in the tree.
 """
 
 import ast
@@ -33,9 +34,16 @@ Classifier: Typing :: Typed
 Description-Content-Type: text/plain
 
 %s
-
+%s
 No licence has been chosen yet.
 """
+
+# What is said of a library that has a label, and the machines of libraries by their number in the file.
+LABELLED = """
+Its library is built by rustc from the proved text without its proofs. That it does what the proved one does is tested,
+not proved.
+"""
+MACHINES = {62: 'x86_64', 183: 'aarch64'}
 
 
 class UnsupportedOperation(Exception):
@@ -43,11 +51,14 @@ class UnsupportedOperation(Exception):
 
 
 def build_wheel(wheel_directory, config_settings=None, metadata_directory=None):
-    library = next((path for path in LIBRARIES if path.exists()), None)
+    settings = config_settings or {}
+    named = [pathlib.Path(settings['library'])] if 'library' in settings else LIBRARIES
+    library = next((path for path in named if path.exists()), None)
     files = {'fibs/' + path.name: path.read_bytes() for path in [*PACKAGE.glob('*.py'), PACKAGE / 'py.typed']}
     if library:
         files['fibs/libfibs.so'] = library.read_bytes()
-    return _wheel(wheel_directory, files, _platform(library.read_bytes()) if library else 'any')
+    platform = _platform(library.read_bytes()) if library else 'any'
+    return _wheel(wheel_directory, files, platform, settings.get('label', ''))
 
 
 def build_editable(wheel_directory, config_settings=None, metadata_directory=None):
@@ -61,19 +72,21 @@ def build_sdist(sdist_directory, config_settings=None):
 def _platform(library):
     """The machines on which a library runs: those of a C library that has all that it asks for."""
     system, _, machine = sysconfig.get_platform().replace('.', '_').partition('-')
+    machine = MACHINES.get(int.from_bytes(library[18:20], 'little'), machine)
     asked = [int(minor) for minor in re.findall(rb'GLIBC_2\.(\d+)', library)]
     if not asked:
         return '%s_%s' % (system, machine.replace('-', '_'))
     return ('manylinux2014_%s' % machine) if max(asked) <= 17 else 'manylinux_2_%d_%s' % (max(asked), machine)
 
 
-def _wheel(folder, files, platform):
+def _wheel(folder, files, platform, label=''):
     """Writes a wheel of these files. Its name."""
     page = (PACKAGE / '__init__.py').read_text('utf-8')
-    version = re.search(r"(?m)^__version__ = '(.*)'$", page)[1]
+    version = re.search(r"(?m)^__version__ = '(.*)'$", page)[1] + ('+' + label if label else '')
     tag = 'py3-none-%s' % platform
     info = 'fibs-%s.dist-info/' % version
-    files[info + 'METADATA'] = (METADATA % (version, ast.get_docstring(ast.parse(page)))).encode()
+    said = ast.get_docstring(ast.parse(page)), LABELLED if label else ''
+    files[info + 'METADATA'] = (METADATA % (version, *said)).encode()
     files[info + 'WHEEL'] = ('Wheel-Version: 1.0\nGenerator: fibs\nRoot-Is-Purelib: %s\nTag: %s\n'
                              % (str(platform == 'any').lower(), tag)).encode()
     record = ''.join('%s,sha256=%s,%d\n' % (name, _digest(data), len(data)) for name, data in sorted(files.items()))
