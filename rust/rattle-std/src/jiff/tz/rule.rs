@@ -119,7 +119,8 @@ fn takes(left: &mut &[u8], byte: u8) -> bool {
 /// Takes a name of three letters or more; between `<` and `>` it may have digits and signs.
 fn name(left: &mut &[u8]) -> Option<()> {
     let is_quoted = takes(left, b'<');
-    let is_named = |byte: &u8| byte.is_ascii_alphabetic() || is_quoted && (byte.is_ascii_digit() || b"+-".contains(byte));
+    let is_named =
+        |byte: &u8| byte.is_ascii_alphabetic() || is_quoted && (byte.is_ascii_digit() || b"+-".contains(byte));
     let length = left.iter().take_while(|byte| is_named(byte)).count();
     *left = &left[length..];
     (length >= 3 && (!is_quoted || takes(left, b'>'))).then_some(())
