@@ -117,12 +117,10 @@ impl Session {
         }
     }
 
-    /// The user says a plain command.
-    pub(crate) fn note_plain(&mut self, plain: &Plain<'_>) -> Result<CommandText, PlainRefusal>
-        ensures fields { session_of self.new ≡ plain_fields (session_of self.old) (plain_value plain.now) }
-        ensures handed { handed result ≡ plain_send (session_of self.old) (plain_value plain.now) }
-        ensures refusal { refusal_in result ≡ plain_refusal_of (session_of self.old) (plain_value plain.now) }
-        ensures kept { IsErr result → session_of self.new ≡ session_of self.old }
+    /// The text of a plain command, or why it is refused: the first of the reasons, in the order below.
+    pub(crate) fn text_for(&self, plain: &Plain<'_>) -> Result<CommandText, PlainRefusal>
+        ensures handed { handed result ≡ plain_send (session_of self.now) (plain_value plain.now) }
+        ensures refusal { refusal_in result ≡ plain_refusal_of (session_of self.now) (plain_value plain.now) }
     {
         if !self.online {
             return Err(PlainRefusal::Offline);
@@ -131,6 +129,17 @@ impl Session {
             return Err(PlainRefusal::NotOn);
         }
         let text = plain_text(plain).map_err(PlainRefusal::Fault)?;
+        Ok(text)
+    }
+
+    /// The user says a plain command.
+    pub(crate) fn note_plain(&mut self, plain: &Plain<'_>) -> Result<CommandText, PlainRefusal>
+        ensures fields { session_of self.new ≡ plain_fields (session_of self.old) (plain_value plain.now) }
+        ensures handed { handed result ≡ plain_send (session_of self.old) (plain_value plain.now) }
+        ensures refusal { refusal_in result ≡ plain_refusal_of (session_of self.old) (plain_value plain.now) }
+        ensures kept { IsErr result → session_of self.new ≡ session_of self.old }
+    {
+        let text = self.text_for(plain)?;
         self.note_sent(plain);
         Ok(text)
     }

@@ -37,8 +37,8 @@ pub(crate) struct ServerFlags {
 /// It is given the lines that come (`line`), the user's decisions (`decide`) and his other commands (`plain`), and
 /// hands out the commands that are to be sent. A decision waits until a board comes whose game part differs. A standing
 /// order (`order_roll`) rolls for the user if he may not double. It keeps nothing of an earlier connection. No call
-/// takes memory.
-#[derive(Clone, Copy)]
+/// takes memory. It can't be copied: of two copies each would decide by itself, and a decision would go out twice.
+#[derive(Drop)]
 pub struct Session {
     pub(crate) login: Login,
     pub(crate) online: bool,

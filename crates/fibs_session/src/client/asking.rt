@@ -25,9 +25,8 @@ impl Client {
     pub fn plain_refusal(&self, plain: &Plain<'_>) -> Option<PlainRefusal>
         ensures { (t : Talk) → StandsAfter self.now t → result ≡ plain_refusal t (plain_value plain.now) }
     {
-        let mut session = self.session;
-        match session.plain(plain) {
-            Ok(_command) => None,
+        match self.session.text_for(plain) {
+            Ok(_text) => None,
             Err(why) => Some(why),
         }
     }
