@@ -13,8 +13,8 @@ begun-by-last b (y ∷ (z ∷ zs)) x e = let h : length (y ∷ (z ∷ zs)) - 1 �
     begun-by-last (not (y == 10)) (z ∷ zs) x (rw h at e)
 
 -- a byte that is put at the front is the first
-pub first-of-set : (s : List ℕ) (x : ℕ) → 0 < length s → take 1 (slice_set s 0 x) ≡ x ∷ []
-first-of-set [] x h = absurd (omega arith)
+pub first-of-set : (s : List ℕ) (x : ℕ) → (length s == 0) ≡ false → take 1 (slice_set s 0 x) ≡ x ∷ []
+first-of-set [] x h = absurd (cc)
 first-of-set (y ∷ ys) x h = refl
 
 without_empty-cases : (is_end : Bool) (y : ℕ) (typed given : List ℕ)

@@ -1,5 +1,5 @@
 //! A reader of typed lines that gives an empty line if the server speaks first.
-ghost use Rattle.std.specs.Prelude.{◌≡◌, ◌<◌, false, true, None, take, length, [], ◌∷◌, IfOk, OnErr};
+ghost use Rattle.std.specs.Prelude.{◌≡◌, ◌<◌, false, true, None, take, length, IfOk, OnErr};
 ghost use Rattle.std.specs.Io.{ReadsAtMost};
 ghost use Rattle.std.specs.Io.KnownBytes.{Keeps, IsAtEnd, ReadConsumes};
 ghost use Rattle.fibs_watch.specs.Weaving.{Gives, begun_after};
@@ -27,14 +27,6 @@ fn is_begun(begun: bool, bytes: &[u8]) -> bool
         None => begun,
         Some(last) => *last != b'\n',
     }
-}
-
-/// Puts a line end at the front.
-fn put_line_end(buf: &mut [u8])
-    requires { 0 < length buf.old }
-    ensures { take 1 buf.new ≡ 10 ∷ [] }
-{
-    buf[0] = b'\n';
 }
 
 impl<R: Read + Drop, W: Watch + Drop> TypedOrHeard<R, W> {
@@ -80,7 +72,7 @@ impl<R: Read + Drop, W: Watch + Drop> Read for TypedOrHeard<R, W> {
         ensures still { OnErr result (self.new.begun ≡ self.old.begun) }
     {
         if !buf.is_empty() && self.is_heard_first() {
-            put_line_end(buf);
+            buf[0] = b'\n';
             return Ok(1);
         }
         let count = self.source.read(buf)?;
