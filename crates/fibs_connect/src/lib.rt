@@ -1,10 +1,9 @@
 //! `fibs connect`: a player's conversation with the server. Typed lines, connections, and the seat of a player.
 #![tactic(auto)]
 
-ghost use Rattle.std.specs.Prelude.{◌≡◌, ◌*◌, OnOk, IfOk, IfErr};
+ghost use Rattle.std.specs.Prelude.{◌≡◌, ◌*◌, IfOk, IfErr};
 ghost use Rattle.std.specs.Io.KnownBytes.{Appends, Keeps};
 ghost use Rattle.fibs_connect.specs.Converse.Ending.{Conversed, EndsWell, login_fault_line};
-ghost use Rattle.fibs_exchange.specs.Turns.Turn.{FitsStream, is_there};
 ghost use Rattle.fibs_front.specs.TypedReads.{SpendsReads};
 ghost use Rattle.fibs_engine.specs.Printing.{line_bytes};
 ghost use Rattle.fibs_engine.specs.Reads.{LostAtMost};
@@ -148,22 +147,6 @@ pub fn answer_lines<D: Dial, R: Read, F: Words>(
     ensures spends { SpendsReads lines.old lines.new (R.remaining typed.old) (R.remaining typed.new) }
 {
     let mut seat = Seat::new(alloc, login);
-    answer_at(&mut seat, server, lines, typed, front)
-}
-
-/// The same at a seat that never had a connection.
-fn answer_at<D: Dial, R: Read, F: Words>(
-    seat: &mut Seat<D::Stream>,
-    server: &mut D,
-    lines: &mut TypedLines,
-    typed: &mut R,
-    front: &mut F,
-) -> Result<u8, EngineFault>
-    requires { FitsStream seat.old.client (is_there seat.old.stream) }
-    ensures done { IfOk result (λ status. status ≡ 0) }
-    ensures device { IfErr result (λ why. why ≡ EngineFault.Device) }
-    ensures spends { SpendsReads lines.old lines.new (R.remaining typed.old) (R.remaining typed.new) }
-{
     seat.open(server, front)?;
     let mut line = TypedLine::new();
     for _ in 0..u64::MAX {
@@ -171,28 +154,12 @@ fn answer_at<D: Dial, R: Read, F: Words>(
         if !lines.read_line(typed, &mut line)? {
             return Ok(Status::Done.code());
         }
-        if let Going::Away = answer_line(seat, server, &mut line, front)? {
+        let wish = front.wish(&seat.client, &seat.directory, &mut line)?;
+        if let Going::Away = seat.answer(wish, line.as_slice(), server, front)? {
+            // a player who leaves sees what he was told
+            front.rest(&seat.client, &seat.directory)?;
             return Ok(Status::Done.code());
         }
     }
     Err(EngineFault::Device)
-}
-
-/// Does what a line asks for. A player who leaves sees what he was told.
-fn answer_line<D: Dial, F: Words>(
-    seat: &mut Seat<D::Stream>,
-    server: &mut D,
-    line: &mut TypedLine,
-    front: &mut F,
-) -> Result<Going, EngineFault>
-    requires { FitsStream seat.old.client (is_there seat.old.stream) }
-    ensures fits { OnOk result (FitsStream seat.new.client (is_there seat.new.stream)) }
-    ensures device { IfErr result (λ why. why ≡ EngineFault.Device) }
-{
-    let wish = front.wish(&seat.client, &seat.directory, line)?;
-    let going = seat.answer(wish, line.as_slice(), server, front)?;
-    if let Going::Away = going {
-        front.rest(&seat.client, &seat.directory)?;
-    }
-    Ok(going)
 }

@@ -12,7 +12,7 @@ use fibs_engine::dial::Dial;
 use fibs_engine::link::Link;
 use fibs_exchange::loss::end_connection;
 use fibs_exchange::sending::{send_as_it_is, send_command};
-use fibs_exchange::{Ending, ExchangeFault, exchange_with};
+use fibs_exchange::{Ending, ExchangeFault, talk, talk_offline};
 use fibs_front::front::Front;
 use fibs_front::said::Said;
 use fibs_front::typed_line::TYPED_LIMIT;
@@ -196,20 +196,13 @@ impl<S: Link + Drop> Seat<S> {
     {
         match self.stream.take() {
             None => {
-                let mut nowhere: Option<S> = None;
-                let _quiet = exchange_with(
-                    &mut self.client,
-                    &mut self.directory,
-                    nowhere.as_mut(),
-                    typed,
-                    front,
-                )?;
+                let _quiet = talk_offline(&mut self.client, typed, front)?;
             }
             Some(mut stream) => {
-                let ending = exchange_with(
+                let ending = talk(
                     &mut self.client,
                     &mut self.directory,
-                    Some(&mut stream),
+                    &mut stream,
                     typed,
                     front,
                 )?;

@@ -4,7 +4,6 @@ ghost use Rattle.std.specs.Option.{option_copied};
 ghost use Rattle.fibs_position.specs.GameOf.{game_of};
 ghost use Rattle.fibs_exchange.specs.Turns.Answering.{IfPrinted, IfUnprinted};
 ghost use Rattle.std.specs.Io.KnownBytes.{Appends, Keeps};
-ghost use Rattle.fibs_boards.specs.StoredBoard.{fields_of};
 ghost use Rattle.fibs_messages.specs.Line.{reading_of, board_line};
 ghost use Rattle.fibs_session.specs.History.Machine.{Talk};
 ghost use Rattle.fibs_session.specs.Calls.SessionOf.{ask_of, taken_of};
@@ -21,28 +20,23 @@ use fibs_boards::laws::fields_tell_boards;
 use fibs_engine::link::Link;
 use fibs_front::front::Front;
 use fibs_front::said::Said;
-use fibs_messages::{Board, Reading};
+use fibs_messages::Reading;
 use fibs_position::GameBoard;
 use fibs_session::{Client, Directory, Outstanding, Taken};
 
-/// The board with its position, if it is the one that the client has.
-fn game_on<'a>(client: &'a Client, board: &Board) -> Option<&'a GameBoard>
-    ensures { IfSome (option_copied result) (λ game. game_of game ≡ fields_of board.now) }
-{
-    let game = client.game()?;
-    if fields_tell_boards(game.board(), board) {
-        Some(game)
-    } else {
-        None
-    }
-}
-
-/// The board of the user's game that a reading says. The client has it with its position, since it has heard the line.
+/// The board of the user's game that a reading says, with its position. The client has it, since it has heard the line.
 fn game_in<'a>(client: &'a Client, reading: &Reading<'_>) -> Option<&'a GameBoard>
     ensures { IfSome (option_copied result) (λ game. board_line (game_of game) ≡ reading_of reading.now) }
 {
     match reading {
-        Reading::Board(board) => game_on(client, board),
+        Reading::Board(board) => {
+            let game = client.game()?;
+            if fields_tell_boards(game.board(), board) {
+                Some(game)
+            } else {
+                None
+            }
+        }
         Reading::Numbered(_) | Reading::Text(_) | Reading::Malformed { .. } => None,
     }
 }

@@ -88,8 +88,19 @@ fn listen<S: Link, F: Front>(
     Ok(Ending::Quiet)
 }
 
-/// Does what was typed, and hears the stream.
-fn talk<S: Link, F: Front>(
+/// One turn of a client that is online with its stream: the typed line is answered, and then what the server sends is
+/// heard, until a read would wait or timed out (`Quiet`), or the connection is over (`Lost`). It reads at most 4096
+/// times, at most 1024 bytes at once.
+///
+/// A typed line is a decision in the place numbers of the board shown, else a plain command, else a standing order to
+/// roll or its withdrawal. For each line the commands that it calls for are written first, the `roll` of a standing
+/// order that it makes due among them; then it is reported to the front end, then to the directory. Only the directory
+/// takes memory: what it refuses is reported.
+///
+/// Errors: `Output` if the front end fails. The client is then as after its last finished call:
+/// it made the typed call, then it was fed what was read, all of it or up to the end of the line that is not taken, and
+/// then it lost its connection, if that is what is not taken. The commands of these calls are written.
+pub fn talk<S: Link, F: Front>(
     client: &mut Client,
     directory: &mut Directory,
     stream: &mut S,
@@ -116,8 +127,10 @@ fn talk<S: Link, F: Front>(
     }
 }
 
-/// Answers what was typed offline.
-fn talk_offline<F: Front>(
+/// A turn of a client that is offline: the typed line is answered, and nothing is read. It ends as `Quiet`.
+///
+/// Errors: `Output` if the front end fails.
+pub fn talk_offline<F: Front>(
     client: &mut Client,
     typed: Option<&[u8]>,
     front: &mut F,
@@ -137,45 +150,6 @@ fn talk_offline<F: Front>(
             type_offline(client, text, front)?;
             Ok(Ending::Quiet)
         }
-    }
-}
-
-/// One turn of a client with its stream: the typed line is answered, and then what the server sends is heard, until a
-/// read would wait or timed out (`Quiet`), or the connection is over (`Lost`). It reads at most 4096 times, at most
-/// 1024 bytes at once.
-///
-/// A stream is given exactly if the client is online; without one nothing is read. A typed line is a decision in the
-/// place numbers of the board shown, else a plain command, else a standing order to roll or its withdrawal. For each
-/// line the commands that it calls for are written first, the `roll` of a standing order that it makes due among them;
-/// then it is reported to the front end, then to the directory. Only the directory takes memory: what it refuses is
-/// reported.
-///
-/// Errors: `Output` if the front end fails. The client is then as after its last finished call:
-/// it made the typed call, then it was fed what was read, all of it or up to the end of the line that is not taken, and
-/// then it lost its connection, if that is what is not taken. The commands of these calls are written.
-pub fn exchange_with<S: Link, F: Front>(
-    client: &mut Client,
-    directory: &mut Directory,
-    stream: Option<&mut S>,
-    typed: Option<&[u8]>,
-    front: &mut F,
-) -> Result<Ending, ExchangeFault>
-    requires { FitsStream client.old (is_there stream) }
-    ensures next { IfOk result (λ e. FitsStream client.new (still_given e (is_there stream.entry))) }
-    ensures turned { IfOk result (λ e. (t : Talk) → StandsAfter client.old t → is_online t ≡ is_there stream.entry →
-        TurnedBy F.tells t client.new (bytes_of typed.entry)
-        (known_before S.remaining stream.entry) (known_after S.remaining stream.exit)
-        (outside (known_before S.contents stream.entry) front.old directory.old)
-        (outside (known_after S.contents stream.exit) front.new directory.new) e) }
-    ensures stopped { OnErr result ((t : Talk) → StandsAfter client.old t → is_online t ≡ is_there stream.entry →
-        Stopped t client.new (bytes_of typed.entry)
-        (known_before S.remaining stream.entry) (known_after S.remaining stream.exit)
-        (known_before S.contents stream.entry) (known_after S.contents stream.exit)) }
-    ensures few { LostAtMost turn_limit (known_before S.remaining stream.entry) (known_after S.remaining stream.exit) }
-{
-    match stream {
-        None => talk_offline(client, typed, front),
-        Some(stream) => talk(client, directory, stream, typed, front),
     }
 }
 
@@ -214,6 +188,6 @@ pub fn exchange<S: Link, W: Write>(
     let mut plain = Plain { out };
     match stream {
         None => talk_offline(client, typed, &mut plain),
-        Some(stream) => exchange_with(client, directory, Some(stream), typed, &mut plain),
+        Some(stream) => talk(client, directory, stream, typed, &mut plain),
     }
 }

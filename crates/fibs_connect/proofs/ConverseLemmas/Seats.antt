@@ -1,14 +1,13 @@
 -- A seat at the server: the client is online exactly if there is a connection.
 use Rattle.std.proofs.Common.{◌≡◌, ℕ, suc, true, false, not, cond, nat_eq, List, [], ◌∷◌, Option, None, Some}
-use Rattle.std.proofs.Common.{◌⊎◌, inl, refl, sym, ap, subst, ◌∙◌, arith}
-use Rattle.std.specs.Borrow.{MutBor}
+use Rattle.std.proofs.Common.{inl, refl, sym, ap, subst, ◌∙◌, arith}
 use Rattle.fibs_messages.specs.Message.{MessageValue}
 use Rattle.fibs_front.specs.Told.{SaidValue, Joins, opened_said}
 use Rattle.fibs_session.specs.declared.taken.Outstanding.{Outstanding}
-use Rattle.fibs_exchange.specs.Turns.Script.{known_before, known_after, outside}
-use Rattle.fibs_connect.specs.Converse.Seats.{SeatValue, TakesTurn, Connects, Opens, OpensAndLoses, seat_of}
+use Rattle.fibs_exchange.specs.Turns.Script.{outside}
+use Rattle.fibs_connect.specs.Converse.Seats.{TakesTurn, Connects, Opens, OpensAndLoses, seat_of}
 use Rattle.fibs_directory.specs.Directory.{IsDirectory}
-use Rattle.std.specs.Prelude.{is_some, IsSome, OnOk, Result, Ok, Err}
+use Rattle.std.specs.Prelude.{IsSome, OnOk, Result, Ok, Err}
 use Rattle.std.proofs.lemmas.Bool.{ne_eqb}
 use Rattle.fibs_session.specs.History.Log.{Opened}
 use Rattle.fibs_session.specs.History.Words.{connections}
@@ -39,11 +38,9 @@ seat_lost Quiet t new leaves = absurd (cc)
 seat_lost (Lost waited) t new leaves = ((step t Lose).talk, leaves.0, loses_offline t)
 
 -- without a connection there is none after a turn
-pub seat_away : {S : Type 0} (stream : Option S) (e : Ending) (new : ClientValue) → is_some stream ≡ false
-    → FitsStream new (still_given e (is_there stream)) → FitsStream new false
-seat_away (Some s) e new none fits = absurd (cc)
-seat_away None Quiet new none fits = fits
-seat_away None (Lost waited) new none fits = fits
+pub seat_away : (e : Ending) (new : ClientValue) → FitsStream new (still_given e false) → FitsStream new false
+seat_away Quiet new fits = fits
+seat_away (Lost waited) new fits = fits
 
 -- what three clauses say of an answer
 pub on_ok_three : {T E P Q R V : Type 0} (r : Result T E) → (P → Q → R → V) → OnOk r P → OnOk r Q → OnOk r R → OnOk r V
@@ -136,25 +133,23 @@ turn_given_up {S} {F} {Tells} remaining contents old new players told s t stream
     }))
 
 -- a turn without a connection
-pub turn_away : {S F : Type 0} {Tells : F → List SaidValue → F → Type 0} (remaining contents : S → Option (List ℕ)) (old new : ClientValue)
-    (players told : List MessageValue) (stream stays : Option S) (given : Option (MutBor S))
-    (back : Unit {0} ⊎ ((MutBor S × Unit {0}) ⊎ ⊥)) (e : Ending) (said : Option (List ℕ)) (held now : F)
-    → stream ≡ None → stays ≡ None → is_some given ≡ false
-    → ((h : Talk) → StandsAfter old h → is_online h ≡ is_there given → TurnedBy Tells h new said
-    (known_before remaining given) (known_after remaining back) (outside (known_before contents given) held players)
-    (outside (known_after contents back) now told) e)
-    → TakesTurn Tells said (seat_of remaining contents old players stream) (seat_of remaining contents new told stays) held now
-turn_away remaining contents old new players told stream stays (Some s) back e said held now is none away turned =
-    absurd (cc)
-turn_away {S} {F} {Tells} remaining contents old new players told stream stays None back e said held now is none away turned =
-    subst (λ o. TakesTurn Tells said (seat_of remaining contents old players o) (seat_of remaining contents new told stays)
-    held now) (sym is)
+pub turn_away : {S F : Type 0} {Tells : F → List SaidValue → F → Type 0} (remaining contents : S → Option (List ℕ))
+    (old new : ClientValue) (players : List MessageValue) (stream stays : Option S) (e : Ending)
+    (said : Option (List ℕ)) (held now : F)
+    → stream ≡ None → stays ≡ None
+    → ((h : Talk) → StandsAfter old h → is_online h ≡ false → (known : List MessageValue)
+    → TurnedBy Tells h new said None None (outside None held known) (outside None now known) e)
+    → TakesTurn Tells said (seat_of remaining contents old players stream) (seat_of remaining contents new players stays)
+    held now
+turn_away {S} {F} {Tells} remaining contents old new players stream stays e said held now is none turned =
+    subst (λ o. TakesTurn Tells said (seat_of remaining contents old players o)
+    (seat_of remaining contents new players stays) held now) (sym is)
     (subst (λ o. TakesTurn Tells said (seat_of remaining contents old players None)
-    (seat_of remaining contents new told o) held now) (sym none) (record {
+    (seat_of remaining contents new players o) held now) (sym none) (record {
       ending = e;
-      left = known_after remaining back;
-      wrote = known_after contents back;
-      turned = turned;
+      left = None;
+      wrote = None;
+      turned = λ h at off. turned h at off players;
       connected = not_given e;
       left_as = λ there. absurd (cc);
       wrote_as = λ there. absurd (cc);

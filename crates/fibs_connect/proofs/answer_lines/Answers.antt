@@ -1,6 +1,6 @@
 use Rattle.fibs_front.proofs.TypedLemmas.Spent.{spends_nothing, spends_more}
 use Rattle.std.proofs.Common.{refl}
-use Rattle.fibs_connect.proofs.answer_at.Goals as goal
+use Rattle.fibs_connect.proofs.answer_lines.Goals as goal
 
 pub loop-init : goal.loop-init
 loop-init g c = (
@@ -20,8 +20,16 @@ pub returns-then-not-branch-clause-spends : goal.returns-then-not-branch-clause-
 returns-then-not-branch-clause-spends g c =
     spends_more c.args.lines.now c.loop.lines c.read_line.new.self _ _ _ c.loop.invariant.1 c.read_line.ensures.spends
 
-pub returns-in_err-answer_line-clause-spends : goal.returns-in_err-answer_line-clause-spends
-returns-in_err-answer_line-clause-spends g c =
+pub returns-in_err-wish-clause-spends : goal.returns-in_err-wish-clause-spends
+returns-in_err-wish-clause-spends g c =
+    spends_more c.args.lines.now c.loop.lines c.read_line.new.self _ _ _ c.loop.invariant.1 c.read_line.ensures.spends
+
+pub returns-in_err-answer-clause-spends : goal.returns-in_err-answer-clause-spends
+returns-in_err-answer-clause-spends g c =
+    spends_more c.args.lines.now c.loop.lines c.read_line.new.self _ _ _ c.loop.invariant.1 c.read_line.ensures.spends
+
+pub returns-in_err-rest-2-clause-spends : goal.returns-in_err-rest-2-clause-spends
+returns-in_err-rest-2-clause-spends g c =
     spends_more c.args.lines.now c.loop.lines c.read_line.new.self _ _ _ c.loop.invariant.1 c.read_line.ensures.spends
 
 pub returns-in-Away-clause-spends : goal.returns-in-Away-clause-spends
@@ -30,7 +38,7 @@ returns-in-Away-clause-spends g c =
 
 pub loop-preserved : goal.loop-preserved
 loop-preserved g c = (
-  c.in_ok-answer_line.ensures.fits,
+  c.in_ok-answer.ensures.fits,
   spends_more c.args.lines.now c.loop.lines c.read_line.new.self _ _ _ c.loop.invariant.1 c.read_line.ensures.spends,
 )
 
