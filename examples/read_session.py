@@ -2,7 +2,8 @@
 """Prints what was played in saved sessions: read_session.py [FILE..], standard input if none is named.
 
 For each board that shows something new: who plays whom, what was rolled, what was played, whether the game is over.
-With -c it prints only what lines there are: how many boards, messages, texts, cut and malformed lines.
+With -c it prints only what lines there are: how many boards, messages, texts, cut and malformed lines, and of a log of
+fibs connect how many lines that were sent.
 
 It takes the package for Python: pip install ./python
 """
@@ -96,13 +97,14 @@ def read_session(file):
 
 def count_lines(files):
     """Prints how many lines there are of each kind."""
-    found = [0] * 5
+    found = [0] * 6
     for file in files:
         with fibs.Lines() as lines:
             while piece := file.read(1 << 20):
                 found = [a + b for a, b in zip(found, lines.count(piece))]
-    texts, messages, boards, malformed, cut = found
-    print('%d boards, %d messages, %d texts, %d cut, %d malformed' % (boards, messages, texts - cut, cut, malformed))
+    texts, messages, boards, malformed, cut, sent = found
+    print('%d boards, %d messages, %d texts, %d cut, %d malformed%s' % (
+        boards, messages, texts - cut - sent, cut, malformed, ', %d sent' % sent if sent else ''))
 
 
 def main():

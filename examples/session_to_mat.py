@@ -241,7 +241,7 @@ class Reader:
             self.number += 1
             if line.kind == fibs.MESSAGE and line.number == 1:
                 self.name = line.fields[0].decode('latin-1')
-            elif line.kind == fibs.TEXT:
+            elif line.kind == fibs.TEXT and line.sent is None:
                 self.hear(line.text.decode('latin-1').strip())
             else:
                 board = board_of(line)

@@ -34,6 +34,10 @@ class Fault(Word):
     BAD_NAME = 5
 
 
+# What a log has before each line that was sent. No text of FIBS begins so.
+SENT = b'>> '
+
+
 class Line(NamedTuple):
     """A line without its end, and what it is.
 
@@ -48,6 +52,12 @@ class Line(NamedTuple):
     field: int
     fault: Optional[Fault]
     cut: bool
+
+    @property
+    def sent(self) -> Optional[bytes]:
+        """In a log of `fibs connect` or `fibs-play`: the line that was sent. None if a line is the server's."""
+        is_sent = self.kind == Kind.TEXT and self.text.startswith(SENT)
+        return self.text[len(SENT):] if is_sent else None
 
     @property
     def board(self) -> Board:
@@ -178,13 +188,16 @@ class Lines(Handle):
 
     def count(self, piece: Bytes) -> Counts:
         """How many lines of each kind end in this piece. Closed."""
-        counts = [0] * 5
-        for _, rows in self._calls(piece):
+        counts = [0] * 6
+        for text, rows in self._calls(piece):
             told = rows.tobytes()
             kinds = told[_library.KIND_AT::_library.ROW.size]
             for kind in range(4):
                 counts[kind] += kinds.count(kind)
             counts[4] += told[_library.CUT_AT::_library.ROW.size].count(1)
+            if SENT in text:
+                counts[5] += sum(kind == Kind.TEXT and text.startswith(SENT, start, start + size)
+                                 for start, size, _, kind, *_ in _library.ROW.iter_unpack(told))
         return Counts(*counts)
 
     def finish(self) -> List[Line]:
@@ -209,13 +222,15 @@ class Lines(Handle):
 
 
 class Counts(NamedTuple):
-    """How many texts, messages, boards and malformed lines there are, and how many of the texts were cut."""
+    """How many texts, messages, boards and malformed lines there are; how many of the texts were cut, and how many are
+    lines of a log that were sent."""
 
     texts: int
     messages: int
     boards: int
     malformed: int
     cut: int
+    sent: int
 
 
 def _pieces(source: Source, size: int = 1 << 16) -> Generator[bytes, None, None]:

@@ -99,10 +99,14 @@ def pieces_are_fed_by_hand(counts):
         counts.same(lines.held, 1, 'what is held')
         counts.same(lines.feed(b'\xff\xfb\x01f\r\n'), [fibs.read(b'ef')], 'the rest of a line')
         counts.same(lines.feed(b''), [], 'an empty piece')
-        counts.same(lines.count(b'x' * (fibs.MAX_LINE + 1) + b'\n3\n'), (1, 1, 0, 0, 1), 'counts')
+        counts.same(lines.count(b'x' * (fibs.MAX_LINE + 1) + b'\n3\n'), (1, 1, 0, 0, 1, 0), 'counts')
         lines.feed(b'half')
         lines.reset()
         counts.same(lines.feed(b'new\n'), [fibs.read(b'new')], 'another stream')
+    # a log of `fibs connect`: two lines of the server, one of which has a prompt, and two that were sent
+    log = b'hi\n>> roll\n> and you\n>> 3\n3\n'
+    counts.same([line.sent for line in fibs.Lines(log)], [None, b'roll', None, b'3', None], 'what was sent')
+    counts.same(fibs.Lines().count(log), (4, 1, 0, 0, 0, 2), 'how many lines were sent')
     for call, words in [(lines.feed, (b'a\n',)), (lines.count, (b'a\n',)), (lines.reset, ()), (lambda: lines.held, ())]:
         counts.raises(fibs.Closed, call, *words)
     lines.close()

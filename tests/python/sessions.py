@@ -143,7 +143,7 @@ def what_a_lost_connection_hid_is_filled_in(counts):
             ('messages, watched boards and noise', [noise for one in whole for noise in (
                 one, '5 bob ann - 1 0 1500 0 0 0 h - -', whole[4].replace(':You:', ':eve:'), 'board:You:x', '** hm')]),
             ('what was sent, as a log has it', [sent for one in whole for sent in (
-                one, 'login fibs_client 1008 ann', 'roll', 'move 24-21 21-15', 'accept')])]:
+                one, '>> roll', '>> move 24-21 21-15', '>> accept', '>> You roll 1 and 1.')])]:
         counts.same(run('session_to_mat.py', lines), (MATCH, '', 0), 'without %s' % case)
     told, _, _ = run('session_to_mat.py', whole[:4] + whole[6:7] + whole[10:])
     counts.same(told, MATCH, 'the own opening is told by the text')

@@ -54,7 +54,7 @@ def each_line_as_it_came_and_what_was_sent(server):
                  b'5 bob - - 1 0 15x0', b'roll', LONG.encode())
     same('the password', PASSWORD.encode() in held, False)
     same('what was sent, the commands of the client itself first',
-         [line[2:] for line in held.split(b'\n') if line.startswith(b'> ')],
+         [line[3:] for line in held.split(b'\n') if line.startswith(b'>> ')],
          [b'set boardstyle 3', b'board', b'roll', LONG.encode()])
     same('what was not sent', b'dance' in held, False)
     ann.type('quit')
@@ -62,7 +62,8 @@ def each_line_as_it_came_and_what_was_sent(server):
     ann.close()
     done = subprocess.run([PROGRAM, 'show'], input=held, capture_output=True, check=False)
     shown = done.stdout.split(b'\n')
-    for line in b'message ' + WELCOME.encode(), b'message ' + OWN.encode(), BOARD.encode(), b'malformed 5 6 NotANumber':
+    for line in (b'message ' + WELCOME.encode(), b'message ' + OWN.encode(), BOARD.encode(), b'malformed 5 6 NotANumber',
+                 b'text >> roll'):
         same('fibs show has %r' % line[:40], line in shown, True)
     same('the status', done.returncode, 0)
 
@@ -108,7 +109,7 @@ def two_connections_in_one_log(server):
         ann.type(typed)
     ann.ends(0)
     ann.close()
-    same('the log', pathlib.Path(path).read_text(), (WELCOME + '\n> set boardstyle 3\n') * 2)
+    same('the log', pathlib.Path(path).read_text(), (WELCOME + '\n>> set boardstyle 3\n') * 2)
 
 
 @with_server

@@ -11,8 +11,8 @@ use std::io;
 use std::io::{ErrorKind, Read, Stderr, Write};
 use std::os::unix::fs::OpenOptionsExt;
 
-/// What is written before a line that was sent. The server's prompt is the same, and is dropped from its lines.
-const SENT: &[u8] = b"> ";
+/// What is written before a line that was sent. It is no prompt of the server, so whoever reads the log keeps it.
+const SENT: &[u8] = b">> ";
 
 /// How many bytes of a line that is sent are kept: no line is longer.
 const SENT_ROOM: usize = 4200;
@@ -57,7 +57,7 @@ impl<W: Write + Drop, E: Write + Drop> Log<W, E> {
     }
 }
 
-/// A stream with a log: each line as it came, without telnet's commands and prompts, and after `> ` each
+/// A stream with a log: each line as it came, without telnet's commands and prompts, and after `>> ` each
 /// line that was sent, but for the first, which is the login. A log that can no longer be written is left as it is.
 #[derive(Drop)]
 pub struct Logged<S: Link + Drop, W: Write + Drop, E: Write + Drop> {
