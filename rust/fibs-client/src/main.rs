@@ -1,7 +1,8 @@
 //! `fibs`: a client for FIBS, the First Internet Backgammon Server.
 //!
 //! The modules are Liftplum's sources without their proofs, erased when this is built. In Rattle each of their
-//! functions is proved to meet its contract. What is proved is the program of Rattle: that this one does the same is tested.
+//! functions is proved to meet its contract. What is proved is the program of Rattle: that this one does the same is
+//! tested.
 #![cfg_attr(unix, no_main)]
 
 use rattle_std as rattle;

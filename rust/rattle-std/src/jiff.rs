@@ -1,5 +1,5 @@
-//! The calendar and time zones, in the shapes of the crate `jiff`, which no Debian has. The calendar is that of the crate
-//! `chrono`; the files of the time zones are read here.
+//! The calendar and time zones, in the shapes of the crate `jiff`, which no Debian has. The calendar is that of the
+//! crate `chrono`; the files of the time zones are read here.
 
 use crate::alloc::AllocError;
 use crate::time::Clock;
