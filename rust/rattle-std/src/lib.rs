@@ -5,8 +5,8 @@
 //! [`time`], [`mio`] and [`jiff`] take. A call that takes memory gives an error if there is none. `base` is what the
 //! library uses too.
 
-// its `io` and `time` are hidden by those here
-#[allow(missing_docs, unused_imports)]
+// its `io` and `time` are hidden by those here, and its tests are those of the library
+#[allow(missing_docs, unused_imports, dead_code)]
 #[path = "../../src/rattle.rs"]
 mod base;
 pub mod clap;

@@ -203,8 +203,8 @@ mod tests {
         let mut zones = TimeZoneDatabase::new();
         assert_eq!(zones.insert("One/Two", b"TZif"), Err(Error::Zone));
         assert!(zones.get("One/Two").is_none());
-        zones.insert("One/Two", &file("A-1")).unwrap();
-        zones.insert("one/two", &file("B-2")).unwrap();
+        zones.insert("One/Two", &file("AAA-1")).unwrap();
+        zones.insert("one/two", &file("BBB-2")).unwrap();
         let noon = Timestamp::from_second(12 * 3600).unwrap();
         assert_eq!(zones.get("ONE/TWO").unwrap().to_datetime(noon).hour(), 14);
         assert_eq!(zones.get("utc").unwrap().to_datetime(noon).hour(), 12);
