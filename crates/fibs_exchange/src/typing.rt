@@ -4,8 +4,8 @@ ghost use Rattle.std.specs.Io.KnownBytes.{Appends, Keeps};
 ghost use Rattle.fibs_session.specs.History.Machine.{Talk};
 ghost use Rattle.fibs_session.specs.Calls.Standing.{StandsAfter};
 ghost use Rattle.fibs_messages.specs.Message.{MessageValue};
-ghost use Rattle.fibs_front.specs.Typing.{typed_now};
-ghost use Rattle.fibs_front.specs.TypedOf.{typed_value};
+ghost use Rattle.fibs_typed.specs.Typing.{typed_now};
+ghost use Rattle.fibs_typed.specs.TypedOf.{typed_value};
 ghost use Rattle.fibs_exchange.specs.Turns.Answering.{answered_act, IfPrinted, IfUnprinted};
 ghost use Rattle.fibs_exchange.specs.Turns.Script.{Did, outside};
 ghost use Rattle.fibs_exchange.specs.Turns.Turn.{FitsStream};
@@ -18,8 +18,8 @@ use crate::turn_fault::TurnFault;
 use fibs_engine::link::Link;
 use fibs_front::front::Front;
 use fibs_front::said::Said;
-use fibs_front::typing::{Typed, read_typed};
 use fibs_session::{Client, CommandText};
+use fibs_typed::typing::{Typed, read_typed};
 
 /// What the client answers to a typed line.
 #[derive(Clone, Copy)]

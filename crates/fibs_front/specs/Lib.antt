@@ -4,6 +4,4 @@ pub mod Lines
 pub mod Account
 pub mod TypedLines
 pub mod TypedReads
-pub mod Typing
-pub mod TypedOf
 pub mod Wishes

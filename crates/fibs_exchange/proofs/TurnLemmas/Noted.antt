@@ -15,7 +15,7 @@ use Rattle.fibs_engine.specs.Writing.{Progress, Whole, Broken}
 use Rattle.fibs_exchange.specs.Turns.Acts.{Act}
 use Rattle.fibs_exchange.specs.Turns.Lines.{line_acts, piece_acts, messages_in}
 use Rattle.fibs_exchange.specs.Turns.Typing.{talk_after, typed_acts}
-use Rattle.fibs_front.specs.Typing.{typed_now}
+use Rattle.fibs_typed.specs.Typing.{typed_now}
 use Rattle.fibs_exchange.specs.Turns.Script.{InHand, acts_of}
 use Rattle.fibs_exchange.specs.Turns.NoteLaw.{TellsNothing, TurnsLeaveNoPlayer}
 use Rattle.fibs_exchange.proofs.TurnLemmas.Typed.{typed_notes}

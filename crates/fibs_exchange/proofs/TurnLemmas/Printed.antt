@@ -34,12 +34,12 @@ use Rattle.fibs_front.specs.Lines.{text_of_lines, lost_line}
 use Rattle.fibs_exchange.specs.Turns.Lines.{phase_told, confirmed_told, rolled_told, line_act, line_acts}
 use Rattle.fibs_front.specs.Lines.{said_text, heard_text}
 use Rattle.fibs_exchange.specs.Turns.Lines.{piece_acts}
-use Rattle.fibs_front.specs.Typing.{TypedValue, typed_decision, typed_plain, typed_order, typed_withdrawal}
+use Rattle.fibs_typed.specs.Typing.{TypedValue, typed_decision, typed_plain, typed_order, typed_withdrawal}
 use Rattle.fibs_exchange.specs.Turns.Typing.{order_told, typed_act, typed_acts}
-use Rattle.fibs_front.specs.Typing.{typed_none}
+use Rattle.fibs_typed.specs.Typing.{typed_none}
 use Rattle.fibs_front.specs.Lines.{plain_line}
 use Rattle.fibs_exchange.specs.Turns.Typing.{talk_after}
-use Rattle.fibs_front.specs.Typing.{typed_now}
+use Rattle.fibs_typed.specs.Typing.{typed_now}
 use Rattle.fibs_exchange.specs.Turns.Script.{Done, directory_told, done_told, acts_of, tells_of}
 use Rattle.fibs_exchange.specs.Turns.Turn.{end_acts}
 use Rattle.fibs_exchange.specs.Turns.PrintLaw.{is_directory_line, without_directory, lines_of_acts, TurnsPrintTheirActs}

@@ -16,7 +16,7 @@ use Rattle.fibs_exchange.specs.Turns.Lines.{piece_acts}
 use Rattle.fibs_exchange.specs.Turns.Script.{Outside, Did, Called, calls_of}
 use Rattle.fibs_exchange.specs.Turns.Turn.{EndsALine, Talked, FedToALine, StopsAt, all_fed, line_fed, lost, Stopped}
 use Rattle.fibs_exchange.specs.Turns.Typing.{typed_step, typed_act}
-use Rattle.fibs_front.specs.Typing.{typed_now}
+use Rattle.fibs_typed.specs.Typing.{typed_now}
 use Rattle.fibs_exchange.proofs.TurnLemmas.Hearing.{piece_stream, ends_joined, acts_join, no_acts}
 use Rattle.fibs_exchange.proofs.TurnLemmas.Scripts.{did_wrote, did_called, all_called, called_after}
 use Rattle.fibs_exchange.proofs.TurnLemmas.Typed.{typed_stays}

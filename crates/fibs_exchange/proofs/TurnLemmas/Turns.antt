@@ -21,7 +21,7 @@ use Rattle.fibs_exchange.specs.Turns.Script.{Outside, Did}
 use Rattle.fibs_exchange.specs.Turns.Turn.{EndsALine, Extent, IntakeExtent, Talked, Ended, TurnedBy, FitsStream}
 use Rattle.fibs_exchange.specs.Turns.Turn.{still_given}
 use Rattle.fibs_exchange.specs.Turns.Typing.{talk_after, typed_step, typed_act}
-use Rattle.fibs_front.specs.Typing.{typed_now}
+use Rattle.fibs_typed.specs.Typing.{typed_now}
 use Rattle.fibs_exchange.proofs.TurnLemmas.Scripts.{did_nothing, did_joined, did_kept, did_same}
 use Rattle.fibs_exchange.proofs.TurnLemmas.Hearing.{open_append, piece_online, piece_stream, no_acts, acts_join}
 use Rattle.fibs_exchange.proofs.TurnLemmas.Hearing.{ends_joined}

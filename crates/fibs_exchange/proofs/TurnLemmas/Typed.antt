@@ -19,9 +19,9 @@ use Rattle.fibs_engine.specs.Writing.{Whole, Broken}
 use Rattle.fibs_front.specs.Told.{SaidValue, Joins, sent_said}
 use Rattle.fibs_exchange.specs.Turns.Acts.{Act, answer_act}
 use Rattle.fibs_exchange.specs.Turns.Script.{Did, Notes, outside}
-use Rattle.fibs_front.specs.Typing.{TypedValue, typed_decision, typed_plain, typed_order, typed_withdrawal}
+use Rattle.fibs_typed.specs.Typing.{TypedValue, typed_decision, typed_plain, typed_order, typed_withdrawal}
 use Rattle.fibs_exchange.specs.Turns.Typing.{typed_step, typed_act}
-use Rattle.fibs_front.specs.Typing.{typed_none}
+use Rattle.fibs_typed.specs.Typing.{typed_none}
 use Rattle.fibs_exchange.proofs.TurnLemmas.Hearing.{open_append}
 use Rattle.fibs_exchange.proofs.TurnLemmas.Scripts.{did_alone, did_part, notes_nothing}
 

@@ -1,7 +1,7 @@
 use Rattle.std.proofs.Common.{◌∙◌}
 use Rattle.fibs_engine.specs.Writing.{Broken}
 use Rattle.fibs_exchange.specs.Turns.Typing.{typed_step}
-use Rattle.fibs_front.specs.Typing.{typed_now}
+use Rattle.fibs_typed.specs.Typing.{typed_now}
 use Rattle.fibs_engine.proofs.OkLemmas.{if_ok_weaker}
 use Rattle.fibs_exchange.proofs.TurnLemmas.Typed.{typed_stays}
 use Rattle.fibs_exchange.proofs.TurnLemmas.Turns.{turned_typed, turned_broken}

@@ -5,8 +5,8 @@ use Rattle.fibs_session.specs.History.Machine.{Talk, Step, Click, PlainInput, st
 use Rattle.fibs_session.specs.History.Machine.{plain_refusal, Order, Withdraw, order_refusal, withdraw_refusal}
 use Rattle.fibs_front.specs.Told.{SaidValue, ordered_said, withdrawn_said, refused_said, not_sent_said}
 use Rattle.fibs_front.specs.Told.{unknown_said}
-use Rattle.fibs_front.specs.Typing.{TypedValue, typed_decision, typed_plain, typed_order, typed_withdrawal, typed_none}
-use Rattle.fibs_front.specs.Typing.{typed_now}
+use Rattle.fibs_typed.specs.Typing.{TypedValue, typed_decision, typed_plain, typed_order, typed_withdrawal, typed_none}
+use Rattle.fibs_typed.specs.Typing.{typed_now}
 use Rattle.fibs_exchange.specs.Turns.Acts.{Act, only_tell, answer_act}
 
 -- a standing order is taken, or the reason why not is reported

@@ -7,7 +7,7 @@ use Rattle.fibs_session.specs.History.Machine.{Talk, on_wire}
 use Rattle.fibs_session.specs.Calls.Standing.{StandsAfter}
 use Rattle.fibs_front.specs.SaidOf.{said_of}
 use Rattle.fibs_exchange.specs.Turns.Typing.{typed_act}
-use Rattle.fibs_front.specs.Typing.{typed_now}
+use Rattle.fibs_typed.specs.Typing.{typed_now}
 use Rattle.fibs_exchange.proofs.TurnLemmas.Typed.{did_reply, did_sent, did_unsent}
 use Rattle.fibs_exchange.proofs.TurnLemmas.Faults.{at_stream, at_output, on_any_unprinted, printed_at_stream}
 use Rattle.fibs_exchange.proofs.typing.type_line.Goals as goal

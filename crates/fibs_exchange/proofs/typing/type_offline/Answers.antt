@@ -1,6 +1,6 @@
 use Rattle.std.proofs.KnownBytes.{Appends-nil}
 use Rattle.fibs_front.specs.SaidOf.{said_of}
-use Rattle.fibs_front.specs.Typing.{typed_now}
+use Rattle.fibs_typed.specs.Typing.{typed_now}
 use Rattle.fibs_engine.proofs.OkLemmas.{on_ok_weaker}
 use Rattle.fibs_exchange.proofs.TurnLemmas.Typed.{did_reply}
 use Rattle.fibs_exchange.proofs.typing.type_offline.Goals as goal

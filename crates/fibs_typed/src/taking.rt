@@ -2,8 +2,8 @@
 ghost use Rattle.std.specs.Prelude.{◌≡◌};
 ghost use Rattle.fibs_session.specs.History.Machine.{Talk};
 ghost use Rattle.fibs_session.specs.Calls.Standing.{StandsAfter};
-ghost use Rattle.fibs_front.specs.Typing.{typed_now, would_take};
-ghost use Rattle.fibs_front.specs.TypedOf.{typed_value};
+ghost use Rattle.fibs_typed.specs.Typing.{typed_now, would_take};
+ghost use Rattle.fibs_typed.specs.TypedOf.{typed_value};
 
 use crate::typing::{Typed, read_typed};
 use fibs_session::Client;

@@ -4,8 +4,8 @@ ghost use Rattle.fibs_session.specs.History.Machine.{Talk, shown_now};
 ghost use Rattle.fibs_session.specs.Calls.Standing.{StandsAfter};
 ghost use Rattle.fibs_commands.specs.CommandReading.{read_command};
 ghost use Rattle.fibs_commands.specs.PlainReading.{read_plain};
-ghost use Rattle.fibs_front.specs.Typing.{shown_direction, typed_as, typed_now, order_in, is_command};
-ghost use Rattle.fibs_front.specs.TypedOf.{typed_value};
+ghost use Rattle.fibs_typed.specs.Typing.{shown_direction, typed_as, typed_now, order_in, is_command};
+ghost use Rattle.fibs_typed.specs.TypedOf.{typed_value};
 
 use fibs_position::{Decision, Direction};
 use fibs_session::{Client, Plain, read_command, read_plain};

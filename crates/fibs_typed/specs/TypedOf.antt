@@ -1,9 +1,9 @@
 -- What the program reads in a typed line, as a value.
 use Rattle.fibs_commands.specs.PlainOf.{plain_value}
 use Rattle.fibs_position.specs.DecisionValue.{decision_of}
-use Rattle.fibs_front.specs.declared.typing.Typed.{Typed}
-use Rattle.fibs_front.specs.declared.typing.Typed.TheVariants as T
-use Rattle.fibs_front.specs.Typing.{TypedValue, typed_decision, typed_plain, typed_order, typed_withdrawal, typed_none}
+use Rattle.fibs_typed.specs.declared.typing.Typed.{Typed}
+use Rattle.fibs_typed.specs.declared.typing.Typed.TheVariants as T
+use Rattle.fibs_typed.specs.Typing.{TypedValue, typed_decision, typed_plain, typed_order, typed_withdrawal, typed_none}
 
 abbrev pub typed_value : Typed → TypedValue
 typed_value (T.Decision d) = typed_decision (decision_of d)
