@@ -96,9 +96,9 @@ static bool say(struct bot *bot, const char *word, const char *name, size_t len)
 }
 
 /* Sends a line of its own, of which the client does not know. */
-static bool send_own(const struct bot *bot, const char *line) {
+static bool send_own(struct bot *bot, const char *line) {
     static fibs_wire wire;
-    wire.len = (size_t)snprintf(wire.bytes, sizeof wire.bytes, "%s\r\n", line);
+    fibs_client_own_line(&bot->client, line, strlen(line), &wire);
     return send_wire(bot, &wire, false);
 }
 

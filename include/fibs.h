@@ -154,7 +154,9 @@ enum {
     FIBS_STATUS_NO_PLAYER = 508,      /* the directory has no such player */
     FIBS_STATUS_NO_STATUS = 509,      /* there is no status of this number */
     FIBS_STATUS_NO_EFFECT = 510,      /* the server does not carry the decision out on the board */
-    FIBS_STATUS_NO_DIRECTION = 511    /* the direction is neither -1 nor 1 */
+    FIBS_STATUS_NO_DIRECTION = 511,   /* the direction is neither -1 nor 1 */
+    FIBS_STATUS_TAKEN = 512           /* the client takes the line itself: fibs_client_decide, fibs_client_plain or a
+                                         standing order */
 };
 
 /* The name of a status, such as `NotYours`, with a zero at its end; the empty text if there is no such status. */
@@ -292,6 +294,10 @@ fibs_status fibs_read_board(const char *line, size_t len, fibs_board *board, siz
  * *printed is its length. FIELD_MISSING to FIELD_BAD_NAME if the line says no board; SHORT, and *printed is set. */
 fibs_status fibs_print_board(const char *line, size_t len, char *text, size_t room, size_t *printed);
 
+/* The line of a board, at most FIBS_MAX_BOARD bytes: of one that a call gave, or of your own. *printed is its length.
+ * FIELD_MISSING to FIELD_BAD_NAME if its names and numbers are not those of a board; SHORT, and *printed is set. */
+fibs_status fibs_board_line(const fibs_board *board, char *text, size_t room, size_t *printed);
+
 /* The kinds of fields. */
 enum {
     FIBS_FIELD_NAME = 1, FIBS_FIELD_WORD = 2, FIBS_FIELD_TAIL = 3, FIBS_FIELD_FLAG = 4, FIBS_FIELD_NUMBER = 5,
@@ -314,8 +320,8 @@ fibs_status fibs_read_field(const char *line, size_t len, size_t number, fibs_fi
 
 /* ---- The rules ---- */
 
-/* The calls of this part take a board's line: the one that came, that of fibs_client_shown_line, or that of
- * fibs_effect. fibs_read_board gives the fields of a line. */
+/* The calls of this part take a board's line: the one that came, or that of fibs_client_shown_line, fibs_effect,
+ * fibs_turned or fibs_board_line. fibs_read_board gives the fields of a line. */
 
 /* A step of one checker, in the player's own numbering, in which he goes down: from a place 1 to 24 or the bar, 25, to
  * a place 1 to 24 or off, 0. Place p of the board has the number p in it if FIBS_BOARD_DIRECTION is -1, else 25 - p. */
@@ -368,6 +374,12 @@ fibs_status fibs_plays(const char *line, size_t len, fibs_decision *plays, size_
  * those of fibs_phase; NO_EFFECT; SHORT, and *printed is set. */
 fibs_status fibs_effect(const char *line, size_t len, const fibs_decision *decision, uint8_t first, uint8_t second,
                         char *text, size_t room, size_t *printed);
+
+/* The line of the board of a line with the sides exchanged, as if the user were the opponent, at most FIBS_MAX_BOARD
+ * bytes: its plays are the opponent's. *printed is its length. The names stay. What a board does not tell of the
+ * opponent is 0: whether he was doubled, how many checkers he can move, and a forced move. FIELD_MISSING to
+ * FIELD_BAD_NAME if the line says no board; SHORT, and *printed is set. */
+fibs_status fibs_turned(const char *line, size_t len, char *text, size_t room, size_t *printed);
 
 /* Whether the boards of two lines differ in what the game is (docs/FORMATS.md: fields 3 to 6, 8 to 31, 33 to 43, 46 and
  * 47): a board that differs ends the waiting of a decision. FIELD_MISSING to FIELD_BAD_NAME if one of the lines says no
@@ -452,6 +464,12 @@ fibs_status fibs_client_decide(fibs_client *client, const fibs_decision *decisio
  * NO_HANDLE; OFFLINE, NOT_ON; BAD_NAME to TOO_LONG. */
 fibs_status fibs_client_plain(fibs_client *client, const char *text, size_t len, fibs_wire *wire);
 
+/* Hands out a line of your own with its line end, for what the client has no command for: `leave`, `watch bob`, `who
+ * ready`, `accept` or `reject` as the answer to an offer to resign. The client does not know of it, and is as it was.
+ * It refuses a line that it would take itself. A decision that it would refuse it lets go: never send `roll`, `move` or
+ * `double` so, or the client does not know what waits. BAD_TEXT, TOO_LONG; NO_HANDLE; OFFLINE, TAKEN. */
+fibs_status fibs_client_own_line(fibs_client *client, const char *line, size_t len, fibs_wire *wire);
+
 /* Gives a standing order for this connection: at each new board on which the user is to roll and may not double the
  * client rolls by itself. NO_HANDLE; OFFLINE, ALREADY_ORDERED. */
 fibs_status fibs_client_order_roll(fibs_client *client);
@@ -506,6 +524,33 @@ fibs_status fibs_directory_field(fibs_directory *directory, size_t place, size_t
 /* The same for the player of a name. */
 fibs_status fibs_directory_field_of(fibs_directory *directory, const char *name, size_t name_len, size_t number,
                                     fibs_field *field, char *text, size_t room);
+
+/* A text of a player: so many bytes of the room, from a start. */
+typedef struct fibs_part {
+    size_t start;
+    size_t len;
+} fibs_part;
+
+/* What message 5 says of a player. A name, a client or an email of `-` is none. */
+typedef struct fibs_player {
+    fibs_part name;
+    fibs_part opponent;        /* whom he plays */
+    fibs_part watching;        /* whom he watches */
+    fibs_part hostname;        /* where he logged in from */
+    fibs_part client;          /* the program that he uses */
+    fibs_part email;
+    uint64_t experience;       /* points of the matches that he played */
+    uint64_t idle;             /* seconds since he last typed */
+    uint64_t login;            /* when he logged in, in seconds since 1970 */
+    uint32_t rating;           /* in hundredths */
+    uint8_t ready;             /* ready to play */
+    uint8_t away;
+} fibs_player;
+
+/* The player of a name. The bytes of his texts are copied into text, one after another; *len is how many they are.
+ * NO_HANDLE; NO_PLAYER; SHORT, and *len is set. */
+fibs_status fibs_directory_player(fibs_directory *directory, const char *name, size_t name_len, fibs_player *player,
+                                  char *text, size_t room, size_t *len);
 
 #ifdef __cplusplus
 }

@@ -12,7 +12,7 @@ static const char *const field_faults[] = { "", "Missing", "Extra", "NotANumber"
 static const char *const directory_faults[] = { "", "Memory", "Full" };
 static const char *const own[] = {
     "", "NoHandle", "Held", "Short", "NoDecision", "NoCommand", "NoField", "NothingWaits", "NoPlayer", "NoStatus",
-    "NoEffect", "NoDirection"
+    "NoEffect", "NoDirection", "Taken"
 };
 static const char *const kinds[] = { "text", "message", "board", "malformed" };
 static const char *const fields[] = { "", "name", "word", "tail", "flag", "number", "rating", "text" };

@@ -20,8 +20,8 @@ from ._lines import Counts, Fault, Kind, Line, Lines, Stream, fields, read
 from .errors import (AlreadyOpen, AlreadyOrdered, BadCommand, BadName, BadText, Closed, Error, FieldBadName,
                      FieldExtra, FieldMissing, FieldNotANumber, FieldOutOfRange, Full, IllegalPlay, NoBoard,
                      NoCommand, NoDecision, NoDirection, NoEffect, NoField, NoPlayer, NoPosition, NotABoard, NotOn,
-                     NotOrdered, NotReady, NotYou, NotYours, Offline, Refused, ServerPlays, TooLong, TooManyOther,
-                     TooManyOwn, Waiting, WrongKind)
+                     NotOrdered, NotReady, NotYou, NotYours, Offline, Refused, ServerPlays, Taken, TooLong,
+                     TooManyOther, TooManyOwn, Waiting, WrongKind)
 from .messages import Player
 
 TEXT, MESSAGE, BOARD, MALFORMED = Kind.TEXT, Kind.MESSAGE, Kind.BOARD, Kind.MALFORMED
@@ -42,6 +42,6 @@ __all__ = [
     'MALFORMED', 'MAX_LINE', 'MESSAGE', 'NoBoard', 'NoCommand', 'NoDecision', 'NoDirection', 'NoEffect', 'NoField',
     'NoPlayer', 'NoPosition', 'NotABoard', 'NotOn', 'NotOrdered', 'NotReady', 'NotYou', 'NotYours', 'Offline',
     'Outstanding', 'Phase', 'Player', 'REJECT', 'RESIGN_BACKGAMMON', 'RESIGN_GAMMON', 'RESIGN_NORMAL', 'ROLL',
-    'Refused', 'ServerPlays', 'Step', 'Stream', 'TEXT', 'TooLong', 'TooManyOther', 'TooManyOwn', 'UNLIMITED', 'Waiting',
-    'WrongKind', 'allows', 'fields', 'messages', 'phase', 'plays', 'print_board', 'read', 'refusal',
+    'Refused', 'ServerPlays', 'Step', 'Stream', 'TEXT', 'Taken', 'TooLong', 'TooManyOther', 'TooManyOwn', 'UNLIMITED',
+    'Waiting', 'WrongKind', 'allows', 'fields', 'messages', 'phase', 'plays', 'print_board', 'read', 'refusal',
 ]

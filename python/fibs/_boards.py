@@ -69,8 +69,7 @@ class Board:
     def _of(cls, record: Any) -> Board:
         """The library's board."""
         board = cls.__new__(cls)
-        player, opponent, numbers = fields = _fields_of(record)
-        board._take(b':'.join([b'board', player, opponent, *(b'%d' % number for number in numbers)]), fields)
+        board._take(told_text(_library.lib.fibs_board_line, byref(record)), _fields_of(record))
         return board
 
     def _take(self, line: bytes, fields: Optional[Tuple[bytes, bytes, Tuple[int, ...]]]) -> None:
@@ -187,15 +186,7 @@ class Board:
     def turned(self) -> Board:
         """The same board with the sides exchanged, as if the user were the opponent: its plays are the opponent's. What
         this board does not tell of the opponent is 0: was_doubled, and fields 50 and 51."""
-        player, opponent, numbers = self._read()
-        turned = list(numbers)
-        for one, other in (5, 6), (34, 36), (35, 37), (39, 40), (44, 45), (46, 47), (48, 49):
-            turned[one - 4], turned[other - 4] = numbers[other - 4], numbers[one - 4]
-        for field in 42, 43:
-            turned[field - 4] = -numbers[field - 4]
-        for field in 41, 50, 51:
-            turned[field - 4] = 0
-        return Board(b':'.join([b'board', player, opponent, *(b'%d' % number for number in turned)]))
+        return Board._said(told_text(_library.lib.fibs_turned, self.line, len(self.line)))
 
     def differs(self, other: Board) -> bool:
         """True if the boards differ in what the game is: the other one, if it is shown, ends the waiting of a decision

@@ -190,6 +190,15 @@ class Client(Handle):
         sent, self._kept = self._kept.commands(), self._kept._replace(wires=[_library.Wire()])
         return sent
 
+    def own_line(self, line: Text) -> bytes:
+        """A line of your own with its line end, for what the client has no command for: `leave`, `watch bob`, the
+        answer to an offer to resign. The client does not know of it, and refuses a line that it would take itself.
+        Never send a `roll`, `move` or `double` so. Offline, Taken; BadText, TooLong."""
+        data = bytes_of(line)
+        check(_library.lib.fibs_client_own_line(self._owned.at, data, len(data), byref(self._kept.wire())))
+        sent, self._kept = self._kept.commands(), self._kept._replace(wires=[_library.Wire()])
+        return sent
+
     def order_roll(self) -> None:
         """Gives a standing order for this connection: at each new board on which the user is to roll and may not
         double the client rolls by itself. Offline, AlreadyOrdered."""

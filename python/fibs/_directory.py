@@ -7,7 +7,7 @@ from typing import Iterator, Optional, Union
 
 from . import _library
 from ._handles import Handle
-from ._texts import Text, bytes_of, number_of, told_field
+from ._texts import Text, bytes_of, number_of, told, told_field
 from .errors import NoPlayer, check
 from .messages import Player
 
@@ -57,8 +57,16 @@ class Directory(Handle):
 
     def get(self, name: Text) -> Optional[Player]:
         """The player of a name, or None."""
-        data, get = bytes_of(name), _library.lib.fibs_directory_field_of
-        try:
-            return Player._make(told_field(get, self._owned.at, data, len(data), n) for n in _FIELDS)
-        except NoPlayer:
+        data, found = bytes_of(name), _library.Player()
+        status, texts = told(_library.lib.fibs_directory_player, self._owned.at, data, len(data), byref(found))
+        if status == NoPlayer.status:
             return None
+        check(status)
+        return Player(_part(texts, found.name), _part(texts, found.opponent), _part(texts, found.watching),
+                      found.ready == 1, found.away == 1, found.rating, found.experience, found.idle, found.login,
+                      _part(texts, found.hostname), _part(texts, found.client), _part(texts, found.email))
+
+
+def _part(texts: bytes, part: _library.Part) -> bytes:
+    """A text of a player, among those that the library hands out."""
+    return texts[part.start:part.start + part.len]

@@ -72,6 +72,30 @@ class Field(Structure):
     _fields_ = [('len', c_size_t), ('number', c_uint64), ('kind', c_uint8)]
 
 
+class Part(Structure):
+    start: int
+    len: int
+    _fields_ = [('start', c_size_t), ('len', c_size_t)]
+
+
+class Player(Structure):
+    name: Part
+    opponent: Part
+    watching: Part
+    hostname: Part
+    client: Part
+    email: Part
+    experience: int
+    idle: int
+    login: int
+    rating: int
+    ready: int
+    away: int
+    _fields_ = [('name', Part), ('opponent', Part), ('watching', Part), ('hostname', Part), ('client', Part),
+                ('email', Part), ('experience', c_uint64), ('idle', c_uint64), ('login', c_uint64),
+                ('rating', c_uint32), ('ready', c_uint8), ('away', c_uint8)]
+
+
 class Step(Structure):
     source: int
     target: int
@@ -142,11 +166,13 @@ _FUNCTIONS: dict[str, tuple[Any, list[Any]]] = {
     'fibs_read': (Kind, _DATA),
     'fibs_read_board': (c_uint32, [*_DATA, POINTER(Board), _LENGTH]),
     'fibs_print_board': (c_uint32, [*_DATA, *_ROOM, _LENGTH]),
+    'fibs_board_line': (c_uint32, [POINTER(Board), *_ROOM, _LENGTH]),
     'fibs_read_field': (c_uint32, [*_DATA, c_size_t, POINTER(Field), *_ROOM]),
     'fibs_phase': (c_uint32, [*_DATA, POINTER(c_uint8)]),
     'fibs_allows': (c_uint32, [*_DATA, POINTER(Decision)]),
     'fibs_plays': (c_uint32, [*_DATA, POINTER(Decision), c_size_t, _LENGTH]),
     'fibs_effect': (c_uint32, [*_DATA, POINTER(Decision), c_uint8, c_uint8, *_ROOM, _LENGTH]),
+    'fibs_turned': (c_uint32, [*_DATA, *_ROOM, _LENGTH]),
     'fibs_differs': (c_uint32, [*_DATA, *_DATA, POINTER(c_uint8)]),
     'fibs_match_over': (c_uint32, [*_DATA, POINTER(c_uint8)]),
     'fibs_decision_text': (c_uint32, [POINTER(Decision), c_int32, *_ROOM, _LENGTH]),
@@ -159,6 +185,7 @@ _FUNCTIONS: dict[str, tuple[Any, list[Any]]] = {
     'fibs_client_unfinished': (c_uint32, [_HANDLE, *_ROOM, _LENGTH]),
     'fibs_client_decide': (c_uint32, [_HANDLE, POINTER(Decision), POINTER(Wire)]),
     'fibs_client_plain': (c_uint32, [_HANDLE, *_DATA, POINTER(Wire)]),
+    'fibs_client_own_line': (c_uint32, [_HANDLE, *_DATA, POINTER(Wire)]),
     'fibs_client_order_roll': (c_uint32, [_HANDLE]),
     'fibs_client_withdraw_roll': (c_uint32, [_HANDLE]),
     'fibs_client_ordered': (c_uint32, [_HANDLE, POINTER(c_uint8)]),
@@ -171,7 +198,7 @@ _FUNCTIONS: dict[str, tuple[Any, list[Any]]] = {
     'fibs_directory_len': (c_uint32, [_HANDLE, _LENGTH]),
     'fibs_directory_clear': (c_uint32, [_HANDLE]),
     'fibs_directory_field': (c_uint32, [_HANDLE, c_size_t, c_size_t, POINTER(Field), *_ROOM]),
-    'fibs_directory_field_of': (c_uint32, [_HANDLE, *_DATA, c_size_t, POINTER(Field), *_ROOM]),
+    'fibs_directory_player': (c_uint32, [_HANDLE, *_DATA, POINTER(Player), *_ROOM, _LENGTH]),
 }
 
 

@@ -226,6 +226,11 @@ class NoDirection(Error, ValueError):
     status = 511
 
 
+class Taken(Error, ValueError):
+    """The client takes the line itself: decide(), plain() or order_roll()."""
+    status = 512
+
+
 def _named(kind: Type[Error]) -> Dict[int, Type[Error]]:
     """Each exception at or below one, by its status."""
     found = {kind.status: kind} if kind.status else {}

@@ -25,7 +25,7 @@ pub const CRATES: &[(&str, &[&str])] = &[
             "fibs_replay",
         ],
     ),
-    ("C", &["fibs_records", "fibs_c"]),
+    ("C", &["fibs_typed", "fibs_records", "fibs_c"]),
 ];
 
 /// Tests that are written in Rattle, which `tests/rust` of the repository runs too.

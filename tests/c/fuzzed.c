@@ -237,6 +237,39 @@ static void is_field(fibs_status status, const char *text, size_t room) {
     must(!is_told || (out.field.kind >= FIBS_FIELD_NAME && out.field.kind <= FIBS_FIELD_TEXT), "a field's kind");
 }
 
+/* The board of a line, or any bytes; then with some of its numbers changed. */
+static fibs_board some_board(struct text line) {
+    fibs_board board;
+    size_t field;
+    memset(&board, one_byte(), sizeof board);
+    if (fibs_read_board(line.bytes, line.len, &board, &field) == FIBS_STATUS_DONE) {
+        char text[FIBS_MAX_BOARD];
+        must(fibs_board_line(&board, text, sizeof text, &field) == FIBS_STATUS_DONE && field <= line.len
+             && memcmp(text, line.bytes, field) == 0, "the line of a board that was read");
+    }
+    for (uint8_t changes = one_byte() % 4; changes > 0; changes--) {
+        board.number[one_byte() % FIBS_BOARD_NUMBERS] = (int32_t)(number() * 16777619);
+    }
+    board.player_len = one_byte() % 8 == 0 ? number() : board.player_len;
+    return board;
+}
+
+/* A board can be turned, and turned twice it is the same but for what is not told of the opponent. */
+static void is_turned(struct text line) {
+    char once[FIBS_MAX_BOARD], twice[FIBS_MAX_BOARD];
+    size_t len, field;
+    fibs_board first, last;
+    if (fibs_read_board(line.bytes, line.len, &first, &field) == FIBS_STATUS_DONE) {
+        must(fibs_turned(line.bytes, line.len, once, sizeof once, &len) == FIBS_STATUS_DONE
+             && fibs_turned(once, len, twice, sizeof twice, &len) == FIBS_STATUS_DONE
+             && fibs_read_board(twice, len, &last, &field) == FIBS_STATUS_DONE, "a board that is turned");
+        last.number[FIBS_BOARD_WAS_DOUBLED] = first.number[FIBS_BOARD_WAS_DOUBLED];
+        last.number[FIBS_BOARD_CAN_MOVE] = first.number[FIBS_BOARD_CAN_MOVE];
+        last.number[FIBS_BOARD_FORCED_MOVE] = first.number[FIBS_BOARD_FORCED_MOVE];
+        must(memcmp(first.number, last.number, sizeof first.number) == 0, "twice turned");
+    }
+}
+
 static void call_readings(uint8_t which) {
     struct text line = some_text(), other = some_text();
     size_t room, count;
@@ -244,6 +277,7 @@ static void call_readings(uint8_t which) {
     fibs_status status;
     fibs_kind kind;
     fibs_decision decision;
+    fibs_board board;
     switch (which) {
     case 0:
         kind = fibs_read(line.bytes, line.len);
@@ -303,6 +337,14 @@ static void call_readings(uint8_t which) {
         must(!answered(status, status == FIBS_STATUS_DONE ? BYTE : NOTHING) || out.byte <= 1, "they differ or not");
         break;
     case 11:
+        board = some_board(line);
+        is_text(fibs_board_line(&board, text, room, &out.size), text, room, FIBS_MAX_BOARD);
+        break;
+    case 12:
+        is_text(fibs_turned(line.bytes, line.len, text, room, &out.size), text, room, FIBS_MAX_BOARD);
+        is_turned(line);
+        break;
+    case 13:
         status = fibs_match_over(line.bytes, line.len, &out.byte);
         must(!answered(status, status == FIBS_STATUS_DONE ? BYTE : NOTHING) || out.byte <= 1, "it is over or not");
         break;
@@ -388,6 +430,12 @@ static void call_client(uint8_t which) {
         is_text(fibs_client_unfinished(&held.client, text, room, &out.size), text, room, FIBS_MAX_LINE);
         break;
     case 13:
+        status = fibs_client_own_line(&held.client, piece.bytes, piece.len, &out.wire);
+        answered(status, WIRE);
+        is_wire(status);
+        must(status != FIBS_STATUS_DONE || out.wire.len == piece.len + 2, "an own line");
+        break;
+    case 14:
         is_text(fibs_client_shown_line(&held.client, text, room, &out.size), text, room, FIBS_MAX_BOARD);
         break;
     default:
@@ -411,6 +459,16 @@ static void call_client(uint8_t which) {
     free(piece.bytes);
     free(other.bytes);
     free(text);
+}
+
+/* A player was asked for. */
+static void is_player(fibs_status status, const char *text, size_t room) {
+    bool is_told = status == FIBS_STATUS_DONE;
+    answered(status, is_told ? PLAYER | SIZE : status == FIBS_STATUS_SHORT ? SIZE : NOTHING);
+    must(is_kept(text, is_told ? out.size : 0, room), "a player's room");
+    must(!is_told || (out.player.email.start + out.player.email.len == out.size && out.player.name.start == 0
+                      && out.player.opponent.start == out.player.name.len && out.player.ready <= 1
+                      && out.player.away <= 1), "a player's texts");
 }
 
 static void call_directory(uint8_t which) {
@@ -441,6 +499,10 @@ static void call_directory(uint8_t which) {
     case 5:
         is_field(fibs_directory_field(&held.directory, number(), number(), &out.field, text, room), text, room);
         break;
+    case 6:
+        status = fibs_directory_player(&held.directory, line.bytes, line.len, &out.player, text, room, &out.size);
+        is_player(status, text, room);
+        break;
     default:
         is_field(fibs_directory_field_of(&held.directory, line.bytes, line.len, number(), &out.field, text, room), text,
                  room);
@@ -453,16 +515,16 @@ int LLVMFuzzerTestOneInput(const uint8_t *data, size_t size) {
     left = data;
     left_len = size;
     while (left_len > 0) {
-        uint8_t which = one_byte() % 42;
+        uint8_t which = one_byte() % 46;
         fill();
         if (which < 7) {
             call_lines(which);
-        } else if (which < 20) {
+        } else if (which < 22) {
             call_readings(which - 7);
-        } else if (which < 35) {
-            call_client(which - 20);
+        } else if (which < 38) {
+            call_client(which - 22);
         } else {
-            call_directory(which - 35);
+            call_directory(which - 38);
         }
     }
     fibs_lines_free(&held.lines);

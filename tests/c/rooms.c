@@ -253,7 +253,7 @@ static void check_names(void) {
           && strcmp(fibs_field_name(FIBS_FIELD_NAME), "name") == 0
           && strcmp(fibs_field_name(FIBS_FIELD_TEXT), "text") == 0, "names of faults and fields");
     check(strcmp(fibs_version(), FIBS_VERSION) == 0, "the version");
-    check(known == 37, "as many statuses as the header has");
+    check(known == 38, "as many statuses as the header has");
     check(fibs_status_text(UINT32_MAX, text, sizeof text, &len) == S(NO_STATUS), "no such status");
     check(fibs_status_text(S(DONE), text, 3, &len) == S(SHORT) && len == 4, "room for a name");
 }

@@ -53,6 +53,10 @@ static const char to_roll[] =
 static const char theirs[] =
     "board:You:someplayer:3:0:1:0:-2:0:0:0:0:5:0:3:0:0:0:-5:5:0:0:0:-3:0:-5:0:0:0:0:2:0:-1:0:0:6:2:1:1:1:0:1:-1:"
     "0:25:0:0:0:0:2:0:0:0";
+/* the same with the sides exchanged */
+static const char turned[] =
+    "board:You:someplayer:3:1:0:0:-2:0:0:0:0:5:0:3:0:0:0:-5:5:0:0:0:-3:0:-5:0:0:0:0:2:0:-1:6:2:0:0:1:1:1:0:-1:1:"
+    "25:0:0:0:0:0:0:0:0:0";
 static const char watched[] =
     "board:bob:someplayer:3:0:1:0:-2:0:0:0:0:5:0:3:0:0:0:-5:5:0:0:0:-3:0:-5:0:0:0:0:2:0:1:6:2:0:0:1:1:1:0:1:-1:0:"
     "25:0:0:0:0:2:0:0:0";
@@ -158,6 +162,30 @@ static void check_readings(void) {
        NOTHING);
     is("no room for a board", S(SHORT), fibs_print_board(T(board), NULL, 0, &out.size), SIZE);
     is("a board is printed", S(DONE), fibs_print_board(T(board), out.text, sizeof out.text, &out.size), SIZE | TEXT);
+    fibs_board told;
+    fibs_read_board(T(board), &told, &out.size);
+    fill();
+    is("no room for the line of a board", S(SHORT), fibs_board_line(&told, NULL, 0, &out.size), SIZE);
+    fibs_board_line(&told, out.text, sizeof out.text, &out.size);
+    check(out.size == strlen(board) && memcmp(out.text, board, out.size) == 0, "the line of a board");
+    is("the line", 0, 0, SIZE | TEXT);
+    told.number[FIBS_BOARD_CUBE] = 0;
+    is("no cube shows 0", S(FIELD_OUT_OF_RANGE), fibs_board_line(&told, out.text, sizeof out.text, &out.size), NOTHING);
+    told.number[FIBS_BOARD_CUBE] = 1;
+    told.number[FIBS_BOARD_REDOUBLES] = INT32_MIN;
+    is("redoubles of no board", S(FIELD_OUT_OF_RANGE),
+       fibs_board_line(&told, out.text, sizeof out.text, &out.size), NOTHING);
+    told.number[FIBS_BOARD_REDOUBLES] = 0;
+    told.player[1] = ':';
+    check(fibs_board_line(&told, out.text, sizeof out.text, &out.size) != S(DONE), "a colon in a name");
+    is("of a colon", 0, 0, NOTHING);
+    told.player_len = 0;
+    is("no name", S(FIELD_BAD_NAME), fibs_board_line(&told, out.text, sizeof out.text, &out.size), NOTHING);
+    told.player_len = 65;
+    is("a name too long", S(FIELD_BAD_NAME), fibs_board_line(&told, out.text, sizeof out.text, &out.size), NOTHING);
+    told.player_len = 3;
+    told.opponent_len = SIZE_MAX;
+    is("another one", S(FIELD_BAD_NAME), fibs_board_line(&told, out.text, sizeof out.text, &out.size), NOTHING);
     is("no field", S(NO_FIELD), fibs_read_field(T("3"), 1, &out.field, out.text, sizeof out.text), NOTHING);
     is("a field of no message", S(NO_FIELD), fibs_read_field(NULL, 0, 1, &out.field, out.text, sizeof out.text),
        NOTHING);
@@ -183,6 +211,14 @@ static void check_rules(void) {
         is("no difference", lines[i].status, fibs_differs(T(lines[i].line), T(board), &out.byte), NOTHING);
         is("no difference either", lines[i].status, fibs_differs(T(board), T(lines[i].line), &out.byte), NOTHING);
     }
+    for (size_t i = 0; i < 2; i++) {
+        is("no board is turned", lines[i].status,
+           fibs_turned(T(lines[i].line), out.text, sizeof out.text, &out.size), NOTHING);
+    }
+    is("no room for a turned board", S(SHORT), fibs_turned(T(board), NULL, 0, &out.size), SIZE);
+    fibs_turned(T(theirs), out.text, sizeof out.text, &out.size);
+    check(out.size == strlen(turned) && memcmp(out.text, turned, out.size) == 0, "a turned board");
+    is("the turned board", 0, 0, SIZE | TEXT);
     is("a match", S(DONE), fibs_match_over(T(watched), &out.byte), BYTE);
     is("a difference", S(DONE), fibs_differs(T(board), T(watched), &out.byte), BYTE);
     is("no decision has no effect", S(NO_DECISION),
@@ -245,6 +281,27 @@ static void all_refused(fibs_client *client, fibs_status status) {
     sends("decide", status, fibs_client_decide(client, &roll, &out.wire), NOTHING);
 }
 
+/* Lines of the user's own: no control byte and no byte of telnet, not too long, and nothing that the client takes. */
+static void check_own_lines(fibs_client *client) {
+    static char most[402];
+    memset(most, 'x', sizeof most);
+    static const struct { const char *line; fibs_status status; } lines[] = {
+        { "", S(BAD_TEXT) }, { "a\nb", S(BAD_TEXT) }, { "leave\r", S(BAD_TEXT) }, { "\377\373\1", S(BAD_TEXT) },
+        { "\177", S(BAD_TEXT) }, { "who", S(TAKEN) }, { "tell bob hi", S(TAKEN) }, { "order roll", S(TAKEN) },
+        { "withdraw roll", S(TAKEN) }, { "leave", S(DONE) }, { "who ready", S(DONE) }, { "accept", S(DONE) },
+        { "roll", S(DONE) }
+    };
+    for (size_t i = 0; i < sizeof lines / sizeof lines[0]; i++) {
+        size_t len = strlen(lines[i].line);
+        fibs_status status = fibs_client_own_line(client, lines[i].line, len, &out.wire);
+        check(status != S(DONE) || (out.wire.len == len + 2 && memcmp(out.wire.bytes, lines[i].line, len) == 0
+              && memcmp(out.wire.bytes + len, "\r\n", 2) == 0), "the line is sent as it is");
+        sends(lines[i].line, lines[i].status, status, NOTHING);
+    }
+    sends("a long line", S(DONE), fibs_client_own_line(client, most, 400, &out.wire), NOTHING);
+    sends("a line too long", S(TOO_LONG), fibs_client_own_line(client, most, 401, &out.wire), NOTHING);
+}
+
 static void check_client(void) {
     fibs_client client = NULL;
     for (int round = 0; round < 2; round++) {
@@ -256,6 +313,8 @@ static void check_client(void) {
               fibs_client_feed(&client, T("a\n"), out.text, sizeof out.text, &out.heard, &out.wire), NOTHING);
         all_refused(&client, S(NO_HANDLE));
         sends("plain of none", S(NO_HANDLE), fibs_client_plain(&client, T("who"), &out.wire), NOTHING);
+        sends("own line of none", S(NO_HANDLE), fibs_client_own_line(&client, T("leave"), &out.wire), NOTHING);
+        sends("no own line", S(BAD_TEXT), fibs_client_own_line(&client, NULL, 0, &out.wire), NOTHING);
         is("order of none", S(NO_HANDLE), fibs_client_order_roll(&client), NOTHING);
         is("withdraw of none", S(NO_HANDLE), fibs_client_withdraw_roll(&client), NOTHING);
         is("ordered of none", S(NO_HANDLE), fibs_client_ordered(&client, &out.byte), NOTHING);
@@ -271,6 +330,7 @@ static void check_client(void) {
         is("new of one", S(HELD), fibs_client_new(&client, T("ann"), T("secret")), NOTHING);
         all_refused(&client, S(OFFLINE));
         sends("plain offline", S(OFFLINE), fibs_client_plain(&client, T("who"), &out.wire), NOTHING);
+        sends("own line offline", S(OFFLINE), fibs_client_own_line(&client, T("leave"), &out.wire), NOTHING);
         is("order offline", S(OFFLINE), fibs_client_order_roll(&client), NOTHING);
         is("withdraw offline", S(OFFLINE), fibs_client_withdraw_roll(&client), NOTHING);
         is("ordered offline", S(DONE), fibs_client_ordered(&client, &out.byte), BYTE);
@@ -299,6 +359,7 @@ static void check_client(void) {
         sends("toggle again", S(NOT_ON), fibs_client_plain(&client, T("toggle automove"), &out.wire), NOTHING);
         sends("no command", S(NO_COMMAND), fibs_client_plain(&client, NULL, 0, &out.wire), NOTHING);
         sends("a bad name", S(BAD_NAME), fibs_client_plain(&client, T("invite a:b 3"), &out.wire), NOTHING);
+        check_own_lines(&client);
         hear(&client, ready);
         all_refused(&client, S(NO_BOARD));
         sends("no decision", S(NO_DECISION), fibs_client_decide(&client, &none, &out.wire), NOTHING);
@@ -336,6 +397,8 @@ static void check_client(void) {
         hear(&client, ready);
         hear(&client, to_roll);
         hear(&client, "\n");
+        sends("a decision is no own line", S(TAKEN), fibs_client_own_line(&client, T("roll"), &out.wire), NOTHING);
+        sends("the answer to an offer", S(DONE), fibs_client_own_line(&client, T("accept"), &out.wire), NOTHING);
         all_refused(&client, S(DONE));
         all_refused(&client, S(WAITING));
         is("it waits", S(DONE), fibs_client_waiting(&client, &out.waited), WAITED);
@@ -360,6 +423,8 @@ static void check_directory(void) {
            fibs_directory_field(&directory, 0, 1, &out.field, out.text, sizeof out.text), NOTHING);
         is("field of none", S(NO_HANDLE),
            fibs_directory_field_of(&directory, T("bob"), 1, &out.field, out.text, sizeof out.text), NOTHING);
+        is("player of none", S(NO_HANDLE),
+           fibs_directory_player(&directory, T("bob"), &out.player, out.text, sizeof out.text, &out.size), NOTHING);
         is("new", S(DONE), fibs_directory_new(&directory), NOTHING);
         is("new of one", S(HELD), fibs_directory_new(&directory), NOTHING);
         is("no line", S(DONE), fibs_directory_note(&directory, NULL, 0), NOTHING);
@@ -379,6 +444,18 @@ static void check_directory(void) {
            fibs_directory_field(&directory, 0, 1, &out.field, out.text, sizeof out.text), FIELD | TEXT);
         is("a field", S(DONE),
            fibs_directory_field_of(&directory, T("someplayer"), 6, &out.field, out.text, sizeof out.text), FIELD);
+        is("no such player", S(NO_PLAYER),
+           fibs_directory_player(&directory, T("some"), &out.player, out.text, sizeof out.text, &out.size), NOTHING);
+        is("no room for a player", S(SHORT),
+           fibs_directory_player(&directory, T("someplayer"), &out.player, out.text, 43, &out.size), SIZE);
+        fibs_directory_player(&directory, T("someplayer"), &out.player, out.text, 44, &out.size);
+        check(out.size == 44 && memcmp(out.text, "someplayermgnu_advanced-192.168.143.53DFiBs-", 44) == 0
+              && memcmp(out.text + 44, pattern.text + 44, sizeof out.text - 44) == 0, "just its texts are written");
+        check(out.player.name.start == 0 && out.player.name.len == 10 && out.player.opponent.start == 10
+              && out.player.watching.len == 1 && out.player.hostname.start == 24 && out.player.email.len == 1
+              && out.player.rating == 191215 && out.player.experience == 827 && out.player.idle == 8
+              && out.player.login == 1040515752 && out.player.ready == 0 && out.player.away == 0, "its fields");
+        is("a player", 0, 0, PLAYER | TEXT | SIZE);
         is("clear", S(DONE), fibs_directory_clear(&directory), NOTHING);
         fibs_directory_free(&directory);
         check(directory == NULL, "free makes the handle null");

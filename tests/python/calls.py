@@ -432,6 +432,9 @@ def a_client_says_why_not(counts):
                        ('', fibs.NoCommand), ('tell  hi', fibs.BadName), ('toggle greedy', fibs.NotOn),
                        (b'\0', fibs.NoCommand), (5, TypeError), (None, TypeError)]:
         counts.raises(kind, client.plain, text)
+    for line, kind in [('', fibs.BadText), ('a\nroll', fibs.BadText), (b'\xff\xfb\x01', fibs.BadText), (5, TypeError),
+                       ('x' * 401, fibs.TooLong), ('who', fibs.Taken), ('order roll', fibs.Taken)]:
+        counts.raises(kind, client.own_line, line)
     for piece in 'text', 5, None:
         counts.raises(TypeError, client.feed, piece)
     counts.raises(TypeError, client.decide, 'roll')
@@ -451,6 +454,22 @@ def unready():
         client.open()
         list(client.feed(BOARD + b'\n'))
         client.decide(fibs.ROLL)
+
+
+def lines_of_ones_own_go_past_the_client(counts):
+    with fibs.Client('ann', 'secret') as client:
+        counts.raises(fibs.Offline, client.own_line, 'leave')
+        client.open()
+        for line in 'leave', 'who ready', b'watch bob', 'x' * 400:
+            text = line if isinstance(line, bytes) else line.encode()
+            counts.same(client.own_line(line), text + b'\r\n', 'a line of your own')
+        list(client.feed(GREETING + BOARD + b'\n'))
+        before = client.shown, client.waiting, client.ready
+        counts.raises(fibs.Taken, client.own_line, 'roll')
+        counts.same(client.own_line('accept'), b'accept\r\n', 'the answer to an offer to resign')
+        counts.same((client.shown, client.waiting, client.ready), before, 'the client does not know of it')
+        counts.same(client.decide(fibs.ROLL), b'roll\r\n', 'and goes on')
+    counts.raises(fibs.Closed, client.own_line, 'leave')
 
 
 def handles_are_given_back_once(counts):
@@ -595,6 +614,6 @@ TESTS = [a_board_after_a_decision, a_board_of_the_other_side, the_end_of_a_match
          both_colours_and_directions_count_from_their_own_side, lines_that_are_no_board_say_why,
          the_rules_are_those_of_the_program, decisions_are_spelled_and_read, messages_have_fields,
          each_message_has_a_tuple_of_its_own, a_client_sends_and_waits, what_is_not_taken_is_heard_later,
-         a_client_says_why_not, handles_are_given_back_once, handles_say_their_state,
-         exceptions_go_to_other_processes, players_come_and_go, each_status_has_its_exception, records_lie_as_in_c,
-         the_library_is_found_or_named, the_version_is_that_of_the_library]
+         a_client_says_why_not, lines_of_ones_own_go_past_the_client, handles_are_given_back_once,
+         handles_say_their_state, exceptions_go_to_other_processes, players_come_and_go, each_status_has_its_exception,
+         records_lie_as_in_c, the_library_is_found_or_named, the_version_is_that_of_the_library]

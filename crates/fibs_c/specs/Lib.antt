@@ -3,11 +3,14 @@ pub mod LinesDoor
 pub mod ManyLines
 pub mod ReadingsDoor
 pub mod BoardDoor
+pub mod BoardLineDoor
 pub mod PositionDoor
 pub mod EffectDoor
 pub mod ClientDoor
 pub mod OrderDoor
+pub mod OwnLineDoor
 pub mod FeedDoor
 pub mod DirectoryDoor
+pub mod PlayerDoor
 -- What only private functions and proofs say.
 pub mod ReadingOn

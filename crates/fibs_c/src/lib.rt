@@ -18,6 +18,7 @@ macro_rules! with {
 }
 
 mod asking;
+mod board_lines;
 mod boards;
 mod client;
 mod directory;
@@ -27,9 +28,12 @@ mod lines;
 mod many_lines;
 mod names;
 mod ordering;
+mod own_line;
+mod player;
 mod positions;
 mod readings;
 
 pub use feeding::Heard;
 pub use lines::FedLine;
 pub use many_lines::{Told, ToldLine};
+pub use player::{PartRecord, PlayerRecord};

@@ -72,7 +72,8 @@ own_named n =
     else if nat_eq n 4 then codes "NoDecision" else if nat_eq n 5 then codes "NoCommand"
     else if nat_eq n 6 then codes "NoField" else if nat_eq n 7 then codes "NothingWaits"
     else if nat_eq n 8 then codes "NoPlayer" else if nat_eq n 9 then codes "NoStatus"
-    else if nat_eq n 10 then codes "NoEffect" else if nat_eq n 11 then codes "NoDirection" else []
+    else if nat_eq n 10 then codes "NoEffect" else if nat_eq n 11 then codes "NoDirection"
+    else if nat_eq n 12 then codes "Taken" else []
 
 abbrev pub name_in : ℕ → ℕ → List ℕ
 name_in family n =

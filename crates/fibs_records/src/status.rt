@@ -76,6 +76,9 @@ pub const NO_EFFECT: u32 = 510;
 /// The number is not that of a direction.
 pub const NO_DIRECTION: u32 = 511;
 
+/// The client takes the line itself.
+pub const TAKEN: u32 = 512;
+
 /// Why a client refuses.
 pub fn refusal_status(why: Refusal) -> u32
     ensures { result ≡ refusal_number why }
@@ -216,6 +219,7 @@ fn own_named(number: u32) -> &'static str
         9 => "NoStatus",
         10 => "NoEffect",
         11 => "NoDirection",
+        12 => "Taken",
         _ => "",
     }
 }

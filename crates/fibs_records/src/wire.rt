@@ -68,3 +68,13 @@ pub fn put_command(wire: &mut Wire, command: &CommandText)
     clear(wire);
     append_command(wire, command);
 }
+
+/// Makes it hold a line that is sent as it is, with its line end.
+pub fn put_line(wire: &mut Wire, line: &[u8])
+    requires { length line.now ≤ 512 }
+    ensures { Holds wire.new (on_wire line.now) }
+{
+    clear(wire);
+    append(wire, line);
+    append(wire, b"\r\n");
+}
