@@ -2,6 +2,7 @@
 the game goes on."""
 
 from people import at_a_table, near_and_far, same
+from words import read
 
 SCENES = []
 
@@ -30,6 +31,12 @@ def bob_is_to_roll(table):
 def ann_rolls(table, kind, line='roll'):
     """She rolls as a row says."""
     table.ann.types_what(kind, line)
+    table.bob.sees('ann rolls ..')
+    table.ann.was_not_refused()
+
+
+def ann_rolls_now(table):
+    table.ann.type('roll')
     table.bob.sees('ann rolls ..')
     table.ann.was_not_refused()
 
@@ -128,8 +135,14 @@ def a_double_that_the_server_refuses_always(table):
 
 @near_and_far(SCENES, *FORBIDDEN)
 def a_double_that_the_match_forbids(table):
+    """The board says that she may. Once it was refused, no hint of that game names it."""
     ann_doubles(table, 1)
     ann_rolls(table, 'go on', 'send roll')
+    table.ann.types_what('hint', 'move')
+    table.bob.sees("It's your turn to roll.")
+    table.bob.send('roll', 'move 12-17 17-23')
+    same('what the next hint names', table.ann.advised('hint'), ['roll'])
+    ann_rolls_now(table)
 
 
 @near_and_far(SCENES, *BOB_BEGINS, '--no-board', 'end')
@@ -312,6 +325,83 @@ def the_opponents_resignation_is_rejected(table):
     table.bob.sees('ann rejects. The game continues.')
     table.bob.send('roll', 'move 1-5 12-14')
     ann_rolls(table, 'hint')
+
+
+def declined_in_his_turn(table):
+    """She declines the offer that he makes in his turn: nothing is hers to do until he has played."""
+    bob_resigns(table)
+    table.ann.advised('answer', 'send accept', 'send reject')
+    table.ann.type('send reject')
+    table.bob.sees('ann rejects. The game continues.')
+    table.ann.reads('You reject. The game continues.')
+    never_advised(table.ann, ('hint', 'go on', 'answer', 'board', 'old'))
+    table.ann.type('help')
+    never_advised(table.ann, ('hint', 'go on', 'answer', 'board', 'old'))
+    table.bob.send('roll', 'move 1-5 12-14')
+    ann_rolls(table, 'hint')
+
+
+@near_and_far(SCENES, *ANN_BEGINS, '--no-board', 'move')
+def the_opponents_resignation_is_rejected_and_no_board_shows_her_move(table):
+    declined_in_his_turn(table)
+
+
+@near_and_far(SCENES, *ANN_BEGINS, '--show-resignations')
+def the_opponents_resignation_is_rejected_and_a_board_gave_her_the_turn(table):
+    declined_in_his_turn(table)
+
+
+# -- a board that was asked for, and comes after the answer -------------------------------------------------------------
+
+# What the server says is so long on its way, and comes in pieces.
+ON_ITS_WAY = '--delay', '300', '--portions', '60', '--pause', '30'
+
+
+@at_a_table(*BOB_BEGINS, *ON_ITS_WAY, '--refuse', 'double=1')
+def a_board_comes_after_the_roll_that_a_refused_double_leads_on_to(table):
+    """It is the board on which she doubled. Nobody is to answer that any more."""
+    ann_doubles(table)
+    table.ann.advised('go on', 'send roll')
+    table.ann.type('board')
+    table.ann.type('send roll')
+    same('rows that are not true', [row for row in rows_up_to(table, 'You roll 4 and 2.') if read(row)[0]], [])
+    table.ann.types_what('hint', 'move')
+
+
+@at_a_table(*ANN_BEGINS, *ON_ITS_WAY, '--show-resignations')
+def a_board_that_gives_the_turn_away_comes_after_the_answer(table):
+    """It shows the offer that she has just declined."""
+    bob_resigns(table)
+    table.ann.advised('answer', 'send accept', 'send reject')
+    table.ann.type('board')
+    table.ann.type('send reject')
+    table.ann.reads('sent as it is: reject')
+    same('rows that are not true', [row for row in rows_up_to(table, 'You reject. The game continues.')
+                                    if read(row)[0]], [])
+    never_advised(table.ann, ('hint', 'go on', 'answer', 'board', 'old'))
+
+
+@at_a_table(*ANN_BEGINS, *ON_ITS_WAY, '--show-resignations', '--no-board', 'move')
+def a_board_that_shows_her_move_comes_after_the_answer(table):
+    """It is the first one after her move, and it gives the turn away."""
+    bob_resigns(table)
+    table.ann.type('send reject')
+    table.ann.reads('sent as it is: reject')
+    same('rows that are not true', [row for row in rows_up_to(table, 'You reject. The game continues.')
+                                    if read(row)[0] not in ('', 'answer')], [])
+    never_advised(table.ann, ('hint', 'go on', 'answer', 'board', 'old'))
+
+
+def rows_up_to(table, last):
+    """The rows that she reads up to one."""
+    rows = [table.ann.next_line()]
+    while rows[-1] != last:
+        rows.append(table.ann.next_line())
+    return rows
+
+
+SCENES += [a_board_comes_after_the_roll_that_a_refused_double_leads_on_to,
+           a_board_that_gives_the_turn_away_comes_after_the_answer, a_board_that_shows_her_move_comes_after_the_answer]
 
 
 def says_the_offer_again(typed):

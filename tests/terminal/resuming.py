@@ -2,9 +2,10 @@
 
 import time
 
-from offers import (ANN_BEGINS, BOB_BEGINS, ann_is_to_roll, ann_rolls, bob_is_to_roll, goes_on_to_the_next_game,
-                    never_advised)
-from people import PASSWORD, Client, at_a_table, near_and_far
+from offers import (ANN_BEGINS, BOB_BEGINS, ann_is_to_roll, ann_rolls, bob_is_to_roll, bob_resigns,
+                    goes_on_to_the_next_game, never_advised)
+from people import PASSWORD, Client, at_a_table, near_and_far, same
+from words import read
 
 SCENES = []
 
@@ -53,6 +54,22 @@ def he_leaves_before_she_moves_and_comes_back(table):
     moves_as(table, 'hint', 'move')
 
 
+@near_and_far(SCENES, *ANN_BEGINS)
+def a_new_match_after_one_that_he_left(table):
+    """The hint of the old board does not come once more before the first board of the new match."""
+    table.begins()
+    table.ann.hint()
+    table.bob.send('leave')
+    table.ann.advised('gone')
+    table.begins()
+    table.ann.reads('You rolled 4, bob rolled 2')
+    rows = []
+    while not (row := table.ann.next_line()).startswith(' +'):
+        rows.append(row)
+    same('hints before the board', [row for row in rows if read(row)[0] == 'hint'], [])
+    moves_as(table, 'hint', 'move')
+
+
 @near_and_far(SCENES, *BOB_BEGINS, '--say-how')
 def he_drops_while_she_thinks_and_invites_her(table):
     """She is told that he may, and joins him."""
@@ -70,6 +87,18 @@ def comes_again(table):
     """Bob logs in again, and now the match that was saved can go on: she is told so."""
     table.bob = Client(table.server.port, 'bob')
     table.ann.advised('gone', 'invite bob')
+
+
+@near_and_far(SCENES, *BOB_BEGINS, '--say-how', '--no-changes')
+def he_drops_and_logs_in_again_and_no_list_says_so(table):
+    """A server need not list him when he comes. She invites him all the same."""
+    ann_is_to_roll(table)
+    table.bob.close()
+    table.ann.reads('bob drops connection. The game was saved.')
+    comes_again(table)
+    table.ann.type('help')
+    takes_up(table)
+    ann_rolls(table, 'hint')
 
 
 @near_and_far(SCENES, *BOB_BEGINS, '--no-board', 'resume')
@@ -335,6 +364,39 @@ def a_connection_that_ends_at_a_server_that_keeps_the_game(table):
     Client(table.server.port, 'ann', PASSWORD).close()
     table.ann.types_what('open', 'open')
     table.ann.reads('Welcome, ann')
+    ann_rolls(table, 'hint')
+
+
+def comes_again_while_he_waits(table):
+    """Her connection ends while he offers to resign, and the new one does not tell it again."""
+    bob_resigns(table)
+    table.ann.advised('answer')
+    Client(table.server.port, 'ann', PASSWORD).close()
+    table.ann.types_what('open', 'open')
+    table.ann.reads('Welcome, ann')
+    never_advised(table.ann, ('hint', 'go on', 'answer', 'board', 'old'), 2.0)
+    table.ann.type('help')
+
+
+@near_and_far(SCENES, *ANN_BEGINS, '--keep-games')
+def an_offer_that_is_open_while_she_connects_again(table):
+    """She is told how it is answered if she asks."""
+    comes_again_while_he_waits(table)
+    table.ann.types_what('wait', 'send accept', 'send reject')
+    table.bob.sees('ann accepts and wins 1 point.')
+    goes_on_to_the_next_game(table)
+
+
+@near_and_far(SCENES, *ANN_BEGINS, '--keep-games', '--play-past-offers')
+def an_offer_that_is_over_when_she_answers(table):
+    """He has played on meanwhile. She is not told any more that he waits."""
+    bob_resigns(table)
+    table.ann.advised('answer')
+    table.bob.send('roll')
+    table.ann.type('send accept')
+    table.ann.reads("** Your opponent didn't double or resign.")
+    never_advised(table.ann, ('answer', 'board', 'old'))
+    table.bob.send('move 1-5 12-14')
     ann_rolls(table, 'hint')
 
 

@@ -31,6 +31,9 @@ TERMINALS = 'xterm', 'dumb'
 EDGE = re.compile(r' \+[-\d]+\+---\+[-\d]+\+.*')
 # what somebody has said, at a time
 SAID = re.compile(r'\d\d:\d\d ')
+# the server refuses a double; a game begins, or goes on after a pause, of which nothing of before is known
+FORBIDS = re.compile(r"\*\* (?:You can't double|The Crawford rule)")
+BEGINS = re.compile('connected to |Starting a new game with |You are now playing with |\\S+ has joined you')
 # how the second of two rows begins
 SECOND = 'or join ', 'then open'
 HINT_ALONE = ('hint', 'go on', 'answer', 'board', 'doubles', 'next', 'gone', 'invited', 'auto', 'open')
@@ -92,6 +95,8 @@ class Seat:
         # a line that was typed, and is neither sent nor refused yet
         self.awaited, self.rescue = '', None
         self.has_asked = self.is_stuck = self.is_over = self.is_invited = False
+        # the server has refused a double in this game
+        self.has_refused_double = False
         self.counts, self.faults, self.stalls, self.alarms = Counter(), [], [], []
         # rows since the last move
         self.since_move, self.turns = None, []
@@ -140,15 +145,19 @@ class Seat:
             self.judge_picture(picture)
         if row.startswith('connected to '):
             self.sent.append([])
+        if FORBIDS.match(row):
+            self.has_refused_double = True
+        elif BEGINS.match(row):
+            self.has_refused_double = False
         is_said = self.follow_the_server(row)
         if len(row) > 79 and not is_said and not SAID.match(row):
             self.counts['rows wider than 79 columns'] += 1
             self.alarm('a row of %d columns' % len(row), row)
         if line := sent_by(row):
-            # what was named before a decision is done
-            if line == self.awaited.removeprefix('send ') and line != 'board':
-                self.row = None
-            self.awaited = ''
+            # what was named before a decision is done; what was sent may be another line, typed before it
+            if line == self.awaited.removeprefix('send '):
+                self.awaited = ''
+                self.row = self.row if line == 'board' else None
             self.sent[-1].append(line)
             self.counts['lines sent'] += 1
             self.note_turn(line)
@@ -236,12 +245,18 @@ class Seat:
         if kind == 'wait':
             return self.verdict_of_waiting(moments, row)
         lines = [line.removeprefix('send ') for line in lines if line not in ('bye', 'open', 'quit')]
-        taken = [[one.takes(self.name, line) for line in lines] for one in moments]
+        taken = [[self.is_taken(one, line) for line in lines] for one in moments]
         if any(all(one) for one in taken):
             return 'right'
         if any(any(one) for one in taken):
             return 'one of two lines is not taken'
         return 'wrong remedy' if any(one.must_act(self.name) for one in moments) else 'false'
+
+    def is_taken(self, moment, line):
+        """True if the server would carry a line out, or has told the player so: a board whose flags allow a double says
+        more than the rules, until the server has refused one in this game."""
+        return moment.takes(self.name, line) or (
+            line == 'double' and not self.has_refused_double and moment.shows_double(self.name))
 
     def verdict_of_waiting(self, moments, row):
         if 'has not answered' in row:

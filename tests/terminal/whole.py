@@ -200,9 +200,8 @@ def table(results):
             len(turns), turns[len(turns) // 2], turns[len(turns) * 9 // 10], turns[-1])
 
 
-# What is wrong whenever it comes; and what is false as it is read, but may have crossed a line that changes it.
-WRONG = 'pictures that no board had', 'wider'
-FALSE = 'false', 'wrong remedy', 'had named it'
+# What is never to be counted: rows that are false by all that had come to the screen, or could have, and pictures.
+BAD = 'false', 'wrong remedy', 'is not taken', 'had named it', 'pictures that no board had', 'wider'
 
 
 def counted(result, words):
@@ -210,14 +209,9 @@ def counted(result, words):
     return sum(count for name, count in result['counts'].items() if any(word in name for word in words))
 
 
-def is_kept_going(result):
-    """True if nothing stood still, and nothing was drawn or sent otherwise than it is."""
-    return result['ended'] and not result['stalls'] and not result['faults'] and not counted(result, WRONG)
-
-
 def is_sound(result):
-    """True if, besides, nothing was false."""
-    return is_kept_going(result) and not counted(result, FALSE)
+    """True if nothing stood still, nothing was false, and nothing was drawn or sent otherwise than it is."""
+    return result['ended'] and not result['stalls'] and not result['faults'] and not counted(result, BAD)
 
 
 def report(results):
@@ -242,13 +236,9 @@ def report(results):
 
 
 def thirty_matches_by_the_screen_alone():
-    """Side by side: nobody stands still, and of the rows that advise at most one in 200 is false: it has crossed a
-    line of the server."""
+    """Side by side: nobody stands still, and no row is false."""
     results = asyncio.run(play_all(range(MATCHES), SEED, BESIDE, lambda *_: None))
-    said = sum(counted(result, ('row ',)) for result in results)
-    false = sum(counted(result, FALSE) for result in results)
-    is_good = is_kept_going if 200 * false <= said else is_sound
-    bad = [(number, result) for number, result in enumerate(results) if not is_good(result)]
+    bad = [(number, result) for number, result in enumerate(results) if not is_sound(result)]
     if bad:
         number, result = bad[0]
         raise Failed('%d of %d matches, the first is %d: ended %s, stalls %r, alarms %r, faults %r' % (

@@ -11,6 +11,7 @@ from people import ROOT
 sys.path.insert(0, str(ROOT / 'examples' / 'fibs_server'))
 
 import rules
+from boards import doublers_of
 from match import Against
 from room import Room
 from wire import Link
@@ -43,7 +44,7 @@ class Moment:
             self.match = copy.copy(table.match)
             self.match.position = list(table.match.position)
             self.joined = {table.match.names[side] for side in table.joined}
-        self.plays_past_offers = room.habits.plays_past_offers
+        self.habits = room.habits
 
     def side(self, name):
         return self.match.names.index(name)
@@ -84,13 +85,21 @@ class Moment:
         """True if this decision would be carried out."""
         if word in ('accept', 'reject'):
             return 1 - side in (match.doubler, match.resigner)
-        if match.turn != side or match.doubler is not None or match.is_open() and not self.plays_past_offers:
+        if match.turn != side or match.doubler is not None or match.is_open() and not self.habits.plays_past_offers:
             return False
         if word == 'move':
             return bool(match.dice) and self.is_legal(match, side, rest)
         if word == 'double':
             return not match.dice and match.may_double(side)
         return word == 'resign' or word == 'roll' and not match.dice
+
+    def shows_double(self, name):
+        """True if the player is to roll, and his board says that he may double. The server may refuse it all the same."""
+        match = self.match
+        if match is None or not match.is_on or match.dice or match.is_open():
+            return False
+        side = self.side(name)
+        return match.turn == side and bool(doublers_of(match, side, self.habits)[0])
 
     def is_legal(self, match, side, rest):
         steps = []

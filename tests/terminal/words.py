@@ -17,11 +17,13 @@ SENDS = r'(%s)(?:, or (%s))?' % (SEND, SEND)
 ROWS = [(kind, re.compile(form), more) for kind, form, *more in [
     ('hint', r'Your turn: (roll)\.'),
     ('hint', r'Your turn: (roll), or (double)\.'),
+    ('hint', r'Your turn: (roll); the server refused a double in this game\.'),
     ('hint', r'You are offered a double: (accept), or (reject)\.'),
     ('hint', r'You are offered a double: (reject)\.'),
     ('hint', r'Your move, as in: (%s)' % MOVE),
     ('answer', r'\S+ offers to resign: (send accept), or (send reject)\.'),
     ('answer', r'\S+ waits for your answer: (send accept), or (send reject)\.'),
+    ('wait', r'\S+ may wait for your answer: (send accept), or (send reject)\.'),
     ('doubles', r'\S+ doubles: (board), then accept, or reject\.'),
     ('board', r'It may be your turn: (board) shows the game\.'),
     ('board', r'\S+ was refused: (board) shows the game\.'),

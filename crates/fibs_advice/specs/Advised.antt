@@ -13,7 +13,7 @@ use Rattle.fibs_history.specs.Machine.{Talk, shown_now, unconfirmed_now, plain_r
 use Rattle.fibs_history.specs.Words.{Ask}
 use Rattle.fibs_advice.specs.Offers.{OffersNow, is_taken, may_decide, hint_text}
 use Rattle.fibs_advice.specs.Standings.{hides_offers, repeats, owes_answer}
-use Rattle.fibs_advice.specs.Rows.{answers, plain_in, shows_offers, words_before, words_after}
+use Rattle.fibs_advice.specs.Rows.{answers, plain_in, rolls_alone, shows_offers, words_before, words_after}
 use Rattle.fibs_advice.specs.declared.row.Row.{Row}
 use Rattle.fibs_advice.specs.declared.row.Row.TheVariants as R
 use Rattle.fibs_advice.specs.declared.standing.Standing.{Standing}
@@ -46,6 +46,7 @@ pub record MayAnswer (t : Talk) (standing : Standing) : Type 0 where
 pub record Advises (t : Talk) (standing : Standing) (a : Advice) : Type 0 where
   pub offers : OffersNow t a.offers
   pub shown : hides_offers standing ≡ false → may_decide a.offers ≡ true → shows_offers a.row ≡ true
+  pub rolls : rolls_alone a.row ≡ true → a.offers.roll ≡ true
   pub plain : IfSome (plain_in a.row) (λ p. plain_refusal t p ≡ None)
   pub automove : a.automove ≡ true → plain_refusal t automove_off ≡ None
   pub greedy : a.greedy ≡ true → plain_refusal t greedy_off ≡ None
@@ -103,6 +104,7 @@ resumes_text opponent = invite_words opponent ++ (opponent ++ codes ".\n")
 abbrev pub beginning : Row → List ℕ → List ℕ → List ℕ
 beginning R.Resigns who word = who
 beginning R.Owes who word = who
+beginning R.Unsettled who word = who
 beginning R.Doubles who word = who
 beginning R.Declined who word = who
 beginning R.Thinks who word = who

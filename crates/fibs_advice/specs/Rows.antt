@@ -8,17 +8,25 @@ use Rattle.fibs_advice.specs.declared.row.Row.TheVariants as R
 abbrev pub answers : Row → Bool
 answers R.Resigns = true
 answers R.Owes = true
+answers R.Unsettled = true
 answers row = false
 
 -- it says what the client takes now
 abbrev pub shows_offers : Row → Bool
 shows_offers R.Offers = true
+shows_offers R.Undoubled = true
 shows_offers R.Resigns = true
 shows_offers R.Owes = true
 shows_offers row = false
 
+-- it says that the user may roll, and of a double only that the server has refused one
+abbrev pub rolls_alone : Row → Bool
+rolls_alone R.Undoubled = true
+rolls_alone row = false
+
 -- it is said only if the user asks: there is nothing to do then, or it is not sure
 abbrev pub is_asked_for : Row → Bool
+is_asked_for R.Unsettled = true
 is_asked_for R.Back = true
 is_asked_for R.Thinks = true
 is_asked_for R.Waits = true
@@ -40,9 +48,11 @@ abbrev pub words_before : Row → List ℕ
 words_before R.Nothing = []
 words_before R.Offers = []
 words_before R.NotLoggedIn = codes "Not logged in: wrong name or password? quit, and begin again.\n"
+words_before R.Undoubled = codes "Your turn: roll; the server refused a double in this game.\n"
 words_before R.ServerPlays = codes "The server plays for you: "
 words_before R.Resigns = codes " offers to resign: send accept, or send reject.\n"
 words_before R.Owes = codes " waits for your answer: send accept, or send reject.\n"
+words_before R.Unsettled = codes " may wait for your answer: send accept, or send reject.\n"
 words_before R.Doubles = codes " doubles: board, then accept, or reject.\n"
 words_before R.Turn = codes "It may be your turn: board shows the game.\n"
 words_before R.Declined = codes " declined? Go on: "

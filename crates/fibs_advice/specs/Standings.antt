@@ -9,10 +9,12 @@ repeats S.Same = true
 repeats S.Back = true
 repeats standing = false
 
--- an offer of the opponent waits for the user, of which texts alone tell
+-- an offer of the opponent waits for the user, of which texts alone tell; or it did when a connection ended, and
+-- nothing is known of it since
 abbrev pub owes_answer : Standing → Bool
 owes_answer S.Resigned = true
 owes_answer S.Owed = true
+owes_answer S.Unsettled = true
 owes_answer standing = false
 
 -- what the client takes is not what the user waits for: there is no game, or its board is still to come, or an offer is
@@ -29,4 +31,5 @@ hides_offers S.Joined = true
 hides_offers S.Gone = true
 hides_offers S.Reopened = true
 hides_offers S.Anew = true
+hides_offers S.Fresh = true
 hides_offers standing = false

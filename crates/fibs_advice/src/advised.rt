@@ -5,7 +5,7 @@ ghost use Rattle.fibs_position.specs.DecisionValue.{decision_of};
 ghost use Rattle.fibs_commands.specs.PlainOf.{plain_value};
 ghost use Rattle.fibs_session.specs.Calls.Standing.{StandsAfter};
 ghost use Rattle.fibs_advice.specs.Advised.{Advises, IsAnother, MayAnswer, MaySend, rules_allow};
-ghost use Rattle.fibs_advice.specs.Rows.{answers, plain_in, shows_offers};
+ghost use Rattle.fibs_advice.specs.Rows.{answers, plain_in, rolls_alone, shows_offers};
 ghost use Rattle.fibs_advice.specs.Standings.{hides_offers};
 ghost use Rattle.fibs_advice.specs.Offers.{may_decide};
 
@@ -121,23 +121,34 @@ fn says_offers(standing: Standing, offers: &Offers, row: Row) -> bool
     standing.hides_offers() || !offers.may_decide() || row.shows_offers()
 }
 
+/// Whether a row that says that the user may roll is true.
+fn may_roll(offers: &Offers, row: Row) -> bool
+    ensures { IsTrue result → rolls_alone row ≡ true → offers.now.roll ≡ true }
+{
+    !row.rolls_alone() || offers.roll
+}
+
 /// Whether all that a row names may be typed.
-fn is_true(client: &Client, standing: Standing, row: Row) -> bool
+fn is_true(client: &Client, standing: Standing, offers: &Offers, row: Row) -> bool
+    ensures rolls { IsTrue result → rolls_alone row ≡ true → offers.now.roll ≡ true }
     ensures plain { IsTrue result → (t : Talk) → StandsAfter client.now t →
         IfSome (plain_in row) (λ p. plain_refusal t p ≡ None) }
     ensures answer { IsTrue result → answers row ≡ true → (t : Talk) → StandsAfter client.now t → MayAnswer t standing }
 {
-    is_row_taken(client, row) && (!row.answers() || may_answer(client, standing))
+    may_roll(offers, row)
+        && is_row_taken(client, row)
+        && (!row.answers() || may_answer(client, standing))
 }
 
 /// A row, if it is true and leaves nothing out that the client takes now; else what the client takes.
 fn true_row(client: &Client, standing: Standing, offers: &Offers, row: Row) -> Row
     ensures shown { hides_offers standing ≡ false → may_decide offers.now ≡ true → shows_offers result ≡ true }
+    ensures rolls { rolls_alone result ≡ true → offers.now.roll ≡ true }
     ensures plain { (t : Talk) → StandsAfter client.now t →
         IfSome (plain_in result) (λ p. plain_refusal t p ≡ None) }
     ensures answer { answers result ≡ true → (t : Talk) → StandsAfter client.now t → MayAnswer t standing }
 {
-    if is_true(client, standing, row) && says_offers(standing, offers, row) {
+    if is_true(client, standing, offers, row) && says_offers(standing, offers, row) {
         row
     } else {
         Row::Offers
@@ -258,11 +269,25 @@ fn row_of_turn(offers: &Offers) -> Row {
     }
 }
 
+/// What is said after the user has declined an offer to resign, or a game has begun: if it is his turn, its board is
+/// still to come.
+fn row_of_continued(client: &Client, is_due: bool) -> Row {
+    if is_due {
+        Row::Turn
+    } else if client.waiting().is_some() {
+        Row::Waits
+    } else {
+        Row::Nothing
+    }
+}
+
 /// What is said in a game.
-fn row_in_game(client: &Client, standing: Standing, offers: &Offers, has_way: bool) -> Row {
+fn row_in_game(client: &Client, situation: &Situation, offers: &Offers, has_way: bool) -> Row {
+    let standing = situation.standing;
     match standing {
         Standing::Resigned => Row::Resigns,
         Standing::Owed => Row::Owes,
+        Standing::Unsettled => Row::Unsettled,
         Standing::Offered => Row::Thinks,
         Standing::Doubled => Row::Doubles,
         Standing::Refused | Standing::Same => row_of_refused(client, standing, has_way),
@@ -270,8 +295,8 @@ fn row_in_game(client: &Client, standing: Standing, offers: &Offers, has_way: bo
         Standing::Anew if client.waiting().is_none() => Row::Nothing,
         Standing::Asked | Standing::Anew => row_of_waiting(client),
         Standing::Due => row_of_turn(offers),
-        Standing::Continued if is_deciding(client) => Row::Turn,
-        Standing::Answered | Standing::Continued => Row::Nothing,
+        Standing::Answered => Row::Nothing,
+        Standing::Continued | Standing::Fresh => row_of_continued(client, situation.is_due),
         Standing::Playing if client.game().is_none() => Row::Turn,
         _ => Row::Offers,
     }
@@ -334,7 +359,16 @@ fn row_of(
         Standing::Gone | Standing::Reopened | Standing::Invited => {
             row_of_saved(situation, aside.is_listed)
         }
-        _ => row_in_game(client, standing, offers, has_way),
+        _ => row_in_game(client, situation, offers, has_way),
+    }
+}
+
+/// A row, but that of what the client takes if the server has refused a double in this game.
+fn unless_refused(situation: &Situation, offers: &Offers, row: Row) -> Row {
+    if row == Row::Offers && offers.double && situation.refuses_double {
+        Row::Undoubled
+    } else {
+        row
     }
 }
 
@@ -358,7 +392,12 @@ pub fn advised(
     let has_way = send.is_some() || other.is_some();
     let row = row_of(client, situation, aside, &offers, has_way);
     Ok(Advice {
-        row: true_row(client, standing, &offers, row),
+        row: true_row(
+            client,
+            standing,
+            &offers,
+            unless_refused(situation, &offers, row),
+        ),
         offers,
         automove: is_plain_taken(client, &Plain::AutomoveOff),
         greedy: is_plain_taken(client, &Plain::GreedyOff),

@@ -1,7 +1,8 @@
 //! Rows: what is said to who plays, and what they name.
 ghost use Rattle.std.specs.Prelude.{◌≡◌, option_map};
 ghost use Rattle.fibs_commands.specs.PlainOf.{plain_value};
-ghost use Rattle.fibs_advice.specs.Rows.{plain_in, answers, is_asked_for, shows_offers, words_before, words_after};
+ghost use Rattle.fibs_advice.specs.Rows.{plain_in, answers, is_asked_for, rolls_alone, shows_offers};
+ghost use Rattle.fibs_advice.specs.Rows.{words_before, words_after};
 
 use fibs_commands::Plain;
 
@@ -14,12 +15,16 @@ pub enum Row {
     NotLoggedIn,
     /// What the client takes now.
     Offers,
+    /// That the user may roll, and that the server has refused a double in this game.
+    Undoubled,
     /// That the server plays by itself, and how one plays oneself.
     ServerPlays,
     /// That the opponent offers to resign, and how that is answered.
     Resigns,
     /// That the opponent waits for an answer, and how it is given.
     Owes,
+    /// That the opponent may wait for an answer, and how it is given.
+    Unsettled,
     /// That the opponent doubles: the board has to say so first.
     Doubles,
     /// That it may be the user's turn: the board says it.
@@ -53,7 +58,7 @@ impl Row {
     pub fn answers(self) -> bool
         ensures { result ≡ answers self }
     {
-        matches!(self, Row::Resigns | Row::Owes)
+        matches!(self, Row::Resigns | Row::Owes | Row::Unsettled)
     }
 
     /// The line that it names, if that has no argument and decides nothing.
@@ -71,7 +76,17 @@ impl Row {
     pub fn shows_offers(self) -> bool
         ensures { result ≡ shows_offers self }
     {
-        matches!(self, Row::Offers | Row::Resigns | Row::Owes)
+        matches!(
+            self,
+            Row::Offers | Row::Undoubled | Row::Resigns | Row::Owes
+        )
+    }
+
+    /// Whether it says that the user may roll, and of a double only that the server has refused one.
+    pub fn rolls_alone(self) -> bool
+        ensures { result ≡ rolls_alone self }
+    {
+        self == Row::Undoubled
     }
 
     /// Whether it is said only if the user asks: by `help`, `board`, or a word that is refused. There is nothing to do
@@ -81,7 +96,7 @@ impl Row {
     {
         matches!(
             self,
-            Row::Back | Row::Thinks | Row::Waits | Row::Joined | Row::Absent
+            Row::Unsettled | Row::Back | Row::Thinks | Row::Waits | Row::Joined | Row::Absent
         )
     }
 
@@ -92,9 +107,11 @@ impl Row {
         match self {
             Row::Nothing | Row::Offers => b"",
             Row::NotLoggedIn => b"Not logged in: wrong name or password? quit, and begin again.\n",
+            Row::Undoubled => b"Your turn: roll; the server refused a double in this game.\n",
             Row::ServerPlays => b"The server plays for you: ",
             Row::Resigns => b" offers to resign: send accept, or send reject.\n",
             Row::Owes => b" waits for your answer: send accept, or send reject.\n",
+            Row::Unsettled => b" may wait for your answer: send accept, or send reject.\n",
             Row::Doubles => b" doubles: board, then accept, or reject.\n",
             Row::Turn => b"It may be your turn: board shows the game.\n",
             Row::Declined => b" declined? Go on: ",

@@ -127,6 +127,7 @@ fn beginning<'a>(row: Row, who: &'a [u8], word: &'a [u8]) -> &'a [u8]
     match row {
         Row::Resigns
         | Row::Owes
+        | Row::Unsettled
         | Row::Doubles
         | Row::Declined
         | Row::Thinks

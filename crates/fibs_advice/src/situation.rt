@@ -45,10 +45,17 @@ pub struct Situation {
     waiting: Waiting,
     /// Whether the user was to roll or to move on the board that came last, until the opponent plays.
     turn: Option<Told>,
+    /// Whether the user has the turn and has not decided, as far as is known. No offer of the opponent ends that.
+    pub(crate) is_due: bool,
+    /// Whether an offer of the opponent was open when the connection before this one ended, and nothing was heard of the
+    /// match since.
+    has_offer: bool,
     /// Whether a login was sent on this connection, and the server has not greeted the user.
     logs_in: bool,
     /// Whether a message has come since that is not the greeting.
     hears_others: bool,
+    /// Whether the opponent has logged in on this connection, and not out again. Servers need not list him then.
+    pub has_come: bool,
     /// Whether the message of the day is being said: its lines may have any words.
     is_motd: bool,
 }
@@ -102,14 +109,18 @@ impl Situation {
             asks_board: false,
             waiting: Waiting::Nothing,
             turn: None,
+            is_due: false,
+            has_offer: false,
             logs_in: false,
             hears_others: false,
+            has_come: false,
             is_motd: false,
         }
     }
 
     /// A connection was made: nothing waits on it.
     pub fn hear_opened(&mut self) {
+        self.has_offer = self.has_offer || self.standing.has_offer();
         self.standing = if self.opponent.is_empty() {
             Standing::Free
         } else {
@@ -119,8 +130,10 @@ impl Situation {
         self.asks_board = false;
         self.waiting = Waiting::Nothing;
         self.turn = None;
+        self.is_due = false;
         self.logs_in = true;
         self.hears_others = false;
+        self.has_come = false;
         self.is_motd = false;
     }
 
@@ -129,8 +142,20 @@ impl Situation {
         self.logs_in = false;
     }
 
+    /// A player has logged in.
+    pub fn hear_login(&mut self, name: &[u8]) {
+        self.hears_others = true;
+        if self.opponent.as_slice() == name {
+            self.has_come = true;
+        }
+    }
+
     /// A player has logged out: nobody is invited by him any more.
     pub fn hear_logout(&mut self, name: &[u8]) {
+        self.hears_others = true;
+        if self.opponent.as_slice() == name {
+            self.has_come = false;
+        }
         if self.inviter.as_slice() == name {
             self.standing = self.standing.after_not_invited();
         }
@@ -139,11 +164,6 @@ impl Situation {
     /// The message of the day begins, or ends.
     pub fn hear_motd(&mut self, begins: bool) {
         self.is_motd = begins;
-    }
-
-    /// Another message has come.
-    pub fn hear_others(&mut self) {
-        self.hears_others = true;
     }
 
     /// Whether the login was refused, by the line that has not ended: the server asks for it, or has said something
@@ -157,6 +177,7 @@ impl Situation {
         if let Some(waiting) = decision_in(command) {
             self.waiting = waiting;
             self.asks_board = false;
+            self.is_due = false;
             self.standing = self.standing.after_sent();
             return true;
         }
@@ -171,8 +192,11 @@ impl Situation {
     /// The user has sent a line as it is.
     pub fn hear_passed(&mut self, line: &[u8]) {
         if is_answer(line) {
+            self.asks_board = false;
             self.standing = self.standing.after_answer();
         } else if decision_in(line).is_some() {
+            self.asks_board = false;
+            self.is_due = false;
             self.standing = self.standing.after_sent();
         }
     }
@@ -190,6 +214,14 @@ impl Situation {
         self.standing == Standing::Asked && self.turn == Some(told)
     }
 
+    /// Keeps the name of the opponent. Of another one it is not known whether he has come.
+    fn keep_opponent(&mut self, name: &[u8]) {
+        if self.opponent.as_slice() != name {
+            self.has_come = false;
+            keep_name(name, &mut self.opponent);
+        }
+    }
+
     /// Keeps the name that a text has: of who invites the user, or of the opponent.
     fn keep_name_of(&mut self, report: &Report<'_>) {
         if report.name.is_empty() {
@@ -197,8 +229,8 @@ impl Situation {
         }
         match report.told {
             Told::Invited => keep_name(report.name, &mut self.inviter),
-            Told::Begins | Told::Joined => keep_name(report.name, &mut self.opponent),
-            _ if self.opponent.is_empty() => keep_name(report.name, &mut self.opponent),
+            Told::Begins | Told::Resumes | Told::Joined => self.keep_opponent(report.name),
+            _ if self.opponent.is_empty() => self.keep_opponent(report.name),
             _ => {}
         }
     }
@@ -216,14 +248,30 @@ impl Situation {
         Some(report.told)
     }
 
+    /// Takes note of what a text says of the turn. A decision that is refused while one waits is the one that waits,
+    /// unless an offer was just answered.
+    fn note_turn(&mut self, told: Told) {
+        match told {
+            Told::ToRoll | Told::ToMove => self.is_due = true,
+            Told::Refused | Told::NoDouble | Told::MustAnswer
+                if self.waiting != Waiting::Nothing && self.standing != Standing::Answered => {
+                self.is_due = true;
+            }
+            Told::Plays | Told::Begins | Told::Resumes => self.is_due = false,
+            _ => {}
+        }
+    }
+
     /// Hears what a text says.
     fn hear_report(&mut self, report: &Report<'_>) {
+        self.has_offer = false;
+        self.note_turn(report.told);
         let after = self.standing.after(report.told);
-        if after != self.standing || report.told == Told::Begins {
+        if after != self.standing || matches!(report.told, Told::Begins | Told::Resumes) {
             self.keep_name_of(report);
         }
         match report.told {
-            Told::Begins => self.refuses_double = false,
+            Told::Begins | Told::Resumes => self.refuses_double = false,
             Told::NoDouble => self.refuses_double = true,
             Told::Plays => self.turn = None,
             Told::MatchOver | Told::NoMatch if after != self.standing => self.opponent.clear(),
@@ -247,16 +295,42 @@ impl Situation {
 
     /// Hears a board of the user's game. If it confirms the decision that waits, that is said next.
     pub fn hear_board(&mut self, game: &GameBoard) {
-        keep_name(game.board().opponent().bytes(), &mut self.opponent);
+        self.keep_opponent(game.board().opponent().bytes());
         let shown = self.shown_by(game);
         self.standing = self.standing.after_board(shown, self.asks_board);
         self.asks_board = false;
         self.turn = turn_of(game.phase());
+        self.note_due();
+        self.note_unsettled(game.phase());
+    }
+
+    /// Takes note of an offer that was open when the connection before this one ended. If a board shows that the
+    /// opponent has the turn, he may wait for the answer; else the board says what is to be done.
+    fn note_unsettled(&mut self, phase: Phase) {
+        self.has_offer = self.has_offer && phase == Phase::OpponentActs;
+        if self.has_offer {
+            self.standing = self.standing.after_unsettled();
+        }
+    }
+
+    /// Whether the board that came last may show an offer to resign: such a board gives the turn away, and then the
+    /// user's dice alone say that the turn is his.
+    fn is_turn_hidden(&self) -> bool {
+        let has_offer = self.standing.owes_answer() || self.standing == Standing::Answered;
+        has_offer && self.turn != Some(Told::ToMove)
+    }
+
+    /// Takes note of the turn that a board shows, if no decision waits that was made before it.
+    fn note_due(&mut self) {
+        if !self.is_turn_hidden() && (self.waiting == Waiting::Nothing || self.standing.repeats()) {
+            self.is_due = self.turn.is_some();
+        }
     }
 
     /// The board that came last confirms the decision that waited.
     pub fn hear_confirmed(&mut self) {
         self.waiting = Waiting::Nothing;
         self.standing = self.standing.after_confirmed();
+        self.note_due();
     }
 }

@@ -31,6 +31,8 @@ pub enum Standing {
     Resigned,
     /// The opponent has made an offer that no board shows: a double, or one that no text has named.
     Owed,
+    /// An offer of the opponent was open when the connection before this one ended, and nothing was heard of it since.
+    Unsettled,
     /// The user has answered an offer of which texts alone told, and no board has come since.
     Answered,
     /// The user has declined an offer to resign, and no board has come since.
@@ -45,9 +47,11 @@ pub enum Standing {
     Gone,
     /// A connection was made after one on which there was an opponent, and nothing is known of the match.
     Reopened,
-    /// A match or a game has begun, or was resumed, and no board has come since.
+    /// A match was resumed, and no board has come since.
     Anew,
-    /// The same, and its board is the one on which the decision that waits was made.
+    /// A game has begun, and no board of it has come.
+    Fresh,
+    /// A match was resumed or a game has begun, and its board is the one on which the decision that waits was made.
     Back,
 }
 
@@ -82,7 +86,10 @@ impl Standing {
     pub fn owes_answer(self) -> bool
         ensures { result ≡ owes_answer self }
     {
-        matches!(self, Standing::Resigned | Standing::Owed)
+        matches!(
+            self,
+            Standing::Resigned | Standing::Owed | Standing::Unsettled
+        )
     }
 
     /// Whether an offer of the opponent is told by texts, and no board shows it.
@@ -108,6 +115,7 @@ impl Standing {
                 | Standing::Gone
                 | Standing::Reopened
                 | Standing::Anew
+                | Standing::Fresh
         )
     }
 
@@ -127,7 +135,8 @@ impl Standing {
     /// The state after a text.
     pub fn after(self, told: Told) -> Standing {
         match told {
-            Told::Begins => Standing::Anew,
+            Told::Begins => Standing::Fresh,
+            Told::Resumes => Standing::Anew,
             Told::Doubles => Standing::Doubled,
             Told::Resigns => Standing::Resigned,
             Told::Joined => Standing::Joined,
@@ -162,7 +171,8 @@ impl Standing {
             | Standing::Same
             | Standing::Doubled
             | Standing::Resigned
-            | Standing::Owed => self,
+            | Standing::Owed
+            | Standing::Fresh => self,
             _ => Standing::Due,
         }
     }
@@ -205,8 +215,11 @@ impl Standing {
     fn after_game_text(self, told: Told) -> Standing {
         match told {
             Told::Declined if self != Standing::Playing && !self.keeps_offer() => Standing::Refused,
+            Told::NoOffer if self.has_offer() => Standing::Continued,
             Told::Refused if self == Standing::Answered => Standing::Owed,
-            Told::Refused | Told::NoDouble if !self.keeps_offer() => Standing::Refused,
+            Told::Refused | Told::NoDouble | Told::NoOffer if !self.keeps_offer() => {
+                Standing::Refused
+            }
             Told::Offered => Standing::Offered,
             Told::MustAnswer if !self.keeps_offer() => Standing::Owed,
             Told::Taken => Standing::Taken,
@@ -214,6 +227,11 @@ impl Standing {
             Told::Plays if !self.keeps_while_he_plays() => Standing::Asked,
             _ => self,
         }
+    }
+
+    /// Whether an offer of the opponent is told by texts, or was just answered.
+    pub fn has_offer(self) -> bool {
+        self == Standing::Answered || self.is_told_by_text()
     }
 
     /// Whether a refusal changes nothing: an offer of the opponent, or his answer, is known.
@@ -234,6 +252,7 @@ impl Standing {
                 | Standing::Answered
                 | Standing::Continued
                 | Standing::Anew
+                | Standing::Fresh
         )
     }
 
@@ -245,7 +264,7 @@ impl Standing {
             Shown::Double => Standing::Playing,
             Shown::DoubleStands => self.after_double_stands(asked),
             _ if self == Standing::Doubled => self.after_undoubled(asked),
-            _ if self.owes_answer() => self,
+            _ if self.owes_answer() && self != Standing::Unsettled => self,
             Shown::OfferStands => self.after_offer_stands(asked),
             Shown::Stands => self.after_stands(asked),
             Shown::Plain if self == Standing::Offered => self,
@@ -301,16 +320,26 @@ impl Standing {
 
     /// The state after a board that says nothing of the decision that waits.
     fn after_old_board(self) -> Standing {
-        if self.is_in_game() && self != Standing::Anew {
-            self
-        } else {
-            Standing::Back
+        match self {
+            Standing::Anew | Standing::Fresh => Standing::Back,
+            _ if self.is_in_game() => self,
+            _ => Standing::Back,
         }
     }
 
-    /// The state after the board that came last was found to confirm the decision that waited.
+    /// The state after a board on a new connection, if an offer was open when the one before it ended: while the
+    /// opponent has the turn, he may wait for the answer.
+    pub fn after_unsettled(self) -> Standing {
+        match self {
+            Standing::Playing => Standing::Unsettled,
+            _ => self,
+        }
+    }
+
+    /// The state after the board that came last was found to confirm the decision that waited. It says nothing of an
+    /// offer of which texts tell, nor of the answer that was just sent to one.
     pub fn after_confirmed(self) -> Standing {
-        if self.is_in_game() && !self.is_told_by_text() {
+        if self.is_in_game() && !self.has_offer() {
             Standing::Playing
         } else {
             self

@@ -14,6 +14,8 @@ pub enum Told {
     Refused,
     /// The server refused a double.
     NoDouble,
+    /// The server refused an answer: the opponent has made no offer.
+    NoOffer,
     /// The user's own offer is before the opponent.
     Offered,
     /// The opponent's offer is before the user.
@@ -44,8 +46,10 @@ pub enum Told {
     Saved,
     /// The user plays with nobody.
     NotPlaying,
-    /// A match or a game begins, or is resumed.
+    /// A match or a game begins.
     Begins,
+    /// A match is resumed.
+    Resumes,
     /// Somebody invites the user.
     Invited,
     /// No match with a player was saved.
@@ -76,7 +80,7 @@ const OF_A_PLAYER: [Shape; 14] = [
     (b"wins the ", b" match ", b"", Told::MatchOver),
     (b"doubles. Type ", b"accept", b"", Told::Doubles),
     (b"wants to resign. You will win ", b"", b"", Told::Resigns),
-    (b"has joined you", b"", b"", Told::Begins),
+    (b"has joined you", b"", b"", Told::Resumes),
     (
         b"wants to resume a saved match with you.",
         b"",
@@ -105,7 +109,7 @@ const NAMING: [Shape; 8] = [
         b"You are now playing with ",
         b" Your running match was loaded.",
         b"",
-        Told::Begins,
+        Told::Resumes,
     ),
     (b"Starting a new game with ", b"", b".", Told::Begins),
     (b"Type 'join ", b"", b"' to accept.", Told::Invited),
@@ -168,8 +172,8 @@ const OTHERS: [Shape; 40] = [
     (b"** You did already roll", b"", b"", Told::Refused),
     (b"** You have to ", b"", b"", Told::Refused),
     (b"** You must give", b"", b"", Told::Refused),
-    (b"** There is nothing to ", b"", b"", Told::Refused),
-    (b"** Your opponent didn't ", b"", b"", Told::Refused),
+    (b"** There is nothing to ", b"", b"", Told::NoOffer),
+    (b"** Your opponent didn't ", b"", b"", Told::NoOffer),
     (b"** Can't understand the move", b"", b"", Told::Refused),
     (b"** Syntax error in move", b"", b"", Told::Refused),
     (b"You double. Please wait", b"", b"", Told::Offered),

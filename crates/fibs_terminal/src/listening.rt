@@ -75,7 +75,7 @@ impl<'a, C: Clock + Drop> Screen<'a, C> {
     /// Takes note of what a text says of the match, and rings the bell if the opponent offers to resign.
     fn note_told(&mut self, said: &[u8]) -> Result<(), AllocError> {
         match self.memory.situation.hear_text(said) {
-            Some(Told::Begins) => {
+            Some(Told::Begins | Told::Resumes) => {
                 self.memory.forget_drawn();
                 Ok(())
             }
@@ -148,13 +148,10 @@ impl<'a, C: Clock + Drop> Screen<'a, C> {
                 self.memory.situation.hear_welcome();
                 self.memory.is_list_due = true;
             }
-            Message::Login { .. } => self.memory.situation.hear_others(),
+            Message::Login { name, .. } => self.memory.situation.hear_login(name.bytes()),
             Message::MotdBegin => self.memory.situation.hear_motd(true),
             Message::MotdEnd => self.memory.situation.hear_motd(false),
-            Message::Logout { name, .. } => {
-                self.memory.situation.hear_others();
-                self.memory.situation.hear_logout(name.bytes());
-            }
+            Message::Logout { name, .. } => self.memory.situation.hear_logout(name.bytes()),
             _ => {}
         }
     }

@@ -49,7 +49,7 @@ impl<'a, C: Clock + Drop> Screen<'a, C> {
     /// Whether the opponent is here. If no player is listed, nobody knows.
     fn is_listed(&self, directory: &Directory) -> bool {
         let opponent = self.memory.situation.opponent.as_slice();
-        directory.is_empty() || directory.get(opponent).is_some()
+        directory.is_empty() || directory.get(opponent).is_some() || self.memory.situation.has_come
     }
 
     /// Whether the server had time to answer the login.

@@ -6,7 +6,7 @@ use fibs_advice::told::{Told, read_told};
 type Row = (&'static str, Option<Told>, &'static str);
 
 /// Texts as servers print them, and texts that look like them.
-static TEXTS: [Row; 58] = [
+static TEXTS: [Row; 60] = [
     (
         "bob rejects. The game continues.",
         Some(Told::Declined),
@@ -49,7 +49,7 @@ static TEXTS: [Row; 58] = [
     ),
     (
         "bob has joined you. Your running match was loaded.",
-        Some(Told::Begins),
+        Some(Told::Resumes),
         "bob",
     ),
     (
@@ -96,7 +96,7 @@ static TEXTS: [Row; 58] = [
     ),
     (
         "You are now playing with bob. Your running match was loaded.",
-        Some(Told::Begins),
+        Some(Told::Resumes),
         "bob",
     ),
     ("Starting a new game with bob.", Some(Told::Begins), "bob"),
@@ -157,6 +157,12 @@ static TEXTS: [Row; 58] = [
         "",
     ),
     ("** You did already roll the dice.", Some(Told::Refused), ""),
+    ("** There is nothing to accept.", Some(Told::NoOffer), ""),
+    (
+        "** Your opponent didn't double or resign.",
+        Some(Told::NoOffer),
+        "",
+    ),
     ("** It's not your turn to move.", Some(Told::Refused), ""),
     (
         "** You have to roll the dice before you move.",
