@@ -603,7 +603,7 @@ def boards_of_every_malformed_kind(server):
 
 
 def odd_boards(server):
-    """All checkers on one place, the longest names and numbers: each is 14 lines of at most 79 columns."""
+    """All checkers on one place, the longest names and numbers: each is 13 lines of at most 79 columns, and its hint."""
     player = greeted(server)
     one = [0] * 26
     one[24], one[1] = 15, -15
@@ -616,7 +616,7 @@ def odd_boards(server):
         server.send(board)
         player.sees(TO_ROLL, '\r\n')
         drawn = player.screen()[at:].splitlines()
-        same('its lines', (len(drawn), [line for line in drawn[:14] if len(line) > 79]), (15, []))
+        same('its lines', (len(drawn), [line for line in drawn[:13] if len(line) > 79]), (14, []))
         same('shown', [text for text in texts if text not in player.screen()[at:]], [])
     leaves(player, server)
 
@@ -628,7 +628,7 @@ def twenty_boards_in_a_second(server):
         server.send(board_of(opponent='bob%d' % number, dice=(6, 1 + number % 5)))
         time.sleep(0.05)
     player.sees(*('X bob%d\r\n' % number for number in range(20)), TO_MOVE, '\r\n')
-    same('the lines', len(player.screen()[at:].splitlines()), 20 * 15)
+    same('the lines', len(player.screen()[at:].splitlines()), 20 * 14)
     leaves(player, server)
 
 

@@ -14,8 +14,9 @@ STUCK = 15
 # The kinds of rows that are followed.
 FOLLOWED = 'hint', 'answer', 'board', 'doubles', 'go on', 'next', 'invited', 'open'
 
-# A picture: its edges are the first and the last of these.
+# A picture: its edges are the first and the last of these. A row of words may follow.
 PICTURE = re.compile(r' [+|].*')
+PICTURE_WORDS = re.compile(r' (?:You|The) .*')
 
 
 class Follower:
@@ -152,6 +153,21 @@ def letters_in_bold():
          {'xterm': (True, True), 'dumb': (False, False), 'NO_COLOR': (False, False)})
 
 
+def what_can_be_done_is_said_once():
+    """In the row below the picture, also without bold letters; that one can't move, in the picture alone."""
+    for name, more in (('xterm', {'TERM': 'xterm'}), ('dumb', {'TERM': 'dumb'}), ('NO_COLOR', {'NO_COLOR': '1'})):
+        lines = match_by_hints(seed=6, **more).ann.lines()
+        below = [lines[at + 1] for at, line in enumerate(lines[:-1]) if ends_picture(lines, at)]
+        same('pictures with ' + name, len(below) > 3, True)
+        same('rows between a picture and its hint, with ' + name, sorted({
+            row for row in below if PICTURE_WORDS.match(row) and row != " You can't move."}), [])
+
+
+def ends_picture(lines, at):
+    """True if this line is the lower edge of a picture."""
+    return lines[at].startswith(' +') and lines[at - 1].startswith(' |')
+
+
 def the_bell():
     """It rings at her turn after the other's, at what is said to her, at a loss; never if FIBS_QUIET is set."""
     server = Served('--bot', 'eve:invites=1,says=hello', '--dice', '31,31,31,31')
@@ -203,4 +219,5 @@ def help_lists_the_words():
 
 
 SCENES = [help_lists_the_words, by_hints_alone, by_hints_over_connections_that_are_cut, at_most_thirty_rows_a_turn,
-          the_game_of_the_docs, at_most_79_columns, on_a_small_terminal, letters_in_bold, the_bell]
+          the_game_of_the_docs, at_most_79_columns, on_a_small_terminal, letters_in_bold,
+          what_can_be_done_is_said_once, the_bell]

@@ -113,9 +113,16 @@ impl<'a, C: Clock + Drop> Screen<'a, C> {
     fn draw(&mut self, game: &GameBoard) -> Result<(), AllocError> {
         self.memory.asked = false;
         let came = self.came(game);
-        append_marked(self.alloc, game, &came, &self.settings, &mut self.text)?;
         self.memory.drawn = Some(*game);
-        Ok(())
+        let is_above = self.memory.converses;
+        append_marked(
+            self.alloc,
+            game,
+            &came,
+            &self.settings,
+            is_above,
+            &mut self.text,
+        )
     }
 
     /// Says how a game ended, if a board is one of a game that is over.

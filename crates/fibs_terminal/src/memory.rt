@@ -11,6 +11,8 @@ use std::time::Duration;
 pub struct Memory {
     /// What the user waits for.
     pub situation: Situation,
+    /// Whether a connection was made: then what can be done is said below each board.
+    pub converses: bool,
     /// When the connection was made.
     pub opened: Duration,
     /// Whether to say what is advised even if it is what was said last: a board has come, or a decision or a line as it
@@ -50,6 +52,7 @@ impl Memory {
     pub fn new(alloc: Global) -> Memory {
         Memory {
             situation: Situation::new(),
+            converses: false,
             opened: Duration::from_secs(0),
             owes: false,
             inquired: false,

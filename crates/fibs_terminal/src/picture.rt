@@ -5,6 +5,7 @@ ghost use Rattle.fibs_position.specs.GameOf.{game_of};
 ghost use Rattle.fibs_terminal.specs.Drawings.{DrawsBoard, is_plain};
 
 use crate::came::{Came, nothing_came};
+use bstr::ByteSlice;
 use fibs_environment::Settings;
 use fibs_picture::{
     BOARD_COLUMNS, DEED_ROW, DICE_ROW, FREE_CUBE, MOST_SEEN, OPPONENTS_CUBE, OPPONENTS_TURN,
@@ -28,6 +29,22 @@ fn append_plain(game: &GameBoard, text: &mut Vec<u8>) -> Result<(), AllocError>
         × (text.new.items ≡ text.old.items ++ t)) }
 {
     draw(game, text).map_err(|_| AllocError)
+}
+
+/// A picture without its last line.
+fn without_last_line(picture: &[u8]) -> &[u8] {
+    let inner = picture.strip_suffix(b"\n").unwrap_or(picture);
+    match inner.rfind_byte(b'\n') {
+        None => picture,
+        Some(at) => picture.get(..at + 1).unwrap_or(picture),
+    }
+}
+
+/// Appends the picture of a board without its last line.
+fn append_upper(alloc: Global, game: &GameBoard, text: &mut Vec<u8>) -> Result<(), AllocError> {
+    let mut picture = Vec::new(alloc);
+    append_plain(game, &mut picture)?;
+    text.extend_from_slice(without_last_line(picture.as_slice()))
 }
 
 /// Whether the checker that is drawn at a height of a place has come there by the opponent's last move: those that have
@@ -164,23 +181,40 @@ pub fn append_picture(
     ensures plain { is_plain settings.now ≡ true → OnOk result ((t : List ℕ)
         × DrawsBoard (game_of game.now) t × (text.new.items ≡ text.old.items ++ t)) }
 {
-    append_marked(alloc, game, &nothing_came(), settings, text)
+    append_marked(alloc, game, &nothing_came(), settings, false, text)
 }
 
-/// The same, with marks on the places to which the opponent has moved.
+/// The same, with marks on the places to which the opponent has moved. Above a hint the last line is left out, unless
+/// it says that the user can't move: the hint says what can be done, also while a decision waits.
 pub(crate) fn append_marked(
     alloc: Global,
     game: &GameBoard,
     came: &Came,
     settings: &Settings<'_>,
+    is_above: bool,
     text: &mut Vec<u8>,
 ) -> Result<(), AllocError>
-    ensures plain { is_plain settings.now ≡ true → OnOk result ((t : List ℕ)
+    ensures plain { is_plain settings.now ≡ true → is_above ≡ false → OnOk result ((t : List ℕ)
         × DrawsBoard (game_of game.now) t × (text.new.items ≡ text.old.items ++ t)) }
 {
-    if is_plain(settings) {
-        return append_plain(game, text);
+    if !is_plain(settings) {
+        return append_coloured(alloc, game, came, settings, text);
     }
+    if is_above && !is_shown(DEED_ROW, game) {
+        append_upper(alloc, game, text)
+    } else {
+        append_plain(game, text)
+    }
+}
+
+/// Appends a picture that has marks, or is narrow.
+fn append_coloured(
+    alloc: Global,
+    game: &GameBoard,
+    came: &Came,
+    settings: &Settings<'_>,
+    text: &mut Vec<u8>,
+) -> Result<(), AllocError> {
     let mut picture = Vec::new(alloc);
     append_plain(game, &mut picture)?;
     append_rows(alloc, picture.as_slice(), game, came, settings, text)

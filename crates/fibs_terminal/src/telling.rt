@@ -89,6 +89,7 @@ impl<'a, C: Clock + Drop> Screen<'a, C> {
     fn hear_opened(&mut self) -> Result<(), AllocError> {
         self.memory.forget_boards();
         self.memory.situation.hear_opened();
+        self.memory.converses = true;
         self.memory.opened = self.moment();
         self.say(b"connected to ")?;
         self.say_place(b"\n")

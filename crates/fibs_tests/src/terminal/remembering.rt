@@ -81,7 +81,7 @@ static DRAWN_AGAIN: [Scene; 2] = [
             Step::Hears(WELCOME),
             Step::Hears(TO_ROLL),
         ],
-        "   O You\n You roll, or double, or resign.\n",
+        "   O You\n",
     ),
     (
         &[
@@ -103,7 +103,6 @@ static DRAWN_AGAIN: [Scene; 2] = [
  | X           O    |   | O              X |     off   0
  | X           O    |   | O              X |     score 0
  +12-11-10--9--8--7-+---+-6--5--4--3--2--1-+   O You
- You roll, or double, or resign.
 ",
     ),
 ];
