@@ -1,6 +1,5 @@
 //! What a terminal shows of a board.
-use crate::came::{Came, came_since, nothing_came};
-use crate::picture::append_marked;
+use crate::picture::{Came, append_marked, came_since, nothing_came};
 use crate::screen::Screen;
 use fibs_boards::board::Board;
 use fibs_boards::fields::{
@@ -53,37 +52,23 @@ impl<'a, C: Clock + Drop> Screen<'a, C> {
         } else if !again {
             self.say_board(game.board(), phase)?;
         }
-        if !again {
-            self.say_outcome(game.board(), phase)?;
+        if phase == Phase::Over && !again {
+            self.say_outcome(game.board())?;
         }
-        self.keep_heard(game);
+        self.memory.heard = Some(*game);
+        self.memory.said.clear();
         self.memory.situation.hear_board(game);
         Ok(())
-    }
-
-    /// Whether a checker is elsewhere than on the board that was drawn last.
-    fn is_moved_since_drawn(&self, board: &Board) -> bool {
-        match &self.memory.drawn {
-            None => true,
-            Some(drawn) => is_moved(drawn.board(), board),
-        }
     }
 
     /// Whether a board is drawn whole: the user has asked for it, or a checker has moved and there is something to
     /// decide, or the game is over.
     fn is_drawn_whole(&self, board: &Board, phase: Phase) -> bool {
-        if self.memory.asked || self.memory.drawn.is_none() {
+        let Some(drawn) = &self.memory.drawn else {
             return true;
-        }
-        (is_deciding(phase) || phase == Phase::Over) && self.is_moved_since_drawn(board)
-    }
-
-    /// Whether the board before this one said that the opponent had the turn.
-    fn waited_for_opponent(&self) -> bool {
-        match &self.memory.heard {
-            None => false,
-            Some(heard) => heard.phase() == Phase::OpponentActs,
-        }
+        };
+        let calls = is_deciding(phase) || phase == Phase::Over;
+        self.memory.asked || (calls && is_moved(drawn.board(), board))
     }
 
     /// Whether this is the very board that came last.
@@ -96,17 +81,12 @@ impl<'a, C: Clock + Drop> Screen<'a, C> {
 
     /// Rings the bell if the player decides in a phase, and the board before said that the opponent had the turn.
     fn ring_at_turn(&mut self, phase: Phase) -> Result<(), AllocError> {
-        if is_deciding(phase) && self.waited_for_opponent() {
-            self.ring()
-        } else {
-            Ok(())
+        match &self.memory.heard {
+            Some(heard) if is_deciding(phase) && heard.phase() == Phase::OpponentActs => {
+                self.ring()
+            }
+            _ => Ok(()),
         }
-    }
-
-    /// Keeps the board that came last.
-    fn keep_heard(&mut self, game: &GameBoard) {
-        self.memory.heard = Some(*game);
-        self.memory.said.clear();
     }
 
     /// Draws a board.
@@ -125,11 +105,8 @@ impl<'a, C: Clock + Drop> Screen<'a, C> {
         )
     }
 
-    /// Says how a game ended, if a board is one of a game that is over.
-    fn say_outcome(&mut self, board: &Board, phase: Phase) -> Result<(), AllocError> {
-        if phase != Phase::Over {
-            return Ok(());
-        }
+    /// Says how a game ended, by the board of its end.
+    fn say_outcome(&mut self, board: &Board) -> Result<(), AllocError> {
         match &self.memory.heard {
             None => append_outcome(None, board, &mut self.text)?,
             Some(before) => append_outcome(Some(before.board()), board, &mut self.text)?,

@@ -3,7 +3,6 @@
 #![tactic(auto)]
 
 mod boards;
-mod came;
 mod commands;
 pub mod laws;
 mod listening;
@@ -13,8 +12,6 @@ mod resting;
 mod screen;
 mod telling;
 mod terminal;
-mod terminal_front;
-mod terminal_words;
 
 pub use picture::append_picture;
 pub use terminal::Terminal;

@@ -4,7 +4,6 @@ ghost use Rattle.std.specs.Prelude.{◌≡◌, ◌≤◌, ◌++◌, OnOk, List, 
 ghost use Rattle.fibs_position.specs.GameOf.{game_of};
 ghost use Rattle.fibs_terminal.specs.Drawings.{DrawsBoard, is_plain};
 
-use crate::came::{Came, nothing_came};
 use bstr::ByteSlice;
 use fibs_environment::Settings;
 use fibs_picture::{
@@ -23,12 +22,35 @@ const CAME: &[u8] = b"\x1b[35m";
 
 const PLAIN: &[u8] = b"\x1b[0m";
 
-/// Appends the picture of a board.
-fn append_plain(game: &GameBoard, text: &mut Vec<u8>) -> Result<(), AllocError>
-    ensures { OnOk result ((t : List ℕ) × DrawsBoard (game_of game.now) t
-        × (text.new.items ≡ text.old.items ++ t)) }
-{
-    draw(game, text).map_err(|_| AllocError)
+/// How many checkers of the opponent have come to each place, by the player's own numbering.
+pub(crate) type Came = [u8; 25];
+
+/// How many checkers move at most in a turn: if more have come it was no move.
+const MOST_MOVED: u8 = 4;
+
+/// None has come.
+pub(crate) fn nothing_came() -> Came {
+    [0; 25]
+}
+
+/// How many have come to each place since an earlier board, if that was of the same opponent and it was one move.
+pub(crate) fn came_since(before: &GameBoard, game: &GameBoard) -> Came {
+    if before.board().opponent().bytes() != game.board().opponent().bytes() {
+        return nothing_came();
+    }
+    let mut came = nothing_came();
+    let mut all = 0u8;
+    for place in 1..25u8 {
+        let there = game.position().other(place);
+        let more = there.saturating_sub(before.position().other(place));
+        came[usize::from(place)] = more;
+        all = all.saturating_add(more);
+    }
+    if all > MOST_MOVED {
+        nothing_came()
+    } else {
+        came
+    }
 }
 
 /// A picture without its last line.
@@ -43,7 +65,7 @@ fn without_last_line(picture: &[u8]) -> &[u8] {
 /// Appends the picture of a board without its last line.
 fn append_upper(alloc: Global, game: &GameBoard, text: &mut Vec<u8>) -> Result<(), AllocError> {
     let mut picture = Vec::new(alloc);
-    append_plain(game, &mut picture)?;
+    draw(game, &mut picture).map_err(|_| AllocError)?;
     text.extend_from_slice(without_last_line(picture.as_slice()))
 }
 
@@ -129,11 +151,6 @@ fn short_row<'a>(row: &'a [u8], opponent: &'a [u8]) -> [&'a [u8]; 4] {
     }
 }
 
-/// Appends a row in fewer columns.
-fn append_short(row: &[u8], opponent: &[u8], short: &mut Vec<u8>) -> Result<(), AllocError> {
-    append_all(&short_row(row, opponent), short)
-}
-
 /// Whether a row of a picture is shown: the words below the board only if the user can't move, since the hint has the
 /// others, or the row on how the game ended.
 fn is_shown(row: usize, game: &GameBoard) -> bool {
@@ -154,7 +171,7 @@ fn append_rows(
     for bytes in picture.split(|byte| *byte == b'\n') {
         if !bytes.is_empty() && is_shown(row, game) {
             let mut short = Vec::new(alloc);
-            append_short(bytes, opponent, &mut short)?;
+            append_all(&short_row(bytes, opponent), &mut short)?;
             append_row(short.as_slice(), row, game.position(), came, settings, text)?;
         }
         row = row.saturating_add(1);
@@ -201,10 +218,9 @@ pub(crate) fn append_marked(
         return append_coloured(alloc, game, came, settings, text);
     }
     if is_above && !is_shown(DEED_ROW, game) {
-        append_upper(alloc, game, text)
-    } else {
-        append_plain(game, text)
+        return append_upper(alloc, game, text);
     }
+    draw(game, text).map_err(|_| AllocError)
 }
 
 /// Appends a picture that has marks, or is narrow.
@@ -216,6 +232,6 @@ fn append_coloured(
     text: &mut Vec<u8>,
 ) -> Result<(), AllocError> {
     let mut picture = Vec::new(alloc);
-    append_plain(game, &mut picture)?;
+    draw(game, &mut picture).map_err(|_| AllocError)?;
     append_rows(alloc, picture.as_slice(), game, came, settings, text)
 }

@@ -1,12 +1,11 @@
 //! What a terminal says before it lets the user type.
-ghost use Rattle.std.specs.Prelude.{◌≡◌, [], true, false, OnOk};
+ghost use Rattle.std.specs.Prelude.{◌≡◌, true, false, OnOk};
 ghost use Rattle.fibs_advice.specs.Rows.{is_asked_for};
 ghost use Rattle.fibs_terminal.specs.Resting.{SaysAdvice, SaysRow};
 
 use crate::screen::Screen;
 use fibs_advice::advised::{Advice, Aside, advised};
 use fibs_advice::saying::append_advice;
-use fibs_front::fault::FrontFault;
 use fibs_session::{Client, Directory};
 use fibs_wording::messages::front;
 use std::alloc::AllocError;
@@ -17,7 +16,7 @@ const LOGIN_SECONDS: u64 = 2;
 
 impl<'a, C: Clock + Drop> Screen<'a, C> {
     /// Says what is advised.
-    fn rest(&mut self, client: &Client, directory: &Directory) -> Result<(), AllocError>
+    pub(crate) fn rest(&mut self, client: &Client, directory: &Directory) -> Result<(), AllocError>
         ensures { OnOk result (SaysAdvice client.now self.old.memory self.old.text.items self.new.text.items) }
     {
         let aside = Aside {
@@ -26,24 +25,6 @@ impl<'a, C: Clock + Drop> Screen<'a, C> {
         };
         let advice = advised(self.alloc, client, &self.memory.situation, aside)?;
         self.say_advice(&advice)
-    }
-
-    /// Makes the text that is shown before the user types.
-    pub(crate) fn rest_anew(
-        &mut self,
-        client: &Client,
-        directory: &Directory,
-    ) -> Result<(), FrontFault>
-        ensures { OnOk result (SaysAdvice client.now self.old.memory [] self.new.text.items) }
-    {
-        self.text.clear();
-        match self.rest(client, directory) {
-            Ok(()) => Ok(()),
-            Err(_) => {
-                self.ran_out = true;
-                Err(FrontFault::Output)
-            }
-        }
     }
 
     /// Whether the opponent is here. If no player is listed, nobody knows.

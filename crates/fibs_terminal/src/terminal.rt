@@ -1,9 +1,22 @@
-//! A terminal.
+//! A terminal: what happens is reported to it, and a player types at it.
 
-ghost use Rattle.std.specs.Prelude.{◌≡◌};
+ghost use Rattle.std.specs.Prelude.{◌≡◌, OnOk, IfOk};
+ghost use Rattle.std.specs.Io.KnownBytes.{Appends};
+ghost use Rattle.fibs_front.specs.Wishes.{wish_value};
+ghost use Rattle.fibs_terminal.specs.Asking.{AsksInBounds, KnownStays, SendsUntaken};
+ghost use Rattle.fibs_terminal.specs.Grown.{Grown};
+ghost use Rattle.fibs_terminal.specs.Resting.{ShowsAdvice};
 
 use crate::screen::Screen;
+use fibs_engine::writing::write_bytes;
 use fibs_environment::Settings;
+use fibs_front::fault::FrontFault;
+use fibs_front::front::Front;
+use fibs_front::said::Said;
+use fibs_front::typed_line::TypedLine;
+use fibs_front::wish::Wish;
+use fibs_front::words::Words;
+use fibs_session::{Client, Directory};
 use std::alloc::Global;
 use std::io::Write;
 use std::time::Clock;
@@ -29,5 +42,87 @@ impl<'a, W: Write + Drop, C: Clock + Drop> Terminal<'a, W, C> {
     /// Whether it stopped since memory ran out. Its fault alone does not say so.
     pub fn is_out_of_memory(&self) -> bool {
         self.screen.ran_out
+    }
+}
+
+/// Writes a text.
+fn write_text<W: Write>(text: &[u8], out: &mut W) -> Result<(), FrontFault>
+    ensures bytes { OnOk result (Appends (W.contents out.old) (W.contents out.new) text.now) }
+    ensures grown { OnOk result (Grown (W.contents out.old) (W.contents out.new)) }
+{
+    write_bytes(text, out)?;
+    Ok(())
+}
+
+impl<W: Write + Drop, C: Clock + Drop> Front for Terminal<'_, W, C> {
+    ghost use Rattle.fibs_terminal.specs.Grown.{Grown, grown_nothing, grown_joined};
+
+    ghost tells = { λ a told b. Grown (W.contents a.out) (W.contents b.out) };
+
+    fn tell(&mut self, said: &Said<'_>) -> Result<(), FrontFault> {
+        self.screen.text.clear();
+        if self.screen.hear(said).is_err() {
+            self.screen.ran_out = true;
+            return Err(FrontFault::Output);
+        }
+        write_text(self.screen.text.as_slice(), &mut self.out)
+    }
+
+    fn flush(&mut self) -> Result<(), FrontFault> {
+        self.out.flush().map_err(|_| FrontFault::Output)
+    }
+
+    ghost joins = { record {
+      nothing = λ a. grown_nothing (W.contents a.out);
+      joined = λ a b c xs ys p q. grown_joined (W.contents a.out) (W.contents b.out) (W.contents c.out) p q;
+    } };
+}
+
+impl<W: Write + Drop, C: Clock + Drop> Words for Terminal<'_, W, C> {
+    ghost asks = { λ _ line wish. AsksInBounds line wish };
+
+    fn rest(&mut self, client: &Client, directory: &Directory) -> Result<(), FrontFault>
+        ensures told { OnOk result (Grown (W.contents self.old.out) (W.contents self.new.out)) }
+        // It names only what may be advised in the state of the conversation, by the history.
+        ensures advice { OnOk result (ShowsAdvice client.now self.old.screen.memory
+            (W.contents self.old.out) (W.contents self.new.out)) }
+    {
+        self.screen.text.clear();
+        match self.screen.rest(client, directory) {
+            Ok(()) => {
+                write_text(self.screen.text.as_slice(), &mut self.out)?;
+                self.out.flush().map_err(|_| FrontFault::Output)
+            }
+            Err(_) => {
+                self.screen.ran_out = true;
+                Err(FrontFault::Output)
+            }
+        }
+    }
+
+    fn wish(
+        &mut self,
+        client: &Client,
+        directory: &Directory,
+        line: &mut TypedLine,
+    ) -> Result<Wish, FrontFault>
+        ensures told { OnOk result (Grown (W.contents self.old.out) (W.contents self.new.out)) }
+        ensures asks { IfOk result (λ wish. AsksInBounds line.old.items (wish_value wish line.new.items)) }
+        // What the client knows is never respelled: a decision, an order, a line to people.
+        ensures known { KnownStays client.now line.old.items line.new.items result }
+        // What goes to the server as it is, the client would not take.
+        ensures sent { SendsUntaken client.now line.new.items result }
+    {
+        self.screen.text.clear();
+        match self.screen.wish(client, directory, line) {
+            Ok(wish) => {
+                write_text(self.screen.text.as_slice(), &mut self.out)?;
+                Ok(wish)
+            }
+            Err(_) => {
+                self.screen.ran_out = true;
+                Err(FrontFault::Output)
+            }
+        }
     }
 }

@@ -1,4 +1,4 @@
-use Rattle.fibs_terminal.proofs.terminal_front.write_text.Goals as goal
+use Rattle.fibs_terminal.proofs.terminal.write_text.Goals as goal
 
 pub returns-clause-grown : goal.returns-clause-grown
 returns-clause-grown g c = (c.args.text.now, c.in_ok-write_bytes.ensures)
