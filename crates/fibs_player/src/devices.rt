@@ -1,16 +1,14 @@
 //! The program on its devices: what a person types and sees. If standard output is a pipe or a file, it gets the plain
 //! account.
 
-use crate::playing::{play, unless_memory_ran_out};
+use crate::playing::{Call, play, unless_memory_ran_out};
 use crate::showing::show_on;
 use crate::streams::Streams;
 use arrayvec::ArrayVec;
-use fibs_connect::converse_at;
-use fibs_engine::dial::{Place, READ_MILLIS};
+use fibs_engine::dial::READ_MILLIS;
 use fibs_engine::fault::EngineFault;
 use fibs_engine::fixed::{append, append_number};
 use fibs_engine::limits::MOST_INPUT_READS;
-use fibs_engine::noting::Noted;
 use fibs_engine::status::Status;
 use fibs_engine::writing::write_bytes;
 use fibs_environment::{Place as Clocks, Settings, terminal_settings};
@@ -21,8 +19,7 @@ use fibs_watch::{PollWatch, TypedOrHeard, WatchedNet, first_line};
 use mio::Poll;
 use std::fs::File;
 use std::io;
-use std::io::{BufRead, BufReader, ErrorKind, IsTerminal, Read, Stdout};
-use std::net::{Net, TcpListener, TcpStream};
+use std::io::{BufRead, BufReader, ErrorKind, IsTerminal, Read};
 use std::os::fd::AsRawFd;
 use std::time::{Clock, Duration};
 
@@ -35,21 +32,6 @@ const MOST_PASSWORD: u64 = 4098;
 
 /// What is printed if the password file can't be read.
 const UNREADABLE: &[u8] = b"fibs: the password file can't be read\n";
-
-/// What `connect` is asked for.
-#[derive(Clone, Copy)]
-pub struct Call<'a> {
-    /// The server's name or address.
-    pub host: &'a str,
-    /// Its port.
-    pub port: u16,
-    /// The name that logs in.
-    pub name: &'a str,
-    /// The file whose first line is the password. Without one it is typed.
-    pub password_file: Option<&'a str>,
-    /// The file to which each line is added as it comes.
-    pub log: Option<&'a str>,
-}
 
 /// A clock that tells no time: nobody knows when what is shown was said.
 #[derive(Clone, Copy)]
@@ -163,7 +145,7 @@ fn converse(
             let watch = PollWatch::new(rt, rt.alloc(), rt.stdin().as_raw_fd(), &heard).ok();
             let typed = TypedOrHeard::new(input, watch);
             let net = WatchedNet::new(rt, heard.registry());
-            return shown(
+            return play(
                 rt,
                 &net,
                 call,
@@ -173,33 +155,5 @@ fn converse(
             );
         }
     }
-    shown(rt, rt, call, READ_MILLIS, &mut first.chain(input), out)
-}
-
-/// Talks at a terminal, or with a log; else on the standard output as it is.
-fn shown<N: Net<Listener = TcpListener, Stream = TcpStream>, R: Read>(
-    rt: &HostRuntime,
-    net: &N,
-    call: Call<'_>,
-    millis: u64,
-    input: &mut R,
-    out: &mut Noted<Stdout>,
-) -> Result<u8, EngineFault> {
-    let place = Place {
-        host: call.host,
-        port: call.port,
-        quiet: Duration::from_millis(millis),
-    };
-    if call.log.is_some() || rt.stdout().is_terminal() {
-        return play(rt, net, place, millis, call.name, call.log, input, out);
-    }
-    converse_at(
-        net,
-        rt.alloc(),
-        place,
-        call.name.as_bytes(),
-        input,
-        out,
-        &mut rt.stderr(),
-    )
+    play(rt, rt, call, READ_MILLIS, &mut first.chain(input), out)
 }

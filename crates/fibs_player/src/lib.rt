@@ -7,5 +7,6 @@ mod playing;
 pub mod showing;
 mod streams;
 
-pub use devices::{Call, connect, draw, show};
+pub use devices::{connect, draw, show};
+pub use playing::Call;
 pub use streams::Streams;

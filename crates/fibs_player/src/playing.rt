@@ -1,7 +1,7 @@
 //! A person plays.
 
-use fibs_connect::{answer_lines, converse_on};
-use fibs_engine::dial::{Place, Server};
+use fibs_connect::{answer_lines, converse_at, converse_on};
+use fibs_engine::dial::{Dial, Place, Server};
 use fibs_engine::fault::EngineFault;
 use fibs_engine::limits::MOST_INPUT_READS;
 use fibs_engine::logging::{LoggedServer, open};
@@ -9,7 +9,7 @@ use fibs_engine::noting::Noted;
 use fibs_engine::pacing::PacedServer;
 use fibs_engine::status::Status;
 use fibs_engine::writing::write_bytes;
-use fibs_environment::{Place as Clocks, Settings, terminal_settings};
+use fibs_environment::{Place as Clocks, terminal_settings};
 use fibs_front::plain::Plain;
 use fibs_front::typed_line::TypedLine;
 use fibs_front::typed_lines::TypedLines;
@@ -17,8 +17,34 @@ use fibs_session::{Login, PlainFault};
 use fibs_terminal::Terminal;
 use fibs_wording::reasons::append_login_fault;
 use std::io::{IsTerminal, Read, Stdout, Write};
-use std::net::{Net, TcpStream};
-use std::time::Clock;
+use std::net::{Net, TcpListener, TcpStream};
+use std::time::{Clock, Duration};
+
+/// What `connect` is asked for.
+#[derive(Clone, Copy)]
+pub struct Call<'a> {
+    /// The server's name or address.
+    pub host: &'a str,
+    /// Its port.
+    pub port: u16,
+    /// The name that logs in.
+    pub name: &'a str,
+    /// The file whose first line is the password. Without one it is typed.
+    pub password_file: Option<&'a str>,
+    /// The file to which each line is added as it comes.
+    pub log: Option<&'a str>,
+}
+
+impl<'a> Call<'a> {
+    /// Where the server is; each read of it waits so many milliseconds.
+    fn place(self, millis: u64) -> Place<'a> {
+        Place {
+            host: self.host,
+            port: self.port,
+            quiet: Duration::from_millis(millis),
+        }
+    }
+}
 
 /// What is printed if the log can't be written.
 const NO_LOG: &[u8] = b"fibs: the log can't be opened\n";
@@ -51,68 +77,63 @@ fn say_login_fault(rt: &HostRuntime, why: PlainFault) -> Result<u8, EngineFault>
     Ok(Status::Refused.code())
 }
 
-/// Talks with a server at a terminal, each read of which waits so many milliseconds. The first line is the password.
-fn play_at_terminal<N: Net<Stream = TcpStream>, R: Read>(
+/// Talks with a server at a terminal. The first line is the password.
+fn play_at_terminal<D: Dial, R: Read>(
     rt: &HostRuntime,
-    server: Server<'_, N>,
-    shown: Settings<'_>,
-    millis: u64,
-    call: Player<'_>,
+    server: &mut D,
+    call: Call<'_>,
     input: &mut R,
     out: &mut Noted<Stdout>,
 ) -> Result<u8, EngineFault> {
+    let alloc = rt.alloc();
+    let clocks = Clocks::read(rt);
+    let shown = terminal_settings(rt, clocks.zone(), call.host, call.port);
     let mut lines = TypedLines::new(MOST_INPUT_READS);
     let mut line = TypedLine::new();
     lines.read_line(input, &mut line)?;
-    let login = match Login::new(call.name, line.as_slice()) {
+    let login = match Login::new(call.name.as_bytes(), line.as_slice()) {
         Err(why) => return say_login_fault(rt, why),
         Ok(login) => login,
     };
-    let alloc = rt.alloc();
-    let mut server = LoggedServer::new(PacedServer::new(server, millis), rt, call.log);
     let mut front = Terminal::new(alloc, out, rt, shown);
-    let answer = answer_lines(&mut server, alloc, login, &mut lines, input, &mut front);
+    let answer = answer_lines(server, alloc, login, &mut lines, input, &mut front);
     unless_memory_ran_out(answer, &front)
 }
 
-/// Who plays, and where a log is kept.
-#[derive(Clone, Copy)]
-struct Player<'a> {
-    name: &'a [u8],
-    log: Option<&'a str>,
-}
-
-/// Talks with a server at a place, each read of which waits so many milliseconds: as a terminal shows it, if the
-/// standard output is one, and with a log, if one is asked for.
-pub fn play<N: Net<Stream = TcpStream>, R: Read>(
+/// Talks with a server, each read of which waits so many milliseconds: as a terminal shows it, if the standard output
+/// is one, else as the engines print it; and with a log, if one is asked for.
+pub fn play<N: Net<Listener = TcpListener, Stream = TcpStream>, R: Read>(
     rt: &HostRuntime,
     net: &N,
-    place: Place<'_>,
+    call: Call<'_>,
     millis: u64,
-    name: &str,
-    log: Option<&str>,
     input: &mut R,
     out: &mut Noted<Stdout>,
 ) -> Result<u8, EngineFault> {
-    if !can_log(rt, log) {
+    if !can_log(rt, call.log) {
         // if it can't be printed, the status alone says it
         let _said = write_bytes(NO_LOG, &mut rt.stderr());
         return Ok(Status::Device.code());
     }
-    let name = name.as_bytes();
-    let server = Server::new(net, place);
+    let server = Server::new(net, call.place(millis));
     if rt.stdout().is_terminal() {
-        let clocks = Clocks::read(rt);
-        let shown = terminal_settings(rt, clocks.zone(), place.host, place.port);
-        return play_at_terminal(rt, server, shown, millis, Player { name, log }, input, out);
+        let mut paced = PacedServer::new(server, millis);
+        return match call.log {
+            None => play_at_terminal(rt, &mut paced, call, input, out),
+            log => play_at_terminal(rt, &mut LoggedServer::new(paced, rt, log), call, input, out),
+        };
     }
-    converse_on(
-        &mut LoggedServer::new(server, rt, log),
-        rt.alloc(),
-        name,
-        MOST_INPUT_READS,
-        input,
-        &mut Plain { out },
-        &mut rt.stderr(),
-    )
+    let (alloc, name, mut err) = (rt.alloc(), call.name.as_bytes(), rt.stderr());
+    match call.log {
+        None => converse_at(net, alloc, call.place(millis), name, input, out, &mut err),
+        log => converse_on(
+            &mut LoggedServer::new(server, rt, log),
+            alloc,
+            name,
+            MOST_INPUT_READS,
+            input,
+            &mut Plain { out },
+            &mut err,
+        ),
+    }
 }
