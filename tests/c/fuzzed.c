@@ -15,10 +15,24 @@
 
 int LLVMFuzzerTestOneInput(const uint8_t *data, size_t size);
 
-static unsigned long long calls;
+/* Which functions are called, as numbers of the switch at the end: all of them, or, if FAMILY is 1 to 4, those of lines,
+ * of what a line says and of the rules, of the client, of the directory. */
+#ifndef FAMILY
+#define FAMILY 0
+#endif
+enum { FUNCTIONS = 46 };
+static const struct { uint8_t first, count; } families[] = {
+    { 0, FUNCTIONS }, { 0, 7 }, { 7, 15 }, { 22, 16 }, { 38, 8 }
+};
+
+static unsigned long long calls, calls_of[FUNCTIONS];
 
 __attribute__((destructor)) static void tell_calls(void) {
-    fprintf(stderr, "%llu calls\n", calls);
+    unsigned long long least = calls;
+    for (size_t i = families[FAMILY].first; i < (size_t)families[FAMILY].first + families[FAMILY].count; i++) {
+        least = calls_of[i] < least ? calls_of[i] : least;
+    }
+    fprintf(stderr, "%llu calls, of each function at least %llu\n", calls, least);
 }
 
 static const char *const worked[] = {
@@ -515,7 +529,8 @@ int LLVMFuzzerTestOneInput(const uint8_t *data, size_t size) {
     left = data;
     left_len = size;
     while (left_len > 0) {
-        uint8_t which = one_byte() % 46;
+        uint8_t which = (uint8_t)(families[FAMILY].first + one_byte() % families[FAMILY].count);
+        calls_of[which]++;
         fill();
         if (which < 7) {
             call_lines(which);
