@@ -108,6 +108,35 @@ fn a_session_hears_whole_lines(rt: HostRuntime) {
     assert!(rt; confirmed == [true; 4], "the board, the roll and its end");
 }
 
+/// Whether a session without a connection refuses to decide and to send, and loses nothing.
+fn is_offline(session: &mut Session) -> [bool; 3] {
+    [
+        session.decide(&Decision::Roll).err() == Some(Refusal::Offline),
+        session.lose().is_none(),
+        session.plain(&Plain::Who).err() == Some(PlainRefusal::Offline),
+    ]
+}
+
+/// Whether a session opens a connection by its login, and no second one.
+fn opens_once(session: &mut Session) -> bool {
+    let is_login = match session.open() {
+        Ok(command) => command.as_str() == "login fibs_client 1008 ann secret",
+        Err(_) => false,
+    };
+    is_login && session.open().err() == Some(Refusal::AlreadyOpen)
+}
+
+#[test]
+fn a_new_session_is_offline_until_it_logs_in(rt: HostRuntime) {
+    let mut session = Session::new(login(&rt));
+    let refused = is_offline(&mut session);
+    assert!(rt; refused == [true; 3], "what it answers offline");
+    assert!(rt;
+        opens_once(&mut session),
+        "the login, and a second connection"
+    );
+}
+
 /// A call of a client.
 enum Call {
     Open,
@@ -293,6 +322,37 @@ fn where_the_server_plays_the_user_does_not_decide(rt: HostRuntime) {
     assert!(rt; is_off, "turned off");
     assert_answered(&rt, &mut client, &GREETED_AGAIN);
     assert!(rt; rolls(&mut client), "a roll");
+}
+
+/// Whether a line of the board on which a roll waits confirms nothing, and a second roll is refused then.
+fn goes_on_waiting(client: &mut Client) -> bool {
+    client.feed(TO_ROLL);
+    let confirms_none = feed_confirming(client, b"\r\n").is_none();
+    confirms_none && client.decide(&Decision::Roll).err() == Some(Refusal::Waiting)
+}
+
+/// Whether the board after the roll confirms it, and the next decision is judged on that board.
+fn is_rolled(client: &mut Client) -> bool {
+    client.feed(TO_MOVE);
+    let confirmed = feed_confirming(client, b"\r\n");
+    let roll = roll_on(TO_ROLL);
+    let is_confirmed = roll.is_some() && confirmed == roll;
+    is_confirmed && client.decide(&Decision::Double).err() == Some(Refusal::WrongKind)
+}
+
+/// A decision waits until a board of another game comes.
+#[test]
+fn an_equal_board_confirms_nothing(rt: HostRuntime) {
+    let mut client = ready(&rt);
+    feed_line(&mut client, TO_ROLL);
+    let rolls = rolls(&mut client);
+    let waits = [goes_on_waiting(&mut client), goes_on_waiting(&mut client)];
+    let is_rolled = is_rolled(&mut client);
+    assert!(rt;
+        rolls && waits == [true; 2],
+        "it goes on waiting at each of two equal boards"
+    );
+    assert!(rt; is_rolled, "the next board confirms the roll");
 }
 
 static ORDERED: [(Call, Option<Refusal>, bool); 6] = [

@@ -1,7 +1,7 @@
 //! What of commands the library for C does not show. Their texts, and lines read as commands, are in tests/rows.
 
 use crate::choices::Choice;
-use fibs_commands::{Plain, PlainFault, decision_text, plain_text, read_plain};
+use fibs_commands::{Plain, PlainFault, decision_text, plain_text, read_command, read_plain};
 use fibs_position::{Decision, Direction, Stake};
 use std::alloc::Global;
 
@@ -51,11 +51,48 @@ fn plain_commands_are_printed(rt: HostRuntime) {
     }
 }
 
-/// No line is read as a command with a space in its name.
+/// Plain commands without a text, and why.
+static FAULTY: [(Plain<'static>, PlainFault); 3] = [
+    // no line is read as a command with a space in its name
+    (Plain::Tell(b"b b", b""), PlainFault::BadName),
+    (Plain::Say(b""), PlainFault::BadText),
+    (Plain::Say(&[b'a'; 401]), PlainFault::TooLong),
+];
+
 #[test]
-fn a_name_has_no_space(rt: HostRuntime) {
-    let fault = plain_text(&Plain::Tell(b"b b", b"")).err();
-    assert!(rt; fault == Some(PlainFault::BadName));
+fn faulty_commands_have_no_text(rt: HostRuntime) {
+    for (plain, fault) in &FAULTY {
+        let is_refused = plain_text(plain).err() == Some(*fault);
+        assert!(rt; is_refused, "{fault}");
+    }
+}
+
+/// Lines, and the stakes that they offer to resign in both directions.
+static RESIGNED: [(&[u8], Option<Stake>); 6] = [
+    (b"resign n", Some(Stake::Normal)),
+    (b"resign g", Some(Stake::Gammon)),
+    (b"resign b", Some(Stake::Backgammon)),
+    (b"resign x", None),
+    (b"resign", None),
+    (b"resign ", None),
+];
+
+/// Whether a line is read so in this direction.
+fn is_resigned(line: &[u8], direction: Direction, stake: Option<Stake>) -> bool {
+    match (read_command(line, direction), stake) {
+        (Some(Decision::Resign(read)), Some(stake)) => read == stake,
+        (None, None) => true,
+        _ => false,
+    }
+}
+
+#[test]
+fn resignations_are_read_in_both_directions(rt: HostRuntime) {
+    for (line, stake) in &RESIGNED {
+        let up = is_resigned(line, Direction::Up, *stake);
+        let down = is_resigned(line, Direction::Down, *stake);
+        assert!(rt; up && down, "{line:?}");
+    }
 }
 
 /// Faults, and how their numbers and names are printed.

@@ -1,10 +1,10 @@
 //! A few boards that are known completely: their positions, and their later boards.
 
-use crate::boards::{AS_SENT, PASSING, TO_BEAR_OFF, TO_HIT, TO_MOVE, TO_ROLL};
+use crate::boards::{AS_SENT, DOUBLED, PASSING, TO_ANSWER, TO_BEAR_OFF, TO_HIT, TO_MOVE, TO_ROLL};
 use crate::cases::{Case, check};
 use crate::choices::Choice;
 use fibs_messages::Board;
-use fibs_position::{Decision, Direction, Phase, Position, effect};
+use fibs_position::{Decision, Direction, Disallowed, Phase, Position, Stake, effect};
 
 static KNOWN: [Case; 7] = [
     Case {
@@ -105,6 +105,42 @@ fn a_roll_leads_to_the_board_shown_next(rt: HostRuntime) {
     let before = Board::read(TO_ROLL).expect(&rt, "it is a board");
     let shown = Board::read(TO_MOVE).expect(&rt, "it is a board");
     assert!(rt; effect(&before, &Decision::Roll, [6, 2]) == Some(shown));
+}
+
+/// A resignation gives the turn away. None is carried out if a double is to be answered.
+#[test]
+fn a_resignation_leads_to_a_turn_given_away(rt: HostRuntime) {
+    let resigns = Decision::Resign(Stake::Normal);
+    let before = Board::read(TO_ROLL).expect(&rt, "it is a board");
+    let given = Board::read(DOUBLED).expect(&rt, "it is a board");
+    let doubled = Board::read(TO_ANSWER).expect(&rt, "it is a board");
+    let is_carried_out = effect(&before, &resigns, [1, 1]) == Some(given);
+    assert!(rt; is_carried_out && effect(&doubled, &resigns, [1, 1]).is_none());
+}
+
+/// The user may resign before and after the roll, and may not if he is offered a double or has no play.
+static MAY_RESIGN: [(&[u8], Option<Disallowed>); 4] = [
+    (TO_ROLL, None),
+    (TO_MOVE, None),
+    (PASSING, Some(Disallowed::NotYours)),
+    (TO_ANSWER, Some(Disallowed::WrongKind)),
+];
+
+/// Why a gammon can't be resigned on the board of a line; None if it can.
+fn why_not_resigned(line: &[u8]) -> Option<Result<(), Disallowed>> {
+    let position = Position::of(&Board::read(line).ok()?).ok()?;
+    Some(position.allows(&Decision::Resign(Stake::Gammon)))
+}
+
+#[test]
+fn a_player_may_resign_in_his_turn(rt: HostRuntime) {
+    for (line, why) in &MAY_RESIGN {
+        let wanted = match why {
+            Some(why) => Err(*why),
+            None => Ok(()),
+        };
+        assert!(rt; why_not_resigned(line) == Some(wanted), "{line:?}");
+    }
 }
 
 /// The board after a hit.

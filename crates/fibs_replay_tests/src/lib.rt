@@ -45,6 +45,8 @@ mod server;
 #[cfg(test)]
 mod slow;
 #[cfg(test)]
+mod streams;
+#[cfg(test)]
 mod texts;
 #[cfg(test)]
 mod turns;

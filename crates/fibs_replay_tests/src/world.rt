@@ -7,6 +7,7 @@ use fibs_messages::Board;
 use fibs_model::{Event, World, WorldRefusal};
 use fibs_position::Decision;
 use fibs_session::Login;
+use std::alloc::{AllocError, Global};
 use std::process::Abort;
 
 fn board(line: &[u8]) -> Option<Board> {
@@ -74,6 +75,52 @@ fn each_event_has_its_refusals(rt: HostRuntime) {
                 Some(WorldRefusal::BadDice),
             ]
     );
+}
+
+/// A text of a good board with this many spaces after it.
+fn padded(alloc: Global, spaces: usize) -> Result<Vec<u8>, AllocError> {
+    let mut text = Vec::new(alloc);
+    text.extend_from_slice(TO_ROLL)?;
+    for _ in 0..spaces {
+        text.push(b' ')?;
+    }
+    Ok(text)
+}
+
+/// Events that log in.
+fn logged_in() -> [Event<'static>; 2] {
+    let serve = Event::Serve {
+        conn: 1,
+        dice: [1, 1],
+    };
+    [Event::Open, serve]
+}
+
+/// Why a text is refused of a server that is logged in, if it is; and whether the client has heard a board when all is
+/// delivered.
+fn text_of_a_board(world: &mut World, text: &[u8]) -> (Option<WorldRefusal>, bool) {
+    let is_in = world.run(&logged_in()).refusal.is_none();
+    let refusal = world.step(&Event::Text(text)).err();
+    let is_told = world.step(&Event::Deliver(20_000)).is_ok();
+    let is_shown = world.shown().is_some();
+    (refusal, is_shown || !is_in || !is_told)
+}
+
+/// Spaces after a board, and why that text is refused.
+static PADDED: [(usize, Option<WorldRefusal>); 2] = [
+    (4_096, Some(WorldRefusal::BoardAsText)),
+    (16_384, None),
+];
+
+/// A text that the client hears as a board is none. With as many spaces as a line keeps it is one, which is cut.
+#[test]
+fn a_board_with_many_spaces_may_be_a_text(rt: HostRuntime) {
+    for (spaces, refusal) in &PADDED {
+        let mut world = world(&rt, TO_ROLL);
+        let text = padded(rt.alloc(), *spaces).expect(&rt, "memory is ample");
+        let told = text_of_a_board(&mut world, &text);
+        assert!(rt; told == (*refusal, false), "{spaces} spaces");
+    }
 }
 
 /// How many of so many events are done, and the length of the log then, if none is refused.
