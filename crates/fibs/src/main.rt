@@ -1,15 +1,14 @@
 //! `fibs`: a client for the First Internet Backgammon Server. The command line, the devices and the exit status.
 #![tactic(auto)]
 
-use fibs_arguments::{Answer, Request};
-use fibs_cli::{READ_MILLIS, program};
+use fibs_arguments::{Answer, Asked};
+use fibs_cli::program;
 use fibs_engine::fault::EngineFault;
 use fibs_engine::standard::take_closed;
-use fibs_player::{Call, Streams};
+use fibs_player::Streams;
 use std::env;
-use std::io::{ErrorKind, IsTerminal};
+use std::io::ErrorKind;
 use std::process::ExitCode;
-use std::time::Duration;
 
 /// What is printed if a word of the command line is not text.
 const UNREADABLE: &str = "error: an argument is not UTF-8 text\n";
@@ -42,56 +41,11 @@ fn end(rt: &HostRuntime, streams: &Streams, ending: Result<u8, EngineFault>) -> 
 fn run(rt: &HostRuntime, streams: &mut Streams) -> Result<u8, EngineFault> {
     let alloc = rt.alloc();
     let words = words(rt)?;
-    let answer = match &words {
+    let asked = match &words {
         Some(words) => fibs_arguments::read(alloc, words.as_slice()),
-        None => Answer::Refused(String::from_str(alloc, UNREADABLE)?),
+        None => Asked::Answer(Answer::Refused(String::from_str(alloc, UNREADABLE)?)),
     };
-    carry_out(rt, streams, &answer)
-}
-
-/// Does what a command line asks for: as a person is shown it if the standard output is a terminal, else as the engines
-/// print it.
-fn carry_out(
-    rt: &HostRuntime,
-    streams: &mut Streams,
-    answer: &Answer<'_>,
-) -> Result<u8, EngineFault> {
-    match answer {
-        Answer::Engine(
-            Request::Connect {
-                host,
-                port,
-                name,
-                password_file,
-                log,
-            },
-        ) => {
-            let call = Call {
-                host,
-                port: *port,
-                name,
-                password_file: *password_file,
-                log: *log,
-            };
-            return fibs_player::connect(rt, streams, call);
-        }
-        Answer::Engine(Request::Show) if rt.stdout().is_terminal() => {
-            return fibs_player::show(rt, streams);
-        }
-        Answer::Engine(Request::Plays(line)) if rt.stdout().is_terminal() => {
-            fibs_player::draw(rt, streams, line.as_bytes())?;
-        }
-        _ => {}
-    }
-    program::answer(
-        rt,
-        rt.alloc(),
-        answer,
-        Duration::from_millis(READ_MILLIS),
-        &mut streams.input,
-        &mut streams.out,
-        &mut rt.stderr(),
-    )
+    fibs_player::run(rt, streams, &asked)
 }
 
 /// The words of the command line, if all of them are text.

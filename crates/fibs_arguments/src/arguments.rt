@@ -245,7 +245,22 @@ each `open`. What one of them sends waits there until `deliver`, `serve` or
 
 If a socket fails, the status is 4, after the log so far.";
 
-/// What the command line asks for.
+/// A conversation with a server.
+#[derive(Clone, Copy)]
+pub struct Call<'a> {
+    /// The server's name or address.
+    pub host: &'a str,
+    /// Its port.
+    pub port: u16,
+    /// The name that logs in.
+    pub name: &'a str,
+    /// The file whose first line is the password. Without one it is typed.
+    pub password_file: Option<&'a str>,
+    /// The file to which each line is added as it comes.
+    pub log: Option<&'a str>,
+}
+
+/// An engine that needs no server.
 #[derive(Clone, Copy)]
 pub enum Request<'a> {
     /// To show the standard input.
@@ -254,24 +269,11 @@ pub enum Request<'a> {
     Plays(&'a str),
     /// To run the script on the standard input.
     Replay,
-    /// To talk with a server.
-    Connect {
-        /// The server's name or address.
-        host: &'a str,
-        /// Its port.
-        port: u16,
-        /// The player's name.
-        name: &'a str,
-        /// The file whose first line is the password, if it is not typed.
-        password_file: Option<&'a str>,
-        /// The file to which the conversation is appended, if it is kept.
-        log: Option<&'a str>,
-    },
     /// To play a script over sockets of this machine.
     Loop,
 }
 
-/// What a command line is answered by.
+/// What a command line is answered by that needs no server.
 #[derive(Drop)]
 pub enum Answer<'a> {
     /// An engine runs.
@@ -284,15 +286,24 @@ pub enum Answer<'a> {
     Memory,
 }
 
+/// What a command line asks for.
+#[derive(Drop)]
+pub enum Asked<'a> {
+    /// To talk with a server.
+    Connect(Call<'a>),
+    /// All else.
+    Answer(Answer<'a>),
+}
+
 /// Reads the words of the command line. The first is the program's own name.
-pub fn read<'a>(alloc: Global, words: &'a [String]) -> Answer<'a> {
+pub fn read<'a>(alloc: Global, words: &'a [String]) -> Asked<'a> {
     match matches_of(alloc, words) {
-        Ok(matches) => match request_of(&matches) {
-            Some(request) => Answer::Engine(request),
+        Ok(matches) => match asked_of(&matches) {
+            Some(asked) => asked,
             // The command line needs a subcommand and a line, so this does not come.
-            None => Answer::Memory,
+            None => Asked::Answer(Answer::Memory),
         },
-        Err(error) => answer_to(alloc, &error),
+        Err(error) => Asked::Answer(answer_to(alloc, &error)),
     }
 }
 
@@ -486,20 +497,25 @@ fn argument_of<'a>(alloc: Global, argument: &Argument) -> Arg<'a> {
     }
 }
 
-fn request_of<'a>(matches: &ArgMatches<'a>) -> Option<Request<'a>> {
+/// An engine that needs no server is asked for.
+fn engine(request: Request<'_>) -> Option<Asked<'_>> {
+    Some(Asked::Answer(Answer::Engine(request)))
+}
+
+fn asked_of<'a>(matches: &ArgMatches<'a>) -> Option<Asked<'a>> {
     let (word, matches) = matches.subcommand()?;
     match word {
-        "show" => Some(Request::Show),
-        "plays" => Some(Request::Plays(matches.get_str("LINE")?)),
-        "replay" => Some(Request::Replay),
-        "connect" => Some(Request::Connect {
+        "show" => engine(Request::Show),
+        "plays" => engine(Request::Plays(matches.get_str("LINE")?)),
+        "replay" => engine(Request::Replay),
+        "connect" => Some(Asked::Connect(Call {
             host: matches.get_str("HOST")?,
             port: matches.get_one("PORT")?,
             name: matches.get_str("NAME")?,
             password_file: matches.get_str("password-file"),
             log: matches.get_str("log"),
-        }),
-        "loop" => Some(Request::Loop),
+        })),
+        "loop" => engine(Request::Loop),
         _ => None,
     }
 }

@@ -3,4 +3,4 @@
 
 mod arguments;
 
-pub use arguments::{Answer, Request, read};
+pub use arguments::{Answer, Asked, Call, Request, read};

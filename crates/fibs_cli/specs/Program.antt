@@ -5,7 +5,6 @@ use Rattle.std.specs.Prelude.{string_bytes, codes}
 use Rattle.fibs_boards.specs.Board.{BoardFields}
 use Rattle.fibs_messages.specs.Line.{ReadingValue, board_line, IsReading}
 use Rattle.fibs_position.specs.GoodBoard.{IsGood}
-use Rattle.fibs_connect.specs.Converse.Ending.{Conversed}
 use Rattle.fibs_show.specs.Plays.{PlaysText, Refusal}
 use Rattle.fibs_scripts.specs.Output.{LoggedInPart, Replayed, ReplayFailed, ReplayedInPart}
 use Rattle.fibs_show.specs.Show.{WroteAll, WroteRead, WroteLines, WroteFront}
@@ -14,7 +13,7 @@ use Rattle.fibs_engine.specs.Writing.{GainedFront}
 use Rattle.fibs_arguments.specs.declared.arguments.Answer.{Answer}
 use Rattle.fibs_arguments.specs.declared.arguments.Answer.TheVariants.{Engine, Help, Refused, Memory}
 use Rattle.fibs_arguments.specs.declared.arguments.Request.{Request}
-use Rattle.fibs_arguments.specs.declared.arguments.Request.TheVariants.{Show, Plays, Replay, Connect, Loop}
+use Rattle.fibs_arguments.specs.declared.arguments.Request.TheVariants.{Show, Plays, Replay, Loop}
 use Rattle.fibs_engine.specs.declared.fault.EngineFault.{EngineFault}
 use Rattle.fibs_engine.specs.declared.fault.EngineFault.TheVariants as fault
 
@@ -69,7 +68,6 @@ abbrev pub Served : Request → Result ℕ EngineFault → Streams → Streams �
 Served Show result a b = Showed result a b × Keeps a.err b.err
 Served (Plays line) result a b = Played line.now result a b × Keeps a.input b.input
 Served Replay result a b = RanScript result a b × Keeps a.err b.err
-Served (Connect host port name password_file log) result a b = Conversed name.now result a.input a.out b.out a.err b.err
 Served Loop result a b = PlayedScript result a.input b.input a.out b.out × Keeps a.err b.err
 
 -- a command line is answered so: help is printed on standard output with status 0, and what is wrong with it on

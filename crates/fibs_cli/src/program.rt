@@ -5,8 +5,6 @@ ghost use Rattle.fibs_engine.specs.Printing.{Printed};
 ghost use Rattle.fibs_engine.specs.Status.{code_of};
 
 use fibs_arguments::{Answer, Request};
-use fibs_connect::converse_at;
-use fibs_engine::dial::Place;
 use fibs_engine::fault::EngineFault;
 use fibs_engine::status::Status;
 use fibs_engine::writing::write_bytes;
@@ -17,15 +15,12 @@ use fibs_show::show::show;
 use std::alloc::Global;
 use std::io::{Read, Write};
 use std::net::{Net, TcpListener, TcpStream};
-use std::time::Duration;
 
-/// Does what a command line calls for: it runs an engine, prints help on `out`, or says on `err` what is wrong. A
-/// server is listened to until it was quiet for so long.
+/// Answers a command line that needs no server: it runs an engine, prints help on `out`, or says on `err` what is wrong.
 pub fn answer<N: Net<Listener = TcpListener, Stream = TcpStream>, R: Read, W: Write, E: Write>(
     rt: &N,
     alloc: Global,
     answer: &Answer<'_>,
-    quiet: Duration,
     input: &mut R,
     out: &mut W,
     err: &mut E,
@@ -35,7 +30,7 @@ pub fn answer<N: Net<Listener = TcpListener, Stream = TcpStream>, R: Read, W: Wr
         (streams (R.remaining input.new) (W.contents out.new) (E.contents err.new)) }
 {
     match answer {
-        Answer::Engine(request) => serve(rt, alloc, *request, quiet, input, out, err),
+        Answer::Engine(request) => serve(rt, alloc, *request, input, out, err),
         Answer::Help(text) => print_text(text.as_bytes(), Status::Done, out),
         Answer::Refused(text) => print_text(text.as_bytes(), Status::WrongLine, err),
         Answer::Memory => Err(EngineFault::Memory),
@@ -47,7 +42,6 @@ fn serve<N: Net<Listener = TcpListener, Stream = TcpStream>, R: Read, W: Write, 
     rt: &N,
     alloc: Global,
     request: Request<'_>,
-    quiet: Duration,
     input: &mut R,
     out: &mut W,
     err: &mut E,
@@ -60,15 +54,6 @@ fn serve<N: Net<Listener = TcpListener, Stream = TcpStream>, R: Read, W: Write, 
         Request::Show => show(alloc, input, out),
         Request::Plays(line) => plays(alloc, line.as_bytes(), out, err),
         Request::Replay => replay(alloc, input, out),
-        Request::Connect {
-            host,
-            port,
-            name,
-            ..
-        } => {
-            let place = Place { host, port, quiet };
-            converse_at(rt, alloc, place, name.as_bytes(), input, out, err)
-        }
         Request::Loop => play_here(rt, alloc, input, out),
     }
 }

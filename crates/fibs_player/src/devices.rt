@@ -1,10 +1,12 @@
 //! The program on its devices: what a person types and sees. If standard output is a pipe or a file, it gets the plain
 //! account.
 
-use crate::playing::{Call, play, unless_memory_ran_out};
+use crate::playing::{play, unless_memory_ran_out};
 use crate::showing::show_on;
 use crate::streams::Streams;
 use arrayvec::ArrayVec;
+use fibs_arguments::{Answer, Asked, Call, Request};
+use fibs_cli::program;
 use fibs_engine::dial::READ_MILLIS;
 use fibs_engine::fault::EngineFault;
 use fibs_engine::fixed::{append, append_number};
@@ -47,6 +49,34 @@ impl Clock for NoClock {
     }
 }
 
+/// Does what a command line asks for: as a person is shown it if the standard output is a terminal, else as the engines
+/// print it.
+///
+/// Errors: `Device` if a stream fails, `Memory`.
+pub fn run(rt: &HostRuntime, streams: &mut Streams, asked: &Asked<'_>) -> Result<u8, EngineFault> {
+    match asked {
+        Asked::Connect(call) => connect(rt, streams, *call),
+        Asked::Answer(answer) => run_here(rt, streams, answer),
+    }
+}
+
+/// The same of what needs no server.
+fn run_here(
+    rt: &HostRuntime,
+    streams: &mut Streams,
+    answer: &Answer<'_>,
+) -> Result<u8, EngineFault> {
+    if rt.stdout().is_terminal() {
+        match answer {
+            Answer::Engine(Request::Show) => return show(rt, streams),
+            Answer::Engine(Request::Plays(line)) => draw(rt, streams, line.as_bytes())?,
+            _ => {}
+        }
+    }
+    let Streams { input, out } = streams;
+    program::answer(rt, rt.alloc(), answer, input, out, &mut rt.stderr())
+}
+
 /// The settings of a terminal without a server.
 fn settings_of<'a>(rt: &HostRuntime, clocks: &'a Clocks) -> Settings<'a> {
     terminal_settings(rt, clocks.zone(), "", 0)
@@ -55,7 +85,7 @@ fn settings_of<'a>(rt: &HostRuntime, clocks: &'a Clocks) -> Settings<'a> {
 /// Shows the standard input at a terminal. Talk has no time: it was said at another one.
 ///
 /// Errors: `Device` if a stream fails, `Memory`.
-pub fn show(rt: &HostRuntime, streams: &mut Streams) -> Result<u8, EngineFault> {
+fn show(rt: &HostRuntime, streams: &mut Streams) -> Result<u8, EngineFault> {
     let clocks = Clocks::read(rt);
     let held = show_lines(rt, &clocks, streams)?;
     if held > 0 {
@@ -83,7 +113,7 @@ fn show_lines(
 /// Draws the board that a line says, if the user plays in its game; nothing for any other line.
 ///
 /// Errors: `Device` if the standard output fails, `Memory`.
-pub fn draw(rt: &HostRuntime, streams: &mut Streams, line: &[u8]) -> Result<(), EngineFault> {
+fn draw(rt: &HostRuntime, streams: &mut Streams, line: &[u8]) -> Result<(), EngineFault> {
     let alloc = rt.alloc();
     let clocks = Clocks::read(rt);
     match Board::read(line) {
@@ -103,7 +133,7 @@ pub fn draw(rt: &HostRuntime, streams: &mut Streams, line: &[u8]) -> Result<(), 
 /// Talks with a server. The password is the first line of a file, or typed. Answers the exit status.
 ///
 /// Errors: `Device` if a stream fails, `Memory`.
-pub fn connect(rt: &HostRuntime, streams: &mut Streams, call: Call<'_>) -> Result<u8, EngineFault> {
+fn connect(rt: &HostRuntime, streams: &mut Streams, call: Call<'_>) -> Result<u8, EngineFault> {
     match call.password_file {
         None => {
             if rt.stdin().is_terminal() {

@@ -7,6 +7,5 @@ mod playing;
 pub mod showing;
 mod streams;
 
-pub use devices::{connect, draw, show};
-pub use playing::Call;
+pub use devices::run;
 pub use streams::Streams;

@@ -1,5 +1,6 @@
 //! A person plays.
 
+use fibs_arguments::Call;
 use fibs_connect::{answer_lines, converse_at, converse_on};
 use fibs_engine::dial::{Dial, Place, Server};
 use fibs_engine::fault::EngineFault;
@@ -20,29 +21,12 @@ use std::io::{IsTerminal, Read, Stdout, Write};
 use std::net::{Net, TcpListener, TcpStream};
 use std::time::{Clock, Duration};
 
-/// What `connect` is asked for.
-#[derive(Clone, Copy)]
-pub struct Call<'a> {
-    /// The server's name or address.
-    pub host: &'a str,
-    /// Its port.
-    pub port: u16,
-    /// The name that logs in.
-    pub name: &'a str,
-    /// The file whose first line is the password. Without one it is typed.
-    pub password_file: Option<&'a str>,
-    /// The file to which each line is added as it comes.
-    pub log: Option<&'a str>,
-}
-
-impl<'a> Call<'a> {
-    /// Where the server is; each read of it waits so many milliseconds.
-    fn place(self, millis: u64) -> Place<'a> {
-        Place {
-            host: self.host,
-            port: self.port,
-            quiet: Duration::from_millis(millis),
-        }
+/// Where the server of a call is; each read of it waits so many milliseconds.
+fn place_of(call: Call<'_>, millis: u64) -> Place<'_> {
+    Place {
+        host: call.host,
+        port: call.port,
+        quiet: Duration::from_millis(millis),
     }
 }
 
@@ -115,7 +99,7 @@ pub fn play<N: Net<Listener = TcpListener, Stream = TcpStream>, R: Read>(
         let _said = write_bytes(NO_LOG, &mut rt.stderr());
         return Ok(Status::Device.code());
     }
-    let server = Server::new(net, call.place(millis));
+    let server = Server::new(net, place_of(call, millis));
     if rt.stdout().is_terminal() {
         let mut paced = PacedServer::new(server, millis);
         return match call.log {
@@ -125,7 +109,7 @@ pub fn play<N: Net<Listener = TcpListener, Stream = TcpStream>, R: Read>(
     }
     let (alloc, name, mut err) = (rt.alloc(), call.name.as_bytes(), rt.stderr());
     match call.log {
-        None => converse_at(net, alloc, call.place(millis), name, input, out, &mut err),
+        None => converse_at(net, alloc, place_of(call, millis), name, input, out, &mut err),
         log => converse_on(
             &mut LoggedServer::new(server, rt, log),
             alloc,

@@ -1,6 +1,6 @@
 //! The command line, from its words to the exit status.
 use super::outcomes::assert_is;
-use fibs_arguments::Answer;
+use fibs_arguments::{Answer, Asked, Call};
 use fibs_cli::program::{answer, status};
 use fibs_engine::fault::EngineFault;
 use fibs_test_tools::outcome::Outcome;
@@ -8,7 +8,6 @@ use fibs_test_tools::pipe::{After, Pipe};
 use std::alloc::{AllocError, Global};
 use std::net::{Net, TcpListener, TcpStream};
 use std::process::Abort;
-use std::time::Duration;
 
 /// The words after the program's name, what is on standard input, and the result.
 struct Case {
@@ -25,7 +24,7 @@ const BOARD: &str =
     "board:You:bob:5:0:0:0:0:0:0:0:0:0:0:0:0:0:0:0:-2:0:0:0:0:0:0:0:0:0:0:1:0:1:6:5:0:0:1:1:1:0:1:-1:0:25:14:13:0:0:1:0:0:0";
 
 /// Command lines that run an engine.
-static SERVED: [Case; 5] = [
+static SERVED: [Case; 6] = [
     Case {
         name: "show prints on standard output",
         words: &["show"],
@@ -53,6 +52,14 @@ static SERVED: [Case; 5] = [
     Case {
         name: "replay reads its script from standard input",
         words: &["replay"],
+        input: b"open\n",
+        status: 3,
+        out: b"script 1\n",
+        err: b"",
+    },
+    Case {
+        name: "loop reads its script from standard input",
+        words: &["loop"],
         input: b"open\n",
         status: 3,
         out: b"script 1\n",
@@ -90,19 +97,10 @@ fn served<N: Net<Listener = TcpListener, Stream = TcpStream> + AllocGlobal>(
     called: &Answer<'_>,
     input: &[u8],
 ) -> Outcome {
-    let quiet = Duration::from_millis(500);
     let mut input = Pipe::new(input, 7, After::End, 0);
     let mut out = Pipe::new(b"", 1, After::End, 4096);
     let mut err = Pipe::new(b"", 1, After::End, 4096);
-    let ending = answer(
-        rt,
-        rt.alloc(),
-        called,
-        quiet,
-        &mut input,
-        &mut out,
-        &mut err,
-    );
+    let ending = answer(rt, rt.alloc(), called, &mut input, &mut out, &mut err);
     Outcome::new(ending, out.output(), err.output())
 }
 
@@ -115,8 +113,74 @@ fn answered<N: Net<Listener = TcpListener, Stream = TcpStream> + AllocGlobal + A
     let line = line_of(rt.alloc(), words)
         .ok()
         .expect(rt, "there is memory for it");
-    let called = fibs_arguments::read(rt.alloc(), line.as_slice());
-    served(rt, &called, input)
+    match fibs_arguments::read(rt.alloc(), line.as_slice()) {
+        Asked::Answer(called) => served(rt, &called, input),
+        // no row asks for a server
+        Asked::Connect(_) => Outcome::new(Err(EngineFault::Device), b"", b""),
+    }
+}
+
+/// What a command line asks of a server.
+fn is_call(alloc: Global, words: &[&str], wanted: &Call<'_>) -> Result<bool, AllocError> {
+    let line = line_of(alloc, words)?;
+    Ok(match fibs_arguments::read(alloc, line.as_slice()) {
+        Asked::Connect(call) => {
+            let files = [call.password_file, call.log] == [wanted.password_file, wanted.log];
+            files
+                && call.host == wanted.host
+                && call.port == wanted.port
+                && call.name == wanted.name
+        }
+        Asked::Answer(_) => false,
+    })
+}
+
+/// Words that ask for a server, and what they ask of it.
+static CALLS: [(&[&str], Call<'static>); 3] = [
+    (
+        &["connect", "fibs.example", "4321", "ann"],
+        Call {
+            host: "fibs.example",
+            port: 4321,
+            name: "ann",
+            password_file: None,
+            log: None,
+        },
+    ),
+    (
+        &["connect", "--log", "kept", "localhost", "1", "bob"],
+        Call {
+            host: "localhost",
+            port: 1,
+            name: "bob",
+            password_file: None,
+            log: Some("kept"),
+        },
+    ),
+    (
+        &[
+            "connect",
+            "::1",
+            "65535",
+            "show",
+            "--password-file",
+            "secret",
+        ],
+        Call {
+            host: "::1",
+            port: 65535,
+            name: "show",
+            password_file: Some("secret"),
+            log: None,
+        },
+    ),
+];
+
+#[test]
+fn asks_a_server_by_its_words(rt: HostRuntime) {
+    for (words, wanted) in &CALLS {
+        assert!(rt; is_call(rt.alloc(), words, wanted) == Ok(true), "{words:?}");
+    }
 }
 
 /// Asserts how a command line is served.
