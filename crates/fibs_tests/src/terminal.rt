@@ -7,6 +7,7 @@ mod conversations;
 mod deeds;
 mod drawing;
 mod flushing;
+mod hints;
 mod lines;
 mod passwords;
 mod pictures;
