@@ -8,14 +8,14 @@ pub mod laws;
 mod layers;
 mod lines;
 mod picture;
-mod pips;
+pub mod pips;
 mod places;
 mod words;
-mod writing;
+pub mod writing;
 
 pub use cells::{MOST_SEEN, OWN_LETTER};
 pub use picture::draw;
 pub use places::{
     BOARD_COLUMNS, CUBE_ROW, DEED_ROW, DICE_ROW, PICTURE_COLUMNS, TURN_ROW, height_at, place_at,
 };
-pub use words::{FREE_CUBE, OPPONENTS_CUBE, OPPONENTS_TURN};
+pub use words::{FREE_CUBE, OPPONENTS_CUBE, OPPONENTS_TURN, doublers, front};

@@ -21,8 +21,8 @@ pub const OPPONENTS_TURN: &[u8] = b"the opponent's turn";
 /// How many bytes of a name are shown.
 const NAME_ROOM: usize = 30;
 
-/// What is shown of a name.
-fn front(name: &[u8]) -> &[u8]
+/// What is shown of a name: 30 bytes of it at most.
+pub fn front(name: &[u8]) -> &[u8]
     ensures { result.now ≡ take 30 name.now }
 {
     if name.len() < NAME_ROOM {

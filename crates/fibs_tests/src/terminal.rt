@@ -17,4 +17,5 @@ mod seats;
 mod spellings;
 mod texts;
 mod watching;
+mod worded;
 mod wordings;
