@@ -541,12 +541,12 @@ FROM_FILE = ['sh', '-c', 'file=$1; shift; exec "$@" < "$file"', 'sh']
 TO_FILE = ['sh', '-c', 'file=$1; shift; exec "$@" > "$file"', 'sh']
 
 
-def shown_by(*words, columns=80, held=''):
+def shown_by(*words, columns=80, held='', **more):
     """What a terminal shows of a subcommand that reads these bytes, up to its end."""
     with tempfile.NamedTemporaryFile('w') as file:
         file.write(held)
         file.flush()
-        terminal = Terminal([*FROM_FILE, file.name, PROGRAM, *words], columns)
+        terminal = Terminal([*FROM_FILE, file.name, PROGRAM, *words], columns, **more)
         terminal.ends(0)
         found = terminal.screen()
         terminal.close()
@@ -559,6 +559,15 @@ def the_picture_of_the_pages(_server):
     same('its lines', len(drawn), 14)
     for page in 'docs/PLAYING.md', 'docs/fibs.1':
         same('it is in ' + page, ''.join(drawn[:13]) in (ROOT / page).read_text(), True)
+
+
+def the_words_of_the_pages(_server):
+    """The same board, if FIBS_WORDS is set: its rows are broken where the terminal ends, and nowhere else."""
+    page = (ROOT / 'docs' / 'PLAYING.md').read_text()
+    for columns in 80, 40:
+        told = shown_by('show', columns=columns, held=SHOWN + '\n', FIBS_WORDS='1', COLUMNS=str(columns)).splitlines()
+        same('rows that are wider', [row for row in told if len(row) > columns], [])
+        same('the page has the words', ' '.join(told) in page.replace('\n', ' '), True)
 
 
 def a_capture_is_drawn(_server):
@@ -816,7 +825,7 @@ CASES = [
     the_password_is_in_no_list_of_processes, fibs_play_without_a_terminal, a_password_from_a_file,
     password_files_that_are_none, the_program_itself_asks_for_the_password, a_wrong_password,
     names_and_passwords_that_are_none, the_login_is_asked_for_in_any_cut, a_wrong_password_while_others_come_and_go,
-    the_picture_of_the_pages, a_capture_is_drawn, plays_below_their_board, forty_columns,
+    the_picture_of_the_pages, the_words_of_the_pages, a_capture_is_drawn, plays_below_their_board, forty_columns,
     boards_of_every_malformed_kind, odd_boards, twenty_boards_in_a_second, heard_while_nothing_is_typed,
     a_server_that_never_stops_talking, eight_megabytes_at_once,
     a_server_that_closes, nothing_is_done_while_nothing_happens, escape_sequences, stopped_and_continued,

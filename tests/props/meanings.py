@@ -39,6 +39,7 @@ TYPED = {
 TERMINAL = {
     'help': r'type|word',
     'plays': r'legal',
+    'words': r'in words',
     'gag': r'player|NAME|says',
     'ungag': r'again',
     'quiet': r'shout',

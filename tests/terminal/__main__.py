@@ -22,6 +22,7 @@ import offers
 import play
 import refusals
 import resuming
+import spoken
 import whole
 
 # How many scenes are played at the same time: they wait most of the time. Those that measure are played alone.
@@ -40,7 +41,7 @@ def tried(scene):
 def main():
     words = sys.argv[2:]
     beside = (offers.SCENES + resuming.SCENES + refusals.SCENES + hints.SCENES + play.SCENES + logs.SCENES
-              + game.SCENES + babble.SCENES + whole.SCENES)
+              + game.SCENES + spoken.SCENES + babble.SCENES + whole.SCENES)
     alone = escapes.SCENES + costs.SCENES
     chosen = [[scene for scene in scenes if not words or any(word in scene.__name__ for word in words)]
               for scenes in (beside, alone)]

@@ -1,5 +1,6 @@
 #!/usr/bin/env python3
-"""The whole game of docs/GAME.md: python3 -B tests/terminal/game.py PROGRAM records it once more, into the page.
+"""The whole game of docs/GAME.md, as it looks and in words: python3 -B tests/terminal/game.py PROGRAM records both once
+more, into the page.
 
 The dice, eve's plays and what ann types are the same each time, so that the page can be compared with the program.
 """
@@ -14,6 +15,8 @@ from words import ENDED, read
 PAGE = ROOT / 'docs' / 'GAME.md'
 SERVER = ('--bot', 'eve:plays=last,resigns=6n,says=good luck', '--no-changes',
           '--dice', '53,63,66,65,14,26,12,13,42,45,15')
+# The blocks of the page: what ann's environment has for each.
+BLOCKS = {}, {'FIBS_WORDS': '1'}
 # Ann rolls by a short word, and types each move as players write it.
 TYPED = ['invite eve 1', 'tell eve hi']
 SHORT = {'roll': 'r'}
@@ -40,9 +43,9 @@ def written(line):
 class Recorded:
     """Ann's screen, and what she has typed there."""
 
-    def __init__(self):
+    def __init__(self, **more):
         self.server = Served(*SERVER)
-        self.ann = Person(self.server.port, TERM='xterm')
+        self.ann = Person(self.server.port, TERM='xterm', **more)
         self.rows = []
 
     def close(self):
@@ -83,35 +86,46 @@ class Recorded:
         return self.rows
 
 
-def recorded():
+def recorded(**more):
     """The rows of the game."""
-    screen = Recorded()
+    screen = Recorded(**more)
     try:
         return screen.plays()
     finally:
         screen.close()
 
 
-def rows_of_the_page():
-    return PAGE.read_text().split('```')[1].split('\n')[1:-1]
+def rows_of_the_page(block=0):
+    return PAGE.read_text().split('```')[2 * block + 1].split('\n')[1:-1]
 
 
 def the_page_is_the_game():
     """The page shows the very rows."""
-    rows, wanted = recorded(), rows_of_the_page()
+    is_on_the_page(0)
+
+
+def the_page_is_what_is_heard():
+    """So it does of the game in words."""
+    is_on_the_page(1)
+
+
+def is_on_the_page(block):
+    rows, wanted = recorded(**BLOCKS[block]), rows_of_the_page(block)
     for number, (found, row) in enumerate(zip(rows, wanted)):
         same('row %d' % number, found, row)
     same('rows', len(rows), len(wanted))
 
 
 def main():
-    before, _, after = PAGE.read_text().split('```')
+    parts = PAGE.read_text().split('```')
     began = time.monotonic()
-    PAGE.write_text('```'.join([before, '\n' + '\n'.join(recorded()) + '\n', after]))
+    for block, more in enumerate(BLOCKS):
+        parts[2 * block + 1] = '\n' + '\n'.join(recorded(**more)) + '\n'
+    PAGE.write_text('```'.join(parts))
     print('recorded in %.0f s' % (time.monotonic() - began))
 
 
-SCENES = [the_page_is_the_game]
+SCENES = [the_page_is_the_game, the_page_is_what_is_heard]
 
 if __name__ == '__main__':
     sys.exit(main())

@@ -70,6 +70,7 @@ pub fn terminal_settings<'a>(
         columns: number(rt, "COLUMNS", COLUMNS),
         colour: !dumb && !is_set(rt, "NO_COLOR"),
         bell: !is_set(rt, "FIBS_QUIET"),
+        words: is_set(rt, "FIBS_WORDS"),
         utf8: is_utf8(rt),
         zone,
         host: host.as_bytes(),

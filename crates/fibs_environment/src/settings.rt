@@ -11,6 +11,8 @@ pub struct Settings<'a> {
     pub colour: bool,
     /// Whether the bell may ring.
     pub bell: bool,
+    /// Whether a board is told in words, in place of its picture.
+    pub words: bool,
     /// Whether it shows letters beyond ASCII, as UTF-8.
     pub utf8: bool,
     /// The clock of the place.

@@ -4,6 +4,7 @@ ghost use Rattle.fibs_front.specs.Wishes.{wish_value};
 ghost use Rattle.fibs_terminal.specs.Asking.{AsksInBounds, KnownStays, SendsUntaken};
 
 use crate::screen::Screen;
+use crate::worded::append_words;
 use bstr::ByteSlice;
 use fibs_advice::plays::append_plays;
 use fibs_advice::rules::append_rule;
@@ -27,6 +28,7 @@ use std::time::Clock;
 enum Own {
     Help,
     Plays,
+    Words,
     Players,
     Gag,
     Ungag,
@@ -36,9 +38,10 @@ enum Own {
 }
 
 /// The words of the terminal.
-const OWN_WORDS: [(&[u8], Own); 8] = [
+const OWN_WORDS: [(&[u8], Own); 9] = [
     (b"help", Own::Help),
     (b"plays", Own::Plays),
+    (b"words", Own::Words),
     (b"players", Own::Players),
     (b"gag", Own::Gag),
     (b"ungag", Own::Ungag),
@@ -46,6 +49,9 @@ const OWN_WORDS: [(&[u8], Own); 8] = [
     (b"loud", Own::Loud),
     (b"send", Own::Send),
 ];
+
+/// What is said if a word asks for a board, and there is none.
+const NO_GAME: &[u8] = b"No board on which you play was shown yet: type board.\n";
 
 /// How many bytes of what follows a word are shown in a row: with the longest word the row fits.
 const MOST_SHOWN: usize = 19;
@@ -220,6 +226,7 @@ impl<'a, C: Clock + Drop> Screen<'a, C> {
         match own {
             Own::Help => self.say_help(rest),
             Own::Plays => self.say_plays(client),
+            Own::Words => self.say_words(client),
             Own::Players => append_players(self.alloc, directory, &mut self.text),
             Own::Gag => self.gag(rest),
             Own::Ungag => self.ungag(rest),
@@ -244,8 +251,16 @@ impl<'a, C: Clock + Drop> Screen<'a, C> {
     /// Lists the legal moves of the board that is shown.
     fn say_plays(&mut self, client: &Client) -> Result<(), AllocError> {
         match client.game() {
-            None => self.say(b"No board on which you play was shown yet: type board.\n"),
+            None => self.say(NO_GAME),
             Some(game) => append_plays(self.alloc, game, &mut self.text),
+        }
+    }
+
+    /// Tells in words the board that is shown.
+    fn say_words(&mut self, client: &Client) -> Result<(), AllocError> {
+        match client.game() {
+            None => self.say(NO_GAME),
+            Some(game) => append_words(self.alloc, game, self.settings.columns, &mut self.text),
         }
     }
 

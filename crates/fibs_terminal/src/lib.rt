@@ -12,6 +12,7 @@ mod resting;
 mod screen;
 mod telling;
 mod terminal;
+mod worded;
 
 pub use picture::append_picture;
 pub use terminal::Terminal;

@@ -2,8 +2,9 @@
 //! marked, and it is cut to the columns.
 ghost use Rattle.std.specs.Prelude.{◌≡◌, ◌≤◌, ◌++◌, OnOk, List, ℕ, true, false};
 ghost use Rattle.fibs_position.specs.GameOf.{game_of};
-ghost use Rattle.fibs_terminal.specs.Drawings.{DrawsBoard, is_plain};
+ghost use Rattle.fibs_terminal.specs.Drawings.{DrawsBoard, is_plain, TellsBoard, is_worded};
 
+use crate::worded::append_words;
 use bstr::ByteSlice;
 use fibs_environment::Settings;
 use fibs_picture::{
@@ -183,10 +184,10 @@ fn append_rows(
 fn is_plain(settings: &Settings<'_>) -> bool
     ensures { result ≡ is_plain settings.now }
 {
-    !settings.colour && settings.columns >= PICTURE_COLUMNS
+    !settings.words && !settings.colour && settings.columns >= PICTURE_COLUMNS
 }
 
-/// Appends the picture of a board.
+/// Appends the picture of a board, or the board in words.
 ///
 /// Errors: if memory runs out.
 pub fn append_picture(
@@ -197,6 +198,8 @@ pub fn append_picture(
 ) -> Result<(), AllocError>
     ensures plain { is_plain settings.now ≡ true → OnOk result ((t : List ℕ)
         × DrawsBoard (game_of game.now) t × (text.new.items ≡ text.old.items ++ t)) }
+    ensures told { is_worded settings.now ≡ true → OnOk result ((t : List ℕ)
+        × TellsBoard (game_of game.now) t × (text.new.items ≡ text.old.items ++ t)) }
 {
     append_marked(alloc, game, &nothing_came(), settings, false, text)
 }
@@ -213,7 +216,12 @@ pub(crate) fn append_marked(
 ) -> Result<(), AllocError>
     ensures plain { is_plain settings.now ≡ true → is_above ≡ false → OnOk result ((t : List ℕ)
         × DrawsBoard (game_of game.now) t × (text.new.items ≡ text.old.items ++ t)) }
+    ensures told { is_worded settings.now ≡ true → OnOk result ((t : List ℕ)
+        × TellsBoard (game_of game.now) t × (text.new.items ≡ text.old.items ++ t)) }
 {
+    if settings.words {
+        return append_words(alloc, game, settings.columns, text);
+    }
     if !is_plain(settings) {
         return append_coloured(alloc, game, came, settings, text);
     }

@@ -4,7 +4,7 @@
 pub const SCREEN: &[u8] = b"\
 The game    roll  double  accept  reject  move 8-5 6-5  resign n|g|b
             also: r, m 8-5 6-5, 8/5 6/5, bar/20, 6/off, 8/5(2), 24/18/13
-            plays: the legal moves   board: the board once more
+            plays: the legal moves   board: the board again   words: in words
             order roll: rolls for you if you may not double   withdraw roll
 Matches     invite NAME POINTS   invite NAME (to resume)   join NAME   join
             toggle ready   who   players
@@ -47,7 +47,7 @@ const QUIET: &[u8] = b"quiet: hides shouts, and who comes and goes. loud: shows 
 const HELP: &[u8] = b"help (or ?): lists what you can type. help WORD: says more about a word.\n";
 
 /// What there is to say of each word: of the game, of matches, of talk, of the terminal.
-static WORDS: [(&[u8], &[u8]); 35] = [
+static WORDS: [(&[u8], &[u8]); 36] = [
     (b"roll", ROLL),
     (b"r", ROLL),
     (
@@ -119,6 +119,11 @@ For what the client can't do: send accept, send watch bob, send redouble ..\n",
     (
         b"plays",
         b"plays: lists the legal moves of the board, ready to be typed, 20 at most.\n",
+    ),
+    (
+        b"words",
+        b"words: tells the board in words, a fact a row. If FIBS_WORDS is set, each board\n\
+is told so, in place of its picture.\n",
     ),
     (
         b"bye",

@@ -55,6 +55,7 @@ pub fn plain_settings() -> Settings<'static> {
         columns: 80,
         colour: false,
         bell: false,
+        words: false,
         utf8: false,
         zone: Zone::utc(),
         host: b"fibs.com",

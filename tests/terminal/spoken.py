@@ -1,0 +1,199 @@
+"""Boards in words: ann hears the rows of her screen one after another, and sees no picture."""
+
+import random
+import re
+import sys
+
+from people import ROOT, Failed, Person, Served, Table, same
+from words import ENDED, REFUSED, read
+
+sys.path.insert(0, str(ROOT / 'examples' / 'fibs_server'))
+import rules
+
+# How long she waits for a row.
+STUCK = 15
+
+# The rows of a board, each a fact: what is told of the turn, of the dice and so on.
+TURN = re.compile(r"(?:Your|Nobody's|The opponent's) turn(?:, (?:but |and )?[a-z' ]+)?\.")
+DICE = re.compile(r"No dice\.|Your dice (\d) and (\d)(?:, the opponent's \d and \d)?\.|The opponent's dice \d and \d\.")
+SCORE = re.compile(r'Score \d+ to \d+, (?:match to \d+|unlimited match)\.')
+CUBE = re.compile(r"Cube \d+, (?:in the middle|yours|the opponent's|no doubling)\.")
+WAY = re.compile(r'You go (down, from 24 to 1|up, from 1 to 24)\.')
+SIDE = re.compile(r'(\S+), (\d+) pips: ((?:\d+ on (?:the bar|\d+), )*)(none|\d+) off\.')
+HELD = re.compile(r'Held against you: (none|\d+(?:, \d+)*)\.')
+ROWS = TURN, DICE, SCORE, CUBE, WAY, SIDE, SIDE, HELD
+STACK = re.compile(r'(\d+) on (the bar|\d+)')
+
+# A row of a picture.
+DRAWN = re.compile(r' [+|].*')
+ROLLED = re.compile(r'You roll (\d) and (\d)\.')
+
+
+def is_told(rows):
+    """True if these rows are a board in words."""
+    return len(rows) == len(ROWS) and all(form.fullmatch(row) for form, row in zip(ROWS, rows))
+
+
+def side_of(row, goes_up):
+    """The checkers of a side, counted so that ann goes down, from 0 to 25; its pips are as it says."""
+    name, pips, stacks, off = SIDE.fullmatch(row).groups()
+    places = {}
+    for count, place in STACK.findall(stacks):
+        number = place if place == 'the bar' else 25 - int(place) if goes_up else int(place)
+        places[number] = int(count)
+    return name, int(pips), places, 0 if off == 'none' else int(off)
+
+
+class Position:
+    """What a listener knows of a board that was told."""
+
+    def __init__(self, rows):
+        self.goes_up = WAY.fullmatch(rows[4])[1].startswith('up')
+        _, pips, own, own_off = side_of(rows[5], self.goes_up)
+        _, other_pips, other, other_off = side_of(rows[6], self.goes_up)
+        self.own = tuple([own_off] + [own.get(place, 0) for place in range(1, 25)] + [own.get('the bar', 0)])
+        self.other = tuple([other_off] + [other.get(25 - place, 0) for place in range(1, 25)]
+                           + [other.get('the bar', 0)])
+        same('checkers', (sum(self.own), sum(self.other)), (15, 15))
+        same('pips', (pips, other_pips), (rules.pips(self.own), rules.pips(self.other)))
+        held = [place for place in range(24, 0, -1) if self.other[25 - place] > 1]
+        told = HELD.fullmatch(rows[7])[1]
+        same('held places', told, ', '.join(map(self.number, held)) or 'none')
+
+    def number(self, place):
+        return str(25 - place if self.goes_up else place)
+
+    def step(self, source, target):
+        """A step as ann types it."""
+        return '%s-%s' % ('bar' if source == rules.BAR else self.number(source),
+                          'off' if target == rules.OFF else self.number(target))
+
+
+class Listener:
+    """One who hears the rows and plays by them alone: no hint is read."""
+
+    def __init__(self, server, seed, **more):
+        self.chance = random.Random(seed)
+        self.ann = Person(server.port, FIBS_WORDS='1', **more)
+        self.rows, self.told, self.position, self.typed = [], [], None, []
+
+    def types(self, line):
+        self.typed.append(line)
+        self.ann.type(line)
+
+    def moves(self, dice):
+        plays = rules.plays((self.position.own, self.position.other), dice)
+        if not plays:
+            # the server passes for her
+            return
+        steps = self.chance.choice(plays)
+        self.types('move ' + ' '.join(self.position.step(*step) for step in steps))
+
+    def hears_board(self, rows):
+        """A whole board was told."""
+        self.told.append(rows)
+        self.position = Position(rows)
+        dice = DICE.fullmatch(rows[1])
+        if rows[0] == 'Your turn, to roll.':
+            self.types('roll')
+        elif rows[0] == 'Your turn, to move.':
+            self.moves((int(dice[1]), int(dice[2])))
+        elif rows[0].endswith('you are offered a double.'):
+            self.types(self.chance.choice(['accept', 'reject']))
+
+    def hears(self, row):
+        """A row was said."""
+        self.rows.append(row)
+        if DRAWN.fullmatch(row):
+            raise Failed('a row of a picture: %r' % row)
+        if REFUSED.fullmatch(row):
+            raise Failed('%r was refused: %r' % (self.typed[-1:], row))
+        if is_told(self.rows[-len(ROWS):]):
+            self.hears_board(self.rows[-len(ROWS):])
+        elif found := ROLLED.fullmatch(row):
+            self.moves((int(found[1]), int(found[2])))
+        elif row.endswith("Type 'join eve' to accept."):
+            self.types('join eve')
+        elif row.startswith("Type 'join' if you want to play the next game"):
+            self.types('join')
+
+    def plays_to_the_end(self):
+        while not self.rows or not ENDED.fullmatch(self.rows[-1]):
+            try:
+                self.hears(self.ann.next_line(STUCK))
+            except Failed as stuck:
+                raise Failed('stuck after %r, %r: %s' % (self.rows[-9:], self.typed[-3:], stuck)) from None
+
+
+def match_by_ear(*options, seed=1, bot='invites=2,plays=random', **more):
+    """A match that is played by what is heard."""
+    server = Served('--bot', 'eve:' + bot, '--bot-pause', '20', '--seed', str(seed), *options)
+    try:
+        listener = Listener(server, seed, columns=300, COLUMNS='300', **more)
+        listener.plays_to_the_end()
+        listener.ann.type('quit')
+        listener.ann.ends(0)
+        listener.ann.close()
+        return listener
+    finally:
+        server.close()
+
+
+def by_ear_alone():
+    """A player who hears the words, and sees neither a picture nor a hint, plays whole matches by the rules."""
+    for seed, options in enumerate(([], ['--mixed-sides'], ['--no-changes'])):
+        listener = match_by_ear(*options, seed=seed + 1)
+        same('boards were told', len(listener.told) > 10, True)
+
+
+def no_row_is_wider():
+    """On terminals of many sizes and kinds: rows are broken at spaces, and no picture is drawn."""
+    for columns, rows, kind in (80, 24, 'xterm'), (40, 24, 'xterm'), (60, 15, 'xterm'), (40, 15, 'dumb'):
+        table = Table('--dice', '31,63,44', columns=columns, rows=rows, COLUMNS=str(columns), TERM=kind,
+                      FIBS_WORDS='1')
+        try:
+            table.begins()
+            table.ann.hint()
+            lines = table.ann.lines()
+            first = lines.index('Your turn, to move.')
+            told = lines[first:lines.index(next(line for line in lines[first:] if line.startswith('Your move'))) ]
+            same('rows of %d columns' % columns, [line for line in told if len(line) > columns], [])
+            same('rows fit %d' % rows, len(told) < rows, True)
+            same('pictures', [line for line in lines if DRAWN.fullmatch(line)], [])
+            same('the words', ' '.join(told), ' '.join(FIRST))
+            table.ann.type('quit')
+        finally:
+            table.close()
+
+
+# The first board of a match to 3 points, with the dice 3 and 1.
+FIRST = [
+    'Your turn, to move.',
+    'Your dice 3 and 1.',
+    'Score 0 to 0, match to 3.',
+    'Cube 1, in the middle.',
+    'You go down, from 24 to 1.',
+    'You, 167 pips: 2 on 24, 5 on 13, 3 on 8, 5 on 6, none off.',
+    'bob, 167 pips: 2 on 1, 5 on 12, 3 on 17, 5 on 19, none off.',
+    'Held against you: 19, 17, 12, 1.',
+]
+
+
+def words_at_any_time():
+    """`words` tells the board that is shown, sends nothing, and says so if there is no board."""
+    table = Table('--dice', '31,63,44')
+    try:
+        ann = table.ann
+        ann.type('words')
+        ann.reads('No board on which you play was shown yet: type board.')
+        table.begins()
+        ann.hint()
+        ann.type('Words')
+        same('rows', [ann.reads(FIRST[0]), *(ann.next_line() for _ in FIRST[1:])], FIRST)
+        same('what was sent', [line for line in ann.lines() if line.startswith('sent ')], ['sent invite bob 3'])
+        ann.type('quit')
+    finally:
+        table.close()
+
+
+SCENES = [by_ear_alone, no_row_is_wider, words_at_any_time]
