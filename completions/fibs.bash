@@ -36,6 +36,7 @@ _fibs() {
         *,1,-*) COMPREPLY=($(compgen -W '-h --help -V --version' -- "$word")) ;;
         *,1,*) COMPREPLY=($(compgen -W "$subcommands" -- "$word")) ;;
         connect,*) _fibs_connect ;;
+        show,*,-*) COMPREPLY=($(compgen -W '--json -h --help' -- "$word")) ;;
         help,2,*) COMPREPLY=($(compgen -W "$subcommands" -- "$word")) ;;
         *,*,-*) COMPREPLY=($(compgen -W '-h --help' -- "$word")) ;;
     esac

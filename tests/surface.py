@@ -21,10 +21,14 @@ ROOT = pathlib.Path(__file__).resolve().parent.parent
 
 SUBCOMMANDS = ['connect', 'help', 'loop', 'plays', 'replay', 'show']
 
-# The options of the program, and those of connect; each other subcommand has the help alone.
+# The options of the program, of connect and of show; each other subcommand has the help alone.
 OPTIONS = ['--help', '--version', '-V', '-h']
 
 CONNECT_OPTIONS = ['--help', '--log', '--password-file', '-h']
+
+SHOW_OPTIONS = ['--help', '--json', '-h']
+
+ALL_OPTIONS = sorted(set(OPTIONS + CONNECT_OPTIONS + SHOW_OPTIONS))
 
 # The typed lines, without their names and texts; rlwrap completes their words from this file.
 TYPED = (ROOT / 'completions' / 'typed').read_text().splitlines()
@@ -93,7 +97,8 @@ def the_page_has_the_subcommands(_program):
 
 
 def help_has_the_options(_program):
-    for name, wanted in ('fibs', OPTIONS), ('connect', CONNECT_OPTIONS), ('show', ['--help', '-h']):
+    parts = ('fibs', OPTIONS), ('connect', CONNECT_OPTIONS), ('show', SHOW_OPTIONS), ('plays', ['--help', '-h'])
+    for name, wanted in parts:
         listed = part(text_of('tests/help/%s.txt' % name) + '\n\n\n', '\nOptions:\n', '\n\n\n')
         found = [word for line in listed.splitlines() if re.match(r' {2,6}-', line)
                  for word in re.findall(r'(?<!\S)--?[a-zA-Z-]+', line)]
@@ -103,7 +108,7 @@ def help_has_the_options(_program):
 def the_page_has_the_options(_program):
     listed = re.findall(r'^\.It Fl (.*)$', page('DESCRIPTION'), re.M)
     found = [word.replace('Fl ', '-') for line in listed for word in re.sub(r' Ar .*', '', line).split(' , Fl ')]
-    same('its options', sorted('-' + word for word in found), sorted(set(OPTIONS + CONNECT_OPTIONS)))
+    same('its options', sorted('-' + word for word in found), ALL_OPTIONS)
 
 
 def bash_completes(_program):
@@ -111,14 +116,15 @@ def bash_completes(_program):
     asked = {
         ('fibs', ''): SUBCOMMANDS, ('fibs', 're'): ['replay'], ('fibs', '-'): OPTIONS,
         ('fibs', 'help', ''): SUBCOMMANDS,
-        ('fibs', 'connect', '-'): CONNECT_OPTIONS, ('fibs', 'connect', 'fibs'): ['fibs.com'],
+        ('fibs', 'show', '-'): SHOW_OPTIONS, ('fibs', 'connect', '-'): CONNECT_OPTIONS,
+        ('fibs', 'connect', 'fibs'): ['fibs.com'],
         ('fibs', 'connect', 'localhost', ''): ['4321'],
         ('fibs', 'connect', '--password-file', 'secret', 'localhost', ''): ['4321'],
         ('fibs', 'connect', '--log', 'game', 'localhost', ''): ['4321'],
         ('fibs', 'connect', '--password-file', 'typ'): ['typed'], ('fibs', 'connect', 'localhost', '4321', ''): [],
         ('fibs-play', 'fibs'): ['fibs.com'], ('fibs-play', 'localhost', ''): ['4321'],
         ('fibs-play', '-'): ['--help', '--log', '-h'], ('fibs-play', '--log', 'game', 'localhost', ''): ['4321'],
-        **{('fibs', name, '-'): ['--help', '-h'] for name in SUBCOMMANDS if name not in ('connect', 'help')},
+        **{('fibs', name, '-'): ['--help', '-h'] for name in SUBCOMMANDS if name not in ('connect', 'help', 'show')},
     }
     script = ('source ./fibs.bash; COMP_WORDS=("$@"); COMP_CWORD=$(($# - 1)); "_${1/-/_}"; '
               'printf "%s\\n" "${COMPREPLY[@]}"')
@@ -131,7 +137,7 @@ def zsh_completes(_program):
     text = text_of('completions/_fibs')
     listed = part(text, 'subcommands=(\n', '\n    )')
     same('its subcommands', sorted(re.findall(r"^ *'(\w+):", listed, re.M)), SUBCOMMANDS)
-    same('its options', [option for option in set(OPTIONS + CONNECT_OPTIONS) if option not in text], [])
+    same('its options', [option for option in ALL_OPTIONS if option not in text], [])
     if shutil.which('zsh'):
         done = run(['zsh', '-n', 'completions/_fibs'], cwd=ROOT)
         same('zsh -n', (done.returncode, done.stderr), (0, ''))
@@ -142,7 +148,7 @@ def fish_completes(_program):
     same('its subcommands', sorted(re.findall(r'__fish_use_subcommand -a (\w+)', text)), SUBCOMMANDS)
     same('those of help', sorted(re.search(r"from help' -a '([^']*)'", text)[1].split()), SUBCOMMANDS)
     same('its options', sorted(re.findall(r'^complete -c fibs .*-l ([a-z-]+)', text, re.M)),
-         sorted(option[2:] for option in set(OPTIONS + CONNECT_OPTIONS) if option.startswith('--')))
+         sorted(option[2:] for option in ALL_OPTIONS if option.startswith('--')))
     if shutil.which('fish'):
         with tempfile.TemporaryDirectory() as home:
             done = run(['fish', '--no-config', '-c', 'source completions/fibs.fish; complete -C "fibs "'], cwd=ROOT,

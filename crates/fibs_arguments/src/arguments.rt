@@ -3,7 +3,7 @@ ghost use Rattle.std.specs.Prelude.{◌≡◌, ◌≢◌};
 
 use clap::builder::ValueParser;
 use clap::error::ErrorKind;
-use clap::{Arg, ArgMatches, Command, Error};
+use clap::{Arg, ArgAction, ArgMatches, Command, Error};
 use std::alloc::{AllocError, Global};
 
 const ABOUT: &str = "A client for FIBS, the First Internet Backgammon Server";
@@ -12,6 +12,7 @@ const EXAMPLES: &str = "\
 Examples:
   fibs show < session.log        print what each line of a saved session says
   nc fibs.com 4321 | fibs show   the same of a connection, as its lines come
+  fibs show --json < session.log print a JSON object for each line
   fibs plays board:You:...       list the plays of a board
   fibs replay < double-click.txt run a script of clicks, cuts and losses
   fibs connect HOST PORT NAME    log in, and play
@@ -48,7 +49,17 @@ out. In TEXT and in a message each backslash and each byte that is not
 printable ASCII is printed as `\\x` and two hexadecimal digits.
 
 If standard output is a terminal, a board is drawn, and the other lines are put
-in words.";
+in words.
+
+With --json one JSON object is printed for each line, also at a terminal:
+
+  {\"kind\":KIND,\"line\":LINE,...}
+
+KIND is board, message, text, cut or malformed, LINE the line itself, and the
+other members say what it means by name. Each byte that is not printable ASCII
+is the character of its number in LINE. The last object may be
+
+  {\"kind\":\"unfinished\",\"bytes\":COUNT}";
 
 const PLAYS: &str = "List the plays of a board";
 
@@ -223,6 +234,9 @@ const PASSWORD_FILE: &str = "A file whose first line is the password";
 /// What `--log` says.
 const LOG: &str = "A file to which the conversation is appended";
 
+/// What `--json` says.
+const JSON: &str = "Print a JSON object for each line";
+
 /// What `HOST`, `PORT`, `NAME` and `LINE` say.
 const HOST: &str = "The server's name or address";
 
@@ -265,6 +279,8 @@ pub struct Call<'a> {
 pub enum Request<'a> {
     /// To show the standard input.
     Show,
+    /// To show the standard input as JSON.
+    ShowJson,
     /// To list the plays of a board line.
     Plays(&'a str),
     /// To run the script on the standard input.
@@ -344,6 +360,8 @@ enum Kind {
     Port,
     /// An option that names a file.
     File,
+    /// An option without a value.
+    Flag,
 }
 
 /// An argument of a subcommand.
@@ -353,6 +371,13 @@ struct Argument {
     help: &'static str,
     kind: Kind,
 }
+
+/// The arguments of `show`.
+const SHOW_ARGUMENTS: [Argument; 1] = [Argument {
+    name: "json",
+    help: JSON,
+    kind: Kind::Flag,
+}];
 
 /// The arguments of `plays`.
 const PLAYS_ARGUMENTS: [Argument; 1] = [Argument {
@@ -405,7 +430,7 @@ const SUBCOMMANDS: &[Subcommand] = &[
         name: "show",
         about: SHOW,
         long_about: SHOW_LONG,
-        arguments: &[],
+        arguments: &SHOW_ARGUMENTS,
     },
     Subcommand {
         name: "plays",
@@ -494,6 +519,7 @@ fn argument_of<'a>(alloc: Global, argument: &Argument) -> Arg<'a> {
             .value_parser(ValueParser::unsigned(1, 65535))
             .required(true),
         Kind::File => arg.long(argument.name).value_name("FILE"),
+        Kind::Flag => arg.long(argument.name).action(ArgAction::SetTrue),
     }
 }
 
@@ -505,6 +531,7 @@ fn engine(request: Request<'_>) -> Option<Asked<'_>> {
 fn asked_of<'a>(matches: &ArgMatches<'a>) -> Option<Asked<'a>> {
     let (word, matches) = matches.subcommand()?;
     match word {
+        "show" if matches.get_flag("json") => engine(Request::ShowJson),
         "show" => engine(Request::Show),
         "plays" => engine(Request::Plays(matches.get_str("LINE")?)),
         "replay" => engine(Request::Replay),

@@ -6,15 +6,17 @@ use Rattle.std.specs.Borrow.{Bor}
 use Rattle.std.specs.Io.KnownBytes.{Appends, Keeps, IsAtEnd}
 use Rattle.fibs_boards.specs.Board.{BoardFields}
 use Rattle.fibs_show.specs.Plays.{PlaysText}
-use Rattle.fibs_cli.specs.Program.{Streams, Showed, Listed, Played, RanScript, PlayedScript, Served}
+use Rattle.fibs_cli.specs.Program.{Streams, Showed, ShowedObjects, Listed, Played, RanScript}
+use Rattle.fibs_cli.specs.Program.{PlayedScript, Served}
 use Rattle.fibs_engine.specs.Printing.{Printed}
 use Rattle.fibs_scripts.specs.Output.{LoggedInPart, Replayed, ReplayFailed, ReplayedInPart}
 use Rattle.fibs_scripts.specs.Scripts.{script_limit}
 use Rattle.fibs_engine.specs.Reads.{LostAtMost}
 use Rattle.fibs_show.specs.Show.{WroteAll, WroteRead, WroteLines, WroteFront}
+use Rattle.fibs_json.specs.Streams as objects
 use Rattle.fibs_engine.specs.Writing.{GainedFront}
 use Rattle.fibs_arguments.specs.declared.arguments.Request.{Request}
-use Rattle.fibs_arguments.specs.declared.arguments.Request.TheVariants.{Show, Plays, Replay, Loop}
+use Rattle.fibs_arguments.specs.declared.arguments.Request.TheVariants.{Show, ShowJson, Plays, Replay, Loop}
 use Rattle.fibs_engine.specs.declared.fault.EngineFault.{EngineFault}
 use Rattle.fibs_engine.specs.declared.fault.EngineFault.TheVariants.{Device, Memory}
 
@@ -26,6 +28,16 @@ pub showed : (r : Result ℕ EngineFault) (a b : Streams) → IfOk r (λ status.
 showed (Ok status) a b is whole end device memory = (is, whole, end)
 showed (Err Device) a b is whole end device memory = device refl
 showed (Err Memory) a b is whole end device memory = memory refl
+
+-- the clauses of `show_json` in one
+pub showed_objects : (r : Result ℕ EngineFault) (a b : Streams) → IfOk r (λ status. status ≡ 0)
+    → OnOk r (objects.WroteAll a.input b.input a.out b.out) → OnOk r (IsAtEnd b.input)
+    → (IsErrOf r Device → objects.WroteRead a.input b.input a.out b.out
+    ⊎ objects.WroteFront a.input b.input a.out b.out)
+    → (IsErrOf r Memory → objects.WroteLines a.input b.input a.out b.out) → ShowedObjects r a b
+showed_objects (Ok status) a b is whole end device memory = (is, whole, end)
+showed_objects (Err Device) a b is whole end device memory = device refl
+showed_objects (Err Memory) a b is whole end device memory = memory refl
 
 -- the clauses of `plays` for a good board in one
 pub listed : (r : Result ℕ EngineFault) (board : BoardFields) (a b : Streams)
@@ -62,6 +74,11 @@ served_replay request r a b is ran kept = subst (λ q. Served q r a b) (sym is) 
 pub served_show : (request : Request) (r : Result ℕ EngineFault) (a b : Streams) → request ≡ Show
     → Showed r a b → Keeps a.err b.err → Served request r a b
 served_show request r a b is shown kept = subst (λ q. Served q r a b) (sym is) (shown, kept)
+
+-- a request to show as JSON is served so
+pub served_objects : (request : Request) (r : Result ℕ EngineFault) (a b : Streams) → request ≡ ShowJson
+    → ShowedObjects r a b → Keeps a.err b.err → Served request r a b
+served_objects request r a b is shown kept = subst (λ q. Served q r a b) (sym is) (shown, kept)
 
 -- a request for the plays of a line is served so
 pub served_plays : (request : Request) (line : Bor (List ℕ)) (r : Result ℕ EngineFault) (a b : Streams)

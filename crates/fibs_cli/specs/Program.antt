@@ -8,12 +8,13 @@ use Rattle.fibs_position.specs.GoodBoard.{IsGood}
 use Rattle.fibs_show.specs.Plays.{PlaysText, Refusal}
 use Rattle.fibs_scripts.specs.Output.{LoggedInPart, Replayed, ReplayFailed, ReplayedInPart}
 use Rattle.fibs_show.specs.Show.{WroteAll, WroteRead, WroteLines, WroteFront}
+use Rattle.fibs_json.specs.Streams as objects
 use Rattle.fibs_engine.specs.Printing.{Printed}
 use Rattle.fibs_engine.specs.Writing.{GainedFront}
 use Rattle.fibs_arguments.specs.declared.arguments.Answer.{Answer}
 use Rattle.fibs_arguments.specs.declared.arguments.Answer.TheVariants.{Engine, Help, Refused, Memory}
 use Rattle.fibs_arguments.specs.declared.arguments.Request.{Request}
-use Rattle.fibs_arguments.specs.declared.arguments.Request.TheVariants.{Show, Plays, Replay, Loop}
+use Rattle.fibs_arguments.specs.declared.arguments.Request.TheVariants.{Show, ShowJson, Plays, Replay, Loop}
 use Rattle.fibs_engine.specs.declared.fault.EngineFault.{EngineFault}
 use Rattle.fibs_engine.specs.declared.fault.EngineFault.TheVariants as fault
 
@@ -34,6 +35,14 @@ abbrev pub Showed : Result ℕ EngineFault → Streams → Streams → Type 0
 Showed (Ok status) a b = (status ≡ 0) × WroteAll a.input b.input a.out b.out × IsAtEnd b.input
 Showed (Err fault.Device) a b = WroteRead a.input b.input a.out b.out ⊎ WroteFront a.input b.input a.out b.out
 Showed (Err fault.Memory) a b = WroteLines a.input b.input a.out b.out
+
+-- the engine `show --json` answered so
+abbrev pub ShowedObjects : Result ℕ EngineFault → Streams → Streams → Type 0
+ShowedObjects (Ok status) a b =
+    (status ≡ 0) × objects.WroteAll a.input b.input a.out b.out × IsAtEnd b.input
+ShowedObjects (Err fault.Device) a b =
+    objects.WroteRead a.input b.input a.out b.out ⊎ objects.WroteFront a.input b.input a.out b.out
+ShowedObjects (Err fault.Memory) a b = objects.WroteLines a.input b.input a.out b.out
 
 -- the engine `plays` answered so for a good board
 abbrev pub Listed : BoardFields → Result ℕ EngineFault → Streams → Streams → Type 0
@@ -66,6 +75,7 @@ PlayedScript (Err fault.Memory) left still held now = ReplayedInPart left still 
 -- an engine answered so for a request
 abbrev pub Served : Request → Result ℕ EngineFault → Streams → Streams → Type 0
 Served Show result a b = Showed result a b × Keeps a.err b.err
+Served ShowJson result a b = ShowedObjects result a b × Keeps a.err b.err
 Served (Plays line) result a b = Played line.now result a b × Keeps a.input b.input
 Served Replay result a b = RanScript result a b × Keeps a.err b.err
 Served Loop result a b = PlayedScript result a.input b.input a.out b.out × Keeps a.err b.err

@@ -8,6 +8,7 @@ use fibs_arguments::{Answer, Request};
 use fibs_engine::fault::EngineFault;
 use fibs_engine::status::Status;
 use fibs_engine::writing::write_bytes;
+use fibs_json::show::show_json;
 use fibs_replay::play_loop::play_loop;
 use fibs_replay::replay;
 use fibs_show::plays::plays;
@@ -52,6 +53,7 @@ fn serve<N: Net<Listener = TcpListener, Stream = TcpStream>, R: Read, W: Write, 
 {
     match request {
         Request::Show => show(alloc, input, out),
+        Request::ShowJson => show_json(alloc, input, out),
         Request::Plays(line) => plays(alloc, line.as_bytes(), out, err),
         Request::Replay => replay(alloc, input, out),
         Request::Loop => play_here(rt, alloc, input, out),

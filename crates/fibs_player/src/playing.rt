@@ -109,7 +109,15 @@ pub fn play<N: Net<Listener = TcpListener, Stream = TcpStream>, R: Read>(
     }
     let (alloc, name, mut err) = (rt.alloc(), call.name.as_bytes(), rt.stderr());
     match call.log {
-        None => converse_at(net, alloc, place_of(call, millis), name, input, out, &mut err),
+        None => converse_at(
+            net,
+            alloc,
+            place_of(call, millis),
+            name,
+            input,
+            out,
+            &mut err,
+        ),
         log => converse_on(
             &mut LoggedServer::new(server, rt, log),
             alloc,

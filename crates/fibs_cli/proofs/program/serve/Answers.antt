@@ -2,7 +2,7 @@ use Rattle.std.proofs.Common.{◌++◌, ◌∷◌, [], subst}
 use Rattle.std.proofs.KnownBytes.{Keeps-refl}
 use Rattle.fibs_cli.specs.Program.{Streams, streams, Played}
 use Rattle.fibs_cli.proofs.ProgramLemmas.{showed, listed, printed, ran_script, served_replay, served_show, served_plays}
-use Rattle.fibs_cli.proofs.ProgramLemmas.{served_loop}
+use Rattle.fibs_cli.proofs.ProgramLemmas.{served_loop, showed_objects, served_objects}
 use Rattle.fibs_cli.proofs.program.serve.Goals as goal
 
 pub returns-in-Show : goal.returns-in-Show
@@ -15,6 +15,17 @@ returns-in-Show g c =
     let b : Streams = streams (input c.show.new.reader) (out c.show.new.writer) err in
     served_show c.args.request c.show.result a b c.in-Show.is
     (showed c.show.result a b told.status told.whole told.end told.device told.memory) (Keeps-refl err)
+
+pub returns-in-ShowJson : goal.returns-in-ShowJson
+returns-in-ShowJson g c =
+    let told = c.show_json.ensures in
+    let input = g.R.Read.remaining in
+    let out = g.W.Write.contents in
+    let err = g.E.Write.contents c.args.err.now in
+    let a : Streams = streams (input c.args.input.now) (out c.args.out.now) err in
+    let b : Streams = streams (input c.show_json.new.reader) (out c.show_json.new.writer) err in
+    served_objects c.args.request c.show_json.result a b c.in-ShowJson.is
+    (showed_objects c.show_json.result a b told.status told.whole told.end told.device told.memory) (Keeps-refl err)
 
 pub returns-in-Replay : goal.returns-in-Replay
 returns-in-Replay g c =

@@ -1,0 +1,3 @@
+pub mod ObjectLemmas
+pub mod StreamLemmas
+pub mod TellingLemmas

@@ -1,0 +1,65 @@
+-- The object that is printed for a line.
+use Rattle.std.specs.Prelude.{◌≡◌, ◌==◌, ℕ, Bool, true, false, min, List, [], ◌∷◌, ◌++◌, length, codes}
+use Rattle.std.specs.Prelude.{if◌then◌else◌}
+use Rattle.fibs_lines.specs.Lines.{ReadLine, lines_of, rest_of, kept_limit}
+use Rattle.fibs_fields.specs.Faults.{fault_name}
+use Rattle.fibs_fields.specs.declared.fault.Fault.{Fault}
+use Rattle.fibs_messages.specs.Line.{ReadingValue, IsReading, numbered_line, board_line, text_line, malformed_line}
+use Rattle.fibs_json.specs.Boards.{board_members, PositionMembers}
+use Rattle.fibs_json.specs.Columns.{message_members}
+use Rattle.fibs_json.specs.Json.{Member, member, object, string, whole}
+
+-- the object of a line: its kind, its bytes, and what else is known of it
+abbrev pub line_object : List ℕ → List ℕ → List Member → List ℕ
+line_object kind bytes members =
+    object (member (codes "kind") (string kind) ∷ member (codes "line") (string bytes) ∷ members)
+
+-- what is wrong with a malformed line: its number, its first wrong field, and the fault
+abbrev pub malformed_members : ℕ → ℕ → Fault → List Member
+malformed_members number field fault =
+    member (codes "number") (whole number)
+    ∷ member (codes "field") (whole field)
+    ∷ member (codes "fault") (string (fault_name fault))
+    ∷ []
+
+-- the object of a line that reads so
+abbrev pub ReadObject : List ℕ → ReadingValue → List ℕ → Type 0
+ReadObject bytes (numbered_line m) text = text ≡ line_object (codes "message") bytes (message_members m)
+ReadObject bytes (board_line b) text =
+    (members : List Member) × PositionMembers b members
+    × (text ≡ line_object (codes "board") bytes (board_members b ++ members))
+ReadObject bytes (text_line said) text = text ≡ line_object (codes "text") bytes []
+ReadObject bytes (malformed_line number field fault) text =
+    text ≡ line_object (codes "malformed") bytes (malformed_members number field fault)
+
+-- the object of a line: `cut` and its kept bytes if it was cut, else what it reads as
+abbrev pub ObjectAs : Bool → List ℕ → List ℕ → Type 0
+ObjectAs true bytes text = text ≡ line_object (codes "cut") bytes []
+ObjectAs false bytes text = (reading : ReadingValue) × IsReading bytes reading × ReadObject bytes reading text
+
+abbrev pub LineObject : ReadLine → List ℕ → Type 0
+LineObject line text = ObjectAs line.cut line.bytes text
+
+-- what is printed for lines: the object of each in turn, ended by a byte 10
+abbrev pub LineObjects : List ReadLine → List ℕ → Type 0
+LineObjects [] text = text ≡ []
+LineObjects (line ∷ lines) text =
+    (first rest : List ℕ) × LineObject line first × LineObjects lines rest × (text ≡ first ++ (10 ∷ rest))
+
+-- the object of so many bytes after the last line end, ended by a byte 10
+unfoldable pub ending : ℕ → List ℕ
+ending held =
+    object (member (codes "kind") (string (codes "unfinished")) ∷ member (codes "bytes") (whole held) ∷ []) ++ (10 ∷ [])
+
+-- what is printed at the end, if so many bytes follow the last line end
+abbrev pub unfinished_object : ℕ → List ℕ
+unfinished_object held = if held == 0 then [] else ending held
+
+-- all that is printed for a stream: its lines, and how many bytes are left over, at most as many as a line keeps
+abbrev pub StreamObjects : List ℕ → List ℕ → Type 0
+StreamObjects s text = (shown : List ℕ) × LineObjects (lines_of s) shown
+    × (text ≡ shown ++ unfinished_object (min kept_limit (length (rest_of s))))
+
+-- an object tells the line for which it is printed
+abbrev pub ObjectsTellLines : Type 0
+ObjectsTellLines = (l m : ReadLine) (text : List ℕ) → LineObject l text → LineObject m text → l ≡ m

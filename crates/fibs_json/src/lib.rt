@@ -1,0 +1,12 @@
+//! The server's lines as JSON: one object a line, with the line itself and what it says by name.
+#![tactic(auto)]
+
+mod boards;
+mod columns;
+mod fields;
+pub mod laws;
+pub mod line;
+mod members;
+pub mod show;
+mod side;
+mod strings;
