@@ -96,10 +96,9 @@ def fault_in(value, schema):
     if 'oneOf' in schema:
         fits = [one for one in schema['oneOf'] if fault_in(value, one) is None]
         return None if len(fits) == 1 else '%d of its kinds fit' % len(fits)
-    for word in ('const', 'enum'):
-        allowed = [schema['const']] if word == 'const' else schema.get('enum', [])
-        if word in schema and not any(type(one) is type(value) and one == value for one in allowed):
-            return '%r is none of %r' % (value, allowed)
+    allowed = [schema['const']] if 'const' in schema else schema.get('enum')
+    if allowed and not any(type(one) is type(value) and one == value for one in allowed):
+        return '%r is none of %r' % (value, allowed)
     kinds = schema.get('type', [])
     kinds = [kinds] if isinstance(kinds, str) else kinds
     if kinds and not any(isinstance(value, TYPES[kind]) and (kind == 'boolean' or not isinstance(value, bool))

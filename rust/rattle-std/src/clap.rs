@@ -8,6 +8,8 @@ use crate::runtime::spare_memory;
 use std::marker::PhantomData;
 use std::str::FromStr;
 
+pub use clap::ArgAction;
+
 /// What a value may be.
 pub mod builder {
     /// What a value may be: a number of these bounds.
@@ -70,6 +72,11 @@ impl<'a> Arg<'a> {
     /// It is an option of this name.
     pub fn long(self, name: &'static str) -> Arg<'a> {
         Arg::of(self.inner.long(name))
+    }
+
+    /// What is done if it is there.
+    pub fn action(self, action: ArgAction) -> Arg<'a> {
+        Arg::of(self.inner.action(action))
     }
 
     /// What the help calls its value.
@@ -185,6 +192,11 @@ impl<'a> ArgMatches<'a> {
         let value = raw.next()?.to_str()?;
         let word = self.words.iter().find(|word| word.ends_with(value))?;
         Some(&word[word.len() - value.len()..])
+    }
+
+    /// Whether the option of this name is there.
+    pub fn get_flag(&self, name: &str) -> bool {
+        self.matches.get_flag(name)
     }
 
     /// The value of this name, read.
