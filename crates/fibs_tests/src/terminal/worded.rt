@@ -133,7 +133,11 @@ fn a_write_that_fails_ends_the_telling(rt: HostRuntime) -> Result<(), Fail> {
             tell_line(TOLD[0].board, &mut out).is_err(),
             "room for {room}"
         );
-        assert_eq!(rt; &held[..room.min(512)], &wanted[..room.min(512)], "room for {room}");
+        assert_eq!(rt;
+            &held[..room.min(512)],
+            &wanted[..room.min(512)],
+            "room for {room}"
+        );
     }
     Ok(())
 }
