@@ -273,7 +273,10 @@ static void check_players(void) {
     check(fibs_directory_field(&directory, 7, 6, &field, text, 0) == S(DONE) && field.kind == FIBS_FIELD_RATING
           && field.number == 150025, "a rating");
     check(fibs_directory_field_of(&directory, TEXT("p7"), 10, &field, text, 9) == S(DONE) && field.len == 4
-          && memcmp(text, "host", 4) == 0, "a host");
+          && field.kind == FIBS_FIELD_WORD && memcmp(text, "host", 4) == 0, "a host");
+    check(fibs_directory_field_of(&directory, TEXT("p7"), 12, &field, text, 9) == S(DONE) && field.len == 1
+          && field.kind == FIBS_FIELD_TAIL && text[0] == '-', "an address");
+    check(fibs_directory_field_of(&directory, TEXT("p7"), 0, &field, text, 9) == S(NO_FIELD), "field 0 of a player");
     check(fibs_directory_field(&directory, 4096, 1, &field, text, 9) == S(NO_PLAYER), "no place");
     check(fibs_directory_field_of(&directory, TEXT("ann"), 1, &field, text, 9) == S(NO_PLAYER), "no player");
     check(fibs_directory_field(&directory, 0, 13, &field, text, 9) == S(NO_FIELD), "no field");
