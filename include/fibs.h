@@ -531,7 +531,7 @@ typedef struct fibs_part {
     size_t len;
 } fibs_part;
 
-/* What message 5 says of a player. A name, a client or an email of `-` is none. */
+/* What message 5 says of a player. `-` stands for a name, a client or an email that is not there. */
 typedef struct fibs_player {
     fibs_part name;
     fibs_part opponent;        /* whom he plays */

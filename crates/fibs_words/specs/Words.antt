@@ -61,7 +61,7 @@ lone_dice first second =
     if (first == 0) && (second == 0) then codes "No dice."
     else codes "The opponent's dice " ++ (pair first second ++ codes ".")
 
--- the player's dice and the opponent's; 0 and 0 are none
+-- the player's dice and the opponent's; two zeros if there are no dice
 unfoldable pub dice_row : ℕ → ℕ → ℕ → ℕ → List ℕ
 dice_row first second other_first other_second =
     if (first == 0) && (second == 0) then lone_dice other_first other_second
