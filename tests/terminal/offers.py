@@ -327,6 +327,20 @@ def the_opponents_resignation_is_rejected(table):
     ann_rolls(table, 'hint')
 
 
+@near_and_far(SCENES, *ANN_BEGINS, '--show-resignations')
+def the_opponents_resignation_gives_the_turn_away(table):
+    """The board says that she may roll. Until she has answered, nothing else does, whatever she asks."""
+    bob_resigns(table)
+    never_advised(table.ann, ('hint', 'go on', 'board', 'old'))
+    for line in 'board', 'help':
+        table.ann.type(line)
+        never_advised(table.ann, ('hint', 'go on', 'board', 'old'), 0.6)
+    table.ann.type('help')
+    table.ann.types_what('answer', 'send accept', 'send reject')
+    table.bob.sees('ann accepts and wins 1 point.')
+    goes_on_to_the_next_game(table)
+
+
 def declined_in_his_turn(table):
     """She declines the offer that he makes in his turn: nothing is hers to do until he has played."""
     bob_resigns(table)

@@ -2,7 +2,7 @@
 
 import time
 
-from offers import (ANN_BEGINS, BOB_BEGINS, ann_is_to_roll, ann_rolls, bob_is_to_roll, bob_resigns,
+from offers import (ANN_BEGINS, BOB_BEGINS, ann_is_to_roll, ann_resigns, ann_rolls, bob_is_to_roll, bob_resigns,
                     goes_on_to_the_next_game, never_advised)
 from people import PASSWORD, Client, at_a_table, near_and_far, same
 from words import read
@@ -385,6 +385,123 @@ def an_offer_that_is_open_while_she_connects_again(table):
     table.ann.types_what('wait', 'send accept', 'send reject')
     table.bob.sees('ann accepts and wins 1 point.')
     goes_on_to_the_next_game(table)
+
+
+@near_and_far(SCENES, *ANN_BEGINS, '--keep-games', '--show-resignations')
+def an_offer_that_is_open_while_she_connects_again_and_gives_the_turn_away(table):
+    """The board of the new connection says that she may roll."""
+    comes_again_while_he_waits(table)
+    table.ann.types_what('wait', 'send accept', 'send reject')
+    table.bob.sees('ann accepts and wins 1 point.')
+    goes_on_to_the_next_game(table)
+
+
+@near_and_far(SCENES, *ANN_BEGINS, '--keep-games', '--show-resignations')
+def an_offer_that_gave_the_turn_away_is_declined_after_a_new_connection(table):
+    """The turn is his again, and no row says otherwise."""
+    comes_again_while_he_waits(table)
+    table.ann.advised('wait', 'send accept', 'send reject')
+    table.ann.type('send reject')
+    table.bob.sees('ann rejects. The game continues.')
+    never_advised(table.ann, ('hint', 'go on', 'answer', 'board', 'old'))
+    table.bob.send('roll', 'move 1-5 12-14')
+    ann_rolls(table, 'hint')
+
+
+@near_and_far(SCENES, *ANN_BEGINS, '--keep-games', '--show-resignations', '--play-past-offers')
+def an_offer_that_gave_the_turn_away_is_over_after_a_new_connection(table):
+    """He plays on while she is not there, so that the turn of the new board is hers."""
+    bob_resigns(table)
+    table.ann.advised('answer')
+    Client(table.server.port, 'ann', PASSWORD).close()
+    table.bob.send('roll', 'move 1-5 12-14')
+    table.bob.catches_up()
+    table.ann.types_what('open', 'open')
+    table.ann.reads('Welcome, ann')
+    table.ann.reads(' +12-11-10--9--8--7-+---+-6--5--4--3--2--1-+')
+    table.ann.type('help')
+    table.ann.types_what('wait', 'send accept')
+    table.ann.reads("** Your opponent didn't double or resign.")
+    table.ann.types_what('board', 'board')
+    ann_rolls(table, 'hint')
+
+
+# -- her own offer is open while her connection ends -------------------------------------------------------------------
+
+# What is false while he has her offer.
+FALSE = 'hint', 'go on', 'answer', 'board', 'old'
+
+
+def she_offers_and_connects_again(table):
+    """The match was saved with her offer, of which the new connection is told nothing."""
+    ann_resigns(table, 'n')
+    table.ann.reads('You want to resign.')
+    table.comes_again()
+    takes_up(table)
+    table.ann.reads('Your running match was loaded.')
+    never_advised(table.ann, FALSE)
+    table.ann.type('board')
+    never_advised(table.ann, FALSE, 0.6)
+    table.ann.type('help')
+
+
+@near_and_far(SCENES, *ANN_BEGINS)
+def her_offer_in_a_match_that_was_saved_is_declined(table):
+    table.begins()
+    table.ann.hint()
+    she_offers_and_connects_again(table)
+    table.ann.advised('wait', 'move')
+    table.bob.send('reject')
+    moves_as(table, 'hint', 'move')
+
+
+@near_and_far(SCENES, *BOB_BEGINS)
+def her_offer_in_a_match_that_was_saved_is_accepted(table):
+    ann_is_to_roll(table)
+    she_offers_and_connects_again(table)
+    table.ann.advised('wait', 'roll')
+    table.bob.send('accept')
+    goes_on_to_the_next_game(table)
+
+
+@near_and_far(SCENES, *BOB_BEGINS)
+def she_rolls_while_he_has_her_offer(table):
+    """The server says that she has to wait, and she is told no more than that until he answers."""
+    ann_is_to_roll(table)
+    she_offers_and_connects_again(table)
+    table.ann.types_what('wait', 'roll')
+    table.ann.reads('** Please wait until bob has accepted or rejected your offer.')
+    never_advised(table.ann, FALSE)
+    table.bob.send('reject')
+    table.ann.types_what('board', 'board')
+    ann_rolls(table, 'go on', 'send roll')
+
+
+@near_and_far(SCENES, *BOB_BEGINS, '--forget-offers')
+def her_offer_in_a_match_that_was_saved_is_forgotten(table):
+    """The server says that it is her turn."""
+    ann_is_to_roll(table)
+    ann_resigns(table, 'n')
+    table.ann.reads('You want to resign.')
+    table.comes_again()
+    takes_up(table)
+    ann_rolls(table, 'hint')
+
+
+@near_and_far(SCENES, *BOB_BEGINS, '--keep-games', '--play-past-offers')
+def her_offer_is_open_at_a_server_that_keeps_the_game(table):
+    """Her place is still hers, and so is her offer. The server lets her play on, as the row says."""
+    ann_is_to_roll(table)
+    ann_resigns(table, 'n')
+    table.ann.reads('You want to resign.')
+    Client(table.server.port, 'ann', PASSWORD).close()
+    table.ann.types_what('open', 'open')
+    table.ann.reads('Welcome, ann')
+    never_advised(table.ann, FALSE, 1.5)
+    table.ann.type('help')
+    ann_rolls(table, 'wait', 'roll')
+    table.ann.types_what('hint', 'move')
+    table.bob.sees('ann moves ..')
 
 
 @near_and_far(SCENES, *ANN_BEGINS, '--keep-games', '--play-past-offers')

@@ -35,7 +35,7 @@ SAID = re.compile(r'\d\d:\d\d ')
 FORBIDS = re.compile(r"\*\* (?:You can't double|The Crawford rule)")
 BEGINS = re.compile('connected to |Starting a new game with |You are now playing with |\\S+ has joined you')
 # how the second of two rows begins
-SECOND = 'or join ', 'then open'
+SECOND = 'or join ', 'then open', 'If the game goes on'
 HINT_ALONE = ('hint', 'go on', 'answer', 'board', 'doubles', 'next', 'gone', 'invited', 'auto', 'open')
 
 
@@ -100,7 +100,7 @@ class Seat:
         self.counts, self.faults, self.stalls, self.alarms = Counter(), [], [], []
         # rows since the last move
         self.since_move, self.turns = None, []
-        self.read_to, self.last_kind, self.of_picture = {}, '', ''
+        self.read_to, self.of_picture = {}, ''
 
     def begin(self, port):
         self.fd, tty = os.openpty()
@@ -164,14 +164,12 @@ class Seat:
         if REFUSED.fullmatch(row):
             self.hears_a_refusal(row)
         kind, lines = read(row)
-        # below the answer that an offer waits for, the hint is of the board alone
         if row.startswith(' ') and kind:
             # the last row of a picture: it is followed if no other row comes with it
             self.row, self.of_picture = (kind, lines), row
-        elif kind and not (kind == 'hint' and self.last_kind == 'answer'):
+        elif kind:
             self.judge(kind, row, lines)
             self.takes_note(kind, lines, row)
-        self.last_kind = kind
         if found := INVITED.fullmatch(row):
             self.inviting = found[1]
         elif ENDED.fullmatch(row):
@@ -331,8 +329,8 @@ class Seat:
         roll = self.chance.random()
         game = self.game
         if kind in ('wait', 'login'):
-            sends = [line for line in lines if line.startswith('send ')]
-            return (sends[0], True) if sends and now - self.last_row > 1 else None
+            named = [line for line in lines if line not in ('board', 'quit')]
+            return (named[0], True) if named and now - self.last_row > 1 else None
         if kind == 'gone' and not self.game.is_invited_by(self.name, now - self.last_row):
             return None
         if kind in HINT_ALONE and kind != 'open' and roll < game.talks:

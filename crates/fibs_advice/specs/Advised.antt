@@ -11,9 +11,10 @@ use Rattle.fibs_position.specs.declared.decision.Decision.TheVariants as D
 use Rattle.fibs_position.specs.declared.direction.Direction.{Direction}
 use Rattle.fibs_history.specs.Machine.{Talk, shown_now, unconfirmed_now, plain_refusal}
 use Rattle.fibs_history.specs.Words.{Ask}
-use Rattle.fibs_advice.specs.Offers.{OffersNow, is_taken, may_decide, hint_text}
-use Rattle.fibs_advice.specs.Standings.{hides_offers, repeats, owes_answer}
-use Rattle.fibs_advice.specs.Rows.{answers, plain_in, rolls_alone, shows_offers, words_before, words_after}
+use Rattle.fibs_advice.specs.Offers.{OffersNow, is_taken, may_decide, first_way, hint_text}
+use Rattle.fibs_advice.specs.Standings.{hides_offers, is_unsure, repeats, owes_answer}
+use Rattle.fibs_advice.specs.Rows.{answers, names_way_on, plain_in, rolls_alone, shows_offers}
+use Rattle.fibs_advice.specs.Rows.{words_before, words_after}
 use Rattle.fibs_advice.specs.declared.row.Row.{Row}
 use Rattle.fibs_advice.specs.declared.row.Row.TheVariants as R
 use Rattle.fibs_advice.specs.declared.standing.Standing.{Standing}
@@ -41,11 +42,12 @@ pub record MayAnswer (t : Talk) (standing : Standing) : Type 0 where
   pub accept : is_taken t accept ≡ false
   pub reject : is_taken t reject ≡ false
 
--- what is advised: what the client takes now is said, unless the state hides it; without `send` only what the client
--- takes now, with `send` only what may go as it is
+-- what is advised: what the client takes now is said, unless the state hides it, or one way of it, if it is not known
+-- whether an offer is open; without `send` only what the client takes now, with `send` only what may go as it is
 pub record Advises (t : Talk) (standing : Standing) (a : Advice) : Type 0 where
   pub offers : OffersNow t a.offers
   pub shown : hides_offers standing ≡ false → may_decide a.offers ≡ true → shows_offers a.row ≡ true
+  pub named : is_unsure standing ≡ true → may_decide a.offers ≡ true → names_way_on a.row ≡ true
   pub rolls : rolls_alone a.row ≡ true → a.offers.roll ≡ true
   pub plain : IfSome (plain_in a.row) (λ p. plain_refusal t p ≡ None)
   pub automove : a.automove ≡ true → plain_refusal t automove_off ≡ None
@@ -65,10 +67,15 @@ send_text direction (Some d) None = line_text direction d
 send_text direction None (Some d) = line_text direction d
 send_text direction (Some d) (Some e) = line_text direction d ++ (codes ", or " ++ line_text direction e)
 
--- the same in a row of its own, if there is one
-abbrev pub goes_on_text : Direction → Option Decision → List ℕ
-goes_on_text direction None = []
-goes_on_text direction (Some d) = codes "If the game goes on: " ++ (line_text direction d ++ codes "\n")
+-- the command of a decision in a row of its own, if there is one, and how it goes: as it is by `send`
+abbrev pub goes_on_text : List ℕ → Direction → Option Decision → List ℕ
+goes_on_text how direction None = []
+goes_on_text how direction (Some d) =
+    codes "If the game goes on: " ++ (how ++ (command_of direction (decision_of d) ++ codes "\n"))
+
+-- the first decision that the client takes
+abbrev pub first_taken : Advice → Option Decision
+first_taken a = first_way a.offers.roll a.offers.example
 
 -- who plays against the user
 abbrev pub opponent_text : List ℕ → List ℕ
@@ -103,8 +110,10 @@ resumes_text opponent = invite_words opponent ++ (opponent ++ codes ".\n")
 -- how a row begins: with who plays against the user, or with what was sent
 abbrev pub beginning : Row → List ℕ → List ℕ → List ℕ
 beginning R.Resigns who word = who
+beginning R.Concedes who word = who
 beginning R.Owes who word = who
 beginning R.Unsettled who word = who
+beginning R.Unanswered who word = who
 beginning R.Doubles who word = who
 beginning R.Declined who word = who
 beginning R.Thinks who word = who
@@ -123,7 +132,9 @@ named_in R.ServerPlays opponent inviter a = toggles_text a.automove a.greedy ++ 
 named_in R.Declined opponent inviter a = send_text a.offers.direction a.send a.other
 named_in R.Same opponent inviter a = send_text a.offers.direction a.send a.other
 named_in R.Back opponent inviter a = send_text a.offers.direction a.send a.other
-named_in R.Thinks opponent inviter a = goes_on_text a.offers.direction a.send
+named_in R.Unsettled opponent inviter a = goes_on_text [] a.offers.direction (first_taken a)
+named_in R.Unanswered opponent inviter a = goes_on_text [] a.offers.direction (first_taken a)
+named_in R.Thinks opponent inviter a = goes_on_text (codes "send ") a.offers.direction a.send
 named_in R.Saved opponent inviter a = opponent ++ (codes ",\nor join " ++ opponent)
 named_in R.Invited opponent inviter a = inviter
 named_in row opponent inviter a = []

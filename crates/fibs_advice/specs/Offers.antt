@@ -2,6 +2,8 @@
 use Rattle.std.specs.Prelude.{◌≡◌, ◌++◌, ◌||◌, ℕ, List, [], codes, Bool, true, false}
 use Rattle.std.specs.Prelude.{Option, Some, None, IfSome, is_none, is_some}
 use Rattle.fibs_commands.specs.Commands.{command_of}
+use Rattle.fibs_position.specs.declared.decision.Decision.{Decision}
+use Rattle.fibs_position.specs.declared.decision.Decision.TheVariants as D
 use Rattle.fibs_position.specs.declared.direction.Direction.{Direction}
 use Rattle.fibs_position.specs.DecisionValue.{DecisionValue, roll, double, accept, reject, move}
 use Rattle.fibs_rules.specs.declared.play.Play.{Play}
@@ -20,6 +22,12 @@ pub record OffersNow (t : Talk) (o : Offers) : Type 0 where
   pub accept : o.accept ≡ is_taken t accept
   pub reject : o.reject ≡ is_taken t reject
   pub example : IfSome o.example (λ play. is_taken t (move (hops_of play)) ≡ true)
+
+-- the first decision that may be made: to roll, else to move
+abbrev pub first_way : Bool → Option Play → Option Decision
+first_way true play = Some D.Roll
+first_way false None = None
+first_way false (Some play) = Some (D.Move play)
 
 -- something may be decided now
 abbrev pub may_decide : Offers → Bool

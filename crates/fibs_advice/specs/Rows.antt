@@ -7,6 +7,7 @@ use Rattle.fibs_advice.specs.declared.row.Row.TheVariants as R
 -- it says how an offer is answered by a line that goes as it is
 abbrev pub answers : Row → Bool
 answers R.Resigns = true
+answers R.Concedes = true
 answers R.Owes = true
 answers R.Unsettled = true
 answers row = false
@@ -19,6 +20,12 @@ shows_offers R.Resigns = true
 shows_offers R.Owes = true
 shows_offers row = false
 
+-- it says what the client takes now, or one way of it if the game goes on
+abbrev pub names_way_on : Row → Bool
+names_way_on R.Unsettled = true
+names_way_on R.Unanswered = true
+names_way_on row = shows_offers row
+
 -- it says that the user may roll, and of a double only that the server has refused one
 abbrev pub rolls_alone : Row → Bool
 rolls_alone R.Undoubled = true
@@ -27,6 +34,7 @@ rolls_alone row = false
 -- it is said only if the user asks: there is nothing to do then, or it is not sure
 abbrev pub is_asked_for : Row → Bool
 is_asked_for R.Unsettled = true
+is_asked_for R.Unanswered = true
 is_asked_for R.Back = true
 is_asked_for R.Thinks = true
 is_asked_for R.Waits = true
@@ -51,8 +59,10 @@ words_before R.NotLoggedIn = codes "Not logged in: wrong name or password? quit,
 words_before R.Undoubled = codes "Your turn: roll; the server refused a double in this game.\n"
 words_before R.ServerPlays = codes "The server plays for you: "
 words_before R.Resigns = codes " offers to resign: send accept, or send reject.\n"
+words_before R.Concedes = codes " offers to resign: send accept, or send reject.\n"
 words_before R.Owes = codes " waits for your answer: send accept, or send reject.\n"
 words_before R.Unsettled = codes " may wait for your answer: send accept, or send reject.\n"
+words_before R.Unanswered = codes " may still have to answer your offer.\n"
 words_before R.Doubles = codes " doubles: board, then accept, or reject.\n"
 words_before R.Turn = codes "It may be your turn: board shows the game.\n"
 words_before R.Declined = codes " declined? Go on: "

@@ -5,11 +5,11 @@ ghost use Rattle.fibs_position.specs.DecisionValue.{decision_of};
 ghost use Rattle.fibs_commands.specs.PlainOf.{plain_value};
 ghost use Rattle.fibs_session.specs.Calls.Standing.{StandsAfter};
 ghost use Rattle.fibs_advice.specs.Advised.{Advises, IsAnother, MayAnswer, MaySend, rules_allow};
-ghost use Rattle.fibs_advice.specs.Rows.{answers, plain_in, rolls_alone, shows_offers};
-ghost use Rattle.fibs_advice.specs.Standings.{hides_offers};
+ghost use Rattle.fibs_advice.specs.Rows.{answers, names_way_on, plain_in, rolls_alone, shows_offers};
+ghost use Rattle.fibs_advice.specs.Standings.{hides_offers, is_unsure};
 ghost use Rattle.fibs_advice.specs.Offers.{may_decide};
 
-use crate::offers::{Offers, first_of, is_taken, offered};
+use crate::offers::{Offers, is_taken, offered};
 use crate::row::Row;
 use crate::situation::Situation;
 use crate::standing::Standing;
@@ -116,16 +116,14 @@ fn may_answer(client: &Client, standing: Standing) -> bool
 
 /// Whether a row is what is to be said: what the client takes now is not left out.
 fn says_offers(standing: Standing, offers: &Offers, row: Row) -> bool
-    ensures { IsTrue result → hides_offers standing ≡ false → may_decide offers.now ≡ true → shows_offers row ≡ true }
+    ensures shown { IsTrue result →
+        hides_offers standing ≡ false → may_decide offers.now ≡ true → shows_offers row ≡ true }
+    ensures named { IsTrue result →
+        is_unsure standing ≡ true → may_decide offers.now ≡ true → names_way_on row ≡ true }
 {
-    standing.hides_offers() || !offers.may_decide() || row.shows_offers()
-}
-
-/// Whether a row that says that the user may roll is true.
-fn may_roll(offers: &Offers, row: Row) -> bool
-    ensures { IsTrue result → rolls_alone row ≡ true → offers.now.roll ≡ true }
-{
-    !row.rolls_alone() || offers.roll
+    !offers.may_decide()
+        || ((standing.hides_offers() || row.shows_offers())
+            && (!standing.is_unsure() || row.names_way_on()))
 }
 
 /// Whether all that a row names may be typed.
@@ -135,7 +133,7 @@ fn is_true(client: &Client, standing: Standing, offers: &Offers, row: Row) -> bo
         IfSome (plain_in row) (λ p. plain_refusal t p ≡ None) }
     ensures answer { IsTrue result → answers row ≡ true → (t : Talk) → StandsAfter client.now t → MayAnswer t standing }
 {
-    may_roll(offers, row)
+    (!row.rolls_alone() || offers.roll)
         && is_row_taken(client, row)
         && (!row.answers() || may_answer(client, standing))
 }
@@ -143,6 +141,7 @@ fn is_true(client: &Client, standing: Standing, offers: &Offers, row: Row) -> bo
 /// A row, if it is true and leaves nothing out that the client takes now; else what the client takes.
 fn true_row(client: &Client, standing: Standing, offers: &Offers, row: Row) -> Row
     ensures shown { hides_offers standing ≡ false → may_decide offers.now ≡ true → shows_offers result ≡ true }
+    ensures named { is_unsure standing ≡ true → may_decide offers.now ≡ true → names_way_on result ≡ true }
     ensures rolls { rolls_alone result ≡ true → offers.now.roll ≡ true }
     ensures plain { (t : Talk) → StandsAfter client.now t →
         IfSome (plain_in result) (λ p. plain_refusal t p ≡ None) }
@@ -168,18 +167,22 @@ fn move_on(
             }
         }
     }
-    let first = first_of(alloc, position)?;
-    Ok(first.map(Decision::Move))
+    let plays = position.plays(alloc)?;
+    Ok(plays.first().copied().map(Decision::Move))
 }
 
-/// The decisions by which a game goes on, on a board.
+/// The decisions by which a game goes on, on a board. A double is not advised if the server has refused one in this
+/// game, or if the opponent has an offer before him.
 fn ways_on(
     alloc: Global,
     client: &Client,
     game: &GameBoard,
+    situation: &Situation,
 ) -> Result<(Option<Decision>, Option<Decision>), AllocError> {
+    let doubles = !situation.refuses_double && situation.standing != Standing::Offered;
     match game.phase() {
-        Phase::RollOrDouble => Ok((Some(Decision::Roll), Some(Decision::Double))),
+        Phase::RollOrDouble if doubles => Ok((Some(Decision::Roll), Some(Decision::Double))),
+        Phase::RollOrDouble => Ok((Some(Decision::Roll), None)),
         Phase::AnswerDouble => Ok((Some(Decision::Accept), Some(Decision::Reject))),
         Phase::Move => Ok((move_on(alloc, client, game.position())?, None)),
         Phase::Over | Phase::OpponentActs | Phase::Passing => Ok((None, None)),
@@ -205,25 +208,15 @@ fn sends(standing: Standing, waiting: &Decision) -> bool {
 fn ways(
     alloc: Global,
     client: &Client,
-    standing: Standing,
+    situation: &Situation,
 ) -> Result<(Option<Decision>, Option<Decision>), AllocError> {
     let (Some(asked), Some(game)) = (client.waiting(), client.game()) else {
         return Ok((None, None));
     };
-    if sends(standing, &asked.decision) {
-        ways_on(alloc, client, game)
+    if sends(situation.standing, &asked.decision) {
+        ways_on(alloc, client, game, situation)
     } else {
         Ok((None, None))
-    }
-}
-
-/// A second decision: a double is not advised if the server has refused one in this game, or if the opponent has an
-/// offer before him.
-fn second_way(situation: &Situation, second: Option<Decision>) -> Option<Decision> {
-    match second {
-        Some(Decision::Double)
-            if situation.refuses_double || situation.standing == Standing::Offered => { None }
-        _ => second,
     }
 }
 
@@ -286,8 +279,10 @@ fn row_in_game(client: &Client, situation: &Situation, offers: &Offers, has_way:
     let standing = situation.standing;
     match standing {
         Standing::Resigned => Row::Resigns,
+        Standing::Conceded => Row::Concedes,
         Standing::Owed => Row::Owes,
         Standing::Unsettled => Row::Unsettled,
+        Standing::Unanswered => Row::Unanswered,
         Standing::Offered => Row::Thinks,
         Standing::Doubled => Row::Doubles,
         Standing::Refused | Standing::Same => row_of_refused(client, standing, has_way),
@@ -318,6 +313,7 @@ fn comes_first(standing: Standing) -> bool {
     matches!(
         standing,
         Standing::Resigned
+            | Standing::Conceded
             | Standing::Owed
             | Standing::Gone
             | Standing::Reopened
@@ -328,13 +324,8 @@ fn comes_first(standing: Standing) -> bool {
     )
 }
 
-/// Why the client would refuse to roll, if it is not the board that forbids it: so one knows whether it is logged in,
-/// and whether the server plays by itself.
-fn hindrance(client: &Client) -> Option<Refusal> {
-    client.refusal(&Decision::Roll)
-}
-
-/// What is said, before it is tested that all that it names may be typed.
+/// What is said, before it is tested that all that it names may be typed. Why the client would refuse to roll says
+/// whether it is logged in, and whether the server plays by itself.
 fn row_of(
     client: &Client,
     situation: &Situation,
@@ -343,7 +334,7 @@ fn row_of(
     has_way: bool,
 ) -> Row {
     let standing = situation.standing;
-    match hindrance(client) {
+    match client.refusal(&Decision::Roll) {
         Some(Refusal::Offline) => return Row::Nothing,
         _ if situation.is_login_refused(client.unfinished(), aside.had_time) => {
             return Row::NotLoggedIn;
@@ -359,16 +350,10 @@ fn row_of(
         Standing::Gone | Standing::Reopened | Standing::Invited => {
             row_of_saved(situation, aside.is_listed)
         }
-        _ => row_in_game(client, situation, offers, has_way),
-    }
-}
-
-/// A row, but that of what the client takes if the server has refused a double in this game.
-fn unless_refused(situation: &Situation, offers: &Offers, row: Row) -> Row {
-    if row == Row::Offers && offers.double && situation.refuses_double {
-        Row::Undoubled
-    } else {
-        row
+        _ => match row_in_game(client, situation, offers, has_way) {
+            Row::Offers if offers.double && situation.refuses_double => Row::Undoubled,
+            row => row,
+        },
     }
 }
 
@@ -386,18 +371,13 @@ pub fn advised(
 {
     let standing = situation.standing;
     let offers = offered(alloc, client)?;
-    let (first, second) = ways(alloc, client, standing)?;
+    let (first, second) = ways(alloc, client, situation)?;
     let send = sendable(client, standing, first);
-    let other = sendable(client, standing, second_way(situation, second));
+    let other = sendable(client, standing, second);
     let has_way = send.is_some() || other.is_some();
     let row = row_of(client, situation, aside, &offers, has_way);
     Ok(Advice {
-        row: true_row(
-            client,
-            standing,
-            &offers,
-            unless_refused(situation, &offers, row),
-        ),
+        row: true_row(client, standing, &offers, row),
         offers,
         automove: is_plain_taken(client, &Plain::AutomoveOff),
         greedy: is_plain_taken(client, &Plain::GreedyOff),

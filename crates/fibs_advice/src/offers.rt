@@ -4,10 +4,11 @@ ghost use Rattle.fibs_position.specs.DecisionValue.{decision_of, move};
 ghost use Rattle.fibs_rules.specs.PlayValue.{hops_of};
 ghost use Rattle.fibs_session.specs.History.Machine.{Talk};
 ghost use Rattle.fibs_session.specs.Calls.Standing.{StandsAfter};
-ghost use Rattle.fibs_advice.specs.Offers.{OffersNow, is_taken, may_decide, example_text, hint_words, hint_text};
+ghost use Rattle.fibs_advice.specs.Offers.{OffersNow, is_taken, may_decide, first_way, example_text};
+ghost use Rattle.fibs_advice.specs.Offers.{hint_words, hint_text};
 
 use fibs_commands::decision_text;
-use fibs_position::{Decision, Direction, Play, Position};
+use fibs_position::{Decision, Direction, Play};
 use fibs_session::Client;
 use std::alloc::{AllocError, Global};
 
@@ -37,29 +38,22 @@ impl Offers {
     }
 }
 
+/// The first decision that may be made: to roll, else to move.
+pub(crate) fn first_way(roll: bool, example: Option<Play>) -> Option<Decision>
+    ensures { result ≡ first_way roll example }
+{
+    match (roll, example) {
+        (true, _) => Some(Decision::Roll),
+        (false, None) => None,
+        (false, Some(play)) => Some(Decision::Move(play)),
+    }
+}
+
 /// Whether the client takes a decision now.
 pub fn is_taken(client: &Client, decision: &Decision) -> bool
     ensures { (t : Talk) → StandsAfter client.now t → result ≡ is_taken t (decision_of decision.now) }
 {
     client.refusal(decision).is_none()
-}
-
-/// A move, if the client takes it now.
-fn taken_move(client: &Client, play: &Play) -> Option<Play>
-    ensures { (t : Talk) → StandsAfter client.now t →
-        IfSome result (λ play. is_taken t (move (hops_of play)) ≡ true) }
-{
-    if is_taken(client, &Decision::Move(*play)) {
-        Some(*play)
-    } else {
-        None
-    }
-}
-
-/// The first legal move of a position, if it has one.
-pub(crate) fn first_of(alloc: Global, position: &Position) -> Result<Option<Play>, AllocError> {
-    let plays = position.plays(alloc)?;
-    Ok(plays.first().copied())
 }
 
 /// The first legal move of the board that is shown, if the client takes it now.
@@ -70,10 +64,10 @@ fn example(alloc: Global, client: &Client) -> Result<Option<Play>, AllocError>
     let Some(game) = client.game() else {
         return Ok(None);
     };
-    let found = first_of(alloc, game.position())?;
-    match found {
-        Some(play) => Ok(taken_move(client, &play)),
-        None => Ok(None),
+    let plays = game.position().plays(alloc)?;
+    match plays.first().copied() {
+        Some(play) if is_taken(client, &Decision::Move(play)) => Ok(Some(play)),
+        _ => Ok(None),
     }
 }
 

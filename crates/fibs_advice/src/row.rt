@@ -1,7 +1,7 @@
 //! Rows: what is said to who plays, and what they name.
 ghost use Rattle.std.specs.Prelude.{◌≡◌, option_map};
 ghost use Rattle.fibs_commands.specs.PlainOf.{plain_value};
-ghost use Rattle.fibs_advice.specs.Rows.{plain_in, answers, is_asked_for, rolls_alone, shows_offers};
+ghost use Rattle.fibs_advice.specs.Rows.{plain_in, answers, is_asked_for, names_way_on, rolls_alone, shows_offers};
 ghost use Rattle.fibs_advice.specs.Rows.{words_before, words_after};
 
 use fibs_commands::Plain;
@@ -21,10 +21,14 @@ pub enum Row {
     ServerPlays,
     /// That the opponent offers to resign, and how that is answered.
     Resigns,
+    /// The same, and nothing of what the board allows.
+    Concedes,
     /// That the opponent waits for an answer, and how it is given.
     Owes,
-    /// That the opponent may wait for an answer, and how it is given.
+    /// That the opponent may wait for an answer, how it is given, and how the game goes on if he does not.
     Unsettled,
+    /// That the opponent may have to answer the user's offer, and how the game goes on if he has not.
+    Unanswered,
     /// That the opponent doubles: the board has to say so first.
     Doubles,
     /// That it may be the user's turn: the board says it.
@@ -58,7 +62,10 @@ impl Row {
     pub fn answers(self) -> bool
         ensures { result ≡ answers self }
     {
-        matches!(self, Row::Resigns | Row::Owes | Row::Unsettled)
+        matches!(
+            self,
+            Row::Resigns | Row::Concedes | Row::Owes | Row::Unsettled
+        )
     }
 
     /// The line that it names, if that has no argument and decides nothing.
@@ -82,6 +89,13 @@ impl Row {
         )
     }
 
+    /// Whether it says what the client takes now, or one way of it if the game goes on.
+    pub(crate) fn names_way_on(self) -> bool
+        ensures { result ≡ names_way_on self }
+    {
+        matches!(self, Row::Unsettled | Row::Unanswered) || self.shows_offers()
+    }
+
     /// Whether it says that the user may roll, and of a double only that the server has refused one.
     pub fn rolls_alone(self) -> bool
         ensures { result ≡ rolls_alone self }
@@ -96,7 +110,13 @@ impl Row {
     {
         matches!(
             self,
-            Row::Unsettled | Row::Back | Row::Thinks | Row::Waits | Row::Joined | Row::Absent
+            Row::Unsettled
+                | Row::Unanswered
+                | Row::Back
+                | Row::Thinks
+                | Row::Waits
+                | Row::Joined
+                | Row::Absent
         )
     }
 
@@ -109,9 +129,10 @@ impl Row {
             Row::NotLoggedIn => b"Not logged in: wrong name or password? quit, and begin again.\n",
             Row::Undoubled => b"Your turn: roll; the server refused a double in this game.\n",
             Row::ServerPlays => b"The server plays for you: ",
-            Row::Resigns => b" offers to resign: send accept, or send reject.\n",
+            Row::Resigns | Row::Concedes => b" offers to resign: send accept, or send reject.\n",
             Row::Owes => b" waits for your answer: send accept, or send reject.\n",
             Row::Unsettled => b" may wait for your answer: send accept, or send reject.\n",
+            Row::Unanswered => b" may still have to answer your offer.\n",
             Row::Doubles => b" doubles: board, then accept, or reject.\n",
             Row::Turn => b"It may be your turn: board shows the game.\n",
             Row::Declined => b" declined? Go on: ",

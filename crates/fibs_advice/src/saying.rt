@@ -5,7 +5,7 @@ ghost use Rattle.fibs_advice.specs.Advised.{advice_text, beginning, goes_on_text
 ghost use Rattle.fibs_advice.specs.Advised.{decision_word, invite_words, opponent_text, resumes_text, toggles_text};
 
 use crate::advised::Advice;
-use crate::offers::append_offers;
+use crate::offers::{append_offers, first_way};
 use crate::row::Row;
 use fibs_commands::decision_text;
 use fibs_position::{Decision, Direction};
@@ -44,19 +44,22 @@ fn append_send(
     }
 }
 
-/// Appends a line that goes as it is in a row of its own, if there is one.
+/// Appends the command of a decision in a row of its own, if there is one, and how it goes.
 fn append_goes_on(
+    how: &[u8],
     direction: Direction,
-    send: Option<Decision>,
+    decision: Option<Decision>,
     text: &mut Vec<u8>,
 ) -> Result<(), AllocError>
-    ensures { OnOk result (text.new.items ≡ text.old.items ++ goes_on_text direction send) }
+    ensures { OnOk result (text.new.items ≡ text.old.items ++ goes_on_text how.now direction decision) }
 {
-    match send {
+    match decision {
         None => Ok(()),
         Some(decision) => {
+            let command = decision_text(&decision, direction);
             text.extend_from_slice(b"If the game goes on: ")?;
-            append_line(direction, decision, text)?;
+            text.extend_from_slice(how)?;
+            text.extend_from_slice(command.as_bytes())?;
             text.extend_from_slice(b"\n")
         }
     }
@@ -121,19 +124,21 @@ fn append_resumes(opponent: &[u8], text: &mut Vec<u8>) -> Result<(), AllocError>
 }
 
 /// How a row begins.
-fn beginning<'a>(row: Row, who: &'a [u8], word: &'a [u8]) -> &'a [u8]
-    ensures { result.now ≡ beginning row who.now word.now }
+fn beginning<'a>(row: Row, opponent: &'a [u8], asked: Option<Decision>) -> &'a [u8]
+    ensures { result.now ≡ beginning row (opponent_text opponent.now) (decision_word asked) }
 {
     match row {
         Row::Resigns
+        | Row::Concedes
         | Row::Owes
         | Row::Unsettled
+        | Row::Unanswered
         | Row::Doubles
         | Row::Declined
         | Row::Thinks
         | Row::Joined
-        | Row::Absent => who,
-        Row::Refused | Row::Waits => word,
+        | Row::Absent => opponent_text(opponent),
+        Row::Refused | Row::Waits => decision_word(asked),
         _ => b"",
     }
 }
@@ -181,7 +186,11 @@ fn append_named(
             advice.other,
             text,
         ),
-        Row::Thinks => append_goes_on(direction, advice.send, text),
+        Row::Unsettled | Row::Unanswered => {
+            let first = first_way(advice.offers.roll, advice.offers.example);
+            append_goes_on(b"", direction, first, text)
+        }
+        Row::Thinks => append_goes_on(b"send ", direction, advice.send, text),
         Row::Saved => append_opponent(opponent, text),
         Row::Invited => text.extend_from_slice(inviter),
         _ => Ok(()),
@@ -197,8 +206,7 @@ pub fn append_advice(
 ) -> Result<(), AllocError>
     ensures { OnOk result (text.new.items ≡ text.old.items ++ advice_text opponent.now inviter.now advice.now) }
 {
-    let who = opponent_text(opponent);
-    text.extend_from_slice(beginning(advice.row, who, decision_word(advice.asked)))?;
+    text.extend_from_slice(beginning(advice.row, opponent, advice.asked))?;
     text.extend_from_slice(advice.row.words_before())?;
     append_named(advice, opponent, inviter, text)?;
     text.extend_from_slice(advice.row.words_after())

@@ -28,6 +28,18 @@ enum Waiting {
     Other,
 }
 
+/// An offer that was open when the match was left, or the connection before this one ended, and of which nothing was
+/// heard since.
+#[derive(Clone, Copy, Debug, PartialEq, Eq)]
+enum Left {
+    /// There is none.
+    Nothing,
+    /// It is the opponent's.
+    Theirs,
+    /// It is the user's.
+    Own,
+}
+
 /// What the user waits for, and what of it the client does not know.
 #[derive(Drop)]
 pub struct Situation {
@@ -47,9 +59,8 @@ pub struct Situation {
     turn: Option<Told>,
     /// Whether the user has the turn and has not decided, as far as is known. No offer of the opponent ends that.
     pub(crate) is_due: bool,
-    /// Whether an offer of the opponent was open when the connection before this one ended, and nothing was heard of the
-    /// match since.
-    has_offer: bool,
+    /// An offer of which nothing is known any more.
+    left: Left,
     /// Whether a login was sent on this connection, and the server has not greeted the user.
     logs_in: bool,
     /// Whether a message has come since that is not the greeting.
@@ -110,7 +121,7 @@ impl Situation {
             waiting: Waiting::Nothing,
             turn: None,
             is_due: false,
-            has_offer: false,
+            left: Left::Nothing,
             logs_in: false,
             hears_others: false,
             has_come: false,
@@ -120,7 +131,7 @@ impl Situation {
 
     /// A connection was made: nothing waits on it.
     pub fn hear_opened(&mut self) {
-        self.has_offer = self.has_offer || self.standing.has_offer();
+        self.left = self.open_offer();
         self.standing = if self.opponent.is_empty() {
             Standing::Free
         } else {
@@ -178,12 +189,14 @@ impl Situation {
             self.waiting = waiting;
             self.asks_board = false;
             self.is_due = false;
+            self.left = Left::Nothing;
             self.standing = self.standing.after_sent();
             return true;
         }
         if command == b"board".as_slice() {
             self.asks_board = true;
         } else if command == b"bye".as_slice() {
+            self.left = self.open_offer();
             self.standing = self.standing.after_bye();
         }
         false
@@ -197,6 +210,7 @@ impl Situation {
         } else if decision_in(line).is_some() {
             self.asks_board = false;
             self.is_due = false;
+            self.left = Left::Nothing;
             self.standing = self.standing.after_sent();
         }
     }
@@ -257,14 +271,36 @@ impl Situation {
                 if self.waiting != Waiting::Nothing && self.standing != Standing::Answered => {
                 self.is_due = true;
             }
+            // no offer was open that gave the turn away
+            Told::NoOffer if self.standing.has_offer() => self.is_due = self.turn.is_some(),
             Told::Plays | Told::Begins | Told::Resumes => self.is_due = false,
             _ => {}
         }
     }
 
+    /// The offer that is open, or of which nothing is known any more.
+    fn open_offer(&self) -> Left {
+        match self.standing {
+            Standing::Offered => Left::Own,
+            Standing::Asked if self.waiting == Waiting::Offer => Left::Own,
+            _ if self.standing.has_offer() => Left::Theirs,
+            _ => self.left,
+        }
+    }
+
+    /// The offer of which nothing is known after a text.
+    fn left_after(&self, report: &Report<'_>) -> Left {
+        match report.told {
+            Told::Saved | Told::NotPlaying => self.open_offer(),
+            Told::Resumes if self.opponent.as_slice() == report.name => self.left,
+            Told::Invited | Told::NotInvited => self.left,
+            _ => Left::Nothing,
+        }
+    }
+
     /// Hears what a text says.
     fn hear_report(&mut self, report: &Report<'_>) {
-        self.has_offer = false;
+        self.left = self.left_after(report);
         self.note_turn(report.told);
         let after = self.standing.after(report.told);
         if after != self.standing || matches!(report.told, Told::Begins | Told::Resumes) {
@@ -278,6 +314,7 @@ impl Situation {
             _ => {}
         }
         self.standing = after;
+        self.note_given_turn();
     }
 
     /// What a board says to who waits.
@@ -301,28 +338,45 @@ impl Situation {
         self.asks_board = false;
         self.turn = turn_of(game.phase());
         self.note_due();
-        self.note_unsettled(game.phase());
+        self.note_given_turn();
+        self.note_left(game.phase());
     }
 
-    /// Takes note of an offer that was open when the connection before this one ended. If a board shows that the
-    /// opponent has the turn, he may wait for the answer; else the board says what is to be done.
-    fn note_unsettled(&mut self, phase: Phase) {
-        self.has_offer = self.has_offer && phase == Phase::OpponentActs;
-        if self.has_offer {
-            self.standing = self.standing.after_unsettled();
+    /// Takes note of an offer of which nothing is known any more. The opponent may wait for the answer to his if a board
+    /// shows that he has the turn, or gives it to the user before the dice; he may still have the user's while that has
+    /// the turn. Else the board says what is to be done.
+    fn note_left(&mut self, phase: Phase) {
+        let (left, unsure) = match (self.left, phase) {
+            (Left::Theirs, Phase::OpponentActs | Phase::RollOrDouble) => (
+                Left::Theirs,
+                Standing::Unsettled,
+            ),
+            (Left::Own, Phase::RollOrDouble | Phase::Move) => (Left::Own, Standing::Unanswered),
+            _ => (Left::Nothing, self.standing),
+        };
+        self.left = left;
+        if left != Left::Nothing && self.standing == Standing::Playing {
+            self.standing = unsure;
+            self.is_due = false;
         }
     }
 
-    /// Whether the board that came last may show an offer to resign: such a board gives the turn away, and then the
-    /// user's dice alone say that the turn is his.
-    fn is_turn_hidden(&self) -> bool {
-        let has_offer = self.standing.owes_answer() || self.standing == Standing::Answered;
-        has_offer && self.turn != Some(Told::ToMove)
+    /// Takes note of a turn that a board gives away below an offer to resign: the user did not have it, and has no dice.
+    fn note_given_turn(&mut self) {
+        self.standing = match (self.standing, self.turn) {
+            (Standing::Resigned | Standing::Owed, Some(Told::ToRoll)) if !self.is_due =>
+                Standing::Conceded,
+            (Standing::Conceded, Some(Told::ToMove)) => Standing::Resigned,
+            _ => self.standing,
+        };
     }
 
-    /// Takes note of the turn that a board shows, if no decision waits that was made before it.
+    /// Takes note of the turn that a board shows, if no decision waits that was made before it. A board that may show an
+    /// offer to resign gives the turn away: then the user's dice alone say that the turn is his.
     fn note_due(&mut self) {
-        if !self.is_turn_hidden() && (self.waiting == Waiting::Nothing || self.standing.repeats()) {
+        let has_offer = self.standing.owes_answer() || self.standing == Standing::Answered;
+        let is_hidden = has_offer && self.turn != Some(Told::ToMove);
+        if !is_hidden && (self.waiting == Waiting::Nothing || self.standing.repeats()) {
             self.is_due = self.turn.is_some();
         }
     }

@@ -1,6 +1,6 @@
 //! What the user waits for.
 ghost use Rattle.std.specs.Prelude.{◌≡◌};
-ghost use Rattle.fibs_advice.specs.Standings.{hides_offers, repeats, owes_answer};
+ghost use Rattle.fibs_advice.specs.Standings.{hides_offers, is_unsure, repeats, owes_answer};
 
 use crate::told::Told;
 
@@ -29,13 +29,19 @@ pub enum Standing {
     Doubled,
     /// The opponent offers to resign.
     Resigned,
+    /// The opponent offers to resign, and the board gives the user a turn that he did not have: so it may show the offer.
+    Conceded,
     /// The opponent has made an offer that no board shows: a double, or one that no text has named.
     Owed,
-    /// An offer of the opponent was open when the connection before this one ended, and nothing was heard of it since.
+    /// An offer of the opponent was open when the match was left, or the connection before this one ended, and nothing
+    /// was heard of it since.
     Unsettled,
+    /// The same of an offer of the user.
+    Unanswered,
     /// The user has answered an offer of which texts alone told, and no board has come since.
     Answered,
-    /// The user has declined an offer to resign, and no board has come since.
+    /// An offer to resign was declined by the user, or is over since the opponent has played on, and no board has come
+    /// since.
     Continued,
     /// The game is over.
     Ended,
@@ -88,8 +94,15 @@ impl Standing {
     {
         matches!(
             self,
-            Standing::Resigned | Standing::Owed | Standing::Unsettled
+            Standing::Resigned | Standing::Conceded | Standing::Owed | Standing::Unsettled
         )
+    }
+
+    /// Whether it is not known if an offer is open that was open before.
+    pub(crate) fn is_unsure(self) -> bool
+        ensures { result ≡ is_unsure self }
+    {
+        matches!(self, Standing::Unsettled | Standing::Unanswered)
     }
 
     /// Whether an offer of the opponent is told by texts, and no board shows it.
@@ -98,7 +111,7 @@ impl Standing {
     }
 
     /// Whether what the client takes is not what the user waits for: there is no game, or its board is still to come,
-    /// or an offer is before the opponent or was just answered.
+    /// or an offer is before the opponent or was just answered, or may be open, or gives the turn away.
     pub fn hides_offers(self) -> bool
         ensures { result ≡ hides_offers self }
     {
@@ -107,6 +120,9 @@ impl Standing {
             Standing::Free
                 | Standing::Invited
                 | Standing::Offered
+                | Standing::Conceded
+                | Standing::Unsettled
+                | Standing::Unanswered
                 | Standing::Answered
                 | Standing::Continued
                 | Standing::Ended
@@ -171,6 +187,7 @@ impl Standing {
             | Standing::Same
             | Standing::Doubled
             | Standing::Resigned
+            | Standing::Conceded
             | Standing::Owed
             | Standing::Fresh => self,
             _ => Standing::Due,
@@ -215,7 +232,7 @@ impl Standing {
     fn after_game_text(self, told: Told) -> Standing {
         match told {
             Told::Declined if self != Standing::Playing && !self.keeps_offer() => Standing::Refused,
-            Told::NoOffer if self.has_offer() => Standing::Continued,
+            Told::NoOffer if self.has_offer() || self == Standing::Continued => Standing::Continued,
             Told::Refused if self == Standing::Answered => Standing::Owed,
             Told::Refused | Told::NoDouble | Told::NoOffer if !self.keeps_offer() => {
                 Standing::Refused
@@ -224,6 +241,7 @@ impl Standing {
             Told::MustAnswer if !self.keeps_offer() => Standing::Owed,
             Told::Taken => Standing::Taken,
             Told::Continues if self != Standing::Offered => Standing::Continued,
+            Told::Plays if self.is_unsure() => Standing::Continued,
             Told::Plays if !self.keeps_while_he_plays() => Standing::Asked,
             _ => self,
         }
@@ -238,7 +256,11 @@ impl Standing {
     fn keeps_offer(self) -> bool {
         matches!(
             self,
-            Standing::Taken | Standing::Doubled | Standing::Resigned | Standing::Owed
+            Standing::Taken
+                | Standing::Doubled
+                | Standing::Resigned
+                | Standing::Conceded
+                | Standing::Owed
         )
     }
 
@@ -248,6 +270,7 @@ impl Standing {
             self,
             Standing::Playing
                 | Standing::Resigned
+                | Standing::Conceded
                 | Standing::Owed
                 | Standing::Answered
                 | Standing::Continued
@@ -324,15 +347,6 @@ impl Standing {
             Standing::Anew | Standing::Fresh => Standing::Back,
             _ if self.is_in_game() => self,
             _ => Standing::Back,
-        }
-    }
-
-    /// The state after a board on a new connection, if an offer was open when the one before it ended: while the
-    /// opponent has the turn, he may wait for the answer.
-    pub fn after_unsettled(self) -> Standing {
-        match self {
-            Standing::Playing => Standing::Unsettled,
-            _ => self,
         }
     }
 
