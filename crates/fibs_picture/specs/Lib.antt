@@ -1,4 +1,6 @@
 pub mod Cells
+pub mod Halves
+pub mod Lines
 pub mod Picture
 pub mod Places
 pub mod Told

@@ -184,9 +184,23 @@ lower_lines b p =
     ∷ (edge p half.Lower, named own_letter b.player)
     ∷ (codes " ", deed_in p) ∷ []
 
+-- the same, without what can be done
+abbrev pub player_lines : BoardFields → PositionValue → List (List ℕ × List ℕ)
+player_lines b p =
+    (layer p half.Lower 5, turn_words (turn b) (colour b))
+    ∷ (layer p half.Lower 4, dice (field_of b 34) (field_of b 35))
+    ∷ (layer p half.Lower 3, pips (own_pips p.standing.checkers))
+    ∷ (layer p half.Lower 2, off (field_of b 46))
+    ∷ (layer p half.Lower 1, score (field_of b 5))
+    ∷ (edge p half.Lower, named own_letter b.player) ∷ []
+
 -- what is drawn of a board whose position is this
 unfoldable pub drawn : BoardFields → PositionValue → List ℕ
 drawn b p = flat_map line (upper_lines b p) ++ flat_map line (lower_lines b p)
+
+-- the picture of a board without what can be done
+abbrev pub board_picture : BoardFields → List ℕ
+board_picture b = let p = position_of b in flat_map line (upper_lines b p) ++ flat_map line (player_lines b p)
 
 -- the picture of a board
 abbrev pub picture : BoardFields → List ℕ

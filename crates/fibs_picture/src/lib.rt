@@ -14,7 +14,7 @@ mod words;
 pub mod writing;
 
 pub use cells::{MOST_SEEN, OWN_LETTER};
-pub use picture::draw;
+pub use picture::{draw, draw_board};
 pub use places::{
     BOARD_COLUMNS, CUBE_ROW, DEED_ROW, DICE_ROW, PICTURE_COLUMNS, TURN_ROW, height_at, place_at,
 };

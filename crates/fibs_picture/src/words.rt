@@ -1,5 +1,5 @@
 //! The words beside a board, and below it.
-ghost use Rattle.std.specs.Prelude.{◌≡◌, ◌≤◌, ◌++◌, ◌∷◌, [], OnOk, take};
+ghost use Rattle.std.specs.Prelude.{◌≡◌, ◌≤◌, ◌++◌, ◌∷◌, [], OnOk, codes, take};
 ghost use Rattle.std.specs.Io.KnownBytes.{Appends};
 ghost use Rattle.fibs_position.specs.DecisionValue.{decision_of};
 ghost use Rattle.fibs_position.specs.PositionValue.{position_value};
@@ -42,12 +42,22 @@ pub fn write_name<W: Write>(letter: u8, name: &[u8], out: &mut W) -> io::Result<
     write_text(b"\n", out)
 }
 
+/// Words, and the line's end.
+pub fn write_words<W: Write>(words: &[u8], out: &mut W) -> io::Result<()>
+    ensures { OnOk result (Appends (W.contents out.old) (W.contents out.new) (words.now ++ 10 ∷ [])) }
+{
+    write_text(words, out)?;
+    write_text(b"\n", out)
+}
+
 /// Two dice, or that there are none, and the line's end.
-pub fn write_two_dice<W: Write>(first: u8, second: u8, out: &mut W) -> io::Result<()>
+pub fn write_dice<W: Write>(first: u8, second: u8, out: &mut W) -> io::Result<()>
     requires first { first ≤ 6 }
     requires second { second ≤ 6 }
-    ensures { OnOk result (Appends (W.contents out.old) (W.contents out.new) (two_dice first second ++ 10 ∷ [])) }
+    ensures { OnOk result (Appends (W.contents out.old) (W.contents out.new)
+        ((codes "  dice  " ++ two_dice first second) ++ 10 ∷ [])) }
 {
+    write_text(b"  dice  ", out)?;
     if first == 0 && second == 0 {
         write_text(b"-\n", out)
     } else {
