@@ -1,27 +1,29 @@
 -- What a terminal shows before the user types (the project's own).
-use Rattle.std.specs.Prelude.{◌≡◌, ◌++◌, ◌⊎◌, ℕ, true, false, List, [], Option, take}
+use Rattle.std.specs.Prelude.{◌≡◌, ◌++◌, ◌⊎◌, ℕ, Bool, true, false, List, [], Option, take}
 use Rattle.std.specs.Io.KnownBytes.{Appends}
 use Rattle.fibs_session.specs.History.Machine.{Talk}
 use Rattle.fibs_session.specs.Calls.Standing.{ClientValue, StandsAfter}
 use Rattle.fibs_advice.specs.Advised.{Advises, advice_text}
 use Rattle.fibs_advice.specs.Rows.{is_asked_for}
 use Rattle.fibs_advice.specs.declared.advised.Advice.{Advice}
+use Rattle.fibs_advice.specs.declared.situation.Situation.{Situation}
 use Rattle.fibs_terminal.specs.declared.memory.Memory.{Memory}
 
 -- how an advice is said: of a name the first 24 bytes
-abbrev pub row_of : Memory → Advice → List ℕ
-row_of memory a = advice_text (take 24 memory.situation.opponent.items) (take 24 memory.situation.inviter.items) a
+abbrev pub row_of : Situation → Advice → List ℕ
+row_of situation a = advice_text (take 24 situation.opponent.items) (take 24 situation.inviter.items) a
 
 -- what is written is the row of an advice, or nothing; and it is the row if a board has come since, or a line was sent,
 -- and the row is not one that is said only if the user asks
-pub record SaysRow (memory : Memory) (a : Advice) (before : List ℕ) (after : List ℕ) : Type 0 where
-  pub made : (after ≡ before) ⊎ (after ≡ before ++ row_of memory a)
-  pub owed : memory.owes ≡ true → is_asked_for a.row ≡ false → after ≡ before ++ row_of memory a
+pub record SaysRow (situation : Situation) (owes : Bool) (a : Advice) (before : List ℕ) (after : List ℕ) : Type 0 where
+  pub made : (after ≡ before) ⊎ (after ≡ before ++ row_of situation a)
+  pub owed : owes ≡ true → is_asked_for a.row ≡ false → after ≡ before ++ row_of situation a
 
 -- it is made of what may be advised now, by the history, in the state that the terminal has
 abbrev pub SaysAdvice : ClientValue → Memory → List ℕ → List ℕ → Type 0
 SaysAdvice client memory before after = (a : Advice)
-    × ((t : Talk) → StandsAfter client t → Advises t memory.situation.standing a) × SaysRow memory a before after
+    × ((t : Talk) → StandsAfter client t → Advises t memory.situation.standing a)
+    × SaysRow memory.situation memory.advising.owes a before after
 
 -- the same for a writer
 abbrev pub ShowsAdvice : ClientValue → Memory → Option (List ℕ) → Option (List ℕ) → Type 0

@@ -1,6 +1,6 @@
-//! What a terminal shows of a board.
-use crate::picture::{Came, append_marked, came_since, nothing_came};
-use crate::screen::Screen;
+//! The boards of a terminal, and what it shows of one that comes.
+use crate::picture::{NOTHING_CAME, append_marked, came_since};
+use crate::screen::Page;
 use fibs_boards::board::Board;
 use fibs_boards::fields::{
     FIRST_DIE, FIRST_PLACE, LAST_PLACE, OTHER_FIRST_DIE, OTHER_OFF, OTHER_SECOND_DIE, OWN_OFF,
@@ -12,22 +12,29 @@ use fibs_wording::outcomes::append_outcome;
 use fibs_wording::pieces::append_all;
 use itoa::Buffer;
 use std::alloc::AllocError;
-use std::time::Clock;
 
-/// Whether two boards differ in a field.
-fn differs(a: &Board, b: &Board, number: usize) -> bool {
-    number >= 4 && number <= 53 && a.field(number) != b.field(number)
+/// The boards that have come.
+#[derive(Drop)]
+pub struct Boards {
+    /// Whether the next board is to be drawn whole, since the user has asked for it.
+    pub asked: bool,
+    /// The board that was drawn last.
+    drawn: Option<GameBoard>,
+    /// The board that was drawn before it, or before that one if no checker has moved.
+    drawn_before: Option<GameBoard>,
+    /// The board that came last.
+    heard: Option<GameBoard>,
 }
 
 /// Whether a checker is elsewhere on another board, or the other board is of another opponent.
 fn is_moved(a: &Board, b: &Board) -> bool {
     for number in FIRST_PLACE..LAST_PLACE + 1 {
-        if differs(a, b, number) {
+        if a.field(number) != b.field(number) {
             return true;
         }
     }
-    differs(a, b, OWN_OFF)
-        || differs(a, b, OTHER_OFF)
+    a.field(OWN_OFF) != b.field(OWN_OFF)
+        || a.field(OTHER_OFF) != b.field(OTHER_OFF)
         || a.opponent().bytes() != b.opponent().bytes()
 }
 
@@ -39,103 +46,118 @@ fn is_deciding(phase: Phase) -> bool {
     )
 }
 
-impl<'a, C: Clock + Drop> Screen<'a, C> {
-    /// Hears a board of the user's game.
-    pub(crate) fn hear_game(&mut self, game: &GameBoard) -> Result<(), AllocError> {
-        self.memory.owes = true;
-        self.memory.inquired = self.memory.inquired || self.memory.situation.asks_board;
+impl Boards {
+    /// None has come.
+    pub fn new() -> Boards {
+        Boards {
+            asked: false,
+            drawn: None,
+            drawn_before: None,
+            heard: None,
+        }
+    }
+
+    /// A match or a game begins, or is resumed: its first board is drawn.
+    pub fn begin(&mut self) {
+        self.drawn = None;
+        self.drawn_before = None;
+    }
+
+    /// The phase of the board that came last.
+    pub fn phase(&self) -> Option<Phase> {
+        match &self.heard {
+            None => None,
+            Some(heard) => Some(heard.phase()),
+        }
+    }
+
+    /// Shows a board of the user's game. A text of the server that says the same is not said again.
+    pub fn show(
+        &mut self,
+        game: &GameBoard,
+        is_above: bool,
+        said: &[u8],
+        page: &mut Page<'_>,
+    ) -> Result<(), AllocError> {
         let phase = game.phase();
-        self.ring_at_turn(phase)?;
-        let again = self.is_heard_again(game.board());
+        let (again, was_his) = match &self.heard {
+            None => (false, false),
+            Some(heard) => (
+                heard.board() == game.board(),
+                heard.phase() == Phase::OpponentActs,
+            ),
+        };
+        if was_his && is_deciding(phase) {
+            page.ring()?;
+        }
         if self.is_drawn_whole(game.board(), phase) {
-            self.draw(game)?;
+            self.draw(game, is_above, page)?;
         } else if !again {
-            self.say_board(game.board(), phase)?;
+            say_board(game.board(), phase, said, page)?;
         }
         if phase == Phase::Over && !again {
-            self.say_outcome(game.board())?;
+            self.say_outcome(game.board(), page)?;
         }
-        self.memory.heard = Some(*game);
-        self.memory.said.clear();
-        self.memory.situation.hear_board(game);
+        self.heard = Some(*game);
         Ok(())
     }
 
     /// Whether a board is drawn whole: the user has asked for it, or a checker has moved and there is something to
     /// decide, or the game is over.
     fn is_drawn_whole(&self, board: &Board, phase: Phase) -> bool {
-        let Some(drawn) = &self.memory.drawn else {
+        let Some(drawn) = &self.drawn else {
             return true;
         };
         let calls = is_deciding(phase) || phase == Phase::Over;
-        self.memory.asked || (calls && is_moved(drawn.board(), board))
+        self.asked || (calls && is_moved(drawn.board(), board))
     }
 
-    /// Whether this is the very board that came last.
-    fn is_heard_again(&self, board: &Board) -> bool {
-        match &self.memory.heard {
-            None => false,
-            Some(heard) => heard.board() == board,
-        }
-    }
-
-    /// Rings the bell if the player decides in a phase, and the board before said that the opponent had the turn.
-    fn ring_at_turn(&mut self, phase: Phase) -> Result<(), AllocError> {
-        match &self.memory.heard {
-            Some(heard) if is_deciding(phase) && heard.phase() == Phase::OpponentActs => {
-                self.ring()
+    /// Draws a board, and where the opponent has moved to since the board that was drawn before it.
+    fn draw(
+        &mut self,
+        game: &GameBoard,
+        is_above: bool,
+        page: &mut Page<'_>,
+    ) -> Result<(), AllocError> {
+        self.asked = false;
+        if let Some(drawn) = &self.drawn {
+            if is_moved(drawn.board(), game.board()) {
+                self.drawn_before = Some(*drawn);
             }
-            _ => Ok(()),
         }
-    }
-
-    /// Draws a board.
-    fn draw(&mut self, game: &GameBoard) -> Result<(), AllocError> {
-        self.memory.asked = false;
-        let came = self.came(game);
-        self.memory.drawn = Some(*game);
-        let is_above = self.memory.converses;
-        append_marked(
-            self.alloc,
-            game,
-            &came,
-            &self.settings,
-            is_above,
-            &mut self.text,
-        )
+        self.drawn = Some(*game);
+        let came = match &self.drawn_before {
+            Some(before) => came_since(before, game),
+            None => NOTHING_CAME,
+        };
+        let alloc = page.alloc;
+        append_marked(alloc, game, &came, &page.settings, is_above, &mut page.text)
     }
 
     /// Says how a game ended, by the board of its end.
-    fn say_outcome(&mut self, board: &Board) -> Result<(), AllocError> {
-        match &self.memory.heard {
-            None => append_outcome(None, board, &mut self.text)?,
-            Some(before) => append_outcome(Some(before.board()), board, &mut self.text)?,
+    fn say_outcome(&self, board: &Board, page: &mut Page<'_>) -> Result<(), AllocError> {
+        match &self.heard {
+            None => append_outcome(None, board, &mut page.text)?,
+            Some(before) => append_outcome(Some(before.board()), board, &mut page.text)?,
         }
-        self.say(b"\n")
+        page.say(b"\n")
     }
+}
 
-    /// Where the opponent has moved to since the board that was drawn before this one.
-    fn came(&mut self, game: &GameBoard) -> Came {
-        if let Some(drawn) = &self.memory.drawn {
-            if is_moved(drawn.board(), game.board()) {
-                self.memory.drawn_before = Some(*drawn);
-            }
-        }
-        match &self.memory.drawn_before {
-            Some(before) => came_since(before, game),
-            None => nothing_came(),
-        }
+/// Says in a row what a board is that is not drawn, if the server's last text does not say it.
+fn say_board(
+    board: &Board,
+    phase: Phase,
+    said: &[u8],
+    page: &mut Page<'_>,
+) -> Result<(), AllocError> {
+    let alloc = page.alloc;
+    let mut row = Vec::new(alloc);
+    append_board(board, phase, &mut row)?;
+    if row.is_empty() || row.as_slice() == said {
+        return Ok(());
     }
-
-    /// Says in a row what a board is that is not drawn, if the server's last text does not say it.
-    fn say_board(&mut self, board: &Board, phase: Phase) -> Result<(), AllocError> {
-        let mut row = Vec::new(self.alloc);
-        append_board(board, phase, &mut row)?;
-        if row.is_empty() || row.as_slice() == self.memory.said.as_slice() {
-            return Ok(());
-        }
-        self.say_all(&[row.as_slice(), b"\n"])
-    }
+    page.say_all(&[row.as_slice(), b"\n"])
 }
 
 /// Appends in a row what a board is that is not drawn.

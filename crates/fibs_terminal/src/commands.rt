@@ -3,7 +3,7 @@ ghost use Rattle.std.specs.Prelude.{IfOk, List, ℕ};
 ghost use Rattle.fibs_front.specs.Wishes.{wish_value};
 ghost use Rattle.fibs_terminal.specs.Asking.{AsksInBounds, KnownStays, SendsUntaken};
 
-use crate::screen::Screen;
+use crate::screen::{Page, Screen};
 use crate::worded::append_words;
 use bstr::ByteSlice;
 use fibs_advice::plays::append_plays;
@@ -20,8 +20,7 @@ use fibs_wording::help;
 use fibs_wording::lists::append_players;
 use fibs_wording::server_words::{is_leaving_word, is_server_word};
 use fibs_wording::shown::append_shown;
-use std::alloc::AllocError;
-use std::time::Clock;
+use std::alloc::{AllocError, Global};
 
 /// A word of the terminal, which the client does not know.
 #[derive(Clone, Copy)]
@@ -52,6 +51,9 @@ const OWN_WORDS: [(&[u8], Own); 9] = [
 
 /// What is said if a word asks for a board, and there is none.
 const NO_GAME: &[u8] = b"No board on which you play was shown yet: type board.\n";
+
+/// What is said of `send` without a line.
+const SEND_HELP: &[u8] = b"send LINE: LINE goes to the server as it is, unchecked.\n";
 
 /// How many bytes of what follows a word are shown in a row: with the longest word the row fits.
 const MOST_SHOWN: usize = 19;
@@ -93,7 +95,113 @@ fn set_line(line: &mut TypedLine, bytes: &[u8]) {
     let _fits = line.try_extend_from_slice(bytes);
 }
 
-impl<'a, C: Clock + Drop> Screen<'a, C> {
+/// Respells a line, if the client then knows it, or if it then begins with a word of the terminal.
+fn spell(alloc: Global, client: &Client, line: &mut TypedLine) -> Result<(), AllocError> {
+    if is_own(line.as_slice()) {
+        return Ok(());
+    }
+    let mut spelled = Vec::new(alloc);
+    append_spelled(alloc, client, line.as_slice(), &mut spelled)?;
+    if is_command(client, spelled.as_slice()) || is_own(spelled.as_slice()) {
+        set_line(line, spelled.as_slice());
+    }
+    Ok(())
+}
+
+/// Keeps which rule a move breaks, if the line is a move against the rules.
+fn note_rule(client: &Client, line: &[u8], rule: &mut Vec<u8>) -> Result<(), AllocError> {
+    rule.clear();
+    let Typed::Decision(decision) = read_typed(client, line) else {
+        return Ok(());
+    };
+    let Decision::Move(play) = decision else {
+        return Ok(());
+    };
+    if client.refusal(&decision) != Some(Refusal::IllegalPlay) {
+        return Ok(());
+    }
+    match client.game() {
+        None => Ok(()),
+        Some(game) => append_rule(game, &play, rule),
+    }
+}
+
+/// Says how a command of the server is sent that the client does not have. If much follows its word, that is left out.
+fn say_foreign(word: &[u8], rest: Option<&[u8]>, page: &mut Page<'_>) -> Result<(), AllocError> {
+    page.say_all(&[b"not a word of this client: send ", word])?;
+    if let Some(rest) = rest {
+        page.say(b" ")?;
+        if rest.len() <= MOST_SHOWN {
+            append_shown(rest, page.settings.utf8, &mut page.text)?;
+        } else {
+            page.say(b"..")?;
+        }
+    }
+    page.say(b" sends it as it is\n")
+}
+
+/// Says what to type in place of a line that is no command: nothing is sent by a guess.
+fn say_unknown(line: &[u8], page: &mut Page<'_>) -> Result<(), AllocError> {
+    let (word, rest) = split(line, b' ');
+    let alloc = page.alloc;
+    let small = word.to_ascii_lowercase(alloc)?;
+    let word = small.as_slice();
+    if is_leaving_word(word) {
+        return page.say(b"quit ends the program, bye leaves the server\n");
+    }
+    if is_server_word(word) {
+        return say_foreign(word, rest, page);
+    }
+    match help::word_help(word) {
+        Some(words) => page.say(words),
+        None => page.say(b"unknown: help lists the words\n"),
+    }
+}
+
+/// What a line asks for that is no word of the terminal: the client takes it, or it is answered by the line to type.
+fn wish_foreign(client: &Client, typed: &[u8], page: &mut Page<'_>) -> Result<Wish, AllocError>
+    ensures { (text : List ℕ) → SendsUntaken client.now text result }
+{
+    if is_command(client, typed) {
+        return Ok(Wish::Say);
+    }
+    say_unknown(typed, page)?;
+    Ok(Wish::Answered)
+}
+
+/// Sends a line as it is, unless the client would take it.
+fn send(
+    client: &Client,
+    rest: &[u8],
+    line: &mut TypedLine,
+    page: &mut Page<'_>,
+) -> Result<Wish, AllocError>
+    ensures { SendsUntaken client.now line.new.items result }
+{
+    if rest.is_empty() {
+        page.say(SEND_HELP)?;
+        return Ok(Wish::Answered);
+    }
+    set_line(line, rest);
+    if would_take(client, line.as_slice()) {
+        page.say(b"Type it without send: ")?;
+        page.show_row(rest)?;
+        return Ok(Wish::Answered);
+    }
+    Ok(Wish::Send)
+}
+
+/// Tells of the board that is shown: its legal moves, or what it is in words.
+fn say_game(client: &Client, in_words: bool, page: &mut Page<'_>) -> Result<(), AllocError> {
+    let alloc = page.alloc;
+    match client.game() {
+        None => page.say(NO_GAME),
+        Some(game) if in_words => append_words(alloc, game, page.settings.columns, &mut page.text),
+        Some(game) => append_plays(alloc, game, &mut page.text),
+    }
+}
+
+impl<'a> Screen<'a> {
     /// What a line asks for. It is respelled if the client does not know it as it is.
     pub(crate) fn wish(
         &mut self,
@@ -112,7 +220,7 @@ impl<'a, C: Clock + Drop> Screen<'a, C> {
             return Ok(Wish::TooLong);
         }
         if is_command(client, line.as_slice()) {
-            self.note_rule(client, line.as_slice())?;
+            note_rule(client, line.as_slice(), &mut self.memory.rule)?;
             return Ok(Wish::Say);
         }
         self.wish_unknown(client, directory, line)
@@ -127,27 +235,16 @@ impl<'a, C: Clock + Drop> Screen<'a, C> {
     ) -> Result<Wish, AllocError>
         ensures { SendsUntaken client.now line.new.items result }
     {
-        self.spell(client, line)?;
+        let alloc = self.page.alloc;
+        spell(alloc, client, line)?;
         if line.as_slice() == b"open".as_slice() {
             return Ok(Wish::Open);
         }
         if line.as_slice() == b"quit".as_slice() {
             return Ok(Wish::Quit);
         }
-        self.wish_spelled(client, directory, line)
-    }
-
-    /// What a line asks for that is no word of the conversation, and is spelled as the client would know it.
-    fn wish_spelled(
-        &mut self,
-        client: &Client,
-        directory: &Directory,
-        line: &mut TypedLine,
-    ) -> Result<Wish, AllocError>
-        ensures { SendsUntaken client.now line.new.items result }
-    {
-        self.note_rule(client, line.as_slice())?;
-        let typed = line.as_slice().to_vec(self.alloc)?;
+        note_rule(client, line.as_slice(), &mut self.memory.rule)?;
+        let typed = line.as_slice().to_vec(alloc)?;
         self.wish_typed(client, directory, typed.as_slice(), line)
     }
 
@@ -163,55 +260,12 @@ impl<'a, C: Clock + Drop> Screen<'a, C> {
     {
         let rest = after_word(typed);
         match own_word(split(typed, b' ').0) {
-            None => self.wish_foreign(client, typed),
-            Some(Own::Send) => self.send(client, rest, line),
+            None => wish_foreign(client, typed, &mut self.page),
+            Some(Own::Send) => send(client, rest, line, &mut self.page),
             Some(own) => {
                 self.answer_own(client, directory, own, rest)?;
                 Ok(Wish::Answered)
             }
-        }
-    }
-
-    /// What a line asks for that is no word of the terminal: the client takes it, or it is answered by the line to
-    /// type.
-    fn wish_foreign(&mut self, client: &Client, typed: &[u8]) -> Result<Wish, AllocError>
-        ensures { (text : List ℕ) → SendsUntaken client.now text result }
-    {
-        if is_command(client, typed) {
-            return Ok(Wish::Say);
-        }
-        self.say_unknown(typed)?;
-        Ok(Wish::Answered)
-    }
-
-    /// Respells a line, if the client then knows it, or if it then begins with a word of the terminal.
-    fn spell(&mut self, client: &Client, line: &mut TypedLine) -> Result<(), AllocError> {
-        if is_own(line.as_slice()) {
-            return Ok(());
-        }
-        let mut spelled = Vec::new(self.alloc);
-        append_spelled(self.alloc, client, line.as_slice(), &mut spelled)?;
-        if is_command(client, spelled.as_slice()) || is_own(spelled.as_slice()) {
-            set_line(line, spelled.as_slice());
-        }
-        Ok(())
-    }
-
-    /// Keeps which rule a move breaks, if the line is a move against the rules.
-    fn note_rule(&mut self, client: &Client, line: &[u8]) -> Result<(), AllocError> {
-        self.memory.rule.clear();
-        let Typed::Decision(decision) = read_typed(client, line) else {
-            return Ok(());
-        };
-        let Decision::Move(play) = decision else {
-            return Ok(());
-        };
-        if client.refusal(&decision) != Some(Refusal::IllegalPlay) {
-            return Ok(());
-        }
-        match client.game() {
-            None => Ok(()),
-            Some(game) => append_rule(game, &play, &mut self.memory.rule),
         }
     }
 
@@ -223,127 +277,33 @@ impl<'a, C: Clock + Drop> Screen<'a, C> {
         own: Own,
         rest: &[u8],
     ) -> Result<(), AllocError> {
+        if let Own::Help = own {
+            return self.say_help(rest);
+        }
+        let alloc = self.page.alloc;
+        let page = &mut self.page;
+        let people = &mut self.memory.people;
         match own {
-            Own::Help => self.say_help(rest),
-            Own::Plays => self.say_plays(client),
-            Own::Words => self.say_words(client),
-            Own::Players => append_players(self.alloc, directory, &mut self.text),
-            Own::Gag => self.gag(rest),
-            Own::Ungag => self.ungag(rest),
-            Own::Quiet => self.set_quiet(true),
-            Own::Loud => self.set_quiet(false),
-            Own::Send => self.say(b"send LINE: LINE goes to the server as it is, unchecked.\n"),
+            Own::Plays => say_game(client, false, page),
+            Own::Words => say_game(client, true, page),
+            Own::Players => append_players(alloc, directory, &mut page.text),
+            Own::Gag => people.gag(rest, page),
+            Own::Ungag => people.ungag(rest, page),
+            Own::Quiet => people.set_quiet(true, page),
+            Own::Loud => people.set_quiet(false, page),
+            Own::Help | Own::Send => page.say(SEND_HELP),
         }
     }
 
     /// Says what may be typed. What is advised now follows.
     fn say_help(&mut self, word: &[u8]) -> Result<(), AllocError> {
         if word.is_empty() {
-            self.memory.inquired = true;
-            return self.say(help::SCREEN);
+            self.memory.advising.inquired = true;
+            return self.page.say(help::SCREEN);
         }
         match help::word_help(word) {
-            Some(words) => self.say(words),
-            None => self.say(b"No such word: help lists the words.\n"),
+            Some(words) => self.page.say(words),
+            None => self.page.say(b"No such word: help lists the words.\n"),
         }
-    }
-
-    /// Lists the legal moves of the board that is shown.
-    fn say_plays(&mut self, client: &Client) -> Result<(), AllocError> {
-        match client.game() {
-            None => self.say(NO_GAME),
-            Some(game) => append_plays(self.alloc, game, &mut self.text),
-        }
-    }
-
-    /// Tells in words the board that is shown.
-    fn say_words(&mut self, client: &Client) -> Result<(), AllocError> {
-        match client.game() {
-            None => self.say(NO_GAME),
-            Some(game) => append_words(self.alloc, game, self.settings.columns, &mut self.text),
-        }
-    }
-
-    /// Says what to type in place of a line that is no command: nothing is sent by a guess.
-    fn say_unknown(&mut self, line: &[u8]) -> Result<(), AllocError> {
-        let (word, rest) = split(line, b' ');
-        let small = word.to_ascii_lowercase(self.alloc)?;
-        let word = small.as_slice();
-        if is_leaving_word(word) {
-            return self.say(b"quit ends the program, bye leaves the server\n");
-        }
-        if is_server_word(word) {
-            return self.say_foreign(word, rest);
-        }
-        match help::word_help(word) {
-            Some(words) => self.say(words),
-            None => self.say(b"unknown: help lists the words\n"),
-        }
-    }
-
-    /// Says how a command of the server is sent that the client does not have. If much follows its word, that is left
-    /// out.
-    fn say_foreign(&mut self, word: &[u8], rest: Option<&[u8]>) -> Result<(), AllocError> {
-        self.say_all(&[b"not a word of this client: send ", word])?;
-        if let Some(rest) = rest {
-            self.say(b" ")?;
-            if rest.len() <= MOST_SHOWN {
-                append_shown(rest, self.settings.utf8, &mut self.text)?;
-            } else {
-                self.say(b"..")?;
-            }
-        }
-        self.say(b" sends it as it is\n")
-    }
-
-    /// Hides what a player says.
-    fn gag(&mut self, name: &[u8]) -> Result<(), AllocError> {
-        if self.memory.gag(self.alloc, name)? {
-            self.say_all(&[name, b" is gagged on this screen: ungag ends it.\n"])
-        } else {
-            self.say(b"gag NAME: whose words are kept from the screen.\n")
-        }
-    }
-
-    /// Shows again what a player says.
-    fn ungag(&mut self, name: &[u8]) -> Result<(), AllocError> {
-        if self.memory.ungag(name) {
-            append_shown(name, self.settings.utf8, &mut self.text)?;
-            self.say(b" is heard again.\n")
-        } else {
-            self.say(b"Nobody of that name is gagged.\n")
-        }
-    }
-
-    /// Hides shouts, and who comes and goes, or shows them again.
-    fn set_quiet(&mut self, quiet: bool) -> Result<(), AllocError> {
-        self.memory.quiet = quiet;
-        if quiet {
-            self.say(b"quiet: no shouts, and not who comes and goes; loud shows them.\n")
-        } else {
-            self.say(b"loud: shouts, and who comes and goes.\n")
-        }
-    }
-
-    /// Sends a line as it is, unless the client would take it.
-    fn send(
-        &mut self,
-        client: &Client,
-        rest: &[u8],
-        line: &mut TypedLine,
-    ) -> Result<Wish, AllocError>
-        ensures { SendsUntaken client.now line.new.items result }
-    {
-        if rest.is_empty() {
-            self.say(b"send LINE: LINE goes to the server as it is, unchecked.\n")?;
-            return Ok(Wish::Answered);
-        }
-        set_line(line, rest);
-        if would_take(client, line.as_slice()) {
-            self.say(b"Type it without send: ")?;
-            self.show_row(rest)?;
-            return Ok(Wish::Answered);
-        }
-        Ok(Wish::Send)
     }
 }

@@ -7,6 +7,7 @@ mod commands;
 pub mod laws;
 mod listening;
 mod memory;
+mod people;
 mod picture;
 mod resting;
 mod screen;

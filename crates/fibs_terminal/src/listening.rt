@@ -1,16 +1,13 @@
 //! What a terminal shows of what the server sends.
 
-use crate::screen::Screen;
+use crate::screen::{Moment, Page, Screen};
 use fibs_advice::told::Told;
 use fibs_lines::Line;
-use fibs_messages::{Fault, Message, Reading, WhoInfo};
-use fibs_position::Phase;
-use fibs_wording::lists::append_count;
-use fibs_wording::messages::{append_message, append_player};
+use fibs_messages::{Fault, Message, Reading};
+use fibs_position::{GameBoard, Phase};
+use fibs_wording::messages::append_message;
 use fibs_wording::reasons::append_malformed;
-use fibs_wording::shown::append_shown;
 use std::alloc::AllocError;
-use std::time::Clock;
 
 /// What the server says to a player who can't move.
 const CANT_MOVE: &[u8] = b"You can't move.";
@@ -23,130 +20,114 @@ fn front_of(said: &[u8]) -> &[u8] {
     &said[..said.len().min(MOST_KEPT)]
 }
 
-/// Whether a text of the server says no more than the hint does, or nothing.
-fn is_said_by_hint(said: &[u8]) -> bool {
-    said.is_empty() || said.starts_with(b"Please move ") || said.starts_with(b"It's your turn to ")
+/// Whether a text of the server says no more than the hint does, or the board that came last, or nothing.
+fn is_said_already(said: &[u8], phase: Option<Phase>) -> bool {
+    said.is_empty()
+        || said.starts_with(b"Please move ")
+        || said.starts_with(b"It's your turn to ")
+        || (said == CANT_MOVE && phase == Some(Phase::Passing))
 }
 
-impl<'a, C: Clock + Drop> Screen<'a, C> {
+/// Shows a line that can't be read, and why.
+fn say_malformed(
+    bytes: &[u8],
+    number: u8,
+    field: usize,
+    fault: Fault,
+    page: &mut Page<'_>,
+) -> Result<(), AllocError> {
+    append_malformed(number, field, fault, &mut page.text)?;
+    page.say(b"\n")?;
+    page.show_row(bytes)
+}
+
+/// Says a message in words.
+fn say_message(
+    message: &Message<'_>,
+    moment: Moment,
+    page: &mut Page<'_>,
+) -> Result<(), AllocError> {
+    if let Message::Says { .. } | Message::MessageReceived { .. } = message {
+        page.ring()?;
+    }
+    append_message(message, moment.time, &page.settings, &mut page.text)?;
+    page.say(b"\n")
+}
+
+impl<'a> Screen<'a> {
     /// Hears a line of the server. A board on which the user does not play is shown as the server sent it.
     pub(crate) fn hear_line(
         &mut self,
         line: &Line<'_>,
         reading: &Reading<'_>,
+        moment: Moment,
     ) -> Result<(), AllocError> {
         match reading {
-            Reading::Board(_) => self.show_row(line.bytes),
-            Reading::Numbered(message) => self.hear_message(message),
+            Reading::Board(_) => self.page.show_row(line.bytes),
+            Reading::Numbered(message) => self.hear_message(message, moment),
             Reading::Text(_) => self.hear_text(line.bytes),
             Reading::Malformed {
                 number,
                 field,
                 fault,
-            } => self.hear_malformed(line.bytes, *number, *field, *fault),
+            } => say_malformed(line.bytes, *number, *field, *fault, &mut self.page),
         }
     }
 
-    /// Shows bytes of the server in a row.
-    pub(crate) fn show_row(&mut self, bytes: &[u8]) -> Result<(), AllocError> {
-        append_shown(bytes, self.settings.utf8, &mut self.text)?;
-        self.say(b"\n")
-    }
-
-    /// Whether a text says that the user can't move, as the board that came last did.
-    fn is_passing(&self, said: &[u8]) -> bool {
-        match &self.memory.heard {
-            None => false,
-            Some(heard) => said == CANT_MOVE && heard.phase() == Phase::Passing,
+    /// Hears a board of the user's game.
+    pub(crate) fn hear_game(&mut self, game: &GameBoard) -> Result<(), AllocError> {
+        let memory = &mut self.memory;
+        memory.advising.owes = true;
+        if memory.situation.asks_board {
+            memory.advising.inquired = true;
         }
+        memory.situation.hear_board(game);
+        let said = memory.said.as_slice();
+        memory
+            .boards
+            .show(game, memory.converses, said, &mut self.page)?;
+        memory.said.clear();
+        Ok(())
     }
 
     /// Hears a line without a number. What it says of the match counts even if it is not shown.
     fn hear_text(&mut self, said: &[u8]) -> Result<(), AllocError> {
         self.note_told(said)?;
-        if is_said_by_hint(said) || self.is_passing(said) {
+        if is_said_already(said, self.memory.boards.phase()) {
             return Ok(());
         }
         self.memory.said.clear();
         self.memory.said.extend_from_slice(front_of(said))?;
-        self.show_row(said)
+        self.page.show_row(said)
     }
 
     /// Takes note of what a text says of the match, and rings the bell if the opponent offers to resign.
     fn note_told(&mut self, said: &[u8]) -> Result<(), AllocError> {
         match self.memory.situation.hear_text(said) {
-            Some(Told::Begins | Told::Resumes) => {
-                self.memory.forget_drawn();
-                Ok(())
-            }
-            Some(Told::NotPlaying | Told::NextGame) => {
-                self.hear_no_board();
-                Ok(())
-            }
-            Some(Told::NotInvited) => {
-                self.memory.owes = true;
-                Ok(())
-            }
-            Some(Told::Resigns) => self.ring(),
-            _ => Ok(()),
+            Some(Told::Begins | Told::Resumes) => self.memory.boards.begin(),
+            Some(Told::NotPlaying | Told::NextGame) => self.hear_no_board(),
+            Some(Told::NotInvited) => self.memory.advising.owes = true,
+            Some(Told::Resigns) => return self.page.ring(),
+            _ => {}
         }
+        Ok(())
     }
 
     /// The server has no board to show: if the user has asked for it, that is the answer.
     fn hear_no_board(&mut self) {
         if self.memory.situation.asks_board {
             self.memory.situation.asks_board = false;
-            self.memory.inquired = true;
+            self.memory.advising.inquired = true;
         }
     }
 
-    /// Hears a line that can't be read: it is shown too.
-    fn hear_malformed(
-        &mut self,
-        bytes: &[u8],
-        number: u8,
-        field: usize,
-        fault: Fault,
-    ) -> Result<(), AllocError> {
-        append_malformed(number, field, fault, &mut self.text)?;
-        self.say(b"\n")?;
-        self.show_row(bytes)
-    }
-
-    /// Whether a message is hidden: its player is gagged, or the screen is quiet and it is a shout, a login or a
-    /// logout.
-    fn is_kept(&self, message: &Message<'_>) -> bool {
-        match message {
-            Message::Shouts { name, .. }
-            | Message::Login { name, .. }
-            | Message::Logout { name, .. } => {
-                self.memory.quiet || self.memory.is_gagged(name.bytes())
-            }
-            Message::Says { name, .. }
-            | Message::Whispers { name, .. }
-            | Message::Kibitzes { name, .. } => self.memory.is_gagged(name.bytes()),
-            Message::MessageReceived { sender, .. } => self.memory.is_gagged(sender.bytes()),
-            Message::MotdEnd => true,
-            Message::Welcome { .. }
-            | Message::OwnInfo(_)
-            | Message::MotdBegin
-            | Message::WhoInfo(_)
-            | Message::WhoInfoEnd
-            | Message::MessageDelivered { .. }
-            | Message::MessageSaved { .. }
-            | Message::YouSay { .. }
-            | Message::YouShout { .. }
-            | Message::YouWhisper { .. }
-            | Message::YouKibitz { .. } => false,
-        }
-    }
-
-    /// Takes note of a message: the user was greeted, or the message of the day begins or ends.
+    /// Takes note of a message: the user was greeted, or the message of the day begins or ends, or a player comes or
+    /// goes.
     fn note_message(&mut self, message: &Message<'_>) {
         match message {
             Message::Welcome { .. } => {
                 self.memory.situation.hear_welcome();
-                self.memory.is_list_due = true;
+                self.memory.list.is_due = true;
             }
             Message::Login { name, .. } => self.memory.situation.hear_login(name.bytes()),
             Message::MotdBegin => self.memory.situation.hear_motd(true),
@@ -157,48 +138,18 @@ impl<'a, C: Clock + Drop> Screen<'a, C> {
     }
 
     /// Hears a message.
-    fn hear_message(&mut self, message: &Message<'_>) -> Result<(), AllocError> {
+    fn hear_message(&mut self, message: &Message<'_>, moment: Moment) -> Result<(), AllocError> {
         self.note_message(message);
-        if self.is_kept(message) {
+        if self.memory.people.hides(message) {
             return Ok(());
         }
         match message {
-            Message::WhoInfo(info) => return self.hear_player(info),
-            Message::WhoInfoEnd => return self.hear_list_end(),
-            Message::Says { .. } | Message::MessageReceived { .. } => self.ring()?,
-            _ => {}
-        }
-        self.say_message(message)
-    }
-
-    /// A player was listed.
-    fn hear_player(&mut self, info: &WhoInfo<'_>) -> Result<(), AllocError> {
-        self.memory.listed = self.memory.listed.saturating_add(1);
-        self.memory.change.clear();
-        append_player(info, &mut self.memory.change)
-    }
-
-    /// Says a message in words.
-    fn say_message(&mut self, message: &Message<'_>) -> Result<(), AllocError> {
-        let now = self.now();
-        append_message(message, now, &self.settings, &mut self.text)?;
-        self.say(b"\n")
-    }
-
-    /// A list of players has ended: one row for a list that was asked for, and one for a player who has changed. What
-    /// else has changed is in the list already.
-    fn hear_list_end(&mut self) -> Result<(), AllocError> {
-        let (listed, is_due) = (self.memory.listed, self.memory.is_list_due);
-        self.memory.listed = 0;
-        self.memory.is_list_due = false;
-        if listed > 1 && is_due {
-            append_count(listed, &mut self.text)?;
-            self.say(b": type players\n")
-        } else if listed == 1 && !self.memory.quiet {
-            self.text.extend_from_slice(self.memory.change.as_slice())?;
-            self.say(b"\n")
-        } else {
-            Ok(())
+            Message::WhoInfo(info) => self.memory.list.hear_player(info),
+            Message::WhoInfoEnd => {
+                let is_quiet = self.memory.people.is_quiet();
+                self.memory.list.hear_end(is_quiet, &mut self.page)
+            }
+            _ => say_message(message, moment, &mut self.page),
         }
     }
 }

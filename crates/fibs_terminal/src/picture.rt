@@ -5,11 +5,10 @@ ghost use Rattle.fibs_position.specs.GameOf.{game_of};
 ghost use Rattle.fibs_terminal.specs.Drawings.{DrawsBoard, is_plain, TellsBoard, is_worded};
 
 use crate::worded::append_words;
-use bstr::ByteSlice;
 use fibs_environment::Settings;
 use fibs_picture::{
     BOARD_COLUMNS, DEED_ROW, DICE_ROW, FREE_CUBE, MOST_SEEN, OPPONENTS_CUBE, OPPONENTS_TURN,
-    OWN_LETTER, PICTURE_COLUMNS, draw, height_at, place_at,
+    OWN_LETTER, PICTURE_COLUMNS, draw, draw_board, height_at, place_at,
 };
 use fibs_position::{GameBoard, Phase, Position};
 use fibs_wording::messages::front;
@@ -30,16 +29,14 @@ pub(crate) type Came = [u8; 25];
 const MOST_MOVED: u8 = 4;
 
 /// None has come.
-pub(crate) fn nothing_came() -> Came {
-    [0; 25]
-}
+pub(crate) const NOTHING_CAME: Came = [0; 25];
 
 /// How many have come to each place since an earlier board, if that was of the same opponent and it was one move.
 pub(crate) fn came_since(before: &GameBoard, game: &GameBoard) -> Came {
     if before.board().opponent().bytes() != game.board().opponent().bytes() {
-        return nothing_came();
+        return NOTHING_CAME;
     }
-    let mut came = nothing_came();
+    let mut came = NOTHING_CAME;
     let mut all = 0u8;
     for place in 1..25u8 {
         let there = game.position().other(place);
@@ -47,27 +44,7 @@ pub(crate) fn came_since(before: &GameBoard, game: &GameBoard) -> Came {
         came[usize::from(place)] = more;
         all = all.saturating_add(more);
     }
-    if all > MOST_MOVED {
-        nothing_came()
-    } else {
-        came
-    }
-}
-
-/// A picture without its last line.
-fn without_last_line(picture: &[u8]) -> &[u8] {
-    let inner = picture.strip_suffix(b"\n").unwrap_or(picture);
-    match inner.rfind_byte(b'\n') {
-        None => picture,
-        Some(at) => picture.get(..at + 1).unwrap_or(picture),
-    }
-}
-
-/// Appends the picture of a board without its last line.
-fn append_upper(alloc: Global, game: &GameBoard, text: &mut Vec<u8>) -> Result<(), AllocError> {
-    let mut picture = Vec::new(alloc);
-    draw(game, &mut picture).map_err(|_| AllocError)?;
-    text.extend_from_slice(without_last_line(picture.as_slice()))
+    if all > MOST_MOVED { NOTHING_CAME } else { came }
 }
 
 /// Whether the checker that is drawn at a height of a place has come there by the opponent's last move: those that have
@@ -201,7 +178,7 @@ pub fn append_picture(
     ensures told { is_worded settings.now ≡ true → OnOk result ((t : List ℕ)
         × TellsBoard (game_of game.now) t × (text.new.items ≡ text.old.items ++ t)) }
 {
-    append_marked(alloc, game, &nothing_came(), settings, false, text)
+    append_marked(alloc, game, &NOTHING_CAME, settings, false, text)
 }
 
 /// The same, with marks on the places to which the opponent has moved. Above a hint the last line is left out, unless
@@ -226,7 +203,7 @@ pub(crate) fn append_marked(
         return append_coloured(alloc, game, came, settings, text);
     }
     if is_above && !is_shown(DEED_ROW, game) {
-        return append_upper(alloc, game, text);
+        return draw_board(game, text).map_err(|_| AllocError);
     }
     draw(game, text).map_err(|_| AllocError)
 }

@@ -3,68 +3,112 @@ ghost use Rattle.std.specs.Prelude.{◌≡◌, true, false, OnOk};
 ghost use Rattle.fibs_advice.specs.Rows.{is_asked_for};
 ghost use Rattle.fibs_terminal.specs.Resting.{SaysAdvice, SaysRow};
 
-use crate::screen::Screen;
+use crate::screen::{Moment, Page, Screen};
 use fibs_advice::advised::{Advice, Aside, advised};
 use fibs_advice::saying::append_advice;
+use fibs_advice::situation::Situation;
 use fibs_session::{Client, Directory};
 use fibs_wording::messages::front;
-use std::alloc::AllocError;
-use std::time::Clock;
+use std::alloc::{AllocError, Global};
+use std::time::Duration;
 
 /// How many seconds the answer to a login may take.
 const LOGIN_SECONDS: u64 = 2;
 
-impl<'a, C: Clock + Drop> Screen<'a, C> {
-    /// Says what is advised.
-    pub(crate) fn rest(&mut self, client: &Client, directory: &Directory) -> Result<(), AllocError>
-        ensures { OnOk result (SaysAdvice client.now self.old.memory self.old.text.items self.new.text.items) }
-    {
-        let aside = Aside {
-            is_listed: self.is_listed(directory),
-            had_time: self.had_time(),
-        };
-        let advice = advised(self.alloc, client, &self.memory.situation, aside)?;
-        self.say_advice(&advice)
+/// What was advised, and whether it is said again.
+#[derive(Drop)]
+pub struct Advising {
+    /// Whether to say what is advised even if it is what was said last: a board has come, or a decision or a line as it
+    /// is was sent.
+    pub owes: bool,
+    /// Whether the user has asked what is advised: by `help`, by a word that was refused, or by `board`, which has
+    /// come.
+    pub inquired: bool,
+    /// What was advised last.
+    advised: Vec<u8>,
+}
+
+impl Advising {
+    /// Nothing was advised.
+    pub fn new(alloc: Global) -> Advising {
+        Advising {
+            owes: false,
+            inquired: false,
+            advised: Vec::new(alloc),
+        }
     }
 
-    /// Whether the opponent is here. If no player is listed, nobody knows.
-    fn is_listed(&self, directory: &Directory) -> bool {
-        let opponent = self.memory.situation.opponent.as_slice();
-        directory.is_empty() || directory.get(opponent).is_some() || self.memory.situation.has_come
-    }
-
-    /// Whether the server had time to answer the login.
-    fn had_time(&self) -> bool {
-        self.moment().saturating_sub(self.memory.opened).as_secs() >= LOGIN_SECONDS
+    /// What was advised before counts no more.
+    pub fn forget(&mut self) {
+        self.owes = false;
+        self.inquired = false;
+        self.advised.clear();
     }
 
     /// Says what is advised, unless it was said last and is not owed; what is said only if the user asks, only then.
-    fn say_advice(&mut self, advice: &Advice) -> Result<(), AllocError>
-        ensures { OnOk result (SaysRow self.old.memory advice.now self.old.text.items self.new.text.items) }
+    fn say(
+        &mut self,
+        advice: &Advice,
+        situation: &Situation,
+        page: &mut Page<'_>,
+    ) -> Result<(), AllocError>
+        ensures { OnOk result (SaysRow situation.now self.old.owes advice.now page.old.text.items page.new.text.items) }
     {
-        let mut row = Vec::new(self.alloc);
-        let opponent = front(self.memory.situation.opponent.as_slice());
-        let inviter = front(self.memory.situation.inviter.as_slice());
+        let alloc = page.alloc;
+        let mut row = Vec::new(alloc);
+        let opponent = front(situation.opponent.as_slice());
+        let inviter = front(situation.inviter.as_slice());
         append_advice(advice, opponent, inviter, &mut row)?;
         if self.says(advice, row.as_slice()) {
-            self.text.extend_from_slice(row.as_slice())?;
+            page.text.extend_from_slice(row.as_slice())?;
         }
-        self.memory.owes = false;
-        self.memory.inquired = false;
-        self.memory.advised = row;
+        self.owes = false;
+        self.inquired = false;
+        self.advised = row;
         Ok(())
     }
 
     /// Whether this row of an advice is said now.
     fn says(&self, advice: &Advice, row: &[u8]) -> bool
-        ensures { self.now.memory.owes ≡ true → is_asked_for advice.now.row ≡ false → result ≡ true }
+        ensures { self.now.owes ≡ true → is_asked_for advice.now.row ≡ false → result ≡ true }
     {
-        if self.memory.inquired {
+        if self.inquired {
             return true;
         }
         if advice.row.is_asked_for() {
             return false;
         }
-        self.memory.owes || self.memory.advised.as_slice() != row
+        self.owes || self.advised.as_slice() != row
+    }
+}
+
+/// What is known beside the conversation, so long after the connection was made: whether the opponent is here, of which
+/// nothing is known if no player is listed, and whether the server had time to answer the login.
+fn aside_of(situation: &Situation, directory: &Directory, passed: Duration) -> Aside {
+    let opponent = situation.opponent.as_slice();
+    Aside {
+        is_listed: situation.has_come || directory.is_empty() || directory.get(opponent).is_some(),
+        had_time: passed.as_secs() >= LOGIN_SECONDS,
+    }
+}
+
+impl<'a> Screen<'a> {
+    /// Says what is advised.
+    pub(crate) fn rest(
+        &mut self,
+        client: &Client,
+        directory: &Directory,
+        moment: Moment,
+    ) -> Result<(), AllocError>
+        ensures { OnOk result
+            (SaysAdvice client.now self.old.memory self.old.page.text.items self.new.page.text.items) }
+    {
+        let passed = moment.passed.saturating_sub(self.memory.opened);
+        let aside = aside_of(&self.memory.situation, directory, passed);
+        let alloc = self.page.alloc;
+        let advice = advised(alloc, client, &self.memory.situation, aside)?;
+        self.memory
+            .advising
+            .say(&advice, &self.memory.situation, &mut self.page)
     }
 }

@@ -7,7 +7,7 @@ ghost use Rattle.fibs_terminal.specs.Asking.{AsksInBounds, KnownStays, SendsUnta
 ghost use Rattle.fibs_terminal.specs.Grown.{Grown};
 ghost use Rattle.fibs_terminal.specs.Resting.{ShowsAdvice};
 
-use crate::screen::Screen;
+use crate::screen::{Moment, Screen};
 use fibs_engine::writing::write_bytes;
 use fibs_environment::Settings;
 use fibs_front::fault::FrontFault;
@@ -19,12 +19,13 @@ use fibs_front::words::Words;
 use fibs_session::{Client, Directory};
 use std::alloc::Global;
 use std::io::Write;
-use std::time::Clock;
+use std::time::{Clock, Duration};
 
 /// A front end for a person: it draws boards, shows the rest in words, and says once what may be typed.
 #[derive(Drop)]
 pub struct Terminal<'a, W: Write + Drop, C: Clock + Drop> {
-    pub(crate) screen: Screen<'a, C>,
+    pub(crate) screen: Screen<'a>,
+    pub(crate) clock: C,
     pub(crate) out: W,
 }
 
@@ -34,7 +35,8 @@ impl<'a, W: Write + Drop, C: Clock + Drop> Terminal<'a, W, C> {
         ensures { W.contents result.out ≡ W.contents out }
     {
         Terminal {
-            screen: Screen::new(alloc, clock, settings),
+            screen: Screen::new(alloc, settings),
+            clock,
             out,
         }
     }
@@ -43,6 +45,19 @@ impl<'a, W: Write + Drop, C: Clock + Drop> Terminal<'a, W, C> {
     pub fn is_out_of_memory(&self) -> bool {
         self.screen.ran_out
     }
+}
+
+/// What a clock says now.
+fn moment_of<C: Clock>(clock: &C) -> Moment {
+    let time = match clock.since_1970() {
+        Ok(time) => Some(time.as_secs()),
+        Err(_) => None,
+    };
+    let passed = match clock.monotonic() {
+        Ok(passed) => passed,
+        Err(_) => Duration::from_secs(0),
+    };
+    Moment { time, passed }
 }
 
 /// Writes a text.
@@ -60,12 +75,13 @@ impl<W: Write + Drop, C: Clock + Drop> Front for Terminal<'_, W, C> {
     ghost tells = { λ a told b. Grown (W.contents a.out) (W.contents b.out) };
 
     fn tell(&mut self, said: &Said<'_>) -> Result<(), FrontFault> {
-        self.screen.text.clear();
-        if self.screen.hear(said).is_err() {
+        self.screen.page.text.clear();
+        let moment = moment_of(&self.clock);
+        if self.screen.hear(said, moment).is_err() {
             self.screen.ran_out = true;
             return Err(FrontFault::Output);
         }
-        write_text(self.screen.text.as_slice(), &mut self.out)
+        write_text(self.screen.page.text.as_slice(), &mut self.out)
     }
 
     fn flush(&mut self) -> Result<(), FrontFault> {
@@ -87,10 +103,11 @@ impl<W: Write + Drop, C: Clock + Drop> Words for Terminal<'_, W, C> {
         ensures advice { OnOk result (ShowsAdvice client.now self.old.screen.memory
             (W.contents self.old.out) (W.contents self.new.out)) }
     {
-        self.screen.text.clear();
-        match self.screen.rest(client, directory) {
+        self.screen.page.text.clear();
+        let moment = moment_of(&self.clock);
+        match self.screen.rest(client, directory, moment) {
             Ok(()) => {
-                write_text(self.screen.text.as_slice(), &mut self.out)?;
+                write_text(self.screen.page.text.as_slice(), &mut self.out)?;
                 self.out.flush().map_err(|_| FrontFault::Output)
             }
             Err(_) => {
@@ -113,10 +130,10 @@ impl<W: Write + Drop, C: Clock + Drop> Words for Terminal<'_, W, C> {
         // What goes to the server as it is, the client would not take.
         ensures sent { SendsUntaken client.now line.new.items result }
     {
-        self.screen.text.clear();
+        self.screen.page.text.clear();
         match self.screen.wish(client, directory, line) {
             Ok(wish) => {
-                write_text(self.screen.text.as_slice(), &mut self.out)?;
+                write_text(self.screen.page.text.as_slice(), &mut self.out)?;
                 Ok(wish)
             }
             Err(_) => {
