@@ -4,8 +4,8 @@
 
 pub mod program;
 
-pub use fibs_connect::{converse, converse_at};
-pub use fibs_engine::dial::{Place, READ_MILLIS};
+pub use fibs_connect::converse;
+pub use fibs_engine::dial::READ_MILLIS;
 pub use fibs_engine::fault::EngineFault;
 pub use fibs_engine::link::Link;
 pub use fibs_exchange::{Ending, ExchangeFault, exchange};

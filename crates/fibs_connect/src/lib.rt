@@ -18,7 +18,8 @@ use fibs_engine::status::Status;
 use fibs_front::plain::Plain;
 use fibs_front::printing::print_reason;
 use fibs_front::typed_line::TypedLine;
-use fibs_front::typed_lines::TypedLines;
+use fibs_front::typed_lines::{Next, TypedLines};
+use fibs_front::watch::{Unwatched, Watch};
 use fibs_front::words::Words;
 use fibs_session::{Login, PlainFault};
 use seat::{Going, Seat};
@@ -58,34 +59,20 @@ pub fn converse<N: Net<Stream = TcpStream>, R: Read, W: Write, E: Write>(
         port,
         quiet: Duration::from_millis(READ_MILLIS),
     };
-    converse_at(rt, alloc, place, name, typed, out, err)
-}
-
-/// The same with a server at a place, which says how long a read waits.
-pub fn converse_at<N: Net<Stream = TcpStream>, R: Read, W: Write, E: Write>(
-    rt: &N,
-    alloc: Global,
-    place: Place<'_>,
-    name: &[u8],
-    typed: &mut R,
-    out: &mut W,
-    err: &mut E,
-) -> Result<u8, EngineFault>
-    ensures conversed { Conversed name.now result (R.remaining typed.old)
-        (W.contents out.old) (W.contents out.new) (E.contents err.old) (E.contents err.new) }
-    ensures few { LostAtMost (MOST_INPUT_READS * READ_PORTION) (R.remaining typed.old) (R.remaining typed.new) }
-{
     let mut server = Server::new(rt, place);
-    converse_with(&mut server, alloc, name, MOST_INPUT_READS, typed, out, err)
+    let (reads, watch) = (MOST_INPUT_READS, &mut Unwatched);
+    converse_with(&mut server, alloc, name, reads, typed, watch, out, err)
 }
 
-/// The same with any maker of connections, and with at most so many reads of what is typed.
-pub fn converse_with<D: Dial, R: Read, W: Write, E: Write>(
+/// The same with any maker of connections, and with at most so many reads of what is typed. If the server speaks before
+/// a line is begun, as the watch sees it, that is a turn of its own.
+pub fn converse_with<D: Dial, R: Read, V: Watch, W: Write, E: Write>(
     server: &mut D,
     alloc: Global,
     name: &[u8],
     reads: u32,
     typed: &mut R,
+    watch: &mut V,
     out: &mut W,
     err: &mut E,
 ) -> Result<u8, EngineFault>
@@ -98,17 +85,21 @@ pub fn converse_with<D: Dial, R: Read, W: Write, E: Write>(
     lines.read_line(typed, &mut line)?;
     match Login::new(name, line.as_slice()) {
         Err(fault) => print_fault(fault, err),
-        Ok(login) => answer_lines(server, alloc, login, &mut lines, typed, &mut Plain { out }),
+        Ok(login) => {
+            let front = &mut Plain { out };
+            answer_lines(server, alloc, login, &mut lines, typed, watch, front)
+        }
     }
 }
 
 /// The same over any front end. What is wrong with a name or a password is printed on `err`.
-pub fn converse_on<D: Dial, R: Read, F: Words, E: Write>(
+pub fn converse_on<D: Dial, R: Read, V: Watch, F: Words, E: Write>(
     server: &mut D,
     alloc: Global,
     name: &[u8],
     reads: u32,
     typed: &mut R,
+    watch: &mut V,
     front: &mut F,
     err: &mut E,
 ) -> Result<u8, EngineFault>
@@ -119,7 +110,7 @@ pub fn converse_on<D: Dial, R: Read, F: Words, E: Write>(
     lines.read_line(typed, &mut line)?;
     match Login::new(name, line.as_slice()) {
         Err(fault) => print_fault(fault, err),
-        Ok(login) => answer_lines(server, alloc, login, &mut lines, typed, front),
+        Ok(login) => answer_lines(server, alloc, login, &mut lines, typed, watch, front),
     }
 }
 
@@ -133,13 +124,15 @@ fn print_fault<E: Write>(fault: PlainFault, err: &mut E) -> Result<u8, EngineFau
     Ok(Status::Refused.code())
 }
 
-/// Connects, and does what each line asks for, to the end of the lines or until one asks to end.
-pub fn answer_lines<D: Dial, R: Read, F: Words>(
+/// Connects, does what each line asks for, and hears the server whenever it speaks first, to the end of the lines or
+/// until one asks to end.
+pub fn answer_lines<D: Dial, R: Read, V: Watch, F: Words>(
     server: &mut D,
     alloc: Global,
     login: Login,
     lines: &mut TypedLines,
     typed: &mut R,
+    watch: &mut V,
     front: &mut F,
 ) -> Result<u8, EngineFault>
     ensures done { IfOk result (λ status. status ≡ 0) }
@@ -151,14 +144,18 @@ pub fn answer_lines<D: Dial, R: Read, F: Words>(
     let mut line = TypedLine::new();
     for _ in 0..u64::MAX {
         front.rest(&seat.client, &seat.directory)?;
-        if !lines.read_line(typed, &mut line)? {
-            return Ok(Status::Done.code());
-        }
-        let wish = front.wish(&seat.client, &seat.directory, &mut line)?;
-        if let Going::Away = seat.answer(wish, line.as_slice(), server, front)? {
-            // a player who leaves sees what he was told
-            front.rest(&seat.client, &seat.directory)?;
-            return Ok(Status::Done.code());
+        let next = lines.next(typed, watch, &mut line)?;
+        match next {
+            Next::Ended => return Ok(Status::Done.code()),
+            Next::Heard => seat.take_turn(None, front)?,
+            Next::Typed => {
+                let wish = front.wish(&seat.client, &seat.directory, &mut line)?;
+                if let Going::Away = seat.answer(wish, line.as_slice(), server, front)? {
+                    // a player who leaves sees what he was told
+                    front.rest(&seat.client, &seat.directory)?;
+                    return Ok(Status::Done.code());
+                }
+            }
         }
     }
     Err(EngineFault::Device)

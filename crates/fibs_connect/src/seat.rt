@@ -182,7 +182,7 @@ impl<S: Link + Drop> Seat<S> {
     }
 
     /// One turn of the client. A connection that is lost is given up.
-    fn take_turn<F: Front>(
+    pub(crate) fn take_turn<F: Front>(
         &mut self,
         typed: Option<&[u8]>,
         front: &mut F,

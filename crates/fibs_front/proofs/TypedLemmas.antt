@@ -3,3 +3,4 @@ pub mod Cuts
 pub mod Kept
 pub mod Parts
 pub mod Spent
+pub mod Order

@@ -4,4 +4,5 @@ pub mod Lines
 pub mod Account
 pub mod TypedLines
 pub mod TypedReads
+pub mod Weaving
 pub mod Wishes

@@ -1,4 +1,4 @@
--- How typed lines are read, portion by portion. No public contract of the program rests on it.
+-- How typed lines are read, portion by portion (the project's own).
 use Rattle.std.specs.Prelude.{◌≡◌, ◌≤◌, ◌+◌, ◌*◌, ℕ, Bool, true, List, length, nat_lt, Option, Some, None, ⊤}
 use Rattle.std.specs.Io.KnownBytes.{prepend_known, Consumes, IsAtEnd}
 use Rattle.fibs_front.specs.TypedLines.{typed_line, after_typed_line, kept_typed}

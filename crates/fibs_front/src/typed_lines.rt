@@ -6,8 +6,10 @@ ghost use Rattle.std.specs.Str.Lines.{strip_carriage_return};
 ghost use Rattle.fibs_fields.specs.Split.{before, after};
 ghost use Rattle.fibs_front.specs.TypedLines.{kept_typed, rest_or_nothing};
 ghost use Rattle.fibs_front.specs.TypedReads.{ahead, FitsDevice, TakesLine, SpendsReads};
+ghost use Rattle.fibs_front.specs.Weaving.{ComesOf, next_value};
 
 use crate::typed_line::{KEPT, TypedLine};
+use crate::watch::{First, Watch};
 use fibs_engine::fault::EngineFault;
 use fibs_engine::limits::READ_PORTION;
 use fibs_fields::split::split;
@@ -32,6 +34,17 @@ impl From<TypedFault> for EngineFault {
     fn from(_fault: TypedFault) -> EngineFault {
         EngineFault::Device
     }
+}
+
+/// What comes next.
+#[derive(Clone, Copy)]
+pub enum Next {
+    /// A line was typed.
+    Typed,
+    /// The server has spoken, and no line was begun.
+    Heard,
+    /// Nothing follows of what is typed.
+    Ended,
 }
 
 /// The lines that a user types, as they come. It takes no memory but its own.
@@ -91,6 +104,35 @@ impl TypedLines {
             reads,
             ended: false,
         }
+    }
+
+    /// Waits for what comes first: the next line, which is read, or a word of the server. Of what is typed a word of the
+    /// server takes nothing, and it comes only between two lines.
+    pub fn next<R: Read, W: Watch>(
+        &mut self,
+        reader: &mut R,
+        watch: &mut W,
+        line: &mut TypedLine,
+    ) -> Result<Next, TypedFault>
+        ensures comes { IfOk result (λ next. FitsDevice self.old (R.remaining reader.old) →
+            ComesOf (next_value next line.new.items) (ahead self.old (R.remaining reader.old))
+            (ahead self.new (R.remaining reader.new))) }
+        ensures between { IfOk result (λ next. next ≡ Next.Heard → (self.old.waiting ≡ []) × (self.new ≡ self.old)) }
+        ensures fits { OnOk result (FitsDevice self.old (R.remaining reader.old) →
+            FitsDevice self.new (R.remaining reader.new)) }
+        ensures spends { SpendsReads self.old self.new (R.remaining reader.old) (R.remaining reader.new) }
+    {
+        let is_between_lines = self.taken == self.filled && !self.ended;
+        if is_between_lines {
+            if let First::Heard = watch.first() {
+                return Ok(Next::Heard);
+            }
+        }
+        let found = self.read_line(reader, line)?;
+        if found {
+            return Ok(Next::Typed);
+        }
+        Ok(Next::Ended)
     }
 
     /// Reads `line` up to and with the next line end, and answers whether there is a line.

@@ -14,10 +14,11 @@ use fibs_engine::limits::MOST_INPUT_READS;
 use fibs_engine::status::Status;
 use fibs_engine::writing::write_bytes;
 use fibs_environment::{Place as Clocks, Settings, terminal_settings};
+use fibs_front::watch::Unwatched;
 use fibs_messages::Board;
 use fibs_position::GameBoard;
 use fibs_terminal::{Terminal, append_picture};
-use fibs_watch::{PollWatch, TypedOrHeard, WatchedNet, first_line};
+use fibs_watch::{PollWatch, WatchedNet, first_line};
 use mio::Poll;
 use std::fs::File;
 use std::io;
@@ -130,27 +131,45 @@ fn draw(rt: &HostRuntime, streams: &mut Streams, line: &[u8]) -> Result<(), Engi
     }
 }
 
-/// Talks with a server. The password is the first line of a file, or typed. Answers the exit status.
+/// Talks with a server. Answers the exit status.
 ///
 /// Errors: `Device` if a stream fails, `Memory`.
 fn connect(rt: &HostRuntime, streams: &mut Streams, call: Call<'_>) -> Result<u8, EngineFault> {
+    let first = match first_bytes(rt, call) {
+        Ok(first) => first,
+        Err(error) if error.kind() == ErrorKind::OutOfMemory => return Err(EngineFault::Memory),
+        Err(_) => {
+            // if it can't be printed, the status alone says it
+            let _said = write_bytes(UNREADABLE, &mut rt.stderr());
+            return Ok(Status::Device.code());
+        }
+    };
+    let Streams { input, out } = streams;
+    let mut typed = first.as_slice().chain(input);
+    if rt.stdin().is_terminal() {
+        // if it can't be waited for, the standard input is read as if it were no terminal
+        if let Ok(heard) = Poll::new(rt) {
+            let typing = rt.stdin().as_raw_fd();
+            if let Ok(mut watch) = PollWatch::new(rt, rt.alloc(), typing, &heard) {
+                let net = WatchedNet::new(rt, heard.registry());
+                return play(rt, &net, call, TERMINAL_MILLIS, &mut typed, &mut watch, out);
+            }
+        }
+    }
+    play(rt, rt, call, READ_MILLIS, &mut typed, &mut Unwatched, out)
+}
+
+/// What is read before what is typed: the password's line, if a file has it. If it is to be typed, it is asked for.
+fn first_bytes(rt: &HostRuntime, call: Call<'_>) -> io::Result<Vec<u8>> {
     match call.password_file {
+        Some(file) => password_line(rt, file),
         None => {
             if rt.stdin().is_terminal() {
                 // if it can't be asked for, it is read all the same
                 let _asked = write_bytes(b"password: ", &mut rt.stderr());
             }
-            converse(rt, streams, b"", call)
+            Ok(Vec::new(rt.alloc()))
         }
-        Some(file) => match password_line(rt, file) {
-            Ok(line) => converse(rt, streams, line.as_slice(), call),
-            Err(error) if error.kind() == ErrorKind::OutOfMemory => Err(EngineFault::Memory),
-            Err(_) => {
-                // if it can't be printed, the status alone says it
-                let _said = write_bytes(UNREADABLE, &mut rt.stderr());
-                Ok(Status::Device.code())
-            }
-        },
     }
 }
 
@@ -159,31 +178,4 @@ fn password_line(rt: &HostRuntime, file: &str) -> io::Result<Vec<u8>> {
     let alloc = rt.alloc();
     let file = BufReader::with_capacity(alloc, 1, File::open(rt, file)?)?;
     first_line(alloc, &mut file.take(MOST_PASSWORD))
-}
-
-/// Talks with a server. The first bytes that are read may be known.
-fn converse(
-    rt: &HostRuntime,
-    streams: &mut Streams,
-    first: &[u8],
-    call: Call<'_>,
-) -> Result<u8, EngineFault> {
-    let Streams { input, out } = streams;
-    if rt.stdin().is_terminal() {
-        // without a `Poll` the standard input is read as if it were no terminal
-        if let Ok(heard) = Poll::new(rt) {
-            let watch = PollWatch::new(rt, rt.alloc(), rt.stdin().as_raw_fd(), &heard).ok();
-            let typed = TypedOrHeard::new(input, watch);
-            let net = WatchedNet::new(rt, heard.registry());
-            return play(
-                rt,
-                &net,
-                call,
-                TERMINAL_MILLIS,
-                &mut first.chain(typed),
-                out,
-            );
-        }
-    }
-    play(rt, rt, call, READ_MILLIS, &mut first.chain(input), out)
 }

@@ -1,7 +1,7 @@
 //! A person plays.
 
 use fibs_arguments::Call;
-use fibs_connect::{answer_lines, converse_at, converse_on};
+use fibs_connect::{answer_lines, converse_with};
 use fibs_engine::dial::{Dial, Place, Server};
 use fibs_engine::fault::EngineFault;
 use fibs_engine::limits::MOST_INPUT_READS;
@@ -11,9 +11,9 @@ use fibs_engine::pacing::PacedServer;
 use fibs_engine::status::Status;
 use fibs_engine::writing::write_bytes;
 use fibs_environment::{Place as Clocks, terminal_settings};
-use fibs_front::plain::Plain;
 use fibs_front::typed_line::TypedLine;
 use fibs_front::typed_lines::TypedLines;
+use fibs_front::watch::Watch;
 use fibs_session::{Login, PlainFault};
 use fibs_terminal::Terminal;
 use fibs_wording::reasons::append_login_fault;
@@ -62,11 +62,12 @@ fn say_login_fault(rt: &HostRuntime, why: PlainFault) -> Result<u8, EngineFault>
 }
 
 /// Talks with a server at a terminal. The first line is the password.
-fn play_at_terminal<D: Dial, R: Read>(
+fn play_at_terminal<D: Dial, R: Read, V: Watch>(
     rt: &HostRuntime,
     server: &mut D,
     call: Call<'_>,
     input: &mut R,
+    watch: &mut V,
     out: &mut Noted<Stdout>,
 ) -> Result<u8, EngineFault> {
     let alloc = rt.alloc();
@@ -80,18 +81,41 @@ fn play_at_terminal<D: Dial, R: Read>(
         Ok(login) => login,
     };
     let mut front = Terminal::new(alloc, out, rt, shown);
-    let answer = answer_lines(server, alloc, login, &mut lines, input, &mut front);
+    let answer = answer_lines(server, alloc, login, &mut lines, input, watch, &mut front);
     unless_memory_ran_out(answer, &front)
+}
+
+/// Talks with a server, and prints the plain account. The first line is the password.
+fn print_all<D: Dial, R: Read, V: Watch>(
+    rt: &HostRuntime,
+    server: &mut D,
+    call: Call<'_>,
+    input: &mut R,
+    watch: &mut V,
+    out: &mut Noted<Stdout>,
+) -> Result<u8, EngineFault> {
+    let (alloc, name, mut err) = (rt.alloc(), call.name.as_bytes(), rt.stderr());
+    converse_with(
+        server,
+        alloc,
+        name,
+        MOST_INPUT_READS,
+        input,
+        watch,
+        out,
+        &mut err,
+    )
 }
 
 /// Talks with a server, each read of which waits so many milliseconds: as a terminal shows it, if the standard output
 /// is one, else as the engines print it; and with a log, if one is asked for.
-pub fn play<N: Net<Listener = TcpListener, Stream = TcpStream>, R: Read>(
+pub fn play<N: Net<Listener = TcpListener, Stream = TcpStream>, R: Read, V: Watch>(
     rt: &HostRuntime,
     net: &N,
     call: Call<'_>,
     millis: u64,
     input: &mut R,
+    watch: &mut V,
     out: &mut Noted<Stdout>,
 ) -> Result<u8, EngineFault> {
     if !can_log(rt, call.log) {
@@ -99,33 +123,18 @@ pub fn play<N: Net<Listener = TcpListener, Stream = TcpStream>, R: Read>(
         let _said = write_bytes(NO_LOG, &mut rt.stderr());
         return Ok(Status::Device.code());
     }
-    let server = Server::new(net, place_of(call, millis));
+    let mut server = Server::new(net, place_of(call, millis));
     if rt.stdout().is_terminal() {
         let mut paced = PacedServer::new(server, millis);
-        return match call.log {
-            None => play_at_terminal(rt, &mut paced, call, input, out),
-            log => play_at_terminal(rt, &mut LoggedServer::new(paced, rt, log), call, input, out),
-        };
+        if call.log.is_none() {
+            return play_at_terminal(rt, &mut paced, call, input, watch, out);
+        }
+        let mut logged = LoggedServer::new(paced, rt, call.log);
+        return play_at_terminal(rt, &mut logged, call, input, watch, out);
     }
-    let (alloc, name, mut err) = (rt.alloc(), call.name.as_bytes(), rt.stderr());
-    match call.log {
-        None => converse_at(
-            net,
-            alloc,
-            place_of(call, millis),
-            name,
-            input,
-            out,
-            &mut err,
-        ),
-        log => converse_on(
-            &mut LoggedServer::new(server, rt, log),
-            alloc,
-            name,
-            MOST_INPUT_READS,
-            input,
-            &mut Plain { out },
-            &mut err,
-        ),
+    if call.log.is_none() {
+        return print_all(rt, &mut server, call, input, watch, out);
     }
+    let mut logged = LoggedServer::new(server, rt, call.log);
+    print_all(rt, &mut logged, call, input, watch, out)
 }

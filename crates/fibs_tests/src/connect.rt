@@ -4,6 +4,7 @@ use super::outcomes::assert_is;
 use fibs_connect::{converse, converse_with};
 use fibs_engine::dial::Dial;
 use fibs_engine::fault::EngineFault;
+use fibs_front::watch::Unwatched;
 use fibs_test_tools::devices::Endless;
 use fibs_test_tools::named::Named;
 use fibs_test_tools::outcome::Outcome;
@@ -130,7 +131,8 @@ pub fn conversed<D: Dial>(
 ) -> Outcome {
     let mut out = Pipe::new(b"", 1, After::End, room);
     let mut err = Pipe::new(b"", 1, After::End, 1024);
-    let ending = converse_with(door, alloc, b"ann", reads, typed, &mut out, &mut err);
+    let watch = &mut Unwatched;
+    let ending = converse_with(door, alloc, b"ann", reads, typed, watch, &mut out, &mut err);
     Outcome::new(ending, out.output(), err.output())
 }
 

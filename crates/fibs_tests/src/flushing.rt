@@ -4,6 +4,7 @@ use fibs_connect::converse_with;
 use fibs_engine::dial::Dial;
 use fibs_engine::fault::EngineFault;
 use fibs_engine::link::Link;
+use fibs_front::watch::Unwatched;
 use fibs_test_tools::pipe::{After, Pipe};
 use std::alloc::Global;
 use std::cell::Cell;
@@ -145,6 +146,7 @@ fn conversed_on(alloc: Global, seen: &Seen, flushes: u32) -> Result<u8, EngineFa
         b"ann",
         1000,
         &mut typed,
+        &mut Unwatched,
         &mut screen,
         &mut other,
     )

@@ -1,14 +1,10 @@
-//! The server is heard while a person types nothing at a terminal: if it speaks while no line is begun, an empty line
-//! is inserted.
+//! The server is heard while a person types nothing at a terminal. The first line of a password file.
 #![tactic(auto)]
 
-pub mod laws;
 mod password;
-mod reader;
 mod watch;
 mod watched_net;
 
 pub use password::first_line;
-pub use reader::TypedOrHeard;
-pub use watch::{First, PollWatch, Watch};
+pub use watch::PollWatch;
 pub use watched_net::WatchedNet;

@@ -1,10 +1,11 @@
-//! What a reader gives if the server speaks.
+//! What comes while a user types, if the server speaks.
 
 use super::seats::assert_of;
 use arrayvec::ArrayVec;
-use fibs_watch::{First, TypedOrHeard, Watch};
-use std::io::Read;
-use std::process::Abort;
+use fibs_front::typed_line::TypedLine;
+use fibs_front::typed_lines::{Next, TypedLines};
+use fibs_front::watch::{First, Unwatched, Watch};
+use fibs_test_tools::pipe::{After, Pipe};
 
 /// When the server comes first.
 #[derive(Clone, Copy)]
@@ -26,37 +27,47 @@ impl Watch for Server {
     }
 }
 
-/// What is read of a text, in reads of at most three bytes.
-fn given(rt: &impl Abort, text: &[u8], watch: Option<Server>) -> ArrayVec<u8, 90> {
-    let mut reader = TypedOrHeard::new(text, watch);
-    let mut given = ArrayVec::new();
-    let mut room = [0u8; 3];
+/// What comes of a text, in reads of at most three bytes: `/` and each line, and `*` if the server speaks.
+fn come(text: &[u8], watch: &mut impl Watch) -> ArrayVec<u8, 90> {
+    let mut reader = Pipe::new(text, 3, After::End, 0);
+    let mut lines = TypedLines::new(90);
+    let mut line = TypedLine::new();
+    let mut come = ArrayVec::new();
     for _ in 0..30 {
-        let count = reader.read(&mut room).expect(rt, "it is read");
-        if count == 0 {
-            break;
-        }
-        let _fits = given.try_extend_from_slice(&room[..count]);
+        let _fits = match lines.next(&mut reader, watch, &mut line) {
+            Ok(Next::Heard) => come.try_extend_from_slice(b"*"),
+            Ok(Next::Typed) => {
+                let _fits = come.try_extend_from_slice(b"/");
+                come.try_extend_from_slice(line.as_slice())
+            }
+            Ok(Next::Ended) | Err(_) => break,
+        };
     }
-    given
+    come
 }
 
-/// What is typed, when the server speaks, and what is read: an empty line is put in each time that the server speaks,
-/// but not into a line; and without a watch a text is read as it is.
-static ROWS: [(&[u8], Option<Server>, &[u8]); 3] = [
-    (b"roll\nmove", Some(Server::Next(2)), b"\n\nroll\nmove"),
-    (
-        b"roll\nmove\n",
-        Some(Server::InTurn(false)),
-        b"roll\nmove\n\n",
-    ),
-    (b"\nroll\n\n", None, b"\nroll\n\n"),
+/// What is typed, when the server speaks, and what comes: the server is heard each time that it speaks, but not within
+/// a line, and not while more of what was read waits.
+static ROWS: [(&[u8], Server, &[u8]); 5] = [
+    (b"roll\nmove", Server::Next(2), b"**/roll/move"),
+    (b"roll\nmove\n", Server::InTurn(false), b"/roll/move*"),
+    (b"\nroll\n\n", Server::Next(0), b"//roll/"),
+    (b"a\nb\nc\n", Server::InTurn(true), b"*/a/b/c*"),
+    (b"", Server::Next(1), b"*"),
 ];
 
 #[test]
-fn an_empty_line_is_put_in_where_the_server_speaks(rt: HostRuntime) {
+fn the_server_is_heard_between_two_lines(rt: HostRuntime) {
     for (text, server, wanted) in &ROWS {
-        let is_right = given(&rt, text, *server).as_slice() == *wanted;
+        let mut server = *server;
+        let is_right = come(text, &mut server).as_slice() == *wanted;
         assert_of(&rt, is_right, text);
     }
+}
+
+/// Without a watch a text is read as it is.
+#[test]
+fn without_a_watch_nothing_is_heard(rt: HostRuntime) {
+    let all = come(b"\nroll\n", &mut Unwatched);
+    assert!(rt; all.as_slice() == b"//roll".as_slice());
 }

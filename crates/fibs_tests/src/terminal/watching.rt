@@ -1,7 +1,8 @@
 //! What is ready first, on real sockets: one of them stands for what is typed.
 
+use fibs_front::watch::{First, Watch};
 use fibs_test_tools::named::Named;
-use fibs_watch::{First, PollWatch, Watch, WatchedNet};
+use fibs_watch::{PollWatch, WatchedNet};
 use mio::{Events, Poll};
 use std::io;
 use std::io::{Read, Write};
