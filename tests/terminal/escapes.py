@@ -116,6 +116,11 @@ def letters_of_other_scripts(server):
     same('letters', 'Grüße, Ödön: ' in line, True)
     same('marks', [mark for mark in '\u202e\u2066\u0085' if mark in line], [])
     same('a backslash is itself', line.endswith(' \\ ok'), True)
+    # a byte that begins no letter of UTF-8 is one of Latin-1; of both kinds in one line each is itself
+    server.send_bytes(b'12 bob Gr\xfc\xdfe, \xd6d\xf6n \xe9 caf\xc3\xa9 \x9b2J \xa0\xad \xff\xff \xe2\x80\x99 \xe2\x82\xac end\r\n')
+    line = ann.reads('bob says: Gr').encode('latin-1').decode()
+    same('letters of Latin-1', line[line.index('bob'):],
+         'bob says: Grüße, Ödön é café \\x9b2J \\xa0\\xad ÿ ’ € end')
     ann.close()
 
 

@@ -5,9 +5,26 @@ use unicode_width::UnicodeWidthChar;
 
 const HEX_DIGITS: [u8; 16] = *b"0123456789abcdef";
 
-/// Whether it is a letter or a digit beyond ASCII that takes room on the screen.
+/// The blocks of Unicode beyond letters that a terminal shows: the signs of Latin-1, dashes and quotation marks, signs of
+/// currencies, arrows and mathematics, symbols, and pictures. Controls, spaces and marks of direction are in none.
+const SIGNS: [(char, char); 7] = [
+    ('\u{a1}', '\u{ac}'),
+    ('\u{ae}', '\u{bf}'),
+    ('\u{2010}', '\u{2027}'),
+    ('\u{2030}', '\u{205e}'),
+    ('\u{20a0}', '\u{20bf}'),
+    ('\u{2190}', '\u{2bff}'),
+    ('\u{1f300}', '\u{1faff}'),
+];
+
+/// Whether it is one of the signs.
+fn is_sign(c: char) -> bool {
+    SIGNS.iter().any(|(first, last)| *first <= c && c <= *last)
+}
+
+/// Whether it is a letter, a digit or a sign beyond ASCII that takes room on the screen.
 fn is_letter(c: char) -> bool {
-    !c.is_ascii() && c.is_alphanumeric() && matches!(c.width(), Some(1) | Some(2))
+    !c.is_ascii() && (c.is_alphanumeric() || is_sign(c)) && matches!(c.width(), Some(1) | Some(2))
 }
 
 /// Whether a byte is printable ASCII.
@@ -33,32 +50,39 @@ fn append_bytes(bytes: &[u8], text: &mut Vec<u8>) -> Result<(), AllocError> {
     Ok(())
 }
 
-/// Appends a character: a letter as it is.
-fn append_char(c: char, text: &mut Vec<u8>) -> Result<(), AllocError> {
-    let mut room = [0; 4];
-    let bytes = c.encode_utf8(&mut room).as_bytes();
-    if is_letter(c) {
-        text.extend_from_slice(bytes)
-    } else {
-        append_bytes(bytes, text)
+/// Appends a character: a letter as it is, any other by the escapes of these bytes, which it was read from.
+fn append_char(c: char, bytes: &[u8], text: &mut Vec<u8>) -> Result<(), AllocError> {
+    if !is_letter(c) {
+        return append_bytes(bytes, text);
     }
+    let mut room = [0; 4];
+    text.extend_from_slice(c.encode_utf8(&mut room).as_bytes())
 }
 
-/// Appends bytes of a server: printable ASCII as it is, and the letters of a UTF-8 text, if the terminal has them; any
-/// other byte as `\x` and two hexadecimal digits.
+/// Appends the characters of a UTF-8 text.
+fn append_text(said: &str, text: &mut Vec<u8>) -> Result<(), AllocError> {
+    for c in said.chars() {
+        let mut room = [0; 4];
+        let bytes = c.encode_utf8(&mut room).as_bytes();
+        append_char(c, bytes, text)?;
+    }
+    Ok(())
+}
+
+/// Appends bytes of a server: printable ASCII as it is, and letters, if the terminal has them; any other byte as `\x` and
+/// two hexadecimal digits. A letter is written in UTF-8; a byte that begins none is one of Latin-1 (ISO 8859-1), as many
+/// clients write it.
 pub fn append_shown(bytes: &[u8], letters: bool, text: &mut Vec<u8>) -> Result<(), AllocError> {
     if !letters {
         return append_bytes(bytes, text);
     }
-    match str::from_utf8(bytes) {
-        Err(_) => append_bytes(bytes, text),
-        Ok(line) => {
-            for c in line.chars() {
-                append_char(c, text)?;
-            }
-            Ok(())
+    for chunk in bytes.utf8_chunks() {
+        append_text(chunk.valid(), text)?;
+        for byte in chunk.invalid() {
+            append_char(char::from(*byte), &[*byte], text)?;
         }
     }
+    Ok(())
 }
 
 /// Appends spaces until a text has so many columns since a place. The text is of ASCII there.
