@@ -113,6 +113,7 @@ install-surface:
 	install -m 644 completions/typed $(DESTDIR)$(SHARE)/fibs/typed
 	install -m 755 scripts/keys.pl $(DESTDIR)$(SHARE)/fibs/keys.pl
 	install -m 644 scripts/inputrc $(DESTDIR)$(SHARE)/fibs/inputrc
+	install -m 644 examples/config $(DESTDIR)$(SHARE)/fibs/config
 	install -m 644 completions/fibs.bash $(DESTDIR)$(SHARE)/bash-completion/completions/fibs
 	ln -sf fibs $(DESTDIR)$(SHARE)/bash-completion/completions/fibs-play
 	install -m 644 completions/_fibs $(DESTDIR)$(SHARE)/zsh/site-functions/_fibs

@@ -7,6 +7,7 @@ that is, is in tests/props/meanings.py. With a PROGRAM it is asked too whether i
 reader of man pages, that is not installed is left out. Prints a line for each case, and then `N passed, M failed`.
 """
 
+import os
 import pathlib
 import re
 import shutil
@@ -408,7 +409,23 @@ def fibs_play_tells_its_use(_program):
         done = run([ROOT / 'scripts' / 'fibs-play', *words], stdin=subprocess.DEVNULL)
         said, other = (done.stderr, done.stdout) if status else (done.stdout, done.stderr)
         same(repr(words), (done.returncode, said.splitlines()[:1], other),
-             (status, ['usage: fibs-play [--log FILE] HOST PORT NAME'], ''))
+             (status, ['usage: fibs-play [--log FILE] [HOST PORT NAME]'], ''))
+
+
+def fibs_play_takes_what_the_settings_say(_program):
+    """Where it has no arguments; a word that a shell would spread is one word, and a log may have spaces."""
+    with tempfile.TemporaryDirectory() as room:
+        config = pathlib.Path(room, 'config')
+        for content, words, wanted in (
+                ('# server a 1 b\nserver localhost 4321 *\nserver b 2 c\n', [], 'connect localhost 4321 *'),
+                ('log my log\r\nserver localhost 4321 ann\r\n', [], 'connect --log my log localhost 4321 ann'),
+                ('log my log\nserver localhost 4321 ann\n', ['--log', 'other', 'h', '1', 'n'],
+                 'connect --log other h 1 n'),
+                ('quiet\n', ['h', '1', 'n'], 'connect h 1 n')):
+            config.write_text(content)
+            done = run([ROOT / 'scripts' / 'fibs-play', *words], stdin=subprocess.DEVNULL, cwd=room,
+                       env={**os.environ, 'FIBS': '/bin/echo', 'FIBS_CONFIG': str(config)})
+            same(repr(content), (done.returncode, done.stdout.rstrip()), (0, wanted))
 
 
 def make_installs_them(_program):
@@ -416,6 +433,7 @@ def make_installs_them(_program):
         'bin/fibs-play': 'scripts/fibs-play', 'share/man/man1/fibs.1': 'docs/fibs.1',
         'share/man/man1/fibs-play.1': 'docs/fibs.1', 'share/fibs/typed': 'completions/typed',
         'share/fibs/keys.pl': 'scripts/keys.pl', 'share/fibs/inputrc': 'scripts/inputrc',
+        'share/fibs/config': 'examples/config',
         'share/bash-completion/completions/fibs': 'completions/fibs.bash',
         'share/bash-completion/completions/fibs-play': 'completions/fibs.bash',
         'share/zsh/site-functions/_fibs': 'completions/_fibs',
@@ -440,7 +458,8 @@ CASES = [
     the_words_of_a_terminal_mean_the_same, the_help_of_a_terminal_means_the_same,
     the_commands_of_the_formats_mean_the_same, each_status_means_the_same,
     the_picture_of_the_page_is_the_players, the_picture_of_the_readme_is_shown,
-    the_page_is_clean, fibs_play_is_plain_shell, fibs_play_tells_its_use, make_installs_them,
+    the_page_is_clean, fibs_play_is_plain_shell, fibs_play_tells_its_use,
+    fibs_play_takes_what_the_settings_say, make_installs_them,
 ]
 
 

@@ -2,11 +2,13 @@
 #![tactic(auto)]
 
 mod clock;
+mod config;
 mod environment;
 mod settings;
 mod zone;
 
 pub use clock::ClockTime;
+pub use config::{Config, Setting, read_setting};
 pub use environment::terminal_settings;
 pub use settings::Settings;
 pub use zone::{Place, Zone};

@@ -13,7 +13,7 @@ use fibs_engine::fixed::{append, append_number};
 use fibs_engine::limits::MOST_INPUT_READS;
 use fibs_engine::status::Status;
 use fibs_engine::writing::write_bytes;
-use fibs_environment::{Place as Clocks, Settings, terminal_settings};
+use fibs_environment::{Config, Place as Clocks, Settings, terminal_settings};
 use fibs_front::watch::Unwatched;
 use fibs_messages::Board;
 use fibs_position::GameBoard;
@@ -107,6 +107,10 @@ fn show_lines(
 ) -> Result<usize, EngineFault> {
     let settings = settings_of(rt, clocks);
     let mut front = Terminal::new(rt.alloc(), &mut streams.out, NoClock, settings);
+    let configured = front
+        .configure(&Config::read(rt))
+        .map_err(EngineFault::from);
+    unless_memory_ran_out(configured, &front)?;
     let shown = show_on(MOST_INPUT_READS, &mut streams.input, &mut front);
     unless_memory_ran_out(shown, &front)
 }

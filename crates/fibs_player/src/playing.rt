@@ -10,7 +10,7 @@ use fibs_engine::noting::Noted;
 use fibs_engine::pacing::PacedServer;
 use fibs_engine::status::Status;
 use fibs_engine::writing::write_bytes;
-use fibs_environment::{Place as Clocks, terminal_settings};
+use fibs_environment::{Config, Place as Clocks, terminal_settings};
 use fibs_front::typed_line::TypedLine;
 use fibs_front::typed_lines::TypedLines;
 use fibs_front::watch::Watch;
@@ -81,6 +81,10 @@ fn play_at_terminal<D: Dial, R: Read, V: Watch>(
         Ok(login) => login,
     };
     let mut front = Terminal::new(alloc, out, rt, shown);
+    let configured = front
+        .configure(&Config::read(rt))
+        .map_err(EngineFault::from);
+    unless_memory_ran_out(configured, &front)?;
     let answer = answer_lines(server, alloc, login, &mut lines, input, watch, &mut front);
     unless_memory_ran_out(answer, &front)
 }

@@ -1,0 +1,71 @@
+//! What a user's own settings change of a terminal.
+
+use crate::screen::Screen;
+use crate::terminal::Terminal;
+use fibs_engine::writing::write_bytes;
+use fibs_environment::{Config, Setting, read_setting};
+use fibs_front::fault::FrontFault;
+use fibs_wording::shown::append_shown;
+use itoa::Buffer;
+use std::alloc::AllocError;
+use std::io::Write;
+use std::time::Clock;
+
+/// How many bytes of a line that is no setting are shown: with the rest the row fits.
+const MOST_SHOWN: usize = 30;
+
+impl<'a, C: Clock + Drop> Screen<'a, C> {
+    /// Changes what a line of the file asks for. False if it is no setting.
+    fn set(&mut self, line: &[u8]) -> Result<bool, AllocError> {
+        match read_setting(line) {
+            None => return Ok(false),
+            Some(Setting::Nothing) => {}
+            Some(Setting::Gag(name)) => return self.memory.gag(self.alloc, name),
+            Some(Setting::Quiet) => self.memory.quiet = true,
+            Some(Setting::Words) => self.settings.words = true,
+            Some(Setting::NoColour) => self.settings.colour = false,
+            Some(Setting::NoBell) => self.settings.bell = false,
+        }
+        Ok(true)
+    }
+
+    /// Says that a line of the file is no setting.
+    fn say_no_setting(&mut self, number: usize, line: &[u8]) -> Result<(), AllocError> {
+        let mut room = Buffer::new();
+        let digits = room.format(number).as_bytes();
+        self.say_all(&[b"fibs: line ", digits, b" of the settings is not one: "])?;
+        let shown = &line[..line.len().min(MOST_SHOWN)];
+        append_shown(shown, self.settings.utf8, &mut self.text)?;
+        self.say(b"\n")
+    }
+
+    /// Changes what the file asks for, and says which of its lines are no setting.
+    fn configure(&mut self, config: &Config) -> Result<(), AllocError> {
+        if config.is_unread() {
+            return self.say(b"fibs: the settings can't be read\n");
+        }
+        let mut number = 0usize;
+        for line in config.bytes().split(|byte| *byte == b'\n') {
+            number = number.saturating_add(1);
+            if !self.set(line)? {
+                self.say_no_setting(number, line)?;
+            }
+        }
+        Ok(())
+    }
+}
+
+impl<W: Write + Drop, C: Clock + Drop> Terminal<'_, W, C> {
+    /// Changes what the user's own settings ask for, and shows which lines of them are none: the others count.
+    ///
+    /// Errors: `Output` if a write fails, or memory runs out (`is_out_of_memory`).
+    pub fn configure(&mut self, config: &Config) -> Result<(), FrontFault> {
+        self.screen.text.clear();
+        if self.screen.configure(config).is_err() {
+            self.screen.ran_out = true;
+            return Err(FrontFault::Output);
+        }
+        write_bytes(self.screen.text.as_slice(), &mut self.out)?;
+        Ok(())
+    }
+}
