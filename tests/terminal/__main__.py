@@ -13,6 +13,7 @@ import sys
 
 import people
 import babble
+import company
 import costs
 import escapes
 import game
@@ -41,7 +42,7 @@ def tried(scene):
 def main():
     words = sys.argv[2:]
     beside = (offers.SCENES + resuming.SCENES + refusals.SCENES + hints.SCENES + play.SCENES + logs.SCENES
-              + game.SCENES + spoken.SCENES + babble.SCENES + whole.SCENES)
+              + game.SCENES + company.SCENES + spoken.SCENES + babble.SCENES + whole.SCENES)
     alone = escapes.SCENES + costs.SCENES
     chosen = [[scene for scene in scenes if not words or any(word in scene.__name__ for word in words)]
               for scenes in (beside, alone)]

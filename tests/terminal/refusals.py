@@ -158,8 +158,8 @@ by_itself('automove', 'greedy')
 # -- words -----------------------------------------------------------------------------------------------------------
 
 # What a player of FIBS may type that this client does not have, and the line that its answer names.
-OTHER_WORDS = ['leave', 'watch bob', 'unwatch', 'whois bob', 'redouble', 'pip', 'away', 'back', 'show saved',
-               'toggle report', 'who bob', 'invite bob unlimited', 'blind bob', 'look bob']
+OTHER_WORDS = ['ratings bob', 'average bob', 'stat', 'show savedcount', 'toggle report', 'who bob',
+               'invite bob unlimited', 'blind bob', 'look bob']
 
 
 @at_a_table(*ANN_BEGINS)

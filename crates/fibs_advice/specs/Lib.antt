@@ -1,4 +1,6 @@
 pub mod Advised
+pub mod Leads
 pub mod Offers
 pub mod Rows
 pub mod Standings
+pub mod Trials

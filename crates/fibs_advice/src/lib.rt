@@ -12,3 +12,4 @@ pub mod situation;
 pub mod spelling;
 pub mod standing;
 pub mod told;
+pub mod trial;

@@ -3,12 +3,13 @@ ghost use Rattle.std.specs.Prelude.{IfOk, List, ℕ};
 ghost use Rattle.fibs_front.specs.Wishes.{wish_value};
 ghost use Rattle.fibs_terminal.specs.Asking.{AsksInBounds, KnownStays, SendsUntaken};
 
+use crate::looking::TRY_WHAT;
 use crate::screen::{Page, Screen};
 use crate::worded::append_words;
 use bstr::ByteSlice;
-use fibs_advice::plays::append_plays;
 use fibs_advice::rules::append_rule;
 use fibs_advice::spelling::words::append_spelled;
+use fibs_advice::trial::Trial;
 use fibs_fields::split::split;
 use fibs_front::typed_line::{TYPED_LIMIT, TypedLine};
 use fibs_front::wish::Wish;
@@ -17,8 +18,9 @@ use fibs_session::{Client, Directory, Refusal};
 use fibs_typed::taking::would_take;
 use fibs_typed::typing::{Typed, is_command, read_typed};
 use fibs_wording::help;
-use fibs_wording::lists::append_players;
-use fibs_wording::server_words::{is_leaving_word, is_server_word};
+use fibs_wording::pieces::append_all;
+use fibs_wording::players::append_players;
+use fibs_wording::server_words::{is_leaving_word, is_passed, is_server_word};
 use fibs_wording::shown::append_shown;
 use std::alloc::{AllocError, Global};
 
@@ -33,11 +35,15 @@ enum Own {
     Ungag,
     Quiet,
     Loud,
+    Talk,
+    Re,
+    Try,
+    Go,
     Send,
 }
 
 /// The words of the terminal.
-const OWN_WORDS: [(&[u8], Own); 9] = [
+const OWN_WORDS: [(&[u8], Own); 13] = [
     (b"help", Own::Help),
     (b"plays", Own::Plays),
     (b"words", Own::Words),
@@ -46,11 +52,15 @@ const OWN_WORDS: [(&[u8], Own); 9] = [
     (b"ungag", Own::Ungag),
     (b"quiet", Own::Quiet),
     (b"loud", Own::Loud),
+    (b"talk", Own::Talk),
+    (b"re", Own::Re),
+    (b"try", Own::Try),
+    (b"go", Own::Go),
     (b"send", Own::Send),
 ];
 
 /// What is said if a word asks for a board, and there is none.
-const NO_GAME: &[u8] = b"No board on which you play was shown yet: type board.\n";
+pub(crate) const NO_GAME: &[u8] = b"No board on which you play was shown yet: type board.\n";
 
 /// What is said of `send` without a line.
 const SEND_HELP: &[u8] = b"send LINE: LINE goes to the server as it is, unchecked.\n";
@@ -90,7 +100,7 @@ fn after_word(line: &[u8]) -> &[u8] {
 }
 
 /// Makes a line of bytes for which there is room.
-fn set_line(line: &mut TypedLine, bytes: &[u8]) {
+pub(crate) fn set_line(line: &mut TypedLine, bytes: &[u8]) {
     line.clear();
     let _fits = line.try_extend_from_slice(bytes);
 }
@@ -158,12 +168,21 @@ fn say_unknown(line: &[u8], page: &mut Page<'_>) -> Result<(), AllocError> {
     }
 }
 
-/// What a line asks for that is no word of the terminal: the client takes it, or it is answered by the line to type.
-fn wish_foreign(client: &Client, typed: &[u8], page: &mut Page<'_>) -> Result<Wish, AllocError>
-    ensures { (text : List ℕ) → SendsUntaken client.now text result }
+/// What a line asks for that is no word of the terminal: the client takes it, it goes to the server as it is, or it is
+/// answered by the line to type.
+fn wish_foreign(
+    client: &Client,
+    typed: &[u8],
+    line: &mut TypedLine,
+    page: &mut Page<'_>,
+) -> Result<Wish, AllocError>
+    ensures { SendsUntaken client.now line.new.items result }
 {
     if is_command(client, typed) {
         return Ok(Wish::Say);
+    }
+    if is_passed(typed) {
+        return send(client, typed, line, page);
     }
     say_unknown(typed, page)?;
     Ok(Wish::Answered)
@@ -191,13 +210,12 @@ fn send(
     Ok(Wish::Send)
 }
 
-/// Tells of the board that is shown: its legal moves, or what it is in words.
-fn say_game(client: &Client, in_words: bool, page: &mut Page<'_>) -> Result<(), AllocError> {
+/// Tells in words the board that is shown.
+fn say_words(client: &Client, page: &mut Page<'_>) -> Result<(), AllocError> {
     let alloc = page.alloc;
     match client.game() {
         None => page.say(NO_GAME),
-        Some(game) if in_words => append_words(alloc, game, page.settings.columns, &mut page.text),
-        Some(game) => append_plays(alloc, game, &mut page.text),
+        Some(game) => append_words(alloc, game, page.settings.columns, &mut page.text),
     }
 }
 
@@ -260,8 +278,10 @@ impl<'a> Screen<'a> {
     {
         let rest = after_word(typed);
         match own_word(split(typed, b' ').0) {
-            None => wish_foreign(client, typed, &mut self.page),
+            None => wish_foreign(client, typed, line, &mut self.page),
             Some(Own::Send) => send(client, rest, line, &mut self.page),
+            Some(Own::Re) => self.memory.talk.answer(client, rest, line, &mut self.page),
+            Some(Own::Go) => self.memory.looking.send_tried(client, line, &mut self.page),
             Some(own) => {
                 self.answer_own(client, directory, own, rest)?;
                 Ok(Wish::Answered)
@@ -277,22 +297,54 @@ impl<'a> Screen<'a> {
         own: Own,
         rest: &[u8],
     ) -> Result<(), AllocError> {
-        if let Own::Help = own {
-            return self.say_help(rest);
+        match own {
+            Own::Help => return self.say_help(rest),
+            Own::Try => return self.try_move(client, rest),
+            _ => {}
         }
         let alloc = self.page.alloc;
         let page = &mut self.page;
         let people = &mut self.memory.people;
         match own {
-            Own::Plays => say_game(client, false, page),
-            Own::Words => say_game(client, true, page),
-            Own::Players => append_players(alloc, directory, &mut page.text),
+            Own::Plays => self.memory.looking.say_plays(client, rest, page),
+            Own::Words => say_words(client, page),
+            Own::Players => append_players(
+                alloc,
+                directory,
+                rest,
+                self.memory.rating,
+                &mut page.text,
+            ),
+            Own::Talk => self.memory.talk.say_rows(page),
             Own::Gag => people.gag(rest, page),
             Own::Ungag => people.ungag(rest, page),
             Own::Quiet => people.set_quiet(true, page),
             Own::Loud => people.set_quiet(false, page),
-            Own::Help | Own::Send => page.say(SEND_HELP),
+            Own::Help | Own::Try | Own::Re | Own::Go | Own::Send => page.say(SEND_HELP),
         }
+    }
+
+    /// Shows the board to which a move would lead, and sends nothing. A move that the client would not take now is
+    /// refused as if it were typed.
+    fn try_move(&mut self, client: &Client, rest: &[u8]) -> Result<(), AllocError> {
+        let alloc = self.page.alloc;
+        self.memory.looking.forget_trial();
+        let mut typed = Vec::new(alloc);
+        append_all(&[b"move ", rest], &mut typed)?;
+        let mut spelled = Vec::new(alloc);
+        append_spelled(alloc, client, typed.as_slice(), &mut spelled)?;
+        let Typed::Decision(decision) = read_typed(client, spelled.as_slice()) else {
+            return self.page.say(TRY_WHAT);
+        };
+        note_rule(client, spelled.as_slice(), &mut self.memory.rule)?;
+        if let Some(why) = client.refusal(&decision) {
+            return self.say_refused(why);
+        }
+        let trial = match (client.game(), decision) {
+            (Some(game), Decision::Move(play)) => Trial::of(game, &play),
+            _ => None,
+        };
+        self.memory.looking.show_trial(trial, &mut self.page)
     }
 
     /// Says what may be typed. What is advised now follows.

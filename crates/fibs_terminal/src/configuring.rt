@@ -5,7 +5,6 @@ use crate::terminal::Terminal;
 use fibs_engine::writing::write_bytes;
 use fibs_environment::{Config, Setting, read_setting};
 use fibs_front::fault::FrontFault;
-use fibs_wording::shown::append_shown;
 use itoa::Buffer;
 use std::alloc::AllocError;
 use std::io::Write;
@@ -14,17 +13,18 @@ use std::time::Clock;
 /// How many bytes of a line that is no setting are shown: with the rest the row fits.
 const MOST_SHOWN: usize = 30;
 
-impl<'a, C: Clock + Drop> Screen<'a, C> {
+impl<'a> Screen<'a> {
     /// Changes what a line of the file asks for. False if it is no setting.
     fn set(&mut self, line: &[u8]) -> Result<bool, AllocError> {
+        let alloc = self.page.alloc;
         match read_setting(line) {
             None => return Ok(false),
             Some(Setting::Nothing) => {}
-            Some(Setting::Gag(name)) => return self.memory.gag(self.alloc, name),
-            Some(Setting::Quiet) => self.memory.quiet = true,
-            Some(Setting::Words) => self.settings.words = true,
-            Some(Setting::NoColour) => self.settings.colour = false,
-            Some(Setting::NoBell) => self.settings.bell = false,
+            Some(Setting::Gag(name)) => return self.memory.people.hide(alloc, name),
+            Some(Setting::Quiet) => self.memory.people.quiet = true,
+            Some(Setting::Words) => self.page.settings.words = true,
+            Some(Setting::NoColour) => self.page.settings.colour = false,
+            Some(Setting::NoBell) => self.page.settings.bell = false,
         }
         Ok(true)
     }
@@ -33,16 +33,15 @@ impl<'a, C: Clock + Drop> Screen<'a, C> {
     fn say_no_setting(&mut self, number: usize, line: &[u8]) -> Result<(), AllocError> {
         let mut room = Buffer::new();
         let digits = room.format(number).as_bytes();
-        self.say_all(&[b"fibs: line ", digits, b" of the settings is not one: "])?;
+        self.page.say_all(&[b"fibs: line ", digits, b" of the settings is not one: "])?;
         let shown = &line[..line.len().min(MOST_SHOWN)];
-        append_shown(shown, self.settings.utf8, &mut self.text)?;
-        self.say(b"\n")
+        self.page.show_row(shown)
     }
 
     /// Changes what the file asks for, and says which of its lines are no setting.
     fn configure(&mut self, config: &Config) -> Result<(), AllocError> {
         if config.is_unread() {
-            return self.say(b"fibs: the settings can't be read\n");
+            return self.page.say(b"fibs: the settings can't be read\n");
         }
         let mut number = 0usize;
         for line in config.bytes().split(|byte| *byte == b'\n') {
@@ -60,12 +59,12 @@ impl<W: Write + Drop, C: Clock + Drop> Terminal<'_, W, C> {
     ///
     /// Errors: `Output` if a write fails, or memory runs out (`is_out_of_memory`).
     pub fn configure(&mut self, config: &Config) -> Result<(), FrontFault> {
-        self.screen.text.clear();
+        self.screen.page.text.clear();
         if self.screen.configure(config).is_err() {
             self.screen.ran_out = true;
             return Err(FrontFault::Output);
         }
-        write_bytes(self.screen.text.as_slice(), &mut self.out)?;
+        write_bytes(self.screen.page.text.as_slice(), &mut self.out)?;
         Ok(())
     }
 }

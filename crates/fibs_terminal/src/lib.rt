@@ -4,13 +4,16 @@
 
 mod boards;
 mod commands;
+mod configuring;
 pub mod laws;
 mod listening;
+mod looking;
 mod memory;
 mod people;
 mod picture;
 mod resting;
 mod screen;
+mod talk;
 mod telling;
 mod terminal;
 mod worded;

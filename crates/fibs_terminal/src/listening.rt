@@ -1,6 +1,7 @@
 //! What a terminal shows of what the server sends.
 
 use crate::screen::{Moment, Page, Screen};
+use crate::talk::Talk;
 use fibs_advice::told::Told;
 use fibs_lines::Line;
 use fibs_messages::{Fault, Message, Reading};
@@ -41,17 +42,42 @@ fn say_malformed(
     page.show_row(bytes)
 }
 
-/// Says a message in words.
+/// Whether a message is what people say.
+fn is_talk(message: &Message<'_>) -> bool {
+    matches!(
+        message,
+        Message::MessageReceived { .. }
+            | Message::Says { .. }
+            | Message::Shouts { .. }
+            | Message::Whispers { .. }
+            | Message::Kibitzes { .. }
+            | Message::YouSay { .. }
+            | Message::YouShout { .. }
+            | Message::YouWhisper { .. }
+            | Message::YouKibitz { .. }
+    )
+}
+
+/// Says a message in words, and keeps what people say.
 fn say_message(
     message: &Message<'_>,
     moment: Moment,
+    talk: &mut Talk,
     page: &mut Page<'_>,
 ) -> Result<(), AllocError> {
     if let Message::Says { .. } | Message::MessageReceived { .. } = message {
         page.ring()?;
     }
-    append_message(message, moment.time, &page.settings, &mut page.text)?;
-    page.say(b"\n")
+    let alloc = page.alloc;
+    let mut row = Vec::new(alloc);
+    append_message(message, moment.time, &page.settings, &mut row)?;
+    if let Message::Says { name, .. } = message {
+        talk.hear_speaker(name.bytes())?;
+    }
+    if is_talk(message) {
+        talk.keep(alloc, row.as_slice())?;
+    }
+    page.say_all(&[row.as_slice(), b"\n"])
 }
 
 impl<'a> Screen<'a> {
@@ -82,6 +108,7 @@ impl<'a> Screen<'a> {
             memory.advising.inquired = true;
         }
         memory.situation.hear_board(game);
+        memory.looking.begin();
         let said = memory.said.as_slice();
         memory
             .boards
@@ -121,14 +148,15 @@ impl<'a> Screen<'a> {
         }
     }
 
-    /// Takes note of a message: the user was greeted, or the message of the day begins or ends, or a player comes or
-    /// goes.
+    /// Takes note of a message: the user was greeted or is rated, the message of the day begins or ends, or a player
+    /// comes or goes.
     fn note_message(&mut self, message: &Message<'_>) {
         match message {
             Message::Welcome { .. } => {
                 self.memory.situation.hear_welcome();
                 self.memory.list.is_due = true;
             }
+            Message::OwnInfo(info) => self.memory.rating = Some(info.rating),
             Message::Login { name, .. } => self.memory.situation.hear_login(name.bytes()),
             Message::MotdBegin => self.memory.situation.hear_motd(true),
             Message::MotdEnd => self.memory.situation.hear_motd(false),
@@ -149,7 +177,7 @@ impl<'a> Screen<'a> {
                 let is_quiet = self.memory.people.is_quiet();
                 self.memory.list.hear_end(is_quiet, &mut self.page)
             }
-            _ => say_message(message, moment, &mut self.page),
+            _ => say_message(message, moment, &mut self.memory.talk, &mut self.page),
         }
     }
 }

@@ -1,8 +1,10 @@
 //! What a terminal remembers: only what the client does not know.
 
 use crate::boards::Boards;
+use crate::looking::Looking;
 use crate::people::{List, People};
 use crate::resting::Advising;
+use crate::talk::Talk;
 use fibs_advice::situation::Situation;
 use std::alloc::Global;
 use std::time::Duration;
@@ -18,6 +20,12 @@ pub struct Memory {
     pub boards: Boards,
     /// Whose words are hidden.
     pub people: People,
+    /// What people said.
+    pub talk: Talk,
+    /// What the user looks at before he decides.
+    pub looking: Looking,
+    /// The user's own rating, in hundredths, as the server said it last.
+    pub rating: Option<u32>,
     /// The list of players that is coming.
     pub list: List,
     /// Whether a connection was made: then what can be done is said below each board.
@@ -38,6 +46,9 @@ impl Memory {
             advising: Advising::new(alloc),
             boards: Boards::new(),
             people: People::new(alloc),
+            talk: Talk::new(alloc),
+            looking: Looking::new(),
+            rating: None,
             list: List::new(alloc),
             converses: false,
             opened: Duration::from_secs(0),

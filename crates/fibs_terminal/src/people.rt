@@ -12,7 +12,7 @@ use std::alloc::{AllocError, Global};
 #[derive(Drop)]
 pub struct People {
     /// Whether shouts are hidden, and who comes and goes.
-    quiet: bool,
+    pub quiet: bool,
     /// The players whose words are hidden.
     gagged: Vec<Vec<u8>>,
 }
@@ -62,14 +62,22 @@ impl People {
         }
     }
 
-    /// Hides what a player says.
-    pub fn gag(&mut self, name: &[u8], page: &mut Page<'_>) -> Result<(), AllocError> {
+    /// Hides what a player says. False if it is not a name.
+    pub fn hide(&mut self, alloc: Global, name: &[u8]) -> Result<bool, AllocError> {
         if Name::new(name).is_none() {
-            return page.say(b"gag NAME: whose words are kept from the screen.\n");
+            return Ok(false);
         }
         if !self.is_gagged(name) {
-            let alloc = page.alloc;
             self.gagged.push(Vec::from_slice(alloc, name)?)?;
+        }
+        Ok(true)
+    }
+
+    /// Hides what a player says, and says so.
+    pub fn gag(&mut self, name: &[u8], page: &mut Page<'_>) -> Result<(), AllocError> {
+        let alloc = page.alloc;
+        if !self.hide(alloc, name)? {
+            return page.say(b"gag NAME: whose words are kept from the screen.\n");
         }
         page.say_all(&[name, b" is gagged on this screen: ungag ends it.\n"])
     }

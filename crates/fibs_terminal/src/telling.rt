@@ -127,7 +127,7 @@ impl<'a> Screen<'a> {
     }
 
     /// Says why a decision was refused: of a move against the rules which rule it is. What is advised follows.
-    fn say_refused(&mut self, why: Refusal) -> Result<(), AllocError> {
+    pub(crate) fn say_refused(&mut self, why: Refusal) -> Result<(), AllocError> {
         self.memory.advising.inquired = why != Refusal::NotReady;
         let text = &mut self.page.text;
         if why == Refusal::IllegalPlay && !self.memory.rule.is_empty() {

@@ -4,15 +4,20 @@
 pub const SCREEN: &[u8] = b"\
 The game    roll  double  accept  reject  move 8-5 6-5  resign n|g|b
             also: r, m 8-5 6-5, 8/5 6/5, bar/20, 6/off, 8/5(2), 24/18/13
-            plays: the legal moves   board: the board again   words: in words
+            plays: the legal moves, plays 24: those from there, plays more
+            try 8-5 6-5: the board after that move; go: sends it
+            board: the board again   words: the board in words
             order roll: rolls for you if you may not double   withdraw roll
 Matches     invite NAME POINTS   invite NAME (to resume)   join NAME   join
-            toggle ready   who   players
+            toggle ready   who   players   players ready   players bo
 Talk        say TEXT   tell NAME TEXT   kibitz TEXT   whisper TEXT   shout TEXT
             message NAME TEXT (for later)   also: t NAME TEXT, k TEXT
+            re TEXT: answers who spoke to you last   talk: the last 20 rows
             gag NAME: hides what NAME says   ungag NAME: shows it again
             quiet: hides shouts, and who comes and goes   loud: shows them
-Server      send LINE: sends LINE as it is, unchecked (send watch bob)
+Server      watch NAME  unwatch  leave  whois NAME  away TEXT  back  pip
+            redouble  show saved   (these go to the server as they are)
+            send LINE: sends LINE as it is, unchecked (send ratings bob)
             bye: leave   open: connect again   quit: end
             toggle automove, toggle greedy: turns them off, if they are on
 help WORD says more about a word.
@@ -44,10 +49,22 @@ Only this terminal hides it: the server does not know.\n";
 
 const QUIET: &[u8] = b"quiet: hides shouts, and who comes and goes. loud: shows them again.\n";
 
+const WATCH: &[u8] = b"\
+watch NAME: shows you the game of a player. unwatch: ends it. Both are\n\
+sent as they are typed.\n";
+
+const AWAY: &[u8] = b"\
+away TEXT: who talks to you is told TEXT. back: ends it. Both are\n\
+sent as they are typed.\n";
+
+const TRY: &[u8] = b"\
+try 8-5 6-5: shows the board after that move, and sends nothing.\n\
+go: sends the move that you tried last, if the board is still the same.\n";
+
 const HELP: &[u8] = b"help (or ?): lists what you can type. help WORD: says more about a word.\n";
 
 /// What there is to say of each word: of the game, of matches, of talk, of the terminal.
-static WORDS: [(&[u8], &[u8]); 36] = [
+static WORDS: [(&[u8], &[u8]); 49] = [
     (b"roll", ROLL),
     (b"r", ROLL),
     (
@@ -94,7 +111,9 @@ It counts from the next login on: bye, open, and invite NAME to resume a match.\
     ),
     (
         b"players",
-        b"players: shows the players that the server has listed, the best first.\n",
+        b"players: the players that the server has listed, those of a rating near yours\n\
+first. players ready: who can be invited. players playing: who plays.\n\
+players bo: whose name begins so. players all, players ready all: all of them.\n",
     ),
     (b"say", b"say TEXT: talks to your opponent.\n"),
     (b"tell", TELL),
@@ -114,11 +133,46 @@ It counts from the next login on: bye, open, and invite NAME to resume a match.\
     (
         b"send",
         b"send LINE: sends LINE to the server as it is. The client doesn't check it.\n\
-For what the client can't do: send accept, send watch bob, send redouble ..\n",
+For what the client can't do: send accept, send ratings bob ..\n",
     ),
     (
         b"plays",
-        b"plays: lists the legal moves of the board, ready to be typed, 20 at most.\n",
+        b"plays: lists the legal moves of the board, ready to be typed, 20 at most.\n\
+plays more: the next 20. plays 24, plays bar: those that play from there.\n",
+    ),
+    (b"try", TRY),
+    (b"go", TRY),
+    (
+        b"talk",
+        b"talk: shows the last 20 rows of talk once more.\n",
+    ),
+    (
+        b"re",
+        b"re TEXT: tells TEXT to the player who spoke to you last.\n",
+    ),
+    (b"watch", WATCH),
+    (b"unwatch", WATCH),
+    (
+        b"leave",
+        b"leave: leaves a match, which the server then saves. It is sent as it is.\n",
+    ),
+    (
+        b"whois",
+        b"whois NAME: asks the server who that is. It is sent as it is.\n",
+    ),
+    (b"away", AWAY),
+    (b"back", AWAY),
+    (
+        b"redouble",
+        b"redouble: redoubles at once. It is sent as it is, unchecked.\n",
+    ),
+    (
+        b"pip",
+        b"pip: asks the server for the pips. It is sent as it is.\n",
+    ),
+    (
+        b"show",
+        b"show saved: asks for your saved matches. It is sent as it is.\n",
     ),
     (
         b"words",

@@ -7,6 +7,7 @@ pub mod lists;
 pub mod messages;
 pub mod outcomes;
 pub mod pieces;
+pub mod players;
 pub mod reasons;
 pub mod server_words;
 pub mod shown;

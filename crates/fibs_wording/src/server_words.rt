@@ -1,5 +1,7 @@
 //! The commands of a server that the client does not have.
 
+use fibs_fields::split::split;
+
 /// Their first words. Some are words of the client too, which takes them with other arguments.
 static SERVER_WORDS: [&[u8]; 48] = [
     b"about",
@@ -52,12 +54,32 @@ static SERVER_WORDS: [&[u8]; 48] = [
     b"whois",
 ];
 
+/// Their first words that a terminal sends as they are typed: to watch others, to leave a match, to say that one is away.
+static PASSED_WORDS: [&[u8]; 8] = [
+    b"away",
+    b"back",
+    b"leave",
+    b"pip",
+    b"redouble",
+    b"unwatch",
+    b"watch",
+    b"whois",
+];
+
+/// One more, of two words.
+const SHOW_SAVED: &[u8] = b"show saved";
+
 /// Words for leaving, none of which the client has.
 static LEAVING_WORDS: [&[u8]; 6] = [b"adios", b"ciao", b"end", b"exit", b"logout", b"q"];
 
 /// The first words of the commands of a server.
 fn server_words() -> &'static [&'static [u8]] {
     &SERVER_WORDS
+}
+
+/// The first words of the commands that a terminal sends as they are typed.
+fn passed_words() -> &'static [&'static [u8]] {
+    &PASSED_WORDS
 }
 
 /// The words for leaving.
@@ -68,6 +90,11 @@ fn leaving_words() -> &'static [&'static [u8]] {
 /// Whether a command of a server begins with a word, which goes to it as it is.
 pub fn is_server_word(word: &[u8]) -> bool {
     server_words().contains(&word)
+}
+
+/// Whether a line is a command of a server that a terminal sends as it is typed, without `send`.
+pub fn is_passed(line: &[u8]) -> bool {
+    line == SHOW_SAVED || passed_words().contains(&split(line, b' ').0)
 }
 
 /// Whether a word is one by which people leave.

@@ -10,7 +10,7 @@ use fibs_position::{Direction, Play, Step};
 const MOST_STEPS: usize = 4;
 
 /// The place of a name, in the player's own numbering.
-fn place_of(name: &[u8], direction: Direction) -> Option<u8>
+pub(crate) fn place_of(name: &[u8], direction: Direction) -> Option<u8>
     ensures { IfSome result (λ place. place ≤ 25) }
 {
     match name {

@@ -1,0 +1,68 @@
+//! A move that the user looks at before it is sent.
+ghost use Rattle.std.specs.Prelude.{◌≡◌, IfSome, IsTrue};
+ghost use Rattle.fibs_boards.specs.StoredBoard.{fields_of};
+ghost use Rattle.fibs_commands.specs.Commands.{command_of};
+ghost use Rattle.fibs_commands.specs.TextOf.{text_of};
+ghost use Rattle.fibs_position.specs.DecisionValue.{move};
+ghost use Rattle.fibs_position.specs.DirectionOf.{direction_of};
+ghost use Rattle.fibs_position.specs.GameOf.{game_of};
+ghost use Rattle.fibs_rules.specs.PlayValue.{hops_of};
+ghost use Rattle.fibs_advice.specs.Leads.{LeadsTo};
+
+use fibs_boards::laws::fields_tell_boards;
+use fibs_commands::{CommandText, decision_text};
+use fibs_position::{Decision, GameBoard, Play, effect};
+
+/// What stands in place of dice for a decision that takes none.
+const NO_DICE: [u8; 2] = [0, 0];
+
+/// A move on a board of the user's game, and the board that it leads to.
+#[derive(Clone, Copy)]
+pub struct Trial {
+    play: Play,
+    before: GameBoard,
+    after: GameBoard,
+    pub ghost leads: { LeadsTo (game_of before) (move (hops_of play)) (game_of after) },
+}
+
+impl Trial {
+    ghost use Rattle.fibs_advice.specs.Trials.{tried, tried_on};
+
+    /// The board that a move leads to. None if the board has no turn for the user, no dice, or no checker where the
+    /// move takes one: what else the rules ask is not looked at.
+    pub fn of(game: &GameBoard, play: &Play) -> Option<Trial>
+        ensures board { IfSome result (λ trial. tried_on trial ≡ game_of game.now) }
+        ensures play { IfSome result (λ trial. tried trial ≡ move (hops_of play.now)) }
+    {
+        let after = effect(game.board(), &Decision::Move(*play), NO_DICE)?;
+        match GameBoard::of(&after) {
+            Err(_) => None,
+            Ok(after) => Some(Trial {
+                play: *play,
+                before: *game,
+                after,
+            }),
+        }
+    }
+
+    /// The board after the move.
+    pub fn after(&self) -> &GameBoard
+        ensures { LeadsTo (tried_on self.now) (tried self.now) (game_of result.now) }
+    {
+        &self.after
+    }
+
+    /// The command of the move.
+    pub fn command(&self) -> CommandText
+        ensures { text_of result ≡ command_of (direction_of (tried_on self.now)) (tried self.now) }
+    {
+        decision_text(&Decision::Move(self.play), self.before.direction())
+    }
+
+    /// Whether a board is the one on which the move was tried.
+    pub fn is_on(&self, game: &GameBoard) -> bool
+        ensures { IsTrue result → tried_on self.now ≡ game_of game.now }
+    {
+        fields_tell_boards(self.before.board(), game.board())
+    }
+}

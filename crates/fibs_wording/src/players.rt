@@ -1,0 +1,291 @@
+//! The players that a terminal lists: those that were asked for, and no more than a screen has room for.
+
+use crate::lists::append_count;
+use crate::messages::append_state;
+use crate::pieces::append_all;
+use crate::shown::{append_shown, pad_from};
+use fibs_fields::rating::append_rating;
+use fibs_session::{Directory, Player};
+use itoa::Buffer;
+use std::alloc::{AllocError, Global};
+
+/// How many players are listed, unless all are asked for.
+const MOST_LISTED: usize = 16;
+
+/// What stands above the columns.
+const COLUMNS: &[u8] = b"player                  rating  points    idle   does\n";
+
+/// The columns of a name, and how much of it is shown there.
+const NAME_COLUMNS: usize = 22;
+
+const NAME_SHOWN: usize = 20;
+
+/// How much is shown of the name of whom a player plays or watches: with the longest words the row fits.
+const OTHER_SHOWN: usize = 16;
+
+/// The columns of a count of points, and of the time since a player typed.
+const POINTS_COLUMNS: usize = 8;
+
+const IDLE_COLUMNS: usize = 6;
+
+/// The lowest ratings of four, three and two digits before the point, in hundredths: a lower one is a column to the right.
+const LEAST_RATINGS: [u32; 3] = [100_000, 10_000, 1_000];
+
+/// How many bytes of the words that ask for a list are said again: with the rest the row fits.
+const MOST_SAID: usize = 40;
+
+/// A word that says which players are asked for.
+#[derive(Clone, Copy)]
+enum Choice {
+    Ready,
+    Playing,
+    All,
+}
+
+/// The words that say which players are asked for.
+const KEYWORDS: [(&[u8], Choice); 3] = [
+    (b"ready", Choice::Ready),
+    (b"playing", Choice::Playing),
+    (b"all", Choice::All),
+];
+
+/// The words that say which players are asked for, each with its bytes.
+fn keywords() -> &'static [(&'static [u8], Choice)] {
+    &KEYWORDS
+}
+
+/// What a word says that is one of them.
+fn choice_of(word: &[u8]) -> Option<Choice> {
+    for (name, choice) in keywords() {
+        if *name == word {
+            return Some(*choice);
+        }
+    }
+    None
+}
+
+/// Which players are asked for.
+#[derive(Clone, Copy)]
+pub struct Wanted<'a> {
+    /// The words that ask for them.
+    words: &'a [u8],
+    /// Only those who are ready, and play with nobody.
+    ready: bool,
+    /// Only those who play.
+    playing: bool,
+    /// Only those whose name begins with one of the words.
+    named: bool,
+    /// All of them, and not only a screen.
+    all: bool,
+}
+
+impl<'a> Wanted<'a> {
+    /// What words ask for: `ready`, `playing`, `all`, or how a name begins, in any order.
+    pub fn read(words: &'a [u8]) -> Wanted<'a> {
+        let mut wanted = Wanted {
+            words,
+            ready: false,
+            playing: false,
+            named: false,
+            all: false,
+        };
+        for word in words.split(|byte| *byte == b' ') {
+            match choice_of(word) {
+                Some(Choice::Ready) => wanted.ready = true,
+                Some(Choice::Playing) => wanted.playing = true,
+                Some(Choice::All) => wanted.all = true,
+                None => wanted.named |= !word.is_empty(),
+            }
+        }
+        wanted
+    }
+
+    /// Whether a player is asked for.
+    fn includes(&self, player: &Player) -> bool {
+        let plays = player.opponent.as_slice() != b"-".as_slice();
+        (!self.ready || player.ready && !plays)
+            && (!self.playing || plays)
+            && (!self.named || self.names(player.name.as_slice()))
+    }
+
+    /// Whether a name begins with one of the words.
+    fn names(&self, name: &[u8]) -> bool {
+        for word in self.words.split(|byte| *byte == b' ') {
+            if !word.is_empty() && choice_of(word).is_none() && begins_with(name, word) {
+                return true;
+            }
+        }
+        false
+    }
+}
+
+/// Whether a name begins with a word, in whatever letters.
+fn begins_with(name: &[u8], word: &[u8]) -> bool {
+    word.len() <= name.len() && name[..word.len()].eq_ignore_ascii_case(word)
+}
+
+/// How far a rating is from the user's own; if that is not known, from the best there can be.
+fn distance(rating: u32, own: Option<u32>) -> u32 {
+    match own {
+        Some(own) => rating.abs_diff(own),
+        None => u32::MAX - rating,
+    }
+}
+
+/// How near a player is, and the place in the directory.
+type Near = (u32, usize);
+
+/// Pushes each player who is asked for.
+fn push_wanted(
+    directory: &Directory,
+    wanted: Wanted<'_>,
+    own: Option<u32>,
+    found: &mut Vec<Near>,
+) -> Result<(), AllocError> {
+    for place in 0..directory.len() {
+        if let Some(player) = directory.at(place) {
+            if wanted.includes(player) {
+                found.push((distance(player.rating, own), place))?;
+            }
+        }
+    }
+    Ok(())
+}
+
+/// Appends a number at the right of its columns, after a space at least.
+fn append_right(number: u64, columns: usize, text: &mut Vec<u8>) -> Result<(), AllocError> {
+    let mut room = Buffer::new();
+    let digits = room.format(number).as_bytes();
+    for _ in digits.len()..columns.max(digits.len() + 1) {
+        text.extend_from_slice(b" ")?;
+    }
+    text.extend_from_slice(digits)
+}
+
+/// Appends a rating at the right of its columns, after a space.
+fn append_rating_right(rating: u32, text: &mut Vec<u8>) -> Result<(), AllocError> {
+    for least in LEAST_RATINGS {
+        if rating < least {
+            text.extend_from_slice(b" ")?;
+        }
+    }
+    text.extend_from_slice(b" ")?;
+    append_rating(text, rating)
+}
+
+/// Appends how long ago a player typed: in minutes, hours or days.
+fn append_idle(seconds: u64, text: &mut Vec<u8>) -> Result<(), AllocError> {
+    let (count, unit): (u64, &[u8]) = if seconds < 3600 {
+        (seconds / 60, b" m")
+    } else if seconds < 86_400 {
+        (seconds / 3600, b" h")
+    } else {
+        (seconds / 86_400, b" d")
+    };
+    append_right(count, IDLE_COLUMNS, text)?;
+    text.extend_from_slice(unit)
+}
+
+/// The first bytes of a name.
+fn first(name: &[u8], most: usize) -> &[u8] {
+    &name[..name.len().min(most)]
+}
+
+/// Appends the row of a player: name, rating, points played, how long idle, and what he does.
+fn append_row(player: &Player, text: &mut Vec<u8>) -> Result<(), AllocError> {
+    let start = text.len();
+    text.extend_from_slice(first(player.name.as_slice(), NAME_SHOWN))?;
+    pad_from(start, NAME_COLUMNS, text)?;
+    append_rating_right(player.rating, text)?;
+    append_right(player.experience, POINTS_COLUMNS, text)?;
+    append_idle(player.idle, text)?;
+    text.extend_from_slice(b"   ")?;
+    append_state(
+        first(player.opponent.as_slice(), OTHER_SHOWN),
+        first(player.watching.as_slice(), OTHER_SHOWN),
+        player.ready,
+        player.away,
+        text,
+    )?;
+    text.extend_from_slice(b"\n")
+}
+
+/// Appends a row for each of these players.
+fn append_rows(
+    found: &[Near],
+    directory: &Directory,
+    text: &mut Vec<u8>,
+) -> Result<(), AllocError> {
+    text.extend_from_slice(COLUMNS)?;
+    for (_, place) in found {
+        if let Some(player) = directory.at(*place) {
+            append_row(player, text)?;
+        }
+    }
+    Ok(())
+}
+
+/// Appends that nobody is asked for of so many players.
+fn append_nobody(count: usize, text: &mut Vec<u8>) -> Result<(), AllocError> {
+    if count == 0 {
+        return text.extend_from_slice(b"Nobody is listed: who asks for the list.\n");
+    }
+    text.extend_from_slice(b"Nobody of ")?;
+    append_count(count, text)?;
+    text.extend_from_slice(b".\n")
+}
+
+/// Appends how many more there are, and what to type for them.
+fn append_more(more: usize, words: &[u8], text: &mut Vec<u8>) -> Result<(), AllocError> {
+    text.extend_from_slice(b".. ")?;
+    text.extend_from_slice(Buffer::new().format(more).as_bytes())?;
+    text.extend_from_slice(b" more: players ")?;
+    if words.len() > MOST_SAID {
+        return text.extend_from_slice(b".. all\n");
+    }
+    if !words.is_empty() {
+        append_shown(words, false, text)?;
+        text.extend_from_slice(b" ")?;
+    }
+    text.extend_from_slice(b"all\n")
+}
+
+/// Appends by what the players are ordered.
+fn append_order(own: Option<u32>, text: &mut Vec<u8>) -> Result<(), AllocError> {
+    let Some(own) = own else {
+        return text.extend_from_slice(b"The best first:\n");
+    };
+    text.extend_from_slice(b"Nearest to your ")?;
+    append_rating(text, own)?;
+    text.extend_from_slice(b" first:\n")
+}
+
+/// Appends a row for each player who is asked for, at most a screen of them unless all are, and how many there are.
+/// Those whose rating is nearest to the user's own, in hundredths, come first; if that is not known, the best.
+///
+/// The words are `ready` (and plays with nobody), `playing`, `all`, and how names begin; without a word it is everybody.
+///
+/// Errors: if memory runs out.
+pub fn append_players(
+    alloc: Global,
+    directory: &Directory,
+    words: &[u8],
+    own: Option<u32>,
+    text: &mut Vec<u8>,
+) -> Result<(), AllocError> {
+    let wanted = Wanted::read(words);
+    let mut found = Vec::new(alloc);
+    push_wanted(directory, wanted, own, &mut found)?;
+    if found.is_empty() {
+        return append_nobody(directory.len(), text);
+    }
+    found.sort_by_key(|near| near.0)?;
+    if wanted.all || found.len() <= MOST_LISTED {
+        append_rows(found.as_slice(), directory, text)?;
+        append_count(found.len(), text)?;
+        return text.extend_from_slice(b".\n");
+    }
+    append_order(own, text)?;
+    append_rows(&found.as_slice()[..MOST_LISTED], directory, text)?;
+    append_more(found.len() - MOST_LISTED, words, text)
+}

@@ -1,0 +1,230 @@
+"""Lists of players, talk that is kept, and the commands of the server that are words of the terminal."""
+
+import os
+import pathlib
+import random
+import tempfile
+import time
+
+from escapes import BOARD, WELCOME, greeted, with_server
+from offers import ANN_BEGINS
+from people import Person, at_a_table, same
+from props.server import OWN_INFO, Server
+from seats import drawn
+
+SCENES = []
+
+# Ann is rated 1500.00.
+HEAD = 'player                  rating  points    idle   does'
+
+
+def scene(does):
+    """A decorator: the scene is one of those that are played."""
+    SCENES.append(does)
+    return does
+
+
+def listed(server, players):
+    """The server lists these players: name, opponent, rating, experience, idle, whether ready."""
+    for name, opponent, rating, points, idle, ready in players:
+        server.send('5 %s %s - %d 0 %.2f %d %d 1041253132 localhost - -' % (name, opponent, ready, rating, points, idle))
+    server.send('6')
+
+
+def rows_after(ann, typed, last, seconds=20):
+    """The rows that a typed line brings, up to one that ends so."""
+    ann.type(typed)
+    rows, end = [], time.monotonic() + seconds
+    while True:
+        row = ann.next_line(max(0.01, end - time.monotonic()))
+        if row != typed:
+            rows.append(row)
+        if row.endswith(last):
+            return rows
+
+
+@scene
+@with_server
+def players_are_listed_by_what_one_looks_for(server):
+    """At most a screen, near one's own rating first; in any letters; every row fits."""
+    ann = greeted(server)
+    listed(server, [('player%03d' % at, 'someone' if at % 3 == 0 else '-', 1000 + 5 * at, at, 60 * at, at % 2)
+                    for at in range(300)])
+    ann.reads('300 players: type players')
+    rows = rows_after(ann, 'players', 'all')
+    same('the first rows', rows[:3], ['Nearest to your 1500.00 first:', HEAD,
+                                      'player100              1500.00     100     1 h   not ready'])
+    same('how many', (len(rows), rows[-1]), (19, '.. 284 more: players all'))
+    rows = rows_after(ann, 'players ready', 'all')
+    same('who is ready and plays with nobody', rows[2],
+         'player101              1505.00     101     1 h   ready')
+    same('the others', rows[-1], '.. 84 more: players ready all')
+    rows = rows_after(ann, 'players playing', 'all')
+    same('who plays', rows[2], 'player099              1495.00      99     1 h   plays someone')
+    rows = rows_after(ann, 'players PLAYER00 player29', 'all')
+    same('by name', (rows[2].split(' ')[0], rows[-1]), ('player009', '.. 4 more: players PLAYER00 player29 all'))
+    rows = rows_after(ann, 'players player00 all', '10 players.')
+    same('a rating of three digits', [row for row in rows if row.startswith('player000')],
+         ['player000              1000.00       0     0 m   plays someone'])
+    same('nobody', rows_after(ann, 'players zoe', '.'), ['Nobody of 300 players.'])
+    rows = rows_after(ann, 'players all', '300 players.')
+    same('all', len(rows), 302)
+    same('every row fits', [row for row in ann.lines() if len(row) > 79], [])
+    ann.close()
+
+
+@scene
+@with_server
+def long_names_fit(server):
+    """Names of 64 bytes; numbers of as many digits as a player may have."""
+    ann = greeted(server)
+    listed(server, [('n' * 64, 'm' * 64, 99.99, 12345678, 864000, 1), ('bob', '-', 999.99, 7, 7200, 1)])
+    ann.reads('2 players: type players')
+    rows = rows_after(ann, 'players', '2 players.')
+    same('rows', rows, [HEAD, 'bob                     999.99       7     2 h   ready',
+                        'nnnnnnnnnnnnnnnnnnnn     99.99 12345678    10 d   plays mmmmmmmmmmmmmmmm', '2 players.'])
+    same('every row fits', [row for row in rows if len(row) > 79], [])
+    ann.close()
+
+
+@scene
+@with_server
+def talk_is_kept_and_answered(server):
+    """The last twenty rows of people; `re` answers who spoke to her last, and nobody else."""
+    ann = greeted(server, TZ='UTC')
+    ann.type('re hello')
+    ann.reads('re TEXT: answers the player who spoke to you last, if one has.')
+    same('no talk', rows_after(ann, 'talk', '.'), ['Nobody has talked yet.'])
+    for at in range(25):
+        server.send('13 dirk shout number %d' % at)
+    server.send('12 bob Good evening', '7 carl carl logs in.', '13 eve nice', 'dirk rolls 3 and 1.')
+    ann.reads('dirk rolls 3 and 1.')
+    rows = rows_after(ann, 'talk', 'eve shouts: nice')
+    same('how many', (len(rows), rows[0].endswith('dirk shouts: shout number 7')), (20, True))
+    same('who spoke to her', rows[-2].endswith('bob says: Good evening'), True)
+    ann.type('re you too')
+    ann.reads('sent tell bob you too')
+    same('what was sent', server.line(), 'tell bob you too')
+    ann.close()
+
+
+# What is a word of the terminal, and goes to the server as it is.
+PASSED = ['watch bob', 'unwatch', 'whois bob', 'away for tea', 'back', 'show saved', 'pip', 'redouble', 'leave']
+
+
+@scene
+@with_server
+def words_of_the_server_are_sent_as_they_are(server):
+    """Each is shown as sent, in the order in which it was typed, and once."""
+    ann = greeted(server)
+    for word in PASSED:
+        ann.type(word)
+        ann.reads('sent as it is: ' + word)
+        same('what was sent', server.line(), word)
+    ann.type('show ratings')
+    ann.reads('not a word of this client: send show ratings sends it as it is')
+    ann.type('quit')
+    ann.ends(0)
+    same('nothing else', server.line(), None)
+
+
+@scene
+@at_a_table(*ANN_BEGINS)
+def moves_are_listed_from_a_place_and_in_parts(table):
+    """At most twenty at once; `plays more` goes on; a new board begins anew."""
+    ann = table.ann
+    table.begins()
+    ann.advised('hint', 'move')
+    same('no place', rows_after(ann, 'plays here', '.'), ['plays, plays 24, plays bar, or plays more.'])
+    first = rows_after(ann, 'plays', '.')
+    same('with 3 and 1 there are', first[-1], '16 legal moves.')
+    from_24 = rows_after(ann, 'plays 24', '.')
+    same('from there', all(' 24-' in row for row in from_24[:-1]), True)
+    same('how many', (from_24[-1], sum(' 24-' in row for row in first)),
+         ('%d legal moves from there.' % (len(from_24) - 1), len(from_24) - 1))
+    same('none from the bar', rows_after(ann, 'plays bar', '.'), ['0 legal moves from there.'])
+
+
+@scene
+@at_a_table(*ANN_BEGINS)
+def a_move_is_looked_at_before_it_is_sent(table):
+    """`try` draws the board after the move, and sends nothing; `go` sends it, once, on that board alone."""
+    ann = table.ann
+    table.begins()
+    ann.advised('hint', 'move')
+    same('nothing was tried', rows_after(ann, 'go', 'first.'),
+         ['go sends the move that you tried on this board: try 8-5 6-5 shows it first.'])
+    same('no move', rows_after(ann, 'try roll', 'nothing.'),
+         ['try 8-5 6-5: shows the board after that move, and sends nothing.'])
+    ann.type('try 8/2 6/5')
+    ann.reads('[9 IllegalPlay]')
+    rows = rows_after(ann, 'try 8/5 6/5', 'move 8-5 6-5')
+    same('what is said', rows[-1], 'Not sent yet: go sends move 8-5 6-5')
+    # three were on 8 and five on 6
+    places = drawn([row for row in rows if row.startswith((' |', ' +'))])
+    same('checkers on 8, 6 and 5', [places[place] for place in (8, 6, 5)], [2, 4, 2])
+    same('nothing was sent', [row for row in ann.lines() if row.startswith('sent move')], [])
+    rows_after(ann, 'try 24/23 13/10', 'move 24-23 13-10')
+    ann.type('go')
+    ann.reads('sent move 24-23 13-10')
+    table.bob.sees('ann moves 24-23 13-10 .')
+    ann.type('go')
+    ann.reads('go sends the move that you tried on this board')
+
+
+SETTINGS = b'''# what I like
+quiet
+gag dirk
+no bell
+  words\r
+
+dance with me, and with everybody who is here tonight
+server localhost 4321 ann
+gag not a name
+'''
+
+
+@scene
+def own_settings_are_taken_and_what_is_none_is_said():
+    """Each line alone: a wrong one is named, and the others count."""
+    with tempfile.TemporaryDirectory() as folder:
+        path = os.path.join(folder, 'config')
+        pathlib.Path(path).write_bytes(SETTINGS)
+        server = Server()
+        ann = Person(server.port, FIBS_CONFIG=path, FIBS_QUIET='')
+        ann.reads('fibs: line 7 of the settings is not one: dance with me, and with every')
+        ann.reads('fibs: line 9 of the settings is not one: gag not a name')
+        server.accept()
+        server.line()
+        server.send(WELCOME, OWN_INFO % 'ann', '13 bob a shout', '12 dirk psst', '12 eve a word', BOARD)
+        ann.reads('eve says: a word')
+        ann.reads('You go down, from 24 to 1.')
+        same('what was hidden', [row for row in ann.lines() if 'psst' in row or 'shout' in row], [])
+        same('bells', b'\x07' in bytes(ann.seen), False)
+        ann.close()
+        server.close()
+
+
+@scene
+def settings_of_any_bytes_do_no_harm():
+    """Random bytes, a folder and a file that is too long: she plays all the same."""
+    with tempfile.TemporaryDirectory() as folder:
+        path = os.path.join(folder, 'config')
+        chance = random.Random(5)
+        for content in (bytes(chance.randrange(256) for _ in range(3000)), b'quiet\n' * 11000, None):
+            if content is None:
+                path = folder
+            else:
+                pathlib.Path(path).write_bytes(content)
+            server = Server()
+            ann = Person(server.port, FIBS_CONFIG=path)
+            server.accept()
+            server.line()
+            server.send(WELCOME, OWN_INFO % 'ann', '12 eve a word')
+            ann.reads('eve says: a word')
+            seen = set(bytes(ann.seen)) - set(range(32, 127)) - {10, 13}
+            same('bytes that a terminal obeys', sorted(seen), [])
+            if content is None or len(content) > 1 << 16:
+                same('unread', "fibs: the settings can't be read" in ann.lines(), True)
+            ann.close()
+            server.close()
