@@ -1,14 +1,14 @@
 //! Lines of the server are heard.
-ghost use Rattle.std.specs.Prelude.{◌≡◌, ◌∷◌, [], Option, option_map, IfSome, OnOk};
+ghost use Rattle.std.specs.Prelude.{◌≡◌, ◌∷◌, [], Option, IfSome, OnOk};
 ghost use Rattle.std.specs.Option.{option_copied};
 ghost use Rattle.fibs_position.specs.GameOf.{game_of};
 ghost use Rattle.fibs_exchange.specs.Turns.Answering.{IfPrinted, IfUnprinted};
 ghost use Rattle.std.specs.Io.KnownBytes.{Appends, Keeps};
 ghost use Rattle.fibs_messages.specs.Line.{reading_of, board_line};
 ghost use Rattle.fibs_session.specs.History.Machine.{Talk};
-ghost use Rattle.fibs_session.specs.Calls.SessionOf.{ask_of, taken_of};
+ghost use Rattle.fibs_session.specs.Calls.SessionOf.{taken_of};
 ghost use Rattle.fibs_session.specs.Calls.Standing.{StandsAfter};
-ghost use Rattle.fibs_exchange.specs.Turns.Lines.{phase_told, confirmed_told, rolled_told, messages_in, taken_act};
+ghost use Rattle.fibs_exchange.specs.Turns.Lines.{phase_told, messages_in, taken_act};
 ghost use Rattle.fibs_exchange.specs.Turns.Script.{Did, Notes, OnlyWhoRefused, outside, directory_told, noted_unless};
 ghost use Rattle.fibs_exchange.specs.Turns.Turn.{Talked, FedToALine};
 ghost use Rattle.fibs_directory.specs.declared.fault.DirectoryFault.{DirectoryFault};
@@ -22,7 +22,7 @@ use fibs_front::front::Front;
 use fibs_front::said::Said;
 use fibs_messages::Reading;
 use fibs_position::GameBoard;
-use fibs_session::{Client, Directory, Outstanding, Taken};
+use fibs_session::{Client, Directory, Taken};
 
 /// The board of the user's game that a reading says, with its position. The client has it, since it has heard the line.
 fn game_in<'a>(client: &'a Client, reading: &Reading<'_>) -> Option<&'a GameBoard>
@@ -41,20 +41,7 @@ fn game_in<'a>(client: &'a Client, reading: &Reading<'_>) -> Option<&'a GameBoar
     }
 }
 
-/// Reports the board that a reading says, if it is good.
-fn tell_other<F: Front>(reading: &Reading<'_>, front: &mut F) -> Result<(), ExchangeFault>
-    ensures { OnOk result (F.tells front.old (phase_told (reading_of reading.now)) front.new) }
-{
-    match reading {
-        Reading::Board(board) => match GameBoard::of(board) {
-            Ok(game) => front.tell(&Said::Game(&game)),
-            Err(_) => Ok(()),
-        },
-        Reading::Numbered(_) | Reading::Text(_) | Reading::Malformed { .. } => Ok(()),
-    }
-}
-
-/// The same, if the client may have the board with its position.
+/// Reports the board that a reading says, if it is good. The client may have it with its position.
 fn tell_game<F: Front>(
     game: Option<&GameBoard>,
     reading: &Reading<'_>,
@@ -63,33 +50,16 @@ fn tell_game<F: Front>(
     requires { IfSome (option_copied game) (λ game. board_line (game_of game) ≡ reading_of reading.now) }
     ensures { OnOk result (F.tells front.old (phase_told (reading_of reading.now)) front.new) }
 {
-    match game {
-        Some(game) => front.tell(&Said::Game(game)),
-        None => tell_other(reading, front),
+    if let Some(game) = game {
+        return front.tell(&Said::Game(game));
     }
-}
-
-/// Reports the decision that is confirmed.
-fn tell_confirmed<F: Front>(
-    confirmed: &Option<Outstanding>,
-    front: &mut F,
-) -> Result<(), ExchangeFault>
-    ensures { OnOk result (F.tells front.old (confirmed_told (option_map ask_of confirmed.now)) front.new) }
-{
-    match confirmed {
-        None => Ok(()),
-        Some(asked) => front.tell(&Said::Confirmed(asked)),
+    match reading {
+        Reading::Board(board) => match GameBoard::of(board) {
+            Ok(game) => front.tell(&Said::Game(&game)),
+            Err(_) => Ok(()),
+        },
+        Reading::Numbered(_) | Reading::Text(_) | Reading::Malformed { .. } => Ok(()),
     }
-}
-
-/// Reports that a standing order sent its `roll`.
-fn tell_rolled<F: Front>(rolled: bool, front: &mut F) -> Result<(), ExchangeFault>
-    ensures { OnOk result (F.tells front.old (rolled_told rolled) front.new) }
-{
-    if rolled {
-        return front.tell(&Said::Rolled);
-    }
-    Ok(())
 }
 
 /// Reports a line, and what it calls for.
@@ -103,8 +73,14 @@ fn tell_taken<F: Front>(
     let game = game_in(client, &taken.reading);
     front.tell(&Said::Heard(&taken.line, &taken.reading, game))?;
     tell_game(game, &taken.reading, front)?;
-    tell_confirmed(&taken.confirmed, front)?;
-    tell_rolled(taken.rolled, front)
+    match &taken.confirmed {
+        None => {}
+        Some(asked) => front.tell(&Said::Confirmed(asked))?,
+    }
+    if !taken.rolled {
+        return Ok(());
+    }
+    front.tell(&Said::Rolled)
 }
 
 /// Gives the directory a message. If the directory takes no note, reports why to the front end.

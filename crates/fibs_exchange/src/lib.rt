@@ -153,18 +153,8 @@ pub fn talk_offline<F: Front>(
     }
 }
 
-/// A turn with the plain account: the typed line is answered, and then what the server sends is heard, until a
-/// read would wait or timed out (`Quiet`), or the connection is over (`Lost`). It reads at most 4096 times, at most
-/// 1024 bytes at once.
-///
-/// A stream is given exactly if the client is online; without one nothing is read. A typed line is a decision in the
-/// place numbers of the board shown, else a plain command, else a standing order to roll or its withdrawal. For each
-/// line the commands that it calls for are written first, the `roll` of a standing order that it makes due among them;
-/// then it is printed, then the directory notes it. Only the directory takes memory: what it refuses is printed.
-///
-/// Errors: `Output` if what is printed can't be written. The client is then as after its last finished call: it made
-/// the typed call, then it was fed what was read, all of it or up to the end of the line that is not printed, and then
-/// it lost its connection, if that is what is not printed. The commands of these calls are written.
+/// The same with the plain account, and without a stream if the client is offline: a stream is given exactly if it is
+/// online. What is reported to a front end is printed on `out`.
 pub fn exchange<S: Link, W: Write>(
     client: &mut Client,
     directory: &mut Directory,

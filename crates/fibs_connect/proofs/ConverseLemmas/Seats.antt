@@ -19,7 +19,7 @@ use Rattle.fibs_exchange.specs.declared.Ending.TheVariants.{Quiet, Lost}
 use Rattle.fibs_engine.specs.Writing.{Broken}
 use Rattle.fibs_exchange.specs.Turns.Turn.{FitsStream, LeavesAs, TurnedBy, is_there, still_given}
 use Rattle.fibs_exchange.proofs.TurnLemmas.Turns.{loses_offline}
-use Rattle.fibs_exchange.proofs.TurnLemmas.Hearing.{open_append}
+use Rattle.fibs_history.proofs.Past.{open_append}
 
 -- offline it opens
 opens_online : (t : Talk) → is_online t ≡ false → is_online (step t Open).talk ≡ true

@@ -6,49 +6,20 @@ use Rattle.std.proofs.Math.Seq.{take-append-add, take-add, drop-append_seam, dro
 use Rattle.std.proofs.lemmas.List.{nil_from_length}
 use Rattle.fibs_lines.specs.Lines.{ReadLine, lines_of}
 use Rattle.fibs_lines.specs.StreamLaws.{LinesOnlyGrow}
-use Rattle.fibs_boards.specs.Board.{BoardFields}
-use Rattle.fibs_messages.specs.Line.{ReadingValue, numbered_line, board_line, text_line, malformed_line}
-use Rattle.fibs_position.specs.GoodBoard.{good}
-use Rattle.fibs_session.specs.History.Log.{Entry, Opened, Lost, Shown}
-use Rattle.fibs_session.specs.History.Words.{open_from, open_now}
-use Rattle.fibs_session.specs.History.Hearing.{Heard, heard, nothing_heard, line_reading, shown_entries}
-use Rattle.fibs_session.specs.History.Orders.{is_due}
+use Rattle.fibs_session.specs.History.Log.{Entry}
+use Rattle.fibs_session.specs.History.Words.{open_now}
+use Rattle.fibs_session.specs.History.Hearing.{Heard, heard, nothing_heard, line_reading}
 use Rattle.fibs_session.specs.History.Machine.{Talk, Step, Piece, step, stays, is_online, hears, hears_all}
 use Rattle.fibs_session.specs.History.Machine.{heard_by, with_bytes, gained}
 use Rattle.fibs_session.specs.Calls.Standing.{ClientValue, StandsAfter}
 use Rattle.fibs_session.specs.Calls.Feeding.{FeedAnswers, Gains, in_list}
 use Rattle.fibs_session.specs.Calls.SessionOf.{TakenValue}
+use Rattle.fibs_history.proofs.Joins.{hears_open}
 use Rattle.fibs_exchange.specs.Turns.Acts.{Act}
 use Rattle.fibs_exchange.specs.Turns.Lines.{heard_act, taken_act, line_act, line_acts, piece_acts}
 use Rattle.fibs_exchange.specs.Turns.Turn.{EndsALine}
 
 -- ---- no line opens or loses a connection
-
-pub open_append : (o : ℕ) (xs ys : List Entry) → open_from o (xs ++ ys) ≡ open_from (open_from o xs) ys
-open_append o [] ys = refl
-open_append o (Opened c ∷ xs) ys = open_append c xs ys
-open_append o (Lost c u ∷ xs) ys = open_append 0 xs ys
-open_append o (e ∷ xs) ys = open_append o xs ys
-
-if_open : (b : Bool) (g h : Heard) (o : ℕ) → open_from o g.entries ≡ o → open_from o h.entries ≡ o
-    → open_from o (if b then g else h).entries ≡ o
-if_open true g h o e f = e
-if_open false g h o e f = f
-
-shown_open : (c : ℕ) (b : BoardFields) (rolls : Bool) (o : ℕ) → open_from o (shown_entries c b rolls) ≡ o
-shown_open c b true o = refl
-shown_open c b false o = refl
-
-heard_open : (c : ℕ) (log : List Entry) (r : ReadingValue) (o : ℕ) → open_from o (heard c log r).entries ≡ o
-heard_open c log (numbered_line m) o = if_open (nat_eq m.number 1) _ _ o refl
-    (if_open (nat_eq m.number 2) _ _ o refl refl)
-heard_open c log (board_line b) o =
-    if_open (good b) _ _ o (shown_open c b (is_due c (log ++ Shown c b ∷ []) b) o) refl
-heard_open c log (text_line text) o = refl
-heard_open c log (malformed_line number k f) o = refl
-
-hears_open : (t : Talk) (r : ReadingValue) → open_now (t.log ++ (heard_by t r).entries) ≡ open_now t.log
-hears_open t r = open_append 0 t.log (heard_by t r).entries ∙ heard_open (open_now t.log) t.log r (open_now t.log)
 
 all_open : (t : Talk) (ls : List ReadLine) → open_now (hears_all t ls).talk.log ≡ open_now t.log
 unfolding hears_all

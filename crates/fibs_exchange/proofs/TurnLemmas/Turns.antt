@@ -23,9 +23,10 @@ use Rattle.fibs_exchange.specs.Turns.Turn.{still_given}
 use Rattle.fibs_exchange.specs.Turns.Typing.{talk_after, typed_step, typed_act}
 use Rattle.fibs_typed.specs.Typing.{typed_now}
 use Rattle.fibs_exchange.proofs.TurnLemmas.Scripts.{did_nothing, did_joined, did_kept, did_same}
-use Rattle.fibs_exchange.proofs.TurnLemmas.Hearing.{open_append, piece_online, piece_stream, no_acts, acts_join}
+use Rattle.fibs_exchange.proofs.TurnLemmas.Hearing.{piece_online, piece_stream, no_acts, acts_join}
 use Rattle.fibs_exchange.proofs.TurnLemmas.Hearing.{ends_joined}
 use Rattle.fibs_exchange.proofs.TurnLemmas.Typed.{typed_stays}
+use Rattle.fibs_history.proofs.Past.{open_append}
 
 -- these bytes were fed to a client that stood after t, and all that their lines call for was done
 pub record Gone {F : Type 0} (Tells : F → List SaidValue → F → Type 0) (t : Talk) (now : ClientValue) (bytes : List ℕ)

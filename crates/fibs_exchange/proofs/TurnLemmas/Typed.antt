@@ -22,7 +22,7 @@ use Rattle.fibs_exchange.specs.Turns.Script.{Did, Notes, outside}
 use Rattle.fibs_typed.specs.Typing.{TypedValue, typed_decision, typed_plain, typed_order, typed_withdrawal}
 use Rattle.fibs_exchange.specs.Turns.Typing.{typed_step, typed_act}
 use Rattle.fibs_typed.specs.Typing.{typed_none}
-use Rattle.fibs_exchange.proofs.TurnLemmas.Hearing.{open_append}
+use Rattle.fibs_history.proofs.Past.{open_append}
 use Rattle.fibs_exchange.proofs.TurnLemmas.Scripts.{did_alone, did_part, notes_nothing}
 
 -- it reads no byte, and neither opens nor loses

@@ -6,17 +6,39 @@ use Rattle.fibs_session.specs.Calls.SessionOf.{ask_of}
 use Rattle.fibs_front.specs.Told.{heard_said}
 use Rattle.fibs_exchange.specs.Turns.Lines.{phase_told, confirmed_told, rolled_told}
 use Rattle.fibs_engine.proofs.OkLemmas.{on_ok_weaker}
+use Rattle.fibs_exchange.proofs.hearing.tell_taken.Goals.{in-Some+in_ok-tell-in-Some, in-None}
 use Rattle.fibs_exchange.proofs.hearing.tell_taken.Goals as goal
 
-pub returns : goal.returns
-returns g c =
-    let joined = g.met.F.Front.joins.joined in
+-- no roll was sent
+pub returns-then-not-taken : goal.returns-then-not-taken
+returns-then-not-taken g c =
+    let joins = g.met.F.Front.joins in
     let taken = c.args.taken.now in
     let heard = heard_said (value_of taken.line) (reading_of taken.reading) ∷ [] in
     let phase = phase_told (reading_of taken.reading) in
     let confirmed = confirmed_told (option_map ask_of taken.confirmed) in
+    let confirms : g.F.Front.tells c.tell_game.new.front confirmed c.match-taken.front = elim c.match-taken.branch [
+      | in-Some+in_ok-tell-in-Some w ↦ rw (w.front-is, w.in-Some.is) w.in_ok-tell-in-Some.ensures
+      | in-None w ↦ rw (w.front-is, w.in-None.is) (joins.nothing _)
+    ] in
+    rw c.if-not-taken.true (joins.joined _ _ _ heard (phase ++ (confirmed ++ [])) c.in_ok-tell.ensures
+    (joins.joined _ _ _ phase (confirmed ++ []) c.in_ok-tell_game.ensures
+    (joins.joined _ _ _ confirmed [] confirms (joins.nothing _))))
+
+-- a roll was sent
+pub returns : goal.returns
+returns g c =
+    let joins = g.met.F.Front.joins in
+    let taken = c.args.taken.now in
+    let heard = heard_said (value_of taken.line) (reading_of taken.reading) ∷ [] in
+    let phase = phase_told (reading_of taken.reading) in
+    let confirmed = confirmed_told (option_map ask_of taken.confirmed) in
+    let confirms : g.F.Front.tells c.tell_game.new.front confirmed c.match-taken.front = elim c.match-taken.branch [
+      | in-Some+in_ok-tell-in-Some w ↦ rw (w.front-is, w.in-Some.is) w.in_ok-tell-in-Some.ensures
+      | in-None w ↦ rw (w.front-is, w.in-None.is) (joins.nothing _)
+    ] in
     let rolled = rolled_told taken.rolled in
-    on_ok_weaker c.tell_rolled.result
-    (λ last. joined _ _ _ heard (phase ++ (confirmed ++ rolled)) c.in_ok-tell.ensures
-    (joined _ _ _ phase (confirmed ++ rolled) c.in_ok-tell_game.ensures
-    (joined _ _ _ confirmed rolled c.in_ok-tell_confirmed.ensures last))) c.tell_rolled.ensures
+    on_ok_weaker c.tell-2.result
+    (λ last. joins.joined _ _ _ heard (phase ++ (confirmed ++ rolled)) c.in_ok-tell.ensures
+    (joins.joined _ _ _ phase (confirmed ++ rolled) c.in_ok-tell_game.ensures
+    (joins.joined _ _ _ confirmed rolled confirms (rw c.if-not-taken.false last)))) c.tell-2.ensures
