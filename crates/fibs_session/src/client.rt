@@ -188,7 +188,7 @@ impl Client {
         ensures progress { 0 < length piece.now → 0 < result.used }
         ensures reads { ReadsPiece self.old self.new piece.now result }
     {
-        if !self.session.is_online() {
+        if !self.session.online {
             return HeardLine {
                 used: piece.len(),
                 answer: None,

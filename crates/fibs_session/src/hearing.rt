@@ -11,7 +11,7 @@ ghost use Rattle.fibs_position.specs.GameOf.{game_of};
 ghost use Rattle.fibs_commands.specs.Commands.{command_of};
 ghost use Rattle.fibs_history.specs.Words.{one_if};
 ghost use Rattle.fibs_messages.specs.declared.message.Message.TheVariants.{OwnInfo as TheOwnInfo};
-ghost use Rattle.fibs_session.specs.Calls.FieldSteps.{message_fields, heard_fields, with_board, confirmed_of};
+ghost use Rattle.fibs_session.specs.Calls.FieldSteps.{message_fields, with_board, confirmed_of};
 ghost use Rattle.fibs_session.specs.Calls.FieldSteps.{line_fields, unheard, with_roll, due_of};
 ghost use Rattle.fibs_session.specs.Calls.SessionValue.{SessionValue};
 ghost use Rattle.fibs_history.specs.Hearing.{initial_commands, line_reading};
@@ -177,28 +177,6 @@ impl Session {
         }
     }
 
-    /// What a reading says, online.
-    #[inline(always)]
-    fn note(&mut self, reading: &Reading<'_>) -> Reply
-        ensures fields { session_of self.new ≡ (heard_fields (session_of self.old) (reading_of reading.now)).session }
-        ensures send { texts_of result.send.items
-            ≡ (heard_fields (session_of self.old) (reading_of reading.now)).send }
-        ensures confirmed { option_map ask_of result.confirmed ≡
-            (heard_fields (session_of self.old) (reading_of reading.now)).confirmed }
-        ensures rolled { result.rolled ≡ (heard_fields (session_of self.old) (reading_of reading.now)).rolled }
-    {
-        match reading {
-            Reading::Numbered(message) => Reply::of(self.note_message(message)),
-            Reading::Board(board) => {
-                let Ok(heard) = GameBoard::of(board) else {
-                    return Reply::of(ArrayVec::new());
-                };
-                self.note_shown(&heard)
-            }
-            Reading::Text(_) | Reading::Malformed { .. } => Reply::of(ArrayVec::new()),
-        }
-    }
-
     /// What a reading says. Offline it says nothing.
     #[inline(always)]
     pub(crate) fn note_line(&mut self, reading: &Reading<'_>) -> Reply
@@ -212,6 +190,15 @@ impl Session {
         if !self.online {
             return Reply::of(ArrayVec::new());
         }
-        self.note(reading)
+        match reading {
+            Reading::Numbered(message) => Reply::of(self.note_message(message)),
+            Reading::Board(board) => {
+                let Ok(heard) = GameBoard::of(board) else {
+                    return Reply::of(ArrayVec::new());
+                };
+                self.note_shown(&heard)
+            }
+            Reading::Text(_) | Reading::Malformed { .. } => Reply::of(ArrayVec::new()),
+        }
     }
 }

@@ -12,12 +12,12 @@ ghost use Rattle.fibs_session.specs.Calls.Doing.{SessionDoes, SessionHears};
 ghost use Rattle.fibs_session.specs.Calls.Standing.{SessionStandsAfter};
 ghost use Rattle.fibs_history.specs.Hearing.{line_reading};
 ghost use Rattle.fibs_history.specs.Machine.{Talk, start, Open, Lose, Click, PlainInput, open_refusal};
-ghost use Rattle.fibs_history.specs.Machine.{unconfirmed_now, answer_now, plain_refusal, shown_now, is_online};
+ghost use Rattle.fibs_history.specs.Machine.{unconfirmed_now, answer_now, plain_refusal, shown_now};
 ghost use Rattle.fibs_history.specs.Machine.{Order, Withdraw, order_refusal, withdraw_refusal, ordered_now};
 ghost use Rattle.fibs_commands.specs.LoginOf.{login_of};
 ghost use Rattle.fibs_commands.specs.PlainOf.{plain_value};
 
-use crate::hearing::{Reply, is_unheard, read_line};
+use crate::hearing::{Reply, read_line};
 use crate::taken::{Outstanding, Taken};
 use fibs_commands::{CommandText, Login, Plain};
 use fibs_history::{PlainRefusal, Refusal};
@@ -113,16 +113,6 @@ impl Session {
         }
     }
 
-    /// Whether a line is a message that changes nothing and is answered by nothing. Its fields are not read.
-    #[inline(always)]
-    pub(crate) fn leaves(&self, line: &Line<'_>) -> bool
-        ensures { result ≡ true →
-            SessionHears (session_of self.now) (session_of self.now) (value_of line.now) [] None false }
-    {
-        laws::same_game_is_a_likeness();
-        is_unheard(line)
-    }
-
     /// Decides on the board shown, and hands out the command. The decision then waits.
     ///
     /// The first refusal of: `Offline`; `NotReady`, if message 1 or message 2 is still to come on this connection;
@@ -211,13 +201,5 @@ impl Session {
             option_map ask_of (option_copied result) ≡ unconfirmed_now t }
     {
         self.waiting.as_ref()
-    }
-
-    /// Whether a connection is open.
-    pub(crate) fn is_online(&self) -> bool
-        ensures online { result ≡ (session_of self.now).online }
-        ensures after { (t : Talk) → SessionStandsAfter (session_of self.now) t → result ≡ is_online t }
-    {
-        self.online
     }
 }

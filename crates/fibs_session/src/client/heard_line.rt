@@ -7,11 +7,13 @@ ghost use Rattle.fibs_session.specs.Calls.Doing.{SessionHears};
 ghost use Rattle.fibs_session.specs.declared.client.owned_reading.OwnedReading.TheVariants.{Numbered};
 
 use super::owned_reading::OwnedReading;
+use crate::hearing::is_unheard;
 use crate::session::Session;
 use crate::taken::{Outstanding, Taken};
 use arrayvec::ArrayVec;
 use fibs_commands::AnswerText;
 use fibs_lines::Line;
+use fibs_position::laws;
 
 /// The answer to a line, without the line.
 #[derive(Drop)]
@@ -33,7 +35,8 @@ impl Answer {
             (texts_of result.send.items) (option_map ask_of result.confirmed) result.rolled }
         ensures reading { lent_reading result.reading (value_of line.now) ≡ line_reading (value_of line.now) }
     {
-        if session.leaves(line) {
+        laws::same_game_is_a_likeness();
+        if is_unheard(line) {
             return Answer::nothing();
         }
         let Taken {
