@@ -77,15 +77,6 @@ impl<S: Link + Drop> Paced<S> {
         self.asked = !self.greeted && self.lines.unfinished().ends_with(LOGIN_PROMPT);
     }
 
-    /// Reads once.
-    fn receive_heard(&mut self, buf: &mut [u8]) -> io::Result<usize>
-        ensures { ReadsAtMost result buf.new }
-    {
-        let count = self.stream.receive(buf)?;
-        self.hear(&buf[..count]);
-        Ok(count)
-    }
-
     /// Gives what was kept, or as much of it as there is room for.
     fn give_kept(&mut self, buf: &mut [u8]) -> usize
         ensures room { result ≤ length buf.new }
@@ -148,7 +139,9 @@ impl<S: Link + Drop> Paced<S> {
         if self.asked {
             return self.receive_answer(buf);
         }
-        self.receive_heard(buf)
+        let count = self.stream.receive(buf)?;
+        self.hear(&buf[..count]);
+        Ok(count)
     }
 }
 
