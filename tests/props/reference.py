@@ -214,7 +214,8 @@ class Board:
             return 'OpponentActs'
         if not fields[34] and not fields[35]:
             return 'RollOrDouble'
-        ways = [target_of(self.position(), source, die) for die in set(self.dice()) for source in range(1, 26)]
+        position = self.position()
+        ways = [target_of(position, source, die) for die in set(self.dice()) for source in range(1, 26)]
         return 'Passing' if set(ways) <= {None} else 'Move'
 
     def cube_allows(self, decision):
