@@ -2,6 +2,8 @@
 //! JSON. `index.js` calls them, and no other program. A byte is the character of its number in both directions, since a
 //! line of the server may have any bytes.
 
+#[cfg(feature = "engines")]
+mod engines;
 mod json;
 
 use fibs::{
