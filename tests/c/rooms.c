@@ -97,6 +97,23 @@ static void check_handles(void) {
     }
 }
 
+/* A reader that is asked for again goes on with its line. One that is reset begins a stream, also within a command of
+ * telnet, of which it holds no byte. */
+static void check_readers(void) {
+    fibs_lines lines = NULL;
+    fibs_fed fed = { 0 };
+    check(fibs_lines_new(&lines) == S(DONE)
+          && fibs_lines_feed(&lines, TEXT("ab"), text, sizeof text, &fed) == S(DONE) && fed.ended == 0, "half a line");
+    check(fibs_lines_new(&lines) == S(HELD)
+          && fibs_lines_feed(&lines, TEXT("c\n"), text, sizeof text, &fed) == S(DONE) && fed.ended == 1
+          && fed.len == 3 && memcmp(text, "abc", 3) == 0, "the reader that is held goes on");
+    check(fibs_lines_feed(&lines, TEXT("\377\373"), text, sizeof text, &fed) == S(DONE)
+          && fibs_lines_reset(&lines) == S(DONE), "a reset within a command of telnet");
+    check(fibs_lines_feed(&lines, TEXT("a\n"), text, sizeof text, &fed) == S(DONE) && fed.ended == 1
+          && fed.len == 1 && text[0] == 'a', "no byte of the next stream is lost");
+    fibs_lines_free(&lines);
+}
+
 static void check_logins(void) {
     fibs_client client = NULL;
     char wide[66];
@@ -290,6 +307,7 @@ static void check_players(void) {
 
 int main(void) {
     check_handles();
+    check_readers();
     check_logins();
     check_rooms();
     check_texts();

@@ -1,10 +1,10 @@
-"""Scenes of what is refused: a login, a connection, a word that the client does not have; and of a server that plays by
-itself."""
+"""Scenes of what is refused: a login, a connection, a word that the client does not have; and of a server, or a client,
+that plays by itself."""
 
 import time
 
 from people import PASSWORD, Client, Failed, Person, Served, at_a_table, near_and_far, same
-from offers import ANN_BEGINS
+from offers import ANN_BEGINS, BOB_BEGINS
 from words import read
 
 SCENES = []
@@ -153,6 +153,22 @@ def by_itself(*turned_on):
 by_itself('automove')
 by_itself('greedy')
 by_itself('automove', 'greedy')
+
+
+# -- a client that rolls by itself -----------------------------------------------------------------------------------
+
+@near_and_far(SCENES, *BOB_BEGINS)
+def a_standing_order(table):
+    """To one point she may not double: the client rolls for her when it is her turn, until she withdraws the order."""
+    table.begins(points=1)
+    table.ann.type('order roll')
+    table.ann.reads('ordered: the client rolls if you may not double')
+    table.bob.sees('Please move ..')
+    table.bob.send('move 17-20 19-20')
+    table.ann.reads('sent roll, as ordered')
+    table.bob.sees('ann rolls ..')
+    table.ann.type('withdraw roll')
+    table.ann.reads('withdrawn: you roll yourself')
 
 
 # -- words -----------------------------------------------------------------------------------------------------------
