@@ -33,6 +33,7 @@ pub const WRITTEN: &[(&str, &str)] = &[
     ("fn reserve(", "fn may_reserve("),
     ("Box::new(", "crate::rattle::may::may_box("),
     ("Vec::from_elem(", "crate::rattle::may::may_from_elem("),
+    ("Simd::from_slice(&text[at..])", "Simd::from_place(text, at)"),
     ("format!(in alloc; ", "crate::rattle::may_format!("),
     (".write_fmt($)", ".write_fmt(format_args!(\"{$}\"))"),
     ("<Global>", ""),

@@ -252,6 +252,13 @@ pub mod simd {
             Simd(*items.first_chunk::<N>().unwrap())
         }
 
+        /// The items from a place on: `from_slice(&items[at..])` by one comparison.
+        #[inline(always)]
+        pub fn from_place(items: &[T], at: usize) -> Self {
+            assert!(items.len() >= N && at <= items.len() - N);
+            Simd(*items[at..].first_chunk::<N>().unwrap())
+        }
+
         #[inline(always)]
         pub fn to_array(self) -> [T; N] {
             self.0
