@@ -5,18 +5,14 @@ mod eraser;
 #[path = "build/library.rs"]
 mod library;
 
-use library::{BY_HAND, CRATES, TESTS, attributes};
+use library::{BY_HAND, CRATES, attributes};
 use std::env;
 use std::path::PathBuf;
 use std::process::exit;
 
 fn main() {
     let is_wanted = |feature: &str| feature.is_empty() || env::var_os(format!("CARGO_FEATURE_{feature}")).is_some();
-    let mut crates: Vec<&str> =
-        CRATES.iter().filter(|part| is_wanted(part.0)).flat_map(|part| part.1).copied().collect();
-    if env::var_os("FIBS_RATTLE_TESTS").is_some() && is_wanted("MODEL") {
-        crates.extend(TESTS);
-    }
+    let crates: Vec<&str> = CRATES.iter().filter(|part| is_wanted(part.0)).flat_map(|part| part.1).copied().collect();
     let plan = eraser::Plan { crates: &crates, by_hand: BY_HAND, contracts: true, attributes };
     let root = PathBuf::from(env::var_os("CARGO_MANIFEST_DIR").unwrap_or_default());
     let sources = library::sources(&root);
@@ -25,7 +21,6 @@ fn main() {
         eprintln!("{why}");
         exit(1);
     }
-    println!("cargo::rerun-if-env-changed=FIBS_RATTLE_TESTS");
     for name in crates {
         println!("cargo::rerun-if-changed={}", sources.join(name).join("src").display());
     }

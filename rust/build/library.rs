@@ -28,9 +28,6 @@ pub const CRATES: &[(&str, &[&str])] = &[
     ("C", &["fibs_typed", "fibs_records", "fibs_c"]),
 ];
 
-/// Tests that are written in Rattle, which `tests/rust` of the repository runs too.
-pub const TESTS: &[&str] = &["fibs_test_tools", "fibs_replay_tests"];
-
 /// What is written by hand in place of a file: what works with sockets is left out, and handles of C are pointers.
 pub const BY_HAND: &[(&str, &str, &str)] = &[
     ("fibs_carrier", "lib", "mod carrier;\npub use carrier::{Broken, Carrier, InMemory, Way};\n"),
@@ -48,19 +45,10 @@ pub const BY_HAND: &[(&str, &str, &str)] = &[
     ("fibs_records", "lines_handle", "pub use crate::handles::LinesHandle;\n"),
     ("fibs_records", "loose", ""),
     ("fibs_replay", "play_loop", ""),
-    ("fibs_replay_tests", "play_loop", ""),
-    ("fibs_replay_tests", "replay", ""),
-    ("fibs_replay_tests", "scripts", ""),
-    ("fibs_test_tools", "devices", ""),
-    ("fibs_test_tools", "named", ""),
-    ("fibs_test_tools", "outcome", ""),
-    ("fibs_test_tools", "pipe", ""),
-    ("fibs_test_tools", "stumbling", ""),
 ];
 
 /// What a module is allowed: items that are not used from here, another style; the functions for C also pointers.
 pub fn attributes(name: &str) -> String {
     let of_c = if name == "fibs_c" { ", unused_mut, unsafe_code" } else { "" };
-    let of_tests = if TESTS.contains(&name) { "#[cfg(test)]\n" } else { "" };
-    format!("{of_tests}#[allow(dead_code, unused_imports, unused_variables, clippy::all{of_c})]")
+    format!("#[allow(dead_code, unused_imports, unused_variables, clippy::all{of_c})]")
 }

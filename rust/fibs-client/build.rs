@@ -12,6 +12,9 @@ use std::process::exit;
 /// The crate of the program.
 const PROGRAM: &str = "fibs";
 
+/// What the tests share.
+const OF_TESTS: &str = "fibs_test_tools";
+
 /// Where `--version` has its text, what it says of the program that is proved, and what is true of this one.
 const VERSION: (&str, &str, &str) = ("fibs_arguments/arguments.rs", "(proved with ", "(built from the proved text, ");
 
@@ -28,7 +31,7 @@ fn erase() -> Result<(), String> {
     let list = root.join("crates.txt");
     let text = fs::read_to_string(&list).map_err(|why| format!("{}: {why}", list.display()))?;
     let crates = used_by(PROGRAM, &text);
-    let crates: Vec<&str> = crates.iter().map(String::as_str).collect();
+    let crates: Vec<&str> = crates.iter().map(String::as_str).chain([OF_TESTS]).collect();
     let plan = eraser::Plan { crates: &crates, by_hand: &[], contracts: false, attributes };
     eraser::erase_all(&root.join("crates"), &out, &plan)?;
     say_version(&out)?;
@@ -59,8 +62,9 @@ fn used_by(program: &str, list: &str) -> Vec<String> {
 }
 
 /// What a module is allowed: items that are not used from here, another style, and one call of C.
-fn attributes(_name: &str) -> String {
-    "#[allow(dead_code, unused_imports, unused_variables, unused_mut, clippy::all)]".into()
+fn attributes(name: &str) -> String {
+    let of_tests = if name == OF_TESTS { "#[cfg(test)]\n" } else { "" };
+    format!("{of_tests}#[allow(dead_code, unused_imports, unused_variables, unused_mut, clippy::all)]")
 }
 
 /// Makes `--version` say that this program is not the one that is proved.

@@ -62,6 +62,8 @@ mod people;
 mod rattle;
 #[cfg(feature = "serde")]
 mod serde;
+#[cfg(all(test, feature = "model"))]
+mod tests;
 
 pub use client::{Client, Heard};
 pub use fibs_commands::{

@@ -27,8 +27,6 @@ pub mod alloc {
 
     /// Those who have it, in the sources.
     pub trait AllocGlobal {}
-    #[cfg(test)]
-    impl AllocGlobal for super::HostRuntime {}
 }
 
 pub mod cell {
@@ -196,31 +194,6 @@ pub mod may {
         Ok(Box::new(value))
     }
 }
-
-/// What Rattle's tests use of its runtime.
-#[cfg(test)]
-mod runtime {
-    #[derive(Clone, Copy)]
-    pub struct HostRuntime;
-
-    pub mod process {
-        pub trait Abort {}
-        impl Abort for super::HostRuntime {}
-    }
-
-    pub mod test {
-        pub type Fail = Box<dyn std::error::Error>;
-    }
-
-    #[allow(unused_macros)]
-    macro_rules! may_format {
-        ($($part:tt)*) => { Ok::<String, $crate::rattle::alloc::AllocError>(format!($($part)*)) };
-    }
-    #[allow(unused_imports)]
-    pub(crate) use may_format;
-}
-#[cfg(test)]
-pub(crate) use runtime::*;
 
 /// The part of `std::simd` that is used, which stable Rust has not. The compiler makes lanes of it.
 #[allow(non_camel_case_types, clippy::needless_range_loop)]

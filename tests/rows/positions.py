@@ -1,4 +1,4 @@
-"""Positions: the phase of a board, what may be decided on it, and when the game has gone on. fibs_replay_tests has
+"""Positions: the phase of a board, what may be decided on it, and when the game has gone on. rust/src/tests has
 worked boards with plays."""
 
 import sys

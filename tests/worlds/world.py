@@ -1,7 +1,8 @@
 """Histories of the world, worked out by hand: each event of a script of `fibs replay` beside what it adds to the log.
 
 A word in braces is a board or a message of boards.py. An event that is refused adds nothing, and has its refusal
-beside it: the events after it go on without it. fibs_replay_tests has a second click, a lost play and a cut one.
+beside it: the events after it go on without it. rust/fibs-client/src/tests has a second click, a lost play and a cut
+one.
 """
 
 import subprocess

@@ -12,6 +12,3 @@ pub(crate) const INFO_NO_BOARDS: &[u8] = b"2 ann 1 0 0 0 0 0 1 1 10 0 0 0 1 1500
 /// Message 2: autoboard is 0.
 pub(crate) const INFO_NO_AUTOBOARD: &[u8] =
     b"2 ann 1 0 0 0 0 0 1 1 10 0 1 0 1 1500.00 0 0 0 0 0 UTC";
-
-/// Message 2: automove is 1.
-pub(crate) const INFO_AUTOMOVE: &[u8] = b"2 ann 1 1 0 1 0 0 1 1 10 0 1 0 1 1500.00 0 0 0 0 0 UTC";

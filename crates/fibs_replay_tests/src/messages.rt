@@ -1,10 +1,8 @@
-//! Messages as they are printed, and words and tails by themselves. Worked lines are read in tests/rows.
+//! Messages as they are printed, if memory is refused.
 
 ghost use Rattle.std.specs.Prelude.{◌<◌, length};
 
-use fibs_copied_lines::canonical_line;
-use fibs_messages::laws::{canonical_lines_read_back, messages_are_well_formed};
-use fibs_messages::{Reading, Tail, Word, print_message, read};
+use fibs_messages::{Reading, print_message, read};
 use std::alloc::{AllocError, Global};
 use std::process::Abort;
 
@@ -81,84 +79,9 @@ static PRINTED: [Row; 30] = [
     (b"17 ", b"17"),
 ];
 
-/// Whether a line is copied as this text, or is not copied.
-fn is_copied_as(line: &[u8], canonical: Option<&[u8]>) -> bool {
-    match (canonical_line(line), canonical) {
-        (Some(copied), Some(wanted)) => copied == wanted,
-        (None, None) => true,
-        _ => false,
-    }
-}
-
 /// All of these lines.
 fn printed() -> &'static [Row; 30] {
     &PRINTED
-}
-
-#[test]
-fn lines_of_the_specification_are_copied(rt: HostRuntime) {
-    for (line, _) in &printed()[..19] {
-        assert!(rt; is_copied_as(line, Some(line)), "{line:?}");
-    }
-}
-
-/// Lines that are messages, and what is copied of them, if anything.
-static COPIED: [(&[u8], Option<&[u8]>); 14] = [
-    (b"6  ", Some(b"6")),
-    (b"1 bob 5 host  ", Some(b"1 bob 5 host")),
-    (b"12 bob  x ", Some(b"12 bob  x ")),
-    (b"9 bob 0 x", Some(b"9 bob 0 x")),
-    (
-        b"5 a - - 1 0 0.07 9999999999999999999 0 0 h - b ",
-        Some(b"5 a - - 1 0 0.07 9999999999999999999 0 0 h - b"),
-    ),
-    (b"5 a - - 1 0 1500.5 0 3 0 h - b", None),
-    (b"5 a - - 1 0 1500 0 3 0 h - b", None),
-    (b"5 a - - 1 0 01.50 0 3 0 h - b", None),
-    (b"5 a - - 1 0 1.505 0 3 0 h - b", None),
-    (b"5 a - - 1 0 1.50 0 03 0 h - b", None),
-    (b"5 a - - 1  0 1.50 0 3 0 h - b", None),
-    (b"12 bob ", None),
-    (b"17 ", None),
-    (b"20 x", None),
-];
-
-#[test]
-fn other_spellings_are_not_copied(rt: HostRuntime) {
-    for (line, canonical) in &COPIED {
-        assert!(rt; is_copied_as(line, *canonical), "{line:?}");
-    }
-}
-
-/// How many bytes a word has, and whether it is a dash, if the text is a word.
-fn word_of(text: &[u8]) -> Option<(usize, bool)> {
-    let word = Word::new(text)?;
-    Some((word.bytes().len(), word.is_dash()))
-}
-
-/// The same of a tail.
-fn tail_of(text: &[u8]) -> Option<(usize, bool)> {
-    let tail = Tail::new(text)?;
-    Some((tail.bytes().len(), tail.is_dash()))
-}
-
-/// Texts, and what is known of each if it is a word, and if it is a tail.
-static TEXTS: [(&str, Option<(usize, bool)>, Option<(usize, bool)>); 6] = [
-    ("-", Some((1, true)), Some((1, true))),
-    ("a:b", Some((3, false)), Some((3, false))),
-    ("a b", None, Some((3, false))),
-    (" a b", None, Some((4, false))),
-    ("a ", None, None),
-    ("", None, None),
-];
-
-#[test]
-fn words_and_tails(rt: HostRuntime) {
-    for (text, word, tail) in &TEXTS {
-        let is_word = word_of(text.as_bytes()) == *word;
-        let is_tail = tail_of(text.as_bytes()) == *tail;
-        assert!(rt; is_word && is_tail, "{text:?}");
-    }
 }
 
 /// What is printed for the line of a row.
@@ -261,48 +184,4 @@ fn each_message_is_appended_under_refused_memory(rt: HostRuntime) {
     for row in printed() {
         assert_appended(&rt, rt.alloc(), &[*row, *row]);
     }
-}
-
-/// Appends what is to be printed for each of these lines.
-fn append_wanted(lines: &[Row], out: &mut Vec<u8>) -> Result<(), AllocError> {
-    for row in lines {
-        out.extend_from_slice(printed_of(row))?;
-    }
-    Ok(())
-}
-
-/// Appends what is printed for all lines, and what is to be, again and again.
-fn append_often(alloc: Global, out: &mut Vec<u8>, wanted: &mut Vec<u8>) -> Result<(), AllocError> {
-    for _ in 0..40u32 {
-        append_all(alloc, printed(), out)?;
-        append_wanted(printed(), wanted)?;
-    }
-    Ok(())
-}
-
-/// With ample memory each message is appended, however much is there before it.
-#[test]
-fn messages_are_appended_one_behind_another(rt: HostRuntime) {
-    let mut out = Vec::new(rt.alloc());
-    let mut wanted = Vec::new(rt.alloc());
-    let appended = append_often(rt.alloc(), &mut out, &mut wanted);
-    assert!(rt; appended.is_ok() && out == wanted);
-}
-
-/// Whether what is printed of the message of a line is read back as it.
-fn is_read_back(line: &[u8]) -> bool {
-    let Reading::Numbered(message) = read(line) else {
-        return false;
-    };
-    messages_are_well_formed(&message);
-    match canonical_lines_read_back(line) {
-        Reading::Numbered(again) => again == message,
-        _ => false,
-    }
-}
-
-/// What is printed of a message is read back as it.
-#[test]
-fn a_printed_message_is_read_back(rt: HostRuntime) {
-    assert!(rt; is_read_back(WHO_INFO.0));
 }

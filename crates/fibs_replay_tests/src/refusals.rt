@@ -1,11 +1,55 @@
-//! What stays as it was if memory is refused, and the answers to boards that have no position or another player.
+//! What stays as it was if the memory for a list of plays is refused.
 
-use crate::boards::TO_ROLL;
-use crate::rows::{Row, position, rows};
+use crate::boards::{
+    FOUR_ONES, ONE_STEP, PASSING, TO_ANSWER, TO_BEAR_OFF, TO_HIT, TO_MOVE_UP, TO_ROLL, TWO_ORDERS,
+};
 use fibs_messages::Board;
-use fibs_position::{Decision, Position, Stake, differs, effect};
+use fibs_position::{Decision, Position, Stake};
 use std::alloc::Global;
 use std::process::Abort;
+
+/// A board, and how many plays it has.
+type Row = (&'static str, &'static [u8], usize);
+
+/// Rows of each phase.
+static ROWS: [Row; 11] = [
+    (
+        "either die can be played, both can't: the larger",
+        ONE_STEP,
+        1,
+    ),
+    (
+        "one die is shown",
+        b"board:You:bob:5:0:0:0:0:0:0:0:0:0:0:0:0:0:0:0:-2:0:0:0:0:0:0:0:0:0:0:1:0:1:6:0:0:0:1:1:1:0:1:-1:0:25:14:13:0:0:1:0:0:0",
+        1,
+    ),
+    ("bearing off, the highest first", TO_BEAR_OFF, 1),
+    ("all entry places are held", PASSING, 0),
+    (
+        "three of four equal dice, for a player who goes up",
+        TO_MOVE_UP,
+        1,
+    ),
+    ("both orders reach one arrangement", TWO_ORDERS, 1),
+    (
+        "two checkers reach four arrangements",
+        b"board:You:bob:5:0:0:0:0:0:0:1:0:0:0:1:0:0:0:0:0:0:0:0:0:0:0:0:0:0:0:-2:0:1:2:1:0:0:1:1:1:0:1:-1:0:25:13:13:0:0:2:0:0:0",
+        4,
+    ),
+    ("two checkers by four ones", FOUR_ONES, 4),
+    ("a hit by a double six", TO_HIT, 1),
+    (
+        "a double is to be answered, with the cube at its limit",
+        TO_ANSWER,
+        0,
+    ),
+    ("before the roll", TO_ROLL, 0),
+];
+
+/// The position of a board line, if it has one.
+fn position(line: &[u8]) -> Option<Position> {
+    Position::of(&Board::read(line).ok()?).ok()
+}
 
 /// Each reader answers the same of both.
 fn are_alike(a: &Position, b: &Position) -> bool {
@@ -61,68 +105,17 @@ fn is_as_before(alloc: Global, asked: &Position, twin: &Position, count: usize) 
 /// Whether the plays of a row are listed. If a growth is refused, the position answers as one that was not asked, and
 /// the next call gives the list.
 fn is_listed(alloc: Global, row: &Row) -> Option<bool> {
-    let asked = position(row.board)?;
+    let asked = position(row.1)?;
     if asked.plays(alloc).is_ok() {
         return Some(true);
     }
-    let twin = position(row.board)?;
-    Some(is_as_before(alloc, &asked, &twin, row.plays.len()))
-}
-
-/// Asserts that the plays of these rows are listed.
-fn assert_listed(rt: &(impl Abort + AllocGlobal), rows: &[Row]) {
-    for row in rows {
-        assert!(rt; is_listed(rt.alloc(), row) == Some(true), "{}", row.name);
-    }
+    let twin = position(row.1)?;
+    Some(is_as_before(alloc, &asked, &twin, row.2))
 }
 
 #[test]
 fn plays_are_listed_under_refused_memory(rt: HostRuntime) {
-    for table in rows() {
-        assert_listed(&rt, table);
+    for row in &ROWS {
+        assert!(rt; is_listed(rt.alloc(), row) == Some(true), "{}", row.0);
     }
-}
-
-/// Boards without a position.
-static BAD: [(&str, &[u8]); 4] = [
-    (
-        "watched, and too many",
-        b"board:ann:bob:3:0:1:0:-2:0:0:0:0:5:0:3:0:0:0:-5:5:0:0:0:-3:0:-5:0:0:0:0:2:0:1:0:0:0:0:1:1:1:0:1:-1:0:25:1:1:0:0:0:0:0:0",
-    ),
-    (
-        "too many of both",
-        b"board:You:bob:3:0:1:0:-2:0:0:0:0:5:0:3:0:0:0:-5:5:0:0:0:-3:0:-5:0:0:0:0:2:0:1:0:0:0:0:1:1:1:0:1:-1:0:25:1:1:0:0:0:0:0:0",
-    ),
-    (
-        "too many of the player",
-        b"board:You:bob:3:0:1:0:-2:0:0:0:0:5:0:3:0:0:0:-5:5:0:0:0:-3:0:-5:0:0:0:0:3:0:1:0:0:0:0:1:1:1:0:1:-1:0:25:0:0:0:0:0:0:0:0",
-    ),
-    (
-        "too many of the opponent",
-        b"board:You:bob:3:0:1:0:-2:0:0:0:0:5:0:3:0:0:0:-5:5:0:0:0:-3:0:-5:0:0:0:0:2:0:1:0:0:0:0:1:1:1:0:1:-1:0:25:0:1:0:0:0:0:0:0",
-    ),
-];
-
-/// Asserts that nothing is carried out on the board of a line.
-fn assert_still(rt: &impl Abort, name: &str, line: &[u8]) {
-    let board = Board::read(line).expect(rt, "it is a board");
-    let after = effect(&board, &Decision::Roll, [1, 1]);
-    assert!(rt; after.is_none(), "{name}");
-}
-
-#[test]
-fn nothing_is_carried_out_without_a_position(rt: HostRuntime) {
-    for (name, line) in &BAD {
-        assert_still(&rt, name, line);
-    }
-}
-
-/// A client sees no board of another player, so no caller in C does.
-#[test]
-fn boards_do_not_differ_in_the_player(rt: HostRuntime) {
-    let first = Board::read(TO_ROLL).expect(&rt, "it is a board");
-    let player = Board::read(
-        b"board:Yet:bob:3:0:1:0:-2:0:0:0:0:5:0:3:0:0:0:-5:5:0:0:0:-3:0:-5:0:0:0:0:2:0:1:0:0:0:0:1:1:1:0:1:-1:0:25:0:0:0:0:0:0:0:0",
-    ).expect(&rt, "it is a board");
-    assert!(rt; !differs(&first, &player));
 }

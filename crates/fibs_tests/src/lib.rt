@@ -1,25 +1,15 @@
-//! Tests of the engines and of what a player sees: what is printed of the server's lines, turns of a client with a stream,
-//! conversations with a server, the command line, and a terminal.
+//! Tests of the engines and of a terminal: of what is refused allocations, each in turn, and of sockets that are watched.
+//! The others need no proof: they are in `rust/fibs-client/src/tests`.
 #![tactic(auto)]
 
 #[cfg(test)]
 mod connect;
 #[cfg(test)]
-mod flushing;
-#[cfg(test)]
-mod nobody;
-#[cfg(test)]
-mod once;
-#[cfg(test)]
 mod outcomes;
 #[cfg(test)]
 mod plays;
 #[cfg(test)]
-mod program;
-#[cfg(test)]
 mod refused_notes;
-#[cfg(test)]
-mod retrying;
 #[cfg(test)]
 mod show;
 #[cfg(test)]

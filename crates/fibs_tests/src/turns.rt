@@ -1,8 +1,4 @@
 //! Turns of a client with a stream.
 
 mod connected;
-mod exchange;
-mod flushing;
-mod orders;
-mod printing;
 mod refused_notes;

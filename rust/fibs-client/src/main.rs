@@ -3,14 +3,17 @@
 //! The modules are Liftplum's sources without their proofs, erased when this is built. In Rattle each of their
 //! functions is proved to meet its contract. What is proved is the program of Rattle: that this one does the same is
 //! tested.
-#![cfg_attr(unix, no_main)]
+#![cfg_attr(all(unix, not(test)), no_main)]
 
 use rattle_std as rattle;
 
 include!(concat!(env!("OUT_DIR"), "/modules.rs"));
 
+#[cfg(test)]
+mod tests;
+
 /// The program, without Rust's own start: see [`rattle::start`].
-#[cfg(unix)]
+#[cfg(all(unix, not(test)))]
 // SAFETY: no other function of this program has this name.
 #[unsafe(no_mangle)]
 extern "C" fn main(_count: i32, _words: *const *const u8) -> i32 {
@@ -18,7 +21,7 @@ extern "C" fn main(_count: i32, _words: *const *const u8) -> i32 {
     i32::from(fibs::main(rattle::HostRuntime).code())
 }
 
-#[cfg(not(unix))]
+#[cfg(any(not(unix), test))]
 fn main() -> std::process::ExitCode {
     std::process::ExitCode::from(fibs::main(rattle::HostRuntime).code())
 }

@@ -5,7 +5,7 @@ use crate::os::fd::{AsRawFd, RawFd};
 use std::io::{self, ErrorKind, Read, Write};
 use std::time::Duration;
 
-pub use std::net::SocketAddr;
+pub use std::net::{IpAddr, Ipv4Addr, SocketAddr};
 
 /// The most addresses of one name that are tried.
 const MOST_ADDRS: usize = 32;

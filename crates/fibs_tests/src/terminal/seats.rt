@@ -1,6 +1,5 @@
 //! A client and a terminal, to which a server's lines and typed lines are given.
 
-use super::lines::FIRST_BOARD;
 use fibs_environment::{Settings, Zone};
 use fibs_front::fault::FrontFault;
 use fibs_front::front::Front;
@@ -49,11 +48,11 @@ pub enum Step<'a> {
     Loses,
 }
 
-/// The settings of a plain terminal of 80 columns.
-pub fn plain_settings() -> Settings<'static> {
+/// The settings of a terminal of 60 columns, with colours.
+pub fn narrow_settings() -> Settings<'static> {
     Settings {
-        columns: 80,
-        colour: false,
+        columns: 60,
+        colour: true,
         bell: false,
         words: false,
         utf8: false,
@@ -147,17 +146,6 @@ impl Seat {
         }
         Ok(())
     }
-
-    /// Takes some steps, and those after them.
-    fn take_both<F: Words>(
-        &mut self,
-        before: &[Step<'_>],
-        steps: &[Step<'_>],
-        front: &mut F,
-    ) -> Result<(), FrontFault> {
-        self.take_steps(before, front)?;
-        self.take_steps(steps, front)
-    }
 }
 
 /// Tells of a line, with the board of the user's game that it says.
@@ -211,90 +199,13 @@ fn note<F: Front>(
     }
 }
 
-/// What the screen shows after some steps and those after them, of a user who is connected.
-pub fn shown(
-    rt: &(impl Abort + AllocGlobal),
-    settings: Settings<'_>,
-    before: &[Step<'_>],
-    steps: &[Step<'_>],
-) -> String {
-    let mut shown = Vec::new(rt.alloc());
-    show_on(rt, settings, before, steps, &mut shown).expect(rt, "it is shown");
-    String::from_utf8(shown).expect(rt, "it is UTF-8")
-}
-
-/// The same on any writer.
+/// Shows on a writer what the screen shows after some steps of a user who is connected.
 pub fn show_on<W: Write + Drop>(
     rt: &(impl Abort + AllocGlobal),
     settings: Settings<'_>,
-    before: &[Step<'_>],
     steps: &[Step<'_>],
     out: W,
 ) -> Result<(), FrontFault> {
     let mut terminal = Terminal::new(rt.alloc(), out, Stopped, settings);
-    Seat::new(rt).take_both(before, steps, &mut terminal)
-}
-
-/// Asserts that a text is as it is wanted.
-pub fn assert_wanted(rt: &impl Abort, is_wanted: bool, text: &str, wanted: &str) {
-    assert!(rt; is_wanted, "wanted {wanted}, and there is {text}");
-}
-
-/// Asserts that a text is answered as it should be.
-pub fn assert_of(rt: &impl Abort, is_right: bool, text: &[u8]) {
-    assert!(rt; is_right, "{text:?}");
-}
-
-/// Asserts what the screen shows after some steps.
-pub fn assert_shows(
-    rt: &(impl Abort + AllocGlobal),
-    settings: Settings<'_>,
-    steps: &[Step<'_>],
-    wanted: &str,
-) {
-    let text = shown(rt, settings, &[], steps);
-    assert_wanted(rt, text.as_str() == wanted, &text, wanted);
-}
-
-/// Asserts that what the screen shows after some steps and those after them ends by these rows.
-pub fn assert_ends(
-    rt: &(impl Abort + AllocGlobal),
-    settings: Settings<'_>,
-    before: &[Step<'_>],
-    steps: &[Step<'_>],
-    rows: &str,
-) {
-    let text = shown(rt, settings, before, steps);
-    assert_wanted(rt, text.ends_with(rows), &text, rows);
-}
-
-/// Steps, and the last rows that are shown then.
-pub type Scene = (&'static [Step<'static>], &'static str);
-
-/// Asserts for each scene that what the screen shows from the first board on ends by its rows.
-pub fn assert_scenes(rt: &(impl Abort + AllocGlobal), settings: Settings<'_>, scenes: &[Scene]) {
-    for (steps, rows) in scenes {
-        assert_ends(rt, settings, &FIRST_BOARD, steps, rows);
-    }
-}
-
-/// Asserts that what the screen shows after steps has each of these rows.
-pub fn assert_has(
-    rt: &(impl Abort + AllocGlobal),
-    settings: Settings<'_>,
-    steps: &[Step<'_>],
-    rows: &[&str],
-) {
-    let text = shown(rt, settings, &[], steps);
-    for row in rows {
-        assert_wanted(rt, text.contains(*row), &text, row);
-    }
-}
-
-/// The settings of a terminal of 80 columns, with colours.
-pub fn colour_settings() -> Settings<'static> {
-    Settings {
-        colour: true,
-        ..plain_settings()
-    }
+    Seat::new(rt).take_steps(steps, &mut terminal)
 }

@@ -7,7 +7,7 @@ use fibs_exchange::{Ending, ExchangeFault, exchange};
 use fibs_session::{Client, Directory, Login};
 use fibs_test_tools::pipe::{After, Pipe, QUIET};
 use fibs_test_tools::text::{TEXT_ROOM, Text, joined};
-use std::io::{ErrorKind, Write};
+use std::io::Write;
 use std::process::Abort;
 
 /// A client that has opened a connection.
@@ -31,15 +31,6 @@ pub enum Kind {
     LostWaiting,
     /// What is printed could not be written.
     Unprinted,
-}
-
-/// These bytes, so many times.
-pub fn repeated(bytes: &[u8], times: usize) -> Text {
-    let mut text = Text::new();
-    for _ in 0..times {
-        let _fits = text.try_extend_from_slice(bytes);
-    }
-    text
 }
 
 /// Whether the bytes are these parts, one after another.
@@ -118,21 +109,6 @@ impl Seat {
         }
     }
 
-    /// One turn in which lines are printed on `out`: what is typed, what the server sends, and what follows that. The
-    /// stream takes 100 bytes. It notes nothing of what is sent and printed.
-    pub fn print_on<W: Write>(
-        &mut self,
-        out: &mut W,
-        typed: Option<&[u8]>,
-        heard: &[u8],
-        after: After,
-    ) -> Kind
-        requires { FitsStream self.old.client true }
-    {
-        let mut pipe = Pipe::new(heard, self.most, after, 100);
-        self.turn_on(&mut pipe, typed, out)
-    }
-
     /// One turn with a stream in memory, which ends so. It notes what is printed.
     pub fn turn_with(
         &mut self,
@@ -179,125 +155,4 @@ impl Seat {
         };
         self.take_turn(rt, &turn);
     }
-
-    /// Takes steps one after another.
-    pub fn follow(&mut self, rt: &impl Abort, steps: &[Step<'_>], after: After)
-        requires { FitsStream self.old.client true }
-        ensures { FitsStream self.new.client true }
-    {
-        for step in steps {
-            self.take(rt, *step, after);
-        }
-    }
-
-    /// The server sends this, in parts.
-    pub fn hear(&mut self, rt: &impl Abort, parts: &[&[u8]])
-        requires { FitsStream self.old.client true }
-        ensures { FitsStream self.new.client true }
-    {
-        self.take(rt, Step::Hears(parts), QUIET);
-    }
-
-    /// Asserts what was sent and printed in all, each in parts.
-    pub fn assert_did(&self, rt: &impl Abort, name: &str, sent: &[&[u8]], printed: &[&[u8]]) {
-        assert!(rt;
-            is_made_of(&self.sent, sent) && is_made_of(&self.printed, printed),
-            "{name}: sent {:?}, printed {:?}",
-            self.sent.as_slice(),
-            self.printed.as_slice()
-        );
-    }
-}
-
-/// Ways in which what the server sends is cut: how many bytes a read gives at most, and how one fails that finds
-/// nothing more.
-const CUTS: [(usize, After); 8] = [
-    (1, QUIET),
-    (2, QUIET),
-    (7, QUIET),
-    (1000, QUIET),
-    (1, After::Fails(ErrorKind::TimedOut)),
-    (2, After::Fails(ErrorKind::TimedOut)),
-    (7, After::Fails(ErrorKind::TimedOut)),
-    (1000, After::Fails(ErrorKind::TimedOut)),
-];
-
-/// A conversation: its name, its steps, its last turn, if there is one, and what is sent and printed in it, each in
-/// parts.
-#[derive(Clone, Copy)]
-pub struct Talk<'a> {
-    pub name: &'a str,
-    pub steps: &'a [Step<'a>],
-    pub last: Option<Turn<'a>>,
-    pub sent: &'a [&'a [u8]],
-    pub printed: &'a [&'a [u8]],
-}
-
-/// Asserts what is sent and printed in conversations, and how the last turn of each ends.
-pub fn assert_talks(rt: &(impl Abort + AllocGlobal), talks: &[Talk<'_>]) {
-    for talk in talks {
-        assert_talk(
-            rt,
-            talk.name,
-            talk.steps,
-            talk.last,
-            talk.sent,
-            talk.printed,
-        );
-    }
-}
-
-/// Asserts what is sent and printed in a conversation, each in parts, and how its last turn ends, if there is one.
-pub fn assert_talk(
-    rt: &(impl Abort + AllocGlobal),
-    name: &str,
-    steps: &[Step<'_>],
-    last: Option<Turn<'_>>,
-    sent: &[&[u8]],
-    printed: &[&[u8]],
-) {
-    for cut in CUTS {
-        assert_cut(rt, cut, name, steps, last, sent, printed);
-    }
-}
-
-/// The same if what the server sends is cut so.
-fn assert_cut(
-    rt: &(impl Abort + AllocGlobal),
-    (most, after): (usize, After),
-    name: &str,
-    steps: &[Step<'_>],
-    last: Option<Turn<'_>>,
-    sent: &[&[u8]],
-    printed: &[&[u8]],
-) {
-    let mut seat = Seat::open(rt, most);
-    seat.follow(rt, steps, after);
-    if let Some(turn) = last {
-        seat.take_turn(rt, &turn);
-    }
-    seat.assert_did(rt, name, sent, printed);
-}
-
-/// How the first turn on a connection ends, in which lines are printed on `out`: what is typed, and what the server
-/// sends, in reads of at most `most` bytes. Nothing more comes then.
-pub fn first_turn_on<W: Write>(
-    rt: &(impl Abort + AllocGlobal),
-    out: &mut W,
-    most: usize,
-    typed: Option<&[u8]>,
-    heard: &[u8],
-) -> Kind {
-    let mut seat = Seat::open(rt, most);
-    seat.print_on(out, typed, heard, QUIET)
-}
-
-/// Asserts what is right at a number, which is said between two words.
-pub fn assert_at(rt: &impl Abort, is_right: bool, before: &str, number: usize, behind: &str) {
-    assert!(rt; is_right, "{before}{number}{behind}");
-}
-
-/// Asserts what is right after a line that is typed, if there is one.
-pub fn assert_typed(rt: &impl Abort, is_right: bool, typed: Option<&[u8]>) {
-    assert!(rt; is_right, "{typed:?}");
 }

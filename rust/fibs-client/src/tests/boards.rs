@@ -1,0 +1,37 @@
+//! Boards for tests.
+
+/// The user, who goes down, rolls or doubles.
+pub(crate) const TO_ROLL: &[u8] =
+    b"board:You:bob:3:0:1:0:-2:0:0:0:0:5:0:3:0:0:0:-5:5:0:0:0:-3:0:-5:0:0:0:0:2:0:1:0:0:0:0:1:1:1:0:1:-1:0:25:0:0:0:0:0:0:0:0";
+
+/// The same if he may not double.
+pub(crate) const MUST_ROLL: &[u8] =
+    b"board:You:bob:3:0:1:0:-2:0:0:0:0:5:0:3:0:0:0:-5:5:0:0:0:-3:0:-5:0:0:0:0:2:0:1:0:0:0:0:1:0:1:0:1:-1:0:25:0:0:0:0:0:0:0:0";
+
+/// He has rolled 6 and 2 there.
+pub(crate) const ROLLED: &[u8] =
+    b"board:You:bob:3:0:1:0:-2:0:0:0:0:5:0:3:0:0:0:-5:5:0:0:0:-3:0:-5:0:0:0:0:2:0:1:6:2:0:0:1:0:1:0:1:-1:0:25:0:0:0:0:0:0:0:0";
+
+/// He has rolled 6 and 2.
+pub(crate) const TO_MOVE: &[u8] =
+    b"board:You:bob:3:0:1:0:-2:0:0:0:0:5:0:3:0:0:0:-5:5:0:0:0:-3:0:-5:0:0:0:0:2:0:1:6:2:0:0:1:1:1:0:1:-1:0:25:0:0:0:0:0:0:0:0";
+
+/// He has doubled.
+pub(crate) const DOUBLED: &[u8] =
+    b"board:You:bob:3:0:1:0:-2:0:0:0:0:5:0:3:0:0:0:-5:5:0:0:0:-3:0:-5:0:0:0:0:2:0:-1:0:0:0:0:1:1:1:0:1:-1:0:25:0:0:0:0:0:0:0:0";
+
+/// He has rolled 6 and 5, and the larger alone is to be played.
+pub(crate) const ONE_STEP: &[u8] =
+    b"board:You:bob:5:0:0:0:0:0:0:0:0:0:0:0:0:0:0:0:-2:0:0:0:0:0:0:0:0:0:0:1:0:1:6:5:0:0:1:1:1:0:1:-1:0:25:14:13:0:0:1:0:0:0";
+
+/// He has played it.
+pub(crate) const STEPPED: &[u8] =
+    b"board:You:bob:5:0:0:0:0:0:0:0:0:0:0:0:0:0:0:0:-2:0:0:0:0:1:0:0:0:0:0:0:0:-1:0:0:0:0:1:1:1:0:1:-1:0:25:14:13:0:0:1:0:0:0";
+
+/// A user who goes up has rolled a pair of 3.
+pub(crate) const TO_MOVE_UP: &[u8] =
+    b"board:You:bob:5:0:0:0:0:0:0:0:-1:0:0:0:0:0:0:0:0:0:0:0:2:0:0:0:0:0:0:0:0:-1:3:3:0:0:1:1:1:0:-1:1:25:0:14:13:0:0:3:0:0:0";
+
+/// A board of another player.
+pub(crate) const OF_OTHERS: &[u8] =
+    b"board:ann:bob:3:0:1:0:-2:0:0:0:0:5:0:3:0:0:0:-5:5:0:0:0:-3:0:-5:0:0:0:0:2:0:1:0:0:0:0:1:1:1:0:1:-1:0:25:0:0:0:0:0:0:0:0";

@@ -1,0 +1,153 @@
+//! What was printed is shown before the program waits: for the server, for a typed line, for a connection.
+
+use crate::fibs_connect::converse_with;
+use crate::fibs_engine::dial::Dial;
+use crate::fibs_engine::fault::EngineFault;
+use crate::fibs_engine::link::Link;
+use crate::fibs_front::watch::Unwatched;
+use crate::fibs_test_tools::pipe::{After, Pipe};
+use crate::rattle::cell::Cell;
+use crate::rattle::io;
+use crate::rattle::io::{ErrorKind, Read, Write};
+
+/// What the tests see of a conversation.
+struct Seen {
+    /// How many bytes were written since the last flush.
+    hidden: Cell<usize>,
+    /// How often the program waited.
+    waits: Cell<u32>,
+    /// How often it did so while something was hidden.
+    late: Cell<u32>,
+}
+
+impl Seen {
+    fn new() -> Seen {
+        Seen { hidden: Cell::new(0), waits: Cell::new(0), late: Cell::new(0) }
+    }
+
+    /// The program waits.
+    fn wait(&self) {
+        self.waits.set(self.waits.get().saturating_add(1));
+        if self.hidden.get() > 0 {
+            self.late.set(self.late.get().saturating_add(1));
+        }
+    }
+
+    /// Whether nothing is hidden, and nothing was while the program waited.
+    fn is_shown(&self) -> bool {
+        self.late.get() == 0 && self.hidden.get() == 0
+    }
+}
+
+/// A screen, which shows what is written once it is flushed. After so many flushes one fails.
+struct Screen<'a> {
+    seen: &'a Seen,
+    flushes: u32,
+    failed: bool,
+}
+
+impl Write for Screen<'_> {
+    fn write(&mut self, buf: &[u8]) -> io::Result<usize> {
+        let hidden = &self.seen.hidden;
+        hidden.set(hidden.get().saturating_add(buf.len()));
+        Ok(buf.len())
+    }
+
+    fn flush(&mut self) -> io::Result<()> {
+        if self.flushes == 0 && !self.failed {
+            self.failed = true;
+            return Err(io::Error::from(ErrorKind::BrokenPipe));
+        }
+        self.flushes = self.flushes.saturating_sub(1);
+        self.seen.hidden.set(0);
+        Ok(())
+    }
+}
+
+/// A stream for which the program waits at each read.
+struct Watched<'a> {
+    stream: Pipe<'a>,
+    seen: &'a Seen,
+}
+
+impl Read for Watched<'_> {
+    fn read(&mut self, buf: &mut [u8]) -> io::Result<usize> {
+        self.seen.wait();
+        self.stream.read(buf)
+    }
+}
+
+impl Write for Watched<'_> {
+    fn write(&mut self, buf: &[u8]) -> io::Result<usize> {
+        self.stream.write(buf)
+    }
+
+    fn flush(&mut self) -> io::Result<()> {
+        self.stream.flush()
+    }
+}
+
+impl Link for Watched<'_> {
+    fn receive(&mut self, buf: &mut [u8]) -> io::Result<usize> {
+        self.read(buf)
+    }
+
+    fn transmit(&mut self, buf: &[u8]) -> io::Result<usize> {
+        self.write(buf)
+    }
+}
+
+/// A server, for which the program waits at each connection.
+struct WatchedDoor<'a> {
+    seen: &'a Seen,
+}
+
+impl<'a> Dial for WatchedDoor<'a> {
+    type Stream = Watched<'a>;
+
+    fn dial(&mut self) -> Result<Watched<'a>, ErrorKind> {
+        self.seen.wait();
+        let heard = b"1 ann 1041253132 localhost\r\n5 bob - - 1 0 1500.5 0 3 1040515752 host - -\r\nhello\r\n";
+        Ok(Watched { stream: Pipe::new(heard, 40, After::End, 512), seen: self.seen })
+    }
+}
+
+/// How a conversation with each kind of typed line ends, if one flush of the screen fails after so many.
+fn conversed_on(seen: &Seen, flushes: u32) -> Result<u8, EngineFault> {
+    let lines = b"secret\nplayers\ndance\nroll\nopen\nopen\n\nroll\nquit\n";
+    let mut typed = Watched { stream: Pipe::new(lines, 5, After::End, 0), seen };
+    let mut screen = Screen { seen, flushes, failed: false };
+    let mut other = Pipe::new(b"", 1, After::End, 0);
+    let mut door = WatchedDoor { seen };
+    let watch = &mut Unwatched;
+    converse_with(&mut door, b"ann", 1000, &mut typed, watch, &mut screen, &mut other)
+}
+
+#[test]
+fn nothing_is_hidden_while_the_program_waits() {
+    let seen = Seen::new();
+    let ending = conversed_on(&seen, 1000);
+    let is_shown = ending == Ok(0) && seen.is_shown();
+    assert!(is_shown, "something is hidden, or the end is a fault");
+    assert!(seen.waits.get() > 15, "it waits more often");
+}
+
+/// Whether the conversation ends by a fault, which is the device's, if one flush fails after so many.
+fn fails_after(flushes: u32) -> bool {
+    let ending = conversed_on(&Seen::new(), flushes);
+    let is_fault = ending == Err(EngineFault::Device);
+    assert!(is_fault || ending == Ok(0), "after {flushes} flushes");
+    is_fault
+}
+
+#[test]
+fn each_flush_that_fails_is_a_device_fault() {
+    let mut failed = 0u32;
+    for flushes in 0..100 {
+        if fails_after(flushes) {
+            failed = failed.saturating_add(1);
+        }
+    }
+    // a conversation flushes more than ten times, and fewer than a hundred
+    assert!(failed > 10 && failed < 100, "{failed} flushes");
+}

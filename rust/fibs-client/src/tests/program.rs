@@ -1,0 +1,208 @@
+//! The command line, from its words to the exit status.
+use super::outcomes::assert_is;
+use crate::fibs_arguments::{Answer, Asked, Call};
+use crate::fibs_cli::program::{answer, status};
+use crate::fibs_engine::fault::EngineFault;
+use crate::fibs_test_tools::outcome::Outcome;
+use crate::fibs_test_tools::pipe::{After, Pipe};
+use crate::rattle::alloc::AllocError;
+use crate::rattle::may::*;
+use crate::rattle::net::{Net, TcpListener, TcpStream};
+
+/// The words after the program's name, what is on standard input, and the result.
+struct Case {
+    name: &'static str,
+    words: &'static [&'static str],
+    input: &'static [u8],
+    status: u8,
+    out: &'static [u8],
+    err: &'static [u8],
+}
+
+/// A board on which the larger die alone can be played.
+const BOARD: &str = "board:You:bob:5:0:0:0:0:0:0:0:0:0:0:0:0:0:0:0:-2:0:0:0:0:0:0:0:0:0:0:1:0:1:6:5:0:0:1:1:1:0:1:-1:0:25:14:13:0:0:1:0:0:0";
+
+/// Command lines that run an engine.
+static SERVED: [Case; 6] = [
+    Case {
+        name: "show prints on standard output",
+        words: &["show"],
+        input: b"a\nbc",
+        status: 0,
+        out: b"text a\nunfinished 2\n",
+        err: b"",
+    },
+    Case { name: "show of nothing prints nothing", words: &["show"], input: b"", status: 0, out: b"", err: b"" },
+    Case {
+        name: "plays prints on standard output and reads nothing",
+        words: &["plays", BOARD],
+        input: b"a\n",
+        status: 0,
+        out: b"phase Move\nmove 24-18\n",
+        err: b"",
+    },
+    Case {
+        name: "replay reads its script from standard input",
+        words: &["replay"],
+        input: b"open\n",
+        status: 3,
+        out: b"script 1\n",
+        err: b"",
+    },
+    Case {
+        name: "loop reads its script from standard input",
+        words: &["loop"],
+        input: b"open\n",
+        status: 3,
+        out: b"script 1\n",
+        err: b"",
+    },
+    Case {
+        name: "plays says on standard error why there are none",
+        words: &["plays", "hello"],
+        input: b"a\n",
+        status: 3,
+        out: b"",
+        err: b"not a board\n",
+    },
+];
+
+/// Adds a word to a command line.
+fn push_word(line: &mut Vec<String>, word: &str) -> Result<(), AllocError> {
+    line.may_push(String::may_from_str(word)?)?;
+    Ok(())
+}
+
+/// The words of a command line, with the program's name before them.
+fn line_of(words: &[&str]) -> Result<Vec<String>, AllocError> {
+    let mut line = Vec::new();
+    push_word(&mut line, "fibs")?;
+    for word in words {
+        push_word(&mut line, word)?;
+    }
+    Ok(line)
+}
+
+/// What the program makes of the words of a command line, and what it prints.
+fn served<N: Net<Listener = TcpListener, Stream = TcpStream>>(rt: &N, called: &Answer<'_>, input: &[u8]) -> Outcome {
+    let mut input = Pipe::new(input, 7, After::End, 0);
+    let mut out = Pipe::new(b"", 1, After::End, 4096);
+    let mut err = Pipe::new(b"", 1, After::End, 4096);
+    let ending = answer(rt, called, &mut input, &mut out, &mut err);
+    Outcome::new(ending, out.output(), err.output())
+}
+
+/// How the program answers a command line, and what it prints.
+fn answered<N: Net<Listener = TcpListener, Stream = TcpStream>>(rt: &N, words: &[&str], input: &[u8]) -> Outcome {
+    let line = line_of(words).expect("there is memory for it");
+    match crate::fibs_arguments::read(line.as_slice()) {
+        Asked::Answer(called) => served(rt, &called, input),
+        // no row asks for a server
+        Asked::Connect(_) => Outcome::new(Err(EngineFault::Device), b"", b""),
+    }
+}
+
+/// What a command line asks of a server.
+fn is_call(words: &[&str], wanted: &Call<'_>) -> Result<bool, AllocError> {
+    let line = line_of(words)?;
+    Ok(match crate::fibs_arguments::read(line.as_slice()) {
+        Asked::Connect(call) => {
+            let files = [call.password_file, call.log] == [wanted.password_file, wanted.log];
+            files && call.host == wanted.host && call.port == wanted.port && call.name == wanted.name
+        }
+        Asked::Answer(_) => false,
+    })
+}
+
+/// Words that ask for a server, and what they ask of it.
+static CALLS: [(&[&str], Call<'static>); 3] = [
+    (
+        &["connect", "fibs.example", "4321", "ann"],
+        Call { host: "fibs.example", port: 4321, name: "ann", password_file: None, log: None },
+    ),
+    (
+        &["connect", "--log", "kept", "localhost", "1", "bob"],
+        Call { host: "localhost", port: 1, name: "bob", password_file: None, log: Some("kept") },
+    ),
+    (
+        &["connect", "::1", "65535", "show", "--password-file", "secret"],
+        Call { host: "::1", port: 65535, name: "show", password_file: Some("secret"), log: None },
+    ),
+];
+
+#[test]
+fn asks_a_server_by_its_words() {
+    for (words, wanted) in &CALLS {
+        assert!(is_call(words, wanted) == Ok(true), "{words:?}");
+    }
+}
+
+/// Asserts how a command line is served.
+fn assert_served<N: Net<Listener = TcpListener, Stream = TcpStream>>(rt: &N, case: &Case) {
+    let outcome = answered(rt, case.words, case.input);
+    let printed = [case.out, case.err];
+    assert_is(case.name, 0, &outcome, Ok(case.status), printed);
+}
+
+#[test]
+fn serves_each_request() {
+    let rt = crate::rattle::HostRuntime;
+    for case in &SERVED {
+        assert_served(&rt, case);
+    }
+}
+
+/// Whether a command line is answered by help, which is printed, or by an error, which is said.
+fn is_answered(outcome: &Outcome, wanted: u8) -> bool {
+    let is_printed = outcome.out.is_empty() == (wanted == 2);
+    let is_said = outcome.err.is_empty() == (wanted == 0);
+    outcome.ending == Ok(wanted) && is_printed && is_said
+}
+
+/// Asserts that a command line is answered with help, which is printed, or with an error, which is said.
+fn assert_answered<N: Net<Listener = TcpListener, Stream = TcpStream>>(rt: &N, words: &[&str], wanted: u8) {
+    let outcome = answered(rt, words, b"a\n");
+    assert!(is_answered(&outcome, wanted), "at {words:?}");
+}
+
+/// Words after the program's name, and the status.
+static ANSWERED: [(&[&str], u8); 8] = [
+    (&["--help"], 0),
+    (&["help"], 0),
+    (&["show", "--help"], 0),
+    (&["help", "plays"], 0),
+    (&[], 2),
+    (&["dance"], 2),
+    (&["show", "more"], 2),
+    (&["plays"], 2),
+];
+
+#[test]
+fn answers_each_other_line() {
+    let rt = crate::rattle::HostRuntime;
+    for (words, wanted) in &ANSWERED {
+        assert_answered(&rt, words, *wanted);
+    }
+}
+
+/// Whether an ending has this status, and this is said of it.
+fn is_said_of(ending: Result<u8, EngineFault>, wanted: u8, said: &[u8]) -> bool {
+    let mut err = Pipe::new(b"", 1, After::End, 512);
+    status(ending, &mut err) == wanted && err.output() == said
+}
+
+/// An ending, its status, and what is said.
+static ENDINGS: [(Result<u8, EngineFault>, u8, &[u8]); 4] = [
+    (Ok(0), 0, b""),
+    (Ok(3), 3, b""),
+    (Err(EngineFault::Device), 4, b"fibs: device\n"),
+    (Err(EngineFault::Memory), 5, b"fibs: memory\n"),
+];
+
+#[test]
+fn says_why_it_stopped() {
+    for (ending, wanted, said) in &ENDINGS {
+        let is_said = is_said_of(*ending, *wanted, said);
+        assert!(is_said, "{ending:?}");
+    }
+}

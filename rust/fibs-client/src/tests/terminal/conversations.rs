@@ -1,0 +1,207 @@
+//! Conversations, and what a terminal shows of them.
+
+use super::lines::{MOVED, POINT_MADE, SETTINGS, TO_MOVE, TO_ROLL, WELCOME};
+use super::seats::{Scene, Step, assert_has, assert_scenes, assert_shows, colour_settings, plain_settings, shown};
+use crate::fibs_environment::Settings;
+
+/// What a turn shows after the first messages: one picture, and a row for each other thing.
+const TURN: &str = "Welcome, ann. Last login: 30 December 2002, 12:58, from localhost.
+You are ann, rated 1500.00, experience 0.
+On: allowpip autoboard crawford double
+    moreboards notify
+ +13-14-15-16-17-18-+---+19-20-21-22-23-24-+   X bob
+ | O           X    |   | X              O |     score 1
+ | O           X    |   | X              O |     off   0
+ | O           X    |   | X                |     pips  167
+ | O                |   | X                |     dice  -
+ | O                |   | X                |   match to 3
+ |                  |BAR|                  |   cube 1, in the middle
+ | X                |   | O                |   your turn
+ | X                |   | O                |     dice  -
+ | X           O    |   | O                |     pips  167
+ | X           O    |   | O              X |     off   0
+ | X           O    |   | O              X |     score 0
+ +12-11-10--9--8--7-+---+-6--5--4--3--2--1-+   O You
+ You roll, or double, or resign.
+Your turn: roll, or double.
+sent roll
+You roll 6 and 2.
+Your move, as in: move 24-22 24-18
+You have no checker on 23. [9 IllegalPlay]
+Your move, as in: move 24-22 24-18
+sent move 24-18 13-11
+";
+
+/// The first messages, and a turn.
+static TURN_STEPS: [Step<'static>; 16] = [
+    Step::Hears(WELCOME),
+    Step::Hears(SETTINGS),
+    Step::Hears(TO_ROLL),
+    Step::Rests,
+    Step::Rests,
+    Step::Hears(b"It's your turn to roll or double.\r\n"),
+    Step::Types(b"r"),
+    Step::Rests,
+    Step::Hears(b"You roll 6 and 2.\r\n"),
+    Step::Hears(TO_MOVE),
+    Step::Hears(b"Please move 2 pieces.\r\n"),
+    Step::Rests,
+    Step::Types(b"move 23-22"),
+    Step::Rests,
+    Step::Types(b" 24/18 13/11 "),
+    Step::Rests,
+];
+
+#[test]
+fn a_turn_shows_one_picture() {
+    assert_shows(plain_settings(), &TURN_STEPS, TURN);
+}
+
+/// Connections that come and go, and the last rows that are shown then.
+static CONNECTIONS: [Scene; 5] = [
+    (
+        &[Step::Loses, Step::Opens, Step::Hears(b"\r\n"), Step::Hears(b"login: "), Step::Rests, Step::Rests],
+        "connected to fibs.com:4321\nNot logged in: wrong name or password? quit, and begin again.\n",
+    ),
+    (
+        &[
+            Step::Loses,
+            Step::Opens,
+            Step::Rests,
+            Step::Hears(b"login: 1 ann 1041253132 localhost\r\n"),
+            Step::Hears(b"login: "),
+            Step::Rests,
+        ],
+        "connected to fibs.com:4321\nWelcome, ann. Last login: 30 December 2002, 12:58, from localhost.\n",
+    ),
+    (
+        &[Step::Loses, Step::Opens, Step::Hears(b"login: 7 carol carol logs in.\r\n"), Step::Rests],
+        "connected to fibs.com:4321\ncarol logs in.\n",
+    ),
+    (
+        &[Step::Types(b"roll"), Step::Loses],
+        "roll may have reached the server or not\nlost: open connects again, quit ends\n",
+    ),
+    (&[Step::Fails], "no connection to fibs.com:4321: connection refused; open tries again\n"),
+];
+
+#[test]
+fn connections_come_and_go() {
+    assert_scenes(plain_settings(), &CONNECTIONS);
+}
+
+/// Lines that are typed, and the last rows that are shown then.
+static TYPED: [Scene; 19] = [
+    (&[Step::Types(b"send accept")], "sent as it is: accept\n"),
+    (&[Step::Types(b"send roll")], "Type it without send: roll\n"),
+    (&[Step::Types(b"roll"), Step::Types(b"send roll")], "sent as it is: roll\n"),
+    (&[Step::Types(b"nonsense")], "unknown: help lists the words\n"),
+    (&[Step::Types(b"leave")], "sent as it is: leave\n"),
+    (&[Step::Types(b"ratings bob")], "not a word of this client: send ratings bob sends it as it is\n"),
+    (&[Step::Types(b"Show Saved")], "not a word of this client: send show Saved sends it as it is\n"),
+    (&[Step::Types(b"toggle double")], "not a word of this client: send toggle double sends it as it is\n"),
+    (
+        &[Step::Types(b"invite carol unlimited")],
+        "not a word of this client: send invite carol unlimited sends it as it is\n",
+    ),
+    (
+        &[Step::Types(b"average of all that bob has played")],
+        "not a word of this client: send average .. sends it as it is\n",
+    ),
+    (&[Step::Types(b"exit")], "quit ends the program, bye leaves the server\n"),
+    (&[Step::Types(b"q")], "quit ends the program, bye leaves the server\n"),
+    (&[Step::Types(b"resign")], "The client then waits for a new board. If it is declined, the screen says more.\n"),
+    (
+        &[Step::Types(b"accept"), Step::Rests],
+        "That can't be done on this board: help says what can. [8 WrongKind]\nYour turn: roll, or double.\n",
+    ),
+    (
+        &[Step::Types(b"toggle greedy"), Step::Rests],
+        "It is off already, or will be at your next login. [10 NotOn]\nYour turn: roll, or double.\n",
+    ),
+    (&[Step::Types(b"help"), Step::Rests], "help WORD says more about a word.\nYour turn: roll, or double.\n"),
+    (&[Step::Types(b"help roll"), Step::Rests], "roll (or r): rolls your dice.\n"),
+    (&[Step::Types(b"help DOUBLE")], "No such word: help lists the words.\n"),
+    (
+        &[Step::Types(b"say hi"), Step::Hears(b"** 1 user heard you.\r\n"), Step::Rests],
+        "sent say hi\n** 1 user heard you.\n",
+    ),
+];
+
+#[test]
+fn typed_lines_are_answered() {
+    assert_scenes(plain_settings(), &TYPED);
+}
+
+/// Lines of the server among others, and the last rows that are shown then.
+static HEARD: [Scene; 3] = [
+    (
+        &[Step::Types(b"gag bob"), Step::Hears(b"12 bob hi\r\n"), Step::Hears(b"13 bob hi\r\n")],
+        "bob is gagged on this screen: ungag ends it.\n",
+    ),
+    (
+        &[
+            Step::Types(b"roll"),
+            Step::Hears(TO_MOVE),
+            Step::Types(b"plays"),
+            Step::Types(b"move 24-18 13-11"),
+            Step::Hears(MOVED),
+        ],
+        "bob's turn.\n",
+    ),
+    (
+        &[
+            Step::Types(b"who"),
+            Step::Hears(b"5 bob ann - 0 0 1623.45 0 0 1 host - -\r\n"),
+            Step::Hears(b"5 carol - bob 0 1 1701.00 0 0 1 host - -\r\n"),
+            Step::Hears(b"5 dave - - 1 0 900.05 0 0 1 host - -\r\n"),
+            Step::Hears(b"6\r\n"),
+            Step::Types(b"players"),
+        ],
+        "3 players: type players
+player                  rating  points    idle   does
+bob                    1623.45       0     0 m   plays ann
+carol                  1701.00       0     0 m   watches bob, away
+dave                    900.05       0     0 m   ready
+3 players.
+",
+    ),
+];
+
+#[test]
+fn lines_of_the_server_are_shown() {
+    assert_scenes(plain_settings(), &HEARD);
+}
+
+/// Rows of a picture of 60 columns, in bold: dice of the player's, his checkers, and the cube.
+static BOLD_ROWS: [&str; 3] = [
+    " | X                |   | \x1b[1mO\x1b[0m                |     dice  \x1b[1m6\x1b[0m \x1b[1m2\x1b[0m\n",
+    " | X           \x1b[1mO\x1b[0m    |   | \x1b[1mO\x1b[0m              X |     score 0\n",
+    " |                  |BAR|                  |   cube 1, free\n",
+];
+
+/// The first board with dice.
+static TO_MOVE_STEPS: [Step<'static>; 2] = [Step::Hears(WELCOME), Step::Hears(TO_MOVE)];
+
+#[test]
+fn what_is_the_players_is_bold() {
+    let settings = Settings { columns: 60, ..colour_settings() };
+    assert_has(settings, &TO_MOVE_STEPS, &BOLD_ROWS);
+}
+
+/// Rows of the upper half after the opponent's move: the two checkers that have come to 20 are marked.
+static MARKED_ROWS: [&str; 2] = [
+    " | \x1b[1mO\x1b[0m           X    |   | X  \x1b[35mX\x1b[0m           \x1b[1mO\x1b[0m |     score 1\n",
+    " | \x1b[1mO\x1b[0m                |   | X                |     pips  163\n",
+];
+
+/// The opponent's move after the first board.
+static LAST_MOVE: [Step<'static>; 4] =
+    [Step::Hears(WELCOME), Step::Hears(SETTINGS), Step::Hears(TO_ROLL), Step::Hears(POINT_MADE)];
+
+#[test]
+fn the_opponents_last_move_is_marked() {
+    assert_has(colour_settings(), &LAST_MOVE, &MARKED_ROWS);
+    let plain = shown(plain_settings(), &[], &LAST_MOVE);
+    assert!(!plain.as_bytes().contains(&b'\x1b'));
+}

@@ -1,0 +1,286 @@
+//! What a terminal remembers, and for how long.
+
+use super::lines::{FIRST_BOARD, MOVED, POINT_MADE, TO_MOVE, TO_ROLL, WELCOME};
+use super::seats::{Scene, Step, assert_scenes, assert_wanted, colour_settings, plain_settings, shown};
+use crate::fibs_environment::Settings;
+
+/// The first board against another opponent.
+const WITH_CAROL: &[u8] =
+    b"board:You:carol:3:0:1:0:-2:0:0:0:0:5:0:3:0:0:0:-5:5:0:0:0:-3:0:-5:0:0:0:0:2:0:1:0:0:0:0:1:1:1:0:1:-1:0:25:0:0:0:0:2:0:0:0\r\n";
+
+/// A board on which the opponent has the turn, and may not double.
+const MOVED_BEFORE_A_ROLL: &[u8] =
+    b"board:You:bob:3:0:1:0:-2:0:0:0:0:5:0:3:0:0:0:-5:5:0:0:0:-3:1:-5:0:0:0:0:1:0:-1:0:0:0:0:1:1:0:0:1:-1:0:25:0:0:0:0:0:0:0:0\r\n";
+
+/// The board after the opponent's move, of another opponent; and one of so many checkers elsewhere that it was no
+/// move.
+const POINT_OF_CAROL: &[u8] =
+    b"board:You:carol:3:0:1:0:-2:0:0:0:0:5:0:3:0:0:0:-5:5:0:0:0:-2:0:-4:-2:0:0:0:2:0:1:0:0:0:0:1:1:1:0:1:-1:0:25:0:0:0:0:2:0:0:0\r\n";
+
+const FIVE_MOVED: &[u8] =
+    b"board:You:bob:3:0:1:0:-2:0:0:0:0:5:0:3:0:0:0:0:5:0:0:0:-3:-5:-5:0:0:0:0:2:0:1:0:0:0:0:1:1:1:0:1:-1:0:25:0:0:0:0:2:0:0:0\r\n";
+
+/// A board against an opponent whose name is wider than a terminal.
+const LONG_NAME: &[u8] =
+    b"board:You:aaaaaaaaaaaaaaaaaaaaaaaaaaaaaaaaaaaaaaaaaaaaaaaa:3:0:1:0:-2:0:0:0:0:5:0:3:0:0:0:-5:5:0:0:0:-3:0:-5:0:0:0:0:2:0:1:0:0:0:0:1:1:1:0:1:-1:0:25:0:0:0:0:2:0:0:0\r\n";
+
+/// A board on which the user can't move.
+const ENTRY_CLOSED: &[u8] =
+    b"board:You:bob:5:0:0:0:0:0:0:0:0:14:0:0:0:0:0:0:0:0:0:0:0:0:-2:-2:-2:-2:-2:-2:1:1:3:1:0:0:1:1:1:0:1:-1:0:25:0:3:1:0:0:0:0:0\r\n";
+
+/// The first board after its game.
+const GAME_OVER: &[u8] =
+    b"board:You:bob:3:0:1:0:-2:0:0:0:0:5:0:3:0:0:0:-5:5:0:0:0:-3:0:-5:0:0:0:0:2:0:0:0:0:0:0:1:1:1:0:1:-1:0:25:0:0:0:0:2:0:0:0\r\n";
+
+/// What the server says of one who wants to resign.
+const RESIGNS: &[u8] = b"bob wants to resign. You will win 1 point.\r\n";
+
+/// The settings of a plain terminal with a bell.
+fn bell_settings() -> Settings<'static> {
+    Settings { bell: true, ..plain_settings() }
+}
+
+/// Of a connection that is lost nothing is said, and of one before it neither.
+static LOST: [Scene; 3] = [
+    (&[Step::Hears(RESIGNS), Step::Loses, Step::Rests], "point.\n\x07lost: open connects again, quit ends\n"),
+    (&[Step::Hears(RESIGNS), Step::Loses, Step::Opens, Step::Rests], "quit ends\nconnected to fibs.com:4321\n"),
+    (
+        &[Step::Hears(b"5 bob - - 1 0 1623.45 0 0 1 host - -\r\n"), Step::Loses, Step::Opens, Step::Hears(b"6\r\n")],
+        "quit ends\nconnected to fibs.com:4321\n",
+    ),
+];
+
+#[test]
+fn what_was_said_before_a_loss_is_forgotten() {
+    assert_scenes(bell_settings(), &LOST);
+}
+
+/// A board is drawn again, and nobody was waited for.
+static DRAWN_AGAIN: [Scene; 2] = [
+    (&[Step::Loses, Step::Opens, Step::Hears(WELCOME), Step::Hears(TO_ROLL)], "   O You\n"),
+    (
+        &[Step::Hears(MOVED), Step::Loses, Step::Opens, Step::Hears(TO_ROLL)],
+        "connected to fibs.com:4321\n +13-14-15-16-17-18-+---+19-20-21-22-23-24-+   X bob
+ | O           X    |   | X              O |     score 1
+ | O           X    |   | X              O |     off   0
+ | O           X    |   | X                |     pips  167
+ | O                |   | X                |     dice  -
+ | O                |   | X                |   match to 3
+ |                  |BAR|                  |   cube 1, in the middle
+ | X                |   | O                |   your turn
+ | X                |   | O                |     dice  -
+ | X           O    |   | O                |     pips  167
+ | X           O    |   | O              X |     off   0
+ | X           O    |   | O              X |     score 0
+ +12-11-10--9--8--7-+---+-6--5--4--3--2--1-+   O You
+",
+    ),
+];
+
+#[test]
+fn a_board_is_drawn_again() {
+    assert_scenes(bell_settings(), &DRAWN_AGAIN);
+}
+
+/// What is quiet, and whose words are kept.
+static QUIET: [Scene; 3] = [
+    (
+        &[
+            Step::Types(b"quiet"),
+            Step::Hears(b"7 carol carol logs in.\r\n"),
+            Step::Hears(b"8 carol\r\n"),
+            Step::Hears(b"13 carol hi\r\n"),
+            Step::Hears(b"5 bob - - 1 0 1623.45 0 0 1 host - -\r\n"),
+            Step::Hears(b"6\r\n"),
+            Step::Hears(b"12 bob hi\r\n"),
+        ],
+        "quiet: no shouts, and not who comes and goes; loud shows them.\n\x0713:07 bob says: hi\n",
+    ),
+    (
+        &[
+            Step::Types(b"gag bob"),
+            Step::Hears(b"14 bob hi\r\n"),
+            Step::Hears(b"15 bob hi\r\n"),
+            Step::Hears(b"9 bob 1041253132 hi\r\n"),
+            Step::Hears(b"7 bob bob logs in.\r\n"),
+        ],
+        "bob is gagged on this screen: ungag ends it.\n",
+    ),
+    (
+        &[
+            Step::Types(b"gag bob"),
+            Step::Types(b"gag carol"),
+            Step::Types(b"ungag bob"),
+            Step::Hears(b"12 carol hi\r\n"),
+            Step::Hears(b"12 bob hi\r\n"),
+        ],
+        "bob is heard again.\n\x0713:07 bob says: hi\n",
+    ),
+];
+
+#[test]
+fn what_is_quiet_is_not_shown() {
+    assert_scenes(bell_settings(), &QUIET);
+}
+
+/// The bell: at a turn after the opponent's, at a loss, at a message that was left; not at the opponent's turn.
+static RUNG: [Scene; 4] = [
+    (&[Step::Hears(MOVED)], "Your turn: roll, or double.\nbob's turn.\n"),
+    (&[Step::Hears(MOVED), Step::Hears(TO_ROLL), Step::Rests], "bob's turn.\n\x07Your turn: roll, or double.\n"),
+    (&[Step::Loses], "Your turn: roll, or double.\n\x07lost: open connects again, quit ends\n"),
+    (
+        &[Step::Hears(b"9 carol 1041253132 see you\r\n")],
+        "double.\n\x07carol left a message on 30 December 2002, 12:58: see you\n",
+    ),
+];
+
+#[test]
+fn the_bell_rings() {
+    assert_scenes(bell_settings(), &RUNG);
+}
+
+/// A board of another opponent is drawn; one that was asked for is drawn once; what it says is said once.
+static BOARDS: [Scene; 5] = [
+    (&[Step::Hears(WITH_CAROL)], "   O You\n You roll, or double, or resign.\n"),
+    (
+        &[Step::Types(b"board"), Step::Hears(TO_ROLL), Step::Hears(MOVED)],
+        "sent board\n +13-14-15-16-17-18-+---+19-20-21-22-23-24-+   X bob
+ | O           X    |   | X              O |     score 1
+ | O           X    |   | X              O |     off   0
+ | O           X    |   | X                |     pips  167
+ | O                |   | X                |     dice  -
+ | O                |   | X                |   match to 3
+ |                  |BAR|                  |   cube 1, in the middle
+ | X                |   | O                |   your turn
+ | X                |   | O                |     dice  -
+ | X           O    |   | O                |     pips  167
+ | X           O    |   | O              X |     off   0
+ | X           O    |   | O              X |     score 0
+ +12-11-10--9--8--7-+---+-6--5--4--3--2--1-+   O You
+ You roll, or double, or resign.
+bob's turn.\n",
+    ),
+    (
+        &[
+            Step::Hears(b"bob's turn.\r\n"),
+            Step::Hears(MOVED),
+            Step::Hears(MOVED),
+            Step::Hears(MOVED_BEFORE_A_ROLL),
+            Step::Hears(MOVED_BEFORE_A_ROLL),
+        ],
+        "double.\nbob's turn.\nbob's turn.\n",
+    ),
+    (
+        &[Step::Hears(ENTRY_CLOSED), Step::Hears(b"You can't move.\r\n")],
+        "double.\nYou can't move: the server passes for you.\n",
+    ),
+    (&[Step::Hears(GAME_OVER), Step::Hears(GAME_OVER)], "double.\nThe game is over. You 0, bob 1 of 3.\n"),
+];
+
+#[test]
+fn a_board_is_shown_once() {
+    assert_scenes(bell_settings(), &BOARDS);
+}
+
+/// The rule that a move breaks is that of the last one.
+static MOVES: [Scene; 1] = [(
+    &[Step::Types(b"roll"), Step::Hears(TO_MOVE), Step::Types(b"move 23-22"), Step::Types(b"move 22-21")],
+    "You have no checker on 23. [9 IllegalPlay]\nYou have no checker on 22. [9 IllegalPlay]\n",
+)];
+
+#[test]
+fn the_rule_is_that_of_the_last_move() {
+    assert_scenes(bell_settings(), &MOVES);
+}
+
+/// A list that was asked for is counted, each anew; who changes alone is in a row, and what else changes is listed.
+static LISTS: [Scene; 3] = [
+    (
+        &[
+            Step::Types(b"who"),
+            Step::Hears(b"5 bob - - 1 0 1623.45 0 0 1 host - -\r\n"),
+            Step::Hears(b"5 carol - - 1 0 1701.00 0 0 1 host - -\r\n"),
+            Step::Hears(b"6\r\n"),
+            Step::Hears(b"5 dave - - 1 0 900.05 0 0 1 host - -\r\n"),
+            Step::Hears(b"6\r\n"),
+        ],
+        "sent who\n2 players: type players\ndave (900.05): ready\n",
+    ),
+    (
+        &[
+            Step::Hears(b"5 bob - - 1 0 1623.45 0 0 1 host - -\r\n"),
+            Step::Hears(b"6\r\n"),
+            Step::Hears(b"5 dave - - 1 0 900.05 0 0 1 host - -\r\n"),
+            Step::Hears(b"6\r\n"),
+        ],
+        "bob (1623.45): ready\ndave (900.05): ready\n",
+    ),
+    (
+        &[
+            Step::Loses,
+            Step::Opens,
+            Step::Hears(WELCOME),
+            Step::Hears(b"5 bob - - 1 0 1623.45 0 0 1 host - -\r\n"),
+            Step::Hears(b"5 carol - - 1 0 1701.00 0 0 1 host - -\r\n"),
+            Step::Hears(b"6\r\n"),
+            Step::Hears(b"5 bob carol - 0 0 1623.45 0 0 1 host - -\r\n"),
+            Step::Hears(b"5 carol bob - 0 0 1701.00 0 0 1 host - -\r\n"),
+            Step::Hears(b"6\r\n"),
+        ],
+        "from localhost.\n2 players: type players\n",
+    ),
+];
+
+#[test]
+fn each_list_is_counted_anew() {
+    assert_scenes(bell_settings(), &LISTS);
+}
+
+/// Boards after which nothing was the opponent's last move.
+static UNMARKED: [&[Step<'static>]; 3] = [
+    &[Step::Hears(FIVE_MOVED)],
+    &[Step::Hears(POINT_OF_CAROL)],
+    &[Step::Hears(POINT_MADE), Step::Loses, Step::Opens, Step::Hears(b"here again\r\n"), Step::Hears(POINT_MADE)],
+];
+
+/// What follows the words `here again` in a text, or all of it if they are not there.
+fn last_of(text: &str) -> &str {
+    match text.rsplit_once("here again") {
+        Some((_, last)) => last,
+        None => text,
+    }
+}
+
+/// Asserts that the last board that is shown has no mark.
+fn assert_unmarked(steps: &[Step<'_>]) {
+    let text = shown(colour_settings(), &FIRST_BOARD, steps);
+    let last = last_of(&text);
+    let is_unmarked = last.contains("O You") && !last.contains("\x1b[35m");
+    assert_wanted(is_unmarked, last, "a board without a mark");
+}
+
+#[test]
+fn what_is_no_last_move_is_not_marked() {
+    for steps in &UNMARKED {
+        assert_unmarked(steps);
+    }
+}
+
+/// The width of the widest row of a picture in a text.
+fn widest_row(text: &str) -> usize {
+    let mut widest = 0;
+    for row in text.lines() {
+        if row.starts_with(" +") || row.starts_with(" |") {
+            widest = row.len().max(widest);
+        }
+    }
+    widest
+}
+
+/// No row of a picture is wider than the terminal.
+#[test]
+fn a_picture_is_cut_to_the_columns() {
+    let settings = Settings { columns: 60, ..plain_settings() };
+    let text = shown(settings, &FIRST_BOARD, &[Step::Hears(LONG_NAME)]);
+    assert_wanted(widest_row(&text) == 60, &text, "60 columns");
+}

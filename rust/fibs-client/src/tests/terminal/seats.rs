@@ -1,0 +1,252 @@
+//! A client and a terminal, to which a server's lines and typed lines are given.
+
+use super::lines::FIRST_BOARD;
+use crate::fibs_environment::{Settings, Zone};
+use crate::fibs_front::fault::FrontFault;
+use crate::fibs_front::front::Front;
+use crate::fibs_front::said::Said;
+use crate::fibs_front::typed_line::TypedLine;
+use crate::fibs_front::wish::Wish;
+use crate::fibs_front::words::Words;
+use crate::fibs_messages::Reading;
+use crate::fibs_position::GameBoard;
+use crate::fibs_session::{Client, Directory, Login, Taken};
+use crate::fibs_terminal::Terminal;
+use crate::fibs_typed::typing::{Typed, read_typed};
+use crate::rattle::io;
+use crate::rattle::io::{ErrorKind, Write};
+use crate::rattle::time::{Clock, Duration};
+
+/// A clock that stands still, at 13:07 on 5 January 2003.
+#[derive(Clone, Copy)]
+pub struct Stopped;
+
+impl Clock for Stopped {
+    fn monotonic(&self) -> io::Result<Duration> {
+        Ok(Duration::from_secs(0))
+    }
+
+    fn since_1970(&self) -> io::Result<Duration> {
+        Ok(Duration::from_secs(1_041_772_020))
+    }
+}
+
+/// What happens at a seat.
+#[derive(Clone, Copy)]
+pub enum Step<'a> {
+    /// The server sends a line.
+    Hears(&'a [u8]),
+    /// The user types a line.
+    Types(&'a [u8]),
+    /// The terminal lets the user type.
+    Rests,
+    /// A connection is made.
+    Opens,
+    /// No connection can be made.
+    Fails,
+    /// The connection is over.
+    Loses,
+}
+
+/// The settings of a plain terminal of 80 columns.
+pub fn plain_settings() -> Settings<'static> {
+    Settings {
+        columns: 80,
+        colour: false,
+        bell: false,
+        words: false,
+        utf8: false,
+        zone: Zone::utc(),
+        host: b"fibs.com",
+        port: 4321,
+    }
+}
+
+/// A client, and the players that it knows.
+struct Seat {
+    client: Client,
+    directory: Directory,
+}
+
+impl Seat {
+    /// The seat of a user who is connected.
+    fn new() -> Seat {
+        let login = Login::new(b"ann", b"secret").expect("it is a login");
+        let mut client = Client::new(login);
+        let _login = client.open();
+        let directory = Directory::new();
+        Seat { client, directory }
+    }
+
+    /// Tells what the server says by a line.
+    fn hear<F: Front>(&mut self, line: &[u8], front: &mut F) -> Result<(), FrontFault> {
+        let heard = self.client.read(line);
+        match self.client.got(heard).taken {
+            Some(taken) => tell_taken(&mut self.directory, &taken, front),
+            None => Ok(()),
+        }
+    }
+
+    /// Gives a line to the client, and tells what it answers.
+    fn say<F: Front>(&mut self, line: &[u8], front: &mut F) -> Result<(), FrontFault> {
+        match read_typed(&self.client, line) {
+            Typed::Decision(decision) => front.tell(&match &self.client.decide(&decision) {
+                Ok(command) => Said::Sent(command),
+                Err(why) => Said::Refused(*why),
+            }),
+            Typed::Plain(plain) => front.tell(&match &self.client.plain(&plain) {
+                Ok(command) => Said::Sent(command),
+                Err(why) => Said::NotSent(*why),
+            }),
+            Typed::Order | Typed::Withdrawal => Ok(()),
+            Typed::Unknown => front.tell(&Said::Unknown),
+        }
+    }
+
+    /// Takes a line that is typed.
+    fn take_line<F: Words>(&mut self, line: &[u8], front: &mut F) -> Result<(), FrontFault> {
+        let mut typed = TypedLine::new();
+        let _fits = typed.try_extend_from_slice(line);
+        match front.wish(&self.client, &self.directory, &mut typed)? {
+            Wish::Say => self.say(typed.as_slice(), front),
+            Wish::Send => front.tell(&Said::Passed(typed.as_slice())),
+            Wish::Open | Wish::Players | Wish::Quit | Wish::TooLong | Wish::Listen | Wish::Answered => Ok(()),
+        }
+    }
+
+    /// Takes a step.
+    fn take_step<F: Words>(&mut self, step: Step<'_>, front: &mut F) -> Result<(), FrontFault> {
+        match step {
+            Step::Hears(line) => self.hear(line, front),
+            Step::Types(line) => self.take_line(line, front),
+            Step::Rests => front.rest(&self.client, &self.directory),
+            Step::Opens => {
+                let _login = self.client.open();
+                front.tell(&Said::Opened)
+            }
+            Step::Fails => front.tell(&Said::NoConnection(ErrorKind::ConnectionRefused)),
+            Step::Loses => front.tell(&Said::Lost(&self.client.lose())),
+        }
+    }
+
+    /// Takes steps one after another.
+    fn take_steps<F: Words>(&mut self, steps: &[Step<'_>], front: &mut F) -> Result<(), FrontFault> {
+        for step in steps {
+            self.take_step(*step, front)?;
+        }
+        Ok(())
+    }
+
+    /// Takes some steps, and those after them.
+    fn take_both<F: Words>(
+        &mut self,
+        before: &[Step<'_>],
+        steps: &[Step<'_>],
+        front: &mut F,
+    ) -> Result<(), FrontFault> {
+        self.take_steps(before, front)?;
+        self.take_steps(steps, front)
+    }
+}
+
+/// Tells of a line, with the board of the user's game that it says.
+fn tell_heard<F: Front>(game: Option<&GameBoard>, taken: &Taken<'_>, front: &mut F) -> Result<(), FrontFault> {
+    front.tell(&Said::Heard(&taken.line, &taken.reading, game))
+}
+
+/// Tells what was taken of a line.
+fn tell_taken<F: Front>(directory: &mut Directory, taken: &Taken<'_>, front: &mut F) -> Result<(), FrontFault> {
+    let found = game_in(&taken.reading);
+    tell_heard(found.as_ref(), taken, front)?;
+    note(directory, &taken.reading, front)?;
+    match &taken.confirmed {
+        Some(asked) => front.tell(&Said::Confirmed(asked)),
+        None => Ok(()),
+    }
+}
+
+/// The board that a reading says, with its position, if the user plays in its game.
+fn game_in(reading: &Reading<'_>) -> Option<GameBoard> {
+    match reading {
+        Reading::Board(board) => GameBoard::of(board).ok(),
+        _ => None,
+    }
+}
+
+/// Tells of the user's game, and notes a player.
+fn note<F: Front>(directory: &mut Directory, reading: &Reading<'_>, front: &mut F) -> Result<(), FrontFault> {
+    match reading {
+        Reading::Board(_) => match game_in(reading) {
+            Some(game) => front.tell(&Said::Game(&game)),
+            None => Ok(()),
+        },
+        Reading::Numbered(message) => match directory.note(message) {
+            Ok(_) => Ok(()),
+            Err(_) => Err(FrontFault::Output),
+        },
+        _ => Ok(()),
+    }
+}
+
+/// What the screen shows after some steps and those after them, of a user who is connected.
+pub fn shown(settings: Settings<'_>, before: &[Step<'_>], steps: &[Step<'_>]) -> String {
+    let mut shown = Vec::new();
+    show_on(settings, before, steps, &mut shown).expect("it is shown");
+    String::from_utf8(shown).expect("it is UTF-8")
+}
+
+/// The same on any writer.
+pub fn show_on<W: Write>(
+    settings: Settings<'_>,
+    before: &[Step<'_>],
+    steps: &[Step<'_>],
+    out: W,
+) -> Result<(), FrontFault> {
+    let mut terminal = Terminal::new(out, Stopped, settings);
+    Seat::new().take_both(before, steps, &mut terminal)
+}
+
+/// Asserts that a text is as it is wanted.
+pub fn assert_wanted(is_wanted: bool, text: &str, wanted: &str) {
+    assert!(is_wanted, "wanted {wanted}, and there is {text}");
+}
+
+/// Asserts that a text is answered as it should be.
+pub fn assert_of(is_right: bool, text: &[u8]) {
+    assert!(is_right, "{text:?}");
+}
+
+/// Asserts what the screen shows after some steps.
+pub fn assert_shows(settings: Settings<'_>, steps: &[Step<'_>], wanted: &str) {
+    let text = shown(settings, &[], steps);
+    assert_wanted(text.as_str() == wanted, &text, wanted);
+}
+
+/// Asserts that what the screen shows after some steps and those after them ends by these rows.
+pub fn assert_ends(settings: Settings<'_>, before: &[Step<'_>], steps: &[Step<'_>], rows: &str) {
+    let text = shown(settings, before, steps);
+    assert_wanted(text.ends_with(rows), &text, rows);
+}
+
+/// Steps, and the last rows that are shown then.
+pub type Scene = (&'static [Step<'static>], &'static str);
+
+/// Asserts for each scene that what the screen shows from the first board on ends by its rows.
+pub fn assert_scenes(settings: Settings<'_>, scenes: &[Scene]) {
+    for (steps, rows) in scenes {
+        assert_ends(settings, &FIRST_BOARD, steps, rows);
+    }
+}
+
+/// Asserts that what the screen shows after steps has each of these rows.
+pub fn assert_has(settings: Settings<'_>, steps: &[Step<'_>], rows: &[&str]) {
+    let text = shown(settings, &[], steps);
+    for row in rows {
+        assert_wanted(text.contains(*row), &text, row);
+    }
+}
+
+/// The settings of a terminal of 80 columns, with colours.
+pub fn colour_settings() -> Settings<'static> {
+    Settings { colour: true, ..plain_settings() }
+}

@@ -1,0 +1,7 @@
+//! Turns of a client with a stream.
+
+mod connected;
+mod exchange;
+mod flushing;
+mod orders;
+mod printing;
