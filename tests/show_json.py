@@ -16,12 +16,10 @@ import sys
 
 sys.dont_write_bytecode = True
 from props.checks import Failed, same  # noqa: E402
+from props.schemas import fault_in, schema  # noqa: E402
 
 ROOT = pathlib.Path(__file__).resolve().parent.parent
-SCHEMA = json.loads((ROOT / 'docs' / 'lines.schema.json').read_text())
 FORMATS = (ROOT / 'docs' / 'FORMATS.md').read_text()
-TYPES = {'object': dict, 'array': list, 'string': str, 'boolean': bool, 'null': type(None), 'integer': int,
-         'number': (int, float)}
 
 BOARD = (b'board:You:someplayer:3:0:1:0:-2:0:0:0:0:5:0:3:0:0:0:-5:5:0:0:0:-3:0:-5:0:0:0:0:2:0:1:6:2:0:0:1:1:1:0:1:-1:'
          b'0:25:0:0:0:0:2:0:0:0')
@@ -84,47 +82,6 @@ ROWS = [
 ]
 
 
-def fault_in(value, schema):
-    """What is wrong with a value by the schema, or None. It knows what the schema uses, and no more."""
-    unknown = set(schema) - {'$schema', '$defs', '$ref', 'title', 'description', 'oneOf', 'type', 'const', 'enum',
-                             'properties', 'required', 'additionalProperties', 'items', 'minItems', 'maxItems',
-                             'minimum', 'maximum', 'pattern'}
-    if unknown:
-        raise Failed('the schema has %r' % unknown)
-    if '$ref' in schema:
-        return fault_in(value, SCHEMA['$defs'][schema['$ref'].rsplit('/', 1)[1]])
-    if 'oneOf' in schema:
-        fits = [one for one in schema['oneOf'] if fault_in(value, one) is None]
-        return None if len(fits) == 1 else '%d of its kinds fit' % len(fits)
-    allowed = [schema['const']] if 'const' in schema else schema.get('enum')
-    if allowed and not any(type(one) is type(value) and one == value for one in allowed):
-        return '%r is none of %r' % (value, allowed)
-    kinds = schema.get('type', [])
-    kinds = [kinds] if isinstance(kinds, str) else kinds
-    if kinds and not any(isinstance(value, TYPES[kind]) and (kind == 'boolean' or not isinstance(value, bool))
-                         for kind in kinds):
-        return '%r is no %s' % (value, ' or '.join(kinds))
-    return fault_of_parts(value, schema)
-
-
-def fault_of_parts(value, schema):
-    """What is wrong with the members of an object, the items of an array, a number or a string."""
-    if isinstance(value, dict):
-        if list(value) != schema['required'] or list(value) != list(schema['properties']):
-            return 'its members are %r' % list(value)
-        return next(filter(None, (fault_in(value[name], schema['properties'][name]) for name in value)), None)
-    if isinstance(value, list):
-        if not schema['minItems'] <= len(value) <= schema['maxItems']:
-            return '%d items' % len(value)
-        return next(filter(None, (fault_in(one, schema['items']) for one in value)), None)
-    if isinstance(value, str) and not re.search(schema.get('pattern', ''), value):
-        return '%r has another character' % value
-    if isinstance(value, (int, float)) and not isinstance(value, bool):
-        if not schema.get('minimum', value) <= value <= schema.get('maximum', value):
-            return '%r is out of range' % value
-    return None
-
-
 def shown(program, given, *options):
     """The lines that `fibs show` prints of some bytes."""
     done = subprocess.run([program, 'show', *options], input=given, capture_output=True, timeout=60, check=False)
@@ -137,7 +94,7 @@ def objects(program, given):
     found = []
     for line in shown(program, given, '--json'):
         one = json.loads(line)
-        fault = fault_in(one, SCHEMA)
+        fault = fault_in(one, schema('lines'), 'lines')
         if fault:
             raise Failed('%r: %s' % (line, fault))
         if re.search(rb'[^ -~]', line):
@@ -159,7 +116,7 @@ def the_rows_are_printed(program):
 
 
 def the_schema_has_no_other_message(_program):
-    words = [one['properties']['message']['const'] for one in SCHEMA['oneOf'] if 'message' in one['properties']]
+    words = [one['properties']['message']['const'] for one in schema('lines')['$defs']['message']['oneOf']]
     same('its words', words, [rest['message'] for _, kind, rest in ROWS if kind == 'message'])
 
 

@@ -1,7 +1,9 @@
 -- The parts of an object, one after the other.
 use Rattle.std.proofs.Common.{◌≡◌, ◌≤◌, ◌+◌, ◌*◌, ℕ, Bool, true, false, List, [], ◌∷◌, ◌++◌, codes, map, sum, refl, sym}
 use Rattle.std.proofs.Common.{ap, subst, ◌∙◌, append_assoc, append-nil, arith, inl}
+use Rattle.std.proofs.Common.{take, get_or, ◌<◌, length}
 use Rattle.std.specs.List.{flat_map, range_with_len}
+use Rattle.std.proofs.lemmas.List.{map-append, take_more}
 use Rattle.std.proofs.lemmas.List.FromFn.{map-range_with_len_more}
 use Rattle.std.proofs.lemmas.List.Sums.{sum_by_push}
 use Rattle.std.proofs.Math.Nat.{mul-le-mul_left}
@@ -9,7 +11,10 @@ use Rattle.fibs_engine.proofs.EscapeLemmas.{flat_map-append}
 use Rattle.fibs_lines.specs.Lines.{ReadLine}
 use Rattle.fibs_fields.specs.Field.{FieldValue}
 use Rattle.fibs_boards.specs.Board.{BoardFields}
-use Rattle.fibs_messages.specs.Line.{IsReading, ReadingValue}
+use Rattle.fibs_messages.specs.Line.{IsReading, ReadingValue, board_line, reading_of}
+use Rattle.fibs_messages.specs.declared.line.Reading.{Reading}
+use Rattle.fibs_messages.specs.declared.line.Reading.TheVariants as R
+use Rattle.fibs_boards.specs.declared.board.Board.{Board}
 use Rattle.fibs_messages.specs.Message.{MessageValue}
 use Rattle.fibs_position.specs.GoodBoard.{IsGood}
 use Rattle.fibs_position.specs.Phases.{InPhase}
@@ -17,9 +22,10 @@ use Rattle.fibs_position.specs.PositionValue.{PositionValue, position_of}
 use Rattle.fibs_position.specs.declared.phase.Phase.{Phase}
 use Rattle.fibs_json.specs.Boards.{PositionMembers, position_members}
 use Rattle.fibs_json.specs.Columns.{NamedField, field_member, field_members, message_members, row_of}
-use Rattle.fibs_json.specs.Gains.{field_text, opening}
+use Rattle.fibs_json.specs.Gains.{field_text}
 use Rattle.fibs_json.specs.Json.{Member, member, more_member, more_members, quoted, string, whole}
-use Rattle.fibs_json.specs.Lines.{LineObject, ObjectAs, ReadObject, ending, line_object}
+use Rattle.fibs_json.specs.Lines.{HeardAs, HeardObject, LineObject, ObjectAs, ReadObject, ending, line_object}
+use Rattle.fibs_json.specs.Lines.{object_with, opening}
 
 -- the front of an object, its further members and its end are the object
 pub closed : (kind bytes : List ℕ) (ms : List Member)
@@ -153,3 +159,75 @@ pips_more f pips place away count near few here before = (
       (omega (arith, before.0, here)),
   let most : away * count ≤ away * 15 = mul-le-mul_left away few in omega (arith, before.1),
 )
+
+-- a text that gained the front, the text of further members and the end gained the object
+pub gained_with : (old kind bytes more one two three : List ℕ) → one ≡ old ++ opening kind bytes → two ≡ one ++ more
+    → three ≡ two ++ (125 ∷ []) → three ≡ old ++ object_with kind bytes more
+gained_with old kind bytes more one two three first second third =
+    third
+    ∙ ap (λ (l : List ℕ). l ++ (125 ∷ [])) (second ∙ ap (λ (l : List ℕ). l ++ more) first)
+    ∙ append_assoc (old ++ opening kind bytes) more (125 ∷ [])
+    ∙ append_assoc old (opening kind bytes) (more ++ (125 ∷ []))
+
+-- the same with members, and then a text
+pub gained_both : (old kind bytes plays one two three four five : List ℕ) (ms ns : List Member)
+    → one ≡ old ++ opening kind bytes → two ≡ one ++ more_members ms → three ≡ two ++ more_members ns
+    → four ≡ three ++ plays → five ≡ four ++ (125 ∷ [])
+    → five ≡ old ++ object_with kind bytes (more_members (ms ++ ns) ++ plays)
+gained_both old kind bytes plays one two three four five ms ns first second third fourth fifth =
+    let more : List ℕ = more_members (ms ++ ns) in
+    gained_with old kind bytes (more ++ plays) one four five first
+    (fourth ∙ ap (λ (l : List ℕ). l ++ plays) (next_members one two three ms ns second third)
+    ∙ append_assoc one more plays)
+    fifth
+
+-- the object of a line whose reading is known, if it was cut
+pub cut_heard : (line : ReadLine) (reading : ReadingValue) → line.cut ≡ true
+    → HeardObject line reading (line_object (codes "cut") line.bytes [])
+cut_heard line reading e =
+    let P : Bool → Type 0 = λ b. HeardAs b line.bytes reading (line_object (codes "cut") line.bytes []) in
+    subst P (sym e) refl
+
+-- if it was not
+pub read_heard : (line : ReadLine) (reading : ReadingValue) (text : List ℕ) → line.cut ≡ false
+    → ReadObject line.bytes reading text → HeardObject line reading text
+read_heard line reading text e is =
+    let P : Bool → Type 0 = λ b. HeardAs b line.bytes reading text in
+    subst P (sym e) is
+
+-- the texts of the items up to one, and its own
+pub items_more : {A B : Type 0} (f : A → B) (text : B → List ℕ) (xs : List A) (i : ℕ) (x : A) (old mid now : List ℕ)
+    → i < length xs → x ≡ get_or xs i x → mid ≡ old ++ flat_map text (map f (take i xs)) → now ≡ mid ++ text (f x)
+    → now ≡ old ++ flat_map text (map f (take (i + 1) xs))
+items_more f text xs i x old mid now within is before next =
+    let some = map f (take i xs) in
+    let more = ap (map f) (take_more xs i x within ∙ ap (λ y. take i xs ++ y ∷ []) (sym is))
+    ∙ map-append f (take i xs) (x ∷ []) in
+    next ∙ ap (λ (l : List ℕ). l ++ text (f x)) before ∙ append_assoc old (flat_map text some) (text (f x))
+    ∙ ap (λ (l : List ℕ). old ++ l) (sym (ap (flat_map text) more ∙ flat_map-append text some (f x ∷ [])
+    ∙ ap (λ (l : List ℕ). flat_map text some ++ l) (append-nil (text (f x)))))
+
+-- a text that had nothing, and gained an object and a line end
+pub line_whole : (none one two three shown : List ℕ) → none ≡ [] → one ≡ none ++ shown → two ≡ one ++ (10 ∷ [])
+    → three ≡ two → three ≡ shown ++ (10 ∷ [])
+line_whole none one two three shown empty first second third =
+    third ∙ second ∙ ap (λ (l : List ℕ). l ++ (10 ∷ [])) (first ∙ ap (λ (l : List ℕ). l ++ shown) empty)
+
+-- a text that gained four parts
+pub gained_four : (old a b c d one two three four : List ℕ) → one ≡ old ++ a → two ≡ one ++ b → three ≡ two ++ c
+    → four ≡ three ++ d → four ≡ old ++ (a ++ (b ++ (c ++ d)))
+gained_four old a b c d one two three four first second third fourth =
+    fourth
+    ∙ ap (λ (l : List ℕ). l ++ d) (third ∙ ap (λ (l : List ℕ). l ++ c) (second
+    ∙ ap (λ (l : List ℕ). l ++ b) first))
+    ∙ append_assoc ((old ++ a) ++ b) c d
+    ∙ append_assoc (old ++ a) b (c ++ d)
+    ∙ append_assoc old a (b ++ (c ++ d))
+
+-- a reading that is no board says none
+pub says_no_board : (r : Reading) (b : BoardFields) → ((board : Board) → r ≡ R.Board board → ⊥)
+    → reading_of r ≡ board_line b → ⊥
+says_no_board (R.Numbered message) b none e = cc
+says_no_board (R.Board board) b none e = none board refl
+says_no_board (R.Text text) b none e = cc
+says_no_board (R.Malformed number field fault) b none e = cc

@@ -1,6 +1,6 @@
 -- An object tells its line: what is in a string ends at the next quotation mark, and tells the bytes.
-use Rattle.std.proofs.Common.{◌≡◌, ◌≢◌, ◌+◌, ◌/◌, ◌%◌, ◌==◌, ℕ, Bool, true, false, cond, List, [], ◌∷◌, ◌++◌, codes, drop}
-use Rattle.std.proofs.Common.{refl, sym, ap, ◌∙◌, append_assoc, arith}
+use Rattle.std.proofs.Common.{◌≡◌, ◌/◌, ◌%◌, ◌==◌, ℕ, Bool, true, false, cond, List, [], ◌∷◌, ◌++◌, codes, drop}
+use Rattle.std.proofs.Common.{refl, sym, ap, ◌∙◌, append_assoc, arith, inl, inr}
 use Rattle.std.proofs.lemmas.Bool.Decides.{nat_tests}
 use Rattle.fibs_lines.specs.Lines.{ReadLine}
 use Rattle.fibs_messages.specs.Line.{ReadingValue, numbered_line, board_line, text_line, malformed_line}
@@ -8,7 +8,10 @@ use Rattle.fibs_json.specs.Boards.{board_members}
 use Rattle.fibs_json.specs.Columns.{message_members}
 use Rattle.fibs_json.specs.Json.{Member, character, digit, in_string, inside, is_escaped, more_member, more_members}
 use Rattle.fibs_json.specs.Json.{quoted}
-use Rattle.fibs_json.specs.Lines.{LineObject, ObjectAs, ObjectsTellLines, ReadObject, line_object}
+use Rattle.fibs_json.specs.Lines.{ObjectAs, ObjectsTellLines, OpeningsTell, ReadObject, line_object}
+use Rattle.fibs_json.specs.Lines.{HeardAs, HeardObject, object_with}
+use Rattle.fibs_json.specs.Plays.{PlaysObject, PlaysTellLines}
+use Rattle.fibs_json.proofs.ObjectLemmas.{closed}
 use Rattle.fibs_json.specs.Lines.{malformed_members}
 
 -- a hexadecimal digit tells its value
@@ -84,20 +87,24 @@ quoted_tells a b x y e =
     ∙ tails 34 34 ((inside a ++ (34 ∷ [])) ++ x) ((inside b ++ (34 ∷ [])) ++ y) e
     ∙ append_assoc (inside b) (34 ∷ []) y)
 
--- the kind and the bytes of an object
-object_tells : (j k a b : List ℕ) (ms ns : List Member) → line_object j a ms ≡ line_object k b ns → (j ≡ k) × (a ≡ b)
+-- the kind and the bytes of an object, whatever follows them
+pub openings_tell : OpeningsTell
 unfolding more_member
+openings_tell j k a b x y e =
+    let line_j : List ℕ = codes ",\"line\":" ++ quoted a in
+    let line_k : List ℕ = codes ",\"line\":" ++ quoted b in
+    let all : (quoted j ++ line_j) ++ x ≡ (quoted k ++ line_k) ++ y = ap (λ (l : List ℕ). drop 8 l) e in
+    let kinds : quoted j ++ (line_j ++ x) ≡ quoted k ++ (line_k ++ y) =
+    sym (append_assoc (quoted j) line_j x) ∙ all ∙ append_assoc (quoted k) line_k y in
+    let first = quoted_tells j k (line_j ++ x) (line_k ++ y) kinds in
+    let lines : quoted a ++ x ≡ quoted b ++ y = ap (λ (l : List ℕ). drop 8 l) first.1 in
+    (first.0, (quoted_tells a b x y lines).0)
+
+-- those of an object of members
+object_tells : (j k a b : List ℕ) (ms ns : List Member) → line_object j a ms ≡ line_object k b ns → (j ≡ k) × (a ≡ b)
 object_tells j k a b ms ns e =
-    let after_j : List ℕ = codes ",\"line\":" ++ ((quoted a ++ more_members ms) ++ (125 ∷ [])) in
-    let after_k : List ℕ = codes ",\"line\":" ++ ((quoted b ++ more_members ns) ++ (125 ∷ [])) in
-    let kinds : quoted j ++ after_j ≡ quoted k ++ after_k = ap (λ (l : List ℕ). drop 8 l) e in
-    let first = quoted_tells j k after_j after_k kinds in
-    let lines : (quoted a ++ more_members ms) ++ (125 ∷ []) ≡ (quoted b ++ more_members ns) ++ (125 ∷ []) =
-    ap (λ (l : List ℕ). drop 8 l) first.1 in
-    let second = quoted_tells a b (more_members ms ++ (125 ∷ [])) (more_members ns ++ (125 ∷ []))
-    (sym (append_assoc (quoted a) (more_members ms) (125 ∷ [])) ∙ lines
-    ∙ append_assoc (quoted b) (more_members ns) (125 ∷ [])) in
-    (first.0, second.0)
+    openings_tell j k a b (more_members ms ++ (125 ∷ [])) (more_members ns ++ (125 ∷ []))
+    (closed j a ms ∙ e ∙ sym (closed k b ns))
 
 -- the word begins as `cut` does
 abbrev begins_cut : List ℕ → Bool
@@ -137,3 +144,40 @@ objects_tell l m text one two =
     let q = object_of m.cut m.bytes text two in
     let both = object_tells p.kind q.kind l.bytes m.bytes p.members q.members (sym p.text_is ∙ q.text_is) in
     same_line l m both.1 (sym p.cut_is ∙ ap begins_cut both.0 ∙ q.cut_is)
+
+-- an object of a line, with whatever further members
+pub record IsOpened (bytes text : List ℕ) : Type 0 where
+  pub kind : List ℕ
+  pub more : List ℕ
+  pub text_is : text ≡ object_with kind bytes more
+
+opened_of_object : (cut : Bool) (bytes text : List ℕ) → IsObject cut bytes text → IsOpened bytes text
+opened_of_object cut bytes text h = record {
+  kind = h.kind;
+  more = more_members h.members;
+  text_is = h.text_is ∙ sym (closed h.kind bytes h.members);
+}
+
+-- that of a line whose reading is known
+opened_as : (cut : Bool) (bytes text : List ℕ) (reading : ReadingValue) → HeardAs cut bytes reading text
+    → IsOpened bytes text
+opened_as true bytes text reading h =
+    opened_of_object true bytes text (record { kind = codes "cut"; members = []; text_is = h; cut_is = refl })
+opened_as false bytes text reading h = opened_of_object false bytes text (object_of_reading bytes text reading h)
+
+pub opened_of_heard : (line : ReadLine) (reading : ReadingValue) (text : List ℕ) → HeardObject line reading text
+    → IsOpened line.bytes text
+opened_of_heard line reading text h = opened_as line.cut line.bytes text reading h
+
+-- that of a line with its plays
+opened_of : (bytes text : List ℕ) (status : ℕ) → PlaysObject bytes text status → IsOpened bytes text
+opened_of bytes text status h = elim h [
+  | inl good ↦ record { kind = codes "board"; more = _; text_is = good.3.4 }
+  | inr other ↦ opened_of_object false bytes text (object_of_reading bytes text other.1.0 other.1.2)
+]
+
+pub plays_tell : PlaysTellLines
+plays_tell k l text s t one two =
+    let p = opened_of k text s one in
+    let q = opened_of l text t two in
+    (openings_tell p.kind q.kind k l (p.more ++ (125 ∷ [])) (q.more ++ (125 ∷ [])) (sym p.text_is ∙ q.text_is)).1

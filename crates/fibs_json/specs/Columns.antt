@@ -1,13 +1,13 @@
 -- The numbered messages as members of an object: the word for each, and a name for each field (FIBS CLIP
 -- specification 1008; docs/FORMATS.md).
-use Rattle.std.specs.Prelude.{◌==◌, ℕ, Bool, List, [], ◌∷◌, ◌++◌, Option, Some, None, map, codes, if◌then◌else◌}
+use Rattle.std.specs.Prelude.{◌==◌, ℕ, List, [], ◌∷◌, Option, Some, None, map, codes, if◌then◌else◌}
 use Rattle.std.specs.List.{flat_map}
 use Rattle.std.specs.Str.{bytes_eq}
 use Rattle.fibs_fields.specs.Field.{FieldValue, NameField, WordField, TailField, FlagField, NumberField, RatingField}
 use Rattle.fibs_fields.specs.Field.{TextField}
 use Rattle.fibs_messages.specs.FieldOf.{field_at}
 use Rattle.fibs_messages.specs.Message.{MessageValue}
-use Rattle.fibs_json.specs.Json.{Json, string, whole, hundredths, truth, null, Member, member, more_member, more_members}
+use Rattle.fibs_json.specs.Json.{Json, string, whole, hundredths, truth, null, Member, member}
 use Rattle.fibs_json.specs.declared.columns.Column.{Column}
 
 -- a field's name, and its number in the message

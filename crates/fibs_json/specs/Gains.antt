@@ -1,10 +1,10 @@
 -- What a portion of a stream adds to the text. No public contract rests on it.
-use Rattle.std.specs.Prelude.{◌≡◌, ℕ, List, ◌++◌, codes, length, min}
+use Rattle.std.specs.Prelude.{◌≡◌, ℕ, List, ◌++◌, length, min}
 use Rattle.fibs_lines.specs.Lines.{ReadLine, lines_of, rest_of, kept_limit}
 use Rattle.fibs_fields.specs.Field.{FieldValue}
 use Rattle.fibs_lines.specs.LinesValue.{LinesValue, StandsAfter}
 use Rattle.fibs_json.specs.Columns.{NamedField, field_member}
-use Rattle.fibs_json.specs.Json.{member, more_member, more_members, quoted, string}
+use Rattle.fibs_json.specs.Json.{more_members}
 use Rattle.fibs_json.specs.Lines.{LineObjects, unfinished_object}
 
 -- from each stream that `old` is at, `now` is at the stream with the bytes `piece`, and `added` is what is printed for
@@ -18,10 +18,6 @@ pub record Gains (old now : LinesValue) (piece added : List ℕ) : Type 0 where
 -- what is printed for the bytes after the last line end
 abbrev pub EndsObject : LinesValue → List ℕ → Type 0
 EndsObject lines text = (s : List ℕ) → StandsAfter lines s → text ≡ unfinished_object (min kept_limit (length (rest_of s)))
-
--- the front of a line's object: its kind and its bytes
-abbrev pub opening : List ℕ → List ℕ → List ℕ
-opening kind bytes = codes "{\"kind\":" ++ (quoted kind ++ more_member (member (codes "line") (string bytes)))
 
 -- the text of a field
 unfoldable pub field_text : List FieldValue → NamedField → List ℕ

@@ -40,6 +40,15 @@ pub data Json : Type 0 where
   wholes : List ℕ → Json
   null : Json
 
+-- a further item of an array, by the texts of such items
+abbrev pub more_item : {A : Type 0} → (A → List ℕ) → A → List ℕ
+more_item text x = 44 ∷ text x
+
+-- an array of items, by their texts
+abbrev pub array_of : {A : Type 0} → (A → List ℕ) → List A → List ℕ
+array_of text [] = codes "[]"
+array_of text (x ∷ xs) = 91 ∷ (text x ++ (flat_map (more_item text) xs ++ (93 ∷ [])))
+
 -- a further number of an array
 abbrev pub more_number : ℕ → List ℕ
 more_number n = 44 ∷ decimal n
@@ -82,6 +91,10 @@ more_member m = 44 ∷ member_text m
 
 abbrev pub more_members : List Member → List ℕ
 more_members ms = flat_map more_member ms
+
+-- a further member of which the text of the value is known
+abbrev pub more_value : List ℕ → List ℕ → List ℕ
+more_value name text = 44 ∷ (key name ++ text)
 
 -- an object
 abbrev pub object : List Member → List ℕ

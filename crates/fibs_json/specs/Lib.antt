@@ -1,7 +1,9 @@
 pub mod Json
+pub mod Values
 pub mod Columns
 pub mod Boards
 pub mod Lines
 pub mod Streams
+pub mod Plays
 -- What only private functions and proofs say.
 pub mod Gains

@@ -7,7 +7,15 @@ use Rattle.fibs_fields.specs.declared.fault.Fault.{Fault}
 use Rattle.fibs_messages.specs.Line.{ReadingValue, IsReading, numbered_line, board_line, text_line, malformed_line}
 use Rattle.fibs_json.specs.Boards.{board_members, PositionMembers}
 use Rattle.fibs_json.specs.Columns.{message_members}
-use Rattle.fibs_json.specs.Json.{Member, member, object, string, whole}
+use Rattle.fibs_json.specs.Json.{Member, member, more_member, object, quoted, string, whole}
+
+-- the front of an object of an account: its kind, and the line
+abbrev pub opening : List ℕ → List ℕ → List ℕ
+opening kind bytes = codes "{\"kind\":" ++ (quoted kind ++ more_member (member (codes "line") (string bytes)))
+
+-- an object of an account: its kind, the line, and the text of its further members
+abbrev pub object_with : List ℕ → List ℕ → List ℕ → List ℕ
+object_with kind bytes more = opening kind bytes ++ (more ++ (125 ∷ []))
 
 -- the object of a line: its kind, its bytes, and what else is known of it
 abbrev pub line_object : List ℕ → List ℕ → List Member → List ℕ
@@ -31,6 +39,14 @@ ReadObject bytes (board_line b) text =
 ReadObject bytes (text_line said) text = text ≡ line_object (codes "text") bytes []
 ReadObject bytes (malformed_line number field fault) text =
     text ≡ line_object (codes "malformed") bytes (malformed_members number field fault)
+
+-- the object of a line that is said to read so: `cut` and its kept bytes if it was cut
+abbrev pub HeardAs : Bool → List ℕ → ReadingValue → List ℕ → Type 0
+HeardAs true bytes reading text = text ≡ line_object (codes "cut") bytes []
+HeardAs false bytes reading text = ReadObject bytes reading text
+
+abbrev pub HeardObject : ReadLine → ReadingValue → List ℕ → Type 0
+HeardObject line reading text = HeardAs line.cut line.bytes reading text
 
 -- the object of a line: `cut` and its kept bytes if it was cut, else what it reads as
 abbrev pub ObjectAs : Bool → List ℕ → List ℕ → Type 0
@@ -59,6 +75,10 @@ unfinished_object held = if held == 0 then [] else ending held
 abbrev pub StreamObjects : List ℕ → List ℕ → Type 0
 StreamObjects s text = (shown : List ℕ) × LineObjects (lines_of s) shown
     × (text ≡ shown ++ unfinished_object (min kept_limit (length (rest_of s))))
+
+-- the front of an object tells its kind and its line, whatever follows it
+abbrev pub OpeningsTell : Type 0
+OpeningsTell = (j k a b x y : List ℕ) → opening j a ++ x ≡ opening k b ++ y → (j ≡ k) × (a ≡ b)
 
 -- an object tells the line for which it is printed
 abbrev pub ObjectsTellLines : Type 0

@@ -173,7 +173,7 @@ fn append_counts(board: &Board, text: &mut Vec<u8>) -> Result<(), AllocError>
 }
 
 /// Appends what each board has.
-fn append_fields(board: &Board, text: &mut Vec<u8>) -> Result<(), AllocError>
+pub(crate) fn append_fields(board: &Board, text: &mut Vec<u8>) -> Result<(), AllocError>
     ensures { OnOk result (text.new.items ≡ text.old.items ++ more_members (board_members (fields_of board.now))) }
 {
     append_match(board, text)?;
@@ -224,7 +224,7 @@ fn pips_of(position: &Position, side: Side) -> u32
 }
 
 /// Appends the phase of a position, and its checkers.
-fn append_position(position: &Position, text: &mut Vec<u8>) -> Result<(), AllocError>
+pub(crate) fn append_position(position: &Position, text: &mut Vec<u8>) -> Result<(), AllocError>
     ensures { OnOk result ((phase : Phase) × InPhase (position_value position.now) phase × (text.new.items
         ≡ text.old.items ++ more_members (position_members phase (position_value position.now)))) }
 {

@@ -7,6 +7,8 @@ mod fields;
 pub mod laws;
 pub mod line;
 mod members;
+pub mod plays;
 pub mod show;
 mod side;
 mod strings;
+pub mod values;

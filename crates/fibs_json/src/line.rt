@@ -2,12 +2,12 @@
 ghost use Rattle.std.specs.Prelude.{◌≡◌, ◌++◌, ◌∷◌, [], ℕ, List, OnOk, codes};
 ghost use Rattle.fibs_boards.specs.StoredBoard.{fields_of};
 ghost use Rattle.fibs_lines.specs.Lines.{value_of};
-ghost use Rattle.fibs_messages.specs.Line.{IsReading, ReadingValue, board_line};
+ghost use Rattle.fibs_messages.specs.Line.{IsReading, ReadingValue, board_line, reading_of};
 ghost use Rattle.fibs_messages.specs.Message.{message_of};
 ghost use Rattle.fibs_json.specs.Columns.{message_members};
-ghost use Rattle.fibs_json.specs.Gains.{opening};
 ghost use Rattle.fibs_json.specs.Json.{more_members};
-ghost use Rattle.fibs_json.specs.Lines.{LineObject, ReadObject, line_object, malformed_members};
+ghost use Rattle.fibs_json.specs.Lines.{HeardObject, LineObject, ReadObject, line_object, malformed_members};
+ghost use Rattle.fibs_json.specs.Lines.{opening};
 
 use crate::boards::append_board;
 use crate::fields::append_message;
@@ -18,7 +18,7 @@ use fibs_messages::{Board, Fault, Message, Reading, read};
 use std::alloc::AllocError;
 
 /// Appends the front of an object: the kind of a line, and its bytes.
-fn append_front(kind: &[u8], bytes: &[u8], text: &mut Vec<u8>) -> Result<(), AllocError>
+pub fn append_front(kind: &[u8], bytes: &[u8], text: &mut Vec<u8>) -> Result<(), AllocError>
     ensures { OnOk result (text.new.items ≡ text.old.items ++ opening kind.now bytes.now) }
 {
     text.extend_from_slice(b"{\"kind\":")?;
@@ -33,6 +33,13 @@ fn append_plain(kind: &[u8], bytes: &[u8], text: &mut Vec<u8>) -> Result<(), All
     append_front(kind, bytes, text)?;
     text.push(b'}')?;
     Ok(())
+}
+
+/// Appends the object of a line that was cut.
+fn append_cut(bytes: &[u8], text: &mut Vec<u8>) -> Result<(), AllocError>
+    ensures { OnOk result (text.new.items ≡ text.old.items ++ line_object (codes "cut") bytes.now []) }
+{
+    append_plain(b"cut", bytes, text)
 }
 
 /// Appends the object of a message.
@@ -51,7 +58,11 @@ fn append_message_line(
 }
 
 /// Appends the object of a board.
-fn append_board_line(bytes: &[u8], board: &Board, text: &mut Vec<u8>) -> Result<(), AllocError>
+pub(crate) fn append_board_line(
+    bytes: &[u8],
+    board: &Board,
+    text: &mut Vec<u8>,
+) -> Result<(), AllocError>
     ensures { OnOk result ((shown : List ℕ) × ReadObject bytes.now (board_line (fields_of board.now)) shown
         × (text.new.items ≡ text.old.items ++ shown)) }
 {
@@ -87,20 +98,45 @@ fn append_malformed(
     Ok(())
 }
 
-/// Appends the object of a line that was not cut.
-fn append_reading(bytes: &[u8], text: &mut Vec<u8>) -> Result<(), AllocError>
-    ensures { OnOk result ((reading : ReadingValue) × (shown : List ℕ) × IsReading bytes.now reading
-        × ReadObject bytes.now reading shown × (text.new.items ≡ text.old.items ++ shown)) }
+/// Appends the object of a line that reads so.
+fn append_read(bytes: &[u8], reading: &Reading<'_>, text: &mut Vec<u8>) -> Result<(), AllocError>
+    ensures { OnOk result ((shown : List ℕ) × ReadObject bytes.now (reading_of reading.now) shown
+        × (text.new.items ≡ text.old.items ++ shown)) }
 {
-    match read(bytes) {
-        Reading::Numbered(message) => append_message_line(bytes, &message, text),
-        Reading::Board(board) => append_board_line(bytes, &board, text),
+    match reading {
+        Reading::Numbered(message) => append_message_line(bytes, message, text),
+        Reading::Board(board) => append_board_line(bytes, board, text),
         Reading::Text(_) => append_plain(b"text", bytes, text),
         Reading::Malformed {
             number,
             field,
             fault,
-        } => append_malformed(bytes, u64::from(number), field as u64, fault, text),
+        } => append_malformed(bytes, u64::from(*number), *field as u64, *fault, text),
+    }
+}
+
+/// Appends the object of a line that was not cut.
+pub(crate) fn append_reading(bytes: &[u8], text: &mut Vec<u8>) -> Result<(), AllocError>
+    ensures { OnOk result ((reading : ReadingValue) × (shown : List ℕ) × IsReading bytes.now reading
+        × ReadObject bytes.now reading shown × (text.new.items ≡ text.old.items ++ shown)) }
+{
+    append_read(bytes, &read(bytes), text)
+}
+
+/// Appends the object of a line whose reading is known, without a line end. If it was cut its reading says nothing.
+pub fn append_heard(
+    line: &Line<'_>,
+    reading: &Reading<'_>,
+    text: &mut Vec<u8>,
+) -> Result<(), AllocError>
+    ensures { OnOk result ((shown : List ℕ)
+        × HeardObject (value_of line.now) (reading_of reading.now) shown
+        × (text.new.items ≡ text.old.items ++ shown)) }
+{
+    if line.cut {
+        append_cut(line.bytes, text)
+    } else {
+        append_read(line.bytes, reading, text)
     }
 }
 
@@ -110,7 +146,7 @@ pub fn append_object(line: &Line<'_>, text: &mut Vec<u8>) -> Result<(), AllocErr
         × (text.new.items ≡ text.old.items ++ shown)) }
 {
     if line.cut {
-        append_plain(b"cut", line.bytes, text)
+        append_cut(line.bytes, text)
     } else {
         append_reading(line.bytes, text)
     }

@@ -17,7 +17,7 @@ pub(crate) fn append_number<I: Integer>(number: I, text: &mut Vec<u8>) -> Result
 }
 
 /// Appends a comma, a name in quotation marks, and a colon.
-fn append_key(name: &[u8], text: &mut Vec<u8>) -> Result<(), AllocError>
+pub(crate) fn append_key(name: &[u8], text: &mut Vec<u8>) -> Result<(), AllocError>
     ensures { OnOk result (text.new.items ≡ text.old.items ++ (44 ∷ key name.now)) }
 {
     text.extend_from_slice(b",\"")?;

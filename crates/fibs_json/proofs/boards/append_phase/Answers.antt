@@ -1,4 +1,4 @@
-use Rattle.std.proofs.Common.{[], ◌∷◌, List, codes}
+use Rattle.std.proofs.Common.{[], ◌∷◌, codes}
 use Rattle.fibs_engine.proofs.OkLemmas.{on_ok_weaker}
 use Rattle.fibs_position.specs.Names.{phase_name}
 use Rattle.fibs_position.specs.PositionValue.{position_value}

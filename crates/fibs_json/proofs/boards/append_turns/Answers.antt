@@ -1,4 +1,4 @@
-use Rattle.std.proofs.Common.{[], ◌∷◌, List, codes}
+use Rattle.std.proofs.Common.{[], ◌∷◌, codes}
 use Rattle.fibs_boards.specs.Board.{field_of}
 use Rattle.fibs_boards.specs.StoredBoard.{fields_of}
 use Rattle.fibs_engine.proofs.OkLemmas.{on_ok_weaker}

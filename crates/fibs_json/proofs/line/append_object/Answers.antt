@@ -8,9 +8,9 @@ use Rattle.fibs_json.proofs.line.append_object.Goals as goal
 pub returns-then-line : goal.returns-then-line
 returns-then-line c =
     let line = value_of c.args.line.now in
-    on_ok_weaker c.append_plain.result
+    on_ok_weaker c.append_cut.result
     (λ e. (line_object (codes "cut") line.bytes [], cut_object line c.if-line.true, e))
-    c.append_plain.ensures
+    c.append_cut.ensures
 
 pub returns-else-line : goal.returns-else-line
 returns-else-line c =
