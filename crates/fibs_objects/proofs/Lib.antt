@@ -1,0 +1,3 @@
+mod LogLemmas
+mod ReplayLemmas
+mod TellingLemmas
