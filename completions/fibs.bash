@@ -23,7 +23,7 @@ _fibs_connect() {
     done
     case $last,$word in
         --password-file,* | --log,*) COMPREPLY=($(compgen -f -- "$word")) ;;
-        *,-*) COMPREPLY=($(compgen -W '--password-file --log -h --help' -- "$word")) ;;
+        *,-*) COMPREPLY=($(compgen -W '--password-file --log --json -h --help' -- "$word")) ;;
         *) _fibs_place "$place" ;;
     esac
 }
@@ -36,7 +36,7 @@ _fibs() {
         *,1,-*) COMPREPLY=($(compgen -W '-h --help -V --version' -- "$word")) ;;
         *,1,*) COMPREPLY=($(compgen -W "$subcommands" -- "$word")) ;;
         connect,*) _fibs_connect ;;
-        show,*,-*) COMPREPLY=($(compgen -W '--json -h --help' -- "$word")) ;;
+        show,*,-* | plays,*,-* | replay,*,-*) COMPREPLY=($(compgen -W '--json -h --help' -- "$word")) ;;
         help,2,*) COMPREPLY=($(compgen -W "$subcommands" -- "$word")) ;;
         *,*,-*) COMPREPLY=($(compgen -W '-h --help' -- "$word")) ;;
     esac

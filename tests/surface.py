@@ -22,10 +22,10 @@ ROOT = pathlib.Path(__file__).resolve().parent.parent
 
 SUBCOMMANDS = ['connect', 'help', 'loop', 'plays', 'replay', 'show']
 
-# The options of the program, of connect and of show; each other subcommand has the help alone.
+# The options of the program, of connect, and of show, plays and replay; loop has the help alone.
 OPTIONS = ['--help', '--version', '-V', '-h']
 
-CONNECT_OPTIONS = ['--help', '--log', '--password-file', '-h']
+CONNECT_OPTIONS = ['--help', '--json', '--log', '--password-file', '-h']
 
 SHOW_OPTIONS = ['--help', '--json', '-h']
 
@@ -98,7 +98,8 @@ def the_page_has_the_subcommands(_program):
 
 
 def help_has_the_options(_program):
-    parts = ('fibs', OPTIONS), ('connect', CONNECT_OPTIONS), ('show', SHOW_OPTIONS), ('plays', ['--help', '-h'])
+    parts = [('fibs', OPTIONS), ('connect', CONNECT_OPTIONS), ('show', SHOW_OPTIONS), ('plays', SHOW_OPTIONS),
+             ('replay', SHOW_OPTIONS), ('loop', ['--help', '-h'])]
     for name, wanted in parts:
         listed = part(text_of('tests/help/%s.txt' % name) + '\n\n\n', '\nOptions:\n', '\n\n\n')
         found = [word for line in listed.splitlines() if re.match(r' {2,6}-', line)
@@ -117,7 +118,8 @@ def bash_completes(_program):
     asked = {
         ('fibs', ''): SUBCOMMANDS, ('fibs', 're'): ['replay'], ('fibs', '-'): OPTIONS,
         ('fibs', 'help', ''): SUBCOMMANDS,
-        ('fibs', 'show', '-'): SHOW_OPTIONS, ('fibs', 'connect', '-'): CONNECT_OPTIONS,
+        **{('fibs', name, '-'): SHOW_OPTIONS for name in ('show', 'plays', 'replay')},
+        ('fibs', 'loop', '-'): ['--help', '-h'], ('fibs', 'connect', '-'): CONNECT_OPTIONS,
         ('fibs', 'connect', 'fibs'): ['fibs.com'],
         ('fibs', 'connect', 'localhost', ''): ['4321'],
         ('fibs', 'connect', '--password-file', 'secret', 'localhost', ''): ['4321'],
@@ -125,7 +127,6 @@ def bash_completes(_program):
         ('fibs', 'connect', '--password-file', 'typ'): ['typed'], ('fibs', 'connect', 'localhost', '4321', ''): [],
         ('fibs-play', 'fibs'): ['fibs.com'], ('fibs-play', 'localhost', ''): ['4321'],
         ('fibs-play', '-'): ['--help', '--log', '-h'], ('fibs-play', '--log', 'game', 'localhost', ''): ['4321'],
-        **{('fibs', name, '-'): ['--help', '-h'] for name in SUBCOMMANDS if name not in ('connect', 'help', 'show')},
     }
     script = ('source ./fibs.bash; COMP_WORDS=("$@"); COMP_CWORD=$(($# - 1)); "_${1/-/_}"; '
               'printf "%s\\n" "${COMPREPLY[@]}"')

@@ -86,7 +86,16 @@ status 3:
   malformed 0 FIELD WHY   a field is wrong, as for `fibs show`
   position WHY            the board has no position of the user: WHY is NotYou
                           (field 2 is not `You`), TooManyOwn or TooManyOther
-                          (more than 15 checkers)";
+                          (more than 15 checkers)
+
+With --json it prints the JSON object of LINE on standard output, as
+`fibs show --json` does, also at a terminal. That of a board with a position has
+one member more:
+
+  \"plays\":[{\"command\":COMMAND,\"steps\":[[FROM,TO],...]},...]
+
+FROM and TO are places in the player's own numbers: 25 is the bar, 0 is off. For
+any other LINE the status is 3.";
 
 const REPLAY: &str = "Run a script of events, and print what happened";
 
@@ -143,7 +152,14 @@ line is one of
   refused DONE N WHY      the event after the first DONE was refused; status 3
   script LINE             nothing was run: the line of this number is
                           unreadable, or, if it is 0, the script is too long;
-                          status 3";
+                          status 3
+
+With --json it prints a JSON object for each of these lines:
+
+  {\"kind\":WORD,\"line\":LINE,...}
+
+WORD is the word with which LINE begins; the other members say what it means by
+name. A board is the object that `fibs show --json` prints for it.";
 
 const CONNECT: &str = "Log in at a server, and play";
 
@@ -225,6 +241,14 @@ again, and the server then shows the game as it has it.
 If standard output is a terminal, a board is drawn, and the other lines are put
 in words.
 
+With --json it prints a JSON object for each line, also at a terminal: for a
+line of the server the object that `fibs show --json` prints for it, and for any
+other line
+
+  {\"kind\":WORD,\"line\":LINE,...}
+
+WORD is the word with which LINE begins, or no_connection.
+
 If the password or NAME is not valid, the status is 3, and standard error has
 `fault NUMBER WHY`.";
 
@@ -272,6 +296,8 @@ pub struct Call<'a> {
     pub password_file: Option<&'a str>,
     /// The file to which each line is added as it comes.
     pub log: Option<&'a str>,
+    /// Whether a JSON object is printed for each line.
+    pub json: bool,
 }
 
 /// An engine that needs no server.
@@ -283,8 +309,12 @@ pub enum Request<'a> {
     ShowJson,
     /// To list the plays of a board line.
     Plays(&'a str),
+    /// To list them as JSON.
+    PlaysJson(&'a str),
     /// To run the script on the standard input.
     Replay,
+    /// To run it, and to print its account as JSON.
+    ReplayJson,
     /// To play a script over sockets of this machine.
     Loop,
 }
@@ -372,22 +402,28 @@ struct Argument {
     kind: Kind,
 }
 
-/// The arguments of `show`.
-const SHOW_ARGUMENTS: [Argument; 1] = [Argument {
+/// The argument `--json`.
+const JSON_ARGUMENT: Argument = Argument {
     name: "json",
     help: JSON,
     kind: Kind::Flag,
-}];
+};
+
+/// The arguments of `show` and of `replay`.
+const JSON_ARGUMENTS: [Argument; 1] = [JSON_ARGUMENT];
 
 /// The arguments of `plays`.
-const PLAYS_ARGUMENTS: [Argument; 1] = [Argument {
-    name: "LINE",
-    help: LINE,
-    kind: Kind::Word,
-}];
+const PLAYS_ARGUMENTS: [Argument; 2] = [
+    Argument {
+        name: "LINE",
+        help: LINE,
+        kind: Kind::Word,
+    },
+    JSON_ARGUMENT,
+];
 
 /// The arguments of `connect`.
-const CONNECT_ARGUMENTS: [Argument; 5] = [
+const CONNECT_ARGUMENTS: [Argument; 6] = [
     Argument {
         name: "HOST",
         help: HOST,
@@ -413,6 +449,7 @@ const CONNECT_ARGUMENTS: [Argument; 5] = [
         help: LOG,
         kind: Kind::File,
     },
+    JSON_ARGUMENT,
 ];
 
 /// A subcommand.
@@ -430,7 +467,7 @@ const SUBCOMMANDS: &[Subcommand] = &[
         name: "show",
         about: SHOW,
         long_about: SHOW_LONG,
-        arguments: &SHOW_ARGUMENTS,
+        arguments: &JSON_ARGUMENTS,
     },
     Subcommand {
         name: "plays",
@@ -442,7 +479,7 @@ const SUBCOMMANDS: &[Subcommand] = &[
         name: "replay",
         about: REPLAY,
         long_about: REPLAY_LONG,
-        arguments: &[],
+        arguments: &JSON_ARGUMENTS,
     },
     Subcommand {
         name: "connect",
@@ -533,7 +570,11 @@ fn asked_of<'a>(matches: &ArgMatches<'a>) -> Option<Asked<'a>> {
     match word {
         "show" if matches.get_flag("json") => engine(Request::ShowJson),
         "show" => engine(Request::Show),
+        "plays" if matches.get_flag("json") => {
+            engine(Request::PlaysJson(matches.get_str("LINE")?))
+        }
         "plays" => engine(Request::Plays(matches.get_str("LINE")?)),
+        "replay" if matches.get_flag("json") => engine(Request::ReplayJson),
         "replay" => engine(Request::Replay),
         "connect" => Some(Asked::Connect(Call {
             host: matches.get_str("HOST")?,
@@ -541,6 +582,7 @@ fn asked_of<'a>(matches: &ArgMatches<'a>) -> Option<Asked<'a>> {
             name: matches.get_str("NAME")?,
             password_file: matches.get_str("password-file"),
             log: matches.get_str("log"),
+            json: matches.get_flag("json"),
         })),
         "loop" => engine(Request::Loop),
         _ => None,

@@ -7,16 +7,19 @@ use Rattle.std.specs.Io.KnownBytes.{Appends, Keeps, IsAtEnd}
 use Rattle.fibs_boards.specs.Board.{BoardFields}
 use Rattle.fibs_show.specs.Plays.{PlaysText}
 use Rattle.fibs_cli.specs.Program.{Streams, Showed, ShowedObjects, Listed, Played, RanScript}
-use Rattle.fibs_cli.specs.Program.{PlayedScript, Served}
-use Rattle.fibs_engine.specs.Printing.{Printed}
+use Rattle.fibs_cli.specs.Program.{ListedObject, PlayedScript, RanObjects, Served}
+use Rattle.fibs_engine.specs.Printing.{Printed, line_bytes}
 use Rattle.fibs_scripts.specs.Output.{LoggedInPart, Replayed, ReplayFailed, ReplayedInPart}
 use Rattle.fibs_scripts.specs.Scripts.{script_limit}
 use Rattle.fibs_engine.specs.Reads.{LostAtMost}
 use Rattle.fibs_show.specs.Show.{WroteAll, WroteRead, WroteLines, WroteFront}
+use Rattle.fibs_json.specs.Plays.{PlaysObject}
 use Rattle.fibs_json.specs.Streams as objects
+use Rattle.fibs_objects.specs.Replayed.{ObjectsFailed, ObjectsInPart, ReplayedObjects}
 use Rattle.fibs_engine.specs.Writing.{GainedFront}
 use Rattle.fibs_arguments.specs.declared.arguments.Request.{Request}
-use Rattle.fibs_arguments.specs.declared.arguments.Request.TheVariants.{Show, ShowJson, Plays, Replay, Loop}
+use Rattle.fibs_arguments.specs.declared.arguments.Request.TheVariants.{Show, ShowJson, Plays, PlaysJson}
+use Rattle.fibs_arguments.specs.declared.arguments.Request.TheVariants.{Replay, ReplayJson, Loop}
 use Rattle.fibs_engine.specs.declared.fault.EngineFault.{EngineFault}
 use Rattle.fibs_engine.specs.declared.fault.EngineFault.TheVariants.{Device, Memory}
 
@@ -64,6 +67,36 @@ pub ran_script : (r : Result ℕ EngineFault) (a b : Streams)
 ran_script (Ok status) a b done device memory = done
 ran_script (Err Device) a b done device memory = device refl
 ran_script (Err Memory) a b done device memory = memory refl
+
+-- the clauses of `plays_json` in one
+pub listed_object : (r : Result ℕ EngineFault) (line : List ℕ) (a b : Streams)
+    → IfOk r (λ status. (text : List ℕ) × PlaysObject line text status × Appends a.out b.out (line_bytes text))
+    → (IsErrOf r Device → (text : List ℕ) × (status : ℕ) × PlaysObject line text status
+    × GainedFront a.out b.out (line_bytes text))
+    → (IsErrOf r Memory → Keeps a.out b.out) → ListedObject line r a b
+listed_object (Ok status) line a b done device memory = done
+listed_object (Err Device) line a b done device memory = device refl
+listed_object (Err Memory) line a b done device memory = memory refl
+
+-- a request for the plays of a line as JSON is served so
+pub served_listed : (request : Request) (line : Bor (List ℕ)) (r : Result ℕ EngineFault) (a b : Streams)
+    → request ≡ PlaysJson line → ListedObject line.now r a b → Keeps a.input b.input → Keeps a.err b.err
+    → Served request r a b
+served_listed request line r a b is listed kept silent = subst (λ q. Served q r a b) (sym is) (listed, kept, silent)
+
+-- the clauses of `replay_json` in one
+pub ran_objects : (r : Result ℕ EngineFault) (a b : Streams)
+    → IfOk r (λ status. ReplayedObjects status a.input b.input a.out b.out)
+    → (IsErrOf r Device → ObjectsFailed a.input b.input a.out b.out)
+    → (IsErrOf r Memory → ObjectsInPart a.input b.input a.out b.out) → RanObjects r a b
+ran_objects (Ok status) a b done device memory = done
+ran_objects (Err Device) a b done device memory = device refl
+ran_objects (Err Memory) a b done device memory = memory refl
+
+-- a request to replay as JSON is served so
+pub served_ran : (request : Request) (r : Result ℕ EngineFault) (a b : Streams) → request ≡ ReplayJson
+    → RanObjects r a b → Keeps a.err b.err → Served request r a b
+served_ran request r a b is ran kept = subst (λ q. Served q r a b) (sym is) (ran, kept)
 
 -- a request to replay is served so
 pub served_replay : (request : Request) (r : Result ℕ EngineFault) (a b : Streams) → request ≡ Replay

@@ -8,13 +8,16 @@ use Rattle.fibs_position.specs.GoodBoard.{IsGood}
 use Rattle.fibs_show.specs.Plays.{PlaysText, Refusal}
 use Rattle.fibs_scripts.specs.Output.{LoggedInPart, Replayed, ReplayFailed, ReplayedInPart}
 use Rattle.fibs_show.specs.Show.{WroteAll, WroteRead, WroteLines, WroteFront}
+use Rattle.fibs_json.specs.Plays.{PlaysObject}
 use Rattle.fibs_json.specs.Streams as objects
-use Rattle.fibs_engine.specs.Printing.{Printed}
+use Rattle.fibs_objects.specs.Replayed.{ObjectsFailed, ObjectsInPart, ReplayedObjects}
+use Rattle.fibs_engine.specs.Printing.{Printed, line_bytes}
 use Rattle.fibs_engine.specs.Writing.{GainedFront}
 use Rattle.fibs_arguments.specs.declared.arguments.Answer.{Answer}
 use Rattle.fibs_arguments.specs.declared.arguments.Answer.TheVariants.{Engine, Help, Refused, Memory}
 use Rattle.fibs_arguments.specs.declared.arguments.Request.{Request}
-use Rattle.fibs_arguments.specs.declared.arguments.Request.TheVariants.{Show, ShowJson, Plays, Replay, Loop}
+use Rattle.fibs_arguments.specs.declared.arguments.Request.TheVariants.{Show, ShowJson, Plays, PlaysJson}
+use Rattle.fibs_arguments.specs.declared.arguments.Request.TheVariants.{Replay, ReplayJson, Loop}
 use Rattle.fibs_engine.specs.declared.fault.EngineFault.{EngineFault}
 use Rattle.fibs_engine.specs.declared.fault.EngineFault.TheVariants as fault
 
@@ -59,11 +62,25 @@ Played line result a b =
     × ((reading : ReadingValue) → (why : List ℕ) → IsReading line reading → Refusal reading why →
     Printed 3 (why ++ (10 ∷ [])) result a.err b.err × Keeps a.out b.out)
 
+-- the engine `plays --json` answered so for this line
+abbrev pub ListedObject : List ℕ → Result ℕ EngineFault → Streams → Streams → Type 0
+ListedObject line (Ok status) a b =
+    (text : List ℕ) × PlaysObject line text status × Appends a.out b.out (line_bytes text)
+ListedObject line (Err fault.Device) a b =
+    (text : List ℕ) × (status : ℕ) × PlaysObject line text status × GainedFront a.out b.out (line_bytes text)
+ListedObject line (Err fault.Memory) a b = Keeps a.out b.out
+
 -- the engine `replay` answered so
 abbrev pub RanScript : Result ℕ EngineFault → Streams → Streams → Type 0
 RanScript (Ok status) a b = Replayed status a.input b.input a.out b.out
 RanScript (Err fault.Device) a b = ReplayFailed a.input b.input a.out b.out
 RanScript (Err fault.Memory) a b = ReplayedInPart a.input b.input a.out b.out
+
+-- the engine `replay --json` answered so
+abbrev pub RanObjects : Result ℕ EngineFault → Streams → Streams → Type 0
+RanObjects (Ok status) a b = ReplayedObjects status a.input b.input a.out b.out
+RanObjects (Err fault.Device) a b = ObjectsFailed a.input b.input a.out b.out
+RanObjects (Err fault.Memory) a b = ObjectsInPart a.input b.input a.out b.out
 
 -- the engine `loop` answered so: as `replay`; but a socket may also have failed, and then the log so far was printed
 abbrev pub PlayedScript : Result ℕ EngineFault → (left still held now : Option (List ℕ)) → Type 0
@@ -77,7 +94,9 @@ abbrev pub Served : Request → Result ℕ EngineFault → Streams → Streams �
 Served Show result a b = Showed result a b × Keeps a.err b.err
 Served ShowJson result a b = ShowedObjects result a b × Keeps a.err b.err
 Served (Plays line) result a b = Played line.now result a b × Keeps a.input b.input
+Served (PlaysJson line) result a b = ListedObject line.now result a b × Keeps a.input b.input × Keeps a.err b.err
 Served Replay result a b = RanScript result a b × Keeps a.err b.err
+Served ReplayJson result a b = RanObjects result a b × Keeps a.err b.err
 Served Loop result a b = PlayedScript result a.input b.input a.out b.out × Keeps a.err b.err
 
 -- a command line is answered so: help is printed on standard output with status 0, and what is wrong with it on

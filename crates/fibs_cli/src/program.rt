@@ -8,7 +8,9 @@ use fibs_arguments::{Answer, Request};
 use fibs_engine::fault::EngineFault;
 use fibs_engine::status::Status;
 use fibs_engine::writing::write_bytes;
+use fibs_json::plays::plays_json;
 use fibs_json::show::show_json;
+use fibs_objects::replay::replay_json;
 use fibs_replay::play_loop::play_loop;
 use fibs_replay::replay;
 use fibs_show::plays::plays;
@@ -55,7 +57,9 @@ fn serve<N: Net<Listener = TcpListener, Stream = TcpStream>, R: Read, W: Write, 
         Request::Show => show(alloc, input, out),
         Request::ShowJson => show_json(alloc, input, out),
         Request::Plays(line) => plays(alloc, line.as_bytes(), out, err),
+        Request::PlaysJson(line) => plays_json(alloc, line.as_bytes(), out),
         Request::Replay => replay(alloc, input, out),
+        Request::ReplayJson => replay_json(alloc, input, out),
         Request::Loop => play_here(rt, alloc, input, out),
     }
 }

@@ -1,7 +1,7 @@
 //! A person plays.
 
 use fibs_arguments::Call;
-use fibs_connect::{answer_lines, converse_with};
+use fibs_connect::{answer_lines, converse_on, converse_with};
 use fibs_engine::dial::{Dial, Place, Server};
 use fibs_engine::fault::EngineFault;
 use fibs_engine::limits::MOST_INPUT_READS;
@@ -14,6 +14,7 @@ use fibs_environment::{Config, Place as Clocks, terminal_settings};
 use fibs_front::typed_line::TypedLine;
 use fibs_front::typed_lines::TypedLines;
 use fibs_front::watch::Watch;
+use fibs_objects::front::Objects;
 use fibs_session::{Login, PlainFault};
 use fibs_terminal::Terminal;
 use fibs_wording::reasons::append_login_fault;
@@ -111,8 +112,51 @@ fn print_all<D: Dial, R: Read, V: Watch>(
     )
 }
 
+/// Talks with a server, and prints a JSON object for each line. The first line is the password.
+fn print_objects<D: Dial, R: Read, V: Watch>(
+    rt: &HostRuntime,
+    server: &mut D,
+    call: Call<'_>,
+    input: &mut R,
+    watch: &mut V,
+    out: &mut Noted<Stdout>,
+) -> Result<u8, EngineFault> {
+    let (alloc, name, mut err) = (rt.alloc(), call.name.as_bytes(), rt.stderr());
+    let mut front = Objects::new(alloc, out);
+    let answer = converse_on(
+        server,
+        alloc,
+        name,
+        MOST_INPUT_READS,
+        input,
+        watch,
+        &mut front,
+        &mut err,
+    );
+    match answer {
+        Err(_) if front.is_out_of_memory() => Err(EngineFault::Memory),
+        answer => answer,
+    }
+}
+
+/// Talks with a server, and prints what an engine prints: objects, if they are asked for, else the plain account.
+fn print<D: Dial, R: Read, V: Watch>(
+    rt: &HostRuntime,
+    server: &mut D,
+    call: Call<'_>,
+    input: &mut R,
+    watch: &mut V,
+    out: &mut Noted<Stdout>,
+) -> Result<u8, EngineFault> {
+    if call.json {
+        print_objects(rt, server, call, input, watch, out)
+    } else {
+        print_all(rt, server, call, input, watch, out)
+    }
+}
+
 /// Talks with a server, each read of which waits so many milliseconds: as a terminal shows it, if the standard output
-/// is one, else as the engines print it; and with a log, if one is asked for.
+/// is one and no objects are asked for, else as the engines print it; and with a log, if one is asked for.
 pub fn play<N: Net<Listener = TcpListener, Stream = TcpStream>, R: Read, V: Watch>(
     rt: &HostRuntime,
     net: &N,
@@ -128,7 +172,7 @@ pub fn play<N: Net<Listener = TcpListener, Stream = TcpStream>, R: Read, V: Watc
         return Ok(Status::Device.code());
     }
     let mut server = Server::new(net, place_of(call, millis));
-    if rt.stdout().is_terminal() {
+    if rt.stdout().is_terminal() && !call.json {
         let mut paced = PacedServer::new(server, millis);
         if call.log.is_none() {
             return play_at_terminal(rt, &mut paced, call, input, watch, out);
@@ -137,8 +181,8 @@ pub fn play<N: Net<Listener = TcpListener, Stream = TcpStream>, R: Read, V: Watc
         return play_at_terminal(rt, &mut logged, call, input, watch, out);
     }
     if call.log.is_none() {
-        return print_all(rt, &mut server, call, input, watch, out);
+        return print(rt, &mut server, call, input, watch, out);
     }
     let mut logged = LoggedServer::new(server, rt, call.log);
-    print_all(rt, &mut logged, call, input, watch, out)
+    print(rt, &mut logged, call, input, watch, out)
 }

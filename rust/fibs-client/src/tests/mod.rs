@@ -7,6 +7,7 @@ mod boards;
 mod connect;
 mod flushing;
 mod nobody;
+mod objects;
 mod once;
 mod outcomes;
 mod play_loop;

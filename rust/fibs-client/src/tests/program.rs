@@ -23,7 +23,7 @@ struct Case {
 const BOARD: &str = "board:You:bob:5:0:0:0:0:0:0:0:0:0:0:0:0:0:0:0:-2:0:0:0:0:0:0:0:0:0:0:1:0:1:6:5:0:0:1:1:1:0:1:-1:0:25:14:13:0:0:1:0:0:0";
 
 /// Command lines that run an engine.
-static SERVED: [Case; 6] = [
+static SERVED: [Case; 9] = [
     Case {
         name: "show prints on standard output",
         words: &["show"],
@@ -39,6 +39,30 @@ static SERVED: [Case; 6] = [
         input: b"a\n",
         status: 0,
         out: b"phase Move\nmove 24-18\n",
+        err: b"",
+    },
+    Case {
+        name: "show prints objects on standard output",
+        words: &["show", "--json"],
+        input: b"a\n",
+        status: 0,
+        out: b"{\"kind\":\"text\",\"line\":\"a\"}\n",
+        err: b"",
+    },
+    Case {
+        name: "plays prints an object on standard output for a line that is no board",
+        words: &["plays", "--json", "hello"],
+        input: b"a\n",
+        status: 3,
+        out: b"{\"kind\":\"text\",\"line\":\"hello\"}\n",
+        err: b"",
+    },
+    Case {
+        name: "replay prints objects on standard output",
+        words: &["replay", "--json"],
+        input: b"open\n",
+        status: 3,
+        out: b"{\"kind\":\"script\",\"line\":\"script 1\",\"number\":1}\n",
         err: b"",
     },
     Case {
@@ -108,25 +132,33 @@ fn is_call(words: &[&str], wanted: &Call<'_>) -> Result<bool, AllocError> {
     Ok(match crate::fibs_arguments::read(line.as_slice()) {
         Asked::Connect(call) => {
             let files = [call.password_file, call.log] == [wanted.password_file, wanted.log];
-            files && call.host == wanted.host && call.port == wanted.port && call.name == wanted.name
+            files
+                && call.host == wanted.host
+                && call.port == wanted.port
+                && call.name == wanted.name
+                && call.json == wanted.json
         }
         Asked::Answer(_) => false,
     })
 }
 
 /// Words that ask for a server, and what they ask of it.
-static CALLS: [(&[&str], Call<'static>); 3] = [
+static CALLS: [(&[&str], Call<'static>); 4] = [
     (
         &["connect", "fibs.example", "4321", "ann"],
-        Call { host: "fibs.example", port: 4321, name: "ann", password_file: None, log: None },
+        Call { host: "fibs.example", port: 4321, name: "ann", password_file: None, log: None, json: false },
+    ),
+    (
+        &["connect", "--json", "fibs.example", "4321", "ann"],
+        Call { host: "fibs.example", port: 4321, name: "ann", password_file: None, log: None, json: true },
     ),
     (
         &["connect", "--log", "kept", "localhost", "1", "bob"],
-        Call { host: "localhost", port: 1, name: "bob", password_file: None, log: Some("kept") },
+        Call { host: "localhost", port: 1, name: "bob", password_file: None, log: Some("kept"), json: false },
     ),
     (
         &["connect", "::1", "65535", "show", "--password-file", "secret"],
-        Call { host: "::1", port: 65535, name: "show", password_file: Some("secret"), log: None },
+        Call { host: "::1", port: 65535, name: "show", password_file: Some("secret"), log: None, json: false },
     ),
 ];
 

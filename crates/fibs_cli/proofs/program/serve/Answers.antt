@@ -1,8 +1,9 @@
 use Rattle.std.proofs.Common.{◌++◌, ◌∷◌, [], subst}
 use Rattle.std.proofs.KnownBytes.{Keeps-refl}
-use Rattle.fibs_cli.specs.Program.{Streams, streams, Played}
+use Rattle.fibs_cli.specs.Program.{ListedObject, Streams, streams, Played}
 use Rattle.fibs_cli.proofs.ProgramLemmas.{showed, listed, printed, ran_script, served_replay, served_show, served_plays}
-use Rattle.fibs_cli.proofs.ProgramLemmas.{served_loop, showed_objects, served_objects}
+use Rattle.fibs_cli.proofs.ProgramLemmas.{served_loop, showed_objects, served_objects, listed_object}
+use Rattle.fibs_cli.proofs.ProgramLemmas.{served_listed, ran_objects, served_ran}
 use Rattle.fibs_cli.proofs.program.serve.Goals as goal
 
 pub returns-in-Show : goal.returns-in-Show
@@ -70,3 +71,27 @@ returns-in-Loop g c =
     (streams (input c.args.input.now) (out c.args.out.now) err)
     (streams (input c.play_here.new.input) (out c.play_here.new.out) err)
     c.in-Loop.is c.play_here.ensures (Keeps-refl err)
+
+pub returns-in-PlaysJson : goal.returns-in-PlaysJson
+returns-in-PlaysJson g c =
+    let told = c.plays_json.ensures in
+    let r = c.plays_json.result in
+    let input = g.R.Read.remaining c.args.input.now in
+    let out = g.W.Write.contents in
+    let err = g.E.Write.contents c.args.err.now in
+    let a : Streams = streams input (out c.args.out.now) err in
+    let b : Streams = streams input (out c.plays_json.new.out) err in
+    served_listed c.args.request c.in-PlaysJson.line r a b c.in-PlaysJson.is
+    (subst (λ line. ListedObject line r a b) c.as_bytes-in-PlaysJson.ensures.value
+    (listed_object r c.as_bytes-in-PlaysJson.result.now a b told.done told.device told.memory)) (Keeps-refl input) (Keeps-refl err)
+
+pub returns-in-ReplayJson : goal.returns-in-ReplayJson
+returns-in-ReplayJson g c =
+    let told = c.replay_json.ensures in
+    let input = g.R.Read.remaining in
+    let out = g.W.Write.contents in
+    let err = g.E.Write.contents c.args.err.now in
+    let a : Streams = streams (input c.args.input.now) (out c.args.out.now) err in
+    let b : Streams = streams (input c.replay_json.new.reader) (out c.replay_json.new.writer) err in
+    served_ran c.args.request c.replay_json.result a b c.in-ReplayJson.is
+    (ran_objects c.replay_json.result a b told.done told.device told.memory) (Keeps-refl err)
