@@ -1,5 +1,5 @@
 -- What a handle holds is put back, and a call that refuses left it as it was.
-use Rattle.std.proofs.Common.{◌≡◌, ◌≢◌, ℕ, List, [], refl, sym, ap, subst, ◌∙◌}
+use Rattle.std.proofs.Common.{◌≡◌, ◌≢◌, ℕ, List, [], drop, refl, sym, ap, subst, ◌∙◌}
 use Rattle.std.specs.Prelude.{Option, Some, Result, Ok, Err, IsErr}
 use Rattle.std.specs.Result.{result_err}
 use Rattle.arrayvec.specs.ArrayString.{ArrayString}
@@ -8,7 +8,7 @@ use Rattle.fibs_history.specs.declared.refusal.PlainRefusal.{PlainRefusal}
 use Rattle.fibs_session.specs.Calls.Doing.{Does}
 use Rattle.fibs_session.specs.Calls.SessionOf.{refusal_in}
 use Rattle.fibs_session.specs.Calls.Standing.{ClientValue}
-use Rattle.fibs_session.specs.History.Machine.{InputValue, wire_of}
+use Rattle.fibs_session.specs.History.Machine.{InputValue, step, wire_of}
 use Rattle.fibs_records.specs.Statuses.{refusal_status, plain_status}
 use Rattle.fibs_records.specs.Wires.{Holds, IsEmptied}
 use Rattle.fibs_records.specs.declared.wire.Wire.{Wire}
@@ -22,12 +22,23 @@ put_back R old new lent held after same was is h =
     subst (λ (o : Option ClientValue). R o new) (ap (λ (v : ClientValue). Some v) same ∙ was)
     (subst (λ (n : Option ClientValue). R (Some lent) n) (sym is) h)
 
--- the commands that were handed out are on the wire
-pub on_wire : (old new : ClientValue) (i : InputValue) (send : List (List ℕ)) (wire : Wire) → Does old new i send
-    → Holds wire (wire_of send) → DoesOnWire old new i wire
-on_wire old new i send wire does holds = record {
+-- what a wire holds after it was emptied it holds after what it was before
+pub held : (first cleared last : Wire) (bytes : List ℕ) → IsEmptied first cleared → Holds cleared last bytes
+    → Holds first last bytes
+held first cleared last bytes one holds = record {
+  few = holds.few;
+  len_is = holds.len_is;
+  bytes_are = holds.bytes_are;
+  rest = holds.rest ∙ ap (λ (b : List ℕ). drop last.len b) one.bytes_are;
+}
+
+-- the commands that were handed out are on the wire, which was emptied before
+pub on_wire : (old new : ClientValue) (i : InputValue) (send : List (List ℕ)) (first cleared last : Wire)
+    → Does old new i send → IsEmptied first cleared → Holds cleared last (wire_of send) → DoesOnWire old new i first last
+on_wire old new i send first cleared last does one holds = record {
   stands = does.stands;
-  hands = λ t s. subst (λ (commands : List (List ℕ)). Holds wire (wire_of commands)) (does.hands t s) holds;
+  hands = λ t s. held first cleared last (wire_of (step t i).send) one
+      (subst (λ (commands : List (List ℕ)). Holds cleared last (wire_of commands)) (does.hands t s) holds);
 }
 
 pub unsaid : (old new : ClientValue) (i : InputValue) → Does old new i [] → DoesUnsaid old new i

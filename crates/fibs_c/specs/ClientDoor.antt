@@ -32,10 +32,10 @@ IsNewClient (Some c) new name password status = (status ≡ 502) × (new ≡ Som
 IsNewClient None new name password status = IsNewFor (login_fault name password) new name password status
 
 -- for each history by which the client was reached, that history with the input reaches it now, and the wire holds just
--- the bytes of the commands that the machine hands out
-pub record DoesOnWire (old new : ClientValue) (i : InputValue) (wire : Wire) : Type 0 where
+-- the bytes of the commands that the machine hands out; what follows them there is as it was
+pub record DoesOnWire (old new : ClientValue) (i : InputValue) (wire wire' : Wire) : Type 0 where
   pub stands : (t : Talk) → StandsAfter old t → StandsAfter new (step t i).talk
-  pub hands : (t : Talk) → StandsAfter old t → Holds wire (wire_of (step t i).send)
+  pub hands : (t : Talk) → StandsAfter old t → Holds wire wire' (wire_of (step t i).send)
 
 -- the same for an input at which the machine hands out nothing
 pub record DoesUnsaid (old new : ClientValue) (i : InputValue) : Type 0 where
@@ -44,7 +44,7 @@ pub record DoesUnsaid (old new : ClientValue) (i : InputValue) : Type 0 where
 
 -- what `Client::open` does, and its refusal
 pub record Opens (old new : ClientValue) (wire wire' : Wire) (status : ℕ) : Type 0 where
-  pub does : DoesOnWire old new Open wire'
+  pub does : DoesOnWire old new Open wire wire'
   pub refusal : (t : Talk) → StandsAfter old t → status ≡ refusal_status (open_refusal t)
   pub kept : status ≢ 0 → (new ≡ old) × IsEmptied wire wire'
 
@@ -55,7 +55,7 @@ IsOpened (Some c) (Some d) wire wire' status = Opens c d wire wire' status
 
 -- what `Client::decide` does, and its refusal
 pub record Decides (old new : ClientValue) (d : DecisionValue) (wire wire' : Wire) (status : ℕ) : Type 0 where
-  pub does : DoesOnWire old new (Click d) wire'
+  pub does : DoesOnWire old new (Click d) wire wire'
   pub refusal : (t : Talk) → StandsAfter old t → status ≡ refusal_status (answer_now t d)
   pub kept : status ≢ 0 → (new ≡ old) × IsEmptied wire wire'
 
@@ -67,7 +67,7 @@ IsDecided (Some d) (Some c) (Some c') wire wire' status = Decides c c' d wire wi
 
 -- what `Client::plain` does, and its refusal
 pub record SendsPlain (old new : ClientValue) (p : PlainValue) (wire wire' : Wire) (status : ℕ) : Type 0 where
-  pub does : DoesOnWire old new (PlainInput p) wire'
+  pub does : DoesOnWire old new (PlainInput p) wire wire'
   pub refusal : (t : Talk) → StandsAfter old t → status ≡ plain_status (plain_refusal t p)
   pub kept : status ≢ 0 → (new ≡ old) × IsEmptied wire wire'
 

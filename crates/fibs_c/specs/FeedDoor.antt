@@ -50,11 +50,11 @@ IsTold None h text text' = TellsNone h text text'
 IsTold (Some v) h text text' = TellsLine v h text text'
 
 -- what `Client::feed` does, and that C gets its answer
-pub record Feeds (old new : ClientValue) (piece : List ℕ) (h : Heard) (text text' : List ℕ) (wire : Wire)
+pub record Feeds (old new : ClientValue) (piece : List ℕ) (h : Heard) (text text' : List ℕ) (wire wire' : Wire)
     : Type 0 where
   pub in_range : h.used ≤ length piece
   pub progress : 0 < length piece → 0 < h.used
-  pub does : DoesOnWire old new (Piece (take h.used piece)) wire
+  pub does : DoesOnWire old new (Piece (take h.used piece)) wire wire'
   pub taken : Option TakenValue
   pub answers : FeedAnswers old piece h.used taken
   pub told : IsTold taken h text text'
@@ -71,7 +71,7 @@ IsFedInRoom None new piece h h' text text' wire wire' status =
     (status ≡ 501) × (new ≡ None) × FeedsNothing h h' text text' wire wire'
 IsFedInRoom (Some c) None piece h h' text text' wire wire' status = ⊥
 IsFedInRoom (Some c) (Some d) piece h h' text text' wire wire' status =
-    (status ≡ 0) × Feeds c d piece h' text text' wire'
+    (status ≡ 0) × Feeds c d piece h' text text' wire wire'
 
 -- the same if there is room for a line, and else nothing was done
 abbrev pub IsFed : Option ClientValue → Option ClientValue → List ℕ → Heard → Heard → List ℕ → List ℕ → Wire → Wire

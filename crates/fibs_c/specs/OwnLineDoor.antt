@@ -15,7 +15,7 @@ own_refusal t line = if not (is_online t) then 2 else if would_take t (typed_now
 -- just the line with its line end is on the wire, or nothing
 pub record SendsOwn (c : ClientValue) (line : List ℕ) (wire wire' : Wire) (status : ℕ) : Type 0 where
   pub refusal : (t : Talk) → StandsAfter c t → status ≡ own_refusal t line
-  pub sent : status ≡ 0 → Holds wire' (on_wire line)
+  pub sent : status ≡ 0 → Holds wire wire' (on_wire line)
   pub kept : status ≢ 0 → IsEmptied wire wire'
 
 -- and the client is as it was; what is wrong with the text of the line comes first

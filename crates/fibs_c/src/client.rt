@@ -58,7 +58,7 @@ pub extern "C" fn fibs_client_free(alloc: Global, client: &mut ClientHandle)
 
 /// Hands out a command, or says why it does not.
 fn hand_out_command(wire: &mut Wire, answer: &Result<CommandText, Refusal>) -> u32
-    ensures wire { Holds wire.new (wire_of (handed answer.now)) }
+    ensures wire { Holds wire.old wire.new (wire_of (handed answer.now)) }
     ensures refused { result ≢ 0 → IsEmptied wire.old wire.new }
     ensures status { result ≡ refusal_status (refusal_in answer.now) }
 {
@@ -76,7 +76,7 @@ fn hand_out_command(wire: &mut Wire, answer: &Result<CommandText, Refusal>) -> u
 
 /// The same for a plain command.
 fn hand_out_plain(wire: &mut Wire, answer: &Result<CommandText, PlainRefusal>) -> u32
-    ensures wire { Holds wire.new (wire_of (handed answer.now)) }
+    ensures wire { Holds wire.old wire.new (wire_of (handed answer.now)) }
     ensures refused { result ≢ 0 → IsEmptied wire.old wire.new }
     ensures status { result ≡ plain_status (refusal_in answer.now) }
 {

@@ -69,7 +69,7 @@ fn maybe_record(decision: &Option<Decision>) -> DecisionRecord
 fn tell(used: usize, taken: Taken<'_>, text: &mut [u8], wire: &mut Wire) -> Heard
     requires { kept_limit ≤ length text.old }
     ensures used { result.used ≡ used }
-    ensures sends { Holds wire.new (wire_of (taken_of taken.entry).send) }
+    ensures sends { Holds wire.old wire.new (wire_of (taken_of taken.entry).send) }
     ensures tells { TellsLine (taken_of taken.entry) result text.old text.new }
 {
     let Taken {
@@ -95,7 +95,7 @@ fn tell(used: usize, taken: Taken<'_>, text: &mut [u8], wire: &mut Wire) -> Hear
 /// Hears a piece up to and with the next line end, and copies the line.
 fn hear(client: &mut Client, piece: &[u8], text: &mut [u8], wire: &mut Wire) -> Heard
     requires { kept_limit ≤ length text.old }
-    ensures { Feeds client.old client.new piece.now result text.old text.new wire.new }
+    ensures { Feeds client.old client.new piece.now result text.old text.new wire.old wire.new }
 {
     let heard = client.read(piece);
     let Got { used, taken } = client.got(heard);

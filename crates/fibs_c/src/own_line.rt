@@ -51,7 +51,7 @@ fn own_refusal(client: &Client, line: &[u8]) -> u32
 /// Hands out a line if there is no status against it.
 fn hand_out_line(wire: &mut Wire, line: &[u8], status: u32)
     requires { length line.now ≤ 400 }
-    ensures sent { status ≡ 0 → Holds wire.new (on_wire line.now) }
+    ensures sent { status ≡ 0 → Holds wire.old wire.new (on_wire line.now) }
     ensures kept { status ≢ 0 → IsEmptied wire.old wire.new }
 {
     clear(wire);

@@ -3,3 +3,4 @@ pub mod LooseValues
 pub mod HandleValues
 pub mod NumberLemmas
 pub mod RoomLemmas
+pub mod WireLemmas

@@ -22,15 +22,16 @@ returns-in-None c =
       cut = 0;
       confirmed = c.of_kind.result;
       rolled = 0;
-    }) c.args.text.now c.args.text.now wire) (sym c.got-used.ensures.used)
+    }) c.args.text.now c.args.text.now c.args.wire.now wire) (sym c.got-used.ensures.used)
     (record {
       in_range = heard.in_range;
       progress = heard.progress;
-      does = on_wire c.args.client.now read.new.self (Piece (take read.result.used c.args.piece.now)) [] wire
-          (heard.hands None shown) (record {
+      does = on_wire c.args.client.now read.new.self (Piece (take read.result.used c.args.piece.now)) []
+          c.args.wire.now wire wire (heard.hands None shown) c.clear.ensures (record {
             few = omega (arith, c.clear.ensures.len_is);
             len_is = c.clear.ensures.len_is;
             bytes_are = ap (λ (n : ℕ). take n wire.bytes) c.clear.ensures.len_is;
+            rest = refl;
           });
       taken = None;
       answers = heard.answers None shown;
