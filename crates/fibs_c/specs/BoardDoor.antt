@@ -23,16 +23,16 @@ pub record TellsWrongBoard (line : List ℕ) (field status : ℕ) : Type 0 where
   pub status_is : status ≡ 300 + fault_number fault
 
 -- the fields of the line's board
-pub record TellsBoard (line : List ℕ) (r : BoardRecord) (field status : ℕ) : Type 0 where
+pub record TellsBoard (line : List ℕ) (old r : BoardRecord) (field status : ℕ) : Type 0 where
   pub board : BoardFields
   pub says : BoardText board line
-  pub told : IsBoardAs r board
+  pub told : IsBoardAs old r board
   pub no_field : field ≡ 0
   pub done : status ≡ 0
 
 -- or the line says no board, and nothing is written of one
 abbrev pub IsBoardRead : List ℕ → BoardRecord → BoardRecord → ℕ → ℕ → Type 0
-IsBoardRead line r r' field status = (TellsWrongBoard line field status × (r' ≡ r)) ⊎ TellsBoard line r' field status
+IsBoardRead line r r' field status = (TellsWrongBoard line field status × (r' ≡ r)) ⊎ TellsBoard line r r' field status
 
 -- the board of the line is printed
 pub record PrintsBoard (line old new : List ℕ) (len status : ℕ) : Type 0 where

@@ -91,7 +91,7 @@ IsLost (Some c) (Some d) waited waited' status = Loses c d waited waited' status
 -- the board that is shown; or no board is shown, and nothing is written
 abbrev pub IsShownBoard : Option BoardFields → BoardRecord → BoardRecord → ℕ → Type 0
 IsShownBoard None r r' status = (status ≡ 5) × (r' ≡ r)
-IsShownBoard (Some b) r r' status = (status ≡ 0) × IsBoardAs r' b
+IsShownBoard (Some b) r r' status = (status ≡ 0) × IsBoardAs r r' b
 
 -- and the client is as it was
 abbrev pub IsShown : Option ClientValue → Option ClientValue → BoardRecord → BoardRecord → ℕ → Type 0
@@ -102,7 +102,7 @@ IsShown (Some c) new r r' status =
 -- the decision that waits; or no decision waits, and nothing is written
 abbrev pub IsWaitingAsk : Option Ask → OutstandingRecord → OutstandingRecord → ℕ → Type 0
 IsWaitingAsk None out out' status = (status ≡ 507) × (out' ≡ out)
-IsWaitingAsk (Some a) out out' status = (status ≡ 0) × IsAskAs out' a
+IsWaitingAsk (Some a) out out' status = (status ≡ 0) × IsAskAs out out' a
 
 -- and the client is as it was
 abbrev pub IsWaiting : Option ClientValue → Option ClientValue → OutstandingRecord → OutstandingRecord → ℕ → Type 0

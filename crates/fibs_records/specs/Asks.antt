@@ -6,11 +6,11 @@ use Rattle.fibs_records.specs.Decisions.{IsDecisionAs, IsKind}
 use Rattle.fibs_records.specs.declared.outstanding.OutstandingRecord.{OutstandingRecord}
 
 -- a decision with its board is given
-pub record IsAskAs (out : OutstandingRecord) (a : Ask) : Type 0 where
-  pub board : IsBoardAs out.board a.0
+pub record IsAskAs (old out : OutstandingRecord) (a : Ask) : Type 0 where
+  pub board : IsBoardAs old.board out.board a.0
   pub decision : IsDecisionAs out.decision a.1
 
 -- this one, or none, and then no board is written
 abbrev pub IsMaybeAsk : OutstandingRecord → OutstandingRecord → Option Ask → Type 0
 IsMaybeAsk old new None = IsKind new.decision 0 × (new.board ≡ old.board)
-IsMaybeAsk old new (Some a) = IsAskAs new a
+IsMaybeAsk old new (Some a) = IsAskAs old new a

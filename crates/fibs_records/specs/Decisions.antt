@@ -1,5 +1,5 @@
 -- Decisions as C has them.
-use Rattle.std.specs.Prelude.{◌≡◌, ℕ, ◌≤◌, Bool, true, ◌&&◌, List, length, take, map, cond, nat_eq, nat_le}
+use Rattle.std.specs.Prelude.{◌≡◌, ℕ, ◌≤◌, Bool, true, ◌&&◌, List, [], ◌∷◌, length, take, drop, map, cond, nat_eq, nat_le}
 use Rattle.std.specs.Prelude.{Option, None, Some, option_map, if◌then◌else◌}
 use Rattle.std.specs.List.{list_all}
 use Rattle.fibs_position.specs.DecisionValue.{DecisionValue, roll, double, accept, reject, move, resign}
@@ -41,9 +41,20 @@ resigning Normal = 6
 resigning Gammon = 7
 resigning Backgammon = 8
 
+-- a step of zeros, and as many as a record has
+abbrev pub zero_step : PlayStep
+zero_step = record { source = 0; target = 0 }
+
+abbrev pub zero_steps : List PlayStep
+zero_steps = zero_step ∷ zero_step ∷ zero_step ∷ zero_step ∷ []
+
+-- what follows the steps that are given is zeros
+abbrev pub RestIsZero : DecisionRecord → Type 0
+RestIsZero r = drop r.count r.steps ≡ drop r.count zero_steps
+
 -- a kind that has no steps is given
 abbrev pub IsKind : DecisionRecord → ℕ → Type 0
-IsKind r kind = (r.kind ≡ kind) × (r.count ≡ 0)
+IsKind r kind = (r.kind ≡ kind) × (r.count ≡ 0) × RestIsZero r
 
 -- a move is given, with its steps, at most four
 pub record IsMove (r : DecisionRecord) (steps : List Hop) : Type 0 where
@@ -51,6 +62,7 @@ pub record IsMove (r : DecisionRecord) (steps : List Hop) : Type 0 where
   pub few : r.count ≤ 4
   pub count : r.count ≡ length steps
   pub hops : hops_in r ≡ steps
+  pub rest : RestIsZero r
 
 -- all that is given of a move, and what is given of these steps
 abbrev pub move_in : DecisionRecord → ℕ × ℕ × Bool × List Hop

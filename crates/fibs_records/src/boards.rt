@@ -26,7 +26,7 @@ pub struct BoardRecord {
 /// Writes a name, and says how many bytes it has.
 fn put_name(room: &mut [u8; 64], name: &Name<'_>) -> usize
     requires { is_name (name_bytes name.now) ≡ true }
-    ensures { IsNameAs result room.new (name_bytes name.now) }
+    ensures { IsNameAs result room.old room.new (name_bytes name.now) }
 {
     put(room, name.bytes())
 }
@@ -45,7 +45,7 @@ fn numbers_of(board: &Board) -> [i32; 50]
 /// Writes the fields of a board.
 #[inline(never)]
 pub fn put_board(out: &mut BoardRecord, board: &Board)
-    ensures { IsBoardAs out.new (fields_of board.now) }
+    ensures { IsBoardAs out.old out.new (fields_of board.now) }
 {
     out.player_len = put_name(&mut out.player, &board.player());
     out.opponent_len = put_name(&mut out.opponent, &board.opponent());

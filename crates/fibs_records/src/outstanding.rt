@@ -19,7 +19,7 @@ pub struct OutstandingRecord {
 
 /// Writes a decision with its board.
 pub fn put_outstanding(out: &mut OutstandingRecord, told: &Outstanding)
-    ensures { IsAskAs out.new (ask_of told.now) }
+    ensures { IsAskAs out.old out.new (ask_of told.now) }
 {
     put_board(&mut out.board, &told.board);
     out.decision = decision_record(&told.decision);

@@ -23,7 +23,7 @@ returns-after-shown c =
             | in-Some-shown w ↦ subst (λ (b : Option BoardFields). IsShownBoard b c.args.board.now out status)
                 (w.in-Some-shown.ensures t lent) (
                   w.status-is,
-                  subst (λ (r : BoardRecord). IsBoardAs r (fields_of w.in-Some-shown.shown.now))
+                  subst (λ (r : BoardRecord). IsBoardAs c.args.board.now r (fields_of w.in-Some-shown.shown.now))
                       (sym w.board-is) w.put_board.ensures,
                 )
           ],

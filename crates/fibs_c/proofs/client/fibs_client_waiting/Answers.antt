@@ -24,7 +24,7 @@ returns-after-waiting c =
             | in-Some-waiting w ↦ subst (λ (a : Option Ask). IsWaitingAsk a c.args.waiting.now out status)
                 (w.in-Some-waiting.ensures t lent) (
                   w.status-is,
-                  subst (λ (o : OutstandingRecord). IsAskAs o (ask_of w.in-Some-waiting.waits.now))
+                  subst (λ (o : OutstandingRecord). IsAskAs c.args.waiting.now o (ask_of w.in-Some-waiting.waits.now))
                       (sym w.waiting-is) w.put_outstanding.ensures,
                 )
           ],
