@@ -43,7 +43,7 @@ def fault_in(value, wanted, name):
         return None if len(fits) == 1 else '%d of its kinds fit' % len(fits)
     allowed = [wanted['const']] if 'const' in wanted else wanted.get('enum')
     if allowed and not any(type(one) is type(value) and one == value for one in allowed):
-        return '%r is none of %r' % (value, allowed)
+        return '%r is not one of %r' % (value, allowed)
     kinds = wanted.get('type', [])
     kinds = [kinds] if isinstance(kinds, str) else kinds
     if kinds and not any(isinstance(value, TYPES[kind]) and (kind == 'boolean' or not isinstance(value, bool))

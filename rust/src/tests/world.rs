@@ -97,7 +97,7 @@ fn text_of_a_board(world: &mut World, text: &[u8]) -> (Option<WorldRefusal>, boo
 /// Spaces after a board, and why that text is refused.
 static PADDED: [(usize, Option<WorldRefusal>); 2] = [(4_096, Some(WorldRefusal::BoardAsText)), (16_384, None)];
 
-/// A text that the client hears as a board is none. With as many spaces as a line keeps it is one, which is cut.
+/// A text that the client hears as a board is no text. With as many spaces as a line keeps it is one, which is cut.
 #[test]
 fn a_board_with_many_spaces_may_be_a_text() {
     for (spaces, refusal) in &PADDED {
@@ -227,7 +227,7 @@ fn a_world_settles_after_a_second_click() {
     assert!(is_begun && is_run && is_settled && are_at(&settled, &stepwise, 11, &moves));
 }
 
-/// Why a new world, and then one with a connection, does not settle with dice that are none.
+/// Why a new world, and then one with a connection, does not settle with dice that are not from 1 to 6.
 fn refusals_to_settle(world: &mut World) -> [(usize, Option<WorldRefusal>); 4] {
     let closed = [settle(world, [1, 1]), settle(world, [0, 7])];
     let opened = run_in_a_row(world, &[Event::Open]);

@@ -46,7 +46,7 @@ static CONNECTIONS: [Case; 6] = [
         end: b"opened 1\nrefused 1 4 NoSuchConnection\n",
     },
     Case {
-        name: "dice that are none",
+        name: "dice that are not from 1 to 6",
         script: &[TO_ROLL, b"\nopen\nserve 1 1 1\nserve 1 6 7\n"],
         status: 3,
         end: b"loggedin 1\nrefused 2 9 BadDice\n",
