@@ -228,3 +228,26 @@ def settings_of_any_bytes_do_no_harm():
                 same('unread', "fibs: the settings can't be read" in ann.lines(), True)
             ann.close()
             server.close()
+
+
+@scene
+@with_server
+def moves_are_listed_twenty_at_a_time(server):
+    """`plays more` goes on where the list ended, to the last move: none twice, none left out; a board begins anew."""
+    ann = greeted(server)
+    # two and two: more moves than three lists have
+    server.send(BOARD.replace(':1:0:0:0:0:1:1:1', ':1:2:2:0:0:1:1:1'))
+    ann.reads('Your move, as in: move')
+    rows = rows_after(ann, 'plays', 'shows others.')
+    first, total = list(rows), int(rows[-1].split(' ')[2])
+    while rows[-1].endswith('shows others.'):
+        rows = rows[:-1] + rows_after(ann, 'plays more', '.')
+    moves = [row for row in rows if row.startswith('  move')]
+    same('how many', (total > 60, len(moves), len(set(moves)), rows[-1]), (True, total, total, '%d legal moves.' % total))
+    same('nothing follows', rows_after(ann, 'plays more', '.'), ['%d legal moves.' % total])
+    server.send(BOARD.replace(':1:0:0:0:0:1:1:1', ':1:2:2:0:0:1:1:1'))
+    server.send('12 bob hi')
+    ann.reads('bob says: hi')
+    again = rows_after(ann, 'plays more', 'shows others.')
+    same('a board begins anew', [row for row in again if not row.startswith('Your move')], first)
+    ann.close()
