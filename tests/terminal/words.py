@@ -18,6 +18,7 @@ ROWS = [(kind, re.compile(form), more) for kind, form, *more in [
     ('hint', r'Your turn: (roll)\.'),
     ('hint', r'Your turn: (roll), or (double)\.'),
     ('hint', r'Your turn: (roll); the server refused a double in this game\.'),
+    ('hint', r'Your turn: (roll); your double is accepted\.'),
     ('hint', r'You are offered a double: (accept), or (reject)\.'),
     ('hint', r'You are offered a double: (reject)\.'),
     ('hint', r'Your move, as in: (%s)' % MOVE),

@@ -16,6 +16,7 @@ answers row = false
 abbrev pub shows_offers : Row → Bool
 shows_offers R.Offers = true
 shows_offers R.Undoubled = true
+shows_offers R.Accepted = true
 shows_offers R.Resigns = true
 shows_offers R.Owes = true
 shows_offers row = false
@@ -26,9 +27,10 @@ names_way_on R.Unsettled = true
 names_way_on R.Unanswered = true
 names_way_on row = shows_offers row
 
--- it says that the user may roll, and of a double only that the server has refused one
+-- it says that the user may roll, and of a double only what became of one
 abbrev pub rolls_alone : Row → Bool
 rolls_alone R.Undoubled = true
+rolls_alone R.Accepted = true
 rolls_alone row = false
 
 -- it is said only if the user asks: there is nothing to do then, or it is not sure
@@ -57,6 +59,7 @@ words_before R.Nothing = []
 words_before R.Offers = []
 words_before R.NotLoggedIn = codes "Not logged in: wrong name or password? quit, and begin again.\n"
 words_before R.Undoubled = codes "Your turn: roll; the server refused a double in this game.\n"
+words_before R.Accepted = codes "Your turn: roll; your double is accepted.\n"
 words_before R.ServerPlays = codes "The server plays for you: "
 words_before R.Resigns = codes " offers to resign: send accept, or send reject.\n"
 words_before R.Concedes = codes " offers to resign: send accept, or send reject.\n"

@@ -352,6 +352,8 @@ fn row_of(
         }
         _ => match row_in_game(client, situation, offers, has_way) {
             Row::Offers if offers.double && situation.refuses_double => Row::Undoubled,
+            // the board that is shown is one from before the double
+            Row::Offers if offers.double && standing == Standing::Taken => Row::Accepted,
             row => row,
         },
     }

@@ -17,6 +17,8 @@ pub enum Row {
     Offers,
     /// That the user may roll, and that the server has refused a double in this game.
     Undoubled,
+    /// That the user may roll, and that his double was accepted.
+    Accepted,
     /// That the server plays by itself, and how one plays oneself.
     ServerPlays,
     /// That the opponent offers to resign, and how that is answered.
@@ -85,7 +87,7 @@ impl Row {
     {
         matches!(
             self,
-            Row::Offers | Row::Undoubled | Row::Resigns | Row::Owes
+            Row::Offers | Row::Undoubled | Row::Accepted | Row::Resigns | Row::Owes
         )
     }
 
@@ -96,11 +98,11 @@ impl Row {
         matches!(self, Row::Unsettled | Row::Unanswered) || self.shows_offers()
     }
 
-    /// Whether it says that the user may roll, and of a double only that the server has refused one.
+    /// Whether it says that the user may roll, and of a double only what became of one.
     pub fn rolls_alone(self) -> bool
         ensures { result ≡ rolls_alone self }
     {
-        self == Row::Undoubled
+        matches!(self, Row::Undoubled | Row::Accepted)
     }
 
     /// Whether it is said only if the user asks: by `help`, `board`, or a word that is refused. There is nothing to do
@@ -128,6 +130,7 @@ impl Row {
             Row::Nothing | Row::Offers => b"",
             Row::NotLoggedIn => b"Not logged in: wrong name or password? quit, and begin again.\n",
             Row::Undoubled => b"Your turn: roll; the server refused a double in this game.\n",
+            Row::Accepted => b"Your turn: roll; your double is accepted.\n",
             Row::ServerPlays => b"The server plays for you: ",
             Row::Resigns | Row::Concedes => b" offers to resign: send accept, or send reject.\n",
             Row::Owes => b" waits for your answer: send accept, or send reject.\n",

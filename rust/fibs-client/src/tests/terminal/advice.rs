@@ -23,7 +23,7 @@ const AUTOMOVE: &[u8] = b"2 ann 1 1 0 1 0 0 1 1 0 0 1 0 1 1500.00 0 0 none 0 0 U
 const BOTH: &[u8] = b"2 ann 1 1 0 1 0 0 1 1 0 1 1 0 1 1500.00 0 0 none 0 0 UTC\r\n";
 
 /// What is said while an offer to resign or a double is open, or was declined or refused.
-static OFFERS: [Scene; 12] = [
+static OFFERS: [Scene; 13] = [
     (
         &[
             Step::Types(b"resign n"),
@@ -104,6 +104,13 @@ static OFFERS: [Scene; 12] = [
             Step::Rests,
         ],
         "The cube shows 2.\nIt may be your turn: board shows the game.\n",
+    ),
+    (
+        &[
+            Step::Hears(b"bob accepts the double. The cube shows 2.\r\n"),
+            Step::Rests,
+        ],
+        "The cube shows 2.\nYour turn: roll; your double is accepted.\n",
     ),
     (
         &[
