@@ -1,4 +1,3 @@
 pub mod Asking
-pub mod Drawings
 pub mod Grown
 pub mod Resting

@@ -4,12 +4,15 @@ ghost use Rattle.fibs_front.specs.Wishes.{wish_value};
 ghost use Rattle.fibs_terminal.specs.Asking.{AsksInBounds, KnownStays, SendsUntaken};
 
 use crate::looking::TRY_WHAT;
-use crate::screen::{Page, Screen};
-use crate::worded::append_words;
+use crate::screen::Screen;
 use bstr::ByteSlice;
 use fibs_advice::rules::append_rule;
 use fibs_advice::spelling::words::append_spelled;
 use fibs_advice::trial::Trial;
+use fibs_drawing::append_words;
+use fibs_environment::Page;
+use fibs_environment::pieces::append_all;
+use fibs_environment::shown::append_shown;
 use fibs_fields::split::split;
 use fibs_front::typed_line::{TYPED_LIMIT, TypedLine};
 use fibs_front::wish::Wish;
@@ -18,10 +21,8 @@ use fibs_session::{Client, Directory, Refusal};
 use fibs_typed::taking::would_take;
 use fibs_typed::typing::{Typed, is_command, read_typed};
 use fibs_wording::help;
-use fibs_wording::pieces::append_all;
 use fibs_wording::players::append_players;
 use fibs_wording::server_words::{is_leaving_word, is_passed, is_server_word};
-use fibs_wording::shown::append_shown;
 use std::alloc::{AllocError, Global};
 
 /// A word of the terminal, which the client does not know.

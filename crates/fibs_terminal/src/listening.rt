@@ -1,8 +1,9 @@
 //! What a terminal shows of what the server sends.
 
-use crate::screen::{Moment, Page, Screen};
+use crate::screen::{Moment, Screen};
 use crate::talk::Talk;
 use fibs_advice::told::Told;
+use fibs_environment::Page;
 use fibs_lines::Line;
 use fibs_messages::{Fault, Message, Reading};
 use fibs_position::{GameBoard, Phase};

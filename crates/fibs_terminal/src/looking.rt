@@ -3,10 +3,10 @@ ghost use Rattle.std.specs.Prelude.{List, ℕ};
 ghost use Rattle.fibs_terminal.specs.Asking.{SendsUntaken};
 
 use crate::commands::{NO_GAME, set_line};
-use crate::picture::append_picture;
-use crate::screen::Page;
 use fibs_advice::plays::{Listing, append_plays};
 use fibs_advice::trial::Trial;
+use fibs_drawing::append_picture;
+use fibs_environment::Page;
 use fibs_front::typed_line::TypedLine;
 use fibs_front::wish::Wish;
 use fibs_position::GameBoard;

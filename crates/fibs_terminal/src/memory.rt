@@ -1,11 +1,11 @@
 //! What a terminal remembers: only what the client does not know.
 
-use crate::boards::Boards;
 use crate::looking::Looking;
 use crate::people::{List, People};
 use crate::resting::Advising;
 use crate::talk::Talk;
 use fibs_advice::situation::Situation;
+use fibs_drawing::Boards;
 use std::alloc::Global;
 use std::time::Duration;
 

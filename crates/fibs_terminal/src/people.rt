@@ -1,11 +1,11 @@
 //! Whose words are hidden, and who was listed.
 
-use crate::screen::Page;
+use fibs_environment::Page;
+use fibs_environment::shown::append_shown;
 use fibs_fields::name::Name;
 use fibs_messages::{Message, WhoInfo};
 use fibs_wording::lists::append_count;
 use fibs_wording::messages::append_player;
-use fibs_wording::shown::append_shown;
 use std::alloc::{AllocError, Global};
 
 /// Whose words are hidden.

@@ -3,12 +3,13 @@ ghost use Rattle.std.specs.Prelude.{◌≡◌, true, false, OnOk};
 ghost use Rattle.fibs_advice.specs.Rows.{is_asked_for};
 ghost use Rattle.fibs_terminal.specs.Resting.{SaysAdvice, SaysRow};
 
-use crate::screen::{Moment, Page, Screen};
+use crate::screen::{Moment, Screen};
 use fibs_advice::advised::{Advice, Aside, advised};
 use fibs_advice::saying::append_advice;
 use fibs_advice::situation::Situation;
+use fibs_environment::Page;
+use fibs_environment::pieces::front;
 use fibs_session::{Client, Directory};
-use fibs_wording::messages::front;
 use std::alloc::{AllocError, Global};
 use std::time::Duration;
 

@@ -3,7 +3,7 @@ ghost use Rattle.std.specs.Prelude.{List, ℕ};
 ghost use Rattle.fibs_terminal.specs.Asking.{SendsUntaken};
 
 use crate::commands::set_line;
-use crate::screen::Page;
+use fibs_environment::Page;
 use fibs_front::typed_line::{TYPED_LIMIT, TypedLine};
 use fibs_front::wish::Wish;
 use fibs_session::Client;

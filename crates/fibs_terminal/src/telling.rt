@@ -1,10 +1,11 @@
 //! What a terminal shows of what is reported to it.
 
-use crate::screen::{Moment, Page, Screen};
+use crate::screen::{Moment, Screen};
+use fibs_environment::Page;
+use fibs_environment::pieces::append_all;
 use fibs_front::said::Said;
 use fibs_session::{CommandText, Outstanding, PlainRefusal, Refusal};
 use fibs_wording::lists::append_row;
-use fibs_wording::pieces::append_all;
 use fibs_wording::reasons::{append_not_sent, append_reason, append_refusal, append_unnoted};
 use itoa::Buffer;
 use std::alloc::AllocError;

@@ -1,6 +1,6 @@
 //! Dates and times in words.
 
-use crate::pieces::{append_all, append_number};
+use fibs_environment::pieces::{append_all, append_number};
 use fibs_environment::{ClockTime, Zone};
 use std::alloc::AllocError;
 

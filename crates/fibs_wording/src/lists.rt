@@ -1,7 +1,8 @@
 //! A player in a row, and how many players there are.
 
-use crate::messages::{append_state, front};
-use crate::shown::pad_from;
+use crate::messages::append_state;
+use fibs_environment::pieces::front;
+use fibs_environment::shown::pad_from;
 use fibs_fields::rating::append_rating;
 use fibs_session::Player;
 use itoa::Buffer;

@@ -1,10 +1,8 @@
 //! The words of messages.
-ghost use Rattle.std.specs.Prelude.{◌≡◌, take};
-
 use crate::dates::{append_date, append_time};
-use crate::pieces::{append_all, append_number, break_row};
-use crate::shown::append_shown;
 use fibs_environment::Settings;
+use fibs_environment::pieces::{append_all, append_number, break_row, front};
+use fibs_environment::shown::append_shown;
 use fibs_fields::rating::append_rating;
 use fibs_messages::{Message, OwnInfo, WhoInfo};
 use std::alloc::AllocError;
@@ -117,13 +115,6 @@ pub fn append_player(info: &WhoInfo<'_>, text: &mut Vec<u8>) -> Result<(), Alloc
         info.away,
         text,
     )
-}
-
-/// The first bytes of a name.
-pub fn front(name: &[u8]) -> &[u8]
-    ensures { result.now ≡ take 24 name.now }
-{
-    if name.len() > 24 { &name[..24] } else { name }
 }
 
 /// Appends a line of talk: when, if that is known, who, and what.

@@ -2,8 +2,7 @@
 
 use crate::lists::append_count;
 use crate::messages::append_state;
-use crate::pieces::append_all;
-use crate::shown::{append_shown, pad_from};
+use fibs_environment::shown::{append_shown, pad_from};
 use fibs_fields::rating::append_rating;
 use fibs_session::{Directory, Player};
 use itoa::Buffer;

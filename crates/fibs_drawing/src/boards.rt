@@ -1,15 +1,14 @@
 //! The boards of a terminal, and what it shows of one that comes.
+use crate::outcomes::append_outcome;
 use crate::picture::{NOTHING_CAME, append_marked, came_since};
-use crate::screen::Page;
 use fibs_boards::board::Board;
 use fibs_boards::fields::{
     FIRST_DIE, FIRST_PLACE, LAST_PLACE, OTHER_FIRST_DIE, OTHER_OFF, OTHER_SECOND_DIE, OWN_OFF,
     SECOND_DIE,
 };
+use fibs_environment::Page;
+use fibs_environment::pieces::{append_all, front};
 use fibs_position::{GameBoard, Phase};
-use fibs_wording::messages::front;
-use fibs_wording::outcomes::append_outcome;
-use fibs_wording::pieces::append_all;
 use itoa::Buffer;
 use std::alloc::AllocError;
 

@@ -1,5 +1,5 @@
 //! Laws of what a terminal draws and tells. Each function does nothing: its contract is the law.
-ghost use Rattle.fibs_terminal.specs.Drawings.{DrawingsTell, TellingsTell};
+ghost use Rattle.fibs_drawing.specs.Drawings.{DrawingsTell, TellingsTell};
 
 /// Boards with the same drawing, each with a position, look the same (`SameToTheEye`).
 pub fn drawings_tell()

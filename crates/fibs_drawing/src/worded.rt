@@ -1,7 +1,7 @@
 //! A board in words, as the terminal has it: its rows are broken at spaces.
 ghost use Rattle.std.specs.Prelude.{◌≡◌, ◌≤◌, ◌++◌, OnOk, List, ℕ, true};
 ghost use Rattle.fibs_position.specs.GameOf.{game_of};
-ghost use Rattle.fibs_terminal.specs.Drawings.{TellsBoard, is_wide};
+ghost use Rattle.fibs_drawing.specs.Drawings.{TellsBoard, is_wide};
 
 use fibs_position::GameBoard;
 use fibs_words::tell;
@@ -58,7 +58,7 @@ fn is_wide(columns: usize) -> bool
 /// Appends a board in words, in rows that are no wider than the terminal.
 ///
 /// Errors: if memory runs out.
-pub(crate) fn append_words(
+pub fn append_words(
     alloc: Global,
     game: &GameBoard,
     columns: usize,

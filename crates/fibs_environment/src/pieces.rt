@@ -1,4 +1,5 @@
 //! What a text is made of.
+ghost use Rattle.std.specs.Prelude.{◌≡◌, take};
 
 use itoa::Buffer;
 use std::alloc::AllocError;
@@ -24,4 +25,11 @@ pub fn break_row(start: usize, place: usize, text: &mut Vec<u8>) {
     if text.len().saturating_sub(start) > COLUMNS && place < text.len() {
         text[place] = b'\n';
     }
+}
+
+/// The first bytes of a name.
+pub fn front(name: &[u8]) -> &[u8]
+    ensures { result.now ≡ take 24 name.now }
+{
+    if name.len() > 24 { &name[..24] } else { name }
 }

@@ -1,12 +1,11 @@
 //! How a game ended, in words.
 ghost use Rattle.std.specs.Prelude.{◌≤◌};
 
-use crate::messages::front;
-use crate::pieces::{append_all, break_row};
+use fibs_boards::board::Board;
 use fibs_boards::fields::{
     CUBE, MATCH_LENGTH, OTHER_OFF, OTHER_SCORE, OWN_OFF, OWN_SCORE, UNLIMITED,
 };
-use fibs_messages::Board;
+use fibs_environment::pieces::{append_all, break_row, front};
 use itoa::Buffer;
 use std::alloc::AllocError;
 

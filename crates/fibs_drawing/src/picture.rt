@@ -2,17 +2,16 @@
 //! marked, and it is cut to the columns.
 ghost use Rattle.std.specs.Prelude.{◌≡◌, ◌≤◌, ◌++◌, OnOk, List, ℕ, true, false};
 ghost use Rattle.fibs_position.specs.GameOf.{game_of};
-ghost use Rattle.fibs_terminal.specs.Drawings.{DrawsBoard, is_plain, TellsBoard, is_worded};
+ghost use Rattle.fibs_drawing.specs.Drawings.{DrawsBoard, is_plain, TellsBoard, is_worded};
 
 use crate::worded::append_words;
 use fibs_environment::Settings;
+use fibs_environment::pieces::{append_all, front};
 use fibs_picture::{
     BOARD_COLUMNS, DEED_ROW, DICE_ROW, FREE_CUBE, MOST_SEEN, OPPONENTS_CUBE, OPPONENTS_TURN,
     OWN_LETTER, PICTURE_COLUMNS, draw, draw_board, height_at, place_at,
 };
 use fibs_position::{GameBoard, Phase, Position};
-use fibs_wording::messages::front;
-use fibs_wording::pieces::append_all;
 use std::alloc::{AllocError, Global};
 
 /// What makes letters bold, what marks those of the opponent's last move, and what ends that.

@@ -1,0 +1,13 @@
+//! The boards of a terminal: their pictures with marks, the same in words, which of those that come are drawn whole, and
+//! how a game ended.
+#![tactic(auto)]
+
+mod boards;
+pub mod laws;
+mod outcomes;
+mod picture;
+mod worded;
+
+pub use boards::Boards;
+pub use picture::append_picture;
+pub use worded::append_words;
