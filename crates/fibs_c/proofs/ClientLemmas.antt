@@ -34,7 +34,8 @@ held first cleared last bytes one holds = record {
 
 -- the commands that were handed out are on the wire, which was emptied before
 pub on_wire : (old new : ClientValue) (i : InputValue) (send : List (List ℕ)) (first cleared last : Wire)
-    → Does old new i send → IsEmptied first cleared → Holds cleared last (wire_of send) → DoesOnWire old new i first last
+    → Does old new i send → IsEmptied first cleared → Holds cleared last (wire_of send)
+    → DoesOnWire old new i first last
 on_wire old new i send first cleared last does one holds = record {
   stands = does.stands;
   hands = λ t s. held first cleared last (wire_of (step t i).send) one

@@ -1,9 +1,12 @@
 -- Lines that were read one after another: their texts come after each other, and a later one leaves the earlier as
 -- they are.
-use Rattle.std.proofs.Common.{◌≡◌, ◌≢◌, ◌<◌, ◌≤◌, ◌+◌, ◌-◌, ℕ, Bool, not, true, false, List, [], ◌∷◌, ◌++◌, length, take, drop, map, refl, sym, ap, subst, ◌∙◌, arith, append_assoc, slice_set, length-set, length-drop, if◌then◌else◌}
+use Rattle.std.proofs.Common.{◌≡◌, ◌≢◌, ◌<◌, ◌≤◌, ◌+◌, ◌-◌, ℕ, Bool, not, true, false, List, [], ◌∷◌, ◌++◌, length}
+use Rattle.std.proofs.Common.{take, drop, map, refl, sym, ap, subst, ◌∙◌, arith, append_assoc, slice_set, length-set}
+use Rattle.std.proofs.Common.{length-drop, if◌then◌else◌}
 use borrow.Rule.Slice.PartMut.{mid_of, post_of, put_mid, same_len_mid}
 use Rattle.std.proofs.lemmas.Bool.{ne_eqb}
-use Rattle.std.proofs.lemmas.List.{take-take, drop-take, take_more_set, map-append, append-nil, take_all, drop_all, drop_at, drop-drop, drop-set-lt}
+use Rattle.std.proofs.lemmas.List.{take-take, drop-take, take_more_set, map-append, append-nil}
+use Rattle.std.proofs.lemmas.List.{take_all, drop_all, drop_at, drop-drop, drop-set-lt}
 use Rattle.std.proofs.lemmas.Slice.{between_to_end, take-put_mid_below}
 use Rattle.std.proofs.Math.Seq.{take-add, length-take-le}
 use Rattle.std.specs.List.{AllByRecursion, between, concat}
@@ -40,9 +43,11 @@ none_read v piece rows text = record {
 -- two texts with the same front have the same bytes there
 same_bytes : (t u : List ℕ) (b i n : ℕ) → take b t ≡ take b u → i + n ≤ b → take n (drop i t) ≡ take n (drop i u)
 same_bytes t u b i n e h =
-    sym (drop-take i n t) ∙ ap (drop i) (sym (take-take (i + n) b t h) ∙ ap (take (i + n)) e ∙ take-take (i + n) b u h) ∙ drop-take i n u
+    sym (drop-take i n t) ∙ ap (drop i) (sym (take-take (i + n) b t h) ∙ ap (take (i + n)) e ∙ take-take (i + n) b u h)
+    ∙ drop-take i n u
 
-same_line : (t u : List ℕ) (b : ℕ) (row : ToldLine) → take b t ≡ take b u → LiesWithin b row → line_in t row ≡ line_in u row
+same_line : (t u : List ℕ) (b : ℕ) (row : ToldLine) → take b t ≡ take b u → LiesWithin b row
+    → line_in t row ≡ line_in u row
 same_line t u b row e h =
     let f : List ℕ → ReadLine = λ bytes. record { bytes = bytes; cut = is_set row.cut } in
     ap f (same_bytes t u b row.start row.len e h.place)
@@ -53,7 +58,8 @@ same_lines t u b [] e h = refl
 same_lines t u b (row ∷ rows) e h = λ i. same_line t u b row e h.0 i ∷ same_lines t u b rows e h.1 i
 
 -- what lies within a front lies within a longer one
-further : (b c : ℕ) (rows : List ToldLine) → b ≤ c → AllByRecursion (LiesWithin b) rows → AllByRecursion (LiesWithin c) rows
+further : (b c : ℕ) (rows : List ToldLine) → b ≤ c → AllByRecursion (LiesWithin b) rows
+    → AllByRecursion (LiesWithin c) rows
 further b c [] le h = tt
 further b c (row ∷ rows) le h =
     (record { place = omega (arith, le, h.0.place); flag = h.0.flag }, further b c rows le h.1)
@@ -64,14 +70,17 @@ and_last b [] row h last = (last, tt)
 and_last b (r ∷ rows) row h last = (h.0, and_last b rows row h.1 last)
 
 -- the bytes of one line more
-one_more : (ls : List ReadLine) (l : ReadLine) → concat (map line_bytes (ls ++ l ∷ [])) ≡ concat (map line_bytes ls) ++ l.bytes
+one_more : (ls : List ReadLine) (l : ReadLine) → concat (map line_bytes (ls ++ l ∷ []))
+    ≡ concat (map line_bytes ls) ++ l.bytes
 one_more [] l = append-nil l.bytes
 one_more (x ∷ ls) l =
     ap (λ (t : List ℕ). x.bytes ++ t) (one_more ls l) ∙ sym (append_assoc x.bytes (concat (map line_bytes ls)) l.bytes)
 
 -- the bytes read before and now are one front of the piece
-front : (s piece : List ℕ) (used more : ℕ) → (s ++ take used piece) ++ take more (drop used piece) ≡ s ++ take (used + more) piece
-front s piece used more = append_assoc s (take used piece) (take more (drop used piece)) ∙ ap (λ t. s ++ t) (sym (take-add used more piece))
+front : (s piece : List ℕ) (used more : ℕ) → (s ++ take used piece) ++ take more (drop used piece)
+    ≡ s ++ take (used + more) piece
+front s piece used more = append_assoc s (take used piece) (take more (drop used piece))
+    ∙ ap (λ t. s ++ t) (sym (take-add used more piece))
 
 abbrev line_fed : FedLine → List ℕ → ReadLine
 line_fed fed text = record { bytes = take fed.len text; cut = is_set fed.cut }
@@ -92,7 +101,8 @@ pub no_line : (old now new : LinesValue) (piece : List ℕ) (used count bytes : 
     → is_set fed.ended ≡ false
     → ReadSoFar old new piece (used + fed.used) count bytes rows₀ rows text₀ text'
 no_line old now new piece used count bytes rows₀ rows text₀ text text' suffix fed so f e ed el low more none =
-    let same : map (line_in text') (take count rows) ≡ map (line_in text) (take count rows) = same_lines text' text bytes (take count rows) e so.within in
+    let same : map (line_in text') (take count rows) ≡ map (line_in text) (take count rows) =
+    same_lines text' text bytes (take count rows) e so.within in
     record {
       in_range = low;
       begun = λ z. absurd (omega (arith, z, more));
@@ -100,9 +110,11 @@ no_line old now new piece used count bytes rows₀ rows text₀ text text' suffi
       room = subst (λ (n : ℕ). bytes ≤ n) (sym el) so.room;
       same_rows = so.same_rows;
       same_text = el ∙ so.same_text;
-      stands = λ s h. subst (λ (t : List ℕ). StandsAfter new t) (front s piece used fed.used) (f.stands (s ++ take used piece) (so.stands s h));
+      stands = λ s h. subst (λ (t : List ℕ). StandsAfter new t) (front s piece used fed.used)
+          (f.stands (s ++ take used piece) (so.stands s h));
       gains = λ s h. ap lines_of (sym (front s piece used fed.used)) ∙ f.gains (s ++ take used piece) (so.stands s h)
-          ∙ ap (λ ls. lines_of (s ++ take used piece) ++ ls) (copied_none fed suffix none) ∙ append-nil (lines_of (s ++ take used piece))
+          ∙ ap (λ ls. lines_of (s ++ take used piece) ++ ls) (copied_none fed suffix none)
+          ∙ append-nil (lines_of (s ++ take used piece))
           ∙ so.gains s h ∙ ap (λ ls. lines_of s ++ ls) (sym same);
       kinds = so.kinds ∙ ap (map kind_of_line) (sym same);
       within = so.within;
@@ -117,20 +129,27 @@ pub one_line : (old now new : LinesValue) (piece : List ℕ) (used count bytes :
     → ReadSoFar old now piece used count bytes rows₀ rows text₀ text
     → FeedsLine now new (drop used piece) fed suffix
     → count < length rows
-    → take bytes text' ≡ take bytes text → drop bytes text' ≡ suffix → drop fed.len suffix ≡ drop fed.len (drop bytes text)
+    → take bytes text' ≡ take bytes text → drop bytes text' ≡ suffix
+    → drop fed.len suffix ≡ drop fed.len (drop bytes text)
     → length text' ≡ length text
     → used + fed.used ≤ length piece → 0 < fed.used → bytes + fed.len ≤ length text
     → is_set fed.ended ≡ true → fed.cut ≤ 1
     → row.start ≡ bytes → row.len ≡ fed.len → row.cut ≡ fed.cut → row.kind ≡ kind_of_line (line_fed fed suffix)
-    → ReadSoFar old new piece (used + fed.used) (count + 1) (bytes + fed.len) rows₀ (slice_set rows count row) text₀ text'
-one_line old now new piece used count bytes rows₀ rows text₀ text text' suffix fed row so f few e ed behind_line el low more fits one flag starts lens cuts kind =
-    let same : map (line_in text') (take count rows) ≡ map (line_in text) (take count rows) = same_lines text' text bytes (take count rows) e so.within in
+    → ReadSoFar old new piece (used + fed.used) (count + 1) (bytes + fed.len) rows₀
+    (slice_set rows count row) text₀ text'
+one_line old now new piece used count bytes rows₀ rows text₀ text text' suffix fed row so f few e ed behind_line el low
+    more fits one flag starts lens cuts kind =
+    let same : map (line_in text') (take count rows) ≡ map (line_in text) (take count rows) =
+    same_lines text' text bytes (take count rows) e so.within in
     let is : line_in text' row ≡ line_fed fed (drop bytes text') =
     λ i. record { bytes = take (lens i) (drop (starts i) text'); cut = is_set (cuts i) } in
     let is' : line_in text' row ≡ line_fed fed suffix = is ∙ ap (line_fed fed) ed in
-    let rows' : take (count + 1) (slice_set rows count row) ≡ take count rows ++ row ∷ [] = take_more_set rows count row few in
-    let lines' : map (line_in text') (take (count + 1) (slice_set rows count row)) ≡ map (line_in text) (take count rows) ++ line_fed fed suffix ∷ [] =
-    ap (map (line_in text')) rows' ∙ map-append (line_in text') (take count rows) (row ∷ []) ∙ (λ i. same i ++ is' i ∷ []) in
+    let rows' : take (count + 1) (slice_set rows count row) ≡ take count rows ++ row ∷ [] =
+    take_more_set rows count row few in
+    let lines' : map (line_in text') (take (count + 1) (slice_set rows count row))
+    ≡ map (line_in text) (take count rows) ++ line_fed fed suffix ∷ [] =
+    ap (map (line_in text')) rows' ∙ map-append (line_in text') (take count rows) (row ∷ [])
+    ∙ (λ i. same i ++ is' i ∷ []) in
     record {
       in_range = low;
       begun = λ z. absurd (omega (arith, z, more));
@@ -138,7 +157,8 @@ one_line old now new piece used count bytes rows₀ rows text₀ text text' suff
       room = subst (λ (n : ℕ). bytes + fed.len ≤ n) (sym el) fits;
       same_rows = length-set rows count row ∙ so.same_rows;
       same_text = el ∙ so.same_text;
-      stands = λ s h. subst (λ (t : List ℕ). StandsAfter new t) (front s piece used fed.used) (f.stands (s ++ take used piece) (so.stands s h));
+      stands = λ s h. subst (λ (t : List ℕ). StandsAfter new t) (front s piece used fed.used)
+          (f.stands (s ++ take used piece) (so.stands s h));
       gains = λ s h. ap lines_of (sym (front s piece used fed.used)) ∙ f.gains (s ++ take used piece) (so.stands s h)
           ∙ (λ i. so.gains s h i ++ copied_one fed suffix one i)
           ∙ append_assoc (lines_of s) (map (line_in text) (take count rows)) (line_fed fed suffix ∷ [])
@@ -148,9 +168,11 @@ one_line old now new piece used count bytes rows₀ rows text₀ text text' suff
           ∙ sym (map-append kind_of_line (map (line_in text) (take count rows)) (line_fed fed suffix ∷ []))
           ∙ ap (map kind_of_line) (sym lines');
       within = subst (AllByRecursion (LiesWithin (bytes + fed.len))) (sym rows')
-          (and_last (bytes + fed.len) (take count rows) row (further bytes (bytes + fed.len) (take count rows) (omega arith) so.within)
+          (and_last (bytes + fed.len) (take count rows) row
+          (further bytes (bytes + fed.len) (take count rows) (omega arith) so.within)
           (record {
-            place = subst (λ (n : ℕ). n + row.len ≤ bytes + fed.len) (sym starts) (subst (λ (n : ℕ). bytes + n ≤ bytes + fed.len) (sym lens) (omega arith));
+            place = subst (λ (n : ℕ). n + row.len ≤ bytes + fed.len) (sym starts)
+                (subst (λ (n : ℕ). bytes + n ≤ bytes + fed.len) (sym lens) (omega arith));
             flag = subst (λ (n : ℕ). n ≤ 1) (sym cuts) flag;
           }));
       joined = take-add bytes fed.len text' ∙ (λ i. e i ++ take fed.len (ed i))
@@ -167,7 +189,8 @@ one_line old now new piece used count bytes rows₀ rows text₀ text text' suff
 behind : (text suffix : List ℕ) (b : ℕ) → b ≤ length text → drop b (put_mid b (length text - b) text suffix) ≡ suffix
 behind text suffix b h =
     drop_at (take b text) (suffix ++ post_of b (length text - b) text) b (length-take-le b text h)
-    ∙ ap (λ (l : List ℕ). suffix ++ l) (drop_all (length text - b) (drop b text) (omega (arith, length-drop b text))) ∙ append-nil suffix
+    ∙ ap (λ (l : List ℕ). suffix ++ l) (drop_all (length text - b) (drop b text) (omega (arith, length-drop b text)))
+    ∙ append-nil suffix
 
 -- a flag that is not 0 is set
 set_of : (n : ℕ) → n ≢ 0 → is_set n ≡ true
@@ -177,7 +200,8 @@ set_of n h = ap not (ne_eqb n 0 h)
 fed_rest : (now new : LinesValue) (piece suffix : List ℕ) (used : ℕ) (fed : FedLine)
     → FeedsLine now new (between used (length piece) piece) fed suffix → FeedsLine now new (drop used piece) fed suffix
 fed_rest now new piece suffix used fed f =
-    subst (λ (rest : List ℕ). FeedsLine now new rest fed suffix) (between_to_end piece used (length piece) (omega arith)) f
+    subst (λ (rest : List ℕ). FeedsLine now new rest fed suffix)
+    (between_to_end piece used (length piece) (omega arith)) f
 
 -- the rest of a text is all that follows
 mid_is : (text : List ℕ) (b : ℕ) → mid_of b (length text - b) text ≡ drop b text
@@ -192,13 +216,15 @@ pub no_line_next : (old now new : LinesValue) (piece : List ℕ) (used count byt
     → length suffix ≡ length (mid_of bytes (length text - bytes) text)
     → fed.ended ≡ 0
     → ReadSoFar old now piece used count bytes rows₀ rows text₀ text
-    → ReadSoFar old new piece (used + fed.used) count bytes rows₀ rows text₀ (put_mid bytes (length text - bytes) text suffix)
+    → ReadSoFar old new piece (used + fed.used) count bytes rows₀ rows text₀
+    (put_mid bytes (length text - bytes) text suffix)
 no_line_next old now new piece used count bytes rows₀ rows text₀ text suffix fed f w more same none so =
     let rest : FeedsLine now new (drop used piece) fed suffix = fed_rest now new piece suffix used fed f in
     let low : fed.used ≤ length (drop used piece) = rest.in_range in
     let unwritten : suffix ≡ mid_of bytes (length text - bytes) text =
     subst (λ (n : ℕ). drop n suffix ≡ drop n (mid_of bytes (length text - bytes) text)) (w.none none).0 w.rest in
-    no_line old now new piece used count bytes rows₀ rows text₀ text (put_mid bytes (length text - bytes) text suffix) suffix fed so rest
+    no_line old now new piece used count bytes rows₀ rows text₀ text
+    (put_mid bytes (length text - bytes) text suffix) suffix fed so rest
     (take-put_mid_below bytes (length text - bytes) text suffix bytes (omega arith) so.room)
     (behind text suffix bytes so.room ∙ unwritten ∙ mid_is text bytes)
     (same_len_mid bytes (length text - bytes) text suffix same)
@@ -215,11 +241,15 @@ pub one_line_next : (old now new : LinesValue) (piece : List ℕ) (used count by
     → length suffix ≡ length (mid_of bytes (length text - bytes) text)
     → fed.ended ≢ 0
     → row.start ≡ bytes → row.len ≡ fed.len → row.cut ≡ fed.cut
-    → row.kind ≡ told_kind (line_reading (record { bytes = between bytes (bytes + fed.len) (put_mid bytes (length text - bytes) text suffix); cut = is_set fed.cut }))
+    → row.kind ≡ told_kind (line_reading (record {
+      bytes = between bytes (bytes + fed.len) (put_mid bytes (length text - bytes) text suffix);
+      cut = is_set fed.cut;
+    }))
     → ReadSoFar old now piece used count bytes rows₀ rows text₀ text
     → ReadSoFar old new piece (used + fed.used) (count + 1) (bytes + fed.len) rows₀ (slice_set rows count row) text₀
     (put_mid bytes (length text - bytes) text suffix)
-one_line_next old now new piece used count bytes rows₀ rows text₀ text suffix fed row f w more few room same one starts lens cuts kind so =
+one_line_next old now new piece used count bytes rows₀ rows text₀ text suffix fed row f w more few room same one starts
+    lens cuts kind so =
     let text' : List ℕ = put_mid bytes (length text - bytes) text suffix in
     let rest : FeedsLine now new (drop used piece) fed suffix = fed_rest now new piece suffix used fed f in
     let low : fed.used ≤ length (drop used piece) = rest.in_range in

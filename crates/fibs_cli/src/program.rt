@@ -19,7 +19,8 @@ use std::alloc::Global;
 use std::io::{Read, Write};
 use std::net::{Net, TcpListener, TcpStream};
 
-/// Answers a command line that needs no server: it runs an engine, prints help on `out`, or says on `err` what is wrong.
+/// Answers a command line that needs no server: it runs an engine, prints help on `out`, or says on `err` what is
+/// wrong.
 pub fn answer<N: Net<Listener = TcpListener, Stream = TcpStream>, R: Read, W: Write, E: Write>(
     rt: &N,
     alloc: Global,

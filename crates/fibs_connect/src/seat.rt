@@ -2,7 +2,8 @@
 ghost use Rattle.std.specs.Prelude.{◌≡◌, ◌≤◌, ◌∷◌, [], Some, length, true, false, IfOk, OnOk, IsSome};
 ghost use Rattle.fibs_directory.specs.Directory.{IsDirectory};
 ghost use Rattle.fibs_exchange.specs.Turns.Turn.{FitsStream, bytes_of, is_there};
-ghost use Rattle.fibs_connect.specs.Converse.Seats.{Answered, Connects, Opens, OpensAndLoses, Passes, PassesOn, Refuses};
+ghost use Rattle.fibs_connect.specs.Converse.Seats.{Answered, Connects, Opens, OpensAndLoses};
+ghost use Rattle.fibs_connect.specs.Converse.Seats.{Passes, PassesOn, Refuses};
 ghost use Rattle.fibs_connect.specs.Converse.Seats.{TakesTurn, seat_of};
 ghost use Rattle.fibs_front.specs.Told.{opened_said};
 ghost use Rattle.fibs_front.specs.Wishes.{wish_value};

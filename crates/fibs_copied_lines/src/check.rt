@@ -41,8 +41,8 @@ fn are_names_and_numbers(text: &[u8]) -> bool
     numbers_are_right(fields.text())
 }
 
-/// Whether the line is found right at once: it begins with `board:`, two names and right numbers follow. If not, a field
-/// may be wrong.
+/// Whether the line is found right at once: it begins with `board:`, two names and right numbers follow. If not, a
+/// field may be wrong.
 #[inline(always)]
 fn is_right_at_once(line: &[u8]) -> bool
     ensures { result ≡ true → first_fault 1 kinds (pieces line.now) ≡ None }

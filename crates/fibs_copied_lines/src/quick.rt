@@ -2,7 +2,8 @@
 //!
 //! What is found right is right. All else is left to the reading of the fields one by one, which names the fault.
 //!
-//! Each `pass_..` finds whether its numbers are right from the place `at` on, each with a colon after it, and then moves
+//! Each `pass_..` finds whether its numbers are right from the place `at` on, each with a colon after it, and then
+//! moves
 //! `at` behind the last colon. If they are not, where `at` is says nothing.
 
 ghost use Rattle.std.specs.Prelude.{◌≡◌, ◌<◌, ◌≤◌, ◌+◌, ◌-◌, ◌*◌, ◌^◌, [], ◌∷◌, ◌++◌, ℕ, true, None, pos, negsuc, drop};

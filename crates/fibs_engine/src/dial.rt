@@ -53,8 +53,8 @@ impl<'a, N: Net<Stream = TcpStream>> Server<'a, N> {
 impl<N: Net<Stream = TcpStream>> Dial for Server<'_, N> {
     type Stream = TcpStream;
 
-    /// A socket to the first of the host's addresses that answers. If none does, why the last does not; `NotFound` if it
-    /// has none.
+    /// A socket to the first of the host's addresses that answers. If none does, why the last does not; `NotFound` if
+    /// it has none.
     fn dial(&mut self) -> Result<TcpStream, ErrorKind> {
         let Place { host, port, quiet } = self.place;
         let addresses = match (host, port).to_socket_addrs(self.net) {

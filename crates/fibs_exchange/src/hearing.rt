@@ -131,7 +131,8 @@ pub(crate) fn hear_portion<S: Link, F: Front>(
     stream: &mut S,
     front: &mut F,
 ) -> Result<(), TurnFault>
-    ensures talked { IfPrinted result (λ p. (t : Talk) → StandsAfter client.old t → Talked F.tells t client.new portion.now
+    ensures talked { IfPrinted result (λ p. (t : Talk) → StandsAfter client.old t →
+        Talked F.tells t client.new portion.now
         (outside (S.contents stream.old) front.old directory.old)
         (outside (S.contents stream.new) front.new directory.new) p) }
     ensures stopped { IfUnprinted result ((t : Talk) → StandsAfter client.old t →

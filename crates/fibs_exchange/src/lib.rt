@@ -8,7 +8,8 @@ ghost use Rattle.fibs_session.specs.History.Machine.{Talk, is_online};
 ghost use Rattle.fibs_session.specs.Calls.Standing.{StandsAfter};
 ghost use Rattle.fibs_messages.specs.Message.{MessageValue};
 ghost use Rattle.fibs_exchange.specs.Turns.Script.{outside, known_before, known_after};
-ghost use Rattle.fibs_exchange.specs.Turns.Turn.{Turned, TurnedBy, Stopped, FitsStream, bytes_of, is_there, still_given};
+ghost use Rattle.fibs_exchange.specs.Turns.Turn.{Turned, TurnedBy, Stopped, FitsStream};
+ghost use Rattle.fibs_exchange.specs.Turns.Turn.{bytes_of, is_there, still_given};
 ghost use Rattle.fibs_engine.specs.Reads.{LostAtMost, turn_limit};
 
 mod hearing;

@@ -1,5 +1,6 @@
-//! Front ends: what happens is reported to each, and each says what a typed line asks for. The plain account is one. How
-//! typed lines are read, portion by portion, and that the server may speak between two of them, is the same for all.
+//! Front ends: what happens is reported to each, and each says what a typed line asks for. The plain account is one.
+//! How typed lines are read, portion by portion, and that the server may speak between two of them, is the same for
+//! all.
 #![tactic(auto)]
 
 pub mod fault;

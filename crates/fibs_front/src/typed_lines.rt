@@ -106,8 +106,8 @@ impl TypedLines {
         }
     }
 
-    /// Waits for what comes first: the next line, which is read, or a word of the server. Of what is typed a word of the
-    /// server takes nothing, and it comes only between two lines.
+    /// Waits for what comes first: the next line, which is read, or a word of the server. Of what is typed a word of
+    /// the server takes nothing, and it comes only between two lines.
     pub fn next<R: Read, W: Watch>(
         &mut self,
         reader: &mut R,

@@ -44,7 +44,8 @@ tails a b x y e = cc
 -- two characters in a row of others
 characters_tell : (a b : ℕ) (x y : List ℕ) → character a ++ x ≡ character b ++ y → (a ≡ b) × (x ≡ y)
 characters_tell a b x y e =
-    let at : digit (a / 16) ∷ digit (a % 16) ∷ x ≡ digit (b / 16) ∷ digit (b % 16) ∷ y = ap (λ (l : List ℕ). drop 4 l) e in
+    let at : digit (a / 16) ∷ digit (a % 16) ∷ x ≡ digit (b / 16) ∷ digit (b % 16) ∷ y =
+    ap (λ (l : List ℕ). drop 4 l) e in
     let next = tails _ _ (digit (a % 16) ∷ x) (digit (b % 16) ∷ y) at in (
       digits_tell a b (heads _ _ _ _ at) (heads _ _ _ _ next),
       tails _ _ x y next,

@@ -17,7 +17,8 @@ pub record Gains (old now : LinesValue) (piece added : List ℕ) : Type 0 where
 
 -- what is printed for the bytes after the last line end
 abbrev pub EndsObject : LinesValue → List ℕ → Type 0
-EndsObject lines text = (s : List ℕ) → StandsAfter lines s → text ≡ unfinished_object (min kept_limit (length (rest_of s)))
+EndsObject lines text = (s : List ℕ) → StandsAfter lines s
+    → text ≡ unfinished_object (min kept_limit (length (rest_of s)))
 
 -- the text of a field
 unfoldable pub field_text : List FieldValue → NamedField → List ℕ

@@ -67,8 +67,8 @@ impl From<AllocError> for StreamFault {
     }
 }
 
-/// Prints an object for each line that is read, to the reader's end. It reads at most 1,000,000,000 times, and at most 1024
-/// bytes at once.
+/// Prints an object for each line that is read, to the reader's end. It reads at most 1,000,000,000 times, and at most
+/// 1024 bytes at once.
 ///
 /// After a device's fault the writer has either all that is printed for the lines that were read, if the reader
 /// failed or did not end; or a front of what is printed for what was read, if the writer failed, and then nothing

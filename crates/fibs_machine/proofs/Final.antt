@@ -20,7 +20,8 @@ use Rattle.fibs_machine.specs.Wires.{delivered, taken, next_line}
 use Rattle.fibs_position.specs.BoardEffect.{is_die}
 use Rattle.fibs_machine.specs.Server.{decision_in, command, effect, carried, obeyed}
 use Rattle.fibs_machine.specs.Server.{Stale, LoggedIn as LoggedInNow}
-use Rattle.fibs_machine.specs.Events.{Event, Open, Click, Plain, Deliver, Lose, Serve, Own, Repeat, Text, Order, Withdraw}
+use Rattle.fibs_machine.specs.Events.{Event, Open, Click, Plain, Deliver, Lose, Serve}
+use Rattle.fibs_machine.specs.Events.{Own, Repeat, Text, Order, Withdraw}
 use Rattle.fibs_machine.specs.World.{does_heard, does_served, sends_plain, notes_unless, talk_of, World, noted, linked}
 use Rattle.fibs_machine.specs.World.{sends}
 use Rattle.fibs_machine.specs.World.{is_talking, sends_out, clicks, hears, hears_all}
@@ -48,7 +49,8 @@ use Rattle.fibs_machine.proofs.joint.Carrying.{alike_hears}
 use Rattle.fibs_machine.proofs.log.Fitting.{answered, on_shown, shown_here}
 use Rattle.fibs_machine.proofs.Numbered.{all_numbers}
 use Rattle.fibs_machine.proofs.Projection.{talk_is_projected}
-use Rattle.fibs_machine.proofs.log.Told.{Told, AllAllowed, AllPass, IsPlain, told_plain, told_shown, told_rolled, told_no}
+use Rattle.fibs_machine.proofs.log.Told.{Told, AllAllowed, AllPass, IsPlain, told_plain}
+use Rattle.fibs_machine.proofs.log.Told.{told_shown, told_rolled, told_no}
 use Rattle.fibs_machine.proofs.log.Told.{told_yes}
 use Rattle.fibs_machine.proofs.log.Told.{told_took}
 use Rattle.fibs_commands.specs.PlainCommands.{PlainValue}

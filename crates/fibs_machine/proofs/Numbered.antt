@@ -14,14 +14,16 @@ use Rattle.fibs_history.specs.Log.{Entry}
 use Rattle.fibs_history.specs.Hearing.{heard, line_reading}
 use Rattle.fibs_history.specs.Machine.{gained, on_wire, plain_refusal, order_refusal, withdraw_refusal}
 use Rattle.fibs_history.specs.Words.{is_empty, last, open_now, shown, unconfirmed, answer}
-use Rattle.fibs_machine.specs.Events.{Event, Open, Click, Plain, Deliver, Lose, Serve, Own, Repeat, Text, Order, Withdraw}
+use Rattle.fibs_machine.specs.Events.{Event, Open, Click, Plain, Deliver, Lose, Serve}
+use Rattle.fibs_machine.specs.Events.{Own, Repeat, Text, Order, Withdraw}
 use Rattle.fibs_machine.specs.Headline.{AllAtMost, conn_of}
 use Rattle.fibs_machine.specs.Refusals.{refusal}
 use Rattle.fibs_machine.specs.Runs.{AllAccepted, after_all}
 use Rattle.fibs_machine.specs.Server.{Served, Stale, LoggedIn, Took, Undone, Answered}
 use Rattle.fibs_machine.specs.Talks.{IsWorld}
 use Rattle.fibs_machine.specs.Wires.{delivered, next_line, taken}
-use Rattle.fibs_machine.specs.World.{World, after, noted, linked, sends, is_talking, does_heard, hears, hears_all, clicks}
+use Rattle.fibs_machine.specs.World.{World, after, noted, linked, sends, is_talking}
+use Rattle.fibs_machine.specs.World.{does_heard, hears, hears_all, clicks}
 use Rattle.fibs_machine.specs.World.{sends_out, sends_plain, notes_unless, does_served, serves, talk_of}
 use Rattle.fibs_machine.proofs.Answering.{answered_at}
 use Rattle.fibs_machine.proofs.Projection.{talk_is_projected}

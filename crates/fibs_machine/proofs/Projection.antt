@@ -25,7 +25,8 @@ use Rattle.fibs_history.specs.Machine as M
 use Rattle.fibs_history.specs.MachineLaws.{IsServers, logs_in, takes, undoes}
 use Rattle.fibs_machine.specs.Wires.{Link, delivered, more_asked, taken, cut_off, next_line}
 use Rattle.fibs_machine.specs.Server.{Served, Stale, LoggedIn, Took, Undone, Answered, command}
-use Rattle.fibs_machine.specs.Events.{Event, Open, Click, Plain, Deliver, Lose, Serve, Own, Repeat, Text, Order, Withdraw}
+use Rattle.fibs_machine.specs.Events.{Event, Open, Click, Plain, Deliver, Lose, Serve}
+use Rattle.fibs_machine.specs.Events.{Own, Repeat, Text, Order, Withdraw}
 use Rattle.fibs_machine.specs.World.{World, noted, linked, asks, is_talking, sends, does_heard, hears_all, sends_out}
 use Rattle.fibs_machine.specs.World.{clicks, sends_plain, notes_unless, does_served, serves, after, talk_of}
 use Rattle.fibs_machine.specs.declared.refusal.WorldRefusal.TheVariants.{AlreadyOpen, NotOpen}

@@ -22,7 +22,8 @@ use Rattle.fibs_history.specs.Log as L
 use Rattle.fibs_history.specs.Allows.{allows}
 use Rattle.fibs_history.specs.Machine.{gained, on_wire, plain_refusal, order_refusal, withdraw_refusal}
 use Rattle.fibs_history.specs.Words.{is_empty, last, open_now, shown, unconfirmed, answer}
-use Rattle.fibs_machine.specs.Events.{Event, Open, Click, Plain, Deliver, Lose, Serve, Own, Repeat, Text, Order, Withdraw}
+use Rattle.fibs_machine.specs.Events.{Event, Open, Click, Plain, Deliver, Lose, Serve}
+use Rattle.fibs_machine.specs.Events.{Own, Repeat, Text, Order, Withdraw}
 use Rattle.fibs_machine.specs.Once.{taken_on, Leaves, Takes, NoneOwn}
 use Rattle.fibs_machine.specs.Server.{Served, effect, carried, obeyed, decision_in}
 use Rattle.fibs_machine.specs.Server as V

@@ -13,7 +13,8 @@ use Rattle.fibs_machine.specs.declared.refusal.WorldRefusal.TheVariants.{Nothing
 use Rattle.fibs_machine.specs.Wires.{next_line}
 use Rattle.fibs_position.specs.BoardEffect.{is_die}
 use Rattle.fibs_machine.specs.Server.{own_refusal}
-use Rattle.fibs_machine.specs.Events.{Event, Open, Click, Plain, Deliver, Lose, Serve, Own, Repeat, Text, Order, Withdraw}
+use Rattle.fibs_machine.specs.Events.{Event, Open, Click, Plain, Deliver, Lose, Serve}
+use Rattle.fibs_machine.specs.Events.{Own, Repeat, Text, Order, Withdraw}
 use Rattle.fibs_machine.specs.World.{World}
 
 -- a good board

@@ -6,7 +6,8 @@ use Rattle.fibs_history.specs.Words.{open_now, connections}
 use Rattle.fibs_history.specs.Machine.{InputValue, step, noted, wire_of}
 use Rattle.fibs_history.specs.Machine as M
 use Rattle.fibs_history.specs.MachineLaws.{IsServers}
-use Rattle.fibs_machine.specs.Events.{Event, Open, Click, Plain, Deliver, Lose, Serve, Own, Repeat, Text, Order, Withdraw}
+use Rattle.fibs_machine.specs.Events.{Event, Open, Click, Plain, Deliver, Lose, Serve}
+use Rattle.fibs_machine.specs.Events.{Own, Repeat, Text, Order, Withdraw}
 use Rattle.fibs_machine.specs.World.{World, start, after, talk_of}
 use Rattle.fibs_machine.specs.Refusals.{refusal}
 

@@ -20,7 +20,8 @@ use Rattle.fibs_history.specs.Machine.{order_refusal, withdraw_refusal}
 use Rattle.fibs_machine.specs.Wires.{Link, empty_link, more_coming, delivered, more_asked, taken, cut_off, next_line}
 use Rattle.fibs_machine.specs.Server.{ServerValue, TakenLine, Served, Stale, LoggedIn, Took, Undone, Answered}
 use Rattle.fibs_machine.specs.Server.{answered, command}
-use Rattle.fibs_machine.specs.Events.{Event, Open, Click, Plain, Deliver, Lose, Serve, Own, Repeat, Text, Order, Withdraw}
+use Rattle.fibs_machine.specs.Events.{Event, Open, Click, Plain, Deliver, Lose, Serve}
+use Rattle.fibs_machine.specs.Events.{Own, Repeat, Text, Order, Withdraw}
 
 pub record World : Type 0 where
   -- the server's board

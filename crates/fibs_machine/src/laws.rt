@@ -53,9 +53,9 @@ pub fn joint_statement()
 }
 
 /// After every such list client and server agree on the board. The boards shown on each connection are the first of
-/// those that the server sent there, in their order. While the connection that is logged in is open, the last board sent
-/// there is the server's. At rest all of them are shown, so the board shown last is the server's, in all its fields; and
-/// if none is shown, the client sent its login there and nothing else.
+/// those that the server sent there, in their order. While the connection that is logged in is open, the last board
+/// sent there is the server's. At rest all of them are shown, so the board shown last is the server's, in all its
+/// fields; and if none is shown, the client sent its login there and nothing else.
 pub fn agrees()
     ensures agrees { AgreesHolds }
     ensures only_login { OnlyLoginHolds }

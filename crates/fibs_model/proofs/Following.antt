@@ -21,13 +21,15 @@ several_silent law client (e ∷ es) t h at_t =
 pub client_follows : ServersEntriesAreSilent → ClientFollows
 client_follows law = record {
   acts = λ login w e i old new send is h in_is d stood.
-      let f : Steps login w (after login w e) e i = subst (Follows login w e) in_is (talk_is_projected.goes_on login w e is h).1 in (
+      let f : Steps login w (after login w e) e i =
+      subst (Follows login w e) in_is (talk_is_projected.goes_on login w e is h).1 in (
         subst (StandsAfter new) (sym f.talk) (d.stands (talk_of login w) stood),
         f.asked ∙ ap (λ ts. left_of e (w.links (after login w e).count).asked ++ wire_of ts)
             (sym (d.hands (talk_of login w) stood)),
       );
   waits = λ login w e client is h in_is stood.
-      let f : Silence login w (after login w e) = subst (Follows login w e) in_is (talk_is_projected.goes_on login w e is h).1 in
+      let f : Silence login w (after login w e) = subst (Follows login w e) in_is
+      (talk_is_projected.goes_on login w e is h).1 in
       subst (StandsAfter client) (sym f.talk)
       (several_silent law client f.entries (talk_of login w) f.are_servers stood);
 }

@@ -5,7 +5,8 @@ use Rattle.fibs_history.specs.Words.{open_now}
 use Rattle.fibs_history.specs.Machine.{on_wire}
 use Rattle.fibs_carrier.specs.declared.carrier.Way.TheVariants.{ToServer, ToClient}
 use Rattle.fibs_carrier.specs.Carrying.{Crossing, connected, crossed, closed}
-use Rattle.fibs_machine.specs.Events.{Event, Open, Click, Plain, Deliver, Lose, Serve, Own, Repeat, Text, Order, Withdraw}
+use Rattle.fibs_machine.specs.Events.{Event, Open, Click, Plain, Deliver, Lose, Serve}
+use Rattle.fibs_machine.specs.Events.{Own, Repeat, Text, Order, Withdraw}
 use Rattle.fibs_model.specs.LinksOf.{link_at}
 use Rattle.fibs_machine.specs.Runs.{world_after}
 use Rattle.fibs_machine.specs.Wires.{next_line}

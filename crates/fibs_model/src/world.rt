@@ -141,7 +141,8 @@ impl World {
             WorldStandsAfter self.old name password first events →
             OnOk result (C.carries carrier.old
             (crossings_of (machine_after name password first events) (event_of event.now)) carrier.new) }
-        ensures untouched { (why : WorldRefusal) → result_err result ≡ Some (Stop.Refused why) → carrier.new ≡ carrier.old }
+        ensures untouched { (why : WorldRefusal) →
+            result_err result ≡ Some (Stop.Refused why) → carrier.new ≡ carrier.old }
         ensures stands { (name password : List ℕ) (first : BoardFields) (events : List E.Event) →
             WorldStandsAfter self.old name password first events →
             WorldStandsAfter self.new name password first (events ++ accepted result (event_of event.now)) }
@@ -214,8 +215,8 @@ impl World {
     /// their way to the client are delivered, until there are none. Says how many events it did.
     ///
     /// The board that the client then shows is the one that the server has. `NotOpen` if no connection is open, then
-    /// `BadDice` if one of the two is no die; nothing is done then. `Memory` only if neither holds: the world is reached
-    /// by the events done, and a further call goes on.
+    /// `BadDice` if one of the two is no die; nothing is done then. `Memory` only if neither holds: the world is
+    /// reached by the events done, and a further call goes on.
     pub fn settle(&mut self, dice: [u8; 2]) -> RunEnd
         ensures refusal { (name password : List ℕ) (first : BoardFields) (before : List E.Event) →
             WorldStandsAfter self.old name password first before →

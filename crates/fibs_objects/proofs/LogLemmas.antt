@@ -1,5 +1,6 @@
 -- The objects of a log, one after another.
-use Rattle.std.proofs.Common.{◌≡◌, ℕ, ◌+◌, ◌<◌, ◌≤◌, List, [], ◌∷◌, ◌++◌, codes, refl, sym, ap, subst, ◌∙◌, append_assoc}
+use Rattle.std.proofs.Common.{◌≡◌, ℕ, ◌+◌, ◌<◌, ◌≤◌, List, [], ◌∷◌, ◌++◌, codes}
+use Rattle.std.proofs.Common.{refl, sym, ap, subst, ◌∙◌, append_assoc}
 use Rattle.std.proofs.Common.{append-nil, length, map, take, get_or, take_all}
 use Rattle.std.proofs.lemmas.List.{map-append, take_more}
 use Rattle.fibs_model_server.specs.EntryOf.{entry_of}
@@ -67,6 +68,7 @@ take_front [] rest = refl
 take_front (x ∷ text) rest = ap (λ (l : List ℕ). x ∷ l) (take_front text rest)
 
 -- a line without the byte that ends it
-pub without_end : (line text : List ℕ) (count : ℕ) → line ≡ line_bytes text → count ≡ length text → take count line ≡ text
+pub without_end : (line text : List ℕ) (count : ℕ) → line ≡ line_bytes text → count ≡ length text
+    → take count line ≡ text
 without_end line text count is same =
     ap (take count) is ∙ ap (λ (n : ℕ). take n (line_bytes text)) same ∙ take_front text (10 ∷ [])

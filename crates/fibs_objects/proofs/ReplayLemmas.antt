@@ -96,7 +96,8 @@ module _ (script : List ℕ) (first : BoardFields) (events : List Event) (world 
       let now_plain : List ℕ = log_text noted ++ refused_text done why in
       printed_objects script 3 noted (L.Refused done why) r held now
       (alone script now_plain 3
-      (printed_run false script first events world noted done (Some (S.Refused why)) (Some []) (Some now_plain) (Ok 3) is
+      (printed_run false script first events world noted done (Some (S.Refused why)) (Some []) (Some now_plain)
+      (Ok 3) is
       ran (refused_not_broken why) log plain))
       h
 

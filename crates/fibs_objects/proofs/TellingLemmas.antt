@@ -14,7 +14,8 @@ use Rattle.fibs_front.specs.Told.{not_sent_said, unknown_said, lost_said, unnote
 use Rattle.fibs_json.specs.Lines.{opening}
 use Rattle.fibs_json.proofs.TellingLemmas.{opened_of_heard}
 use Rattle.fibs_objects.specs.Entries.{EntriesTellLines, entry_connection, entry_kind}
-use Rattle.fibs_objects.specs.Said.{IsLineOf, SaidObjects, SaidTellLines, own_object, own_objects, said_kind, said_members}
+use Rattle.fibs_objects.specs.Said.{IsLineOf, SaidObjects, SaidTellLines, own_object}
+use Rattle.fibs_objects.specs.Said.{own_objects, said_kind, said_members}
 
 -- of an entry
 pub entries_tell : OpeningsTell → EntriesTellLines

@@ -61,4 +61,5 @@ fn runs_hand_out_their_commands_under_refused_memory(rt: HostRuntime) {
 
 /// What that run hands out.
 static COMMANDS_OF_A_RUN: &[u8] =
-    b"login fibs_client 1008 ann secret\r\nset boardstyle 3\r\ntoggle autoboard\r\nboard\r\nroll\r\nlogin fibs_client 1008 ann secret\r\nset boardstyle 3\r\nboard\r\nroll\r\n";
+    b"login fibs_client 1008 ann secret\r\nset boardstyle 3\r\ntoggle autoboard\r\nboard\r\nroll\r\n\
+    login fibs_client 1008 ann secret\r\nset boardstyle 3\r\nboard\r\nroll\r\n";

@@ -1,6 +1,6 @@
 //! Tests of all that scripts rest on: of what is refused allocations, each in turn, and of a caller that is proved. The
-//! others need no proof: worked lines and turns are in `tests/rows`, histories in `tests/worlds`, and what is seen of the
-//! sources alone in `rust/src/tests` and `rust/fibs-client/src/tests`.
+//! others need no proof: worked lines and turns are in `tests/rows`, histories in `tests/worlds`, and what is seen of
+//! the sources alone in `rust/src/tests` and `rust/fibs-client/src/tests`.
 #![tactic(auto)]
 
 #[cfg(test)]

@@ -8,7 +8,8 @@ use Rattle.fibs_fields.specs.Split.{before, after}
 use Rattle.fibs_position.specs.declared.direction.Direction.TheVariants.{Down}
 use Rattle.fibs_commands.specs.CommandReading.{read_command}
 use Rattle.fibs_commands.specs.PlainReading.{read_plain}
-use Rattle.fibs_machine.specs.Events.{Event, Open, Click, Plain, Deliver, Lose, Serve, Own, Repeat, Text, Order, Withdraw}
+use Rattle.fibs_machine.specs.Events.{Event, Open, Click, Plain, Deliver, Lose, Serve}
+use Rattle.fibs_machine.specs.Events.{Own, Repeat, Text, Order, Withdraw}
 use Rattle.fibs_scripts.specs.EventLines.{count_limit, die_limit, SaysEvent}
 
 -- a word alone

@@ -1,5 +1,5 @@
-//! Tests of the engines and of a terminal: of what is refused allocations, each in turn, and of sockets that are watched.
-//! The others need no proof: they are in `rust/fibs-client/src/tests`.
+//! Tests of the engines and of a terminal: of what is refused allocations, each in turn, and of sockets that are
+//! watched. The others need no proof: they are in `rust/fibs-client/src/tests`.
 #![tactic(auto)]
 
 #[cfg(test)]

@@ -165,5 +165,6 @@ off_exact n z low high = between_at n z (pos 0) (pos 15) (omega arith) (off_valu
 pub by_exact : {P Q : Type 0} (n : ℕ) (z : ℤ) → 4 ≤ n → n ≤ 53 → FitsSigned w32 z
     → Q ↔ ((4 ≤ n) × (n ≤ 53) × (can_have n (cast_signed w32 (cast_unsigned w32 z)) ≡ true)) → Exactly n z P → Q ↔ P
 by_exact n z low high fits exact group =
-    let same : can_have n (cast_signed w32 (cast_unsigned w32 z)) ≡ can_have n z = ap (can_have n) (to_z-of_z w32 z fits) in
+    let same : can_have n (cast_signed w32 (cast_unsigned w32 z)) ≡ can_have n z =
+    ap (can_have n) (to_z-of_z w32 z fits) in
     ((λ h. group.0 (sym same ∙ (exact.0 h).2)), (λ h. exact.1 (low, high, same ∙ group.1 h)))

@@ -48,7 +48,8 @@ on_ok_three (Ok x) f p q v = f p q v
 on_ok_three (Err e) f p q v = tt
 
 -- the client of a seat, with a connection or without one
-seat_client : {S : Type 0} (remaining contents : S → Option (List ℕ)) (client : ClientValue) (players : List MessageValue)
+seat_client : {S : Type 0} (remaining contents : S → Option (List ℕ)) (client : ClientValue)
+    (players : List MessageValue)
     (stream : Option S) → (seat_of remaining contents client players stream).client ≡ client
 seat_client remaining contents client players None = refl
 seat_client remaining contents client players (Some s) = refl
@@ -58,11 +59,13 @@ pub seat_connects : {S F : Type 0} (Tells : F → List SaidValue → F → Type 
     (old client : ClientValue) (known players : List MessageValue) (was stream : Option S) (held now : F)
     → IsDirectory [] players → (IsSome stream → Tells held (opened_said ∷ []) now × Opens old client)
     → (is_there stream ≡ false → OpensAndLoses Tells old client held now)
-    → Connects Tells (seat_of remaining contents old known was) (seat_of remaining contents client players stream) held now
+    → Connects Tells (seat_of remaining contents old known was)
+    (seat_of remaining contents client players stream) held now
 seat_connects Tells remaining contents old client known players was None held now none opens loses = (
   λ e. absurd cc,
   λ e. inl (
-    subst (λ c. OpensAndLoses Tells c client held now) (sym (seat_client remaining contents old known was)) (loses refl),
+    subst (λ c. OpensAndLoses Tells c client held now) (sym (seat_client remaining contents old known was))
+        (loses refl),
     none,
   ),
 )
@@ -91,12 +94,15 @@ not_given Quiet = refl
 not_given (Lost waited) = refl
 
 -- a turn after which the connection stays
-pub turn_kept : {S F : Type 0} {Tells : F → List SaidValue → F → Type 0} (remaining contents : S → Option (List ℕ)) (old new : ClientValue)
-    (players told : List MessageValue) (s t : S) (stream : Option S) (e : Ending) (said : Option (List ℕ)) (held now : F)
+pub turn_kept : {S F : Type 0} {Tells : F → List SaidValue → F → Type 0} (remaining contents : S → Option (List ℕ))
+    (old new : ClientValue)
+    (players told : List MessageValue) (s t : S) (stream : Option S) (e : Ending) (said : Option (List ℕ))
+    (held now : F)
     → stream ≡ Some s → e ≡ Quiet
     → ((h : Talk) → StandsAfter old h → is_online h ≡ true → TurnedBy Tells h new said (remaining s) (remaining t)
     (outside (contents s) held players) (outside (contents t) now told) e)
-    → TakesTurn Tells said (seat_of remaining contents old players stream) (seat_of remaining contents new told (Some t)) held
+    → TakesTurn Tells said (seat_of remaining contents old players stream)
+    (seat_of remaining contents new told (Some t)) held
     now
 turn_kept {S} {F} {Tells} remaining contents old new players told s t stream e said held now is quiet turned =
     subst (λ o. TakesTurn Tells said (seat_of remaining contents old players o)
@@ -111,15 +117,19 @@ turn_kept {S} {F} {Tells} remaining contents old new players told s t stream e s
     })
 
 -- a turn after which it is given up
-pub turn_given_up : {S F : Type 0} {Tells : F → List SaidValue → F → Type 0} (remaining contents : S → Option (List ℕ)) (old new : ClientValue)
+pub turn_given_up : {S F : Type 0} {Tells : F → List SaidValue → F → Type 0} (remaining contents : S → Option (List ℕ))
+    (old new : ClientValue)
     (players told : List MessageValue) (s t : S) (stream stays : Option S) (waited : Option Outstanding) (e : Ending)
     (said : Option (List ℕ)) (held now : F)
     → stream ≡ Some s → stays ≡ None → e ≡ Lost waited
     → ((h : Talk) → StandsAfter old h → is_online h ≡ true → TurnedBy Tells h new said (remaining s) (remaining t)
     (outside (contents s) held players) (outside (contents t) now told) e)
-    → TakesTurn Tells said (seat_of remaining contents old players stream) (seat_of remaining contents new told stays) held now
-turn_given_up {S} {F} {Tells} remaining contents old new players told s t stream stays waited e said held now is none lost turned =
-    subst (λ o. TakesTurn Tells said (seat_of remaining contents old players o) (seat_of remaining contents new told stays)
+    → TakesTurn Tells said (seat_of remaining contents old players stream)
+    (seat_of remaining contents new told stays) held now
+turn_given_up {S} {F} {Tells} remaining contents old new players told s t stream stays waited e said held now is none
+    lost turned =
+    subst (λ o. TakesTurn Tells said (seat_of remaining contents old players o)
+    (seat_of remaining contents new told stays)
     held now) (sym is)
     (subst (λ o. TakesTurn Tells said (seat_of remaining contents old players (Some s))
     (seat_of remaining contents new told o) held now) (sym none) (record {
@@ -139,7 +149,8 @@ pub turn_away : {S F : Type 0} {Tells : F → List SaidValue → F → Type 0} (
     → stream ≡ None → stays ≡ None
     → ((h : Talk) → StandsAfter old h → is_online h ≡ false → (known : List MessageValue)
     → TurnedBy Tells h new said None None (outside None held known) (outside None now known) e)
-    → TakesTurn Tells said (seat_of remaining contents old players stream) (seat_of remaining contents new players stays)
+    → TakesTurn Tells said (seat_of remaining contents old players stream)
+    (seat_of remaining contents new players stays)
     held now
 turn_away {S} {F} {Tells} remaining contents old new players stream stays e said held now is none turned =
     subst (λ o. TakesTurn Tells said (seat_of remaining contents old players o)

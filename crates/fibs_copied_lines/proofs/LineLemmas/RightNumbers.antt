@@ -1,6 +1,7 @@
 -- Numbers of a board's line that are right, one after another.
 use Rattle.std.proofs.Common.{◌≡◌, ◌∙◌, ◌==◌, ◌++◌, ◌+◌, ◌-◌, ◌<◌, ◌≤◌, ◌^◌, ℕ, Bool, true, false, not, List, []}
-use Rattle.std.proofs.Common.{◌∷◌, Option, Some, None, Result, Ok, arith, refl, sym, ap, subst, append_assoc, drop, get_or, length}
+use Rattle.std.proofs.Common.{◌∷◌, Option, Some, None, Result, Ok, arith, refl, sym}
+use Rattle.std.proofs.Common.{ap, subst, append_assoc, drop, get_or, length}
 use Rattle.std.proofs.Common.{map, replicate, ⊎_elim, lit<}
 use Rattle.std.specs.Fmt.{decimal}
 use Rattle.std.specs.Prelude.{is_none, pos}
@@ -19,7 +20,8 @@ use Rattle.std.proofs.lemmas.List.Sums.{AllPass-from_list_all}
 use Rattle.std.proofs.lemmas.Str.Parse.{digits_value_short}
 use Rattle.fibs_boards.specs.Board.{checkers, count, edge, field_values, flag, kinds, pieces, place, side}
 use Rattle.fibs_boards.specs.BoardReading.{first_fault, fault_or, pieces_of, pieces_left}
-use Rattle.fibs_copied_lines.specs.RightNumbers.{AreRight, DigitAt, NoFault, are_right, cube, die, is_right, score, turn}
+use Rattle.fibs_copied_lines.specs.RightNumbers.{AreRight, DigitAt, NoFault, are_right}
+use Rattle.fibs_copied_lines.specs.RightNumbers.{cube, die, is_right, score, turn}
 use Rattle.fibs_fields.specs.Decimal.{allows, is_positive, number_in}
 use Rattle.fibs_fields.specs.Field.{Kind, FieldValue, NameField, TextField, a_name, a_number_of, a_text}
 use Rattle.fibs_fields.specs.FieldReading.{Left, left, field_at, text_at, value_in}
@@ -60,7 +62,8 @@ in_range p low count d all above below =
     let inside : d - low < count = omega arith in
     let there : low + (d - low) ≡ d = omega arith in
     sym (ap p (get_or-range_with_len low count (d - low) 0 inside ∙ there))
-    ∙ AllPass-from_list_all p (range_with_len low count) all (d - low) 0 (omega (arith, length-range_with_len low count))
+    ∙ AllPass-from_list_all p (range_with_len low count) all (d - low) 0
+    (omega (arith, length-range_with_len low count))
 
 -- a number and a colon
 pub number_right : (values : Values) (text piece : List ℕ) (at to : ℕ) → IsNumber values piece

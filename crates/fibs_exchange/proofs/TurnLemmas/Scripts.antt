@@ -136,7 +136,8 @@ calls_done [] = refl
 calls_done (d ∷ ds) = ap (λ l. d.act.writes ++ l) (calls_done ds)
 
 -- of a script that was done whole all commands were written
-pub did_wrote : {F : Type 0} {Tells : F → List SaidValue → F → Type 0} (a b : Outside F) (script : List Act) → Did Tells a b script Whole
+pub did_wrote : {F : Type 0} {Tells : F → List SaidValue → F → Type 0} (a b : Outside F) (script : List Act)
+    → Did Tells a b script Whole
     → Appends a.wrote b.wrote (calls_of script)
 did_wrote a b script d =
     let same : calls_of script ≡ writes_of d.done =
@@ -146,7 +147,8 @@ did_wrote a b script d =
     (ap (λ h. writes_of d.done ++ h) d.in_hand.1 ∙ append-nil (writes_of d.done) ∙ sym same) d.wrote
 
 -- and of one at which a write failed, those before
-pub did_called : {F : Type 0} {Tells : F → List SaidValue → F → Type 0} (p : Progress) (a b : Outside F) (script : List Act) → Did Tells a b script p → Called a.wrote b.wrote script p
+pub did_called : {F : Type 0} {Tells : F → List SaidValue → F → Type 0} (p : Progress) (a b : Outside F)
+    (script : List Act) → Did Tells a b script p → Called a.wrote b.wrote script p
 did_called p a b script d = record {
   done = acts_of d.done;
   hand = d.hand;

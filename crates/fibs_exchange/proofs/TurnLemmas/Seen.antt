@@ -16,7 +16,8 @@ use Rattle.fibs_exchange.specs.Turns.Turn.{Ended, TurnedBy, Turned}
 abbrev pub viewed : {F G : Type 0} → (F → G) → Outside F → Outside G
 viewed view o = outside o.wrote (view o.front) o.players
 
-module _ {F G : Type 0} {Tells : F → List SaidValue → F → Type 0} {Gains : G → List SaidValue → G → Type 0} (view : F → G)
+module _ {F G : Type 0} {Tells : F → List SaidValue → F → Type 0} {Gains : G → List SaidValue → G → Type 0}
+    (view : F → G)
     (seen : (a b : F) (told : List SaidValue) → Tells a told b → Gains (view a) told (view b)) where
   did_seen : (p : Progress) (a b : Outside F) (script : List Act) → Did Tells a b script p
       → Did Gains (viewed view a) (viewed view b) script p
@@ -37,7 +38,8 @@ module _ {F G : Type 0} {Tells : F → List SaidValue → F → Type 0} {Gains :
   ended_seen p t new a b e d = record { did = did_seen Whole a b _ d.did; leaves = d.leaves }
 
   pub turned_seen : (t : Talk) (new : ClientValue) (typed left still : Option (List ℕ)) (a b : Outside F) (e : Ending)
-      → TurnedBy Tells t new typed left still a b e → TurnedBy Gains t new typed left still (viewed view a) (viewed view b) e
+      → TurnedBy Tells t new typed left still a b e
+      → TurnedBy Gains t new typed left still (viewed view a) (viewed view b) e
   turned_seen t new typed left still a b e d = record {
     intake = d.intake;
     progress = d.progress;
@@ -54,7 +56,8 @@ pub turn_accounted : {F W : Type 0} (out : F → MutBor W) (contents : W → Opt
     (typed left still wrote now : Option (List ℕ)) (players known : List MessageValue) (a b : F) (e : Ending) (x : W)
     → ((out b).ghost_name ≡ (out a).ghost_name → x ≡ (out b).now)
     → TurnedBy
-    (λ c told d. ((out d).ghost_name ≡ (out c).ghost_name) × Accounts (contents (out c).now) told (contents (out d).now))
+    (λ c told d. ((out d).ghost_name ≡ (out c).ghost_name)
+    × Accounts (contents (out c).now) told (contents (out d).now))
     t new typed left still (outside wrote a players) (outside now b known) e
     → Turned t new typed left still (outside wrote (contents (out a).now) players) (outside now (contents x) known) e
 turn_accounted {F} {W} out contents t new typed left still wrote now players known a b e x same d =

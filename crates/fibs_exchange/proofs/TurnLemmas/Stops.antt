@@ -28,7 +28,8 @@ on_any_err (Ok x) p = tt
 on_any_err (Err e) p = p
 
 -- all that was read is heard
-pub stopped_whole : {F : Type 0} {Tells : F → List SaidValue → F → Type 0} (t : Talk) (y z : ClientValue) (left still : Option (List ℕ)) (read : List ℕ) (a b : Outside F)
+pub stopped_whole : {F : Type 0} {Tells : F → List SaidValue → F → Type 0} (t : Talk) (y z : ClientValue)
+    (left still : Option (List ℕ)) (read : List ℕ) (a b : Outside F)
     → is_online t ≡ true → Consumes left still read → Gone Tells t y read a b
     → StopsAt Whole t.stream read [] (step t (Piece read)).talk z → Stopped t z None left still a.wrote b.wrote
 stopped_whole t y z left still read a b on took g at = record {
@@ -46,7 +47,8 @@ stopped_whole t y z left still read a b on took g at = record {
 }
 
 -- a write failed at the end of a line
-pub stopped_broken : {F : Type 0} {Tells : F → List SaidValue → F → Type 0} (t : Talk) (y z : ClientValue) (left still : Option (List ℕ)) (read : List ℕ) (a b : Outside F)
+pub stopped_broken : {F : Type 0} {Tells : F → List SaidValue → F → Type 0} (t : Talk) (y z : ClientValue)
+    (left still : Option (List ℕ)) (read : List ℕ) (a b : Outside F)
     → is_online t ≡ true → Consumes left still read → (k : Talked Tells t y read a b Broken)
     → StandsAfter z (step (step t (Piece k.fed)).talk Lose).talk → Stopped t z None left still a.wrote b.wrote
 stopped_broken t y z left still read a b on took k at = record {
@@ -65,7 +67,8 @@ stopped_broken t y z left still read a b on took k at = record {
 
 module _ (join : PiecesJoin) (grow : LinesOnlyGrow) where
   -- what was fed after a front ends a line
-  pub line_behind : {F : Type 0} {Tells : F → List SaidValue → F → Type 0} (t : Talk) (z : ClientValue) (front piece back bytes : List ℕ) (a b : Outside F)
+  pub line_behind : {F : Type 0} {Tells : F → List SaidValue → F → Type 0} (t : Talk) (z : ClientValue)
+      (front piece back bytes : List ℕ) (a b : Outside F)
       (now : Option (List ℕ)) → bytes ≡ (front ++ piece) ++ back → is_online t ≡ true
       → Did Tells a b (piece_acts t front) Whole → StandsAfter z (step (step t (Piece front)).talk (Piece piece)).talk
       → EndsALine (step t (Piece front)).talk.stream piece → 0 < length piece
@@ -89,7 +92,8 @@ module _ (join : PiecesJoin) (grow : LinesOnlyGrow) where
       }
 
   -- a line of a portion was not printed
-  pub stopped_portion : {F : Type 0} {Tells : F → List SaidValue → F → Type 0} (t : Talk) (y z : ClientValue) (left still : Option (List ℕ)) (read portion : List ℕ)
+  pub stopped_portion : {F : Type 0} {Tells : F → List SaidValue → F → Type 0} (t : Talk) (y z : ClientValue)
+      (left still : Option (List ℕ)) (read portion : List ℕ)
       (a b : Outside F) (now : Option (List ℕ)) → is_online t ≡ true → Consumes left still (read ++ portion)
       → Gone Tells t y read a b → FedToALine (step t (Piece read)).talk z portion b.wrote now
       → Stopped t z None left still a.wrote now
@@ -113,7 +117,8 @@ module _ (join : PiecesJoin) (grow : LinesOnlyGrow) where
       }
 
 -- the typed call was made before
-pub stopped_typed : {F : Type 0} {Tells : F → List SaidValue → F → Type 0} (t : Talk) (z : ClientValue) (text : List ℕ) (left mid still now : Option (List ℕ)) (a b : Outside F)
+pub stopped_typed : {F : Type 0} {Tells : F → List SaidValue → F → Type 0} (t : Talk) (z : ClientValue) (text : List ℕ)
+    (left mid still now : Option (List ℕ)) (a b : Outside F)
     → is_online t ≡ true → Keeps left mid → Did Tells a b (typed_act t (typed_now t text) ∷ []) Whole
     → Stopped (typed_step t (typed_now t text)).talk z None mid still b.wrote now
     → Stopped t z (Some text) left still a.wrote now
@@ -170,7 +175,8 @@ stopped_unprinted t z text left still wrote now empty k w at =
     (all_fed refl refl at)
 
 -- its command was not written whole
-pub stopped_unsent : {F : Type 0} {Tells : F → List SaidValue → F → Type 0} (t : Talk) (z : ClientValue) (text : List ℕ) (left still : Option (List ℕ)) (a b : Outside F)
+pub stopped_unsent : {F : Type 0} {Tells : F → List SaidValue → F → Type 0} (t : Talk) (z : ClientValue) (text : List ℕ)
+    (left still : Option (List ℕ)) (a b : Outside F)
     → EmptyPieceIsNothing → Keeps left still → Did Tells a b (typed_act t (typed_now t text) ∷ []) Broken
     → StandsAfter z (step (typed_step t (typed_now t text)).talk Lose).talk
     → Stopped t z (Some text) left still a.wrote b.wrote

@@ -42,7 +42,8 @@ pub never : {b : Bool} {P : Type 0} → b ≡ true → b ≡ false → P
 never {b} {P} p q = absurd cc
 
 module _ {F : Type 0} {Tells : F → List SaidValue → F → Type 0} (joins : Joins Tells) where
-  pub gone_nothing : EmptyPieceIsNothing → (t : Talk) (c : ClientValue) (a : Outside F) → StandsAfter c t → Gone Tells t c [] a a
+  pub gone_nothing : EmptyPieceIsNothing → (t : Talk) (c : ClientValue) (a : Outside F) → StandsAfter c t
+      → Gone Tells t c [] a a
   gone_nothing empty t c a at = record {
     stands = subst (λ s. StandsAfter c s.talk) (sym (empty t)) at;
     did = did_same Whole a a [] (piece_acts t []) (sym (no_acts t)) (did_nothing joins a);
@@ -72,9 +73,11 @@ module _ {F : Type 0} {Tells : F → List SaidValue → F → Type 0} (joins : J
     }
 
     -- a write fails at a line after them
-    pub broke_at : (t : Talk) (new : ClientValue) (front piece back bytes : List ℕ) (acts : List Act) (a b c : Outside F)
+    pub broke_at : (t : Talk) (new : ClientValue) (front piece back bytes : List ℕ) (acts : List Act)
+        (a b c : Outside F)
         → bytes ≡ (front ++ piece) ++ back → is_online t ≡ true
-        → Did Tells a b (piece_acts t front) Whole → StandsAfter new (step (step t (Piece front)).talk (Piece piece)).talk
+        → Did Tells a b (piece_acts t front) Whole → StandsAfter new
+        (step (step t (Piece front)).talk (Piece piece)).talk
         → piece_acts (step t (Piece front)).talk piece ≡ acts
         → EndsALine (step t (Piece front)).talk.stream piece → 0 < length piece → Did Tells b c acts Broken
         → Talked Tells t new bytes a c Broken
@@ -95,7 +98,8 @@ module _ {F : Type 0} {Tells : F → List SaidValue → F → Type 0} (joins : J
     }
 
     -- a portion after what was read, done whole
-    pub gone_portion : (t : Talk) (y z : ClientValue) (read portion : List ℕ) (a b c : Outside F) → Gone Tells t y read a b
+    pub gone_portion : (t : Talk) (y z : ClientValue) (read portion : List ℕ) (a b c : Outside F)
+        → Gone Tells t y read a b
         → Talked Tells (step t (Piece read)).talk z portion b c Whole → Gone Tells t z (read ++ portion) a c
     gone_portion t y z read portion a b c g k =
         let same : portion ≡ k.fed = k.cut ∙ ap (λ l. k.fed ++ l) k.extent ∙ append-nil k.fed in
@@ -132,7 +136,8 @@ module _ {F : Type 0} {Tells : F → List SaidValue → F → Type 0} (joins : J
   -- nothing was typed
   pub turned : (p : Progress) (e : Ending) (t : Talk) (y z : ClientValue) (left still : Option (List ℕ))
       (read : List ℕ) (a b c : Outside F) → is_online t ≡ true → Consumes left still read
-      → (k : Talked Tells t y read a b p) → Ended Tells p (step t (Piece k.fed)).talk z b c e → TurnedBy Tells t z None left still a c e
+      → (k : Talked Tells t y read a b p) → Ended Tells p (step t (Piece k.fed)).talk z b c e
+      → TurnedBy Tells t z None left still a c e
   turned p e t y z left still read a b c on took k end = record {
     intake = record {
       read = read;
@@ -153,7 +158,8 @@ module _ {F : Type 0} {Tells : F → List SaidValue → F → Type 0} (joins : J
   -- and all that was read was heard
   pub turned_whole : (e : Ending) (t : Talk) (y z : ClientValue) (left still : Option (List ℕ)) (read : List ℕ)
       (a b c : Outside F) → is_online t ≡ true → Consumes left still read
-      → Gone Tells t y read a b → Ended Tells Whole (step t (Piece read)).talk z b c e → TurnedBy Tells t z None left still a c e
+      → Gone Tells t y read a b → Ended Tells Whole (step t (Piece read)).talk z b c e
+      → TurnedBy Tells t z None left still a c e
   turned_whole e t y z left still read a b c on took g end = record {
     intake = record {
       read = read;
@@ -175,7 +181,8 @@ module _ {F : Type 0} {Tells : F → List SaidValue → F → Type 0} (joins : J
   pub turned_typed : (e : Ending) (t : Talk) (z : ClientValue) (text : List ℕ) (left mid still : Option (List ℕ))
       (a b c : Outside F) → is_online t ≡ true → Keeps left mid
       → Did Tells a b (typed_act t (typed_now t text) ∷ []) Whole
-      → TurnedBy Tells (typed_step t (typed_now t text)).talk z None mid still b c e → TurnedBy Tells t z (Some text) left still a c e
+      → TurnedBy Tells (typed_step t (typed_now t text)).talk z None mid still b c e
+      → TurnedBy Tells t z (Some text) left still a c e
   turned_typed e t z text left mid still a b c on k d u = record {
     intake = record {
       read = u.intake.read;
@@ -225,7 +232,8 @@ module _ {F : Type 0} {Tells : F → List SaidValue → F → Type 0} (joins : J
   pub turned_broken : (e : Ending) (t : Talk) (z : ClientValue) (text : List ℕ) (left still : Option (List ℕ))
       (a b c : Outside F) → is_online t ≡ true → EmptyPieceIsNothing → Keeps left still
       → Did Tells a b (typed_act t (typed_now t text) ∷ []) Broken
-      → Ended Tells Broken (typed_step t (typed_now t text)).talk z b c e → TurnedBy Tells t z (Some text) left still a c e
+      → Ended Tells Broken (typed_step t (typed_now t text)).talk z b c e
+      → TurnedBy Tells t z (Some text) left still a c e
   turned_broken e t z text left still a b c on empty k d end =
       turned_here Broken e t z text left still a b c empty k (λ n lt same. omega (arith, lt)) (never on) d end
 
@@ -276,8 +284,10 @@ after_online t None = refl
 after_online t (Some text) = (typed_stays t (typed_now t text)).online
 
 -- a stream is given as before, and after a loss none
-pub next_fits : {F : Type 0} {Tells : F → List SaidValue → F → Type 0} (e : Ending) (t : Talk) (new : ClientValue) (typed left still : Option (List ℕ)) (a b : Outside F)
-    (given : Bool) → is_online t ≡ given → TurnedBy Tells t new typed left still a b e → FitsStream new (still_given e given)
+pub next_fits : {F : Type 0} {Tells : F → List SaidValue → F → Type 0} (e : Ending) (t : Talk) (new : ClientValue)
+    (typed left still : Option (List ℕ)) (a b : Outside F)
+    (given : Bool) → is_online t ≡ given → TurnedBy Tells t new typed left still a b e
+    → FitsStream new (still_given e given)
 next_fits Quiet t new typed left still a b given on u = (
   (step (talk_after t typed) (Piece u.intake.fed)).talk,
   u.ended.leaves.0,

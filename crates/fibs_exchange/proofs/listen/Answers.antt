@@ -40,8 +40,10 @@ returns-in-Ok-eq0-clause-turned g c =
 pub returns-in-Err-clause-turned : goal.returns-in-Err-clause-turned
 returns-in-Err-clause-turned g c = λ t at on.
     let i = c.loop-made.invariant in
-    let gone = gone_kept g.met.F.Front.joins t _ i.0 _ _ _ (i.2 t at) c.receive.ensures.apart c.in_ok-flush.ensures refl in
-    turned_whole g.met.F.Front.joins Quiet t _ _ _ _ i.0 _ _ _ on (Consumes-kept _ _ _ i.0 i.1 c.in-Err.ensures.bytes) gone
+    let gone = gone_kept g.met.F.Front.joins t _ i.0 _ _ _
+    (i.2 t at) c.receive.ensures.apart c.in_ok-flush.ensures refl in
+    turned_whole g.met.F.Front.joins Quiet t _ _ _ _ i.0 _ _ _ on
+    (Consumes-kept _ _ _ i.0 i.1 c.in-Err.ensures.bytes) gone
     (still_open g.met.F.Front.joins _ _ _ gone.stands)
 
 pub returns-in-Err-2-clause-turned : goal.returns-in-Err-2-clause-turned
@@ -63,8 +65,10 @@ returns-in-Err-Stream-clause-turned g c =
     (Consumes-kept _ _ _ piece c.in-Ok.ensures.bytes.0 c.hear_portion.ensures.apart) in
     if_ok_weaker c.end_connection-in-Err-Stream.result
     (λ e h t at on.
-    let gone = gone_kept g.met.F.Front.joins t _ i.0 _ _ _ (i.2 t at) c.receive.ensures.apart c.in_ok-flush.ensures refl in
-    let talked = broke_portion g.met.F.Front.joins c.pieces_join.ensures c.lines_only_grow.ensures t _ _ i.0 piece _ _ _ on gone
+    let gone = gone_kept g.met.F.Front.joins t _ i.0 _ _ _
+    (i.2 t at) c.receive.ensures.apart c.in_ok-flush.ensures refl in
+    let talked = broke_portion g.met.F.Front.joins c.pieces_join.ensures c.lines_only_grow.ensures t _ _ i.0 piece _ _ _
+    on gone
     ((rw c.in-Err-Stream.field-0-is at c.in-Err-Stream.ensures.talked) (step t (Piece i.0)).talk gone.stands) in
     turned g.met.F.Front.joins Broken e t _ _ _ _ (i.0 ++ piece) _ _ _ on took talked
     (h Broken (step t (Piece talked.fed)).talk talked.stands _ _)) c.end_connection-in-Err-Stream.ensures.ended
@@ -78,7 +82,8 @@ loop-made-preserved g c =
       Consumes-trans _ _ _ i.0 piece i.1 (Consumes-kept _ _ _ piece c.in-Ok.ensures.bytes.0
           c.hear_portion.ensures.apart),
       λ t at.
-          let gone = gone_kept g.met.F.Front.joins t _ i.0 _ _ _ (i.2 t at) c.receive.ensures.apart c.in_ok-flush.ensures refl in
+          let gone = gone_kept g.met.F.Front.joins t _ i.0 _ _ _
+          (i.2 t at) c.receive.ensures.apart c.in_ok-flush.ensures refl in
           gone_portion g.met.F.Front.joins c.pieces_join.ensures c.lines_only_grow.ensures t _ _ i.0 piece _ _ _ gone
           (c.in-Ok-hear_portion.ensures.talked (step t (Piece i.0)).talk gone.stands),
       more_read _ _ i.0 c.in-Ok.count c.receive.new.buf i.3 (whole ∙ i.4),
@@ -89,7 +94,8 @@ pub returns-clause-turned : goal.returns-clause-turned
 returns-clause-turned g c = λ t at on.
     let i = c.loop-made.invariant in
     let gone = i.2 t at in
-    turned_whole g.met.F.Front.joins Quiet t _ _ _ _ i.0 _ _ _ on i.1 gone (still_open g.met.F.Front.joins _ _ _ gone.stands)
+    turned_whole g.met.F.Front.joins Quiet t _ _ _ _ i.0 _ _ _ on i.1 gone
+    (still_open g.met.F.Front.joins _ _ _ gone.stands)
 
 pub returns-in_err-flush-clause-stopped : goal.returns-in_err-flush-clause-stopped
 returns-in_err-flush-clause-stopped g c =
@@ -136,7 +142,8 @@ returns-in-Err-Output-clause-stopped g c =
     c.hear_portion.ensures.apart) in
     let here = outside (g.S.Write.contents c.receive.new.self)
     c.loop-made.front c.loop-made.directory in
-    let gone = gone_kept g.met.F.Front.joins t _ i.0 _ _ here (i.2 t at) c.receive.ensures.apart (g.met.F.Front.joins.nothing _) refl in
+    let gone = gone_kept g.met.F.Front.joins t _ i.0 _ _ here (i.2 t at) c.receive.ensures.apart
+    (g.met.F.Front.joins.nothing _) refl in
     stopped_portion c.pieces_join.ensures c.lines_only_grow.ensures t _ _ _ _ i.0 piece _ here _ on took gone
     ((rw c.in-Err-Output.field-0-is at c.in-Err-Output.ensures.stopped) (step t (Piece i.0)).talk gone.stands)
 
@@ -149,7 +156,8 @@ returns-in-Err-Stream-clause-stopped g c =
     c.hear_portion.ensures.apart) in
     on_any_err c.end_connection-in-Err-Stream.result
     (λ t at on.
-    let gone = gone_kept g.met.F.Front.joins t _ i.0 _ _ _ (i.2 t at) c.receive.ensures.apart c.in_ok-flush.ensures refl in
+    let gone = gone_kept g.met.F.Front.joins t _ i.0 _ _ _
+    (i.2 t at) c.receive.ensures.apart c.in_ok-flush.ensures refl in
     let talked =
     broke_portion g.met.F.Front.joins c.pieces_join.ensures c.lines_only_grow.ensures t _ _ i.0 piece _ _ _ on gone
     ((rw c.in-Err-Stream.field-0-is at c.in-Err-Stream.ensures.talked) (step t (Piece i.0)).talk gone.stands) in

@@ -15,7 +15,8 @@ returns-in-Ok-clause-turned g c =
     (λ e h t at on.
     let text = c.in-Some.text.now in
     let v = typed_now t text in
-    turned_typed g.met.F.Front.joins e t _ text _ _ _ _ _ _ on c.type_line.ensures.apart (c.in-Ok.ensures.did t at c.args.directory.now)
+    turned_typed g.met.F.Front.joins e t _ text _ _ _ _ _ _ on c.type_line.ensures.apart
+    (c.in-Ok.ensures.did t at c.args.directory.now)
     (h (typed_step t v).talk (c.type_line.ensures.stands t at)
     ((typed_stays t v).online ∙ on))) c.listen-in-Ok.ensures.turned)
 

@@ -33,7 +33,8 @@ use Rattle.fibs_machine.proofs.wires.Boards.{waiting, boards, board_of, boards_s
 use Rattle.fibs_machine.proofs.joint.Joint.{View, view, Calm, Free, Done, Live, Held, Current, Ahead, Joint}
 use Rattle.fibs_history.proofs.Lists.{to_list}
 use Rattle.fibs_machine.proofs.joint.Joint.{same_view, linked_same, linked_other, with_link, view_linked, joint_current}
-use Rattle.fibs_machine.proofs.joint.Sending.{joint_noted, joint_ahead, joint_asks, not_older, same_test, if_fact, relink}
+use Rattle.fibs_machine.proofs.joint.Sending.{joint_noted, joint_ahead, joint_asks, not_older}
+use Rattle.fibs_machine.proofs.joint.Sending.{same_test, if_fact, relink}
 use Rattle.fibs_history.specs.Hearing.{line_reading}
 use Rattle.fibs_position.specs.GamePart.{same_game}
 use Rattle.fibs_position.specs.GoodBoard.{good as is_good}

@@ -17,7 +17,8 @@ use Rattle.fibs_history.specs.Machine.{plain_refusal, may_send, order_refusal, w
 use Rattle.fibs_machine.specs.Wires.{next_line}
 use Rattle.fibs_position.specs.BoardEffect.{is_die}
 use Rattle.fibs_machine.specs.Server.{user_decides}
-use Rattle.fibs_machine.specs.Events.{Event, Open, Click, Plain, Deliver, Lose, Serve, Own, Repeat, Text, Order, Withdraw}
+use Rattle.fibs_machine.specs.Events.{Event, Open, Click, Plain, Deliver, Lose, Serve}
+use Rattle.fibs_machine.specs.Events.{Own, Repeat, Text, Order, Withdraw}
 use Rattle.fibs_machine.specs.World.{sends_plain, notes_unless, talk_of, World, after, serves, start}
 use Rattle.fibs_machine.specs.declared.refusal.WorldRefusal.{WorldRefusal}
 use Rattle.fibs_machine.specs.declared.refusal.WorldRefusal.TheVariants.{AlreadyOpen, NotOpen}

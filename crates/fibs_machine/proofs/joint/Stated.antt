@@ -13,11 +13,14 @@ use Rattle.fibs_history.specs.Log as L
 use Rattle.fibs_history.specs.Allows.{allows}
 use Rattle.fibs_history.specs.Machine.{gained, on_wire, plain_refusal, order_refusal, withdraw_refusal}
 use Rattle.fibs_history.specs.Words.{Ask, is_empty, one_if, open_now, answer, sent, took}
-use Rattle.fibs_machine.specs.Acts.{Act, Shows, Says, Serves, put_by, sending, acts_of, acts_at_line, acts_on, acts_from}
+use Rattle.fibs_machine.specs.Acts.{Act, Shows, Says, Serves, put_by, sending}
+use Rattle.fibs_machine.specs.Acts.{acts_of, acts_at_line, acts_on, acts_from}
 use Rattle.fibs_machine.specs.declared.refusal.WorldRefusal.TheVariants.{AlreadyOpen, NotOpen}
-use Rattle.fibs_machine.specs.Events.{Event, Open, Click, Plain, Deliver, Lose, Serve, Own, Repeat, Text, Order, Withdraw}
+use Rattle.fibs_machine.specs.Events.{Event, Open, Click, Plain, Deliver, Lose, Serve}
+use Rattle.fibs_machine.specs.Events.{Own, Repeat, Text, Order, Withdraw}
 use Rattle.fibs_machine.specs.Headline.{NoneUndone}
-use Rattle.fibs_machine.specs.Joint.{Carried, Steady, served_by, served_at, decisions_of, at_most_one, Left, LastUnserved}
+use Rattle.fibs_machine.specs.Joint.{Carried, Steady, served_by, served_at, decisions_of}
+use Rattle.fibs_machine.specs.Joint.{at_most_one, Left, LastUnserved}
 use Rattle.fibs_machine.specs.Joint as S
 use Rattle.fibs_machine.specs.Refusals.{refusal}
 use Rattle.fibs_machine.specs.Runs.{AllAccepted, after_all}

@@ -375,8 +375,8 @@ module _ (k : ℕ) where
 
   -- ---- lines are heard
 
-  -- Nothing is handed out and no more is due; or a roll is handed out, and is due no longer; or answers to a message are
-  -- handed out that were due. z: whether there is a message among the lines.
+  -- Nothing is handed out and no more is due; or a roll is handed out, and is due no longer; or answers to a message
+  -- are handed out that were due. z: whether there is a message among the lines.
   abbrev pub Lighter : ℕ → Bool → World → World → Type 0
   Lighter c z w w' =
       (((w'.links c).asked ≡ (w.links c).asked) × (due c w' ≤ due c w))

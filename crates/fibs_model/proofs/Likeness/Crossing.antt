@@ -5,9 +5,11 @@ use Rattle.std.specs.Prelude.{option_map, IfSome, IsSome, Result, Ok, Err, OnOk}
 use Rattle.fibs_boards.specs.Board.{BoardFields}
 use Rattle.fibs_history.specs.Machine.{on_wire}
 use Rattle.fibs_carrier.specs.Carrying.{Crossing, crossed, closed, Joins}
-use Rattle.fibs_model.specs.Crossings.{line_crossed, line_crossings, crossings_of, crossings_in, crossings_from, crossings}
+use Rattle.fibs_model.specs.Crossings.{line_crossed, line_crossings, crossings_of}
+use Rattle.fibs_model.specs.Crossings.{crossings_in, crossings_from, crossings}
 use Rattle.fibs_model.specs.Crossings.{CrossingsJoin}
-use Rattle.fibs_machine.specs.Events.{Event, Open, Click, Plain, Deliver, Lose, Serve, Own, Repeat, Text, Order, Withdraw}
+use Rattle.fibs_machine.specs.Events.{Event, Open, Click, Plain, Deliver, Lose, Serve}
+use Rattle.fibs_machine.specs.Events.{Own, Repeat, Text, Order, Withdraw}
 use Rattle.fibs_model.specs.LinksOf.{LinkValue, link_of, seen, link_at}
 use Rattle.fibs_machine.specs.Runs.{after_all, world_after}
 use Rattle.fibs_machine.specs.Wires.{next_line}

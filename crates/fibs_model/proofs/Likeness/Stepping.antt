@@ -7,7 +7,8 @@ use Rattle.fibs_history.specs.Words.{open_now}
 use Rattle.fibs_commands.specs.Logins.{login_text}
 use Rattle.fibs_history.specs.Machine.{on_wire}
 use Rattle.fibs_lines.specs.Lines.{lines_of}
-use Rattle.fibs_machine.specs.Events.{Event, Open, Click, Plain, Deliver, Lose, Serve, Own, Repeat, Text, Order, Withdraw}
+use Rattle.fibs_machine.specs.Events.{Event, Open, Click, Plain, Deliver, Lose, Serve}
+use Rattle.fibs_machine.specs.Events.{Own, Repeat, Text, Order, Withdraw}
 use Rattle.fibs_machine.specs.Refusals.{refusal, is_board_text}
 use Rattle.fibs_machine.specs.Runs.{AllAccepted, MayBe, after_all, world_after}
 use Rattle.fibs_position.specs.BoardEffect.{is_die}

@@ -103,12 +103,17 @@ log_printed (Some S.Broken) done log held now (Err fault.Device) fine h = absurd
 log_printed (Some S.Broken) done log held now (Err fault.Memory) fine h = absurd h
 log_printed (Some (S.Refused W.Memory)) done log held now r fine h =
     ([], inl refl, subst (Appends held now) (sym (append-nil log)) (gave_up_all log held now r fine h))
-log_printed (Some (S.Refused W.AlreadyOpen)) done log held now r fine h = behind 3 done W.AlreadyOpen log held now r fine h
+log_printed (Some (S.Refused W.AlreadyOpen)) done log held now r fine h =
+    behind 3 done W.AlreadyOpen log held now r fine h
 log_printed (Some (S.Refused W.NotOpen)) done log held now r fine h = behind 3 done W.NotOpen log held now r fine h
-log_printed (Some (S.Refused W.NoSuchConnection)) done log held now r fine h = behind 3 done W.NoSuchConnection log held now r fine h
-log_printed (Some (S.Refused W.NothingToServe)) done log held now r fine h = behind 3 done W.NothingToServe log held now r fine h
-log_printed (Some (S.Refused W.UserDecides)) done log held now r fine h = behind 3 done W.UserDecides log held now r fine h
-log_printed (Some (S.Refused W.BoardAsText)) done log held now r fine h = behind 3 done W.BoardAsText log held now r fine h
+log_printed (Some (S.Refused W.NoSuchConnection)) done log held now r fine h =
+    behind 3 done W.NoSuchConnection log held now r fine h
+log_printed (Some (S.Refused W.NothingToServe)) done log held now r fine h =
+    behind 3 done W.NothingToServe log held now r fine h
+log_printed (Some (S.Refused W.UserDecides)) done log held now r fine h =
+    behind 3 done W.UserDecides log held now r fine h
+log_printed (Some (S.Refused W.BoardAsText)) done log held now r fine h =
+    behind 3 done W.BoardAsText log held now r fine h
 log_printed (Some (S.Refused W.BadBoard)) done log held now r fine h = behind 3 done W.BadBoard log held now r fine h
 log_printed (Some (S.Refused W.BadDice)) done log held now r fine h = behind 3 done W.BadDice log held now r fine h
 
@@ -144,7 +149,8 @@ log_none first = refl
 -- one that is not begun
 pub none_carried : {A : Type 0} (Carries : A → List Crossing → A → Type 0) (law : Joins Carries)
     (join : CrossingsJoin) (a : A) (script : List ℕ) (first : BoardFields) (events : List Event) (status : ℕ)
-    (why : WorldRefusal) (text : List ℕ) (held now : Option (List ℕ)) (r : Result ℕ EngineFault) → Printed status text r held now
+    (why : WorldRefusal) (text : List ℕ) (held now : Option (List ℕ)) (r : Result ℕ EngineFault)
+    → Printed status text r held now
     → text ≡ refused_text 0 why → SayScript (script_lines script) first events → (IsErrOf r fault.Device → ⊥)
     → CarriedFor Carries script held now a a
 none_carried Carries law join a script first events status why text held now r printed is says fine = (

@@ -57,7 +57,8 @@ same_blank a b h k =
     (eqb-true a.target 0 t ∙ sym (eqb-true b.target 0 v))
 
 -- so are lists of them
-pub same_blanks : (xs ys : List Step) → list_all is_blank xs ≡ true → list_all is_blank ys ≡ true → length xs ≡ length ys
+pub same_blanks : (xs ys : List Step) → list_all is_blank xs ≡ true → list_all is_blank ys ≡ true
+    → length xs ≡ length ys
     → xs ≡ ys
 same_blanks [] [] h k e = refl
 same_blanks [] (y ∷ ys) h k e = absurd (omega arith)

@@ -1,6 +1,7 @@
 -- The runs that are tried are legal, and each arrangement that a legal play reaches is reached by the greatest such
 -- play.
-use Rattle.std.proofs.Common.{◌≡◌, ◌≢◌, ◌⊎◌, ◌<◌, ℕ, ◌≤◌, inl, inr, max, List, [], ◌∷◌, ◌++◌, length, take, drop, Bool, true}
+use Rattle.std.proofs.Common.{◌≡◌, ◌≢◌, ◌⊎◌, ◌<◌, ℕ, ◌≤◌, inl, inr, max, List}
+use Rattle.std.proofs.Common.{[], ◌∷◌, ◌++◌, length, take, drop, Bool, true}
 use Rattle.std.proofs.Common.{false, refl, sym, ap, subst, ◌∙◌, arith, cond, eq-eqb}
 use Rattle.std.proofs.Common.{length-append, length-take-le, take-append-drop, take_all}
 use Rattle.std.specs.Prelude.{◌&&◌, ◌==◌}
@@ -22,7 +23,8 @@ use Rattle.fibs_rules.proofs.SearchLemmas.LegalTest.{larger_from, part_of_larger
 use Rattle.fibs_rules.proofs.PlayListLemmas.PlayOrder.{itself}
 use Rattle.fibs_rules.proofs.PlayListLemmas.Reaches.{In, in_left, in_right, in_cases, Falls, reaches_sound}
 use Rattle.fibs_rules.proofs.PlayListLemmas.Reaches.{reaches_complete}
-use Rattle.fibs_rules.proofs.PlayListLemmas.FallingPlays.{AllAre, front_all, held_alike, falls_alike, two_fall, two_held}
+use Rattle.fibs_rules.proofs.PlayListLemmas.FallingPlays.{AllAre, front_all, held_alike, falls_alike}
+use Rattle.fibs_rules.proofs.PlayListLemmas.FallingPlays.{two_fall, two_held}
 use Rattle.fibs_rules.proofs.RuleLemmas.HighestFirst.{fallen, front_dice}
 
 -- the arrangement after these steps

@@ -160,7 +160,8 @@ module _ {S : Type 0} (p : Standing) (kept : HashMap Reached Play S) (l : p.firs
       ]))
 
 -- the plays of the map, sorted, are those of the rules, in descending order
-pub listed : {S : Type 0} (p : Standing) (kept : HashMap Reached Play S) (plays : List Play) → p.first ≤ 6 → p.second ≤ 6
+pub listed : {S : Type 0} (p : Standing) (kept : HashMap Reached Play S) (plays : List Play) → p.first ≤ 6
+    → p.second ≤ 6
     → IsUnique reached_eq kept → kept_in kept ≡ fold noted nothing (all_of p) → IsPermutation (values kept) plays
     → IsSortedBy (λ (a b : Play). is_lt (play_cmp (hops_of b) (hops_of a))) plays → PlayList p (map hops_of plays)
 listed p kept plays l r unique keeps moves order = record {

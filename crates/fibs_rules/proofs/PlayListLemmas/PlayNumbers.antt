@@ -1,5 +1,6 @@
 -- Plays of as many steps compare as their numbers do.
-use Rattle.std.proofs.Common.{◌≡◌, ℕ, zero, suc, ◌+◌, ◌*◌, ◌<◌, List, [], ◌∷◌, length, map, take, drop, true, refl, sym, ap}
+use Rattle.std.proofs.Common.{◌≡◌, ℕ, zero, suc, ◌+◌, ◌*◌, ◌<◌, List, [], ◌∷◌}
+use Rattle.std.proofs.Common.{length, map, take, drop, true, refl, sym, ap}
 use Rattle.std.proofs.Common.{◌∙◌, arith, get_or}
 use Rattle.std.specs.Int.{w64, from_be_bytes}
 use Rattle.std.specs.List.{list_all}
@@ -47,7 +48,8 @@ step_more x y s t =
 
 -- the numbers of as many steps compare as the steps
 number_cmp : (x y : ℕ) (xs ys : List Step) → length xs ≡ length ys
-    → nat_cmp (number_from x xs) (number_from y ys) ≡ ordering_then (nat_cmp x y) (play_cmp (map hop_of xs) (map hop_of ys))
+    → nat_cmp (number_from x xs) (number_from y ys)
+    ≡ ordering_then (nat_cmp x y) (play_cmp (map hop_of xs) (map hop_of ys))
 number_cmp x y [] [] e = sym (then_equal (nat_cmp x y))
 number_cmp x y [] (t ∷ ys) e = absurd (omega arith)
 number_cmp x y (s ∷ xs) [] e = absurd (omega arith)

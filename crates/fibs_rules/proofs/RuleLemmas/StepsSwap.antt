@@ -188,7 +188,12 @@ first_after : (p : Checkers) (f t g u d : ℕ) → 0 < d → f < g → g < 25 �
 first_after p f t g u d die lt hi a occ onto goes = let whole = goes_whole p f t g d lt a occ in elim whole.1 [
   | inl w ↦ inr (inl (record { bar_empty = at_bar; occupied = still; onto = whole.0; on_board = w }))
   | inr w ↦ let x = whole.0 in let y = w.0 in
-      inr (inr (inl (record { home = λ s h. kept_home w.1 s h; occupied = still; exact = omega (arith, x, y); off = y })))
+      inr (inr (inl (record {
+        home = λ s h. kept_home w.1 s h;
+        occupied = still;
+        exact = omega (arith, x, y);
+        off = y;
+      })))
 ]
   where
     place : g < length p.own

@@ -9,7 +9,8 @@ use Rattle.fibs_position.specs.declared.direction.Direction.TheVariants.{Down}
 use Rattle.fibs_commands.specs.CommandReading.{read_command}
 use Rattle.fibs_commands.specs.CommandLaws.{ReadCommandIsExact, ReadPlainIsExact}
 use Rattle.fibs_commands.specs.PlainReading.{TextField, no_text, rest_of_line, read_plain}
-use Rattle.fibs_machine.specs.Events.{Event, Open, Click, Plain, Deliver, Lose, Serve, Own, Repeat, Text, Order, Withdraw}
+use Rattle.fibs_machine.specs.Events.{Event, Open, Click, Plain, Deliver, Lose, Serve}
+use Rattle.fibs_machine.specs.Events.{Own, Repeat, Text, Order, Withdraw}
 use Rattle.fibs_scripts.specs.EventLines.{SaysEvent, says_open, says_click, says_plain, says_deliver, says_lose}
 use Rattle.fibs_scripts.specs.EventLines.{says_serve, says_own, says_repeat, says_text, says_order}
 use Rattle.fibs_scripts.specs.EventLines.{says_withdraw, count_limit, die_limit}

@@ -1,5 +1,6 @@
 -- Words determine their board: row by row, and in the rows of the sides place by place.
-use Rattle.std.proofs.Common.{◌≡◌, ◌⊎◌, ◌<◌, ◌≤◌, ◌+◌, ◌-◌, ◌^◌, ◌++◌, ℕ, zero, suc, true, not, Bool, ◌==◌, ◌&&◌, List, [], ◌∷◌, length, codes}
+use Rattle.std.proofs.Common.{◌≡◌, ◌⊎◌, ◌<◌, ◌≤◌, ◌+◌, ◌-◌, ◌^◌, ◌++◌, ℕ, zero, suc, true}
+use Rattle.std.proofs.Common.{not, Bool, ◌==◌, ◌&&◌, List, [], ◌∷◌, length, codes}
 use Rattle.std.proofs.Common.{refl, sym, ◌∙◌, ap, subst, arith, lit<, append_assoc, take}
 use Rattle.std.specs.Prelude.{ℤ, pos, negsuc, nat_lt, nat_le, slice_index, slice_index_or}
 use Rattle.std.specs.List.{flat_map, list_all}

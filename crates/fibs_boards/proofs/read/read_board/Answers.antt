@@ -35,5 +35,6 @@ returns-clause-ok c =
     begun c.without_spaces.result.now _ (left_of c.new-fields.result) c.without_spaces.ensures.value
     c.new-fields.ensures in
     sym start.1 ∙ c.in_ok-player.ensures.ok.parts
-    ∙ ap (λ ps. names_read (name_bytes c.in_ok-player.player) (name_bytes c.in_ok-player.opponent) ++ ps) c.in_ok-numbers.ensures.ok
+    ∙ ap (λ ps. names_read (name_bytes c.in_ok-player.player) (name_bytes c.in_ok-player.opponent) ++ ps)
+    c.in_ok-numbers.ensures.ok
     ∙ sym (ap texts c.of_parts.ensures)

@@ -20,16 +20,19 @@ returns-in_err-this_word-clause-err c =
 pub returns-in_err-player-clause-err : goal.returns-in_err-player-clause-err
 returns-in_err-player-clause-err c =
     let p = err_from_is_err_and c.from_residual-in_err-player.result c.from_residual-in_err-player.ensures.1 in
-    let word = word_read (left_of c.args.fields.now) (left_of c.this_word.new.self) c.requires c.in_ok-this_word.ensures in
+    let word = word_read (left_of c.args.fields.now)
+    (left_of c.this_word.new.self) c.requires c.in_ok-this_word.ensures in
     rw (p.1, p.2)
-    (name_refused (pieces_left (left_of c.args.fields.now)) (codes "board" ∷ []) 2 (a_name ∷ map a_number_of field_values)
+    (name_refused (pieces_left (left_of c.args.fields.now)) (codes "board" ∷ []) 2
+    (a_name ∷ map a_number_of field_values)
     (left_of c.this_word.new.self) c.in_err-player.field-0.0 word c.in_err-player.ensures)
 
 pub returns-in_err-opponent-clause-err : goal.returns-in_err-opponent-clause-err
 returns-in_err-opponent-clause-err c =
     let p = err_from_is_err_and c.from_residual-in_err-opponent.result c.from_residual-in_err-opponent.ensures.1 in
     let all = pieces_left (left_of c.args.fields.now) in
-    let word = word_read (left_of c.args.fields.now) (left_of c.this_word.new.self) c.requires c.in_ok-this_word.ensures in
+    let word = word_read (left_of c.args.fields.now)
+    (left_of c.this_word.new.self) c.requires c.in_ok-this_word.ensures in
     let name = name_bytes c.in_ok-player.player in
     let player =
     name_read all (codes "board" ∷ []) name 2 (a_name ∷ map a_number_of field_values) (left_of c.this_word.new.self)
@@ -41,7 +44,8 @@ returns-in_err-opponent-clause-err c =
 pub returns-clause-ok : goal.returns-clause-ok
 returns-clause-ok c =
     let all = pieces_left (left_of c.args.fields.now) in
-    let word = word_read (left_of c.args.fields.now) (left_of c.this_word.new.self) c.requires c.in_ok-this_word.ensures in
+    let word = word_read (left_of c.args.fields.now)
+    (left_of c.this_word.new.self) c.requires c.in_ok-this_word.ensures in
     let name = name_bytes c.in_ok-player.player in
     let player =
     name_read all (codes "board" ∷ []) name 2 (a_name ∷ map a_number_of field_values) (left_of c.this_word.new.self)

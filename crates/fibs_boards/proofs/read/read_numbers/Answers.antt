@@ -1,4 +1,5 @@
-use Rattle.std.proofs.Common.{◌≡◌, ◌∷◌, ◌++◌, ◌+◌, ◌<◌, ◌≤◌, [], refl, sym, ap, ◌∙◌, rules, arith, take, drop, length, map}
+use Rattle.std.proofs.Common.{◌≡◌, ◌∷◌, ◌++◌, ◌+◌, ◌<◌, ◌≤◌, [], refl, sym, ap}
+use Rattle.std.proofs.Common.{◌∙◌, rules, arith, take, drop, length, map}
 use Rattle.std.proofs.Common.{length-set}
 use Rattle.std.specs.Prelude.{FitsSigned, slice_get}
 use Rattle.std.specs.Fmt.{signed_decimal}

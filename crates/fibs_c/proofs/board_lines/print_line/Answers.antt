@@ -19,7 +19,9 @@ pub returns-in-Ok : goal.returns-in-Ok
 returns-in-Ok c = inr (record {
   board = fields_of c.in-Ok.board;
   says = c.in-Ok.ensures.found;
-  prints = subst (λ (bytes : List ℕ). HandsOut bytes c.args.text.now c.hand_out.new.room c.hand_out.new.len c.hand_out.result)
+  prints = subst (λ (bytes : List ℕ). HandsOut bytes c.args.text.now c.hand_out.new.room c.hand_out.new.len
+      c.hand_out.result)
       (c.as_slice.ensures.value ∙ c.print.ensures.text) c.hand_out.ensures;
-  few = subst (λ (n : ℕ). n ≤ 329) (sym (c.hand_out.ensures.len_is ∙ ap length c.as_slice.ensures.value)) c.print.ensures.short;
+  few = subst (λ (n : ℕ). n ≤ 329) (sym (c.hand_out.ensures.len_is ∙ ap length c.as_slice.ensures.value))
+      c.print.ensures.short;
 })

@@ -11,6 +11,7 @@ loop-i-preserved c =
     subst (λ (n : ℕ). c.loop-i.i < n) (sym c.loop-i.invariant.0) c.loop-i-test.true in (
       length-set c.loop-i.numbers c.loop-i.i _ ∙ c.loop-i.invariant.0,
       written _ _ _ c.turned_field.result (λ j. turned_field (fields_of c.args.board.now) (j + 4))
-          (to_z-of_z w32 c.turned_field.result (record { sfits = c.turned_field.type_inv })) c.turned_field.ensures within
+          (to_z-of_z w32 c.turned_field.result (record { sfits = c.turned_field.type_inv })) c.turned_field.ensures
+          within
           c.loop-i.invariant.1,
     )

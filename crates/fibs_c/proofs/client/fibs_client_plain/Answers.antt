@@ -22,7 +22,8 @@ returns-in-Some-take c =
     c.args.client.now.value c.of.result.value before c.in-Some-take.held.value after c.deref_mut.ensures.value
     c.in-Some-take.ensures.value c.of.ensures
     (record {
-      does = on_wire before after (PlainInput plain) (handed c.plain.result) c.args.wire.now c.clear.new.wire told.new.wire done.does
+      does = on_wire before after (PlainInput plain)
+          (handed c.plain.result) c.args.wire.now c.clear.new.wire told.new.wire done.does
           c.clear.ensures told.ensures.wire;
       refusal = λ t s. told.ensures.status ∙ ap plain_status (done.refusal t s);
       kept = λ nonzero. (

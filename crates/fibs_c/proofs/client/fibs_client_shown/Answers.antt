@@ -13,7 +13,8 @@ use Rattle.fibs_c.proofs.client.fibs_client_shown.Goals as goal
 pub returns-after-shown : goal.returns-after-shown
 returns-after-shown c =
     let out = c.match-shown.board in let status = c.match-shown.status in
-    subst (λ (o : Option ClientValue). IsShown o c.of.result.value c.args.board.now out status) c.in-Some.ensures.value (
+    subst (λ (o : Option ClientValue). IsShown o c.of.result.value c.args.board.now out status)
+    c.in-Some.ensures.value (
       c.of.ensures,
       λ t stands.
           let lent = subst (λ (v : ClientValue). StandsAfter v t) (sym c.deref.ensures) stands in

@@ -83,7 +83,8 @@ returns-in-PlaysJson g c =
     let b : Streams = streams input (out c.plays_json.new.out) err in
     served_listed c.args.request c.in-PlaysJson.line r a b c.in-PlaysJson.is
     (subst (λ line. ListedObject line r a b) c.as_bytes-in-PlaysJson.ensures.value
-    (listed_object r c.as_bytes-in-PlaysJson.result.now a b told.done told.device told.memory)) (Keeps-refl input) (Keeps-refl err)
+    (listed_object r c.as_bytes-in-PlaysJson.result.now a b told.done told.device told.memory)) (Keeps-refl input)
+    (Keeps-refl err)
 
 pub returns-in-ReplayJson : goal.returns-in-ReplayJson
 returns-in-ReplayJson g c =

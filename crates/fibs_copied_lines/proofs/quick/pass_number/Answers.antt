@@ -6,7 +6,8 @@ use Rattle.std.proofs.lemmas.Bool.Decides.{nat_tests}
 use Rattle.std.proofs.lemmas.List.{drop-drop, length-take-le}
 use Rattle.fibs_fields.specs.Decimal.{is_positive}
 use Rattle.fibs_fields.specs.declared.values.Values.TheVariants.{Between}
-use Rattle.fibs_copied_lines.proofs.LineLemmas.RightNumbers.{byte_then, digit_number, digit_then, digits_number, number_right}
+use Rattle.fibs_copied_lines.proofs.LineLemmas.RightNumbers.{byte_then, digit_number, digit_then}
+use Rattle.fibs_copied_lines.proofs.LineLemmas.RightNumbers.{digits_number, number_right}
 use Rattle.fibs_copied_lines.proofs.quick.pass_number.Goals as goal
 
 pub returns-then-digit_at-clause-right : goal.returns-then-digit_at-clause-right
@@ -28,7 +29,8 @@ returns-then-digit_at-2-clause-right c found most room small =
     let low = c.byte_at.ensures.low c.if-byte_at.true in
     let high = c.byte_at.ensures.high c.if-byte_at.true in
     let digit = c.digit_at-then-byte_at.ensures c.if-digit_at-2.true in
-    let positive : is_positive (first ∷ last ∷ []) ≡ true = grind (arith, nat_tests, low, high, digit.low, digit.high) in
+    let positive : is_positive (first ∷ last ∷ []) ≡ true =
+    grind (arith, nat_tests, low, high, digit.low, digit.high) in
     number_right (Between (pos c.args.least) (pos most)) text (first ∷ last ∷ []) at (at + 3)
     (digits_number c.args.least most c.args.digits (first ∷ last ∷ []) positive c.requires.digits room small
     c.requires.least)
@@ -44,6 +46,7 @@ returns-clause-right c found most room small =
     let digits = take len (drop at text) in
     number_right (Between (pos c.args.least) (pos most)) text digits at (at + len + 1)
     (digits_number c.args.least most c.args.digits digits (run.number (omega arith))
-    (omega (arith, run.short, length-take-le len (drop at text) (omega (arith, run.within, length-drop at text)))) room small c.requires.least)
+    (omega (arith, run.short, length-take-le len (drop at text) (omega (arith, run.within, length-drop at text)))) room
+    small c.requires.least)
     (sym (take-append-drop len (drop at text)) ∙ ap (λ l. digits ++ l) (drop-drop len at text
     ∙ byte_then text (drop (at + len + 1) text) (at + len) 58 c.if-end-text.false c.if-text-end-ne58.false refl))

@@ -23,7 +23,8 @@ long : (n : ℕ) (xs : List ℕ) → 0 < n → n ≤ length xs → 0 < length (t
 long n xs h k = omega (arith, h, k, length-take n xs)
 
 pub loop-rest-init : goal.loop-rest-init
-loop-rest-init g c = ([], refl, λ t at. gone_nothing g.met.F.Front.joins c.empty_piece_is_nothing.ensures t _ _ at, Keeps-refl _)
+loop-rest-init g c =
+    ([], refl, λ t at. gone_nothing g.met.F.Front.joins c.empty_piece_is_nothing.ensures t _ _ at, Keeps-refl _)
 
 pub returns-in_err-hear_line-in-Some-clause-talked : goal.returns-in_err-hear_line-in-Some-clause-talked
 returns-in_err-hear_line-in-Some-clause-talked g c =
@@ -43,7 +44,8 @@ returns-in_err-hear_line-in-Some-clause-talked g c =
     let shown = subst (λ x. Shows c.read-heard.new.self c.read-heard.result (option_map taken_of x)) c.in-Some.is
     (c.got-got.ensures.shows c.read-heard.ensures.keeps) in
     let fed : FeedAnswers c.loop-rest.client rest used (Some k) = c.read-heard.ensures.answers (Some k) shown in
-    broke_at g.met.F.Front.joins c.pieces_join.ensures c.lines_only_grow.ensures t c.read-heard.new.self i.0 (take used rest)
+    broke_at g.met.F.Front.joins c.pieces_join.ensures c.lines_only_grow.ensures t c.read-heard.new.self i.0
+    (take used rest)
     (drop used rest) c.args.portion.now (taken_act k ∷ []) _ _ _
     (front_more c.args.portion.now i.0 rest used i.1)
     (sym (piece_online t i.0) ∙ taken_online c.loop-rest.client rest used k fed u gone.stands) gone.did
@@ -112,7 +114,8 @@ loop-rest-preserved g c =
           let gone = i.2 t at in
           let u = (step t (Piece i.0)).talk in
           rw c.got-got.ensures.used
-          (gone_more g.met.F.Front.joins c.pieces_join.ensures c.lines_only_grow.ensures t c.read-heard.new.self i.0 (take h rest)
+          (gone_more g.met.F.Front.joins c.pieces_join.ensures c.lines_only_grow.ensures t c.read-heard.new.self i.0
+          (take h rest)
           (taken_acts taken) _ before now gone.did
           (c.read-heard.ensures.does.stands u gone.stands)
           (acts_taken c.loop-rest.client rest h taken fed u gone.stands) did),

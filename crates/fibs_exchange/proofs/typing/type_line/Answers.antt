@@ -20,7 +20,8 @@ returns-in_ok-tell-in-Told-clause-did g c = λ t at players.
 pub returns-in_err-send_command-in-Sent-clause-did : goal.returns-in_err-send_command-in-Sent-clause-did
 returns-in_err-send_command-in-Sent-clause-did g c =
     at_stream c.from_residual-in_err-send_command-in-Sent.result _ c.from_residual-in_err-send_command-in-Sent.ensures.1
-    (λ t at players. did_unsent g.met.F.Front.joins t (typed_now t c.args.text.now) (text_of c.in-Sent.command) _ _ _ players
+    (λ t at players. did_unsent g.met.F.Front.joins t (typed_now t c.args.text.now)
+    (text_of c.in-Sent.command) _ _ _ players
     (c.in-Sent.ensures.act t at)
     c.in_err-send_command-in-Sent.ensures.wrote)
 

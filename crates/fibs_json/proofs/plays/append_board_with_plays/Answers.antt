@@ -26,7 +26,8 @@ returns c =
     let fourth = c.in_ok-append_plays.ensures
     ∙ ap (λ d. c.append_position.new.text.items ++ plays_member d (map hops_of c.as_slice.result.now))
     (c.direction.ensures ∙ ap (λ (q : PositionValue). q.direction) same)
-    ∙ ap (λ l. c.append_position.new.text.items ++ plays_member p.direction (map hops_of l)) c.as_slice.ensures.value in (
+    ∙ ap (λ l. c.append_position.new.text.items ++ plays_member p.direction (map hops_of l))
+    c.as_slice.ensures.value in (
       object_with (codes "board") bytes (more_members members ++ plays_member p.direction plays),
       (
         placed.0,

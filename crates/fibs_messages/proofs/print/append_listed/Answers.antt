@@ -10,5 +10,6 @@ pub returns-in-WhoInfo-clause-put : goal.returns-in-WhoInfo-clause-put
 returns-in-WhoInfo-clause-put c =
     let P : List FieldValue → Type 0 =
     λ vs. OnOk c.append_who_info.result
-    (c.append_who_info.new.out.items ≡ c.args.out.now.items ++ (decimal c.args.number ++ flat_map canonical_field vs)) in
+    (c.append_who_info.new.out.items ≡ c.args.out.now.items
+    ++ (decimal c.args.number ++ flat_map canonical_field vs)) in
     subst P (ap listed (sym c.in-WhoInfo.is)) c.append_who_info.ensures.put

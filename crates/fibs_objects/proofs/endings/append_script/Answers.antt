@@ -10,7 +10,8 @@ pub returns : goal.returns
 returns c =
     let old = c.args.text.now.items in
     let line : List ℕ = codes "script " ++ decimal c.args.number in
-    let is : c.without_end.result.now ≡ line = c.without_end.ensures line (c.as_slice.ensures.value ∙ c.unread_line.ensures) in
+    let is : c.without_end.result.now ≡ line = c.without_end.ensures line
+    (c.as_slice.ensures.value ∙ c.unread_line.ensures) in
     let number : Member = member (codes "number") (whole c.args.number) in
     let one = c.append_front.new.text.items in
     let two = c.append_member.new.text.items in

@@ -13,5 +13,6 @@ loop-entry-preserved c =
 
 pub returns : goal.returns
 returns c =
-    shown_all c.args.log.now c.loop-entry.entry-index c.args.text.now.items c.loop-entry.text.items (omega (arith, c.loop-entry-test.false))
+    shown_all c.args.log.now c.loop-entry.entry-index c.args.text.now.items c.loop-entry.text.items
+    (omega (arith, c.loop-entry-test.false))
     c.loop-entry.invariant

@@ -5,7 +5,8 @@ use Rattle.fibs_records.proofs.wire.append.Goals as goal
 
 pub returns-clause-appended : goal.returns-clause-appended
 returns-clause-appended c =
-    append_bytes c.args.wire.now.len (1542 - c.args.wire.now.len) c.args.wire.now.bytes c.put-written.new.room c.args.bytes.now
+    append_bytes c.args.wire.now.len (1542 - c.args.wire.now.len) c.args.wire.now.bytes c.put-written.new.room
+    c.args.bytes.now
     c.put-written.result (search rules) (search rules) c.put-written.ensures.bytes
 
 pub returns-clause-rest : goal.returns-clause-rest

@@ -6,4 +6,5 @@ use Rattle.fibs_replay_tests.proofs.example.send_all.Given as goal
 -- what is still to be written comes after what was written
 abbrev pub invariant-loop-command : goal.invariant-loop-command
 invariant-loop-command l =
-    l.wire.items ++ wire_of (texts_of (drop l.command-index l.commands)) ≡ l.fn.wire.items ++ wire_of (texts_of l.commands)
+    l.wire.items ++ wire_of (texts_of (drop l.command-index l.commands))
+    ≡ l.fn.wire.items ++ wire_of (texts_of l.commands)

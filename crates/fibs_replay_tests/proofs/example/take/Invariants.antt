@@ -5,7 +5,8 @@ use Rattle.fibs_replay_tests.proofs.example.take.Given as goal
 
 -- some bytes are done
 abbrev pub invariant-loop-rest : goal.invariant-loop-rest
-invariant-loop-rest l = (done : List ℕ) × (l.fn.piece ≡ done ++ l.rest) × Writes l.fn.client l.client (Piece done) l.fn.wire.items l.wire.items
+invariant-loop-rest l = (done : List ℕ) × (l.fn.piece ≡ done ++ l.rest)
+    × Writes l.fn.client l.client (Piece done) l.fn.wire.items l.wire.items
 
 abbrev pub decreases-loop-rest : goal.decreases-loop-rest
 decreases-loop-rest l = length l.rest

@@ -28,7 +28,8 @@ loop-place-preserved t c =
     elim c.if-may_go.branch [
       | then-may_go+in_ok-visit w ↦
           let goes : one_of c.args.p.now (c.loop-place.place + 1) die ≡ Some w.moved-next.result =
-          w.if-may_go.ensures.goes ∙ ap Some (sym (w.moved-next.ensures ∙ ap (moved c.args.p.now (c.loop-place.place + 1)) w.saturating_sub.ensures)) in
+          w.if-may_go.ensures.goes ∙ ap Some (sym (w.moved-next.ensures
+          ∙ ap (moved c.args.p.now (c.loop-place.place + 1)) w.saturating_sub.ensures)) in
           rw w.kept-is
           (visited kept (kept_in c.loop-place.kept) (kept_in w.visit.new.kept) c.args.p.now
           w.moved-next.result die c.args.dice.now play

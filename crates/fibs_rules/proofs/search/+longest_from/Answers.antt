@@ -13,7 +13,8 @@ loop-place-preserved t c =
     elim c.if-may_go.branch [
       | then-may_go w ↦
           let goes : one_of p (c.loop-place.place + 1) (get_or dice 0 0) ≡ Some w.moved-next.result =
-          w.if-may_go.ensures.goes ∙ ap Some (sym (w.moved-next.ensures ∙ ap (moved p (c.loop-place.place + 1)) w.saturating_sub.ensures)) in
+          w.if-may_go.ensures.goes ∙ ap Some (sym (w.moved-next.ensures
+          ∙ ap (moved p (c.loop-place.place + 1)) w.saturating_sub.ensures)) in
           let (best, short) =
           best_taken p w.moved-next.result (get_or dice 0 0) dice c.loop-place.place c.loop-place.best
           w.longest_from.result w.next_top.result c.loop-place.invariant.best c.loop-place.invariant.short some

@@ -20,5 +20,6 @@ returns-in_ok-_lost-in-Err-send_command-clause-loses g c = λ away. record {
   mid = _;
   ending = c.in_ok-_lost-in-Err-send_command._lost;
   told = c.in_ok-tell.ensures;
-  ended = λ t at. c.in_ok-_lost-in-Err-send_command.ensures.ended Broken (step t Open).talk (c.open.ensures.does.stands t at);
+  ended = λ t at. c.in_ok-_lost-in-Err-send_command.ensures.ended Broken (step t Open).talk
+      (c.open.ensures.does.stands t at);
 }

@@ -18,7 +18,8 @@ returns-clause-name c =
 pub returns-clause-valid : goal.returns-clause-valid
 returns-clause-valid c =
     ap is_name
-    (sym (run_is_split is_name_byte c.args.text.now c.args.byte c.name_run-len.result c.name_run-len.ensures (omega arith)
+    (sym (run_is_split is_name_byte c.args.text.now c.args.byte c.name_run-len.result c.name_run-len.ensures
+    (omega arith)
     c.if-text-len.false (sym c.is_name_byte.ensures ∙ c.if-is_name_byte.false)).0)
     ∙ front_is_name c.args.text.now c.name_run-len.result c.name_run-len.ensures (omega arith) c.if-len-gt64.false
 

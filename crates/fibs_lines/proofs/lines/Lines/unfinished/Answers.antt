@@ -14,7 +14,8 @@ returns c = λ s stands.
     sym c.self.view_is ∙ value_where_not_lent u c.self.inside.lent c.if-self.false in
     take_at_limit kept_limit c.min.result c.as_slice-front.result.now c.min.ensures
     ∙ ap (take kept_limit) c.as_slice-front.ensures
-    ∙ bytes_of_front (kept u) s (KeptAfter-from_stands (lines_value u false) s (subst (λ v. StandsAfter v s) now stands))
+    ∙ bytes_of_front (kept u) s (KeptAfter-from_stands (lines_value u false) s
+    (subst (λ v. StandsAfter v s) now stands))
 
 pub returns-then-self : goal.returns-then-self
 returns-then-self c = λ s stands.

@@ -12,5 +12,6 @@ returns-clause-carries g c =
     (subst (λ xs. g.C.Carrier.carries c.args.carrier.now (crossed ToServer xs ∷ []) c.cross.new.self)
     (kept_cross c.args.links.now c.args.conn c.index-links-conn.result c.requires.some c.requires.known
     c.index-links-conn.is c.args.kept c.next.result.now
-    (c.next.ensures ∙ ap (λ (l : Link). take c.args.kept l.to_server.items) (sym c.index-links-conn.is))) c.in_ok-cross.ensures.carries)
+    (c.next.ensures ∙ ap (λ (l : Link). take c.args.kept l.to_server.items) (sym c.index-links-conn.is)))
+    c.in_ok-cross.ensures.carries)
     c.close.ensures.carries

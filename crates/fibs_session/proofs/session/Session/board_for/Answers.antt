@@ -67,7 +67,8 @@ returns-in-Ok-clause-refusal c =
     sym (answers (session_of s) (game_of shown) d
     (ready s c.in-Some.flags shown c.if-not-self.false c.if-not-self-2.false c.in-Some.is c.if-flags.false
     c.if-flags-2.false c.in-Some-shown.is)
-    (same_some ask_of s.waiting ∙ sym c.if-is_some.ensures) ∙ said (game_of shown) _ d None c.position.ensures c.in-Ok.ensures.value)
+    (same_some ask_of s.waiting ∙ sym c.if-is_some.ensures)
+    ∙ said (game_of shown) _ d None c.position.ensures c.in-Ok.ensures.value)
 
 pub returns-in-Err-clause-refusal : goal.returns-in-Err-clause-refusal
 returns-in-Err-clause-refusal c =
@@ -77,7 +78,8 @@ returns-in-Err-clause-refusal c =
     ap Some c.refusal_of.ensures ∙ sym (answers (session_of s) (game_of shown) d
     (ready s c.in-Some.flags shown c.if-not-self.false c.if-not-self-2.false c.in-Some.is c.if-flags.false
     c.if-flags-2.false c.in-Some-shown.is)
-    (same_some ask_of s.waiting ∙ sym c.if-is_some.ensures) ∙ said (game_of shown) _ d (Some c.in-Err.why) c.position.ensures c.in-Err.ensures.value)
+    (same_some ask_of s.waiting ∙ sym c.if-is_some.ensures)
+    ∙ said (game_of shown) _ d (Some c.in-Err.why) c.position.ensures c.in-Err.ensures.value)
 
 pub returns-then-is_some-clause-refusal : goal.returns-then-is_some-clause-refusal
 returns-then-is_some-clause-refusal c =
