@@ -222,8 +222,8 @@ impl Situation {
             && self.opponent.as_slice() != report.name
     }
 
-    /// Whether a text says that it is the user's turn, of the board on which the decision was made that was sent: it was
-    /// on its way then.
+    /// Whether a text says that it is the user's turn, of the board on which the decision was made that was sent: it
+    /// was on its way then.
     fn is_of_old_board(&self, told: Told) -> bool {
         self.standing == Standing::Asked && self.turn == Some(told)
     }
@@ -342,9 +342,9 @@ impl Situation {
         self.note_left(game.phase());
     }
 
-    /// Takes note of an offer of which nothing is known any more. The opponent may wait for the answer to his if a board
-    /// shows that he has the turn, or gives it to the user before the dice; he may still have the user's while that has
-    /// the turn. Else the board says what is to be done.
+    /// Takes note of an offer of which nothing is known any more. The opponent may wait for the answer to his if a
+    /// board shows that he has the turn, or gives it to the user before the dice; he may still have the user's while
+    /// that has the turn. Else the board says what is to be done.
     fn note_left(&mut self, phase: Phase) {
         let (left, unsure) = match (self.left, phase) {
             (Left::Theirs, Phase::OpponentActs | Phase::RollOrDouble) => (
@@ -361,7 +361,8 @@ impl Situation {
         }
     }
 
-    /// Takes note of a turn that a board gives away below an offer to resign: the user did not have it, and has no dice.
+    /// Takes note of a turn that a board gives away below an offer to resign: the user did not have it, and has no
+    /// dice.
     fn note_given_turn(&mut self) {
         self.standing = match (self.standing, self.turn) {
             (Standing::Resigned | Standing::Owed, Some(Told::ToRoll)) if !self.is_due =>
@@ -371,8 +372,8 @@ impl Situation {
         };
     }
 
-    /// Takes note of the turn that a board shows, if no decision waits that was made before it. A board that may show an
-    /// offer to resign gives the turn away: then the user's dice alone say that the turn is his.
+    /// Takes note of the turn that a board shows, if no decision waits that was made before it. A board that may show
+    /// an offer to resign gives the turn away: then the user's dice alone say that the turn is his.
     fn note_due(&mut self) {
         let has_offer = self.standing.owes_answer() || self.standing == Standing::Answered;
         let is_hidden = has_offer && self.turn != Some(Told::ToMove);

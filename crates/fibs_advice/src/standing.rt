@@ -29,7 +29,8 @@ pub enum Standing {
     Doubled,
     /// The opponent offers to resign.
     Resigned,
-    /// The opponent offers to resign, and the board gives the user a turn that he did not have: so it may show the offer.
+    /// The opponent offers to resign, and the board gives the user a turn that he did not have: so it may show the
+    /// offer.
     Conceded,
     /// The opponent has made an offer that no board shows: a double, or one that no text has named.
     Owed,

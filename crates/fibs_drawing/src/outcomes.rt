@@ -140,8 +140,8 @@ fn append_winner(
     }
 }
 
-/// Appends how the game of a board has ended, by the board that was shown before it. The board says that it is over. The
-/// score has a row of its own if the names are long.
+/// Appends how the game of a board has ended, by the board that was shown before it. The board says that it is over.
+/// The score has a row of its own if the names are long.
 pub fn append_outcome(
     before: Option<&Board>,
     board: &Board,

@@ -5,8 +5,8 @@ use unicode_width::UnicodeWidthChar;
 
 const HEX_DIGITS: [u8; 16] = *b"0123456789abcdef";
 
-/// The blocks of Unicode beyond letters that a terminal shows: the signs of Latin-1, dashes and quotation marks, signs of
-/// currencies, arrows and mathematics, symbols, and pictures. Controls, spaces and marks of direction are in none.
+/// The blocks of Unicode beyond letters that a terminal shows: the signs of Latin-1, dashes and quotation marks, signs
+/// of currencies, arrows and mathematics, symbols, and pictures. Controls, spaces and marks of direction are in none.
 const SIGNS: [(char, char); 7] = [
     ('\u{a1}', '\u{ac}'),
     ('\u{ae}', '\u{bf}'),
@@ -69,9 +69,9 @@ fn append_text(said: &str, text: &mut Vec<u8>) -> Result<(), AllocError> {
     Ok(())
 }
 
-/// Appends bytes of a server: printable ASCII as it is, and letters, if the terminal has them; any other byte as `\x` and
-/// two hexadecimal digits. A letter is written in UTF-8; a byte that begins none is one of Latin-1 (ISO 8859-1), as many
-/// clients write it.
+/// Appends bytes of a server: printable ASCII as it is, and letters, if the terminal has them; any other byte as `\x`
+/// and two hexadecimal digits. A letter is written in UTF-8; a byte that begins none is one of Latin-1 (ISO 8859-1), as
+/// many clients write it.
 pub fn append_shown(bytes: &[u8], letters: bool, text: &mut Vec<u8>) -> Result<(), AllocError> {
     if !letters {
         return append_bytes(bytes, text);

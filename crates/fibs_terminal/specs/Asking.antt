@@ -9,7 +9,8 @@ use Rattle.fibs_front.specs.declared.wish.Wish.TheVariants.{Send}
 
 -- an empty line asks to hear the server; a line that is too long is reported as such
 abbrev pub AsksInBounds : List ℕ → WishValue → Type 0
-AsksInBounds line wish = (line ≡ [] → wish ≡ takes_turn None) × (nat_lt typed_limit (length line) ≡ true → wish ≡ is_too_long)
+AsksInBounds line wish = (line ≡ [] → wish ≡ takes_turn None)
+    × (nat_lt typed_limit (length line) ≡ true → wish ≡ is_too_long)
 
 -- what the client knows is never respelled: a decision, a line to people, an order
 abbrev pub KnownStays : {E : Type 0} → ClientValue → List ℕ → List ℕ → Result Wish E → Type 0

@@ -27,7 +27,8 @@ const POINTS_COLUMNS: usize = 8;
 
 const IDLE_COLUMNS: usize = 6;
 
-/// The lowest ratings of four, three and two digits before the point, in hundredths: a lower one is a column to the right.
+/// The lowest ratings of four, three and two digits before the point, in hundredths: a lower one is a column to the
+/// right.
 const LEAST_RATINGS: [u32; 3] = [100_000, 10_000, 1_000];
 
 /// How many bytes of the words that ask for a list are said again: with the rest the row fits.
@@ -262,7 +263,8 @@ fn append_order(own: Option<u32>, text: &mut Vec<u8>) -> Result<(), AllocError> 
 /// Appends a row for each player who is asked for, at most a screen of them unless all are, and how many there are.
 /// Those whose rating is nearest to the user's own, in hundredths, come first; if that is not known, the best.
 ///
-/// The words are `ready` (and plays with nobody), `playing`, `all`, and how names begin; without a word it is everybody.
+/// The words are `ready` (and plays with nobody), `playing`, `all`, and how names begin; without a word it is
+/// everybody.
 ///
 /// Errors: if memory runs out.
 pub fn append_players(

@@ -54,7 +54,8 @@ static SERVER_WORDS: [&[u8]; 48] = [
     b"whois",
 ];
 
-/// Their first words that a terminal sends as they are typed: to watch others, to leave a match, to say that one is away.
+/// Their first words that a terminal sends as they are typed: to watch others, to leave a match, to say that one is
+/// away.
 static PASSED_WORDS: [&[u8]; 8] = [
     b"away",
     b"back",
