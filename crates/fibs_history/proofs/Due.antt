@@ -17,14 +17,17 @@ use Rattle.fibs_history.specs.Orders.{is_to_roll, is_due, DueOrders}
 use Rattle.fibs_history.specs.Words.{is_ordered, is_given, orders_by, last, answer}
 use Rattle.fibs_history.proofs.Lists.{and_left, and_right, and_both, map_no_more}
 
+-- the one phase before the roll is RollOrDouble
 roll_of : (p : Phase) → is_to_roll p ≡ true → p ≡ RollOrDouble
 roll_of RollOrDouble h = refl
 roll_of p h = absurd (true≢false (sym h))
 
+-- a refusal that is found to be none is None
 none_of : (o : Option Refusal) → is_none o ≡ true → o ≡ None
 none_of None h = refl
 none_of (Some why) h = absurd (true≢false (sym h))
 
+-- an order is due exactly if the four facts of `Due` hold
 pub due_orders : DueOrders
 unfolding is_due
 due_orders c log b = (

@@ -18,17 +18,21 @@ use Rattle.fibs_history.proofs.Past.{open_append}
 
 -- no line opens or ends a connection
 
+-- an answer opens no connection and ends none
 abbrev OpensNone : Heard → Type 0
 OpensNone h = (flat_map opened_by h.entries ≡ []) × ((o : ℕ) → open_from o h.entries ≡ o)
 
+-- a choice of two answers opens and ends no connection if neither does
 if_opens_none : (b : Bool) (g h : Heard) → OpensNone g → OpensNone h → OpensNone (if b then g else h)
 if_opens_none true g h p q = p
 if_opens_none false g h p q = q
 
+-- a board that is shown opens and ends no connection, with or without a roll
 shows_opens_none : (c : ℕ) (log : List Entry) (b : BoardFields) (rolls : Bool) → OpensNone (shows_board c log b rolls)
 shows_opens_none c log b true = (refl, λ o. refl)
 shows_opens_none c log b false = (refl, λ o. refl)
 
+-- no line of the server opens or ends a connection
 pub lines_open_none : LinesOpenNoConnection
 lines_open_none c log (numbered_line m) =
     if_opens_none (nat_eq m.number 1)
@@ -38,20 +42,24 @@ lines_open_none c log (board_line b) = if_opens_none (good b)
 lines_open_none c log (text_line text) = (refl, λ o. refl)
 lines_open_none c log (malformed_line number k f) = (refl, λ o. refl)
 
+-- the open connection is the same after one line
 pub hears_open : (t : Talk) (r : ReadingValue) → open_now (t.log ++ (heard_by t r).entries) ≡ open_now t.log
 hears_open t r =
     open_append 0 t.log (heard_by t r).entries ∙ (lines_open_none (open_now t.log) t.log r).1 (open_now t.log)
 
+-- the open connection is the same after many lines
 all_open : (t : Talk) (ls : List ReadLine) → open_now (hears_all t ls).talk.log ≡ open_now t.log
 unfolding hears_all
 all_open t [] = refl
 all_open t (l ∷ ls) = all_open (hears t (heard_by t (line_reading l))).talk ls ∙ hears_open t (line_reading l)
 
+-- hearing lines leaves the bytes of the connection as they are
 all_stream : (t : Talk) (ls : List ReadLine) → (hears_all t ls).talk.stream ≡ t.stream
 unfolding hears_all
 all_stream t [] = refl
 all_stream t (l ∷ ls) = all_stream (hears t (heard_by t (line_reading l))).talk ls
 
+-- lines in two parts are heard as all of them at once
 all_append : (t : Talk) (ls ms : List ReadLine)
     → hears_all t (ls ++ ms) ≡ then_also (hears_all t ls).send (hears_all (hears_all t ls).talk ms)
 unfolding hears_all
@@ -69,12 +77,14 @@ all_append t (l ∷ ls) ms =
 abbrev step_with : Step → List ℕ → Step
 step_with s q = record { talk = with_bytes s.talk q; send = s.send }
 
+-- lines are heard in the same way whatever bytes follow them
 all_bytes : (t : Talk) (q : List ℕ) (ls : List ReadLine) → hears_all (with_bytes t q) ls ≡ step_with (hears_all t ls) q
 unfolding hears_all
 all_bytes t q [] = refl
 all_bytes t q (l ∷ ls) = let h = heard_by t (line_reading l) in ap (then_also h.send) (all_bytes (hears t h).talk q ls)
 
 module _ (grow : LinesOnlyGrow) where
+  -- the lines that two pieces give are those of the first and then those of the second
   gained_more : (s p q : List ℕ) → gained s (p ++ q) ≡ gained s p ++ gained (s ++ p) q
   gained_more s p q =
       let a = grow s p in
@@ -87,6 +97,7 @@ module _ (grow : LinesOnlyGrow) where
       ap (drop (length (lines_of s))) whole ∙ drop-append_seam (lines_of s) (a.0 ++ b.0)
       ∙ ap (λ l. l ++ b.0) (sym first) ∙ ap (λ l. gained s p ++ l) (sym second)
 
+  -- a piece in two parts is the first part and then the second
   pub pieces_join : PiecesJoin
   pieces_join t p q = go (is_online t) refl
     where
@@ -119,6 +130,7 @@ module _ (grow : LinesOnlyGrow) where
           the_talk : Talk → List ℕ → Talk
           the_talk t s = record { login = t.login; log = t.log; stream = s; commands = t.commands }
 
+-- an empty piece changes nothing and hands out nothing
 pub empty_piece : EmptyPieceIsNothing
 unfolding hears_all
 empty_piece t = go (is_online t)
@@ -136,6 +148,7 @@ empty_piece t = go (is_online t)
 
 -- lists of inputs
 
+-- one more input is one step from where the inputs before it led
 pub run_more : (t : Talk) (is : List InputValue) (i : InputValue)
     → (run t (is ++ i ∷ [])).talk ≡ (step (run t is).talk i).talk
 unfolding run

@@ -33,18 +33,22 @@ use Rattle.fibs_history.proofs.Due.{due_stands}
 cost : List (List ℕ) → ℕ
 cost texts = length (wire_of texts)
 
+-- two lists of commands cost what both do
 cost_append : (xs ys : List (List ℕ)) → cost (xs ++ ys) ≡ cost xs + cost ys
 unfolding cost
 cost_append xs ys = ap length (flat_map-append on_wire xs ys) ∙ length-append (wire_of xs) (wire_of ys)
 
+-- `set boardstyle 3` with its line end has 18 bytes
 cost_style : cost (style_text ∷ []) ≡ 18
 unfolding cost style_text
 cost_style = refl
 
+-- `roll` with its line end has 6 bytes, whichever way the player goes
 cost_roll : (direction : Direction) → cost (command_of direction roll ∷ []) ≡ 6
 unfolding cost command_of
 cost_roll direction = refl
 
+-- no command costs nothing
 cost_nothing : cost [] ≡ 0
 unfolding cost
 cost_nothing = refl
@@ -79,17 +83,21 @@ takes_plain c log h p q e =
     longer true x l = omega (arith, l)
     longer false x l = l
 
+-- no entry is at most one
 none_fits : 0 ≤ 1
 none_fits = omega (arith)
 
+-- one entry is at most one
 one_fits : 1 ≤ 1
 one_fits = omega (arith)
 
+-- a choice of two answers takes from what is owed if both do
 if_takes : (b : Bool) (c : ℕ) (log : List Entry) (g h : Heard)
     → Takes c log g → Takes c log h → Takes c log (if b then g else h)
 if_takes true c log g h p q = p
 if_takes false c log g h p q = q
 
+-- an answer of nothing takes nothing
 nothing_takes : (c : ℕ) (log : List Entry) → Takes c log nothing_heard
 nothing_takes c log =
     takes_plain c log nothing_heard (omega (arith, cost_nothing, ap (owed_on c) (append-nil log))) none_fits refl
@@ -101,6 +109,7 @@ quiet_owed c log es w i =
     ap (λ l. (if is_empty l then 18 else 0) + (if is_empty (informed c (log ++ es)) then 44 else 0)) w
     ∙ ap (λ l. (if is_empty (welcomed c log) then 18 else 0) + (if is_empty l then 44 else 0)) i
 
+-- the answer to a message 1 takes its 18 bytes, and only at the connection's first
 welcome_takes : (c : ℕ) (log : List Entry) → Takes c log (record {
   entries = Welcomed c ∷ [];
   send = if is_empty (welcomed c log) then style_text ∷ [] else [];
@@ -123,6 +132,7 @@ welcome_takes c log =
     go true x y e = omega (arith, e, cost_style)
     go false x y e = omega (arith, e, cost_nothing)
 
+-- the answer to a message 2 takes its 44 bytes at most, and only at the connection's first
 info_takes : (c : ℕ) (log : List Entry) (m : MessageValue)
     → Takes c log (record {
       entries = Informed c (flags_of m) ∷ [];
@@ -176,6 +186,7 @@ shown_takes c log b true f =
     two true h = omega (arith)
     two false h = absurd (true≢false (sym h))
 
+-- the answer to any line takes from what is owed
 heard_takes : (c : ℕ) (log : List Entry) (r : ReadingValue) → Takes c log (heard c log r)
 heard_takes c log (numbered_line m) =
     if_takes (nat_eq m.number 1) c log
@@ -187,6 +198,7 @@ heard_takes c log (malformed_line number k f) = nothing_takes c log
 
 -- one line, with more to come
 
+-- no line gives or withdraws a standing order
 heard_ordered : (t : Talk) (r : ReadingValue) → ordered_now (hears t (heard_by t r)).talk ≡ ordered_now t
 heard_ordered t r =
     let c = open_now t.log in
@@ -194,6 +206,7 @@ heard_ordered t r =
     ap (λ n. is_ordered n (t.log ++ es)) (hears_open t r)
     ∙ ap (λ l. is_given (last l)) (map_no_more (orders_by c) t.log es (heard_takes c t.log r).same)
 
+-- the bytes that one line hands out are taken from what is owed for it
 one_line : (t : Talk) (r : ReadingValue) (later : ℕ)
     → cost (heard_by t r).send + owed (hears t (heard_by t r)).talk later ≤ owed t (suc later)
 one_line t r later =
@@ -209,6 +222,7 @@ one_line t r later =
     go true false x y y' z l e h = absurd (true≢false (sym h))
     go false true x y y' z l e h = absurd (true≢false h)
 
+-- the entries that one line notes are taken from what is owed for it
 one_entry : (t : Talk) (r : ReadingValue) (later : ℕ)
     → length (hears t (heard_by t r)).talk.log + entries_owed (hears t (heard_by t r)).talk later
     ≤ length t.log + entries_owed t (suc later)
@@ -226,12 +240,15 @@ one_entry t r later =
 
 -- all lines
 
+-- zero added in front changes nothing
 none_more : (n : ℕ) → 0 + n ≡ n
 none_more n = omega (arith)
 
+-- a successor moves out of a sum
 one_more : (m n : ℕ) → suc m + n ≡ suc (m + n)
 one_more m n = omega (arith)
 
+-- the bytes that all lines hand out are taken from what is owed for them
 all_lines : (t : Talk) (ls : List ReadLine) (later : ℕ)
     → cost (hears_all t ls).send + owed (hears_all t ls).talk later ≤ owed t (length ls + later)
 unfolding hears_all
@@ -247,6 +264,7 @@ all_lines t (l ∷ ls) later =
       ap (owed t) (one_more (length ls) later),
     )
 
+-- the entries that all lines note are taken from what is owed for them
 all_entries : (t : Talk) (ls : List ReadLine) (later : ℕ)
     → length (hears_all t ls).talk.log + entries_owed (hears_all t ls).talk later
     ≤ length t.log + entries_owed t (length ls + later)
@@ -263,6 +281,7 @@ all_entries t (l ∷ ls) later =
 
 -- a piece
 
+-- the bytes that a piece hands out are taken from what is owed
 pub takes_from_owed : PiecesTakeFromWhatIsOwed
 unfolding cost
 takes_from_owed t bytes later = go (is_online t)
@@ -274,6 +293,7 @@ takes_from_owed t bytes later = go (is_online t)
     go true = all_lines (with_bytes t bytes) (gained t.stream bytes) later
     go false = omega (arith, ap (owed t) (none_more later))
 
+-- the entries that a piece notes are taken from what is owed
 pub takes_from_entries : PiecesTakeFromTheEntriesOwed
 takes_from_entries t bytes later = go (is_online t)
   where

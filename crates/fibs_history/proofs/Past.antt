@@ -10,6 +10,7 @@ use Rattle.fibs_history.specs.Words.{is_spent, IsLikeness}
 use Rattle.fibs_history.proofs.Lists.{same_number, one_of_true, snoc_not_empty, each_append, each_last}
 use Rattle.fibs_history.proofs.Lists.{map_more, map_no_more}
 
+-- of two histories in a row the second begins with the connection that the first leaves open
 pub open_append : (o : ℕ) (xs ys : List Entry) → open_from o (xs ++ ys) ≡ open_from (open_from o xs) ys
 open_append o [] ys = refl
 open_append o (Opened c ∷ xs) ys = open_append c xs ys
@@ -21,6 +22,7 @@ abbrev pub pick : Bool → Bool → Bool → Bool → Bool
 pick t a s rest = if t && a then s else rest
 
 module _ (like : Board → Board → Bool) (c : ℕ) where
+  -- a history in which no board is shown on a connection has no spent stretch
   pub spent_none : (ys : List Entry) → shown c ys ≡ [] → is_spent like c ys ≡ false
   spent_none [] h = refl
   spent_none (Shown d b ∷ later) h = step (nat_eq d c) h (spent_none later)
@@ -31,6 +33,7 @@ module _ (like : Board → Board → Bool) (c : ℕ) where
       step false h k = k h
   spent_none (e ∷ later) h = spent_none later h
 
+  -- entries that show no board and send nothing leave the stretch as it is
   pub spent_quiet : (xs ys : List Entry)
       → shown c ys ≡ [] → sent c ys ≡ [] → is_spent like c (xs ++ ys) ≡ is_spent like c xs
   spent_quiet [] ys h k = spent_none ys h
@@ -74,9 +77,11 @@ module _ (like : Board → Board → Bool) (c : ℕ) where
   spent_sent (e ∷ later) b m h = spent_sent later b m h
 
 module _ (like : Board → Board → Bool) (law : IsLikeness like) (c : ℕ) where
+  -- the entry of a board that is shown gives that board
   one_shown : (b : Board) → shown c (Shown c b ∷ []) ≡ b ∷ []
   one_shown b = ap (λ l. l ++ []) (one_of_true (nat_eq c c) b (same_number c))
 
+  -- one more entry of a board puts it after those shown before
   pub shown_more : (xs : List Entry) (b : Board) → shown c (xs ++ Shown c b ∷ []) ≡ shown c xs ++ b ∷ []
   shown_more xs b = map_more (shown_by c) xs (Shown c b ∷ []) (b ∷ []) (one_shown b)
 
@@ -164,9 +169,11 @@ module _ (like : Board → Board → Bool) (law : IsLikeness like) (c : ℕ) whe
   spent_other (e ∷ later) v b h k = spent_other later v b h k
 
 module _ (c : ℕ) where
+  -- the entry of a decision that is sent gives it with its board
   one_sent : (b : Board) (m : Decision) → sent c (Sent c b m ∷ []) ≡ (b, m) ∷ []
   one_sent b m = ap (λ l. l ++ []) (one_of_true (nat_eq c c) (b, m) (same_number c))
 
+  -- one more entry of a decision puts it after those sent before
   pub sent_more : (xs : List Entry) (b : Board) (m : Decision)
       → sent c (xs ++ Sent c b m ∷ []) ≡ sent c xs ++ (b, m) ∷ []
   sent_more xs b m = map_more (sent_by c) xs (Sent c b m ∷ []) ((b, m) ∷ []) (one_sent b m)

@@ -16,38 +16,47 @@ use Rattle.fibs_history.proofs.Lists.{other_number, one_of_true, one_of_false, s
 use Rattle.fibs_history.proofs.Lists.{map_no_more}
 use Rattle.fibs_history.proofs.Past.{open_append, spent_quiet, spent_none, spent_has_sent}
 
+-- what is noted of one connection gives nothing for another
 pub other : {A : Type 0} (c d : ℕ) (x : A) → (c ≡ d → ⊥) → one_if (nat_eq c d) x ++ [] ≡ []
 other c d x h = ap (λ l. l ++ []) (one_of_false (nat_eq c d) x (other_number c d h))
 
+-- what is noted of a connection gives it for that connection
 pub own : {A : Type 0} (c : ℕ) (x : A) → one_if (nat_eq c c) x ++ [] ≡ x ∷ []
 own c x = ap (λ l. l ++ []) (one_of_true (nat_eq c c) x (same_number c))
 
 -- entries of a connection are quiet on all others
 
+-- a message 1 of one connection says nothing of another
 pub quiet_welcomed : (c d : ℕ) → (c ≡ d → ⊥) → Quiet d (Welcomed c ∷ [])
 quiet_welcomed c d h =
     record { no_welcome = other c d c h; no_flags = refl; no_board = refl; no_sent = refl; no_order = refl }
 
+-- a message 2 of one connection says nothing of another
 pub quiet_informed : (c d : ℕ) (f : Flags) → (c ≡ d → ⊥) → Quiet d (Informed c f ∷ [])
 quiet_informed c d f h =
     record { no_welcome = refl; no_flags = other c d f h; no_board = refl; no_sent = refl; no_order = refl }
 
+-- a board of one connection says nothing of another
 pub quiet_shown : (c d : ℕ) (b : Board) → (c ≡ d → ⊥) → Quiet d (Shown c b ∷ [])
 quiet_shown c d b h =
     record { no_welcome = refl; no_flags = refl; no_board = other c d b h; no_sent = refl; no_order = refl }
 
+-- a decision sent on one connection says nothing of another
 pub quiet_sent : (c d : ℕ) (b : Board) (m : Decision) → (c ≡ d → ⊥) → Quiet d (Sent c b m ∷ [])
 quiet_sent c d b m h =
     record { no_welcome = refl; no_flags = refl; no_board = refl; no_sent = other c d (b, m) h; no_order = refl }
 
+-- a standing order of one connection says nothing of another
 pub quiet_ordered : (c d : ℕ) → (c ≡ d → ⊥) → Quiet d (Ordered c ∷ [])
 quiet_ordered c d h =
     record { no_welcome = refl; no_flags = refl; no_board = refl; no_sent = refl; no_order = other c d true h }
 
+-- the end of an order on one connection says nothing of another
 pub quiet_withdrawn : (c d : ℕ) → (c ≡ d → ⊥) → Quiet d (Withdrawn c ∷ [])
 quiet_withdrawn c d h =
     record { no_welcome = refl; no_flags = refl; no_board = refl; no_sent = refl; no_order = other c d false h }
 
+-- if two histories say nothing of a connection, neither do both in a row
 pub quiet_both : (c : ℕ) (xs ys : List Entry) → Quiet c xs → Quiet c ys → Quiet c (xs ++ ys)
 quiet_both c xs ys h k = record {
   no_welcome = map_no_more (welcomed_by c) xs ys k.no_welcome ∙ h.no_welcome;
@@ -121,9 +130,11 @@ unconfirmed_quiet c log es h k =
     ap (λ z. if z then last (sent c (log ++ es)) else None) s
     ∙ ap (λ l. if is_spent same_game c log then last l else None) m
 
+-- on a connection on which no board was shown nothing is unconfirmed
 pub unconfirmed_none : (c : ℕ) (log : List Entry) → shown c log ≡ [] → unconfirmed same_game c log ≡ None
 unconfirmed_none c log h = rw (spent_none same_game c log h) refl
 
+-- a list has a last element exactly if it is not empty
 pub some_last : {A : Type 0} (xs : List A) → is_some (last xs) ≡ not (is_empty xs)
 some_last [] = refl
 some_last (x ∷ []) = refl
@@ -137,6 +148,7 @@ some_spent c log = go (is_spent same_game c log) (spent_has_sent same_game c log
     go true f = some_last (sent c log) ∙ ap not (f refl)
     go false f = refl
 
+-- a list without a last element is empty
 pub none_last : {A : Type 0} (xs : List A) → last xs ≡ None → xs ≡ []
 none_last [] h = refl
 none_last (x ∷ xs) h = absurd (go x xs h)
@@ -154,6 +166,7 @@ pub record Yes (like : Board → Board → Bool) (allows : Board → Decision �
   pub is_last : last (shown (open_now log) log) ≡ Some on
   pub allowed : allows on d ≡ None
 
+-- a click that nothing refuses met each condition of a yes
 pub yes : (like : Board → Board → Bool) (allows : Board → Decision → Option Refusal) (log : List Entry) (d : Decision)
     → answer like allows log d ≡ None → Yes like allows log d
 yes like allows log d h =

@@ -62,6 +62,7 @@ module _ (r : Result ⊤ TurnFault) where
       go (Err Stream) Output k q = absurd cc
       go (Err Output) x k q = tt
 
+  -- what holds after a line that could not be printed holds of a fault of the output that is handed on
   pub unprinted_on : (P Now : Type 0) (e : TurnFault) → IsErrAnd r (λ y. y ≡ e)
       → (P → Now) → IfUnprinted (Err e) P → IfUnprinted r Now
   unprinted_on P Now e h more p = go r e h p

@@ -21,11 +21,13 @@ use Rattle.fibs_exchange.specs.Turns.Turn.{EndsALine}
 
 -- ---- no line opens or loses a connection
 
+-- the open connection is the same after many lines
 all_open : (t : Talk) (ls : List ReadLine) → open_now (hears_all t ls).talk.log ≡ open_now t.log
 unfolding hears_all
 all_open t [] = refl
 all_open t (l ∷ ls) = all_open (hears t (heard_by t (line_reading l))).talk ls ∙ hears_open t (line_reading l)
 
+-- hearing lines leaves the bytes of the connection as they are
 all_stream : (t : Talk) (ls : List ReadLine) → (hears_all t ls).talk.stream ≡ t.stream
 unfolding hears_all
 all_stream t [] = refl
@@ -33,42 +35,52 @@ all_stream t (l ∷ ls) = all_stream (hears t (heard_by t (line_reading l))).tal
 
 -- ---- the history after a piece
 
+-- the history after lines that were heard
 abbrev log_after : List Entry → List ReadLine → List Entry
 log_after log [] = log
 log_after log (l ∷ ls) = log_after (log ++ (heard (open_now log) log (line_reading l)).entries) ls
 
+-- the machine that heard lines has that history
 all_log : (t : Talk) (ls : List ReadLine) → (hears_all t ls).talk.log ≡ log_after t.log ls
 unfolding hears_all
 all_log t [] = refl
 all_log t (l ∷ ls) = all_log (hears t (heard_by t (line_reading l))).talk ls
 
+-- one line alone hands out the commands of its answer
 one_send : (t : Talk) (l : ReadLine) → (hears_all t (l ∷ [])).send ≡ (heard_by t (line_reading l)).send
 unfolding hears_all
 one_send t l = append-nil (heard_by t (line_reading l)).send
 
+-- the acts of lines in two parts are those of the first and then, by the history after it, of the second
 acts_append : (log : List Entry) (ls ms : List ReadLine)
     → line_acts log (ls ++ ms) ≡ line_acts log ls ++ line_acts (log_after log ls) ms
 acts_append log [] ms = refl
 acts_append log (l ∷ ls) ms = ap (λ acts. line_act log l ∷ acts)
     (acts_append (log ++ (heard (open_now log) log (line_reading l)).entries) ls ms)
 
+-- the acts of a piece, if the client is online as said
 abbrev acts_if : Bool → Talk → List ℕ → List Act
 acts_if b t bytes = if b then line_acts t.log (gained t.stream bytes) else []
 
+-- what a piece does, if the client is online as said
 abbrev reads_if : Bool → Talk → List ℕ → Step
 reads_if b t bytes = if b then hears_all (with_bytes t bytes) (gained t.stream bytes) else stays t
 
+-- online a piece calls for the acts of the lines that it gives
 online_acts : (t : Talk) (bytes : List ℕ) → is_online t ≡ true
     → piece_acts t bytes ≡ line_acts t.log (gained t.stream bytes)
 online_acts t bytes on = ap (λ b. acts_if b t bytes) on
 
+-- offline a piece calls for nothing
 offline_acts : (t : Talk) (bytes : List ℕ) → is_online t ≡ false → piece_acts t bytes ≡ []
 offline_acts t bytes off = ap (λ b. acts_if b t bytes) off
 
+-- online the lines that a piece gives are heard
 online_reads : (t : Talk) (bytes : List ℕ) → is_online t ≡ true
     → step t (Piece bytes) ≡ hears_all (with_bytes t bytes) (gained t.stream bytes)
 online_reads t bytes on = ap (λ b. reads_if b t bytes) on
 
+-- offline a piece changes nothing
 offline_reads : (t : Talk) (bytes : List ℕ) → is_online t ≡ false → step t (Piece bytes) ≡ stays t
 offline_reads t bytes off = ap (λ b. reads_if b t bytes) off
 
@@ -100,6 +112,7 @@ no_acts t = go (is_online t) refl
     go false off = offline_acts t [] off
 
 module _ (grow : LinesOnlyGrow) where
+  -- the lines that two pieces give are those of the first and then those of the second
   gained_more : (s p q : List ℕ) → gained s (p ++ q) ≡ gained s p ++ gained (s ++ p) q
   gained_more s p q =
       let a = grow s p in
@@ -178,11 +191,13 @@ abbrev pub taken_acts : Option TakenValue → List Act
 taken_acts None = []
 taken_acts (Some t) = taken_act t ∷ []
 
+-- the bytes that were taken give the line that they end, if they end one
 gained_lines : (s piece : List ℕ) (used : ℕ) (line : Option ReadLine) → Gains s piece used line
     → gained s (take used piece) ≡ in_list line
 gained_lines s piece used line g = ap (drop (length (lines_of s))) g.gains
     ∙ drop-append_seam (lines_of s) (in_list line)
 
+-- what a whole line says, if the client is online as said
 abbrev heard_if : Bool → Talk → ReadLine → Heard
 heard_if b t l = if b then heard_by t (line_reading l) else nothing_heard
 
@@ -205,6 +220,7 @@ one_act old piece used k f t at on =
     ∙ ap (λ s. heard_act k.line (line_reading k.line) s k.confirmed k.rolled) (sym send)
     ∙ ap (λ r. heard_act k.line r k.send k.confirmed k.rolled) (sym f.reading)
 
+-- the bytes that were taken call for the act of what was taken, if it is a line
 pub acts_taken : (old : ClientValue) (piece : List ℕ) (used : ℕ) (taken : Option TakenValue)
     → FeedAnswers old piece used taken → (t : Talk) → StandsAfter old t
     → piece_acts t (take used piece) ≡ taken_acts taken

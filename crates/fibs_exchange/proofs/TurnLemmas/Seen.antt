@@ -19,6 +19,7 @@ viewed view o = outside o.wrote (view o.front) o.players
 module _ {F G : Type 0} {Tells : F → List SaidValue → F → Type 0} {Gains : G → List SaidValue → G → Type 0}
     (view : F → G)
     (seen : (a b : F) (told : List SaidValue) → Tells a told b → Gains (view a) told (view b)) where
+  -- a script that was done was done as seen through the view
   did_seen : (p : Progress) (a b : Outside F) (script : List Act) → Did Tells a b script p
       → Did Gains (viewed view a) (viewed view b) script p
   did_seen p a b script d = record {
@@ -33,10 +34,12 @@ module _ {F G : Type 0} {Tells : F → List SaidValue → F → Type 0} {Gains :
     refused = d.refused;
   }
 
+  -- a turn that has ended has ended as seen through the view
   ended_seen : (p : Progress) (t : Talk) (new : ClientValue) (a b : Outside F) (e : Ending) → Ended Tells p t new a b e
       → Ended Gains p t new (viewed view a) (viewed view b) e
   ended_seen p t new a b e d = record { did = did_seen Whole a b _ d.did; leaves = d.leaves }
 
+  -- a turn that was taken was taken as seen through the view
   pub turned_seen : (t : Talk) (new : ClientValue) (typed left still : Option (List ℕ)) (a b : Outside F) (e : Ending)
       → TurnedBy Tells t new typed left still a b e
       → TurnedBy Gains t new typed left still (viewed view a) (viewed view b) e

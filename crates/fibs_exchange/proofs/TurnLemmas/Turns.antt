@@ -34,14 +34,17 @@ pub record Gone {F : Type 0} (Tells : F → List SaidValue → F → Type 0) (t 
   pub stands : StandsAfter now (step t (Piece bytes)).talk
   pub did : Did Tells a b (piece_acts t bytes) Whole
 
+-- how far a portion was fed is how far a turn took it in
 intake_extent : (p : Progress) (stream fed rest : List ℕ) → Extent p stream fed rest → IntakeExtent p stream fed rest
 intake_extent Whole stream fed rest e = e
 intake_extent Broken stream fed rest e = e.0
 
+-- what holds cannot also fail
 pub never : {b : Bool} {P : Type 0} → b ≡ true → b ≡ false → P
 never {b} {P} p q = absurd cc
 
 module _ {F : Type 0} {Tells : F → List SaidValue → F → Type 0} (joins : Joins Tells) where
+  -- if nothing was read nothing is to be done
   pub gone_nothing : EmptyPieceIsNothing → (t : Talk) (c : ClientValue) (a : Outside F) → StandsAfter c t
       → Gone Tells t c [] a a
   gone_nothing empty t c a at = record {
@@ -56,6 +59,7 @@ module _ {F : Type 0} {Tells : F → List SaidValue → F → Type 0} (joins : J
       record { stands = g.stands; did = did_kept joins Whole a b d (piece_acts t bytes) g.did k rested players }
 
   module _ (join : PiecesJoin) (grow : LinesOnlyGrow) where
+    -- a client that was reached by two pieces is reached by both as one
     two_pieces : (c : ClientValue) (t : Talk) (p q : List ℕ)
         → StandsAfter c (step (step t (Piece p)).talk (Piece q)).talk → StandsAfter c (step t (Piece (p ++ q))).talk
     two_pieces c t p q at = subst (λ s. StandsAfter c s.talk) (sym (join t p q)) at
@@ -269,6 +273,7 @@ module _ {F : Type 0} {Tells : F → List SaidValue → F → Type 0} (joins : J
 
 -- ---- the next turn
 
+-- a client that has lost its connection is offline
 pub loses_offline : (t : Talk) → is_online (step t Lose).talk ≡ false
 loses_offline t = go (is_online t) refl
   where
@@ -279,6 +284,7 @@ loses_offline t = go (is_online t) refl
     go false off = ap (λ b. is_online (if b then does t
         (LostEntry (open_now t.log) (unconfirmed_now t) ∷ []) [] else stays t).talk) off ∙ off
 
+-- a typed line neither opens a connection nor ends one
 after_online : (t : Talk) (typed : Option (List ℕ)) → is_online (talk_after t typed) ≡ is_online t
 after_online t None = refl
 after_online t (Some text) = (typed_stays t (typed_now t text)).online

@@ -30,9 +30,11 @@ pub record Stays (t u : Talk) : Type 0 where
   pub stream : u.stream ≡ t.stream
   pub online : is_online u ≡ is_online t
 
+-- a machine has its own stream and is online as it is
 stays_itself : (t : Talk) → Stays t t
 stays_itself t = record { stream = refl; online = refl }
 
+-- a decision that is sent leaves the stream and the connection
 decides : (t : Talk) (d : DecisionValue) (b : Option BoardFields) → Stays t (decides_on t d b).talk
 decides t d None = stays_itself t
 decides t d (Some b) = record {
@@ -41,6 +43,7 @@ decides t d (Some b) = record {
       (open_append 0 t.log (Clicked (open_now t.log) d None ∷ Sent (open_now t.log) b d ∷ []));
 }
 
+-- a decision that is answered leaves the stream and the connection
 clicks : (t : Talk) (d : DecisionValue) (a : Option Refusal) → Stays t (clicks_by t d a).talk
 clicks t d (Some why) = record {
   stream = refl;
@@ -48,10 +51,12 @@ clicks t d (Some why) = record {
 }
 clicks t d None = decides t d (last (shown (open_now t.log) t.log))
 
+-- a plain command leaves the stream and the connection
 says : (t : Talk) (p : PlainValue) (a : Option PlainRefusal) → Stays t (sends_plain t p a).talk
 says t p (Some why) = stays_itself t
 says t p None = record { stream = refl; online = ap (λ n. not (nat_eq n 0)) (ap open_now (append-nil t.log)) }
 
+-- an order that is noted leaves the stream and the connection, if its entry opens and ends none
 orders : (t : Talk) (e : Entry) (why : Option Refusal) → ((o : ℕ) → open_from o (e ∷ []) ≡ o)
     → Stays t (notes_if t e why).talk
 orders t e (Some why) same = stays_itself t
@@ -60,6 +65,7 @@ orders t e None same = record {
   online = ap (λ n. not (nat_eq n 0)) (open_append 0 t.log (e ∷ []) ∙ same (open_now t.log));
 }
 
+-- whatever is typed leaves the stream and the connection
 pub typed_stays : (t : Talk) (v : TypedValue) → Stays t (typed_step t v).talk
 typed_stays t (typed_decision d) = clicks t d (answer_now t d)
 typed_stays t (typed_plain p) = says t p (plain_refusal t p)
@@ -69,10 +75,12 @@ typed_stays t typed_none = stays_itself t
 
 -- it gives the directory no message
 
+-- the answer to a typed command has no message for the directory
 answer_notes : (why : Option SaidValue) (send : List (List ℕ)) → (answer_act why send).notes ≡ []
 answer_notes None send = refl
 answer_notes (Some said) send = refl
 
+-- the act of a typed line has no message for the directory
 pub typed_notes : (t : Talk) (v : TypedValue) → (typed_act t v).notes ≡ []
 typed_notes t (typed_decision d) = answer_notes _ _
 typed_notes t (typed_plain p) = answer_notes _ _
@@ -89,6 +97,7 @@ no_command why command e = absurd cc
 -- ---- what was done for it
 
 module _ {F : Type 0} {Tells : F → List SaidValue → F → Type 0} (joins : Joins Tells) (t : Talk) (v : TypedValue) where
+  -- the directory is after a typed line as before
   quiet : (players : List MessageValue) → Notes players players (typed_act t v).notes
   quiet players = subst (Notes players players) (sym (typed_notes t v)) (notes_nothing players)
 

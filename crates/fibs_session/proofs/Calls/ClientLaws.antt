@@ -18,14 +18,17 @@ use Rattle.fibs_session.specs.Calls.SessionValue.{SessionValue}
 use Rattle.fibs_session.specs.Calls.Standing.{SessionStandsAfter, ClientValue, StandsAfter}
 use Rattle.fibs_session.specs.Calls.Doing.{SessionDoes, Does}
 
+-- a client that a history reaches has a session that it reaches
 pub session_at : (c : ClientValue) (t : Talk) → StandsAfter c t → SessionStandsAfter c.session t
 unfolding StandsAfter SessionStandsAfter
 session_at c t at = at.1
 
+-- a client that a history reaches keeps the lines of its stream
 pub lines_at : (c : ClientValue) (t : Talk) → StandsAfter c t → LinesStandAfter c.lines t.stream
 unfolding StandsAfter
 lines_at c t at = at.0
 
+-- a client is reached by a history if its lines and its session are
 pub both_at : (c : ClientValue) (t : Talk)
     → LinesStandAfter c.lines t.stream → SessionStandsAfter c.session t → StandsAfter c t
 unfolding StandsAfter SessionStandsAfter
@@ -42,6 +45,7 @@ same_client old new e f = ap (λ l. with_both l new.session) e ∙ ap (λ s. wit
 pub KeepsBytes : InputValue → Type 0
 KeepsBytes i = (t : Talk) → (step t i).talk.stream ≡ t.stream
 
+-- the end of a connection reads no byte
 pub lose_keeps : KeepsBytes Lose
 unfolding KeepsBytes
 lose_keeps t = go (is_online t)
@@ -51,6 +55,7 @@ lose_keeps t = go (is_online t)
     go true = refl
     go false = refl
 
+-- a click reads no byte
 pub click_keeps : (d : DecisionValue) → KeepsBytes (Click d)
 unfolding KeepsBytes
 click_keeps d t = go (answer_now t d)
@@ -63,6 +68,7 @@ click_keeps d t = go (answer_now t d)
     go (Some why) = refl
     go None = board (last (shown (open_now t.log) t.log))
 
+-- a plain command reads no byte
 pub plain_keeps : (p : PlainValue) → KeepsBytes (PlainInput p)
 unfolding KeepsBytes
 plain_keeps p t = go (plain_refusal t p)
@@ -71,18 +77,22 @@ plain_keeps p t = go (plain_refusal t p)
     go (Some why) = refl
     go None = refl
 
+-- an entry that is noted, or refused, leaves the bytes
 notes_keep : (t : Talk) (e : Entry) (a : Option Refusal) → (notes_if t e a).talk.stream ≡ t.stream
 notes_keep t e (Some why) = refl
 notes_keep t e None = refl
 
+-- a standing order reads no byte
 pub order_keeps : KeepsBytes Order
 unfolding KeepsBytes
 order_keeps t = notes_keep t (Ordered (open_now t.log)) (order_refusal t.log)
 
+-- the end of a standing order reads no byte
 pub withdraw_keeps : KeepsBytes Withdraw
 unfolding KeepsBytes
 withdraw_keeps t = notes_keep t (Withdrawn (open_now t.log)) (withdraw_refusal t.log)
 
+-- what a session does with an input that reads no byte, its client does
 pub client_does : (i : InputValue) (old new : ClientValue) (send : List (List ℕ))
     → KeepsBytes i → new.lines ≡ old.lines → SessionDoes old.session new.session i send → Does old new i send
 unfolding KeepsBytes
@@ -94,14 +104,17 @@ client_does i old new send keeps same d = record {
 
 -- Open
 
+-- a connection that may be opened is not open yet
 if_open : (t : Talk) (b : Bool) → (if b then Some AlreadyOpen else None) ≡ None → b ≡ false
 if_open t true h = absurd cc
 if_open t false h = refl
 
+-- a connection that may not be opened is open
 if_not_open : (t : Talk) (b : Bool) (why : Refusal) → (if b then Some AlreadyOpen else None) ≡ Some why → b ≡ true
 if_not_open t true why h = refl
 if_not_open t false why h = absurd cc
 
+-- a client whose lines begin anew, and whose session opens a connection, opens it
 pub opens_new : (old new : ClientValue) (send : List (List ℕ))
     → LinesStandAfter new.lines [] → ((t : Talk) → SessionStandsAfter old.session t → None ≡ open_refusal t)
     → SessionDoes old.session new.session Open send → Does old new Open send
@@ -115,6 +128,7 @@ opens_new old new send empty fits d = record {
   hands = λ t at. d.hands t (session_at old t at);
 }
 
+-- a client whose connection is open stays as it is
 pub opens_not : (old new : ClientValue) (send : List (List ℕ)) (why : Refusal)
     → new.lines ≡ old.lines → ((t : Talk) → SessionStandsAfter old.session t → Some why ≡ open_refusal t)
     → SessionDoes old.session new.session Open send → Does old new Open send

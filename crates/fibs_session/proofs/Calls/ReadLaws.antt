@@ -31,6 +31,7 @@ abbrev answer_rolled : Option Answer → Bool
 answer_rolled None = false
 answer_rolled (Some a) = a.rolled
 
+-- what follows from a test that holds, and from one that fails, follows
 by_cases : {X : Type 0} (b : Bool) → (b ≡ true → X) → (b ≡ false → X) → X
 by_cases true f g = f refl
 by_cases false f g = g refl
@@ -61,6 +62,7 @@ record Hearing (v' : SessionValue) (t : Talk) (line : Option ReadLine) (a : Opti
   pub rolls : answer_rolled a ≡ line_rolls t line
   pub stream : (hears_all t (in_list line)).talk.stream ≡ t.stream
 
+-- a session that answers the line that is taken, if one is, does what the machine does
 hearing : (v v' : SessionValue) (t : Talk) (line : Option ReadLine) (a : Option Answer)
     → AnswersLine v line a v' → SessionStandsAfter v t → is_online t ≡ true → Hearing v' t line a
 unfolding hears_all
@@ -85,32 +87,39 @@ hearing v v' t (Some l) (Some a) h at on =
       stream = refl;
     }
 
+-- a session that answers a line keeps what it answers of that line
 keeps_line : (v v' : SessionValue) (line : Option ReadLine) (a : Option Answer)
     → AnswersLine v line a v' → KeepsLine line a
 keeps_line v v' line None h = tt
 keeps_line v v' None (Some a) h = absurd h
 keeps_line v v' (Some l) (Some a) h = h.1
 
+-- offline a line confirms nothing
 offline_confirms : (t : Talk) (line : Option ReadLine) → is_online t ≡ false → None ≡ line_confirms t line
 offline_confirms t None off = refl
 offline_confirms t (Some l) off =
     sym (ap (λ b. (if b then heard_by t (line_reading l) else nothing_heard).confirmed) off)
 
+-- offline a line makes no roll
 offline_rolls : (t : Talk) (line : Option ReadLine) → is_online t ≡ false → false ≡ line_rolls t line
 offline_rolls t None off = refl
 offline_rolls t (Some l) off =
     sym (ap (λ b. (if b then heard_by t (line_reading l) else nothing_heard).rolled) off)
 
 module _ (old new : ClientValue) (piece : List ℕ) (h : HeardLine) (r : ReadsPiece old new piece h) where
+  -- the bytes that were taken
   abbrev p : List ℕ
   p = take h.used piece
 
+  -- the line that they end, if they end one
   abbrev line : Option ReadLine
   line = new.lines.line
 
+  -- the session knows whether a connection is open
   is_on : (t : Talk) → StandsAfter old t → old.session.online ≡ is_online t
   is_on t at = online_is old.session t (session_at old t at)
 
+  -- online the line that the bytes end is heard
   online_step : (t : Talk)
       → StandsAfter old t → (on : old.session.online ≡ true) → reads t p ≡ hears_all (with_bytes t p) (in_list line)
   online_step t at on =
@@ -119,16 +128,19 @@ module _ (old new : ClientValue) (piece : List ℕ) (h : HeardLine) (r : ReadsPi
       ∙ ap (hears_all (with_bytes t p))
       (ap (drop (length (lines_of t.stream))) g.gains ∙ drop-append_seam (lines_of t.stream) (in_list line))
 
+  -- online the session does with it what the machine does
   online_hearing : (t : Talk)
       → StandsAfter old t → (on : old.session.online ≡ true) → Hearing new.session (with_bytes t p) line h.answer
   online_hearing t at on =
       hearing old.session new.session (with_bytes t p)
       line h.answer (r.online on).answers (bytes_at old.session t p (session_at old t at)) (sym (is_on t at) ∙ on)
 
+  -- offline the bytes change nothing
   offline_step : (t : Talk) → StandsAfter old t → (off : old.session.online ≡ false) → reads t p ≡ stays t
   offline_step t at off =
       ap (λ b. if b then hears_all (with_bytes t p) (gained t.stream p) else stays t) (sym (is_on t at) ∙ off)
 
+  -- the client is reached by the history with these bytes
   stands : (t : Talk) → StandsAfter old t → StandsAfter new (reads t p).talk
   stands t at = by_cases old.session.online
       (λ on.
@@ -139,6 +151,7 @@ module _ (old new : ClientValue) (piece : List ℕ) (h : HeardLine) (r : ReadsPi
       (λ off. subst (λ s. StandsAfter new s.talk)
       (sym (offline_step t at off)) (subst (λ c. StandsAfter c t) (sym (r.offline off).same) at))
 
+  -- it hands out the commands of the machine
   hands : (t : Talk) → StandsAfter old t → answer_commands h.answer ≡ (reads t p).send
   hands t at = by_cases old.session.online
       (λ on. (online_hearing t at on).hands ∙ ap (λ s. s.send) (sym (online_step t at on)))
@@ -148,15 +161,18 @@ module _ (old new : ClientValue) (piece : List ℕ) (h : HeardLine) (r : ReadsPi
   does : Does old new (Piece p) (answer_commands h.answer)
   does = record { stands = stands; hands = hands }
 
+  -- reading a piece is the machine's input of the bytes that were taken
   pub read_does : Does old new (Piece p) (commands_in h)
   unfolding commands_in
   read_does = does
 
+  -- it confirms what the line confirms by the history
   confirms : (t : Talk) → StandsAfter old t → answer_confirmed h.answer ≡ line_confirms t line
   confirms t at = by_cases old.session.online
       (λ on. (online_hearing t at on).confirms)
       (λ off. ap answer_confirmed (r.offline off).answer ∙ offline_confirms t line (sym (is_on t at) ∙ off))
 
+  -- it says that an order has rolled if it has by the history
   rolls : (t : Talk) → StandsAfter old t → answer_rolled h.answer ≡ line_rolls t line
   rolls t at = by_cases old.session.online
       (λ on. (online_hearing t at on).rolls)
@@ -172,6 +188,7 @@ module _ (old new : ClientValue) (piece : List ℕ) (h : HeardLine) (r : ReadsPi
       none None = tt
       none (Some l) = tt
 
+  -- what it keeps for the caller is of the line that it heard
   pub read_keeps : Keeps new h
   unfolding Keeps
   read_keeps = keeps
@@ -184,6 +201,7 @@ record Same (line : Option ReadLine) (a : Option Answer) (t : Option TakenValue)
   pub rolled : answer_rolled a ≡ rolled_of_taken t
   pub reading : ReadsItself t
 
+-- what is shown of a line has the commands, the confirmed decision and the roll of the answer
 same_shown : (line : Option ReadLine) (a : Option Answer) (t : Option TakenValue) → ShowsLine line a t → Same line a t
 same_shown line None t h =
     subst (Same line None) (sym h) (record { commands = refl; confirmed = refl; rolled = refl; reading = tt })
@@ -191,6 +209,7 @@ same_shown None (Some a) t h = absurd h
 same_shown (Some l) (Some a) t h =
     subst (Same (Some l) (Some a)) (sym h) (record { commands = refl; confirmed = refl; rolled = refl; reading = refl })
 
+-- the line that is shown is the one that was heard
 same_line : (v v' : SessionValue) (line : Option ReadLine) (a : Option Answer) (t : Option TakenValue)
     → AnswersLine v line a v' → ShowsLine line a t → line ≡ line_of_taken t
 same_line v v' None None t h e = ap line_of_taken (sym e)
@@ -198,6 +217,7 @@ same_line v v' None (Some a) t h e = absurd h
 same_line v v' (Some l) None t h e = absurd h
 same_line v v' (Some l) (Some a) t h e = ap line_of_taken (sym e)
 
+-- if nothing was answered nothing is shown
 not_shown : (line : Option ReadLine) (a : Option Answer) (t : Option TakenValue)
     → a ≡ None → ShowsLine line a t → t ≡ None
 not_shown line None t e h = h
@@ -205,16 +225,20 @@ not_shown line (Some a) t e h = absurd cc
 
 module _ (old new : ClientValue) (piece : List ℕ) (h : HeardLine) (r : ReadsPiece old new piece h)
     (used : ℕ) (same : used ≡ h.used) (t : Option TakenValue) (shows : ShowsLine new.lines.line h.answer t) where
+  -- online the line that is shown is the one that the client keeps
   online_line : old.session.online ≡ true → new.lines.line ≡ line_of_taken t
   online_line on = same_line old.session new.session new.lines.line h.answer t (r.online on).answers shows
 
+  -- what is shown is the answer
   abbrev s : Same new.lines.line h.answer t
   s = same_shown new.lines.line h.answer t shows
 
+  -- the bytes that were taken are an input, and what is shown has its commands
   does_taken : Does old new (Piece (take used piece)) (commands_of t)
   does_taken = subst (λ n. Does old new (Piece (take n piece)) (commands_of t))
       (sym same) (subst (λ l. Does old new (Piece (take h.used piece)) l) s.commands (does old new piece h r))
 
+  -- what is shown is the whole answer to the bytes
   answers_taken : FeedAnswers old piece used t
   answers_taken = record {
     hands = λ x at. does_taken.hands x at;
@@ -233,12 +257,14 @@ module _ (old new : ClientValue) (piece : List ℕ) (h : HeardLine) (r : ReadsPi
 
 -- what both halves say together
 
+-- reading and then asking for what was heard is an input of the bytes that were taken
 pub feed_does : (old new : ClientValue) (piece : List ℕ) (h : HeardLine)
     → ReadsPiece old new piece h → (used : ℕ) → used ≡ h.used → (t : Option TakenValue) → Shows new h t
     → Does old new (Piece (take used piece)) (commands_of t)
 unfolding Shows
 feed_does old new piece h r used same t shows = does_taken old new piece h r used same t shows
 
+-- reading and then asking for what was heard gives the whole answer
 pub feed_answers : (old new : ClientValue) (piece : List ℕ) (h : HeardLine)
     → ReadsPiece old new piece h → (used : ℕ) → used ≡ h.used → (t : Option TakenValue) → Shows new h t
     → FeedAnswers old piece used t

@@ -43,6 +43,7 @@ pub record Going (c : ClientValue) (out : List ℕ) (later : List InputValue) (a
   pub stands : StandsAfter c talk
   pub whole : out ++ wire_of (run talk later).send ≡ all
 
+-- a call that writes its commands does the next input of a run
 pub goes_on : (c c' : ClientValue) (x y : List ℕ) (i : InputValue) (later : List InputValue) (all : List ℕ)
     → Going c x (i ∷ later) all → Writes c c' i x y → Going c' y later all
 unfolding run
@@ -57,6 +58,7 @@ goes_on c c' x y i later all g w = record {
       ∙ g.whole;
 }
 
+-- at the end of a run all its bytes are written
 pub ends : (c : ClientValue) (out all : List ℕ) → Going c out [] all → out ≡ all
 unfolding run
 ends c out all g = sym (append-nil out) ∙ g.whole
@@ -67,5 +69,6 @@ pub next : {A B : Type 0} (f : A → B) (xs : List A) (i : ℕ) (x : A)
 next f xs i x e lt = ap (map f) (drop-cons xs i x lt)
     ∙ ap (λ y. f y ∷ map f (drop (suc i) xs)) (sym e) ∙ ap (λ n. f x ∷ map f (drop n xs)) (sym (add-one i))
 
+-- behind the last input none is left
 pub none_left : {A B : Type 0} (f : A → B) (xs : List A) (i : ℕ) → length xs ≤ i → map f (drop i xs) ≡ []
 none_left f xs i h = ap (map f) (drop_of_length-le xs h)

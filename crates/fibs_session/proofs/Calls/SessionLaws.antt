@@ -29,11 +29,13 @@ use Rattle.fibs_session.proofs.History.Steps.{HeardIs, heard_law, refused_law, s
 use Rattle.fibs_session.proofs.History.Steps.{plain_refused_law, ordered_law, order_refusal_law, withdraw_refusal_law}
 use Rattle.fibs_session.proofs.History.Steps.{order_law, withdraw_law}
 
+-- a choice of two sessions is at the same choice of two steps if each is
 both : (b : Bool) (v w : SessionValue) (s u : Step)
     → (b ≡ true → At v s.talk) → (b ≡ false → At w u.talk) → At (if b then v else w) (if b then s else u).talk
 both true v w s u f g = f refl
 both false v w s u f g = g refl
 
+-- a choice of two steps hands out what the chosen one does
 send_if : (b : Bool) (s u : Step) → (if b then s.send else u.send) ≡ (if b then s else u).send
 send_if true s u = refl
 send_if false s u = refl
@@ -50,6 +52,7 @@ unfolding SessionStandsAfter
 start_law name password v e = subst (λ x. At x (start (login_text name password)))
     (sym e) (at_start (login_text name password) (login_no_toggle name password))
 
+-- the fields after `open` are those of the machine's `Open`
 pub open_does : (v v' : SessionValue) (send : List (List ℕ))
     → v' ≡ open_fields v → send ≡ open_send v → SessionDoes v v' Open send
 unfolding SessionStandsAfter
@@ -64,11 +67,13 @@ open_does v v' send e f = record {
       ∙ send_if (is_online t) (stays t) (record { talk = opened t; send = t.login ∷ [] });
 }
 
+-- `open` is refused as the history says
 pub open_refuses : (v : SessionValue) (a : Option Refusal)
     → a ≡ open_refusal_of v → (t : Talk) → SessionStandsAfter v t → a ≡ open_refusal t
 unfolding SessionStandsAfter
 open_refuses v a e t at = e ∙ ap (λ b. if b then Some AlreadyOpen else None) (online_law v t at)
 
+-- the fields after `lose` are those of the machine's `Lose`
 pub lose_does : (v v' : SessionValue) → v' ≡ lose_fields v → SessionDoes v v' Lose []
 unfolding SessionStandsAfter
 lose_does v v' e = record {
@@ -88,23 +93,28 @@ lose_does v v' e = record {
     two true = refl
     two false = refl
 
+-- the decision that waits is what is unconfirmed
 pub waiting_law : (v : SessionValue) (t : Talk) → SessionStandsAfter v t → v.waiting ≡ unconfirmed_now t
 unfolding SessionStandsAfter
 waiting_law v t at = at.not_confirmed ∙ ap (λ n. unconfirmed same_game n t.log) (sym at.is_open)
 
+-- the board that is shown is the last of the open connection
 pub shown_law : (v : SessionValue) (t : Talk) → SessionStandsAfter v t → v.shown ≡ shown_now t
 unfolding SessionStandsAfter
 shown_law v t at = at.on_board ∙ ap (λ n. last (shown n t.log)) (sym at.is_open)
 
+-- the session is online exactly if a connection is open
 pub online_is : (v : SessionValue) (t : Talk) → SessionStandsAfter v t → v.online ≡ is_online t
 unfolding SessionStandsAfter
 online_is v t at = online_law v t at
 
+-- a decision is answered as the history says
 pub answer_is : (v : SessionValue) (d : DecisionValue) (a : Option Refusal)
     → a ≡ answer_of v d → (t : Talk) → SessionStandsAfter v t → a ≡ answer_now t d
 unfolding SessionStandsAfter
 answer_is v d a e t at = e ∙ answer_law v t at d
 
+-- the fields after a decision are those of the machine's `Click`
 pub decide_does : (v v' : SessionValue) (d : DecisionValue) (send : List (List ℕ))
     → v' ≡ decide_fields v d → send ≡ decide_send v d → SessionDoes v v' (Click d) send
 unfolding SessionStandsAfter
@@ -119,11 +129,13 @@ decide_does v v' d send e f = record {
     go t at (Some why) h = let r = refused_law v t at d why h in (r.0, sym r.1)
     go t at None h = let r = sent_law v t at d h in (r.2, ap (command_for d) r.1 ∙ sym r.3)
 
+-- a plain command is refused as the history says
 pub plain_refuses : (v : SessionValue) (p : PlainValue) (a : Option PlainRefusal)
     → a ≡ plain_refusal_of v p → (t : Talk) → SessionStandsAfter v t → a ≡ plain_refusal t p
 unfolding SessionStandsAfter
 plain_refuses v p a e t at = e ∙ plain_law v t at p
 
+-- the fields after a plain command are those of the machine's `PlainInput`
 pub plain_does : (v v' : SessionValue) (p : PlainValue) (send : List (List ℕ))
     → v' ≡ plain_fields v p → send ≡ plain_send v p → SessionDoes v v' (PlainInput p) send
 unfolding SessionStandsAfter
@@ -140,16 +152,19 @@ plain_does v v' p send e f = record {
 
 -- a standing order
 
+-- a standing order is refused as the history says
 pub order_refuses : (v : SessionValue) (a : Option Refusal)
     → a ≡ order_refusal_of v → (t : Talk) → SessionStandsAfter v t → a ≡ order_refusal t.log
 unfolding SessionStandsAfter
 order_refuses v a e t at = e ∙ order_refusal_law v t at
 
+-- the end of a standing order is refused as the history says
 pub withdraw_refuses : (v : SessionValue) (a : Option Refusal)
     → a ≡ withdraw_refusal_of v → (t : Talk) → SessionStandsAfter v t → a ≡ withdraw_refusal t.log
 unfolding SessionStandsAfter
 withdraw_refuses v a e t at = e ∙ withdraw_refusal_law v t at
 
+-- the fields after a standing order are those of the machine's `Order`
 pub order_does : (v v' : SessionValue) → v' ≡ with_order v true (order_refusal_of v) → SessionDoes v v' Order []
 unfolding SessionStandsAfter
 order_does v v' e = record {
@@ -157,6 +172,7 @@ order_does v v' e = record {
   hands = λ t at. sym (order_law v t at).1;
 }
 
+-- the fields after the end of an order are those of the machine's `Withdraw`
 pub withdraw_does : (v v' : SessionValue)
     → v' ≡ with_order v false (withdraw_refusal_of v) → SessionDoes v v' Withdraw []
 unfolding SessionStandsAfter
@@ -165,11 +181,13 @@ withdraw_does v v' e = record {
   hands = λ t at. sym (withdraw_law v t at).1;
 }
 
+-- the session knows whether a standing order is in force
 pub ordered_is : (v : SessionValue) (t : Talk) → SessionStandsAfter v t → v.ordered ≡ ordered_now t
 unfolding SessionStandsAfter
 ordered_is v t at = ordered_law v t at
 
 module _ (likeness : IsLikeness same_game) (v : SessionValue) (l : ReadLine) where
+  -- a line does to the fields what it does to the machine, and offline nothing
   is : (t : Talk) → At v t → HeardIs t (line_fields v (line_reading l)) (line_heard t l)
   is t at =
       subst (λ b. HeardIs t (line_fields v (line_reading l)) (if b then heard_by t (line_reading l) else nothing_heard))
@@ -181,6 +199,7 @@ module _ (likeness : IsLikeness same_game) (v : SessionValue) (l : ReadLine) whe
       go true on = heard_law v t at on likeness (line_reading l)
       go false off = record { after = unheard_law v t at; send = refl; confirmed = refl; rolled = refl }
 
+  -- the session's answer to a line is that of the machine
   pub line_hears : (v' : SessionValue) (send : List (List ℕ)) (confirmed : Option Ask) (rolled : Bool)
       → v' ≡ (line_fields v (line_reading l)).session → send ≡ (line_fields v (line_reading l)).send
       → confirmed ≡ (line_fields v (line_reading l)).confirmed → rolled ≡ (line_fields v (line_reading l)).rolled

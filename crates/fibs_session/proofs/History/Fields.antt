@@ -30,11 +30,13 @@ use Rattle.fibs_history.proofs.Words.{numbered_silent, numbered_own, numbered_op
 use Rattle.fibs_history.proofs.Words.{unconfirmed_none, some_last, some_spent, none_last, quiet_ordered}
 use Rattle.fibs_history.proofs.Words.{quiet_withdrawn}
 
+-- the empty history says nothing of any connection
 pub silent : (c : ℕ) → Quiet c []
 silent c = record { no_welcome = refl; no_flags = refl; no_board = refl; no_sent = refl; no_order = refl }
 
 -- at first
 
+-- a session that has heard nothing is at the machine's start
 pub at_start : (login : List ℕ) → IsNoToggle login → At (fresh login false) (start login)
 at_start login h = record {
   conn = 0;
@@ -52,17 +54,21 @@ at_start login h = record {
   numbered = record { below = omega arith; none = silent 0; fresh = λ c lt. silent c };
 }
 
+-- a successor is not found to be 0
 suc_not_zero : (n : ℕ) → nat_eq (suc n) 0 ≡ false
 suc_not_zero n = other_number (suc n) 0 (λ e. cc)
 
+-- a number that is found not to be 0 is not 0
 not_zero : (n : ℕ) → true ≡ not (nat_eq n 0) → n ≡ 0 → ⊥
 not_zero zero h e = true≢false h
 not_zero (suc n) h e = cc
 
+-- a test that is the opposite of another has it as its opposite
 pub not_not : (a b : Bool) → a ≡ not b → not a ≡ b
 not_not a true h = rw h refl
 not_not a false h = rw h refl
 
+-- a list with an element at its end has some
 snoc_some : {X : Type 0} (xs : List X) (x : X) → true ≡ not (is_empty (xs ++ x ∷ []))
 snoc_some xs x = ap not (sym (snoc_not_empty xs x))
 
@@ -77,6 +83,7 @@ pub record ChangesOrder (c : ℕ) (given : Bool) (es : List Entry) : Type 0 wher
   pub still : open_from c es ≡ c
   pub others : (d : ℕ) → (c ≡ d → ⊥) → Quiet d es
 
+-- the entry of a standing order changes the order alone
 pub gives_order : (c : ℕ) → ChangesOrder c true (Ordered c ∷ [])
 gives_order c = record {
   order = own c true;
@@ -89,6 +96,7 @@ gives_order c = record {
   others = λ d. quiet_ordered c d;
 }
 
+-- the entry of its end changes the order alone
 pub withdraws_order : (c : ℕ) → ChangesOrder c false (Withdrawn c ∷ [])
 withdraws_order c = record {
   order = own c false;
@@ -102,9 +110,11 @@ withdraws_order c = record {
 }
 
 module _ (v : SessionValue) (t : Talk) (at : At v t) where
+  -- the connection that the session speaks of
   abbrev c : ℕ
   c = at.conn
 
+  -- the session is online exactly if a connection is open
   pub online_law : v.online ≡ is_online t
   online_law = at.has_connection ∙ ap (λ n. not (nat_eq n 0)) (sym at.is_open)
 
@@ -182,6 +192,7 @@ module _ (v : SessionValue) (t : Talk) (at : At v t) where
         numbered_silent t.log es at.numbered h (subst (λ k. k ≤ connections t.log) (sym same) at.numbered.below) quiet;
   }
 
+  -- entries that say nothing of any connection, with commands that turn nothing off, leave the fields as they are
   pub at_silent : (es : List Entry) (texts : List (List ℕ)) → NoToggles texts → flat_map opened_by es ≡ []
       → open_now (t.log ++ es) ≡ open_now t.log → ((d : ℕ) → Quiet d es) → At v (noted t es texts)
   at_silent es texts off h same quiet =
@@ -189,6 +200,7 @@ module _ (v : SessionValue) (t : Talk) (at : At v t) where
       texts v.automove_sent v.greedy_sent (at.automove_gone ∙ sym (not_gone _ t.commands texts off.no_automove))
       (at.greedy_gone ∙ sym (not_gone _ t.commands texts off.no_greedy)) h same quiet
 
+  -- nothing noted and nothing sent leaves the fields as they are
   pub unheard_law : At v (noted t [] [])
   unheard_law = at_silent [] [] no_texts refl (ap open_now (append-nil t.log)) silent
 
@@ -243,6 +255,7 @@ module _ (v : SessionValue) (t : Talk) (at : At v t) where
             c at.numbered refl at.is_open (not_zero c (sym on ∙ at.has_connection)) here (λ n. quiet_sent c n b d);
       }
 
+  -- the same, of the connection that is open now
   pub at_asked : (b : Board) (d : Decision)
       → v.online ≡ true → last (shown (open_now t.log) t.log) ≡ Some b → At (record v { waiting = Some (b, d) })
       (noted t (Sent (open_now t.log) b d ∷ []) (command_of (direction_of b) d ∷ []))
@@ -252,6 +265,7 @@ module _ (v : SessionValue) (t : Talk) (at : At v t) where
       (sym at.is_open) (asked_here b d on (ap (λ n. last (shown n t.log)) (sym at.is_open) ∙ lb))
 
   module _ (on : v.online ≡ true) where
+    -- online the connection's number is not 0
     some : c ≡ 0 → ⊥
     some = not_zero c (sym on ∙ at.has_connection)
 
@@ -371,6 +385,7 @@ module _ (v : SessionValue) (t : Talk) (at : At v t) where
             numbered = numbered_own t.log es c at.numbered refl at.is_open some here (λ d. quiet_shown c d b);
           }
 
+      -- a board confirms by the fields what it confirms by the history
       pub confirmed_law : (b : Board) → confirmed_of v b ≡ confirmed_by_board c t.log b
       confirmed_law b =
           let e : is_some (still_waiting v.shown b v.waiting) ≡ is_spent same_game c (t.log ++ Shown c b ∷ []) =

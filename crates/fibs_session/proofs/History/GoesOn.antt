@@ -13,6 +13,7 @@ use Rattle.fibs_session.proofs.History.Texts.{no_texts}
 
 -- what a server notes
 
+-- what a server notes leaves a client where it is
 pub servers_silent : ServersEntriesAreSilent
 unfolding StandsAfter
 servers_silent c t e is at = (at.0, go e is)
@@ -25,6 +26,7 @@ servers_silent c t e is at = (at.0, go e is)
     go e (undoes n b d) = at_silent c.session t at.1 (e ∷ []) [] no_texts refl (open_append 0 t.log (e ∷ []))
         (λ d. record { no_welcome = refl; no_flags = refl; no_board = refl; no_sent = refl; no_order = refl })
 
+-- a client at a run of inputs that takes one more is at the run with it
 pub inputs_go_on : InputsGoOn
 inputs_go_on old new i send d login inputs at =
     subst (StandsAfter new) (sym (run_more (start login) inputs i)) (d.stands (run (start login) inputs).talk at)

@@ -41,6 +41,7 @@ use Rattle.fibs_session.proofs.History.Fields.{online_law, at_silent, at_quiet, 
 use Rattle.fibs_session.proofs.History.Fields.{at_welcomed, at_informed, at_shown, confirmed_law, at_order, gives_order}
 use Rattle.fibs_session.proofs.History.Fields.{withdraws_order, at_sent, at_rolled, silent, not_not}
 
+-- a choice by a test is the opposite choice by the opposite test
 flipped : {X : Type 0} (a b : Bool) (x y : X) → a ≡ not b → (if a then x else y) ≡ (if b then y else x)
 flipped a true x y h = rw h refl
 flipped a false x y h = rw h refl
@@ -52,6 +53,7 @@ pub record HeardIs (t : Talk) (h : HeardFields) (g : Heard) : Type 0 where
   pub confirmed : h.confirmed ≡ g.confirmed
   pub rolled : h.rolled ≡ g.rolled
 
+-- a choice of two answers is by the fields what it is by the history, if each of them is
 choose : (t : Talk) (b : Bool) (h h' : HeardFields) (g g' : Heard)
     → (b ≡ true → HeardIs t h g) → (b ≡ false → HeardIs t h' g') → HeardIs t (if b then h else h') (if b then g else g')
 choose t true h h' g g' f f' = f refl
@@ -62,9 +64,11 @@ abbrev due_without_order : Option Refusal → Board → Bool
 due_without_order a b = int_eq (field_of b 39) (pos 0) && (is_to_roll (phase_of b) && is_none a)
 
 module _ (v : SessionValue) (t : Talk) (at : At v t) (on : v.online ≡ true) (likeness : IsLikeness same_game) where
+  -- the connection that the session speaks of
   abbrev c : ℕ
   c = at.conn
 
+  -- a numbered message does to the fields what it does to the machine
   message_law : (m : MessageValue) → HeardIs t (heard_fields v (numbered_line m)) (heard c t.log (numbered_line m))
   message_law m =
       let s : (if v.welcomed then [] else style_text ∷ [])
@@ -103,6 +107,7 @@ module _ (v : SessionValue) (t : Talk) (at : At v t) (on : v.online ≡ true) (l
       ap (λ x. x && due_without_order (answer_of (with_board v b) roll) b) o
       ∙ ap (λ x. is_ordered c (t.log ++ es) && due_without_order x b) a
 
+  -- a board that is shown does to the fields what it does to the machine, with or without a roll
   shown_law : (b : Board) (rolls : Bool)
       → HeardIs t (board_shown (with_board v b) b (confirmed_of v b) rolls) (shows_board c t.log b rolls)
   shown_law b true = record {
@@ -118,12 +123,14 @@ module _ (v : SessionValue) (t : Talk) (at : At v t) (on : v.online ≡ true) (l
     rolled = refl;
   }
 
+  -- a board that is read does to the fields what it does to the machine
   board_law : (b : Board) → HeardIs t (heard_fields v (board_line b)) (heard c t.log (board_line b))
   board_law b = choose t (good b) _ _ _ _
       (λ _. subst (λ rolls. HeardIs t (board_shown (with_board v b) b (confirmed_of v b) (due_of (with_board v b) b))
       (shows_board c t.log b rolls)) (due_law b) (shown_law b (due_of (with_board v b) b)))
       (λ _. record { after = unheard_law v t at; send = refl; confirmed = refl; rolled = refl })
 
+  -- any line does to the fields what it does to the machine, on the session's connection
   heard_at : (r : ReadingValue) → HeardIs t (heard_fields v r) (heard c t.log r)
   heard_at (numbered_line m) = message_law m
   heard_at (board_line b) = board_law b
@@ -131,19 +138,23 @@ module _ (v : SessionValue) (t : Talk) (at : At v t) (on : v.online ≡ true) (l
   heard_at (malformed_line number k f) =
       record { after = unheard_law v t at; send = refl; confirmed = refl; rolled = refl }
 
+  -- any line does to the fields what it does to the machine
   pub heard_law : (r : ReadingValue) → HeardIs t (heard_fields v r) (heard_by t r)
   heard_law r = subst (λ n. HeardIs t (heard_fields v r) (heard n t.log r)) (sym at.is_open) (heard_at r)
 
 module _ (v : SessionValue) (t : Talk) (at : At v t) where
+  -- a click that is refused is noted, changes no field and hands out nothing
   refused_by : (d : Decision) (a : Option Refusal) (why : Refusal)
       → a ≡ Some why → (At v (clicks_by t d a).talk) × ((clicks_by t d a).send ≡ [])
   refused_by d None why h = absurd cc
   refused_by d (Some x) why h = (at_refused v t at d (Some x), refl)
 
+  -- the same if the fields refuse it
   pub refused_law : (d : Decision) (why : Refusal)
       → answer_of v d ≡ Some why → (At v (clicks t d).talk) × ((clicks t d).send ≡ [])
   refused_law d why h = refused_by d (answer_now t d) why (sym (answer_law v t at d) ∙ h)
 
+  -- a click that the fields allow is on the board that is shown, waits from then on, and hands out its command
   pub sent_law : (d : Decision) → answer_of v d ≡ None
       → (b : Board) × (v.shown ≡ Some b)
       × At (with_ask v d v.shown) (clicks t d).talk × ((clicks t d).send ≡ command_of (direction_of b) d ∷ [])
@@ -167,6 +178,7 @@ module _ (v : SessionValue) (t : Talk) (at : At v t) where
 
   -- a plain command
 
+  -- a command that turns something off may be sent by the fields if it may by the history
   may_law : (p : PlainValue) → may_send_of v p ≡ may_send t p
   may_law p = go p
     where
@@ -180,12 +192,14 @@ module _ (v : SessionValue) (t : Talk) (at : At v t) where
           ∙ ap (λ b. flag_is_on (λ f. f.greedy) (last (informed (open_now t.log) t.log)) && not b) at.greedy_gone
       go p = refl
 
+  -- a plain command is refused by the fields as it is by the history
   pub plain_law : (p : PlainValue) → plain_refusal_of v p ≡ plain_refusal t p
   plain_law p =
       let o : v.online ≡ is_online t = online_law v t at in
       let m : may_send_of v p ≡ may_send t p = may_law p in
       cc
 
+  -- after a plain command is sent the fields know what it turned off
   plain_at : (p : PlainValue) → At (with_plain v p) (noted t [] (plain_of p ∷ []))
   unfolding plain_of
   plain_at p = go p
@@ -219,6 +233,7 @@ module _ (v : SessionValue) (t : Talk) (at : At v t) where
       go toggle_ready = quiet (plain_of toggle_ready ∷ []) (record { no_automove = refl; no_greedy = refl })
       go bye = quiet (plain_of bye ∷ []) (record { no_automove = refl; no_greedy = refl })
 
+  -- a plain command that the fields allow is handed out
   pub plain_sent_law : (p : PlainValue)
       → plain_refusal_of v p ≡ None → At (with_plain v p) (plains t p).talk × ((plains t p).send ≡ plain_of p ∷ [])
   plain_sent_law p h = go (plain_refusal t p) (sym (plain_law p) ∙ h)
@@ -228,6 +243,7 @@ module _ (v : SessionValue) (t : Talk) (at : At v t) where
       go None e = (plain_at p, refl)
       go (Some x) e = absurd cc
 
+  -- a plain command that the fields refuse changes nothing
   pub plain_refused_law : (p : PlainValue) (why : PlainRefusal)
       → plain_refusal_of v p ≡ Some why → At v (plains t p).talk × ((plains t p).send ≡ [])
   plain_refused_law p why h = go (plain_refusal t p) (sym (plain_law p) ∙ h)
@@ -238,33 +254,40 @@ module _ (v : SessionValue) (t : Talk) (at : At v t) where
 
   -- a standing order
 
+  -- the session knows whether a standing order is in force
   pub ordered_law : v.ordered ≡ ordered_now t
   ordered_law = at.has_order ∙ ap (λ n. is_ordered n t.log) (sym at.is_open)
 
+  -- the session is offline exactly if no connection is open
   offline_law : not v.online ≡ nat_eq (open_now t.log) 0
   offline_law = not_not _ _ at.has_connection ∙ ap (λ n. nat_eq n 0) (sym at.is_open)
 
+  -- a standing order is refused by the fields as it is by the history
   pub order_refusal_law : order_refusal_of v ≡ order_refusal t.log
   order_refusal_law =
       ap (λ b. if b then Some Offline else (if v.ordered then Some AlreadyOrdered else None)) offline_law
       ∙ ap (λ b. if nat_eq (open_now t.log) 0 then Some Offline else (if b then Some AlreadyOrdered else None))
       ordered_law
 
+  -- the end of an order is refused by the fields as it is by the history
   pub withdraw_refusal_law : withdraw_refusal_of v ≡ withdraw_refusal t.log
   withdraw_refusal_law =
       ap (λ b. if b then Some Offline else (if v.ordered then None else Some NotOrdered)) offline_law
       ∙ ap (λ b. if nat_eq (open_now t.log) 0 then Some Offline else (if b then None else Some NotOrdered)) ordered_law
 
+  -- what is not refused for being offline is online
   on_of_yes : (b : Bool) (x : Option Refusal) → (if not b then Some Offline else x) ≡ None → b ≡ true
   on_of_yes true x h = refl
   on_of_yes false x h = absurd cc
 
+  -- an entry of an order is noted if nothing refuses it, and else nothing changes
   noted_if_yes : (given : Bool) (e : Entry) (a : Option Refusal)
       → (a ≡ None → At (record v { ordered = given }) (noted t (e ∷ []) []))
       → At (with_order v given a) (notes_if t e a).talk × ((notes_if t e a).send ≡ [])
   noted_if_yes given e None f = (f refl, refl)
   noted_if_yes given e (Some why) f = (at, refl)
 
+  -- a standing order does to the fields what it does to the machine
   pub order_law : At (with_order v true (order_refusal_of v)) (orders_on t).talk × ((orders_on t).send ≡ [])
   order_law =
       let e : Entry = Ordered (open_now t.log) in
@@ -274,6 +297,7 @@ module _ (v : SessionValue) (t : Talk) (at : At v t) where
       (λ yes. subst (λ n. At (record v { ordered = true }) (noted t (Ordered n ∷ []) [])) (sym at.is_open)
       (at_order v t at (on_of_yes v.online _ yes) true (Ordered at.conn ∷ []) (gives_order at.conn))))
 
+  -- the end of an order does to the fields what it does to the machine
   pub withdraw_law : At (with_order v false (withdraw_refusal_of v)) (withdraws t).talk × ((withdraws t).send ≡ [])
   withdraw_law =
       let e : Entry = Withdrawn (open_now t.log) in
