@@ -35,12 +35,15 @@ use Rattle.fibs_machine.proofs.log.Numbers.{at_most_more, at_most_both, few_conn
 abbrev Counted : World → Type 0
 Counted w = AllAtMost w.count w.log
 
+-- an entry of a connection that was opened is counted
 noted_one : (w : World) (e : Entry) → conn_of e ≤ w.count → Counted w → Counted (noted w (e ∷ []))
 noted_one w e le h = at_most_both w.count w.log (e ∷ []) h (le, tt)
 
+-- a line that is sent notes nothing
 sends_same : (w : World) (t : List ℕ) → Counted w → Counted (sends w t)
 sends_same w t h = if_fact Counted (is_talking w) _ _ (λ z. h) (λ z. h)
 
+-- lines that are heard note entries of their connection
 heard_all : (c : ℕ) (w : World) (ls : List ReadLine) → c ≤ w.count → Counted w → Counted (hears_all c w ls)
 heard_all c w [] le h = h
 heard_all c w (l ∷ ls) le h =
@@ -48,6 +51,7 @@ heard_all c w (l ∷ ls) le h =
     (at_most_both w.count w.log (heard c w.log (line_reading l)).entries h
     (heard_at_most w.count c w.log (line_reading l) le))
 
+-- a click notes entries of its connection
 clicked : (c : ℕ) (w : World) (d : DecisionValue) (a : Option Refusal) → c ≤ w.count → Counted w
     → Counted (clicks c w d a)
 clicked c w d (Some x) le h = noted_one w (L.Clicked c d (Some x)) le h
@@ -57,15 +61,18 @@ clicked c w d None le h = out (last (shown c w.log))
     out None = h
     out (Some b) = at_most_both w.count w.log (L.Clicked c d None ∷ L.Sent c b d ∷ []) h (le, (le, tt))
 
+-- a plain command notes nothing
 said_plain : (w : World) (p : PlainValue) (o : Option PlainRefusal) → Counted w → Counted (sends_plain w p o)
 said_plain w p (Some why) h = h
 said_plain w p None h = h
 
+-- an entry that is noted unless refused is counted
 noted_unless : (w : World) (e : Entry) (o : Option Refusal) → conn_of e ≤ w.count → Counted w
     → Counted (notes_unless w e o)
 noted_unless w e (Some why) le h = h
 noted_unless w e None le h = noted_one w e le h
 
+-- the server's answer to a line notes entries of its connection
 served_line : (c : ℕ) (w : World) (s : Served) → c ≤ w.count → Counted w → Counted (does_served c w s)
 served_line c w Stale le h = h
 served_line c w LoggedIn le h = noted_one (record w { logged_in = c }) (L.LoggedIn c) le h
@@ -76,6 +83,7 @@ served_line c w (Undone d) le h =
     sends_same (noted w (L.Undone c w.board d ∷ [])) (spelling w.board) (noted_one w (L.Undone c w.board d) le h)
 served_line c w Answered le h = sends_same w (spelling w.board) h
 
+-- the server that takes the next line, if there is one, notes entries of its connection
 serves_line : (c : ℕ) (w : World) (d1 d2 : ℕ) (o : Option (List ℕ × List ℕ)) → c ≤ w.count → Counted w
     → Counted (serves c w d1 d2 o)
 serves_line c w d1 d2 None le h = h
@@ -87,6 +95,7 @@ serves_line c w d1 d2 (Some p) le h =
 here : (w : World) → IsWorld w → open_now w.log ≤ w.count
 here w i = elim i.newest [ inl e ↦ omega (arith, e) | inr e ↦ omega (arith, e) ]
 
+-- an event that is not refused notes entries of connections that were opened
 counted_after : (login : List ℕ) (w : World) (e : Event) → IsWorld w → refusal w e ≡ None → Counted w
     → Counted (after login w e)
 counted_after login w Open i k h =
@@ -110,6 +119,7 @@ counted_after login w Order i k h =
 counted_after login w Withdraw i k h =
     noted_unless w (L.Withdrawn (open_now w.log)) (withdraw_refusal w.log) (here w i) h
 
+-- events that are all accepted note entries of connections that were opened
 counted_all : (login : List ℕ) (w : World) (es : List Event) → IsWorld w → AllAccepted login w es → Counted w
     → IsWorld (after_all login w es) × Counted (after_all login w es)
 counted_all login w [] i a h = (i, h)

@@ -41,6 +41,7 @@ use Rattle.fibs_machine.proofs.joint.Sending.{if_fact}
 use Rattle.fibs_history.proofs.Words.{yes}
 use Rattle.fibs_machine.proofs.joint.EachEvent.{said, is_open}
 
+-- machines with the same log, bytes and commands are the same
 pub talk_path : (login : List ℕ) (l l' : List Entry) (s s' : List ℕ) (c c' : List (List ℕ)) → l ≡ l' → s ≡ s' → c ≡ c' →
     ◌≡◌ {A = Talk} (record { login = login; log = l; stream = s; commands = c })
     (record { login = login; log = l'; stream = s'; commands = c' })
@@ -54,6 +55,7 @@ record Silent (w w' : World) (es : List Entry) : Type 0 where
   heard : (d : ℕ) → (w'.links d).heard ≡ (w.links d).heard
   commands : (d : ℕ) → w'.commands d ≡ w.commands d
 
+-- wires that were heard as before leave what was heard of each connection
 heard_linked : (w : World) (c : ℕ) (l : Link) (d : ℕ) → l.heard ≡ (w.links c).heard
     → ((linked w c l).links d).heard ≡ (w.links d).heard
 heard_linked w c l d h = elim (eqb_tells d c) [
@@ -62,20 +64,24 @@ heard_linked w c l d h = elim (eqb_tells d c) [
   | inr m ↦ ap (λ (x : Link). x.heard) (linked_other w c d l m.1)
 ]
 
+-- so the client's side does not change with them
 silent_linked : (w w' : World) (es : List Entry) (c : ℕ) (l : Link) → l.heard ≡ (w'.links c).heard → Silent w w' es
     → Silent w (linked w' c l) es
 silent_linked w w' es c l h s =
     record { log = s.log; count = s.count; heard = λ d. heard_linked w' c l d h ∙ s.heard d; commands = s.commands }
 
+-- a line that is sent changes nothing of the client's side
 silent_sends : (w w' : World) (es : List Entry) (t : List ℕ) → Silent w w' es → Silent w (sends w' t) es
 silent_sends w w' es t s = if_fact (λ x. Silent w x es) (is_talking w') _ _
     (λ z. silent_linked w w' es w'.logged_in _ refl s) (λ z. s)
 
+-- nothing changes if nothing happens
 silent_itself : (w : World) → Silent w w []
 silent_itself w = record { log = sym (append-nil w.log); count = refl; heard = λ d. refl; commands = λ d. refl }
 
 -- the log grows, and the open connection stays
 
+-- a world stays one after entries that open and end no connection, if later connections stay unheard
 stays_world : (w w' : World) (es : List Entry) → IsWorld w → w'.log ≡ w.log ++ es → w'.count ≡ w.count
     → flat_map opened_by es ≡ [] → open_from (open_now w.log) es ≡ open_now w.log
     → ((d : ℕ) → w.count < d → (w'.links d).heard ≡ (w.links d).heard)
@@ -89,6 +95,7 @@ stays_world w w' es i el ec none same hs cs =
       unsaid = λ d lt. let lt' : w.count < d = rw ec at lt in cs d lt' ∙ i.unsaid d lt';
     }
 
+-- entries of the server open and end no connection
 servers_open : (es : List Entry) (o : ℕ) → AllServers es → (flat_map opened_by es ≡ []) × (open_from o es ≡ o)
 servers_open [] o h = (refl, refl)
 servers_open (e ∷ es) o h = one e h.0 (servers_open es o h.1)
@@ -99,6 +106,7 @@ servers_open (e ∷ es) o h = one e h.0 (servers_open es o h.1)
     one e (takes c b d) k = k
     one e (undoes c b d) k = k
 
+-- after entries of the server alone the client's machine has them noted, and nothing else
 silence : (login : List ℕ) (w w' : World) (es : List Entry) → IsWorld w → AllServers es → Silent w w' es
     → IsWorld w' × Silence login w w'
 silence login w w' es i are s =
@@ -112,6 +120,7 @@ silence login w w' es i are s =
       },
     )
 
+-- the server's answer to a line notes entries of the server alone
 serve_silence : (login : List ℕ) (w w1 : World) (c : ℕ) (s : Served) → IsWorld w → Silent w w1 [] → w1.log ≡ w.log
     → IsWorld (does_served c w1 s) × Silence login w (does_served c w1 s)
 serve_silence login w w1 c s i h e = go s
@@ -133,6 +142,7 @@ serve_silence login w w1 c s i h e = go s
 
 -- the client hands out commands on the newest connection
 
+-- commands that the world hands out on the newest connection are the client's machine's
 asks_talk : (login : List ℕ) (w : World) (es : List Entry) (c : ℕ) (ts : List (List ℕ)) → c ≡ w.count
     → talk_of login (asks (noted w es) c ts) ≡ talk_noted (talk_of login w) es ts
 asks_talk login w es c ts e = subst (λ c. talk_of login (asks (noted w es) c ts) ≡ talk_noted (talk_of login w) es ts)
@@ -142,12 +152,14 @@ asks_talk login w es c ts e = subst (λ c. talk_of login (asks (noted w es) c ts
     same : (if nat_eq w.count w.count then w.commands w.count ++ ts else w.commands w.count) ≡ w.commands w.count ++ ts
     same = rw (same_number w.count) refl
 
+-- they are put on the wire of the newest connection
 asks_asked : (w : World) (es : List Entry) (c : ℕ) (ts : List (List ℕ)) → c ≡ w.count
     → ((asks (noted w es) c ts).links w.count).asked ≡ (w.links w.count).asked ++ wire_of ts
 asks_asked w es c ts e = subst (λ c. ((asks (noted w es) c ts).links w.count).asked ≡ (w.links w.count).asked ++ wire_of
     ts) (sym e)
     (ap (λ (l : Link). l.asked) (linked_same (noted w es) w.count (more_asked (w.links w.count) (wire_of ts))))
 
+-- a world that hands them out stays one
 asks_world : (w : World) (es : List Entry) (c : ℕ) (ts : List (List ℕ)) → IsWorld w → c ≡ w.count
     → flat_map opened_by es ≡ [] → open_from (open_now w.log) es ≡ open_now w.log
     → IsWorld (asks (noted w es) c ts)
@@ -163,6 +175,7 @@ record Heed (login : List ℕ) (w w' : World) (s : Step) : Type 0 where
   talk : talk_of login w' ≡ s.talk
   asked : (w'.links w.count).asked ≡ (w.links w.count).asked ++ wire_of s.send
 
+-- lines that the world hears on the open connection are heard by the client's machine
 all_heed : (login : List ℕ) (ls : List ReadLine) (w : World) (c : ℕ) → IsWorld w → open_now w.log ≡ c → c ≡ w.count
     → Heed login w (hears_all c w ls) (talk_hears_all (talk_of login w) ls)
 unfolding talk_hears_all
@@ -199,12 +212,15 @@ all_heed login (l ∷ ls) w c i o e =
 
 -- each event
 
+-- a connection that is open is not 0
 online : (w : World) → 0 < open_now w.log → nat_eq (open_now w.log) 0 ≡ false
 online w h = other_number (open_now w.log) 0 (λ e. absurd (omega arith))
 
+-- an open connection is the newest
 here : (w : World) → IsWorld w → 0 < open_now w.log → open_now w.log ≡ w.count
 here w i h = elim i.newest [ inl e ↦ absurd (omega arith) | inr e ↦ e ]
 
+-- after the event the world is one, and the client's machine went along
 abbrev Both : List ℕ → World → Event → Type 0
 Both login w e = IsWorld (after login w e) × Follows login w e (input_of w e)
 
@@ -214,6 +230,7 @@ record Fits (login : List ℕ) (w w' : World) (s : Step) : Type 0 where
   talk : talk_of login w' ≡ s.talk
   asked : (w'.links w'.count).asked ≡ (w.links w'.count).asked ++ wire_of s.send
 
+-- entries and commands of the newest connection are a step of the client's machine
 fits_asks : (login : List ℕ) (w : World) (es : List Entry) (c : ℕ) (ts : List (List ℕ)) → IsWorld w → c ≡ w.count
     → flat_map opened_by es ≡ [] → open_from (open_now w.log) es ≡ open_now w.log
     → Fits login w (asks (noted w es) c ts) (does (talk_of login w) es ts)
@@ -225,6 +242,7 @@ fits_asks login w es c ts i e none same =
           asks_asked w es c ts e;
     }
 
+-- entries alone are a step of the client's machine
 fits_noted : (login : List ℕ) (w : World) (es : List Entry) → IsWorld w → flat_map opened_by es ≡ []
     → open_from (open_now w.log) es ≡ open_now w.log
     → Fits login w (noted w es) (does (talk_of login w) es [])
@@ -234,9 +252,11 @@ fits_noted login w es i none same = record {
   asked = sym (append-nil _);
 }
 
+-- nothing is a step of the client's machine
 fits_nothing : (login : List ℕ) (w : World) → IsWorld w → Fits login w w (stays (talk_of login w))
 fits_nothing login w i = record { world = i; talk = refl; asked = sym (append-nil _) }
 
+-- the client's machine goes along with a click
 click : (login : List ℕ) (w : World) (d : DecisionValue) → IsWorld w → Both login w (Click d)
 click login w d i = let f = go (answer same_game allows w.log d) refl in
     (f.world, record { talk = f.talk; asked = f.asked })
@@ -250,12 +270,14 @@ click login w d i = let f = go (answer same_game allows w.log d) refl in
         (fits_asks login w (L.Clicked (open_now w.log) d None ∷ L.Sent (open_now w.log) y.on d ∷ []) (open_now w.log)
         (command y.on d ∷ []) i (here w i y.some) refl refl)
 
+-- noting no entry changes nothing
 noted_nothing : (w : World) → noted w [] ≡ w
 noted_nothing w = ap (λ l. with_log l) (append-nil w.log)
   where
     with_log : List Entry → World
     with_log l = record w { log = l }
 
+-- the client's machine goes along with a plain command
 plain : (login : List ℕ) (w : World) (p : PlainValue) → IsWorld w → Both login w (Plain p)
 plain login w p i = let f = go (plain_refusal (talk_of login w) p) refl in
     (f.world, record { talk = f.talk; asked = f.asked })
@@ -268,10 +290,12 @@ plain login w p i = let f = go (plain_refusal (talk_of login w) p) refl in
         (does (talk_of login w) [] (plain_of p ∷ []))) (noted_nothing w)
         (fits_asks login w [] (open_now w.log) (plain_of p ∷ []) i (here w i (said login w p e).0) refl refl)
 
+-- a connection that may be opened is not open yet
 open_closed : (z : Bool) → (if z then None else Some AlreadyOpen) ≡ None → z ≡ true
 open_closed true h = refl
 open_closed false h = cc
 
+-- the client's machine goes along with a connection that is opened
 opening : (login : List ℕ) (w : World) → IsWorld w → nat_eq (open_now w.log) 0 ≡ true → Both login w Open
 opening login w i z =
     let n : World = record w { count = w.count + 1 } in
@@ -307,6 +331,7 @@ opening login w i z =
     step_if : Bool → Step
     step_if b = if b then stays (talk_of login w) else record { talk = opened (talk_of login w); send = login ∷ [] }
 
+-- the client's machine goes along with bytes that are delivered
 deliver : (login : List ℕ) (w : World) (n : ℕ) → IsWorld w → 0 < open_now w.log → Both login w (Deliver n)
 deliver login w n i some = let f =
     for_conn (open_now w.log) refl (here w i some) in (f.world, record { talk = f.talk; asked = f.asked })
@@ -360,6 +385,7 @@ deliver login w n i some = let f =
         (hears_all c (linked w c (delivered (w.links c) n)) (gained (w.links c).heard (take n (w.links c).coming)))
         (reads (talk_of login w) (take n (w.links w.count).coming))) (sym e) (at_count (o ∙ e))
 
+-- the client's machine goes along with a connection that is lost
 lose : (login : List ℕ) (w : World) (k : ℕ) → IsWorld w → 0 < open_now w.log → Both login w (Lose k)
 lose login w k i some =
     let c : ℕ = open_now w.log in
@@ -391,6 +417,7 @@ lose login w k i some =
     step_if b = if b then does (talk_of login w)
         (L.Lost (open_now w.log) (unconfirmed same_game (open_now w.log) w.log) ∷ []) [] else stays (talk_of login w)
 
+-- the client's machine stays silent while the server takes a line
 serve : (login : List ℕ) (w : World) (c d1 d2 : ℕ) (o : Option (List ℕ × List ℕ)) → IsWorld w
     → IsWorld (serves c w d1 d2 o) × Silence login w (serves c w d1 d2 o)
 serve login w c d1 d2 None i = silence login w w [] i tt (silent_itself w)
@@ -406,6 +433,7 @@ unless : (login : List ℕ) (w : World) (e : Entry) (o : Option Refusal) → IsW
 unless login w e (Some why) i none same = fits_nothing login w i
 unless login w e None i none same = fits_noted login w (e ∷ []) i none same
 
+-- the client's machine goes along with each event that is not refused
 both : (login : List ℕ) (w : World) (e : Event) → IsWorld w → refusal w e ≡ None → Both login w e
 both login w Open i h = opening login w i (open_closed (nat_eq (open_now w.log) 0) h)
 both login w (Click d) i h = click login w d i
@@ -425,6 +453,7 @@ both login w Withdraw i h =
     let f = unless login w (L.Withdrawn (open_now w.log)) (withdraw_refusal w.log) i refl refl in
     (f.world, record { talk = f.talk; asked = f.asked })
 
+-- the client's machine is a projection of the world's
 pub talk_is_projected : TalkIsProjected
 talk_is_projected = record {
   starts = λ b. record { counted = refl; newest = inl refl; unheard = λ c lt. refl; unsaid = λ c lt. refl };

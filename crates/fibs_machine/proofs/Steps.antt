@@ -83,6 +83,7 @@ adds_sends w t = if_fact (Adds w) (is_talking w) _ _ (λ z. adds_same w _ refl r
 adds_heard : (c : ℕ) (w : World) (h : Heard) → NoAnswers h.entries → Adds w (does_heard c w h)
 adds_heard c w h n = record { board = refl; more = h.entries; log = refl; none = n }
 
+-- a line is heard, whatever it says
 adds_hears : (c : ℕ) (w : World) (x : ReadingValue) → Adds w (hears c w x)
 adds_hears c w (board_line b) =
     if_fact (λ h. Adds w (does_heard c w h)) (is_good b) _ _
@@ -161,10 +162,11 @@ Moves w w' e = Leaves w w' ⊎ Takes w w' e
 leaves : (w w' : World) → Adds w w' → Leaves w w'
 leaves w w' a = record { board = a.board; noted = a.more; log = a.log; none = none_taken a.more a.none }
 
--- what is sent changes neither the board nor the log
+-- what is sent does not change the board
 pub sends_board : (w : World) (t : List ℕ) → (sends w t).board ≡ w.board
 sends_board w t = if_fact (λ (x : World). x.board ≡ w.board) (is_talking w) _ _ (λ z. refl) (λ z. refl)
 
+-- nor does it change the log
 pub sends_log : (w : World) (t : List ℕ) → (sends w t).log ≡ w.log
 sends_log w t = if_fact (λ (x : World). x.log ≡ w.log) (is_talking w) _ _ (λ z. refl) (λ z. refl)
 

@@ -9,6 +9,7 @@ use Rattle.fibs_machine.specs.Talks.{AllServers, Steps, Silence, Follows, left_o
 use Rattle.fibs_model.specs.Clients.{ClientFollows}
 use Rattle.fibs_machine.proofs.Projection.{talk_path, talk_is_projected}
 
+-- entries of the server, however many, leave a client where it is
 several_silent : ServersEntriesAreSilent → (client : ClientValue) (es : List Entry) (t : Talk) → AllServers es
     → StandsAfter client t → StandsAfter client (talk_noted t es [])
 several_silent law client [] t h at_t =
@@ -18,6 +19,7 @@ several_silent law client (e ∷ es) t h at_t =
     subst (StandsAfter client) (talk_path t.login _ _ _ _ _ _ (append_assoc t.log (e ∷ []) es) refl (append-nil _))
     (several_silent law client es (talk_noted t (e ∷ []) []) h.1 (law client t e h.0 at_t))
 
+-- a client goes along with each event of its world
 pub client_follows : ServersEntriesAreSilent → ClientFollows
 client_follows law = record {
   acts = λ login w e i old new send is h in_is d stood.

@@ -39,6 +39,7 @@ Serveless acts = flat_map served_at acts ≡ []
 no_shows : (w : World) (b : Board) → Serveless (sending w (Shows b))
 no_shows w b = if_fact Serveless (is_talking w) _ _ (λ z. refl) (λ z. refl)
 
+-- nor does a text that is sent
 no_says : (w : World) (t : List ℕ) → Serveless (sending w (Says t))
 no_says w t = if_fact Serveless (is_talking w) _ _ (λ z. refl) (λ z. refl)
 

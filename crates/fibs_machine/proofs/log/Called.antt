@@ -52,6 +52,7 @@ CalledLast log None = Unit {0}
 CalledLast log (Some call) =
     (before : List Entry) × (e : Entry) × (log ≡ before ++ e ∷ []) × (calls_for before e ≡ Some call)
 
+-- what the last entry calls for is called for by the last entry
 called_last : (before : List Entry) (e : Entry) (owed : Option Call) → calls_for before e ≡ owed
     → CalledLast (before ++ e ∷ []) owed
 called_last before e None h = tt

@@ -23,6 +23,7 @@ pub record Rolls (c : ℕ) (log : List Entry) (b : Board) : Type 0 where
 one_board : (x y : Board) → Some x ≡ Some y → x ≡ y
 one_board x y h = cc
 
+-- at a board at which an order is due nothing was sent in its stretch, and it allows a roll
 pub due_rolls : Lawful → (c : ℕ) (log : List Entry) (b : Board) → open_now log ≡ c
     → is_due c (log ++ Shown c b ∷ []) b ≡ true → Rolls c log b
 due_rolls law c log b here due =

@@ -36,6 +36,7 @@ few_connections (e ∷ es) =
     opens_one (L.Opened c) = omega arith
     opens_one e = omega arith
 
+-- a choice of two answers is of these connections if each is
 if_at_most : (n : ℕ) (z : Bool) (g h : Heard) → AllAtMost n g.entries → AllAtMost n h.entries
     → AllAtMost n (if z then g else h).entries
 if_at_most n true g h p q = p

@@ -36,6 +36,7 @@ use Rattle.fibs_machine.specs.Wires as whole
 use Rattle.fibs_model.proofs.Likeness.Links.{links_linked, length_set_link}
 use Rattle.fibs_model.proofs.Likeness.Events.{current_known, client_after, sound_after}
 
+-- commands that are handed out leave as many connections as there were
 length_asked : (links : List LinkValue) (c : ℕ) (ts : List (List ℕ)) → length (ask_links links c ts) ≡ length links
 length_asked links c [] = refl
 length_asked links c (t ∷ ts) = length_set_link links c _
@@ -85,6 +86,7 @@ asks_one v login w es send t s one some here = record {
 module _ (law : ServersEntriesAreSilent) (v v' : WorldValue) (send : List (List ℕ))
     (server : v'.server ≡ v.server) (links : v'.links ≡ ask_links v.links v.current send)
     (current : v'.current ≡ v.current) where
+  -- a call of the client that does what the machine's input does leads to the world after the event
   stands_on : (login : List ℕ) (w : World) (e : Event) (i : M.InputValue) (entries : List Entry) → StandsFor v login w
       → v'.log ≡ v.log ++ entries
       → Asks v w (after login w e) send entries → refusal w e ≡ None → input_of w e ≡ Some i
@@ -210,6 +212,7 @@ pub asked_after : (links grown new : List LinkValue) (c : ℕ) (send : List (Lis
     → new ≡ ask_links grown c send → new ≡ ask_links links c send
 asked_after links grown new c send g n = n ∙ ap (λ ls. ask_links ls c send) g
 
+-- entries noted after a growth are noted after the log before it
 pub noted_after : (log grown new : List C.Entry) (entries : List Entry) → grown ≡ log
     → map entry_of new ≡ map entry_of grown ++ entries → map entry_of new ≡ map entry_of log ++ entries
 noted_after log grown new entries g n = n ∙ ap (λ l. map entry_of l ++ entries) g

@@ -58,6 +58,7 @@ carried_both Carries law a b c xs ys (Err why) p q = tt
 some_line : (o : Option (List ℕ × List ℕ)) (p : List ℕ × List ℕ) → o ≡ Some p → IsSome o
 some_line o p e = subst IsSome (sym e) refl
 
+-- if a connection may be served a whole line is on its way there
 pub serve_whole : (v : WorldValue) (login : List ℕ) (w : World) (c d1 d2 : ℕ) (links : List LinkValue)
     → StandsFor v login w → May v (Serve c d1 d2) → links ≡ v.links → IsSome (next_line (link_at links c).asked)
 serve_whole v login w c d1 d2 links s may same =
@@ -95,15 +96,18 @@ from_more login w (x ∷ es) e =
     ∙ sym (append_assoc (crossings_of w x) (crossings_from login (after login w x) es)
     (crossings_of (after_all login (after login w x) es) e))
 
+-- the crossings of one event more come after those of the events before it
 one_more : (login : List ℕ) (first : BoardFields) (es : List Event) (e : Event)
     → crossings login first (es ++ e ∷ [])
     ≡ crossings login first es ++ crossings_of (world_after login first es) e
 unfolding crossings world_after
 one_more login first es e = from_more login (start first) es e
 
+-- without an event nothing crosses
 at_first : (login : List ℕ) (first : BoardFields) → crossings login first [] ≡ []
 unfolding crossings
 at_first login first = refl
 
+-- the crossings of events make up those of their list
 pub crossings_join : CrossingsJoin
 crossings_join = record { at_first = at_first; one_more = one_more }

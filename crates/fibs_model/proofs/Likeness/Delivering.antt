@@ -47,6 +47,7 @@ record Heeds (c : ℕ) (w w' : World) : Type 0 where
   asked : List ℕ
   links : (d : ℕ) → w'.links d ≡ (if nat_eq d c then more_asked (w.links c) asked else w.links d)
 
+-- bytes put on one wire in two parts are both put there, and no other wire changes
 more_more : (d c : ℕ) (l m x : Link) (a b : List ℕ) → m ≡ (if nat_eq d c then more_asked l a else x)
     → (if nat_eq d c then more_asked (more_asked l a) b else m) ≡ (if nat_eq d c then more_asked l (a ++ b) else x)
 more_more d c l m x a b e = go (nat_eq d c) e
@@ -56,6 +57,7 @@ more_more d c l m x a b e = go (nat_eq d c) e
     go true e = whole_path refl refl refl (append_assoc l.asked a b)
     go false e = e
 
+-- no bytes put on a wire change nothing
 nothing_more : (d c : ℕ) (w : World) → w.links d ≡ (if nat_eq d c then more_asked (w.links c) [] else w.links d)
 nothing_more d c w = elim (eqb_tells d c) [
   | inl e ↦ subst (λ n. w.links d ≡ (if nat_eq d n then more_asked (w.links n) [] else w.links d)) e.1
@@ -65,6 +67,7 @@ nothing_more d c w = elim (eqb_tells d c) [
   | inr m ↦ ap (λ b. if b then more_asked (w.links c) [] else w.links d) (sym (other_number d c m.1))
 ]
 
+-- hearing lines leaves the server, the connections and all wires but the client's own
 heeds_all : (c : ℕ) (ls : List ReadLine) (w : World) → Heeds c w (hears_all c w ls)
 heeds_all c [] w = record {
   board = refl;
@@ -195,6 +198,7 @@ module _ (law : ServersEntriesAreSilent) (v v' : WorldValue) (n : ℕ) (server :
 -- The program's call on the wires l of a connection, which become k.
 module _ (links : List C.Link) (c : ℕ) (l k : C.Link) (some : 0 < c) (known : c ≤ length links)
     (is : l ≡ get_or links (c - 1) l) where
+  -- the wires after the next bytes of a connection are heard are those with its answers
   pub heard_next : (old new : ClientValue) (n : ℕ) (log later : List Entry)
       → HearsPiece old new c (take n l.to_client.items) log later l.to_server.items k.to_server.items
       → k.to_client.items ≡ drop (length (take n l.to_client.items)) l.to_client.items → k.fresh ≡ l.fresh

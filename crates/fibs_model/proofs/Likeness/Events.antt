@@ -39,6 +39,7 @@ pub client_waits : ServersEntriesAreSilent → (login : List ℕ) (w : World) (e
     → StandsAfter client (talk_of login (after login w e))
 client_waits law login w e client sound may is stands = (client_follows law).waits login w e client sound may is stands
 
+-- what every world keeps is kept by an event that is not refused
 pub sound_after : (login : List ℕ) (w : World) (e : Event) → IsWorld w → refusal w e ≡ None → IsWorld (after login w e)
 sound_after login w e sound may = (talk_is_projected.goes_on login w e sound may).0
 
@@ -59,6 +60,7 @@ kept_on w w' e k goes known =
 pub goes_seen : (v seen v' : WorldValue) (e : Event) → v ≡ seen → Goes v v' e → Goes seen v' e
 goes_seen v seen v' e same h = subst (λ x. Goes x v' e) same h
 
+-- an event that may be by the value that callers see may be by the fields
 pub may_seen : (v seen : WorldValue) (e : Event) → v ≡ seen → May seen e → May v e
 may_seen v seen e same h = subst (λ x. May x e) (sym same) h
 

@@ -38,10 +38,12 @@ online t conn some h = ap not (other_number (open_now t.log) 0 (λ e. absurd (om
 abbrev step_of : Talk → List ℕ → Bool → Step
 step_of t p b = if b then hears_all (with_bytes t p) (gained t.stream p) else stays t
 
+-- online a piece is heard as the lines that it gives
 reads_lines : (t : Talk) (p : List ℕ) (ls : List ReadLine) → is_online t ≡ true → gained t.stream p ≡ ls
     → step t (Piece p) ≡ hears_all (with_bytes t p) ls
 reads_lines t p ls o g = ap (step_of t p) o ∙ ap (hears_all (with_bytes t p)) g
 
+-- a piece gives the lines that the stream has more with it
 gains_lines : (s p : List ℕ) (ls : List ReadLine) → lines_of (s ++ p) ≡ lines_of s ++ ls → gained s p ≡ ls
 gains_lines s p ls e = ap (drop (length (lines_of s))) e ∙ drop-append_seam (lines_of s) ls
 
@@ -70,6 +72,7 @@ lines_open t (l ∷ ls) =
     lines_open (noted t h.entries h.send) ls ∙ open_append 0 t.log h.entries
     ∙ (lines_open_none (open_now t.log) t.log (line_reading l)).1 (open_now t.log)
 
+-- reading a piece leaves the open connection
 pub reads_open : (t : Talk) (p : List ℕ) → open_now (step t (Piece p)).talk.log ≡ open_now t.log
 reads_open t p = go (is_online t)
   where
@@ -77,6 +80,7 @@ reads_open t p = go (is_online t)
     go true = lines_open (with_bytes t p) (gained t.stream p)
     go false = refl
 
+-- a client with an open connection still has it after reading a piece
 pub still_talking : (old new : ClientValue) (conn : ℕ) (p : List ℕ) (send : List (List ℕ)) (t : Talk)
     → Does old new (Piece p) send → IsTalking old conn t
     → IsTalking new conn (step t (Piece p)).talk
@@ -84,12 +88,15 @@ still_talking old new conn p send t d h = record { stands = d.stands t h.stands;
 
 -- Line ends.
 
+-- how many line ends are among the bytes
 abbrev pub ends : List ℕ → ℕ
 ends p = count_by is_line_end p
 
+-- the line ends of two pieces are those of both
 ends-append : (p q : List ℕ) → ends (p ++ q) ≡ ends p + ends q
 ends-append p q = sum_by-append (λ x. cond (is_line_end x) 1 0) p q
 
+-- the line ends of a piece are those of a front and of what is left
 pub ends_split : (n : ℕ) (p : List ℕ) → ends p ≡ ends (take n p) + ends (drop n p)
 ends_split n p = ap ends (sym (take-append-drop n p)) ∙ ends-append (take n p) (drop n p)
 
@@ -110,6 +117,7 @@ more_owed t m n h = go (ordered_now t)
     go true = omega (arith, h)
     go false = omega arith
 
+-- more entries are owed for more lines
 more_entries : (t : Talk) (m n : ℕ) → m ≤ n → entries_owed t m ≤ entries_owed t n
 more_entries t m n h = go (ordered_now t)
   where
@@ -119,11 +127,13 @@ more_entries t m n h = go (ordered_now t)
 
 -- What the lines of a front may add, and what those after it, is no more than what those of the piece may.
 module _ (ends_law : LinesAreAtMostTheLineEnds) where
+  -- the lines of a front and the line ends of what is left are at most the line ends of the piece
   lines_split : (t : Talk) (piece : List ℕ) (used : ℕ)
       → lines_in t (take used piece) + ends (drop used piece) ≤ ends piece
   lines_split t piece used =
       let front = lines_at_most ends_law t (take used piece) in omega (arith, front, ends_split used piece)
 
+  -- the entries that a front makes the client note are taken from what is owed for the piece
   entries_left : PiecesTakeFromTheEntriesOwed → (t : Talk) (piece : List ℕ) (used : ℕ)
       → length (step t (Piece (take used piece))).talk.log
       + entries_owed (step t (Piece (take used piece))).talk (ends (drop used piece))
@@ -135,6 +145,7 @@ module _ (ends_law : LinesAreAtMostTheLineEnds) where
         more_entries t _ _ (lines_split t piece used),
       )
 
+  -- the bytes that a front makes the client hand out are taken from what is owed for the piece
   bytes_left : PiecesTakeFromWhatIsOwed → (t : Talk) (piece : List ℕ) (used : ℕ)
       → length (wire_of (step t (Piece (take used piece))).send)
       + owed (step t (Piece (take used piece))).talk (ends (drop used piece)) ≤ owed t (ends piece)
@@ -217,11 +228,13 @@ module _ (old new : ClientValue) (conn : ℕ) (piece : List ℕ) (used : ℕ) (s
         one_line t conn (take used piece) x.line some h.is_open g.gains
         ∙ ap (λ r. t.log ++ (heard conn t.log r).entries) (sym f.reading)
 
+    -- the log is longer by the entries of the line
     pub line_added : (t : Talk) → IsTalking old conn t
         → length (step t (Piece (take used piece))).talk.log
         ≡ length t.log + length (heard conn t.log x.reading).entries
     line_added t h = ap length (line_noted t h) ∙ length-append t.log (heard conn t.log x.reading).entries
 
+    -- the line was heard, if its entries were noted and its commands put on the wire
     pub hears_some : (log later : List Entry) (wire more : List ℕ)
         → ((before : List Entry) → (heard conn before x.reading).rolled ≡ x.rolled
         → later ≡ log ++ (heard conn before x.reading).entries)
@@ -267,6 +280,7 @@ module _ (old new : ClientValue) (conn : ℕ) (piece : List ℕ) (used : ℕ) (s
 
 -- Pieces after each other.
 
+-- no bytes are heard by doing nothing
 pub hears_nothing : EmptyPieceIsNothing → (c : ClientValue) (conn : ℕ) (log : List Entry) (wire : List ℕ)
     → HearsPiece c c conn [] log log wire wire
 hears_nothing law c conn log wire = record {
@@ -282,6 +296,7 @@ hears_nothing law c conn log wire = record {
   noted = λ t h same. same ∙ ap (λ (s : Step). s.talk.log) (sym (law t));
 }
 
+-- a piece that is heard in two parts is heard
 pub hears_joined : PiecesJoin → (a b c : ClientValue) (conn : ℕ) (p q : List ℕ) (l0 l1 l2 : List Entry) (x y z : List ℕ)
     → HearsPiece a b conn p l0 l1 x y → HearsPiece b c conn q l1 l2 y z
     → HearsPiece a c conn (p ++ q) l0 l2 x z
@@ -308,6 +323,7 @@ hears_joined law a b c conn p q l0 l1 l2 x y z f g = record {
 pub rest_is : (used : ℕ) (rest : List ℕ) → take (length rest - used) (drop used rest) ≡ drop used rest
 rest_is used rest = take_all (length rest - used) (drop used rest) (omega (arith, length-drop used rest))
 
+-- a front of what is left, put after what was done, leaves the rest of it
 pub done_more : (all done rest : List ℕ) (used : ℕ) → all ≡ done ++ rest
     → all ≡ (done ++ take used rest) ++ take (length rest - used) (drop used rest)
 done_more all done rest used e =
@@ -320,6 +336,7 @@ pub record Front (old new : ClientValue) (piece : List ℕ) (used : ℕ) (taken 
   pub feeds : FeedAnswers old piece used taken
   pub does : Does old new (Piece (take used piece)) (commands_of taken)
 
+-- a front that was read, by other names of how long it is and what was taken
 pub front : (old new : ClientValue) (piece : List ℕ) (used n : ℕ) (taken x : Option TakenValue) → n ≡ used → taken ≡ x
     → FeedAnswers old piece used taken
     → Does old new (Piece (take used piece)) (commands_of taken) → Front old new piece n x
@@ -327,6 +344,7 @@ front old new piece used n taken x u e f d =
     subst (λ m. Front old new piece m x) (sym u)
     (subst (λ o. Front old new piece used o) e (record { feeds = f; does = d }))
 
+-- what would be absurd if it were there is not there
 pub none_of : {A B : Type 0} (f : A → B) (o : Option A) → ((x : A) → o ≡ Some x → ⊥) → option_map f o ≡ None
 none_of f None h = refl
 none_of f (Some x) h = absurd (h x refl)
@@ -342,6 +360,7 @@ no_roll conn (malformed_line n k f) = refl
 module _ (conn : ℕ) (r : ReadingValue) (first : List Entry)
     (given : (before : List Entry)
     → (heard conn before r).entries ≡ first ++ roll_entries conn r (heard conn before r).rolled) where
+  -- what a line gives is its entry, and the roll if one was sent, as said
   all_given : (rolled : Bool) (before : List Entry) → (heard conn before r).rolled ≡ rolled
       → (heard conn before r).entries ≡ first ++ roll_entries conn r rolled
   all_given rolled before is = given before ∙ ap (λ z. first ++ roll_entries conn r z) is
@@ -366,6 +385,7 @@ module _ (conn : ℕ) (r : ReadingValue) (first : List Entry)
       is ∙ ap (λ l. log ++ l) (sym (all_given false before rolls ∙ ap (λ l. first ++ l) (no_roll conn r)
       ∙ append-nil first))
 
+  -- without a roll as much is noted as the line's entry
   pub many_first : (before : List Entry) → (heard conn before r).rolled ≡ false
       → length (heard conn before r).entries ≡ length first
   many_first before rolls =

@@ -49,6 +49,7 @@ link_at_set links c (suc d) l some known = elim (eqb_tells (suc d) c) [
       ∙ sym (ap (λ b. if b then l else link_at links (suc d)) (other_number (suc d) c m.1))
 ]
 
+-- setting the wires of a connection leaves as many connections
 pub length_set_link : (links : List LinkValue) (c : ℕ) (l : LinkValue) → length (set_link links c l) ≡ length links
 length_set_link links c l = length-set links (c - 1) l
 
@@ -106,6 +107,7 @@ value_path c a f = cc
 -- The program's calls on the wires l of a connection, which become k.
 module _ (links : List Link) (c : ℕ) (l k : Link) (some : 0 < c) (known : c ≤ length links)
     (is : l ≡ get_or links (c - 1) l) where
+  -- the wires of the connection are seen as they are
   was : link_at (seen links) c ≡ link_of l
   was = link_was links c l some known is
 

@@ -25,10 +25,12 @@ use Rattle.fibs_model.proofs.Likeness.Events.{client_after, sound_after}
 abbrev pub new_link : List ℕ → LinkValue
 new_link text = record { coming = []; asked = on_wire text; fresh = true }
 
+-- a connection that may be opened is not open yet
 closed : (z : Bool) → (if z then None else Some AlreadyOpen) ≡ None → z ≡ true
 closed true h = refl
 closed false h = cc
 
+-- two lists of one are of the same element
 first : (a b : List ℕ) → a ∷ [] ≡ b ∷ [] → a ≡ b
 first a b h = cc
 

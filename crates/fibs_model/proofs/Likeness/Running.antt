@@ -34,6 +34,7 @@ take_more (y ∷ xs) zero x e h = ap (λ z. z ∷ []) (sym e)
 take_more (y ∷ xs) (suc i) x e h = ap (λ n. take n (y ∷ xs)) {x = suc i + 1} {y = suc (i + 1)} (omega arith)
     ∙ ap (λ ys. y ∷ ys) (take_more xs i x e (omega (arith, h)))
 
+-- what is left from an element on is the element and what follows it
 drop_more : {A : Type 0} (xs : List A) (i : ℕ) (x : A) → x ≡ get_or xs i x → i < length xs
     → drop i xs ≡ x ∷ drop (i + 1) xs
 drop_more xs i x e h = drop-cons xs i x h ∙ ap (λ y. y ∷ drop (suc i) xs) (sym e)

@@ -32,11 +32,13 @@ pub record Rest (w w' : World) : Type 0 where
   pub count : w'.count ≡ w.count
   pub log : w'.log ≡ w.log
 
+-- a line that is sent leaves all of the world but the wires
 pub sends_rest : (w : World) (t : List ℕ) → Rest w (sends w t)
 sends_rest w t = if_fact (Rest w) (is_talking w) _ _
     (λ z. record { board = refl; logged_in = refl; count = refl; log = refl })
     (λ z. record { board = refl; logged_in = refl; count = refl; log = refl })
 
+-- a line that is sent leaves as many connections as there were
 pub length_sent : (l c : ℕ) (links : List LinkValue) (line : List ℕ) → length (send_links l c links line) ≡ length links
 length_sent l c links line = if_fact (λ ls. length ls ≡ length links) (nat_eq c l && not (nat_eq l 0)) _ _
     (λ z. length_set_link links c _) (λ z. refl)
@@ -70,6 +72,7 @@ module _ (law : ServersEntriesAreSilent) (v v' : WorldValue) (line : List ℕ)
     (logged_in : v'.server.logged_in ≡ v.server.logged_in)
     (links : v'.links ≡ send_links v.server.logged_in v.current v.links line)
     (log : v'.log ≡ v.log) (current : v'.current ≡ v.current) (client : v'.client ≡ v.client) where
+  -- a server that sends a line leads to the world after the event, if the machine's sends it
   stands_on : (login : List ℕ) (w w' : World) (e : Event) → StandsFor v login w → Rest w' (after login w e)
       → w'.log ≡ w.log → w'.logged_in ≡ w.logged_in → w'.count ≡ w.count
       → v'.server.board ≡ w'.board → ((d : ℕ) → (after login w e).links d ≡ (sends w' line).links d)
@@ -90,17 +93,20 @@ module _ (law : ServersEntriesAreSilent) (v v' : WorldValue) (line : List ℕ)
     sound = sound_after login w e s.sound may;
   }
 
+  -- a board of the server's own is set and sent
   pub own_stands : (b : BoardFields) → v'.server.board ≡ b → line ≡ spelling b → May v (Own b) → Goes v v' (Own b)
   own_stands b board is may login w s =
       stands_on login w (record w { board = b }) (Own b) s (sends_rest (record w { board = b }) (spelling b)) refl refl
       refl board
       (λ d. ap (λ t. (sends (record w { board = b }) t).links d) (sym is)) (λ d. refl) (may login w s) refl
 
+  -- the server's board is sent once more
   pub repeat_stands : v'.server ≡ v.server → line ≡ spelling v.server.board → Goes v v' Repeat
   repeat_stands server is login w s =
       stands_on login w w Repeat s (sends_rest w (spelling w.board)) refl refl refl (ap (λ x. x.board) server ∙ s.board)
       (λ d. ap (λ t. (sends w t).links d) (sym (is ∙ ap spelling s.board))) (λ d. refl) refl refl
 
+  -- a text is sent
   pub text_stands : v'.server ≡ v.server → May v (Text line) → Goes v v' (Text line)
   text_stands server may login w s =
       stands_on login w w (Text line) s (sends_rest w line) refl refl refl (ap (λ x. x.board) server ∙ s.board)
@@ -111,11 +117,13 @@ no_error : {A E : Type 0} (r : Result A E) → result_err r ≡ None → IsOk r
 no_error (Ok x) h = refl
 no_error (Err e) h = cc
 
+-- the server takes a board of its own that the machine does not refuse
 pub own_is_ok : {A : Type 0} (r : Result A WorldRefusal) (v : WorldValue) (login : List ℕ) (w : World) (b : BoardFields)
     → StandsFor v login w → May v (Own b)
     → result_err r ≡ own_refusal v.server.board b → IsOk r
 own_is_ok r v login w b s may e = no_error r (e ∙ ap (λ x. own_refusal x b) s.board ∙ may login w s)
 
+-- what holds of a success holds of what succeeded
 pub of_ok : {A E P : Type 0} (r : Result A E) → IsOk r → OnOk r P → P
 of_ok (Ok x) is p = p
 of_ok (Err e) is p = absurd (true≢false (sym is))

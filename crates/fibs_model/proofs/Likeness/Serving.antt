@@ -121,6 +121,7 @@ module _ (law : ServersEntriesAreSilent) (v v' : WorldValue) (c d1 d2 : ℕ) (s 
     else wires))
     (log : v'.log ≡ v.log ++ served_entries c v.server.board s) (current : v'.current ≡ v.current)
     (client : v'.client ≡ v.client) (may : May v (Serve c d1 d2)) where
+  -- the server that takes the next line of a connection, the wires, and the log fit the machine's world after it
   fits : (login : List ℕ) (w : World) → StandsFor v login w
       → Fits v'.server v'.links v'.log v'.current (after login w (Serve c d1 d2))
   fits login w h =
@@ -157,6 +158,7 @@ module _ (law : ServersEntriesAreSilent) (v v' : WorldValue) (c d1 d2 : ℕ) (s 
       (subst (λ x. Fits x (if is_answered s then send_links x.logged_in v.current wires (spelling x.board) else wires)
       (v.log ++ served_entries c v.server.board s) v.current (does_served c w1 s)) (sym takes.server) after_it)))))
 
+  -- the server takes the next line of a connection as the machine's does
   pub served_stands : Goes v v' (Serve c d1 d2)
   served_stands login w h =
       let f = fits login w h in
@@ -183,6 +185,7 @@ pub takes_after : (old new : ServerValue) (links grown after : List LinkValue) (
     → grown ≡ links → TakesNext old new grown after c d1 d2 s → TakesNext old new links after c d1 d2 s
 takes_after old new links grown after c d1 d2 s g t = subst (λ ls. TakesNext old new ls after c d1 d2 s) g t
 
+-- entries of the server noted after a growth are noted after the log before it
 pub note_after : (log grown new : List C.Entry) (es : List L.Entry) (board before : BoardFields) (c : ℕ) (s : Served)
     → grown ≡ log → board ≡ before
     → map entry_of new ≡ map entry_of grown ++ es → es ≡ served_entries c board s

@@ -131,6 +131,7 @@ module _ (name password : List ℕ) (first : BoardFields) (before : List Event) 
       each_more (login_text name password) d1 d2 (machine_after name password first before) a.events e a.each
       (ap (next_to_rest d1 d2) (sym (after_several (login_text name password) first before a.events)) ∙ next)
 
+  -- the next event on the way to rest is done, and the world is one further
   pub way_goes_on : (v v' : WorldValue) (n : ℕ) (a : OnItsWay v n) (e : Event)
       → next_to_rest d1 d2 (machine_after name password first (before ++ a.events)) ≡ Some e
       → WorldStandsAfter v' name password first ((before ++ a.events) ++ e ∷ []) → OnItsWay v' (n + 1)

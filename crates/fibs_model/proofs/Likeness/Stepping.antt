@@ -30,10 +30,12 @@ IsTold None = Unit {0}
 IsTold (Some Memory) = ⊥
 IsTold (Some why) = Unit {0}
 
+-- a choice of two refusals is told if each is
 pub if_told : (b : Bool) (x y : Option WorldRefusal) → IsTold x → IsTold y → IsTold (if b then x else y)
 if_told true x y p q = p
 if_told false x y p q = q
 
+-- no refusal of the machine says that memory ran out
 pub told : (w : World) (e : Event) → IsTold (refusal w e)
 told w Open = if_told (nat_eq (open_now w.log) 0) _ _ tt tt
 told w (Click d) = tt
@@ -65,21 +67,25 @@ tells BadDice answer t e = sym e
 
 -- One event more.
 
+-- one more event that is accepted follows events that all are
 all_more : (login : List ℕ) (w : World) (es : List Event) (e : Event) → AllAccepted login w es
     → refusal (after_all login w es) e ≡ None → AllAccepted login w (es ++ e ∷ [])
 all_more login w [] e h r = (r, tt)
 all_more login w (x ∷ es) e h r = (h.0, all_more login (after login w x) es e h.1 r)
 
+-- the world after one more event is one step from the world before it
 after_more : (login : List ℕ) (w : World) (es : List Event) (e : Event)
     → after_all login w (es ++ e ∷ []) ≡ after login (after_all login w es) e
 after_more login w [] e = refl
 after_more login w (x ∷ es) e = after_more login (after login w x) es e
 
+-- one more event that is not refused follows events that may be
 may_more : (login : List ℕ) (first : BoardFields) (es : List Event) (e : Event) → MayBe login first es
     → refusal (world_after login first es) e ≡ None → MayBe login first (es ++ e ∷ [])
 unfolding MayBe world_after
 may_more login first es e h r = all_more login (start first) es e h r
 
+-- the world after one more event, from the start, is one step from the world before it
 world_more : (login : List ℕ) (first : BoardFields) (es : List Event) (e : Event)
     → world_after login first (es ++ e ∷ []) ≡ after login (world_after login first es) e
 unfolding world_after

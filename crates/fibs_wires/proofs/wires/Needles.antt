@@ -113,6 +113,7 @@ ends (b ∷ c ∷ bytes) (suc k) o =
     ap (λ n. take n (b ∷ c ∷ bytes)) {x = suc k + 2} {y = suc (k + 2)} (omega arith)
     ∙ ap (λ xs. b ∷ xs) (ends (c ∷ bytes) k (behind_occurs b (c ∷ bytes) k o))
 
+-- the bytes up to what a search finds, and CR LF, are those up to the line's end
 pub searched_ends : (bytes : List ℕ) (answer : Option ℕ) → FindsNeedle bytes line_end 0 answer
     → IfSome answer (λ len. take (len + 2) bytes ≡ take len bytes ++ line_end)
 searched_ends bytes None h = tt
