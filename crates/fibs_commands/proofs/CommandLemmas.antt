@@ -57,6 +57,7 @@ same_stake Gammon Gammon e = refl
 same_stake Backgammon Backgammon e = refl
 same_stake s t e = absurd (omega (arith, ap first e))
 
+-- in one direction decisions with the same command are the same
 pub commands_tell_decisions : CommandsTellDecisions
 unfolding command_of
 commands_tell_decisions direction roll roll ia ib e = refl
@@ -69,6 +70,7 @@ commands_tell_decisions direction (resign s) (resign t) ia ib e =
     ap (λ stake. resign stake) (same_stake s t (append_cancel_left (codes "resign ") _ _ e))
 commands_tell_decisions direction a b ia ib e = absurd (omega (arith, ap third e))
 
+-- the command of a decision has at most 36 bytes
 pub commands_are_short : CommandsAreShort
 unfolding command_of
 commands_are_short direction roll is = omega arith
@@ -81,6 +83,7 @@ commands_are_short direction (resign Normal) is = omega arith
 commands_are_short direction (resign Gammon) is = omega arith
 commands_are_short direction (resign Backgammon) is = omega arith
 
+-- the command of a decision has a byte, and all its bytes are printed text
 pub commands_are_printed : CommandsArePrinted
 unfolding command_of
 commands_are_printed direction roll is = (All-from_recursion IsPrinted (codes "roll") (search rules), omega arith)
@@ -99,6 +102,7 @@ commands_are_printed direction (resign Gammon) is =
 commands_are_printed direction (resign Backgammon) is =
     (All-from_recursion IsPrinted (codes "resign b") (search rules), omega arith)
 
+-- but for a move the command of a decision is the same in both directions
 pub plain_in_both_directions : PlainInBothDirections
 unfolding command_of
 plain_in_both_directions roll still = refl

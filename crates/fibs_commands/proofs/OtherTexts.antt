@@ -17,6 +17,7 @@ use Rattle.fibs_commands.specs.CommandLaws.{IsOther, LoginIsOther, StyleIsOther,
 abbrev letters : List ℕ → ℕ
 letters text = 2 * get_or text 0 0 + get_or text 1 0
 
+-- the numbers of the first two letters of `roll`, `double`, `accept`, `reject`, `resign` and `move`
 abbrev is_letters : ℕ → Bool
 is_letters n = n == 339 || n == 311 || n == 293 || n == 329
 

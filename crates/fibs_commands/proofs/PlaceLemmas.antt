@@ -23,6 +23,7 @@ pub place_number : (direction : Direction) (place : ℕ) → place ≢ 25 → pl
     → place_text direction place ≡ decimal (line_place direction place)
 place_number direction place not_bar some = grind (arith, nat_tests)
 
+-- a place is the bar, off the board, or a number of the direction
 pub place_cases : (direction : Direction) (place : ℕ) → place ≤ 25 → PlaceCase direction place
 place_cases direction place le = elim (cases_eq place 25) [
   | inl bar ↦ on_bar bar (ap (λ i. place_text direction i) bar)
@@ -51,11 +52,13 @@ IsDigitByte byte = (48 ≤ byte) × (byte ≤ 57)
 abbrev pub IsPlaceByte : ℕ → Type 0
 IsPlaceByte byte = (48 ≤ byte) × (byte ≤ 122)
 
+-- a place's number is written in digits
 pub decimal_digits : (n : ℕ) → n ≤ 25 → All IsDigitByte (decimal n)
 decimal_digits n le =
     let numeral = decimal_is_IsNumeral n (omega arith) in
     All-from_get_or IsDigitByte (decimal n) 0 (λ i lt. digit_at (decimal n) i numeral.0.1 lt)
 
+-- a place is written in digits and letters
 pub place_bytes : (direction : Direction) (place : ℕ) → place ≤ 25 → All IsPlaceByte (place_text direction place)
 place_bytes direction place le = elim (place_cases direction place le) [
   | on_bar is text ↦ All-same IsPlaceByte _ _ text (All-from_recursion IsPlaceByte (codes "bar") (search rules))
@@ -65,6 +68,7 @@ place_bytes direction place le = elim (place_cases direction place le) [
       (decimal_digits (line_place direction place) (line_place_low direction place le)))
 ]
 
+-- a place is written in three bytes at most
 pub place_short : (direction : Direction) (place : ℕ) → place ≤ 25 → length (place_text direction place) ≤ 3
 place_short direction place le = elim (place_cases direction place le) [
   | on_bar is text ↦ omega (arith, ap length text)

@@ -50,6 +50,7 @@ line_place_inside : (direction : Direction) (n : ℕ) → 0 < n → n ≤ 24
 line_place_inside Down n low high = (low, high)
 line_place_inside Up n low high = (omega arith, omega arith)
 
+-- the text is the name of the place
 abbrev Named : Direction → List ℕ → ℕ → Type 0
 Named direction name p = (p ≤ 25) × (name ≡ place_text direction p)
 
@@ -134,6 +135,7 @@ place_named decimals direction p le = elim (place_cases direction p le) [
 
 -- steps
 
+-- the word is the text of the step
 abbrev IsStepOf : Direction → List ℕ → Hop → Type 0
 IsStepOf direction word step = IsStep step × (word ≡ step_text direction step)
 
@@ -203,6 +205,7 @@ step_named decimals direction step is =
 
 -- the steps of words
 
+-- the words are the texts of the steps
 abbrev AreSteps : Direction → List (List ℕ) → List Hop → Type 0
 AreSteps direction words steps = All IsStep steps × (words ≡ map (step_text direction) steps)
 

@@ -27,6 +27,7 @@ place_no_dash direction place le =
     All-weaker IsPlaceByte (λ b. b ≢ 45) (λ b is. λ e. omega arith) (place_text direction place)
     (place_bytes direction place le)
 
+-- a step is written in bytes of places and a dash
 pub step_bytes : (direction : Direction) (step : Hop) → IsStep step → All IsStepByte (step_text direction step)
 step_bytes direction step is =
     let wider : (b : ℕ) → IsPlaceByte b → IsStepByte b = λ b byte. (omega arith, byte.1) in
@@ -37,6 +38,7 @@ step_bytes direction step is =
     All-append IsStepByte _ _ (All-append IsStepByte _ (45 ∷ []) source
     (All-cons IsStepByte 45 [] (omega arith, omega arith) (All-nil IsStepByte))) target
 
+-- a step is written in seven bytes at most
 pub step_short : (direction : Direction) (step : Hop) → IsStep step → length (step_text direction step) ≤ 7
 step_short direction step is =
     omega (
@@ -71,6 +73,7 @@ space_before : (direction : Direction) (steps : List Hop) → List ℕ
 space_before direction [] = []
 space_before direction (step ∷ steps) = step_text direction step ++ (steps_text direction steps ++ 32 ∷ [])
 
+-- a space moves from the end of the steps' text to its front
 spaced : (direction : Direction) (steps : List Hop)
     → steps_text direction steps ++ 32 ∷ [] ≡ 32 ∷ space_before direction steps
 unfolding space_before

@@ -11,6 +11,7 @@ use Rattle.std.proofs.lemmas.Bool.Decides.{nat_tests}
 use Rattle.std.proofs.lemmas.List.{take_all, take_rest}
 use Rattle.fibs_engine.specs.Escape.{is_escaped, hex_escape, escaped}
 
+-- what a function makes of two lists in a row is what it makes of each, in a row
 pub flat_map-append : {X A : Type 0} (f : X → List A) (xs ys : List X)
     → flat_map f (xs ++ ys) ≡ flat_map f xs ++ flat_map f ys
 flat_map-append f [] ys = refl

@@ -12,6 +12,7 @@ pub on_ok_weaker : {T E P Q : Type 0} (r : Result T E) → (P → Q) → OnOk r 
 on_ok_weaker (Ok x) f h = f h
 on_ok_weaker (Err e) f h = tt
 
+-- what follows from what holds of a result holds of it
 pub if_ok_weaker : {T E : Type 0} {P Q : T → Type 0} (r : Result T E) → ((x : T) → P x → Q x) → IfOk r P → IfOk r Q
 if_ok_weaker (Ok x) f h = f x h
 if_ok_weaker (Err e) f h = tt

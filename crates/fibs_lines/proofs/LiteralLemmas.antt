@@ -20,6 +20,7 @@ is_other b = not (is_literal b)
 abbrev pub below : ℕ → ℕ → ℕ
 below a b = cond (ltb a b) 255 0
 
+-- what a lane holds after a search for a byte: all bits if it is there
 abbrev pub hit : ℕ → ℕ → ℕ
 hit a b = cond (eqb a b) 255 0
 

@@ -95,6 +95,7 @@ shown_append (l ∷ ls) ms x y a b =
 pub ShownLent : Option Line → List ℕ → Type 0
 ShownLent line text = ShownLines (lent_lines line) text
 
+-- a line that was lent is shown by its text and a line end
 pub lent_some : (line : Line) (text : List ℕ) → ShownLine (value_of line) text
     → ShownLent (Some line) (text ++ (10 ∷ []))
 unfolding ShownLent
@@ -146,6 +147,7 @@ pub record Passed (left still held now : Option (List ℕ)) (lines : LinesValue)
   pub enough : reads ≤ length stream
   pub few : length stream ≤ reads * size
 
+-- before anything is read nothing is shown
 pub passed_nothing : (left held : Option (List ℕ)) (lines : LinesValue) (text : List ℕ) (size : ℕ)
     → EmptyStreamHasNoLine → StandsAfter lines [] → text ≡ []
     → Passed left left held held lines text 0 size

@@ -3,6 +3,7 @@ use Rattle.std.proofs.Common.{◌≡◌, ◌==◌, ℕ, Bool, true, false, List,
 use Rattle.std.specs.Io.BufRead.{take_through}
 use Rattle.fibs_fields.specs.Split.{before}
 
+-- what is in front of the first such byte is the same in a text up to it, whether or not it begins with it
 through-cases : (c x : ℕ) (xs : List ℕ) (t : Bool) → (x == c) ≡ t → before c (take_through c xs) ≡ before c xs
     → before c (take_through c (x ∷ xs)) ≡ before c (x ∷ xs)
 through-cases c x xs true e inner = rw e (rw e refl)

@@ -15,9 +15,11 @@ use Rattle.fibs_front.specs.TypedLines.{typed_line}
 use Rattle.fibs_front.specs.TypedReads.{TakesLine}
 use Rattle.fibs_connect.specs.Converse.Ending.{EndsBy, ConversedOver}
 
+-- a password of more than 64 bytes is too long
 too_long : (text : List ℕ) → 64 < length text → password_fault text ≡ Some TooLong
 too_long text long = let no : nat_le (length text) 64 ≡ false = grind (arith, nat_tests) in rw no refl
 
+-- the login has the same fault if only the first 4097 bytes of a password are kept
 pub kept_password : (name password : List ℕ) → login_fault name (take 4097 password) ≡ login_fault name password
 unfolding login_fault
 kept_password name password = elim (cases_lt (length password) 4098) [
@@ -31,6 +33,7 @@ all_ahead : (waiting : List ℕ) (left : Option (List ℕ)) → waiting ≡ [] �
 all_ahead waiting None e = refl
 all_ahead waiting (Some typed) e = ap (λ (l : List ℕ). Some (l ++ typed)) e
 
+-- a conversation whose password line was read ends by the fault of the login
 over_by : (name line : List ℕ) (left still : Option (List ℕ)) (found : Bool) (fault : Option PlainFault)
     (result : Result ℕ EngineFault) (held now other then : Option (List ℕ))
     → TakesLine left still line found → fault ≡ login_fault name line → EndsBy fault result held now other then

@@ -9,6 +9,7 @@ use Rattle.fibs_connect.specs.Converse.Players.{players_told}
 abbrev pub listed : ℕ → List MessageValue → List SaidValue
 listed n entries = players_told (take n entries)
 
+-- the next player is listed after those before
 one_more : (n : ℕ) (entries : List MessageValue) (m : MessageValue) → slice_get entries n ≡ Some m
     → listed (suc n) entries ≡ listed n entries ++ player_said m ∷ []
 one_more n [] m e = absurd (cc)
@@ -16,6 +17,7 @@ one_more zero (x ∷ entries) m e =
     let same : x ≡ m = cc in ap (λ (y : MessageValue). player_said y ∷ []) same
 one_more (suc n) (x ∷ entries) m e = ap (λ (l : List SaidValue). player_said x ∷ l) (one_more n entries m e)
 
+-- the same of a number that is counted up
 pub listed-more : (n : ℕ) (entries : List MessageValue) (m : MessageValue) → slice_get entries n ≡ Some m
     → listed (n + 1) entries ≡ listed n entries ++ player_said m ∷ []
 listed-more n entries m e = ap (λ (k : ℕ). listed k entries) (add-one n) ∙ one_more n entries m e

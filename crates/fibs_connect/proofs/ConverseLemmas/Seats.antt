@@ -28,6 +28,7 @@ opens_online t off =
     ∙ ap (λ n. not (nat_eq n 0)) (open_append 0 t.log (Opened (suc (connections t.log)) ∷ []))
     ∙ ap (λ b. not b) (ne_eqb (suc (connections t.log)) 0 (omega arith))
 
+-- a client that was offline, and opens a connection, is given a stream
 pub seat_opens : (old new : ClientValue) (send : List (List ℕ)) → FitsStream old false → Does old new Open send
     → FitsStream new true
 seat_opens old new send fits does = ((step fits.0 Open).talk, does.stands fits.0 fits.1, opens_online fits.0 fits.2)

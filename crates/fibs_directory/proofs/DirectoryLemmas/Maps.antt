@@ -135,6 +135,7 @@ module _ {Z : Type 0} where
   module _ (es new : List (Vec ℕ Z × Player)) (key : Vec ℕ Z) (player : Player) (m : MessageValue) (h : IsKeyed es)
       (under : key.items ≡ name_of m) (is : player_value player ≡ m)
       (e : new ≡ insert_entry (λ a b. bytes_eq a.items b.items) es key player) where
+    -- the key is the player's own name
     own : key.items ≡ player.name.items
     own = under ∙ ap name_of (sym is)
 

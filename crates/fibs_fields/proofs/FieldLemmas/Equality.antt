@@ -17,10 +17,12 @@ bytes_in (TailField s) = s
 bytes_in (TextField s) = s
 bytes_in v = []
 
+-- the flag of a value, if it is one
 abbrev flag_in : FieldValue → Bool
 flag_in (FlagField b) = b
 flag_in v = false
 
+-- the number of a value, if it is one
 abbrev number_in : FieldValue → ℕ
 number_in (NumberField n) = n
 number_in (RatingField n) = n
@@ -84,6 +86,7 @@ abbrev first_of : FieldValue → List FieldValue → FieldValue
 first_of v [] = v
 first_of v (u ∷ us) = u
 
+-- a list without its first element
 abbrev others_of : List FieldValue → List FieldValue
 others_of [] = []
 others_of (u ∷ us) = us

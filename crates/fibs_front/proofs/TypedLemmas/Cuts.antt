@@ -4,9 +4,11 @@ use Rattle.std.proofs.Common.{length, length-take, take, drop, Some, None, refl,
 use Rattle.std.proofs.lemmas.List.{drop-drop}
 use Rattle.fibs_fields.specs.Split.{before, after}
 
+-- an option with a value is not the one without
 some_none : {A : Type 0} (x : A) → Some x ≡ None → ⊥
 some_none x h = cc
 
+-- options that are the same have the same value
 some_same : {A : Type 0} (x y : A) → Some x ≡ Some y → x ≡ y
 some_same x y h = cc
 
@@ -53,6 +55,7 @@ before-more c (b ∷ part) s e = go (eqb b c) (before-more c part s) e
     go true ih h = absurd (some_none part h)
     go false ih h = ap (λ (l : List ℕ). b ∷ l) (ih h)
 
+-- after a text without one, what follows the first byte of more is what follows it alone
 pub after-more : (c : ℕ) (part s : List ℕ) → after c part ≡ None → after c (part ++ s) ≡ after c s
 after-more c [] s e = refl
 after-more c (b ∷ part) s e = go (eqb b c) (after-more c part s) e
@@ -73,6 +76,7 @@ after-front c (b ∷ s) more rest e = go (eqb b c) (after-front c s more rest) e
     go true ih h = ap (λ (l : List ℕ). Some (l ++ more)) (some_same s rest h)
     go false ih h = ih h
 
+-- before a text that has one, more leaves what is in front of it
 pub before-front : (c : ℕ) (s more rest : List ℕ) → after c s ≡ Some rest → before c (s ++ more) ≡ before c s
 before-front c [] more rest e = absurd (some_none rest (sym e))
 before-front c (b ∷ s) more rest e = go (eqb b c) (before-front c s more rest) e
@@ -83,10 +87,12 @@ before-front c (b ∷ s) more rest e = go (eqb b c) (before-front c s more rest)
     go true ih h = refl
     go false ih h = ap (λ (l : List ℕ). b ∷ l) (ih h)
 
+-- a front of nothing is nothing
 take-nil : (k : ℕ) → take {A = ℕ} k [] ≡ []
 take-nil zero = refl
 take-nil (suc k) = refl
 
+-- what is left of a front is a front of what is left
 drop-take : (n m : ℕ) (l : List ℕ) → drop n (take m l) ≡ take (m - n) (drop n l)
 drop-take zero m l = let same : m - 0 ≡ m = omega arith in ap (λ (k : ℕ). take k l) (sym same)
 drop-take (suc n) zero l = let none : 0 - suc n ≡ 0 = omega arith in ap (λ (k : ℕ). take k (drop (suc n) l)) (sym none)
@@ -112,6 +118,7 @@ window-rest t f p front rest first then =
     ap (λ (l : List ℕ). length l) first in omega (arith, same) in
     shift t f (length front + 1) p ∙ ap (λ (k : ℕ). drop k w) more ∙ after-drop 10 w rest (sym then)
 
+-- the byte at which what waits is cut lies within it
 pub window-fits : (t f : ℕ) (p front rest : List ℕ) → t ≤ f → front ≡ before 10 (take (f - t) (drop t p))
     → Some rest ≡ after 10 (take (f - t) (drop t p))
     → t + (length front + 1) ≤ f

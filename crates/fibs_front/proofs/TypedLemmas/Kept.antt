@@ -37,5 +37,6 @@ stripped_front l true =
     ap (λ (k : ℕ). take k l) short
 stripped_front l false = take_all (length l) l (omega arith)
 
+-- a line without its CR is a front of it
 pub front_stays : (l : List ℕ) → take (length (strip_carriage_return l)) l ≡ strip_carriage_return l
 front_stays l = stripped_front l (eqb (get_or l (length l - 1) 0) 13)

@@ -89,6 +89,7 @@ among-more (line_typed line) later rest = refl
 among-more server_heard later rest = refl
 among-more all_typed later rest = refl
 
+-- the lines that come are those that were typed, in their order
 pub lines-come-in-order : LinesComeInOrder
 lines-come-in-order [] typed rest c = ap kept_lines (sym c)
 lines-come-in-order (next ∷ later) typed rest c =

@@ -80,6 +80,7 @@ parts_end start left line waiting new whole rest k found grows strips = go start
           grind (arith, nat_tests, some, long, length-append),
         )
 
+-- a front of at least one byte is empty if the text is
 longer_by : (n : ℕ) (l : List ℕ) → 0 < n → nat_lt 0 (length (take n l)) ≡ nat_lt 0 (length l)
 longer_by n l some = grind (arith, nat_tests, length-take n l)
 
@@ -118,6 +119,7 @@ parts_last start left line waiting new found k none grows over some = go start l
               ∙ ap (λ (l : List ℕ). nat_lt 0 (length l)) (sym whole),
         )
 
+-- what is found not to be there is nothing
 none_of : (o : Option (List ℕ)) → false ≡ is_some o → o ≡ None
 none_of None e = refl
 none_of (Some l) e = absurd (cc)
@@ -135,6 +137,7 @@ line_ended start left line waiting new whole now k found then grows strips = go 
     go (Some rest) e = rw (then ∙ ap rest_or_nothing (sym e))
         (parts_end start left line waiting new whole rest k e grows strips)
 
+-- at the end of the input what waited is the last line, if it is not empty
 pub line_last : (start left : Option (List ℕ)) (line waiting new now : List ℕ) (empty : Bool)
     → Parts start (prepend_known waiting left) line → false ≡ is_some (after 10 waiting)
     → now ≡ rest_or_nothing (after 10 waiting) → new ≡ line ++ take (4098 - length line) (before 10 waiting)
@@ -145,6 +148,7 @@ line_last start left line waiting new now empty k found then grows over is =
     let some : not empty ≡ nat_lt 0 (length new) = grind (arith, nat_tests) in
     rw (then ∙ ap rest_or_nothing none) (parts_last start left line waiting new (not empty) k none grows over some)
 
+-- without a line end the line goes on with what is read next
 pub line_goes_on : (start left still : Option (List ℕ)) (line waiting new next : List ℕ)
     → Parts start (prepend_known waiting left) line → false ≡ is_some (after 10 waiting)
     → new ≡ line ++ take (4098 - length line) (before 10 waiting) → Consumes left still next

@@ -43,22 +43,27 @@ abbrev message_in : MessageValue → ReadingValue → MessageValue
 message_in m (numbered_line l) = l
 message_in m other = m
 
+-- the board of a reading, or another
 abbrev board_in : BoardFields → ReadingValue → BoardFields
 board_in b (board_line a) = a
 board_in b other = b
 
+-- the text of a reading, if it is one
 abbrev text_in : ReadingValue → List ℕ
 text_in (text_line text) = text
 text_in other = []
 
+-- the number of a malformed line
 abbrev number_in : ReadingValue → ℕ
 number_in (malformed_line number k f) = number
 number_in other = 0
 
+-- its wrong field
 abbrev field_in : ReadingValue → ℕ
 field_in (malformed_line number k f) = k
 field_in other = 0
 
+-- its fault
 abbrev fault_in : ReadingValue → Fault
 fault_in (malformed_line number k f) = f
 fault_in other = Missing

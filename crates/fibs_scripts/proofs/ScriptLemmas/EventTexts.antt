@@ -49,6 +49,7 @@ front_stays (n ∷ needle) (x ∷ xs) ys h =
 abbrev pub SpellingsBegin : Type 0
 SpellingsBegin = (b : BoardFields) → IsBoard b → IsBoardLine (spelling b)
 
+-- a line has one reading
 abbrev pub OneReading : Type 0
 OneReading = (line : List ℕ) (v w : ReadingValue) → IsReading line v → IsReading line w → v ≡ w
 
@@ -65,6 +66,7 @@ said line (board_line c) b h e = let same : c ≡ b = cc in subst (λ x. BoardTe
 said line (text_line t) b h e = absurd cc
 said line (malformed_line n k f) b h e = absurd cc
 
+-- the board that is found in a line is the one that it says, and none if it says none
 abbrev pub BoardsAreExact : Type 0
 BoardsAreExact = (line : List ℕ) (b : BoardFields) → (board_in line ≡ Some b) ↔ BoardText b line
 

@@ -177,6 +177,7 @@ then_gives : {A B : Type 0} (o : Option A) (x : A) (f : A → Option B) (y : Opt
     → (o >>= f) ≡ y
 then_gives o x f y is more = ap (λ o. o >>= f) is ∙ more
 
+-- `serve` with its three numbers is read as that event
 serve_found : DecimalsAreExact → (c d1 d2 : ℕ) → c ≤ count_limit → d1 ≤ die_limit → d2 ≤ die_limit
     → serving_in (decimal c ++ 32 ∷ (decimal d1 ++ 32 ∷ decimal d2)) ≡ Some (Serve c d1 d2)
 unfolding serving_in
@@ -197,11 +198,13 @@ serve_found decimals c d1 d2 hc h1 h2 =
     (then_gives (after 32 dice) (decimal d2) _ _ inner.1
     (then_gives (decimal_up_to die_limit (decimal d2)) d2 _ _ is_2 refl))))
 
+-- `text` with whatever follows is read as that event
 text_found : (text rest : List ℕ) → TextField text rest → event_in (codes "text" ++ rest) ≡ Some (Text text)
 unfolding event_in joined_in alone_in
 text_found text rest no_text = refl
 text_found text rest rest_of_line = refl
 
+-- a line that says an event is read as it
 line_found : PartsAreExact → (line : List ℕ) (e : Event) → SaysEvent line e → event_in line ≡ Some e
 unfolding event_in joined_in alone_in of_roll
 line_found parts line e says_open = refl

@@ -32,6 +32,7 @@ abbrev line_end : Option (List ℕ) → List ℕ
 line_end None = []
 line_end (Some rest) = 10 ∷ []
 
+-- what is left behind a line end, if there is one
 abbrev left : Option (List ℕ) → List ℕ
 left None = []
 left (Some rest) = rest
@@ -62,6 +63,7 @@ left_shorter (b ∷ s) = elim (cases_eq b 10) [
   | inr n ↦ rw (ne_eqb b 10 n) (let less = left_shorter s in omega arith)
 ]
 
+-- what is left behind a line end is shorter than the whole
 after_shorter : (b n : ℕ) (s r : List ℕ) → after 10 (b ∷ s) ≡ Some r → length (b ∷ s) ≤ suc n → length r ≤ n
 after_shorter b n s r e h = elim (cases_eq b 10) [
   | inl is ↦ (
@@ -110,6 +112,7 @@ open_ended x some h = unterminated x some (All-get_or (λ b. b ≢ 10) x (length
 last_part : (x : List ℕ) → 0 < length x → lines_of_parts (x ∷ []) ≡ x ∷ []
 last_part x some = ap (λ t. cond t [] (x ∷ [])) (ne_eqb (length x) 0 (λ e. absurd (omega arith)))
 
+-- the first part between line ends is a line, and then come those of the rest
 more_parts : (x s : List ℕ) → lines_of_parts (x ∷ slice_split (λ b. b == 10) s) ≡ strip_carriage_return x ∷ lines s
 more_parts x s = rw (parts_of s) refl
 

@@ -23,9 +23,11 @@ few_more most size a b c read count portion took few whole more =
 
 -- a script that is not run
 
+-- a script that is too long is unreadable as a whole
 pub unread_long : (left still : Option (List ℕ)) → ReadWhole None left still → ReadLines (Unreadable 0) left still
 unread_long left still read = (read.0, read.1, inr read.2, too_long read.2)
 
+-- a script is unreadable at its first line that says nothing
 pub unread_at : (script : List ℕ) (number : ℕ) (left still : Option (List ℕ)) → ReadWhole (Some script) left still
     → FirstUnreadable (script_lines script) number → ReadLines (Unreadable number) left still
 unread_at script number left still read first = (script, read.0, inl read.1, unreadable number read.2 first)
