@@ -42,23 +42,28 @@ on_wire old new i send first cleared last does one holds = record {
       (subst (λ (commands : List (List ℕ)). Holds cleared last (wire_of commands)) (does.hands t s) holds);
 }
 
+-- a call that hands out no command needs no wire
 pub unsaid : (old new : ClientValue) (i : InputValue) → Does old new i [] → DoesUnsaid old new i
 unsaid old new i does = record { stands = does.stands; hands_none = λ t s. ap wire_of (does.hands t s) }
 
+-- a wire that is emptied twice is emptied
 pub emptied : (first cleared last : Wire) → IsEmptied first cleared → IsEmptied cleared last → IsEmptied first last
 emptied first cleared last one other =
     record { len_is = other.len_is; bytes_are = other.bytes_are ∙ one.bytes_are }
 
+-- a decision whose status is not 0 is refused
 pub is_refused : (answer : Result ArrayString Refusal) (status : ℕ) → status ≡ refusal_status (refusal_in answer)
     → status ≢ 0 → IsErr answer
 is_refused (Ok command) status is nonzero = absurd (nonzero is)
 is_refused (Err why) status is nonzero = refl
 
+-- a plain command whose status is not 0 is refused
 pub is_plain_refused : (answer : Result ArrayString PlainRefusal) (status : ℕ)
     → status ≡ plain_status (refusal_in answer) → status ≢ 0 → IsErr answer
 is_plain_refused (Ok command) status is nonzero = absurd (nonzero is)
 is_plain_refused (Err why) status is nonzero = refl
 
+-- a call without commands whose status is not 0 is refused
 pub is_silently_refused : {T : Type 0} (answer : Result T Refusal) (status : ℕ)
     → status ≡ refusal_status (result_err answer) → status ≢ 0 → IsErr answer
 is_silently_refused (Ok done) status is nonzero = absurd (nonzero is)

@@ -46,12 +46,14 @@ same_bytes t u b i n e h =
     sym (drop-take i n t) ∙ ap (drop i) (sym (take-take (i + n) b t h) ∙ ap (take (i + n)) e ∙ take-take (i + n) b u h)
     ∙ drop-take i n u
 
+-- a row that lies within a front gives the same line in texts with the same front
 same_line : (t u : List ℕ) (b : ℕ) (row : ToldLine) → take b t ≡ take b u → LiesWithin b row
     → line_in t row ≡ line_in u row
 same_line t u b row e h =
     let f : List ℕ → ReadLine = λ bytes. record { bytes = bytes; cut = is_set row.cut } in
     ap f (same_bytes t u b row.start row.len e h.place)
 
+-- so do all rows that lie within it
 same_lines : (t u : List ℕ) (b : ℕ) (rows : List ToldLine) → take b t ≡ take b u → AllByRecursion (LiesWithin b) rows
     → map (line_in t) rows ≡ map (line_in u) rows
 same_lines t u b [] e h = refl
@@ -64,6 +66,7 @@ further b c [] le h = tt
 further b c (row ∷ rows) le h =
     (record { place = omega (arith, le, h.0.place); flag = h.0.flag }, further b c rows le h.1)
 
+-- one more row that lies within a front follows rows that do
 and_last : (b : ℕ) (rows : List ToldLine) (row : ToldLine) → AllByRecursion (LiesWithin b) rows → LiesWithin b row
     → AllByRecursion (LiesWithin b) (rows ++ row ∷ [])
 and_last b [] row h last = (last, tt)
@@ -82,12 +85,15 @@ front : (s piece : List ℕ) (used more : ℕ) → (s ++ take used piece) ++ tak
 front s piece used more = append_assoc s (take used piece) (take more (drop used piece))
     ∙ ap (λ t. s ++ t) (sym (take-add used more piece))
 
+-- the line that a call read
 abbrev line_fed : FedLine → List ℕ → ReadLine
 line_fed fed text = record { bytes = take fed.len text; cut = is_set fed.cut }
 
+-- a call that read up to a line end gives one line
 copied_one : (fed : FedLine) (text : List ℕ) → is_set fed.ended ≡ true → copied fed text ≡ line_fed fed text ∷ []
 copied_one fed text e = ap (λ (b : Bool). let ls : List ReadLine = (if b then line_fed fed text ∷ [] else []) in ls) e
 
+-- a call that met no line end gives none
 copied_none : (fed : FedLine) (text : List ℕ) → is_set fed.ended ≡ false → copied fed text ≡ []
 copied_none fed text e = ap (λ (b : Bool). let ls : List ReadLine = (if b then line_fed fed text ∷ [] else []) in ls) e
 

@@ -137,5 +137,6 @@ reads_nothing : (left : Option (List ℕ)) → LostAtMost script_limit left left
 reads_nothing None = ([], omega arith, tt)
 reads_nothing (Some bytes) = ([], omega arith, refl)
 
+-- a fault of a device before anything is read or printed is an ending of a script that is played
 pub not_begun : (left held : Option (List ℕ)) → PlayedScript (Err Device) left left held held
 not_begun left held = inl (inl (reads_nothing left, Keeps-refl held))

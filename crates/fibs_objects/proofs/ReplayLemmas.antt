@@ -73,13 +73,16 @@ alone : (script plain : List ℕ) (status : ℕ) → PrintedFor false script (Ok
     → ReplayText script plain status
 alone script plain status h = subst (λ (t : List ℕ). ReplayText script t status) (sym h.2) h.1
 
+-- if memory runs out what a writer gained that had nothing is a log of the script
 log_alone : (script plain : List ℕ) → PrintedFor false script (Err fault.Memory) (Some []) (Some plain)
     → LogOf script plain
 log_alone script plain h = subst (LogOf script) (sym h.2) h.1
 
+-- a run that ended did not break
 not_broken : (why : Option WorldRefusal) → None ≡ Some S.Broken → false ≡ true
 not_broken why e = absurd cc
 
+-- a run at which an event was refused did not break
 refused_not_broken : (why : WorldRefusal) → Some (S.Refused why) ≡ Some S.Broken → false ≡ true
 refused_not_broken why e = absurd cc
 
@@ -101,6 +104,7 @@ module _ (script : List ℕ) (first : BoardFields) (events : List Event) (world 
       ran (refused_not_broken why) log plain))
       h
 
+  -- the objects of a run are those of its script, whether it ended, was refused or broke
   pub run_for : (stop : Option Stop) → RanTo first events world done stop → RunObjects stop done noted r held now
       → ObjectsFor script r held now
   run_for None ran h =
@@ -128,6 +132,7 @@ module _ (script : List ℕ) (first : BoardFields) (events : List Event) (world 
 
 -- a script that is not run
 
+-- a script that says no events is answered by its object
 pub unread_done : (r : Result ℕ EngineFault) (number : ℕ) (left still held now : Option (List ℕ))
     → ReadLines (Unreadable number) left still → LogPrinted 3 [] (L.Script number) r held now
     → IfOk r (λ status. ReplayedObjects status left still held now)
@@ -143,6 +148,7 @@ unread_done (Ok status) number left still held now read h = (
 )
 unread_done (Err why) number left still held now read h = tt
 
+-- a device may fail at that object
 pub unread_failed : (r : Result ℕ EngineFault) (number : ℕ) (left still held now : Option (List ℕ))
     → ReadLines (Unreadable number) left still → LogPrinted 3 [] (L.Script number) r held now
     → IsErrOf r fault.Device → ObjectsFailed left still held now
@@ -160,6 +166,7 @@ unread_failed (Err fault.Device) number left still held now read h failed =
     )
 unread_failed (Err fault.Memory) number left still held now read h failed = absurd cc
 
+-- memory may run out before it is printed
 pub unread_in_part : (r : Result ℕ EngineFault) (number : ℕ) (left still held now : Option (List ℕ))
     → LogPrinted 3 [] (L.Script number) r held now → IsErrOf r fault.Memory → ObjectsInPart left still held now
 unread_in_part (Ok status) number left still held now h failed = absurd cc
@@ -168,6 +175,7 @@ unread_in_part (Err fault.Memory) number left still held now h failed = inl h
 
 -- a script whose lines are readable
 
+-- a script that was read whole is answered by the objects of its run
 pub readable_done : (r : Result ℕ EngineFault) (script : List ℕ) (left still held now : Option (List ℕ))
     → ReadWhole (Some script) left still → ObjectsFor script r held now
     → IfOk r (λ status. ReplayedObjects status left still held now)
@@ -175,6 +183,7 @@ readable_done (Ok status) script left still held now read h =
     (script, h.0, h.1, read.0, inl read.1, h.2, h.3, h.4)
 readable_done (Err why) script left still held now read h = tt
 
+-- a device may fail while they are printed
 pub readable_failed : (r : Result ℕ EngineFault) (script : List ℕ) (left still held now : Option (List ℕ))
     → ReadWhole (Some script) left still → ObjectsFor script r held now → IsErrOf r fault.Device
     → ObjectsFailed left still held now
@@ -183,6 +192,7 @@ readable_failed (Err fault.Device) script left still held now read h failed =
     inr (script, h.0, h.1, read.0, inl read.1, h.2, h.3, h.4)
 readable_failed (Err fault.Memory) script left still held now read h failed = absurd cc
 
+-- memory may run out while they are made
 pub readable_in_part : (r : Result ℕ EngineFault) (script : List ℕ) (left still held now : Option (List ℕ))
     → ReadWhole (Some script) left still → ObjectsFor script r held now → IsErrOf r fault.Memory
     → ObjectsInPart left still held now

@@ -39,6 +39,7 @@ own s line text is h = record {
   text_is = h ∙ ap (λ (l : List (List ℕ)). flat_map (own_object s) l) is ∙ append-nil (own_object s line);
 }
 
+-- the object of what happened has the line of the plain account
 said_is : (s : SaidValue) (line text : List ℕ) → IsLineOf s line → SaidObjects s text → IsSaid line text
 said_is (heard_said heard r) line text is h =
     let opened = opened_of_heard heard r h.0 h.1 in
@@ -64,6 +65,7 @@ said_is (lost_said waited) line text is h = own (lost_said waited) line text is 
 said_is (unnoted_said why) line text is h = own (unnoted_said why) line text is h
 said_is (player_said told) line text is h = own (player_said told) line text is h
 
+-- objects of what happened tell the lines of the plain account
 pub said_tell : OpeningsTell → SaidTellLines
 said_tell tell s t k l text line_s line_t one two =
     let p = said_is s k text line_s one in

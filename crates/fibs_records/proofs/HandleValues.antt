@@ -28,31 +28,39 @@ use Rattle.std.proofs.GlobalToken.{dealloc_token-Testable}
 use Rattle.std.specs.contracts.impls.GlobalAllocator.TheImpl.{ghosts}
 use Rattle.fibs_records.specs.Handles.{maybe_owns}
 
+-- the value of a handle: a structure with one pointer
 abbrev pub held_val : Ptr → Val
 held_val p = vstruct (vcons (ptr_val p) vnil)
 
+-- that the handle has that pointer
 abbrev pub held_own : Ptr → List Val → Fml
 held_own p = (Struct (record { name = []; args = []; types = []; fields = RawPtr ∷ [] })).own_val (p, tt)
 
+-- a handle that has a pointer is its value
 pub held_told : (p : Ptr) (vs : List Val) → shadow (held_own p vs) → vs ≡ held_val p ∷ []
 held_told p vs s = s.1.0 ∙ (λ i. vstruct (of_list (s.1.1.0 i ++ [])) ∷ [])
 
+-- the value of a handle has its pointer, which takes nothing
 pub held_made : {M : Type 1} {𝓤 : Ura M} (𝓛 : Logic 𝓤) (p : Ptr)
     → ent 𝓤 (emp 𝓤) (sem 𝓛 (held_own p (held_val p ∷ [])))
 held_made 𝓛 p = makes_shadow 𝓛 (held_own p (held_val p ∷ [])) (λ _. (tt, (tt, tt)))
     ((ptr_val p ∷ [], tt), (refl, (refl, tt)))
 
+-- a pointer, or null, is of the type of pointers
 pub ptr_typed : (p : Ptr) → Good ty_ptr (ptr_val p)
 ptr_typed (block_ptr b o) = (tt, tt)
 ptr_typed null_ptr = (tt, record { fits = lit< tt })
 
+-- the value of a handle is of the type of structures with one pointer
 pub held_typed : (p : Ptr) → Good (ty_struct [] (tcons ty_ptr tnil)) (held_val p)
 held_typed (block_ptr b o) = (tt, (tt, tt))
 held_typed null_ptr = (tt, (record { fits = lit< tt }, tt))
 
+-- the allocator of the heap
 abbrev pub heap_row : RattleType
 heap_row = heap.the_row
 
+-- that allocator with its laws
 abbrev heap_al : Al
 heap_al = record {
   row = heap_row;

@@ -73,12 +73,14 @@ unbroken_run (Some S.Broken) done log held now (Err fault.Memory) fine h e = h
 
 -- what was printed, if it did not fail
 
+-- a text whose print did not fail was printed whole
 printed_all : (status : ℕ) (text : List ℕ) (held now : Option (List ℕ)) (r : Result ℕ EngineFault)
     → (IsErrOf r fault.Device → ⊥) → Printed status text r held now → Appends held now text
 printed_all status text held now (Ok answered) fine h = h.1
 printed_all status text held now (Err fault.Device) fine h = absurd (fine refl)
 printed_all status text held now (Err fault.Memory) fine h = let wrong = h.0 in absurd cc
 
+-- a log whose print did not fail was printed whole
 gave_up_all : (log : List ℕ) (held now : Option (List ℕ)) (r : Result ℕ EngineFault) → (IsErrOf r fault.Device → ⊥)
     → GaveUp log r held now → Appends held now log
 gave_up_all log held now (Ok answered) fine h = absurd h
@@ -89,11 +91,13 @@ gave_up_all log held now (Err fault.Memory) fine h = h
 abbrev Behind : ℕ → List ℕ → Option (List ℕ) → Option (List ℕ) → Type 0
 Behind done log held now = (rest : List ℕ) × IsLast done rest × Appends held now (log ++ rest)
 
+-- what is printed after a refused event comes behind the log
 behind : (status done : ℕ) (why : WorldRefusal) (log : List ℕ) (held now : Option (List ℕ)) (r : Result ℕ EngineFault)
     → (IsErrOf r fault.Device → ⊥) → Printed status (log ++ refused_text done why) r held now → Behind done log held now
 behind status done why log held now r fine h =
     (refused_text done why, inr (inr (why, refl)), printed_all status (log ++ refused_text done why) held now r fine h)
 
+-- the log of a run is printed, and behind it its last line
 log_printed : (stop : Option Stop) (done : ℕ) (log : List ℕ) (held now : Option (List ℕ)) (r : Result ℕ EngineFault)
     → (IsErrOf r fault.Device → ⊥) → RunPrinted stop done log r held now → Behind done log held now
 log_printed None done log held now r fine h =

@@ -45,6 +45,7 @@ accepted_more : (login : List ℕ) (w : World) (events : List Event) (e : Event)
 accepted_more login w [] e h r = (r, tt)
 accepted_more login w (f ∷ events) e h r = (h.0, accepted_more login (after login w f) events e h.1 r)
 
+-- one more event that is not refused follows events that may be
 pub may_be_more : (login : List ℕ) (first : BoardFields) (events : List Event) (e : Event) → MayBe login first events
     → refusal (world_after login first events) e ≡ None
     → MayBe login first (events ++ e ∷ [])
@@ -64,6 +65,7 @@ pub record Running (first : BoardFields) (events : List Event) (world : WorldVal
   pub stands : StandsFrom world first before
   pub count : done ≡ length before
 
+-- at first none of the events was done
 pub run_begins : (first : BoardFields) (events : List Event) (world : WorldValue) (lines : List (List ℕ))
     → StandsFrom world first [] → SayEvents lines events → Running first events world lines 0
 run_begins first events world lines stands said =
@@ -77,6 +79,7 @@ run_begins first events world lines stands said =
       count = refl;
     }
 
+-- the events that were done are none then
 pub run_begins_none : (first : BoardFields) (events : List Event) (world : WorldValue) (lines : List (List ℕ))
     (stands : StandsFrom world first []) (said : SayEvents lines events)
     → (run_begins first events world lines stands said).before ≡ []
@@ -89,6 +92,7 @@ pub record FirstSaid (lines rest : List (List ℕ)) (later : List Event) (e : Ev
   pub is : later ≡ e ∷ others
   pub said : SayEvents rest others
 
+-- the first of some lines, if it is read as an event, says it, and the rest say the others
 first_said : (line : List ℕ) (rest : List (List ℕ)) (later : List Event) (event : ProgramEvent)
     → SayEvents (line ∷ rest) later → ReadsLine (Some event) line
     → FirstSaid (line ∷ rest) rest later (event_of event)
@@ -98,6 +102,7 @@ first_said line rest (e ∷ others) event said exact =
     let same : e ≡ event_of event = cc in
     record { others = others; is = ap (λ x. x ∷ others) same; said = said.1 }
 
+-- the same of lines that are a first and a rest
 pub said_first : (lines rest : List (List ℕ)) (line : List ℕ) (later : List Event) (event : ProgramEvent)
     → lines ≡ line ∷ rest → SayEvents lines later → ReadsLine (Some event) line
     → FirstSaid lines rest later (event_of event)
@@ -128,6 +133,7 @@ run_more first events old new lines rest line done event run is exact accepts go
       count = omega arith;
     }
 
+-- the events that were done are one more then
 pub run_more_one : (first : BoardFields) (events : List Event) (old new : WorldValue) (lines rest : List (List ℕ))
     (line : List ℕ) (done : ℕ) (event : ProgramEvent) (run : Running first events old lines done)
     (is : lines ≡ line ∷ rest) (exact : ReadsLine (Some event) line)
@@ -165,6 +171,7 @@ no_event_left : (later : List Event) → SayEvents [] later → later ≡ []
 no_event_left [] said = refl
 no_event_left (e ∷ later) said = absurd said
 
+-- if no line is left the run has done all events
 pub run_ends : (first : BoardFields) (events : List Event) (world : WorldValue) (lines : List (List ℕ)) (done : ℕ)
     → Running first events world lines done → lines ≡ []
     → RanTo first events world done None
@@ -180,9 +187,11 @@ run_ends first events world lines done run none = record {
 
 -- the lines that are left say events
 
+-- the lines say events
 abbrev pub Readable : List (List ℕ) → Type 0
 Readable lines = (events : List Event) × SayEvents lines events
 
+-- if lines say events so do all but the first
 pub rest_readable : (lines rest : List (List ℕ)) (line : List ℕ) → lines ≡ line ∷ rest → Readable lines → Readable rest
 rest_readable lines rest line is said = go (subst Readable is said)
   where
@@ -328,6 +337,7 @@ pub record FirstRead (all rest : List (List ℕ)) (first : BoardFields) (events 
   pub says : SayScript all first events
   pub others : SayEvents rest events
 
+-- lines whose first says a board say a script with that board, and the rest its events
 pub first_read : (all rest : List (List ℕ)) (line : List ℕ) (b first : BoardFields) (events : List Event)
     → all ≡ line ∷ rest → SayScript all b events → BoardText first line
     → FirstRead all rest first events
@@ -341,6 +351,7 @@ refused_first : (t : Bool) (why : WorldRefusal) → Some why ≡ (if t then None
 refused_first true why h = absurd cc
 refused_first false why h = (refl, cc)
 
+-- a first board that is refused is not good, and the refusal says so
 pub bad_first : GoodIsExact → (b : BoardFields) (why : WorldRefusal)
     → Some why ≡ (if good b then None else Some W.BadBoard) → (¬ IsGood b) × (why ≡ W.BadBoard)
 bad_first exact b why h =
@@ -352,11 +363,13 @@ taken_first : (t : Bool) → None ≡ (if t then None else Some W.BadBoard) → 
 taken_first true h = refl
 taken_first false h = absurd cc
 
+-- a first board that is taken is good
 pub good_first : GoodIsExact → (b : BoardFields) → None ≡ (if good b then None else Some W.BadBoard) → IsGood b
 good_first exact b h = (exact b).0 (taken_first (good b) h)
 
 -- a script that is not run
 
+-- a device may fail while it is printed that a script says no events
 pub unread_failed : (r : Result ℕ EngineFault) (number : ℕ) (left still held now : Option (List ℕ)) (text : List ℕ)
     → ReadLines (Unreadable number) left still → text ≡ unread_text number → Printed 3 text r held now
     → IsErrOf r fault.Device → ReplayFailed left still held now
@@ -366,6 +379,7 @@ unread_failed (Err why) number left still held now text read is h failed =
 
 -- a script whose lines are readable
 
+-- a script that was read whole is answered by the text of its run
 pub readable_done : (may_break : Bool) (r : Result ℕ EngineFault) (script : List ℕ)
     (left still held now : Option (List ℕ)) → ReadWhole (Some script) left still
     → PrintedFor may_break script r held now
@@ -373,6 +387,7 @@ pub readable_done : (may_break : Bool) (r : Result ℕ EngineFault) (script : Li
 readable_done may_break (Ok status) script left still held now read h = (script, h.0, read.0, inl read.1, h.1, h.2)
 readable_done may_break (Err why) script left still held now read h = tt
 
+-- a device may fail while that is printed, or the carrier may break
 pub readable_failed : (may_break : Bool) (r : Result ℕ EngineFault) (script : List ℕ)
     (left still held now : Option (List ℕ)) → ReadWhole (Some script) left still
     → PrintedFor may_break script r held now
@@ -385,6 +400,7 @@ readable_failed may_break (Err fault.Device) script left still held now read h f
 ]
 readable_failed may_break (Err fault.Memory) script left still held now read h failed = absurd cc
 
+-- memory may run out while it is made
 pub readable_in_part : (may_break : Bool) (r : Result ℕ EngineFault) (script : List ℕ)
     (left still held now : Option (List ℕ)) → ReadWhole (Some script) left still
     → PrintedFor may_break script r held now
