@@ -36,6 +36,7 @@ shown_append (l ∷ ls) ms x y a b =
 pub LentObject : Option Line → List ℕ → Type 0
 LentObject line text = LineObjects (lent_lines line) text
 
+-- a line that was lent is printed as its object and a line end
 pub lent_some : (line : Line) (text : List ℕ) → LineObject (value_of line) text
     → LentObject (Some line) (text ++ (10 ∷ []))
 unfolding LentObject
@@ -87,6 +88,7 @@ pub record Passed (left still held now : Option (List ℕ)) (lines : LinesValue)
   pub enough : reads ≤ length stream
   pub few : length stream ≤ reads * size
 
+-- before anything is read nothing is printed
 pub passed_nothing : (left held : Option (List ℕ)) (lines : LinesValue) (text : List ℕ) (size : ℕ)
     → EmptyStreamHasNoLine → StandsAfter lines [] → text ≡ []
     → Passed left left held held lines text 0 size

@@ -22,6 +22,7 @@ digit_tells d e h = grind (arith, nat_tests)
 parts_tell : (a b : ℕ) → a / 16 ≡ b / 16 → a % 16 ≡ b % 16 → a ≡ b
 parts_tell a b high low = omega (arith, high, low)
 
+-- a byte is known by its two hexadecimal digits
 digits_tell : (a b : ℕ) → digit (a / 16) ≡ digit (b / 16) → digit (a % 16) ≡ digit (b % 16) → a ≡ b
 digits_tell a b high low = parts_tell a b (digit_tells (a / 16) (b / 16) high) (digit_tells (a % 16) (b % 16) low)
 
@@ -29,15 +30,19 @@ digits_tell a b high low = parts_tell a b (digit_tells (a / 16) (b / 16) high) (
 no_backslash : (b : ℕ) → is_escaped b ≡ false → 92 ≡ b → ⊥
 no_backslash b plain same = grind (arith, nat_tests)
 
+-- a byte that is printed as itself is no quotation mark
 no_quote : (b : ℕ) → is_escaped b ≡ false → 34 ≡ b → ⊥
 no_quote b plain same = grind (arith, nat_tests)
 
+-- what begins with a backslash does not begin with a quotation mark
 backslash_is_no_quote : (x y : List ℕ) → 34 ∷ x ≡ 92 ∷ y → ⊥
 backslash_is_no_quote x y e = cc
 
+-- lists that are the same have the same first element
 heads : (a b : ℕ) (x y : List ℕ) → a ∷ x ≡ b ∷ y → a ≡ b
 heads a b x y e = cc
 
+-- lists that are the same have the same rest
 tails : (a b : ℕ) (x y : List ℕ) → a ∷ x ≡ b ∷ y → x ≡ y
 tails a b x y e = cc
 
@@ -119,6 +124,7 @@ record IsObject (cut : Bool) (bytes text : List ℕ) : Type 0 where
   text_is : text ≡ line_object kind bytes members
   cut_is : begins_cut kind ≡ cut
 
+-- the object of a line that was not cut is one of its bytes
 object_of_reading : (bytes text : List ℕ) (reading : ReadingValue) → ReadObject bytes reading text
     → IsObject false bytes text
 object_of_reading bytes text (numbered_line m) h =
@@ -130,6 +136,7 @@ object_of_reading bytes text (text_line said) h =
 object_of_reading bytes text (malformed_line number field fault) h =
     record { kind = codes "malformed"; members = malformed_members number field fault; text_is = h; cut_is = refl }
 
+-- the object of a line is one of its bytes, and says whether it was cut
 object_of : (cut : Bool) (bytes text : List ℕ) → ObjectAs cut bytes text → IsObject cut bytes text
 object_of true bytes text h = record { kind = codes "cut"; members = []; text_is = h; cut_is = refl }
 object_of false bytes text h = object_of_reading bytes text h.0 h.2
@@ -139,6 +146,7 @@ same_line : (l m : ReadLine) → l.bytes ≡ m.bytes → l.cut ≡ m.cut → l �
 same_line l m bytes cut =
     ap (λ (b : List ℕ). record l { bytes = b }) bytes ∙ ap (λ (c : Bool). record m { cut = c }) cut
 
+-- lines with the same object are the same
 pub objects_tell : ObjectsTellLines
 objects_tell l m text one two =
     let p = object_of l.cut l.bytes text one in
@@ -152,6 +160,7 @@ pub record IsOpened (bytes text : List ℕ) : Type 0 where
   pub more : List ℕ
   pub text_is : text ≡ object_with kind bytes more
 
+-- an object of a line is one with further members
 opened_of_object : (cut : Bool) (bytes text : List ℕ) → IsObject cut bytes text → IsOpened bytes text
 opened_of_object cut bytes text h = record {
   kind = h.kind;
@@ -166,6 +175,7 @@ opened_as true bytes text reading h =
     opened_of_object true bytes text (record { kind = codes "cut"; members = []; text_is = h; cut_is = refl })
 opened_as false bytes text reading h = opened_of_object false bytes text (object_of_reading bytes text reading h)
 
+-- so is the object of a line that was heard
 pub opened_of_heard : (line : ReadLine) (reading : ReadingValue) (text : List ℕ) → HeardObject line reading text
     → IsOpened line.bytes text
 opened_of_heard line reading text h = opened_as line.cut line.bytes text reading h
@@ -177,6 +187,7 @@ opened_of bytes text status h = elim h [
   | inr other ↦ opened_of_object false bytes text (object_of_reading bytes text other.1.0 other.1.2)
 ]
 
+-- lines with the same object of plays are the same
 pub plays_tell : PlaysTellLines
 plays_tell k l text s t one two =
     let p = opened_of k text s one in

@@ -31,12 +31,14 @@ deciding Move = (λ e. inr (inr refl), λ h. refl)
 deciding Passing =
     (λ e. absurd cc, λ h. elim h [ inl e ↦ absurd cc | inr (inl e) ↦ absurd cc | inr (inr e) ↦ absurd cc ])
 
+-- in one of the three phases in which the user decides, he does
 user_from : (p : PositionValue) → SmallDice p.standing
     → (phase_in p ≡ AnswerDouble) ⊎ (phase_in p ≡ RollOrDouble) ⊎ (phase_in p ≡ Move) → UserDecides p
 user_from p small (inl e) = inl ((phase_exact p AnswerDouble small).0 e)
 user_from p small (inr (inl e)) = inr (inl ((phase_exact p RollOrDouble small).0 e))
 user_from p small (inr (inr e)) = inr (inr ((phase_exact p Move small).0 e))
 
+-- if the user decides it is one of these phases
 user_to : (p : PositionValue) → SmallDice p.standing → UserDecides p
     → (phase_in p ≡ AnswerDouble) ⊎ (phase_in p ≡ RollOrDouble) ⊎ (phase_in p ≡ Move)
 user_to p small (inl h) = inl ((phase_exact p AnswerDouble small).1 h)
@@ -81,6 +83,7 @@ resign_sound : (p : PositionValue) → SmallDice p.standing → (phase_in p ≡ 
 resign_sound p small (inl e) = inl ((phase_exact p RollOrDouble small).0 e)
 resign_sound p small (inr e) = inr ((phase_exact p Move small).0 e)
 
+-- in both phases in which a player resigns the test of the phase holds
 resign_complete : (p : PositionValue) (d : DecisionValue) → SmallDice p.standing → is_for d RollOrDouble ≡ true
     → is_for d Move ≡ true → InPhase p RollOrDouble ⊎ InPhase p Move → is_for d (phase_in p) ≡ true
 resign_complete p d small rolls moves (inl h) = ap (is_for d) ((phase_exact p RollOrDouble small).1 h) ∙ rolls
