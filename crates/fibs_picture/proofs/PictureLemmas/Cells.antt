@@ -19,10 +19,12 @@ if-length : (b : Bool) (x y : List ℕ) → length x ≡ 3 → length y ≡ 3 �
 if-length true x y h k = h
 if-length false x y h k = k
 
+-- what is drawn of one side at a height is three bytes wide
 length-level : (letter n height : ℕ) → length (level letter n height) ≡ 3
 length-level letter n height =
     if-length (nat_lt n height) _ _ refl (if-length ((height == 5) && nat_lt 5 n) _ _ refl refl)
 
+-- what is drawn of a place at a height is three bytes wide
 pub length-stack : (own other height : ℕ) → length (stack own other height) ≡ 3
 length-stack own other height =
     if-length (own == 0) _ _ (length-level other_letter other height) (length-level own_letter own height)
@@ -55,6 +57,7 @@ length-cells f h (p ∷ ps) = let here = h p in let rest = length-cells f h ps i
 abbrev pub SameAt : (ℕ → ℕ) → (ℕ → ℕ) → (ℕ → ℕ) → (ℕ → ℕ) → ℕ → Type 0
 SameAt own other own' other' p = (own p ≡ own' p) × (other p ≡ other' p)
 
+-- a row of five parts is the same if each part is
 five-joined : (a a' b b' c c' d d' e e' : List ℕ) → a ≡ a' → b ≡ b' → c ≡ c' → d ≡ d' → e ≡ e'
     → a ++ (b ++ (c ++ (d ++ e))) ≡ a' ++ (b' ++ (c' ++ (d' ++ e')))
 five-joined a a' b b' c c' d d' e e' p q r s t = cc

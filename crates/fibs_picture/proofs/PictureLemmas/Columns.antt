@@ -30,21 +30,26 @@ abbrev is_read : ℕ → Bool
 is_read n = (seen_of own_letter (column n 0) == n) && ((seen_of other_letter (column n 0) == 0)
     && ((seen_of own_letter (column 0 n) == 0) && (seen_of other_letter (column 0 n) == n)))
 
+-- the test holds of each number below
 abbrev all_below : (ℕ → Bool) → ℕ → Bool
 all_below p zero = true
 all_below p (suc n) = p n && all_below p n
 
+-- all numbers of checkers below 16 are read back
 all-read : all_below is_read 16 ≡ true
 all-read = refl
 
+-- of two tests that hold together the first holds
 and-left : (a b : Bool) → (a && b) ≡ true → a ≡ true
 and-left true b e = refl
 and-left false b e = e
 
+-- of two tests that hold together the second holds
 and-right : (a b : Bool) → (a && b) ≡ true → b ≡ true
 and-right true b e = e
 and-right false b e = cc
 
+-- what holds of all numbers below another holds of each
 below : (p : ℕ → Bool) (n k : ℕ) → k < n → all_below p n ≡ true → p k ≡ true
 below p zero k h e = absurd (omega arith)
 below p (suc n) k h e =
@@ -54,6 +59,7 @@ below p (suc n) k h e =
       | inr less ↦ below p n k less (and-right (p n) (all_below p n) e)
     ]
 
+-- numbers that are found to be equal are equal
 is-equal : (m n : ℕ) → (m == n) ≡ true → m ≡ n
 is-equal m n e = grind (arith)
 
@@ -64,6 +70,7 @@ record IsRead (n : ℕ) : Type 0 where
   other_own : seen_of own_letter (column 0 n) ≡ 0
   other_other : seen_of other_letter (column 0 n) ≡ n
 
+-- of four tests that hold together each holds
 read-parts : (a b c d : Bool) → (a && (b && (c && d))) ≡ true → (a ≡ true) × (b ≡ true) × (c ≡ true) × (d ≡ true)
 read-parts true true true true e = (refl, refl, refl, refl)
 read-parts true true true false e = cc
@@ -71,6 +78,7 @@ read-parts true true false d e = cc
 read-parts true false c d e = cc
 read-parts false b c d e = cc
 
+-- fewer than 16 checkers of either side are read back from their column
 reads : (n : ℕ) → n < 16 → IsRead n
 reads n h =
     let t = read-parts (seen_of own_letter (column n 0) == n) (seen_of other_letter (column n 0) == 0)

@@ -18,18 +18,22 @@ use Rattle.fibs_picture.proofs.PictureLemmas.Cells.{heights-tell}
 
 -- ---- widths
 
+-- an edge is 47 bytes wide
 pub length-edge : (p : PositionValue) (h : Half) → length (edge p h) ≡ 47
 unfolding edge labels label
 length-edge p h = refl
 
+-- a place is three bytes wide
 length-stands : (c : Checkers) (height place : ℕ) → length (stands c height place) ≡ 3
 unfolding stands
 length-stands c height place = length-stack (slice_index c.own place) (slice_index c.other place) height
 
+-- six places are 18 bytes wide
 length-stacks : (c : Checkers) (height : ℕ) (h : Half) (first : ℕ) → length (stacks c height (six h first)) ≡ 18
 unfolding stacks
 length-stacks c height h first = length-cells (stands c height) (length-stands c height) (six h first)
 
+-- a bar is three bytes wide
 length-bar : (c : Checkers) (h : Half) (height : ℕ) → length (bar c h height) ≡ 3
 length-bar c half.Upper height = length-stack (slice_index c.own 25) 0 height
 length-bar c half.Lower height = length-stack 0 (slice_index c.other 0) height
@@ -38,10 +42,12 @@ length-bar c half.Lower height = length-stack 0 (slice_index c.other 0) height
 walled : (a b c : List ℕ) → List ℕ
 walled a b c = codes " |" ++ (a ++ (codes "|" ++ (b ++ (codes "|" ++ (c ++ codes "|   ")))))
 
+-- two times six places, a bar and the walls are 47 bytes wide
 length-walled : (a b c : List ℕ) → length a ≡ 18 → length b ≡ 3 → length c ≡ 18 → length (walled a b c) ≡ 47
 unfolding walled
 length-walled a b c h k m = omega (arith, length-append {A = ℕ})
 
+-- a height of a half is 47 bytes wide
 pub length-layer : (p : PositionValue) (h : Half) (height : ℕ) → length (layer p h height) ≡ 47
 unfolding layer walled
 length-layer p h height = let c = p.standing.checkers in
@@ -50,6 +56,7 @@ length-layer p h height = let c = p.standing.checkers in
 
 -- ---- equal lines
 
+-- equal rows between walls have equal parts
 walls-tell : (a b c a' b' c' : List ℕ) → length a ≡ length a' → length b ≡ length b' → length c ≡ length c'
     → walled a b c ≡ walled a' b' c' → (a ≡ a') × (b ≡ b') × (c ≡ c')
 unfolding walled
@@ -65,6 +72,7 @@ SameCell c d height place =
     stack (slice_index c.own place) (slice_index c.other place) height
     ≡ stack (slice_index d.own place) (slice_index d.other place) height
 
+-- equal rows of places have the same at each place
 stacks-tell : (c d : Checkers) (height : ℕ) (places : List ℕ) → stacks c height places ≡ stacks d height places
     → AllOf (SameCell c d height) places
 unfolding stacks stands
@@ -77,6 +85,7 @@ pub record SameLayer (c d : Checkers) (h : Half) (height : ℕ) : Type 0 where
   pub bars : bar c h height ≡ bar d h height
   pub right : AllOf (SameCell c d height) (six h (right_first h))
 
+-- equal heights of a half have the same on both sides of the bar
 pub layer-tells : (p q : PositionValue) (h : Half) (height : ℕ) → layer p h height ≡ layer q h height
     → SameLayer p.standing.checkers q.standing.checkers h height
 unfolding layer walled
@@ -107,10 +116,12 @@ pub record SameHalf (c d : Checkers) (h : Half) : Type 0 where
 abbrev pub Sided : Checkers → List ℕ → Type 0
 Sided c places = AllOf (λ p. OneSide (slice_index c.own p) (slice_index c.other p)) places
 
+-- both have the same checkers at a place
 abbrev pub Same : Checkers → Checkers → ℕ → Type 0
 Same c d = SameAt (λ p. slice_index c.own p) (λ p. slice_index c.other p) (λ p. slice_index d.own p)
     (λ p. slice_index d.other p)
 
+-- a half that looks the same at all heights has the same checkers on its left six places
 pub left-tells : (c d : Checkers) (h : Half) → Sided c (six h (left_first h)) → Sided d (six h (left_first h))
     → SameHalf c d h
     → AllOf (Same c d) (six h (left_first h))
@@ -118,6 +129,7 @@ left-tells c d h s t e = heights-tell (λ p. slice_index c.own p) (λ p. slice_i
     (λ p. slice_index d.own p) (λ p. slice_index d.other p) (six h (left_first h)) s t
     e.first.left e.second.left e.third.left e.fourth.left e.fifth.left
 
+-- and on its right six places
 pub right-tells : (c d : Checkers) (h : Half) → Sided c (six h (right_first h)) → Sided d (six h (right_first h))
     → SameHalf c d h
     → AllOf (Same c d) (six h (right_first h))
@@ -125,6 +137,7 @@ right-tells c d h s t e = heights-tell (λ p. slice_index c.own p) (λ p. slice_
     (λ p. slice_index d.own p) (λ p. slice_index d.other p) (six h (right_first h)) s t
     e.first.right e.second.right e.third.right e.fourth.right e.fifth.right
 
+-- a row of five parts is the same if each part is
 five : (a a' b b' c c' d d' e e' : List ℕ) → a ≡ a' → b ≡ b' → c ≡ c' → d ≡ d' → e ≡ e'
     → a ++ (b ++ (c ++ (d ++ e))) ≡ a' ++ (b' ++ (c' ++ (d' ++ e')))
 five a a' b b' c c' d d' e e' p q r s t = cc
@@ -137,16 +150,19 @@ edge-read : (d : Direction) (p : PositionValue) → p.direction ≡ d
 unfolding edge labels label
 edge-read d p e = rw e refl
 
+-- the number of the twelfth place tells the direction
 directions-differ : slice_index (label Down 12) 1 ≡ slice_index (label Up 12) 1 → ⊥
 unfolding label
 directions-differ e = absurd (omega arith)
 
+-- so one number is of one direction
 same-direction : (d e : Direction) → slice_index (label d 12) 1 ≡ slice_index (label e 12) 1 → d ≡ e
 same-direction Down Down h = refl
 same-direction Up Up h = refl
 same-direction Down Up h = absurd (directions-differ h)
 same-direction Up Down h = absurd (directions-differ (sym h))
 
+-- equal lower edges are of one direction
 pub edge-tells : (p q : PositionValue) → edge p half.Lower ≡ edge q half.Lower → p.direction ≡ q.direction
 edge-tells p q e = same-direction p.direction q.direction
     (sym (edge-read p.direction p refl) ∙ ap (λ t. slice_index t 3) e ∙ edge-read q.direction q refl)

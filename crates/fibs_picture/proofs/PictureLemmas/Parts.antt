@@ -25,17 +25,21 @@ parts-tell (c ∷ a) (d ∷ b) x y h e =
 abbrev pub lacks : ℕ → List ℕ → Bool
 lacks c xs = list_all (λ x. not (x == c)) xs
 
+-- two texts without a byte do not have it in a row
 pub lacks-append : (c : ℕ) (xs ys : List ℕ) → lacks c xs ≡ true → lacks c ys ≡ true → lacks c (xs ++ ys) ≡ true
 lacks-append c xs ys h k = rw (list_all-append (λ x. not (x == c)) xs ys, h, k) refl
 
+-- of two tests that hold together the first holds
 and-left : (a b : Bool) → (a && b) ≡ true → a ≡ true
 and-left true b e = refl
 and-left false b e = e
 
+-- of two tests that hold together the second holds
 and-right : (a b : Bool) → (a && b) ≡ true → b ≡ true
 and-right true b e = e
 and-right false b e = cc
 
+-- a byte is not found to differ from itself
 not-self : (c : ℕ) → not (c == c) ≡ true → ⊥
 not-self c e = grind (arith)
 
@@ -69,6 +73,7 @@ Alike (p ∷ ps) (q ∷ qs) =
 pair-eq : (p q : List ℕ × List ℕ) → p.0 ≡ q.0 → p.1 ≡ q.1 → p ≡ q
 pair-eq p q e f = ap (λ x. (x, p.1)) e ∙ ap (λ y. (q.0, y)) f
 
+-- a line with what follows it is its two sides and its end, in this order
 line-parts : (p : List ℕ × List ℕ) (u : List ℕ) → line p ++ u ≡ p.0 ++ (p.1 ++ (10 ∷ u))
 unfolding line
 line-parts p u = append_assoc p.0 (p.1 ++ 10 ∷ []) u ∙ ap (λ t. p.0 ++ t) (append_assoc p.1 (10 ∷ []) u)
@@ -91,6 +96,7 @@ lines-tell (p ∷ ps) (q ∷ qs) u v h e =
 
 -- ---- numbers
 
+-- a digit is no byte below the digits
 digit-lacks : (c n : ℕ) → (c < 48) → n < 10 → not ((48 + n) == c) ≡ true
 digit-lacks c n h k = grind (arith)
 

@@ -34,6 +34,7 @@ sides c z (inl e) low high =
 sides c z (inr e) low high =
     subst (λ d. OneSide (checkers_of d z) (checkers_of (neg_ℤ d) z)) (sym e) (split z low high)
 
+-- the number of a place is at most 25, whichever way the player goes
 line_place-le : (d : Direction) (place : ℕ) → place ≤ 25 → line_place d place ≤ 25
 line_place-le Down place h = h
 line_place-le Up place h = omega arith

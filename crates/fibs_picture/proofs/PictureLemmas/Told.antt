@@ -55,9 +55,11 @@ pub record Ranges (b : BoardFields) : Type 0 where
   pub own_off_is : Within 15 (field_of b 46)
   pub other_off_is : Within 15 (field_of b 47)
 
+-- a number from 1 on is not negative
 from-one : (z : ℤ) → pos 1 ≤ℤ z → pos 0 ≤ℤ z
 from-one z h = omega (arith, ints, h)
 
+-- each field of a board is in its range
 pub ranges-of : FieldRanges → (b : BoardFields) → IsBoard b → Ranges b
 ranges-of r b board =
     let may : (n : ℕ) → 4 ≤ n → n ≤ 53 → can_have n (field_of b n) ≡ true = λ n low high. r.held b n board low high in
@@ -79,6 +81,7 @@ ranges-of r b board =
 
 -- ---- the checkers of a board
 
+-- the checkers of a board, as its player sees them
 abbrev checkers : BoardFields → Checkers
 checkers b = (position_of b).standing.checkers
 
@@ -87,21 +90,25 @@ sided-at : FieldRanges → (b : BoardFields) → IsBoard b → (place : ℕ) →
     → OneSide (stand_on b (colour b) place) (stand_on b (neg_ℤ (colour b)) place)
 sided-at r b board place h = one-side r b board place h
 
+-- no place of the upper left six has checkers of both sides
 upper-left-sided : FieldRanges → (b : BoardFields) → IsBoard b → Sided (own_view b) (six half.Upper 13)
 unfolding own_view places
 upper-left-sided r b board = let at = sided-at r b board in
     (at 13 (lit≤ tt), (at 14 (lit≤ tt), (at 15 (lit≤ tt), (at 16 (lit≤ tt), (at 17 (lit≤ tt), (at 18 (lit≤ tt), tt))))))
 
+-- nor has one of the upper right six
 upper-right-sided : FieldRanges → (b : BoardFields) → IsBoard b → Sided (own_view b) (six half.Upper 19)
 unfolding own_view places
 upper-right-sided r b board = let at = sided-at r b board in
     (at 19 (lit≤ tt), (at 20 (lit≤ tt), (at 21 (lit≤ tt), (at 22 (lit≤ tt), (at 23 (lit≤ tt), (at 24 (lit≤ tt), tt))))))
 
+-- nor has one of the lower left six
 lower-left-sided : FieldRanges → (b : BoardFields) → IsBoard b → Sided (own_view b) (six half.Lower 12)
 unfolding own_view places
 lower-left-sided r b board = let at = sided-at r b board in
     (at 12 (lit≤ tt), (at 11 (lit≤ tt), (at 10 (lit≤ tt), (at 9 (lit≤ tt), (at 8 (lit≤ tt), (at 7 (lit≤ tt), tt))))))
 
+-- nor has one of the lower right six
 lower-right-sided : FieldRanges → (b : BoardFields) → IsBoard b → Sided (own_view b) (six half.Lower 6)
 unfolding own_view places
 lower-right-sided r b board = let at = sided-at r b board in
@@ -114,6 +121,7 @@ record SamePlaces (a b : BoardFields) : Type 0 where
   lower_left : AllOf (Same (own_view a) (own_view b)) (six half.Lower 12)
   lower_right : AllOf (Same (own_view a) (own_view b)) (six half.Lower 6)
 
+-- boards whose halves look the same have the same checkers on each six places
 same-places : FieldRanges → (a b : BoardFields) → IsBoard a → IsBoard b
     → SameHalf (own_view a) (own_view b) half.Upper → SameHalf (own_view a) (own_view b) half.Lower → SamePlaces a b
 same-places r a b h k u l = record {
@@ -128,6 +136,7 @@ in-order : (f : ℕ → ℕ) → List ℕ
 in-order f = map f
     (1 ∷ 2 ∷ 3 ∷ 4 ∷ 5 ∷ 6 ∷ 7 ∷ 8 ∷ 9 ∷ 10 ∷ 11 ∷ 12 ∷ 13 ∷ 14 ∷ 15 ∷ 16 ∷ 17 ∷ 18 ∷ 19 ∷ 20 ∷ 21 ∷ 22 ∷ 23 ∷ 24 ∷ [])
 
+-- what is the same on each six places is the same on all in their order
 quarters : (f g : ℕ → ℕ) → AllOf (λ p. f p ≡ g p) (6 ∷ 5 ∷ 4 ∷ 3 ∷ 2 ∷ 1 ∷ [])
     → AllOf (λ p. f p ≡ g p) (12 ∷ 11 ∷ 10 ∷ 9 ∷ 8 ∷ 7 ∷ [])
     → AllOf (λ p. f p ≡ g p) (13 ∷ 14 ∷ 15 ∷ 16 ∷ 17 ∷ 18 ∷ [])
@@ -167,10 +176,12 @@ firsts : (P Q : ℕ → Type 0) (xs : List ℕ) → AllOf (λ p. P p × Q p) xs 
 firsts P Q [] h = tt
 firsts P Q (x ∷ xs) h = (h.0.0, firsts P Q xs h.1)
 
+-- what holds of both sides at each place holds of the second
 seconds : (P Q : ℕ → Type 0) (xs : List ℕ) → AllOf (λ p. P p × Q p) xs → AllOf Q xs
 seconds P Q [] h = tt
 seconds P Q (x ∷ xs) h = (h.0.1, seconds P Q xs h.1)
 
+-- the player's checkers are the same on all places in their order
 own-in-order : (a b : BoardFields) → SamePlaces a b
     → in-order (λ p. slice_index (own_view a).own p) ≡ in-order (λ p. slice_index (own_view b).own p)
 own-in-order a b s =
@@ -180,6 +191,7 @@ own-in-order a b s =
     (firsts own other (six half.Lower 6) s.lower_right) (firsts own other (six half.Lower 12) s.lower_left)
     (firsts own other (six half.Upper 13) s.upper_left) (firsts own other (six half.Upper 19) s.upper_right)
 
+-- and the opponent's
 other-in-order : (a b : BoardFields) → SamePlaces a b
     → in-order (λ p. slice_index (own_view a).other p) ≡ in-order (λ p. slice_index (own_view b).other p)
 other-in-order a b s =
@@ -189,24 +201,29 @@ other-in-order a b s =
     (seconds own other (six half.Lower 6) s.lower_right) (seconds own other (six half.Lower 12) s.lower_left)
     (seconds own other (six half.Upper 13) s.upper_left) (seconds own other (six half.Upper 19) s.upper_right)
 
+-- the player's checkers are the same on each place
 own-places-same : (a b : BoardFields) → SamePlaces a b → own_on_places a ≡ own_on_places b
 unfolding own_view places in-order
 own-places-same a b s = own-in-order a b s
 
+-- and the opponent's
 other-places-same : (a b : BoardFields) → SamePlaces a b → other_on_places a ≡ other_on_places b
 unfolding own_view places in-order
 other-places-same a b s = other-in-order a b s
 
+-- the checkers of both sides, by those on their places and those that are off
 abbrev arranged : List ℕ → List ℕ → ℕ → ℕ → Checkers
 arranged own other own_off other_off = record {
   own = own_off ∷ (own ++ (15 - (sum own + own_off)) ∷ []);
   other = (15 - (sum other + other_off)) ∷ (other ++ other_off ∷ []);
 }
 
+-- it is the same if its four parts are
 view-eq : (p p' q q' : List ℕ) (m m' n n' : ℕ) → p ≡ p' → q ≡ q' → m ≡ m' → n ≡ n'
     → arranged p q m n ≡ arranged p' q' m' n'
 view-eq p p' q q' m m' n n' a b c d = rw (a, b, c, d) refl
 
+-- so boards with the same checkers on their places and off are seen alike
 view-same : (a b : BoardFields) → own_on_places a ≡ own_on_places b → other_on_places a ≡ other_on_places b
     → own_off a ≡ own_off b → other_off a ≡ other_off b → own_view a ≡ own_view b
 unfolding own_view
@@ -221,20 +238,24 @@ at-most-sum [] k = omega arith
 at-most-sum (x ∷ xs) zero = omega (arith, sum_by-cons (λ n. n) x xs)
 at-most-sum (x ∷ xs) (suc k) = let rest = at-most-sum xs k in omega (arith, rest, sum_by-cons (λ n. n) x xs)
 
+-- the player's checkers that are off, on places and left over are 15
 fifteen : (off : ℕ) (xs : List ℕ) → sum xs + off ≤ 15 → sum (off ∷ (xs ++ (15 - (sum xs + off)) ∷ [])) ≡ 15
 fifteen off xs h =
     let rest = 15 - (sum xs + off) in
     omega (arith, sum_by-cons (λ n. n) off (xs ++ rest ∷ []), sum_by_push (λ n. n) xs rest)
 
+-- and the opponent's
 fifteen-other : (off : ℕ) (xs : List ℕ) → sum xs + off ≤ 15 → sum ((15 - (sum xs + off)) ∷ (xs ++ off ∷ [])) ≡ 15
 fifteen-other off xs h =
     let rest = 15 - (sum xs + off) in
     omega (arith, sum_by-cons (λ n. n) rest (xs ++ off ∷ []), sum_by_push (λ n. n) xs off)
 
+-- no place of a good board has more than 15 checkers of the player
 pub own-few : (b : BoardFields) → own_placed b ≤ 15 → (k : ℕ) → slice_index (own_view b).own k ≤ 15
 unfolding own_view
 own-few b h k = omega (arith, at-most-sum (own_view b).own k, fifteen (own_off b) (own_on_places b) h)
 
+-- or of the opponent
 pub other-few : (b : BoardFields) → other_placed b ≤ 15 → (k : ℕ) → slice_index (own_view b).other k ≤ 15
 unfolding own_view
 other-few b h k = omega (arith, at-most-sum (own_view b).other k, fifteen-other (other_off b) (other_on_places b) h)
@@ -246,6 +267,7 @@ few-more f n before here =
     rw (map-range_with_len_more f 0 n n (omega arith), sum_by_push (λ x. x) (map f (range_with_len 0 n)) (f n))
     (omega (arith, before, here))
 
+-- a sum of numbers of at most 375 is at most 375 for each of them
 few-pips : (f : ℕ → ℕ) (n : ℕ) → ((k : ℕ) → k < n → f k ≤ 375) → sum (map f (range_with_len 0 n)) ≤ 375 * n
 few-pips f zero h = omega arith
 few-pips f (suc n) h =
@@ -253,9 +275,11 @@ few-pips f (suc n) h =
     subst (λ m. sum (map f (range_with_len 0 m)) ≤ 375 * m) next
     (few-more f n (few-pips f n (λ k less. h k (omega arith))) (h n (omega arith)))
 
+-- 15 checkers have at most 375 steps to go from one place
 product-few : (m n : ℕ) → m ≤ 25 → n ≤ 15 → m * n ≤ 375
 product-few m n h k = let most : m * n ≤ m * 15 = mul-le-mul_left m k in omega (arith, most)
 
+-- how far the player's checkers have to go is a number of 64 bits
 pub own-pips-few : (b : BoardFields) → own_placed b ≤ 15 → own_pips (own_view b) < 2 ^ 64
 unfolding own_pips
 own-pips-few b h =
@@ -263,6 +287,7 @@ own-pips-few b h =
     (λ k less. product-few k (slice_index (own_view b).own k) (omega arith) (own-few b h k)) in
     omega (arith, few)
 
+-- and how far the opponent's have to go
 pub other-pips-few : (b : BoardFields) → other_placed b ≤ 15 → other_pips (own_view b) < 2 ^ 64
 unfolding other_pips
 other-pips-few b h =
@@ -270,22 +295,27 @@ other-pips-few b h =
     (λ k less. product-few (25 - k) (slice_index (own_view b).other k) (omega arith) (other-few b h k)) in
     omega (arith, few)
 
+-- how far the checkers have to go has no line end
 pips-lacks : (n : ℕ) → n < 2 ^ 64 → lacks 10 (pips n) ≡ true
 pips-lacks n h = lacks-append 10 (codes "  pips  ") (decimal n) refl (decimal-lacks 10 n (lit< tt) h)
 
+-- a score has no line end
 score-lacks : (z : ℤ) → Within 99999999 z → lacks 10 (score z) ≡ true
 unfolding score
 score-lacks z h = lacks-append 10 (codes "  score ") (signed_decimal z) refl
     (number-lacks 10 99999999 z (lit< tt) (lit< tt) h)
 
+-- how many checkers are off has no line end
 off-lacks : (z : ℤ) → Within 15 z → lacks 10 (off z) ≡ true
 unfolding off
 off-lacks z h = lacks-append 10 (codes "  off   ") (signed_decimal z) refl (number-lacks 10 15 z (lit< tt) (lit< tt) h)
 
+-- equal words are of the same score
 score-tells : (y z : ℤ) → Within 99999999 y → Within 99999999 z → score y ≡ score z → y ≡ z
 unfolding score
 score-tells y z h k e = number-tells 99999999 y z (lit< tt) h k (append_cancel_left (codes "  score ") _ _ e)
 
+-- equal words are of as many checkers off
 off-tells : (y z : ℤ) → Within 15 y → Within 15 z → off y ≡ off z → y ≡ z
 unfolding off
 off-tells y z h k e = number-tells 15 y z (lit< tt) h k (append_cancel_left (codes "  off   ") _ _ e)
@@ -303,6 +333,7 @@ record Ended (b : BoardFields) : Type 0 where
   own_score : lacks 10 (score (field_of b 5)) ≡ true
   player : lacks 10 (named 79 b.player) ≡ true
 
+-- no words beside a good board have a line end
 ended : FieldRanges → (b : BoardFields) → IsGood b → Ended b
 ended f b good = let r = ranges-of f b good.board in record {
   opponent = named-lacks 88 b.opponent refl good.board.1;
@@ -319,12 +350,15 @@ ended f b good = let r = ranges-of f b good.board in record {
 
 -- ---- equal pictures have equal lines
 
+-- heights of a half are equally wide on all boards
 layers-wide : (p q : PositionValue) (h : Half) (height : ℕ) → length (layer p h height) ≡ length (layer q h height)
 layers-wide p q h height = length-layer p h height ∙ sym (length-layer q h height)
 
+-- edges are equally wide on all boards
 edges-wide : (p q : PositionValue) (h : Half) → length (edge p h) ≡ length (edge q h)
 edges-wide p q h = length-edge p h ∙ sym (length-edge q h)
 
+-- upper lines are cut at the same columns on all boards
 upper-alike : (a b : BoardFields) → Ended a → Ended b
     → Alike (upper_lines a (position_of a)) (upper_lines b (position_of b))
 unfolding upper_lines
@@ -363,6 +397,7 @@ upper-alike a b s t =
       ),
     )
 
+-- lower lines are cut at the same columns on all boards
 lower-alike : (a b : BoardFields) → Ended a → Ended b
     → Alike (lower_lines a (position_of a)) (lower_lines b (position_of b))
 unfolding lower_lines
@@ -405,6 +440,7 @@ record SameLines (a b : BoardFields) : Type 0 where
   upper : upper_lines a (position_of a) ≡ upper_lines b (position_of b)
   lower : lower_lines a (position_of a) ≡ lower_lines b (position_of b)
 
+-- boards with one picture have the same lines
 same-lines : (a b : BoardFields) → Ended a → Ended b → picture a ≡ picture b → SameLines a b
 unfolding drawn
 same-lines a b s t e =
@@ -428,6 +464,7 @@ record SameUpper (a b : BoardFields) : Type 0 where
   cube_is : cube a ≡ cube b
   places_are : SameHalf (own_view a) (own_view b) half.Upper
 
+-- boards with the same upper lines have the same parts there
 same-upper : (a b : BoardFields) → upper_lines a (position_of a) ≡ upper_lines b (position_of b) → SameUpper a b
 unfolding upper_lines
 same-upper a b e = let p = position_of a in let q = position_of b in record {
@@ -455,6 +492,7 @@ record SameLower (a b : BoardFields) : Type 0 where
   deed_is : deed_in (position_of a) ≡ deed_in (position_of b)
   places_are : SameHalf (own_view a) (own_view b) half.Lower
 
+-- boards with the same lower lines have the same parts there
 same-lower : (a b : BoardFields) → lower_lines a (position_of a) ≡ lower_lines b (position_of b) → SameLower a b
 unfolding lower_lines
 same-lower a b e = let p = position_of a in let q = position_of b in record {
@@ -475,12 +513,15 @@ same-lower a b e = let p = position_of a in let q = position_of b in record {
 
 -- ---- what a picture determines
 
+-- lists of two are the same if their parts are
 pair-same : (w x y z : ℤ) → w ≡ y → x ≡ z → w ∷ x ∷ [] ≡ y ∷ z ∷ []
 pair-same w x y z e f = cc
 
+-- lists of four are the same if their parts are
 four-same : (a b c d a' b' c' d' : ℤ) → a ≡ a' → b ≡ b' → c ≡ c' → d ≡ d' → a ∷ b ∷ c ∷ d ∷ [] ≡ a' ∷ b' ∷ c' ∷ d' ∷ []
 four-same a b c d a' b' c' d' e f g h = cc
 
+-- boards with the same parts are the same to the eye
 told : FieldRanges → (a b : BoardFields) → IsGood a → IsGood b → SameUpper a b → SameLower a b → SameToTheEye a b
 told f a b ga gb u l =
     let r = ranges-of f a ga.board in
@@ -510,6 +551,7 @@ told f a b ga gb u l =
       opponent = named-tells 88 a.opponent b.opponent u.opponent;
     }
 
+-- boards with one picture are the same to the eye
 pub picture-tells : FieldRanges → PictureTells
 picture-tells f a b ga gb e =
     let lines = same-lines a b (ended f a ga) (ended f b gb) e in
