@@ -8,6 +8,7 @@ use Rattle.fibs_terminal.specs.declared.memory.Memory.{Memory}
 use Rattle.fibs_terminal.specs.Grown.{Grown}
 use Rattle.fibs_terminal.specs.Resting.{SaysAdvice, ShowsAdvice}
 
+-- what holds in any case holds of a success
 pub on_any_ok : {T E P : Type 0} (r : Result T E) → P → OnOk r P
 on_any_ok (Ok x) p = p
 on_any_ok (Err e) p = tt

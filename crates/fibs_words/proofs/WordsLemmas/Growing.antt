@@ -36,22 +36,26 @@ stacks-more d s count n =
     ∙ flat_map-append (stack d s count) (range_with_len 0 n) (n ∷ [])
     ∙ ap (λ t. stacks d s count n ++ t) (append-nil (stack d s count n))
 
+-- at first no stack is written
 pub stacks-begun : (d : Direction) (s : Side) (count : ℕ → ℕ) (a : Option (List ℕ)) → Appends a a (stacks d s count 0)
 unfolding stacks
 stacks-begun d s count a = Appends-nil a
 
+-- the stack of one more place is written after those before
 pub stacks-written : (d : Direction) (s : Side) (count : ℕ → ℕ) (n : ℕ) (a b c : Option (List ℕ))
     → Appends a b (stacks d s count n) → Appends b c (stack d s count n) → Appends a c (stacks d s count (n + 1))
 stacks-written d s count n a b c before here =
     subst (Appends a c) (sym (stacks-more d s count n))
     (Appends-trans a b c (stacks d s count n) (stack d s count n) before here)
 
+-- an element that is kept, or not, comes before what is put at the end
 pushed : (kept last : Bool) (x y : ℕ) (xs : List ℕ)
     → cond kept (x ∷ (xs ++ cond last (y ∷ []) [])) (xs ++ cond last (y ∷ []) [])
     ≡ cond kept (x ∷ xs) xs ++ cond last (y ∷ []) []
 pushed true last x y xs = refl
 pushed false last x y xs = refl
 
+-- a filter keeps the element at the end, or not, after what it keeps of those before
 filter-push : (p : ℕ → Bool) (xs : List ℕ) (y : ℕ) → filter p (xs ++ y ∷ []) ≡ filter p xs ++ cond (p y) (y ∷ []) []
 filter-push p [] y = refl
 filter-push p (x ∷ xs) y = rw (filter-push p xs y) (pushed (p x) (p y) x y (filter p xs))
@@ -63,12 +67,14 @@ unfolding held
 held-more c n place e h =
     rw (range-more 1 n place (omega (arith, e)), filter-push (is_held c) (range_with_len 1 n) place, h) refl
 
+-- a place that is not held leaves those that are
 held-same : (c : Checkers) (n place : ℕ) → n + 1 ≡ place → is_held c place ≡ false → held c (n + 1) ≡ held c n
 unfolding held
 held-same c n place e h =
     rw (range-more 1 n place (omega (arith, e)), filter-push (is_held c) (range_with_len 1 n) place, h)
     (append-nil _)
 
+-- a number that counts something is not 0
 is-some : (count n : ℕ) → count ≡ suc n → (count == 0) ≡ false
 is-some count n h = grind (arith, nat_tests)
 
@@ -92,10 +98,12 @@ pub record HeldSo (c : Checkers) (d : Direction) (n count : ℕ) (a b : Option (
   pub few : count ≤ n
   pub written : Appends a b (joined d (held c n))
 
+-- at first no place is written
 pub held-none : (c : Checkers) (d : Direction) (a : Option (List ℕ)) → HeldSo c d 0 0 a a
 unfolding held joined
 held-none c d a = record { counted = refl; few = omega arith; written = Appends-nil a }
 
+-- a place that is not held is passed
 pub held-passed : (c : Checkers) (d : Direction) (n count : ℕ) (a b : Option (List ℕ)) → is_held c (n + 1) ≡ false
     → HeldSo c d n count a b → HeldSo c d (n + 1) count a b
 held-passed c d n count a b h so = let same = held-same c n (n + 1) refl h in record {
@@ -104,6 +112,7 @@ held-passed c d n count a b h so = let same = held-same c n (n + 1) refl h in re
   written = subst (λ places. Appends a b (joined d places)) (sym same) so.written;
 }
 
+-- a place that is held is written after those before
 pub held-written : (c : Checkers) (d : Direction) (n count : ℕ) (a b e : Option (List ℕ)) → is_held c (n + 1) ≡ true
     → HeldSo c d n count a b → Appends b e (next_name d count (n + 1)) → HeldSo c d (n + 1) (count + 1) a e
 held-written c d n count a b e h so here =
@@ -121,12 +130,14 @@ unfolding numbers joined
 numbers-written d [] count a b h some written = absurd (omega (arith, h, some))
 numbers-written d (p ∷ places) count a b h some written = written
 
+-- if there are no places `none` is written
 numbers-none : (d : Direction) (places : List ℕ) (count : ℕ) (a b e : Option (List ℕ)) → count ≡ length places
     → count ≡ 0 → Appends a b (joined d places) → Appends b e (codes "none") → Appends a e (numbers d places)
 unfolding numbers joined
 numbers-none d [] count a b e h none written here = Appends-trans a b e [] (codes "none") written here
 numbers-none d (p ∷ places) count a b e h none written here = absurd (omega (arith, h, none))
 
+-- the same if memory sufficed
 pub none-written : {E : Type 0} (r : Result (Unit {0}) E) (d : Direction) (places : List ℕ) (count : ℕ)
     (a b e : Option (List ℕ)) → count ≡ length places
     → count ≡ 0 → Appends a b (joined d places) → OnOk r (Appends b e (codes "none"))

@@ -19,6 +19,7 @@ use Rattle.fibs_words.specs.declared.side.Side.TheVariants as side
 
 -- ---- numbers
 
+-- a digit is no byte above the digits
 digit-no-letter : (c n : ℕ) → 57 < c → n < 10 → not ((48 + n) == c) ≡ true
 digit-no-letter c n h k = grind (arith, nat_tests)
 
@@ -40,18 +41,22 @@ Few count = (k : ℕ) → count k < 2 ^ 64
 
 -- ---- names of places
 
+-- the number of a place has 64 bits
 line-small : (d : Direction) (place : ℕ) → place ≤ 25 → line_place d place < 2 ^ 64
 line-small Down place h = omega (arith, h)
 line-small Up place h = omega arith
 
+-- a place is at most 25, whichever side counts it
 place-small : (s : Side) (steps : ℕ) → steps ≤ 25 → place_of s steps ≤ 25
 place-small side.Own steps h = omega arith
 place-small side.Other steps h = h
 
+-- places with the same number are the same
 line-same : (d : Direction) (p q : ℕ) → p ≤ 25 → q ≤ 25 → line_place d p ≡ line_place d q → p ≡ q
 line-same Down p q h k e = e
 line-same Up p q h k e = omega (arith, h, k, e)
 
+-- places that a side counts alike are the same
 place-same : (s : Side) (p q : ℕ) → p ≤ 25 → q ≤ 25 → place_of s p ≡ place_of s q → p ≡ q
 place-same side.Own p q h k e = omega (arith, h, k, e)
 place-same side.Other p q h k e = e
@@ -60,17 +65,21 @@ place-same side.Other p q h k e = e
 abbrev name_text : Bool → ℕ → List ℕ
 name_text bar number = cond bar (codes "the bar") (decimal number)
 
+-- the name of a place has no comma, whether it is the bar or a number
 name_text-lacks : (bar : Bool) (number : ℕ) → number < 2 ^ 64 → lacks 44 (name_text bar number) ≡ true
 name_text-lacks true number h = refl
 name_text-lacks false number h = decimal-lacks 44 number (lit< tt) h
 
+-- the name of a place has no comma
 place_name-lacks : (d : Direction) (s : Side) (steps : ℕ) → steps ≤ 25 → lacks 44 (place_name d s steps) ≡ true
 place_name-lacks d s steps h = name_text-lacks (steps == 0) (line_place d (place_of s steps))
     (line-small d (place_of s steps) (place-small s steps h))
 
+-- a number that is found to be 0 is 0
 is-zero : (n : ℕ) → (n == 0) ≡ true → n ≡ 0
 is-zero n h = grind (arith, nat_tests)
 
+-- names that are the same are both the bar, or have the same number
 names-tell : (a b : Bool) (m n : ℕ) → m < 2 ^ 64 → n < 2 ^ 64 → name_text a m ≡ name_text b n
     → ((a ≡ true) × (b ≡ true)) ⊎ (m ≡ n)
 names-tell true true m n h k e = inl (refl, refl)
@@ -80,6 +89,7 @@ names-tell false true m n h k e =
     absurd (lacks-differ 32 (decimal m) (codes "the bar") (decimal-lacks 32 m (lit< tt) h) refl e)
 names-tell false false m n h k e = inr (decimal_injective m n h k e)
 
+-- places with the same name are the same
 place_name-tells : (d : Direction) (s : Side) (p q : ℕ) → p ≤ 25 → q ≤ 25 → place_name d s p ≡ place_name d s q → p ≡ q
 place_name-tells d s p q h k e =
     let low = place-small s p h in
@@ -92,13 +102,16 @@ place_name-tells d s p q h k e =
 
 -- ---- how many are off
 
+-- a number, or that there are none
 abbrev count_text : Bool → ℕ → List ℕ
 count_text none n = cond none (codes "none") (decimal n)
 
+-- these words have no space
 count_text-lacks : (none : Bool) (n : ℕ) → n < 2 ^ 64 → lacks 32 (count_text none n) ≡ true
 count_text-lacks true n h = refl
 count_text-lacks false n h = decimal-lacks 32 n (lit< tt) h
 
+-- equal words are of the same number
 count_text-tells : (a b : Bool) (m n : ℕ) → a ≡ (m == 0) → b ≡ (n == 0) → m < 2 ^ 64 → n < 2 ^ 64
     → count_text a m ≡ count_text b n → m ≡ n
 count_text-tells true true m n x y h k e = is-zero m (sym x) ∙ sym (is-zero n (sym y))
@@ -108,9 +121,11 @@ count_text-tells false true m n x y h k e =
     absurd (lacks-differ 110 (decimal m) (codes "none") (decimal-no-letter 110 m (lit< tt) h) refl e)
 count_text-tells false false m n x y h k e = decimal_injective m n h k e
 
+-- how many are off is told up to the space, and then what follows
 off-parts : (n : ℕ) (u : List ℕ) → off_said n ++ u ≡ count_text (n == 0) n ++ (32 ∷ (codes "off." ++ u))
 off-parts n u = append_assoc (count_text (n == 0) n) (codes " off.") u
 
+-- equal words are of as many checkers off, and the same follows
 off-tells : (m n : ℕ) (u v : List ℕ) → m < 2 ^ 64 → n < 2 ^ 64 → off_said m ++ u ≡ off_said n ++ v
     → (m ≡ n) × (u ≡ v)
 off-tells m n u v h k e =
@@ -124,16 +139,19 @@ off-tells m n u v h k e =
 abbrev stacked : Direction → Side → ℕ → ℕ → List ℕ → List ℕ
 stacked d s n steps rest = decimal n ++ (32 ∷ (codes "on " ++ (place_name d s steps ++ (44 ∷ 32 ∷ rest))))
 
+-- of a place without checkers nothing is told
 stack-none : (d : Direction) (s : Side) (f : ℕ → ℕ) (steps : ℕ) → (f steps == 0) ≡ true → stack d s f steps ≡ []
 unfolding stack
 stack-none d s f steps h = rw h refl
 
+-- the parts of a stack's text with what follows, in a row
 joined-parts : (a b c rest : List ℕ)
     → (a ++ (codes " on " ++ (b ++ c))) ++ rest ≡ a ++ (codes " on " ++ (b ++ (c ++ rest)))
 joined-parts a b c rest =
     append_assoc a (codes " on " ++ (b ++ c)) rest
     ∙ ap (λ t. a ++ t) (append_assoc (codes " on ") (b ++ c) rest ∙ ap (λ t. codes " on " ++ t) (append_assoc b c rest))
 
+-- of a place with checkers their number and its name are told, and then what follows
 stack-some : (d : Direction) (s : Side) (f : ℕ → ℕ) (steps : ℕ) (rest : List ℕ) → (f steps == 0) ≡ false
     → stack d s f steps ++ rest ≡ stacked d s (f steps) steps rest
 unfolding stack
@@ -146,6 +164,7 @@ first-parts : (d : Direction) (s : Side) (f : ℕ → ℕ) (a n : ℕ) (u : List
     ≡ stack d s f a ++ (flat_map (stack d s f) (range_with_len (a + 1) n) ++ u)
 first-parts d s f a n u = append_assoc (stack d s f a) (flat_map (stack d s f) (range_with_len (a + 1) n)) u
 
+-- a place without checkers is skipped
 skipped : (d : Direction) (s : Side) (f : ℕ → ℕ) (a n : ℕ) (u : List ℕ) → (f a == 0) ≡ true
     → flat_map (stack d s f) (range_with_len a (suc n)) ++ u
     ≡ flat_map (stack d s f) (range_with_len (a + 1) n) ++ u
@@ -153,6 +172,7 @@ skipped d s f a n u h =
     first-parts d s f a n u
     ∙ ap (λ t. t ++ (flat_map (stack d s f) (range_with_len (a + 1) n) ++ u)) (stack-none d s f a h)
 
+-- a place with checkers is told before the places after it
 taken : (d : Direction) (s : Side) (f : ℕ → ℕ) (a n : ℕ) (u : List ℕ) → (f a == 0) ≡ false
     → flat_map (stack d s f) (range_with_len a (suc n)) ++ u
     ≡ stacked d s (f a) a (flat_map (stack d s f) (range_with_len (a + 1) n) ++ u)
@@ -180,10 +200,12 @@ off-no-stack d s m n p u x h k e =
     (decimal-lacks 32 n (lit< tt) k) (sym (off-parts m u) ∙ e) in
     absurd (omega (arith, ap (λ t. slice_index_or t 1 0) parts.1))
 
+-- a test holds or fails
 either : (b : Bool) → (b ≡ true) ⊎ (b ≡ false)
 either true = inl refl
 either false = inr refl
 
+-- a number is found to be 0 or not
 is-none : (n : ℕ) → ((n == 0) ≡ true) ⊎ ((n == 0) ≡ false)
 is-none n = either (n == 0)
 
@@ -205,12 +227,14 @@ no-stack d s f few p a (suc n) m count u x before last h k e = elim (is-none (f 
 abbrev SameFrom : (ℕ → ℕ) → (ℕ → ℕ) → ℕ → ℕ → Type 0
 SameFrom f g a n = (k : ℕ) → a ≤ k → k < a + n → f k ≡ g k
 
+-- counts that agree at a place and at those after it agree from that place on
 and-more : (f g : ℕ → ℕ) (a n : ℕ) → f a ≡ g a → SameFrom f g (a + 1) n → SameFrom f g a (suc n)
 and-more f g a n here there k low high = elim (eq-or-lt_of_le low) [
   | inl same ↦ subst (λ j. f j ≡ g j) same here
   | inr less ↦ there k (omega (arith, less)) (omega (arith, high))
 ]
 
+-- equal stacks, and what is off, are of the same counts, and the same follows
 stacks-tell : (d : Direction) (s : Side) (f g : ℕ → ℕ) → Few f → Few g → (a n : ℕ) (m m' : ℕ) (u v : List ℕ)
     → a + n ≤ 25 → m < 2 ^ 64 → m' < 2 ^ 64
     → flat_map (stack d s f) (range_with_len a n) ++ (off_said m ++ u)
@@ -241,6 +265,7 @@ stacks-tell d s f g few few' a (suc n) m m' u v last h k e = elim (is-none (f a)
 
 -- ---- the row
 
+-- the parts of a side's row with what follows, in a row
 row-parts : (name pips on_places off u : List ℕ)
     → (name ++ (codes ", " ++ (pips ++ (codes " pips: " ++ (on_places ++ off))))) ++ u
     ≡ (name ++ codes ",") ++ (32 ∷ (pips ++ (32 ∷ (codes "pips: " ++ (on_places ++ (off ++ u))))))
@@ -251,9 +276,11 @@ row-parts name pips on_places off u =
     ∙ sym (append_assoc name (codes ",")
     (32 ∷ (pips ++ (32 ∷ (codes "pips: " ++ (on_places ++ (off ++ u)))))))
 
+-- a name without a space has none with a comma either
 comma-lacks : (name : List ℕ) → lacks 32 name ≡ true → lacks 32 (name ++ codes ",") ≡ true
 comma-lacks name h = lacks-append 32 name (codes ",") h refl
 
+-- equal rows of a side are of the same checkers, and the same follows
 pub side-tells : (d : Direction) (s : Side) (name name' : List ℕ) (pips pips' : ℕ) (f g : ℕ → ℕ) (u v : List ℕ)
     → lacks 32 name ≡ true → lacks 32 name' ≡ true → pips < 2 ^ 64 → pips' < 2 ^ 64 → Few f → Few g
     → side_row name pips d s f ++ u ≡ side_row name' pips' d s g ++ v

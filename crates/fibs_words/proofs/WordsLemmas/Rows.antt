@@ -30,9 +30,11 @@ abbrev pub Plain : List (List ℕ) → Type 0
 Plain [] = Unit {0}
 Plain (row ∷ rows) = (lacks 10 row ≡ true) × Plain rows
 
+-- a row with its end and what follows is the row, its end, and what follows
 ended-parts : (row u : List ℕ) → ended row ++ u ≡ row ++ (10 ∷ u)
 ended-parts row u = append_assoc row (10 ∷ []) u
 
+-- as many rows of plain text that are the same in a row are the same each, and the same follows
 pub rows-tell : (rows others : List (List ℕ)) (u v : List ℕ) → length rows ≡ length others → Plain rows → Plain others
     → flat_map ended rows ++ u ≡ flat_map ended others ++ v → (rows ≡ others) × (u ≡ v)
 rows-tell [] [] u v h p q e = (refl, e)
@@ -49,11 +51,13 @@ rows-tell (r ∷ rows) (o ∷ others) u v h p q e =
 
 -- ---- whose turn it is, and what the player is to do
 
+-- whose turn it is has no line end
 turn_said-lacks : (w : Whose) → lacks 10 (turn_said w) ≡ true
 turn_said-lacks nobodys = refl
 turn_said-lacks the_players = refl
 turn_said-lacks the_opponents = refl
 
+-- what the player is to do has no line end
 phase_said-lacks : (p : Phase) → lacks 10 (phase_said p) ≡ true
 phase_said-lacks phase.Over = refl
 phase_said-lacks phase.AnswerDouble = refl
@@ -62,6 +66,7 @@ phase_said-lacks phase.RollOrDouble = refl
 phase_said-lacks phase.Move = refl
 phase_said-lacks phase.Passing = refl
 
+-- the row of the turn has no line end
 pub turn_row-lacks : (w : Whose) (p : Phase) → lacks 10 (turn_row w p) ≡ true
 unfolding turn_row
 turn_row-lacks w p = lacks-append 10 (turn_said w) (phase_said p) (turn_said-lacks w) (phase_said-lacks p)
@@ -71,6 +76,7 @@ abbrev whose_read : List ℕ → Whose
 whose_read text = cond (slice_index_or text 0 0 == 78) nobodys (cond
     (slice_index_or text 0 0 == 89) the_players the_opponents)
 
+-- whose turn it is is read back from its words
 whose-read : (w : Whose) (rest : List ℕ) → whose_read (turn_said w ++ rest) ≡ w
 whose-read nobodys rest = refl
 whose-read the_players rest = refl
@@ -82,6 +88,7 @@ phase_read text = let letter : ℕ → ℕ = λ i. slice_index_or text i 0 in co
     (letter 2 == 97) phase.AnswerDouble (cond (letter 2 == 98) phase.Passing (cond (letter 3 == 104) phase.Over (cond
     (letter 5 == 114) phase.RollOrDouble phase.Move))))
 
+-- the phase is read back from its words
 phase-read : (p : Phase) → phase_read (phase_said p) ≡ p
 phase-read phase.Over = refl
 phase-read phase.AnswerDouble = refl
@@ -90,6 +97,7 @@ phase-read phase.RollOrDouble = refl
 phase-read phase.Move = refl
 phase-read phase.Passing = refl
 
+-- equal rows are of the same turn and the same phase
 pub turn_row-tells : (w v : Whose) (p q : Phase) → turn_row w p ≡ turn_row v q → (w ≡ v) × (p ≡ q)
 unfolding turn_row
 turn_row-tells w v p q e =
@@ -101,6 +109,7 @@ turn_row-tells w v p q e =
 
 -- ---- the dice
 
+-- a digit is no line end
 digit-plain : (n : ℕ) → not ((48 + n) == 10) ≡ true
 digit-plain n = grind (arith, nat_tests)
 
@@ -111,6 +120,7 @@ dice_text none other_none m n k l = cond none
     (codes "Your dice " ++ (pair m n ++ cond other_none (codes ".") (codes ", the opponent's " ++ (pair k l
     ++ codes "."))))
 
+-- the dice of both sides, or none, have no line end
 dice_text-lacks : (none other_none : Bool) (m n k l : ℕ) → lacks 10 (dice_text none other_none m n k l) ≡ true
 unfolding pair
 dice_text-lacks true true m n k l = refl
@@ -118,6 +128,7 @@ dice_text-lacks true false m n k l = rw (digit-plain k, digit-plain l) refl
 dice_text-lacks false true m n k l = rw (digit-plain m, digit-plain n) refl
 dice_text-lacks false false m n k l = rw (digit-plain m, digit-plain n, digit-plain k, digit-plain l) refl
 
+-- the row of the dice has no line end
 pub dice_row-lacks : (m n k l : ℕ) → lacks 10 (dice_row m n k l) ≡ true
 unfolding dice_row
 dice_row-lacks m n k l = dice_text-lacks ((m == 0) && (n == 0)) ((k == 0) && (l == 0)) m n k l
@@ -131,9 +142,11 @@ abbrev other_read : ℕ → ℕ → List ℕ → ℕ
 other_read i j text = cond (slice_index_or text 0 0 == 84) (slice_index_or text i 0 - 48)
     (cond (slice_index_or text 0 0 == 89) (slice_index_or text j 48 - 48) 0)
 
+-- a number that is found to be 0 is 0
 is-zero : (n : ℕ) → (n == 0) ≡ true → n ≡ 0
 is-zero n h = grind (arith, nat_tests)
 
+-- a digit's byte less that of 0 is the digit
 less : (n : ℕ) → (48 + n) - 48 ≡ n
 less n = omega arith
 
@@ -143,6 +156,7 @@ record DiceRead (text : List ℕ) (m n k l : ℕ) : Type 0 where
   other_first : other_read 20 34 text ≡ k
   other_second : other_read 26 40 text ≡ l
 
+-- the dice are read back from their words
 dice-read : (none other_none : Bool) (m n k l : ℕ) → none ≡ ((m == 0) && (n == 0))
     → other_none ≡ ((k == 0) && (l == 0)) → DiceRead (dice_text none other_none m n k l) m n k l
 unfolding pair
@@ -178,10 +192,12 @@ dice-read false false m n k l h i = record {
   other_second = less l;
 }
 
+-- the dice are read back from their row
 dice-of : (m n k l : ℕ) → DiceRead (dice_row m n k l) m n k l
 unfolding dice_row
 dice-of m n k l = dice-read ((m == 0) && (n == 0)) ((k == 0) && (l == 0)) m n k l refl refl
 
+-- equal rows are of the same dice
 pub dice_row-tells : (m n k l m' n' k' l' : ℕ) → dice_row m n k l ≡ dice_row m' n' k' l'
     → (m ≡ m') × (n ≡ n') × (k ≡ k') × (l ≡ l')
 dice_row-tells m n k l m' n' k' l' e = let a = dice-of m n k l in let b = dice-of m' n' k' l' in (
@@ -193,9 +209,11 @@ dice_row-tells m n k l m' n' k' l' e = let a = dice-of m n k l in let b = dice-o
 
 -- ---- the score
 
+-- a text without a line end has none with a stop either
 stopped-lacks : (text : List ℕ) → lacks 10 text ≡ true → lacks 10 (text ++ codes ".") ≡ true
 stopped-lacks text h = lacks-append 10 text (codes ".") h refl
 
+-- the row of the score has no line end
 pub score_row-lacks : (own other match : ℤ) → Within 99999999 own → Within 99999999 other → Within 9999 match
     → lacks 10 (score_row own other match) ≡ true
 unfolding score_row
@@ -210,6 +228,7 @@ score_row-lacks own other match h k l =
     (lacks-append 10 (signed_decimal other) after_other (number-lacks 10 99999999 other (lit< tt) (lit< tt) k)
     (lacks-append 10 (codes ", ") length_said refl (stopped-lacks (match_length match) (match-lacks match l))))))
 
+-- equal rows are of the same scores and the same length
 pub score_row-tells : (own other match own' other' match' : ℤ)
     → Within 99999999 own → Within 99999999 other → Within 9999 match
     → Within 99999999 own' → Within 99999999 other' → Within 9999 match'
@@ -231,24 +250,29 @@ score_row-tells own other match own' other' match' h k l h' k' l' e =
 
 -- ---- the cube
 
+-- what the cube shows has no line end
 cube_shows-lacks : (b : BoardFields) → Within 1048576 (field_of b 38) → lacks 10 (cube_shows b) ≡ true
 unfolding cube
 cube_shows-lacks b h = cube-lacks b h
 
+-- the row of the cube has no line end
 pub cube_row-lacks : (b : BoardFields) → Within 1048576 (field_of b 38) → lacks 10 (cube_row b) ≡ true
 unfolding cube_row
 cube_row-lacks b h = lacks-append 10 (codes "Cube ") (cube_shows b ++ codes ".") refl
     (stopped-lacks (cube_shows b) (cube_shows-lacks b h))
 
+-- what the cube shows is the same in a picture if it is in words
 same-cube : (a b : BoardFields) → cube_shows a ≡ cube_shows b → cube a ≡ cube b
 unfolding cube
 same-cube a b e = ap (λ t. codes "cube " ++ t) e
 
+-- equal rows are of cubes that show the same
 shows-tell : (a b : BoardFields) → cube_row a ≡ cube_row b → cube_shows a ≡ cube_shows b
 unfolding cube_row
 shows-tell a b e = append_cancel_right (cube_shows a) (cube_shows b) (codes ".")
     (append_cancel_left (codes "Cube ") _ _ e)
 
+-- equal rows are of the same cube and the same doublers
 pub cube_row-tells : (a b : BoardFields) → Within 1048576 (field_of a 38) → Within 1048576 (field_of b 38)
     → cube_row a ≡ cube_row b
     → (field_of a 38 ≡ field_of b 38) × (is_one a 39 ≡ is_one b 39) × (is_one a 40 ≡ is_one b 40)
@@ -256,6 +280,7 @@ cube_row-tells a b h k e = cube-tells a b h k (same-cube a b (shows-tell a b e))
 
 -- ---- the direction
 
+-- the row of the direction has no line end
 pub direction_row-lacks : (d : Direction) → lacks 10 (direction_row d) ≡ true
 direction_row-lacks Down = refl
 direction_row-lacks Up = refl
@@ -264,9 +289,11 @@ direction_row-lacks Up = refl
 abbrev direction_read : List ℕ → Direction
 direction_read text = cond (slice_index_or text 7 0 == 100) Down Up
 
+-- the direction is read back from its row
 direction-read : (d : Direction) → direction_read (direction_row d) ≡ d
 direction-read Down = refl
 direction-read Up = refl
 
+-- equal rows are of the same direction
 pub direction_row-tells : (d e : Direction) → direction_row d ≡ direction_row e → d ≡ e
 direction_row-tells d e h = sym (direction-read d) ∙ ap direction_read h ∙ direction-read e

@@ -36,9 +36,11 @@ use Rattle.fibs_words.proofs.WordsLemmas.Rows.{cube_row-tells, direction_row-lac
 
 -- ---- names
 
+-- a byte of a name is no space
 no-space : (x : ℕ) → is_name_byte x ≡ true → not (x == 32) ≡ true
 no-space x h = grind (arith, nat_tests)
 
+-- what holds of each element holds of each in a front
 take-all : (p : ℕ → Bool) (n : ℕ) (xs : List ℕ) → list_all p xs ≡ true → list_all p (take n xs) ≡ true
 take-all p zero xs h = refl
 take-all p (suc n) [] h = refl
@@ -46,6 +48,7 @@ take-all p (suc n) (x ∷ xs) h =
     let parts = and_parts (p x) (list_all p xs) h in
     rw parts.0 (take-all p n xs parts.1)
 
+-- a name has no space
 name-lacks : (name : List ℕ) → is_name name ≡ true → lacks 32 (take 30 name) ≡ true
 name-lacks name h =
     let size = nat_lt 0 (length name) && nat_le (length name) 64 in
@@ -54,6 +57,7 @@ name-lacks name h =
 
 -- ---- the rows on the game
 
+-- no row of the game has a line end
 game-plain : (b : BoardFields) → Ranges b → Plain (game_rows b (position_of b))
 unfolding game_rows
 game-plain b r = (
@@ -68,9 +72,11 @@ game-plain b r = (
   ),
 )
 
+-- what is told of the checkers
 abbrev checkers_text : BoardFields → List ℕ
 checkers_text b = flat_map ended (checkers_rows b (position_of b))
 
+-- as many rows are told of each game
 as-many : (a b : BoardFields) → length (game_rows a (position_of a)) ≡ length (game_rows b (position_of b))
 unfolding game_rows
 as-many a b = refl
@@ -79,6 +85,7 @@ record SameParts (a b : BoardFields) : Type 0 where
   game : game_rows a (position_of a) ≡ game_rows b (position_of b)
   checkers : checkers_text a ≡ checkers_text b
 
+-- boards with the same words have the same rows of the game and of the checkers
 same-parts : (a b : BoardFields) → Ranges a → Ranges b → words a ≡ words b → SameParts a b
 unfolding told
 same-parts a b r s e =
@@ -86,9 +93,11 @@ same-parts a b r s e =
     (as-many a b) (game-plain a r) (game-plain b s) e in
     record { game = t.0; checkers = t.1 }
 
+-- the row at a place
 abbrev row_at : List (List ℕ) → ℕ → List ℕ
 row_at rows k = slice_index_or rows k []
 
+-- the row of a board's dice
 abbrev own_dice : BoardFields → List ℕ
 own_dice b = dice_row (natural (field_of b 34)) (natural (field_of b 35)) (natural (field_of b 36))
     (natural (field_of b 37))
@@ -102,6 +111,7 @@ record SameGame (a b : BoardFields) : Type 0 where
   cube_is : cube_row a ≡ cube_row b
   direction_is : direction_row (position_of a).direction ≡ direction_row (position_of b).direction
 
+-- boards with the same rows of the game have the same row for each part
 same-game : (a b : BoardFields) → game_rows a (position_of a) ≡ game_rows b (position_of b) → SameGame a b
 unfolding game_rows
 same-game a b e = record {
@@ -114,18 +124,22 @@ same-game a b e = record {
 
 -- ---- the rows on the checkers
 
+-- three rows, each with its end, in a row
 three-rows : (x y z : List ℕ)
     → flat_map ended (x ∷ y ∷ z ∷ []) ≡ x ++ (10 ∷ (y ++ (10 ∷ (ended z ++ []))))
 three-rows x y z =
     append_assoc x (10 ∷ []) (ended y ++ (ended z ++ []))
     ∙ ap (λ t. x ++ (10 ∷ t)) (append_assoc y (10 ∷ []) (ended z ++ []))
 
+-- the checkers of a board, as its player sees them
 abbrev checkers : BoardFields → Checkers
 checkers b = (position_of b).standing.checkers
 
+-- the row of the player's checkers
 abbrev own_row : BoardFields → Direction → List ℕ
 own_row b d = side_row (codes "You") (own_pips (checkers b)) d side.Own (count_on (checkers b) side.Own)
 
+-- the row of the opponent's checkers
 abbrev other_row : BoardFields → Direction → List ℕ
 other_row b d = side_row (take 30 b.opponent) (other_pips (checkers b)) d side.Other (count_on (checkers b) side.Other)
 
@@ -133,6 +147,7 @@ other_row b d = side_row (take 30 b.opponent) (other_pips (checkers b)) d side.O
 abbrev after_own : BoardFields → Direction → List ℕ
 after_own b d = 10 ∷ (other_row b d ++ (10 ∷ (ended (held_row d (checkers b)) ++ [])))
 
+-- what is told of the checkers begins with the player's row
 checkers-parts : (b : BoardFields)
     → checkers_text b ≡ own_row b (position_of b).direction ++ after_own b (position_of b).direction
 unfolding checkers_rows
@@ -140,9 +155,11 @@ checkers-parts b =
     let d = (position_of b).direction in
     three-rows (own_row b d) (other_row b d) (held_row d (checkers b))
 
+-- no place of a good board has more than 15 checkers of the player
 own-counts-few : (b : BoardFields) → IsGood b → Few (count_on (checkers b) side.Own)
 own-counts-few b good k = let few = own-few b good.own (25 - k) in omega (arith, few)
 
+-- or of the opponent
 other-counts-few : (b : BoardFields) → IsGood b → Few (count_on (checkers b) side.Other)
 other-counts-few b good k = let few = other-few b good.other k in omega (arith, few)
 
@@ -151,9 +168,11 @@ record SameCheckers (a b : BoardFields) : Type 0 where
   other : (k : ℕ) → k ≤ 25 → count_on (checkers a) side.Other k ≡ count_on (checkers b) side.Other k
   opponent : take 30 a.opponent ≡ take 30 b.opponent
 
+-- what follows equal line ends is the same
 tail-same : (s t : List ℕ) → 10 ∷ s ≡ 10 ∷ t → s ≡ t
 tail-same s t e = cc
 
+-- boards of one direction with the same rows of the checkers have the same counts
 same-checkers : (a b : BoardFields) → IsGood a → IsGood b → (position_of a).direction ≡ (position_of b).direction
     → checkers_text a ≡ checkers_text b → SameCheckers a b
 same-checkers a b ga gb way e =
@@ -171,14 +190,17 @@ same-checkers a b ga gb way e =
 
 -- ---- the arrangement
 
+-- the player's checkers are counted on 26 places
 own-size : (b : BoardFields) → length (own_view b).own ≡ 26
 unfolding own_view places
 own-size b = refl
 
+-- and the opponent's
 other-size : (b : BoardFields) → length (own_view b).other ≡ 26
 unfolding own_view places
 other-size b = refl
 
+-- the player's checkers are the same on all places if the counts are
 own-same : (a b : BoardFields) → SameCheckers a b → (own_view a).own ≡ (own_view b).own
 own-same a b s =
     let size = own-size a in
@@ -188,18 +210,22 @@ own-same a b s =
     subst (λ j. slice_index (own_view a).own j ≡ slice_index (own_view b).own j) back
     (s.own (25 - i) (omega arith)))
 
+-- and the opponent's
 other-same : (a b : BoardFields) → SameCheckers a b → (own_view a).other ≡ (own_view b).other
 other-same a b s =
     let size = other-size a in
     ext_get_or 0 (own_view a).other (own_view b).other (size ∙ sym (other-size b))
     (λ i low. s.other i (omega (arith, low, size)))
 
+-- the checkers of both sides
 abbrev arranged : List ℕ → List ℕ → Checkers
 arranged own other = record { own = own; other = other }
 
+-- they are the same if each side's are
 arranged-same : (p p' q q' : List ℕ) → p ≡ p' → q ≡ q' → arranged p q ≡ arranged p' q'
 arranged-same p p' q q' e f = rw (e, f) refl
 
+-- so boards with the same counts are seen alike
 view-same : (a b : BoardFields) → SameCheckers a b → own_view a ≡ own_view b
 unfolding own_view
 view-same a b s = arranged-same (own_view a).own (own_view b).own (own_view a).other (own_view b).other
@@ -207,17 +233,21 @@ view-same a b s = arranged-same (own_view a).own (own_view b).own (own_view a).o
 
 -- ---- what words determine
 
+-- dice with the same number are the same
 natural-same : (y z : ℤ) → Within 6 y → Within 6 z → natural y ≡ natural z → y ≡ z
 natural-same (pos m) (pos n) h k e = ap pos e
 natural-same (negsuc m) z h k e = absurd (omega (arith, ints, h.0))
 natural-same (pos m) (negsuc n) h k e = absurd (omega (arith, ints, k.0))
 
+-- lists of two are the same if their parts are
 pair-same : (w x y z : ℤ) → w ≡ y → x ≡ z → w ∷ x ∷ [] ≡ y ∷ z ∷ []
 pair-same w x y z e f = cc
 
+-- lists of four are the same if their parts are
 four-same : (a b c d a' b' c' d' : ℤ) → a ≡ a' → b ≡ b' → c ≡ c' → d ≡ d' → a ∷ b ∷ c ∷ d ∷ [] ≡ a' ∷ b' ∷ c' ∷ d' ∷ []
 four-same a b c d a' b' c' d' e f g h = cc
 
+-- boards with the same game and the same checkers are the same to the eye
 told-same : (a b : BoardFields) → Ranges a → Ranges b → SameGame a b → SameCheckers a b → SameToTheEye a b
 told-same a b r s g c =
     let turns = turn_row-tells (whose (turn a) (colour a)) (whose (turn b) (colour b)) (phase_in (position_of a))
@@ -246,6 +276,7 @@ told-same a b r s g c =
       opponent = c.opponent;
     }
 
+-- boards with the same words are the same to the eye
 pub words-tell : FieldRanges → WordsTell
 words-tell f a b ga gb e =
     let r = ranges-of f a ga.board in
