@@ -1,0 +1,98 @@
+"""How the files of the crates are laid out: lines that are too wide, files that are too long, lemmas that say nothing."""
+import re
+
+WIDTH, LENGTH = 120, 800
+
+# Code, definitions and proofs.
+FILES = ['crates/*/src/**/*.rt', 'crates/*/specs/**/*.antt', 'crates/*/proofs/**/*.antt']
+
+# Files of programs, all of them.
+PROGRAMS = [*FILES, 'tests/**/*.py', 'tests/names', 'python/**/*.py', 'examples/**/*.py', 'scripts/*', 'rust/**/*.rs',
+            'lib/*.c', 'js/*.js', 'js/*.ts']
+
+# The formatter joins an attribute on one line.
+JOINED = re.compile(r' *#!?\[tactic\(')
+
+# Proof files with other names than these hold lemmas; these answer goals, whose names say what is asked.
+ANSWERS = {'Answers.antt', 'Invariants.antt', 'Proof.antt'}
+
+SIGNATURE = re.compile(r' *((?:abbrev |unfoldable |pub )*)([^\s:{(,;]+) :(?: |$)')
+OTHERS = re.compile(r' *(?:abbrev |unfoldable |pub )*(?:record|data|use|open|mod) ')
+MODULE = re.compile(r' *module ')
+
+
+def files_of(top, patterns):
+    """The files of these patterns, but for those that are made."""
+    made = {'out', 'target', '__pycache__', 'dist'}
+    return sorted({path for pattern in patterns for path in top.glob(pattern)
+                   if path.is_file() and not made.intersection(path.relative_to(top).parts)})
+
+
+def indent_of(line):
+    return len(line) - len(line.lstrip(' '))
+
+
+def wide_lines(text):
+    """The lines that are wider than WIDTH, each with its number."""
+    for number, line in enumerate(text.splitlines(), 1):
+        if len(line) > WIDTH and not JOINED.match(line):
+            yield number, 'has %d columns, and %d are the most' % (len(line), WIDTH)
+
+
+def part_after(lines, at, indent, own):
+    """The place behind the lines from `at` that are further in, or match `own`, with empty lines between them."""
+    end = at
+    for place in range(at, len(lines)):
+        if not lines[place].strip():
+            continue
+        if indent_of(lines[place]) <= indent and not own.match(lines[place]):
+            break
+        end = place + 1
+    return end
+
+
+def is_one_step(lines, at, indent, name):
+    """A signature of one line with a proof of one line: what it says is read at a glance."""
+    first = part_after(lines, at + 1, indent, re.compile(r' *unfolding '))
+    signature = [line for line in lines[at:first] if line.strip() and not line.lstrip().startswith('unfolding ')]
+    last = part_after(lines, first, indent, re.compile(r' {%d}%s(?: |$)' % (indent, re.escape(name))))
+    return len(signature) == 1 and sum(1 for line in lines[first:last] if line.strip()) == 1
+
+
+def silent_lemmas(text):
+    """The lemmas over which no comment says what they show, each with its number and its name.
+
+    A lemma stands at the left of its file, or of a module of it. One that is private, and has one line of a signature
+    and one of a proof, needs no comment.
+    """
+    lines, open_at = text.splitlines(), [0]
+    for at, line in enumerate(lines):
+        if not line.strip() or line.lstrip().startswith('--'):
+            continue
+        indent = indent_of(line)
+        while open_at[-1] > indent:
+            open_at.pop()
+        if indent != open_at[-1] or OTHERS.match(line):
+            continue
+        if MODULE.match(line):
+            open_at.append(indent + 2)
+            continue
+        found = SIGNATURE.match(line)
+        if not found or at and lines[at - 1].lstrip().startswith('--'):
+            continue
+        if 'pub ' in found[1] or not is_one_step(lines, at, indent, found[2]):
+            yield at + 1, 'no line over `%s` says what it shows' % found[2]
+
+
+def faults(top):
+    """Each file that is held to this, with its faults: the number of a line, and what is wrong there."""
+    laid_out = set(files_of(top, FILES))
+    for path in files_of(top, PROGRAMS):
+        text = path.read_text(encoding='utf-8', errors='replace')
+        wrong = list(wide_lines(text)) if path in laid_out else []
+        if path.suffix == '.antt' and 'proofs' in path.parts and path.name not in ANSWERS:
+            wrong += silent_lemmas(text)
+        count = len(text.splitlines())
+        if count > LENGTH:
+            wrong.append((count, 'the file has %d lines, and %d are the most' % (count, LENGTH)))
+        yield path.relative_to(top), wrong
