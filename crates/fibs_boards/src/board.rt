@@ -1,7 +1,7 @@
 //! Boards of FIBS board style 3.
 
 ghost use Rattle.std.specs.Prelude.{◌≡◌, ◌≢◌, ◌≤◌, IfSome, IsSome, ◌↔◌, ◌≤ℤ◌, ◌⊎◌, pos, negsuc, ◌++◌, ◌+◌, ℕ, true};
-ghost use Rattle.std.specs.Prelude.{length, IfOk, IfErr, OnOk, OnErr, drop, option_map, Ok, Err};
+ghost use Rattle.std.specs.Prelude.{IfOk, IfErr, OnOk, OnErr, drop, option_map, Ok, Err};
 ghost use Rattle.fibs_boards.specs.StoredParts.{parts};
 ghost use Rattle.fibs_fields.specs.Bytes.{name_bytes};
 ghost use Rattle.fibs_boards.specs.BoardProp.{IsBoard-prop};

@@ -1,8 +1,7 @@
 //! Boards of lines.
 
-ghost use Rattle.std.specs.Prelude.{◌≡◌, not};
+ghost use Rattle.std.specs.Prelude.{◌≡◌};
 ghost use Rattle.fibs_boards.specs.StoredBoard.{fields_of};
-ghost use Rattle.fibs_position.specs.GamePart.{same_game};
 ghost use Rattle.fibs_c.specs.BoardDoor.{IsBoardRead, IsPrintedBoard, IsOverTold, IsDifferenceTold, ends_match};
 ghost use Rattle.fibs_c.specs.BoardDoor.{is_won};
 

@@ -2,7 +2,6 @@
 
 ghost use Rattle.std.specs.Prelude.{◌≡◌, None, option_map};
 ghost use Rattle.fibs_directory.specs.Directory.View.{player_value};
-ghost use Rattle.fibs_fields.specs.Field.{NameField, WordField, TailField, FlagField, NumberField, RatingField};
 ghost use Rattle.fibs_messages.specs.FieldOf.{field_at};
 ghost use Rattle.fibs_messages.specs.Line.{reading_of, reading_value};
 ghost use Rattle.fibs_c.specs.DirectoryDoor.{IsNewDirectory, IsNoted, Notes, IsCounted, IsCleared, IsPlayerAt};

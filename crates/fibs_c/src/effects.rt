@@ -1,6 +1,6 @@
 //! What a decision does to a board.
 
-ghost use Rattle.std.specs.Prelude.{◌≡◌, ◌∷◌, [], IfOk, IfErr};
+ghost use Rattle.std.specs.Prelude.{◌∷◌, [], IfOk, IfErr};
 ghost use Rattle.fibs_boards.specs.StoredBoard.{fields_of};
 ghost use Rattle.fibs_position.specs.BoardEffect.{effect_of};
 ghost use Rattle.fibs_position.specs.DecisionValue.{decision_of as value_of};

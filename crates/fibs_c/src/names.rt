@@ -1,6 +1,5 @@
 //! The names of statuses.
 
-ghost use Rattle.std.specs.Prelude.{◌≡◌};
 ghost use Rattle.fibs_records.specs.Statuses.{status_name};
 ghost use Rattle.fibs_records.specs.Texts.{IsNamed};
 

@@ -1,5 +1,5 @@
 -- What the engines answer, in the words of the program.
-use Rattle.std.proofs.Common.{◌≡◌, ◌⊎◌, ◌++◌, ◌∷◌, [], ℕ, List, Option, Result, Ok, Err, IfOk, OnOk, IsErrOf}
+use Rattle.std.proofs.Common.{◌≡◌, ◌⊎◌, [], ℕ, List, Option, Result, Ok, Err, IfOk, OnOk, IsErrOf}
 use Rattle.std.proofs.Common.{Some, None, MatchResult, refl, sym, subst, inl, arith}
 use Rattle.std.proofs.KnownBytes.{Keeps-refl}
 use Rattle.std.specs.Borrow.{Bor}

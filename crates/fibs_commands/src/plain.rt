@@ -1,6 +1,6 @@
 //! The commands of a player that decide nothing in the game.
 
-ghost use Rattle.std.specs.Prelude.{◌≡◌, ◌≤◌, ◌++◌, ◌∷◌, Some, IfOk, IsOk, codes, decimal, length, true};
+ghost use Rattle.std.specs.Prelude.{◌≡◌, ◌≤◌, ◌++◌, ◌∷◌, Some, IfOk, codes, decimal, length, true};
 ghost use Rattle.std.specs.Result.{result_err};
 ghost use Rattle.fibs_fields.specs.Name.{is_name};
 ghost use Rattle.fibs_commands.specs.PlainCommands.{first_of, is_printed, points_fault, name_fault, text_fault};

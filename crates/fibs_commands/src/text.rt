@@ -1,6 +1,6 @@
 //! The texts that a client sends.
 
-ghost use Rattle.std.specs.Prelude.{◌≡◌, ◌≤◌, ◌++◌, length, true};
+ghost use Rattle.std.specs.Prelude.{◌≡◌, ◌≤◌, length, true};
 ghost use Rattle.std.specs.List.{list_all};
 ghost use Rattle.fibs_commands.specs.PlainCommands.{is_text_byte};
 ghost use Rattle.fibs_commands.specs.TextOf.{text_of};

@@ -2,7 +2,7 @@
 #![tactic(auto)]
 
 ghost use Rattle.std.specs.Prelude.{◌≡◌, ◌*◌, IfOk, IfErr};
-ghost use Rattle.std.specs.Io.KnownBytes.{Appends, Keeps};
+ghost use Rattle.std.specs.Io.KnownBytes.{Appends};
 ghost use Rattle.fibs_connect.specs.Converse.Ending.{Conversed, EndsWell, login_fault_line};
 ghost use Rattle.fibs_front.specs.TypedReads.{SpendsReads};
 ghost use Rattle.fibs_engine.specs.Printing.{line_bytes};

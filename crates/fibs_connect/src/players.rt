@@ -1,5 +1,5 @@
 //! The list of the players that are known.
-ghost use Rattle.std.specs.Prelude.{◌≡◌, OnOk};
+ghost use Rattle.std.specs.Prelude.{OnOk};
 ghost use Rattle.fibs_connect.specs.Converse.Players.{players_told};
 
 use fibs_exchange::ExchangeFault;

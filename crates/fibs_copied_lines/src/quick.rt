@@ -6,7 +6,7 @@
 //! moves
 //! `at` behind the last colon. If they are not, where `at` is says nothing.
 
-ghost use Rattle.std.specs.Prelude.{◌≡◌, ◌<◌, ◌≤◌, ◌+◌, ◌-◌, ◌*◌, ◌^◌, [], ◌∷◌, ◌++◌, ℕ, true, None, pos, negsuc, drop};
+ghost use Rattle.std.specs.Prelude.{◌≡◌, ◌<◌, ◌≤◌, ◌+◌, ◌-◌, ◌*◌, ◌^◌, [], ◌∷◌, ◌++◌, ℕ, true, None, pos, drop};
 ghost use Rattle.std.specs.Prelude.{length, map, replicate, slice_index, take};
 ghost use Rattle.fibs_boards.specs.Board.{checkers, count, edge, field_values, flag, pieces, place, side};
 ghost use Rattle.fibs_boards.specs.BoardReading.{first_fault};

@@ -1,5 +1,5 @@
 //! Front ends at which a player types.
-ghost use Rattle.std.specs.Prelude.{◌≡◌, OnOk, IfOk, List, [], ℕ, refl};
+ghost use Rattle.std.specs.Prelude.{◌≡◌, OnOk, IfOk, List, [], ℕ};
 ghost use Rattle.fibs_front.specs.Wishes.{WishValue, wish_value, wish_of};
 
 use crate::fault::FrontFault;

@@ -113,7 +113,7 @@ take_one_less zero r = refl
 take_one_less (suc n) [] = refl
 take_one_less (suc n) (x ∷ r) = ap (λ l. x ∷ l) (take_one_less n r)
 
--- a front of a front is a front
+-- a front of one that is a byte longer is the front
 take_fewer : (n m : ℕ) (r : List ℕ) → m ≡ suc n → take n (take m r) ≡ take n r
 take_fewer n m r e = ap (λ k. take n (take k r)) e ∙ take_one_less n r
 

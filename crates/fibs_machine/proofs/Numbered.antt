@@ -1,6 +1,5 @@
 -- No event notes a connection that never was.
-use Rattle.std.proofs.Common.{◌≡◌, ℕ, ◌+◌, ◌<◌, ◌≤◌, Bool, true, false, not, List, [], ◌∷◌, ◌++◌, Option, Some, None}
-use Rattle.std.proofs.Common.{length, take, refl, sym, subst, inl, inr, arith, nat_lt, nat_eq}
+use Rattle.std.proofs.Common.{◌≡◌, ℕ, ◌+◌, ◌≤◌, List, [], ◌∷◌, Option, Some, None, length, take, inl, inr, arith}
 use Rattle.fibs_lines.specs.Lines.{ReadLine}
 use Rattle.fibs_boards.specs.Board.{BoardFields, spelling}
 use Rattle.fibs_position.specs.DecisionValue.{DecisionValue}
@@ -22,8 +21,7 @@ use Rattle.fibs_machine.specs.Runs.{AllAccepted, after_all}
 use Rattle.fibs_machine.specs.Server.{Served, Stale, LoggedIn, Took, Undone, Answered}
 use Rattle.fibs_machine.specs.Talks.{IsWorld}
 use Rattle.fibs_machine.specs.Wires.{delivered, next_line, taken}
-use Rattle.fibs_machine.specs.World.{World, after, noted, linked, sends, is_talking}
-use Rattle.fibs_machine.specs.World.{does_heard, hears, hears_all, clicks}
+use Rattle.fibs_machine.specs.World.{World, after, noted, linked, sends, is_talking, hears, hears_all, clicks}
 use Rattle.fibs_machine.specs.World.{sends_out, sends_plain, notes_unless, does_served, serves, talk_of}
 use Rattle.fibs_machine.proofs.Answering.{answered_at}
 use Rattle.fibs_machine.proofs.Projection.{talk_is_projected}

@@ -1,13 +1,13 @@
 //! The world: a server, a client, and the wires between them.
 
-ghost use Rattle.std.specs.Prelude.{◌≡◌, ◌≤◌, ◌≢◌, ◌↔◌, ◌++◌, ℕ, List, [], None, Some, Option, IsOk, IfOk, OnErr};
+ghost use Rattle.std.specs.Prelude.{◌≡◌, ◌≤◌, ◌↔◌, ◌++◌, ℕ, List, [], None, Some, Option, IfOk, OnErr};
 ghost use Rattle.std.specs.Prelude.{true, IsErrOf, OnOk, length, map, take, drop, option_map, slice_index};
 ghost use Rattle.std.specs.Prelude.{if◌then◌else◌};
 ghost use Rattle.std.specs.Option.{option_copied};
 ghost use Rattle.std.specs.Result.{result_err};
 ghost use Rattle.fibs_boards.specs.Board.{BoardFields};
 ghost use Rattle.fibs_boards.specs.StoredBoard.{fields_of};
-ghost use Rattle.fibs_position.specs.GoodBoard.{IsGood, good};
+ghost use Rattle.fibs_position.specs.GoodBoard.{good};
 ghost use Rattle.fibs_history.specs.Words.{last, shown, open_now};
 ghost use Rattle.fibs_commands.specs.LoginOf.{name_of, password_of};
 ghost use Rattle.fibs_commands.specs.Logins.{login_text};

@@ -1,12 +1,10 @@
 -- The objects of a log, one after another.
 use Rattle.std.proofs.Common.{◌≡◌, ℕ, ◌+◌, ◌<◌, ◌≤◌, List, [], ◌∷◌, ◌++◌, codes}
-use Rattle.std.proofs.Common.{refl, sym, ap, subst, ◌∙◌, append_assoc}
-use Rattle.std.proofs.Common.{append-nil, length, map, take, get_or, take_all}
+use Rattle.std.proofs.Common.{refl, sym, ap, subst, ◌∙◌, append_assoc, length, map, take, get_or, take_all}
 use Rattle.std.proofs.lemmas.List.{map-append, take_more}
 use Rattle.fibs_model_server.specs.EntryOf.{entry_of}
 use Rattle.fibs_model_server.specs.declared.entry.Entry.{Entry as ProgramEntry}
 use Rattle.fibs_engine.specs.Printing.{line_bytes}
-use Rattle.fibs_json.specs.Json.{member, more_member, whole}
 use Rattle.fibs_json.specs.Lines.{object_with, opening}
 use Rattle.fibs_session.specs.History.Log.{Entry}
 use Rattle.fibs_objects.specs.Entries.{EntryObject, LogObjects}

@@ -1,10 +1,9 @@
 -- An object tells its line.
-use Rattle.std.proofs.Common.{◌≡◌, ◌≢◌, ℕ, List, ◌++◌, ◌∷◌, [], codes, refl, sym, ap, ◌∙◌, subst}
+use Rattle.std.proofs.Common.{◌≡◌, ℕ, List, ◌++◌, ◌∷◌, [], codes, sym, ap, ◌∙◌}
 use Rattle.std.specs.List.{flat_map}
 use Rattle.fibs_json.specs.Json.{member, more_member, more_members, whole}
 use Rattle.fibs_json.specs.Lines.{OpeningsTell, object_with}
 use Rattle.fibs_scripts.specs.LogLines.{entry_line}
-use Rattle.fibs_session.specs.History.Log.{Entry}
 use Rattle.std.proofs.Common.{append_assoc, append-nil}
 use Rattle.fibs_engine.specs.Printing.{line_bytes}
 use Rattle.fibs_front.specs.Account.{lines_of}

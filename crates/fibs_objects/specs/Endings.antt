@@ -1,12 +1,11 @@
 -- The object of the last line of a script (the project's own format).
-use Rattle.std.specs.Prelude.{◌≡◌, ◌++◌, ℕ, List, [], ◌∷◌, codes, decimal, Option, Some, None}
+use Rattle.std.specs.Prelude.{◌≡◌, ◌++◌, ℕ, List, [], ◌∷◌, codes, decimal}
 use Rattle.fibs_engine.specs.Printing.{line_bytes}
 use Rattle.fibs_machine.specs.RefusalNames.{refusal_number, refusal_name}
-use Rattle.fibs_machine.specs.declared.refusal.WorldRefusal.{WorldRefusal}
 use Rattle.fibs_scripts.specs.Output.{end_text, refused_text, unread_text}
 use Rattle.fibs_session.specs.History.Log.{Entry}
 use Rattle.fibs_scripts.specs.LogLines.{log_text}
-use Rattle.fibs_json.specs.Json.{Member, member, more_members, string, whole}
+use Rattle.fibs_json.specs.Json.{member, more_members, string, whole}
 use Rattle.fibs_json.specs.Lines.{object_with}
 use Rattle.fibs_objects.specs.Entries.{LogObjects}
 use Rattle.fibs_objects.specs.declared.endings.Last.{Last}

@@ -9,7 +9,7 @@ use Rattle.fibs_session.specs.History.Log.{Undone, Lost, Ordered, Withdrawn}
 use Rattle.fibs_session.specs.History.Refusals.{refusal_name}
 use Rattle.fibs_session.specs.History.Words.{Ask}
 use Rattle.fibs_scripts.specs.LogLines.{entry_line}
-use Rattle.fibs_json.specs.Json.{Json, string, whole, truth, null, member, more_member, more_members, more_value}
+use Rattle.fibs_json.specs.Json.{Json, string, whole, truth, null, member, more_member, more_value}
 use Rattle.fibs_json.specs.Lines.{ReadObject, object_with}
 
 -- the word with which an entry's line begins

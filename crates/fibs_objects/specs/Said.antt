@@ -1,12 +1,12 @@
 -- What `fibs connect --json` prints for each thing that is reported (the project's own format).
-use Rattle.std.specs.Prelude.{◌≡◌, ◌≢◌, ◌⊎◌, ◌++◌, ℕ, List, [], ◌∷◌, codes, Option, Some, None, slice_get}
+use Rattle.std.specs.Prelude.{◌≡◌, ◌++◌, ℕ, List, [], ◌∷◌, codes, Option, Some, None, slice_get}
 use Rattle.std.specs.List.{flat_map}
 use Rattle.std.specs.Io.KnownBytes.{Appends}
 use Rattle.std.proofs.Common.{refl, sym, ap, subst, ◌∙◌, append_assoc}
 use Rattle.std.proofs.KnownBytes.{Appends-nil, Appends-trans}
 use Rattle.fibs_directory.specs.Directory.Faults.{directory_fault_number, directory_fault_name}
 use Rattle.fibs_engine.specs.Printing.{line_bytes}
-use Rattle.fibs_fields.specs.Field.{FieldValue, NameField, RatingField}
+use Rattle.fibs_fields.specs.Field.{FieldValue, RatingField}
 use Rattle.fibs_front.specs.Account.{lines_of}
 use Rattle.fibs_front.specs.Lines.{field_text}
 use Rattle.fibs_front.specs.Told.{SaidValue, opened_said, no_connection_said, heard_said, phase_said, confirmed_said}

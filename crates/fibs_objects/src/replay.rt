@@ -1,10 +1,8 @@
 //! `fibs replay --json`: runs a script, and prints an object for each line of its account.
 ghost use Rattle.std.specs.Prelude.{◌≡◌, ◌≢◌, ◌≤◌, ◌+◌, ◌++◌, ℕ, List, Some, IfOk, OnOk, IsErrOf, length, map};
-ghost use Rattle.std.specs.Io.KnownBytes.{Appends, Keeps};
 ghost use Rattle.fibs_boards.specs.Board.{BoardFields};
 ghost use Rattle.fibs_engine.specs.Reads.{LostAtMost};
 ghost use Rattle.fibs_engine.specs.Status.{code_of};
-ghost use Rattle.fibs_engine.specs.Writing.{GainedFront};
 ghost use Rattle.fibs_model.specs.EntryOf.{entry_of};
 ghost use Rattle.fibs_model.specs.Events.{Event};
 ghost use Rattle.fibs_scripts.specs.Limits.{read_len};

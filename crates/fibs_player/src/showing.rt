@@ -1,6 +1,5 @@
 //! A stream is shown by a front end.
 ghost use Rattle.std.specs.Prelude.{◌≡◌, ◌*◌, IfErr};
-ghost use Rattle.fibs_engine.specs.Reads.{LostAtMost};
 
 use fibs_engine::fault::EngineFault;
 use fibs_engine::limits::READ_PORTION;

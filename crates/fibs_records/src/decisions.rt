@@ -1,6 +1,6 @@
 //! Decisions as C has them.
 
-ghost use Rattle.std.specs.Prelude.{◌≡◌, ◌≤◌, true, map, take, length, option_map};
+ghost use Rattle.std.specs.Prelude.{◌≡◌, ◌≤◌, true, map, length, option_map};
 ghost use Rattle.std.specs.List.{list_all};
 ghost use Rattle.fibs_position.specs.DecisionValue.{decision_of as value_of};
 ghost use Rattle.fibs_rules.specs.Hop.{hop_of};

@@ -1,6 +1,6 @@
 //! Decisions with their boards, as C has them.
 
-ghost use Rattle.std.specs.Prelude.{◌≡◌, option_map};
+ghost use Rattle.std.specs.Prelude.{option_map};
 ghost use Rattle.fibs_session.specs.Calls.SessionOf.{ask_of};
 ghost use Rattle.fibs_records.specs.Asks.{IsAskAs, IsMaybeAsk};
 

@@ -2,7 +2,7 @@
 
 ghost use Rattle.std.specs.Option.{option_copied};
 ghost use Rattle.std.specs.Result.{result_err};
-ghost use Rattle.std.specs.Prelude.{◌≡◌, IsErr, None, [], true, false, option_map};
+ghost use Rattle.std.specs.Prelude.{◌≡◌, IsErr, None, [], false, option_map};
 ghost use Rattle.fibs_lines.specs.Lines.{value_of};
 ghost use Rattle.fibs_messages.specs.Line.{reading_of};
 ghost use Rattle.fibs_boards.specs.StoredBoard.{fields_of};

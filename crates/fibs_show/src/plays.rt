@@ -2,17 +2,14 @@
 ghost use Rattle.std.specs.Prelude.{◌≡◌, ◌≤◌, ◌+◌, ◌++◌, ◌∷◌, [], ℕ, List, length, map, codes, IfOk, IfErr, IsErrOf};
 ghost use Rattle.std.specs.Prelude.{OnErr, OnOk, MatchResult};
 ghost use Rattle.std.specs.Io.KnownBytes.{Appends, Keeps};
-ghost use Rattle.arrayvec.specs.ArrayVec.{array_vec_len};
 ghost use Rattle.fibs_boards.specs.Board.{BoardFields};
-ghost use Rattle.fibs_messages.specs.Line.{ReadingValue, board_line, malformed_line, IsReading};
+ghost use Rattle.fibs_messages.specs.Line.{ReadingValue, board_line, IsReading};
 ghost use Rattle.fibs_position.specs.GoodBoard.{IsGood};
 ghost use Rattle.fibs_rules.specs.PlayValue.{hops_of};
 ghost use Rattle.fibs_position.specs.PositionValue.{position_of};
 ghost use Rattle.fibs_position.specs.PositionValue.{position_value};
-ghost use Rattle.fibs_fields.specs.Faults.{fault_name};
-ghost use Rattle.fibs_position.specs.Names.{phase_name, position_fault_name};
+ghost use Rattle.fibs_position.specs.Names.{position_fault_name};
 ghost use Rattle.fibs_show.specs.Plays.{listing, PositionText, PlaysText, Refusal};
-ghost use Rattle.fibs_engine.specs.Readings.{reading_text};
 ghost use Rattle.fibs_engine.specs.Writing.{GainedFront};
 
 use arrayvec::ArrayVec;

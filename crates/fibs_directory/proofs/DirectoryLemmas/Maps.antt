@@ -1,14 +1,13 @@
 -- The entries of the map of a `Directory` and their values.
-use Rattle.std.proofs.Common.{◌≡◌, ℕ, ◌≤◌, Bool, true, false, cond, List, [], ◌∷◌, length, map, Option, None, Some, Bor}
+use Rattle.std.proofs.Common.{◌≡◌, ℕ, ◌≤◌, Bool, true, false, cond, List, [], ◌∷◌, length, Option, None, Some, Bor}
 use Rattle.std.proofs.Common.{Vec, refl, sym, ap, ◌∙◌, subst, suc, not, is_some, is_none, ◌&&◌, nat_eq, arith}
 use Rattle.std.specs.Cmp.Lexicographic.{bytes_decides}
-use Rattle.std.specs.List.{AllByRecursion}
 use Rattle.std.specs.Map.{lookup, remove_entry}
 use Rattle.std.specs.Option.{option_map, option_copied}
 use Rattle.std.specs.Str.{bytes_eq}
 use Rattle.indexmap.specs.IndexMap.{insert_entry}
 use Rattle.fibs_messages.specs.Message.{MessageValue}
-use Rattle.fibs_directory.specs.Directory.{name_of, is_of, entry_of}
+use Rattle.fibs_directory.specs.Directory.{name_of, entry_of}
 use Rattle.fibs_directory.specs.Directory.Steps.{with_entry, without_entry}
 use Rattle.fibs_directory.specs.Directory.View.{player_value, players_value, IsKeyed}
 use Rattle.fibs_directory.specs.declared.player.Player.{Player}

@@ -1,8 +1,7 @@
 -- The directory of a list of messages followed by one more.
-use Rattle.std.proofs.Common.{◌≡◌, ℕ, ◌<◌, Bool, true, false, cond, ◌&&◌, List, [], ◌∷◌, ◌++◌, length, map, Option}
+use Rattle.std.proofs.Common.{◌≡◌, ℕ, ◌<◌, Bool, true, false, cond, ◌&&◌, List, [], ◌∷◌, ◌++◌, length, map}
 use Rattle.std.proofs.Common.{None, Some, is_some, Bor, true≢false, ne_eqb, ◌≢◌, refl, sym, ap, subst, ◌∙◌, arith}
 use Rattle.std.specs.List.{AllByRecursion}
-use Rattle.std.specs.Str.{bytes_eq}
 use Rattle.fibs_messages.specs.Message.{MessageValue}
 use Rattle.fibs_messages.specs.Message.{message_of}
 use Rattle.fibs_fields.specs.Bytes.{name_bytes}
@@ -21,7 +20,7 @@ use Rattle.fibs_directory.specs.Directory.{IsDirectory}
 use Rattle.fibs_directory.specs.Directory.Steps.{with_entry, without_entry}
 use Rattle.fibs_directory.proofs.DirectoryLemmas.Told.{last_told-logout, last_told-other, last_told-told}
 use Rattle.fibs_directory.proofs.DirectoryLemmas.Told.{first_place-known, first_place-new, first_place-within}
-use Rattle.fibs_directory.proofs.DirectoryLemmas.Entries.{same_name, own_name, entry-with, entry-without, Rising}
+use Rattle.fibs_directory.proofs.DirectoryLemmas.Entries.{own_name, entry-with, entry-without, Rising}
 use Rattle.fibs_directory.proofs.DirectoryLemmas.Entries.{pairs_from_rising, rising_from_pairs, rising-same}
 use Rattle.fibs_directory.proofs.DirectoryLemmas.Entries.{rising-snoc}
 use Rattle.fibs_directory.proofs.DirectoryLemmas.Entries.{rising-without, names-known, names-new, named, all-map}

@@ -1,9 +1,8 @@
 -- Each list of messages has one directory.
-use Rattle.std.proofs.Common.{◌≡◌, ℕ, ◌<◌, Bool, true, false, cond, eqb, List, [], ◌∷◌, ◌++◌, map, Option, None, Some}
+use Rattle.std.proofs.Common.{◌≡◌, ℕ, ◌<◌, Bool, true, false, cond, eqb, List, [], ◌∷◌, ◌++◌, map, None, Some}
 use Rattle.std.proofs.Common.{unwrap_or, is_some, true≢false, refl, sym, ap, subst, ◌∙◌, arith, append_assoc}
 use Rattle.std.proofs.lemmas.List.{append-nil}
 use Rattle.std.specs.List.{AllByRecursion}
-use Rattle.std.specs.Str.{bytes_eq}
 use Rattle.fibs_messages.specs.Message.{MessageValue}
 use Rattle.fibs_directory.specs.Directory.{name_of, is_of, first_place, entry_of, IsDirectory}
 use Rattle.fibs_directory.specs.Directory.Laws.{EachListHasADirectory, NoListHasTwoDirectories}

@@ -6,7 +6,7 @@ use Rattle.std.specs.List.{slice_split}
 use Rattle.std.specs.Str.Lines.{lines, lines_of_parts, strip_carriage_return}
 use Rattle.fibs_fields.specs.Split.{before, after}
 use Rattle.fibs_front.specs.TypedLines.{typed_line, after_typed_line, kept_typed, without_end, rest_or_nothing}
-use Rattle.fibs_front.specs.Weaving.{NextValue, line_typed, server_heard, all_typed, Comes, AllCome}
+use Rattle.fibs_front.specs.Weaving.{NextValue, line_typed, server_heard, all_typed, Comes}
 use Rattle.fibs_front.specs.Weaving.{lines_among, kept_lines, LinesComeInOrder}
 
 -- the parts of a text between its line ends

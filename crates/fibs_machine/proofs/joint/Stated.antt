@@ -19,8 +19,7 @@ use Rattle.fibs_machine.specs.declared.refusal.WorldRefusal.TheVariants.{Already
 use Rattle.fibs_machine.specs.Events.{Event, Open, Click, Plain, Deliver, Lose, Serve}
 use Rattle.fibs_machine.specs.Events.{Own, Repeat, Text, Order, Withdraw}
 use Rattle.fibs_machine.specs.Headline.{NoneUndone}
-use Rattle.fibs_machine.specs.Joint.{Carried, Steady, served_by, served_at, decisions_of}
-use Rattle.fibs_machine.specs.Joint.{at_most_one, Left, LastUnserved}
+use Rattle.fibs_machine.specs.Joint.{Carried, Steady, served_at, decisions_of, at_most_one, Left, LastUnserved}
 use Rattle.fibs_machine.specs.Joint as S
 use Rattle.fibs_machine.specs.Refusals.{refusal}
 use Rattle.fibs_machine.specs.Runs.{AllAccepted, after_all}

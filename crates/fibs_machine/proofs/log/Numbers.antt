@@ -1,8 +1,6 @@
 -- No connection's number is above the number of entries.
-use Rattle.std.proofs.Common.{◌≡◌, ℕ, ◌+◌, ◌<◌, ◌≤◌, Bool, true, false, List, [], ◌∷◌, ◌++◌, Option, Some, None, length}
-use Rattle.std.proofs.Common.{nat_eq, flat_map, refl, sym, ap, subst, arith, length-append, append-nil, if◌then◌else◌}
-use Rattle.fibs_lines.specs.Lines.{ReadLine}
-use Rattle.fibs_boards.specs.Board.{BoardFields, spelling}
+use Rattle.std.proofs.Common.{◌≡◌, ℕ, ◌+◌, ◌≤◌, Bool, true, false, List, [], ◌∷◌, ◌++◌, length}
+use Rattle.std.proofs.Common.{nat_eq, flat_map, arith, length-append, if◌then◌else◌}
 use Rattle.fibs_messages.specs.Line.{ReadingValue, numbered_line, board_line, text_line, malformed_line}
 use Rattle.fibs_position.specs.GoodBoard.{good}
 use Rattle.fibs_history.specs.Log as L

@@ -25,7 +25,7 @@ use Rattle.fibs_history.specs.Words.{Ask, one_if, is_empty, last, open_now, show
 use Rattle.fibs_history.specs.Words.{is_spent}
 use Rattle.fibs_history.specs.Words.{welcomed, welcomed_by, informed, informed_by}
 use Rattle.fibs_machine.specs.Joint.{AreLines}
-use Rattle.fibs_machine.specs.Server.{Served, command, user_decides}
+use Rattle.fibs_machine.specs.Server.{Served, user_decides}
 use Rattle.fibs_machine.specs.Server as V
 use Rattle.fibs_machine.specs.Wires.{Link, more_asked, more_coming, next_line, put}
 use Rattle.fibs_machine.specs.World.{World, noted, linked, sends, is_talking, does_heard, hears, hears_all}

@@ -21,7 +21,7 @@ use Rattle.fibs_machine.specs.declared.refusal.WorldRefusal.{WorldRefusal}
 use Rattle.fibs_machine.specs.declared.refusal.WorldRefusal.TheVariants.{NoSuchConnection, BadDice, NothingToServe}
 use Rattle.fibs_machine.specs.declared.refusal.WorldRefusal.TheVariants.{NotOpen}
 use Rattle.fibs_machine.specs.Runs.{AllAccepted, MayBe, after_all, world_after}
-use Rattle.fibs_machine.specs.Server.{Served, effect}
+use Rattle.fibs_machine.specs.Server.{Served}
 use Rattle.fibs_machine.specs.Server as V
 use Rattle.fibs_machine.specs.Wires.{Link, delivered, taken, more_coming, next_line}
 use Rattle.fibs_machine.specs.World.{World, start, after, noted, linked, sends, is_talking, does_served, hears_all}

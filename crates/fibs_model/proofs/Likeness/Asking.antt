@@ -10,7 +10,7 @@ use Rattle.fibs_history.specs.declared.refusal.PlainRefusal.{PlainRefusal}
 use Rattle.fibs_history.specs.Log.{Entry, Clicked, Sent, Ordered, Withdrawn}
 use Rattle.fibs_history.specs.Words.{open_from, open_now, answer}
 use Rattle.fibs_history.specs.Allows.{allows}
-use Rattle.fibs_history.specs.Machine.{Talk, Step, answer_now, shown_now, clicks_by, decides_on}
+use Rattle.fibs_history.specs.Machine.{Talk, answer_now, shown_now, clicks_by, decides_on}
 use Rattle.fibs_history.specs.Machine.{plain_refusal, order_refusal, withdraw_refusal, wire_of}
 use Rattle.fibs_history.specs.Machine.{sends_plain as talk_sends_plain}
 use Rattle.fibs_history.specs.Machine as M

@@ -5,7 +5,7 @@ use Rattle.std.proofs.lemmas.List.{length-append, map_push}
 use Rattle.fibs_model.specs.declared.world.link.Link as C
 use Rattle.fibs_history.specs.Log as L
 use Rattle.fibs_history.specs.Words.{open_now}
-use Rattle.fibs_history.specs.Machine.{Talk, Step, stays, opened, on_wire}
+use Rattle.fibs_history.specs.Machine.{Step, stays, opened, on_wire}
 use Rattle.fibs_history.specs.Machine as M
 use Rattle.fibs_session.specs.Calls.ClientLaws.{ServersEntriesAreSilent}
 use Rattle.fibs_session.specs.Calls.Doing.{Does}

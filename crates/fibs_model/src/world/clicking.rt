@@ -8,7 +8,7 @@ ghost use Rattle.fibs_commands.specs.PlainOf.{plain_value};
 ghost use Rattle.fibs_model.specs.Calls.{click_entries};
 ghost use Rattle.fibs_model_server.specs.EntryOf.{entry_of};
 ghost use Rattle.fibs_machine.specs.Events as E;
-ghost use Rattle.fibs_model.specs.WorldOf.{May, Goes};
+ghost use Rattle.fibs_model.specs.WorldOf.{Goes};
 
 use super::World;
 use super::links::{COMMAND, hand_out, make_room};

@@ -1,6 +1,6 @@
 //! The wires of each connection.
 
-ghost use Rattle.std.specs.Prelude.{◌≡◌, ◌≤◌, ◌<◌, ◌+◌, ◌-◌, ◌++◌, length, vec_len, OnOk, IsOk, get_or};
+ghost use Rattle.std.specs.Prelude.{◌≡◌, ◌≤◌, ◌<◌, ◌+◌, ◌-◌, length, vec_len, OnOk, IsOk};
 ghost use Rattle.fibs_session.specs.Calls.SessionOf.{handed};
 ghost use Rattle.fibs_history.specs.Machine.{on_wire};
 ghost use Rattle.fibs_model.specs.Calls.{ask_links, send_links};

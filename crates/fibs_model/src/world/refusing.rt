@@ -1,9 +1,9 @@
 //! Which events are refused.
 
-ghost use Rattle.std.specs.Prelude.{◌≡◌, ℕ, List, length, slice_index};
+ghost use Rattle.std.specs.Prelude.{◌≡◌, ℕ, List, slice_index};
 ghost use Rattle.fibs_model.specs.Calls.{serve_refusal};
 ghost use Rattle.fibs_model_server.specs.EventOf.{event_of};
-ghost use Rattle.fibs_model.specs.LinksOf.{seen, link_at};
+ghost use Rattle.fibs_model.specs.LinksOf.{seen};
 ghost use Rattle.fibs_machine.specs.Refusals.{refusal};
 ghost use Rattle.fibs_machine.specs.World as W;
 ghost use Rattle.fibs_model.specs.WorldOf.{StandsFor};

@@ -1,6 +1,6 @@
 //! The server sends something by itself.
 
-ghost use Rattle.std.specs.Prelude.{◌≡◌, ◌≤◌, OnOk, OnErr};
+ghost use Rattle.std.specs.Prelude.{◌≡◌, OnOk, OnErr};
 ghost use Rattle.fibs_boards.specs.StoredBoard.{fields_of};
 ghost use Rattle.fibs_machine.specs.Events as E;
 ghost use Rattle.fibs_model.specs.WorldOf.{May, Goes};

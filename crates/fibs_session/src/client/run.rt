@@ -1,6 +1,6 @@
 //! A client run over a list of inputs.
 
-ghost use Rattle.std.specs.Prelude.{◌≡◌, ◌≤◌, ◌<◌, ◌++◌, length, take, map, option_map, OnOk, IfOk};
+ghost use Rattle.std.specs.Prelude.{◌≡◌, ◌≤◌, ◌<◌, ◌++◌, length, take, map, OnOk, IfOk};
 ghost use Rattle.fibs_session.specs.Calls.InputOf.{input_of};
 ghost use Rattle.fibs_session.specs.Calls.SessionOf.{texts_of, taken_of, handed};
 ghost use Rattle.fibs_session.specs.Calls.Writing.{Writes};

@@ -1,4 +1,4 @@
-use Rattle.std.proofs.Common.{◌≡◌, ◌∙◌, [], ap, sym, subst, codes, map}
+use Rattle.std.proofs.Common.{◌∙◌, [], ap, sym, subst, codes, map}
 use Rattle.fibs_boards.specs.StoredBoard.{fields_of}
 use Rattle.fibs_commands.specs.LoginOf.{name_of}
 use Rattle.fibs_model.specs.EntryOf.{entry_of}

@@ -1,4 +1,4 @@
-use Rattle.std.proofs.Common.{◌≡◌, ◌++◌, ◌∙◌, map, sym, subst}
+use Rattle.std.proofs.Common.{◌++◌, map, subst}
 use Rattle.fibs_model_server.specs.EntryOf.{entry_of}
 use Rattle.fibs_scripts.specs.LogLines.{log_text}
 use Rattle.fibs_engine.specs.Writing.{Wrote, progress_of}

@@ -1,4 +1,4 @@
-use Rattle.std.proofs.Common.{◌≡◌, ℕ, List, slice_index}
+use Rattle.std.proofs.Common.{ℕ, List, slice_index}
 use Rattle.fibs_boards.specs.Board.{BoardFields}
 use Rattle.fibs_machine.specs.Events.{Event}
 use Rattle.fibs_model.specs.WorldCalls.{WorldStandsAfter}
