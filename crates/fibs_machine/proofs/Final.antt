@@ -37,7 +37,7 @@ use Rattle.fibs_lines.specs.Lines.{ReadLine as Line}
 use Rattle.fibs_history.specs.Machine.{on_wire, gained}
 use Rattle.fibs_machine.proofs.wires.Ways.{OnWay, way_serve, way_some, way_served}
 use Rattle.fibs_machine.proofs.wires.Boards.{waiting, boards, gained_none}
-use Rattle.fibs_machine.proofs.joint.Joint.{view, Live, Held, Current, Joint}
+use Rattle.fibs_machine.proofs.joint.Joint.{log_of, Live, Held, Current, Joint, current}
 use Rattle.fibs_history.proofs.Lists.{to_list}
 use Rattle.fibs_machine.proofs.joint.Sending.{if_fact, same_test}
 use Rattle.fibs_history.proofs.Words.{yes}
@@ -125,7 +125,7 @@ module _ (law : Lawful) where
       h1 = rw eg h
 
       line : c ≡ w.logged_in
-          → (cur : Current (nat_eq (open_now w.log) w.logged_in) (view w w.logged_in) w.board
+          → (cur : Current (nat_eq (open_now w.log) w.logged_in) (log_of w w.logged_in) (w.links w.logged_in) w.board
           (waiting [] (w.links w.logged_in)))
           → (IsQuiet t × OnWay (nat_eq (open_now w.log) w.logged_in) cur.p rest)
           ⊎ ((a : Ask) × (cur.p ≡ Some a) × (t ≡ command a.0 a.1)
@@ -160,7 +160,7 @@ module _ (law : Lawful) where
       go false = if_fact (λ s. Tells (does_served c w1 s)) (nat_eq c w1.logged_in) _ _
           (λ z. let e : c ≡ w.logged_in = same z ∙ el in
           let have : 0 < w.logged_in = omega arith in
-          let cur = j.current have in
+          let cur = current [] w j have in
           line e cur
           (way_serve law _ cur.p (w.links w.logged_in).asked t rest cur.way
           (subst (λ d. next_line (w.links d).asked ≡ Some (t, rest)) e next)))
@@ -231,9 +231,9 @@ module _ (law : Lawful) where
       t : nat_eq (open_now w.log) w.logged_in ≡ true
       t = same_test _ _ a.is_open
 
-      cur : Current (nat_eq (open_now w.log) w.logged_in) (view w w.logged_in) w.board
+      cur : Current (nat_eq (open_now w.log) w.logged_in) (log_of w w.logged_in) (w.links w.logged_in) w.board
           (waiting [] (w.links w.logged_in))
-      cur = j.current a.some
+      cur = current [] w j a.some
 
       none : waiting [] (w.links w.logged_in) ≡ []
       none =
@@ -244,7 +244,7 @@ module _ (law : Lawful) where
       not_none [] b later h = cc
       not_none (x ∷ before) b later h = cc
 
-      go : (p : Option Ask) → OnWay true p [] → Live (view w w.logged_in) w.board (waiting [] (w.links w.logged_in)) p
+      go : (p : Option Ask) → OnWay true p [] → Live (log_of w w.logged_in) w.board (waiting [] (w.links w.logged_in)) p
           → unconfirmed same_game w.logged_in w.log ≡ None
       go None o y = elim y [
         | inl f ↦ (rw f.fresh refl)
@@ -278,15 +278,16 @@ module _ (law : Lawful) where
           let j = h.0 in
           let t = h.1 in
           record {
-            prefix = λ c. (to_list (j.settled c).p, sym (j.settled c).owed);
+            prefix = λ c. (to_list (j.each c).settled.p, sym (j.each c).settled.owed);
             order = t.order;
             legal = λ c. all_legal (sent c w.log) (t.legal c);
             own = own_of w.log t.called (shown_here w.log t.fit) (on_shown w.log t.fit);
             clicks_sent = clicks_sent_of w.log t.called;
             orders_sent = orders_sent_of w.log t.called;
             on_shown = on_shown w.log t.fit;
-            at_most_one = λ c. few (j.settled c).p _ _ (j.settled c).owed;
-            moved_on = all_moved_on law w.log (λ c. ((j.settled c).p, (j.settled c).owed)) j.moved;
+            at_most_one = λ c. few (j.each c).settled.p _ _ (j.each c).settled.owed;
+            moved_on = all_moved_on law w.log (λ c. ((j.each c).settled.p, (j.each c).settled.owed))
+                (λ c. (j.each c).moved);
             none_undone = t.undone;
             shown_good = λ c. all_good (shown c w.log) (t.seen c);
             numbers = n;
@@ -328,7 +329,7 @@ module _ (law : Lawful) where
             | inl q ↦ absurd (true≢false (sym q.0 ∙ z))
             | inr q ↦ let q1 =
                 q.1 in let lt : w.logged_in < c = omega arith in
-                absurd (true≢false (sym (ap is_empty (j.ahead c lt).served) ∙ e))
+                absurd (true≢false (sym (ap is_empty ((j.each c).ahead lt).served) ∙ e))
           ])
 
   -- no accepted line is stale, after a list of events that were all accepted

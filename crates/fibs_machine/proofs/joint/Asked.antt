@@ -21,8 +21,8 @@ use Rattle.fibs_history.proofs.Past.{open_append, spent_sent}
 use Rattle.fibs_history.proofs.Moving.{moved_sent}
 use Rattle.fibs_machine.proofs.wires.Boards.{waiting}
 use Rattle.fibs_machine.proofs.wires.Ways.{OnWay, way_decision}
-use Rattle.fibs_machine.proofs.joint.Joint.{View, view, Calm, Free, Live, Current, Joint, same_view, linked_same}
-use Rattle.fibs_machine.proofs.joint.Joint.{linked_other, with_link, view_linked, joint_current}
+use Rattle.fibs_machine.proofs.joint.Joint.{log_of, Calm, Free, Live, Current, Joint, current, same_log, linked_same}
+use Rattle.fibs_machine.proofs.joint.Joint.{linked_other, joint_current}
 use Rattle.fibs_machine.proofs.joint.Sending.{same_test}
 
 -- entries that are none of Shown, Sent and Took, and leave open what is open
@@ -53,7 +53,8 @@ module _ (law : Lawful) where
       let w' : World = asks n w.logged_in (command b d ∷ []) in
       let t : nat_eq (open_now w.log) w.logged_in ≡ true = same_test _ _ here in
       let cur =
-      subst (λ o. Current o (view w w.logged_in) w.board (waiting more (w.links w.logged_in))) t (j.current some) in
+      subst (λ o. Current o (log_of w w.logged_in) (w.links w.logged_in) w.board (waiting more (w.links w.logged_in))) t
+      (current more w j some) in
       let f = free cur.p cur.owed cur.way (cur.live refl) in
       let asked : sent w.logged_in es ≡ (b, d) ∷ [] =
       map_more (sent_by w.logged_in) first one ((b, d) ∷ [])
@@ -74,7 +75,7 @@ module _ (law : Lawful) where
       let sp : is_spent same_game w.logged_in n.log ≡ true = ap (is_spent same_game w.logged_in) two
       ∙ spent_sent same_game w.logged_in (w.log ++ first) b d (ap is_empty sc ∙ before_last _ b la) in
       let cl : Calm w.board (b ∷ waiting more (w.links w.logged_in)) = rw la at f.1.calm in
-      let v : Current true (with_link (view n w.logged_in) l') w.board (waiting more l') = record {
+      let v : Current true (log_of n w.logged_in) l' w.board (waiting more l') = record {
         p = Some (b, d);
         way =
             way_decision law (b, d) (w.links w.logged_in).asked
@@ -85,26 +86,30 @@ module _ (law : Lawful) where
         live = λ o. record { spent = sp; is_last = ap last sb ∙ la; calm = cl };
       } in
       let v' =
-      subst (λ (u : View). Current true u w.board (waiting more u.link)) (sym (view_linked n w.logged_in l')) v in
+      subst (λ l. Current true (log_of n w.logged_in) l w.board (waiting more l))
+      (sym (linked_same n w.logged_in l')) v in
       joint_current more more w w' j some refl refl
       (open_append 0 w.log es ∙ open_append (open_now w.log) first one ∙ idle.stays_open (open_now w.log))
-      (λ e m. same_view w w' es e refl (shows e)
-      (map_no_more (sent_by e) first one (ap (λ l. l ++ [])
-      (one_of_false (nat_eq w.logged_in e) (b, d) (other_number w.logged_in e (λ z. m (sym z)))))
-      ∙ idle.sends_none e)
-      (takes e) (linked_other n w.logged_in e l' m))
+      (λ e m. record {
+        log = same_log w w' es e refl (shows e)
+            (map_no_more (sent_by e) first one (ap (λ l. l ++ [])
+            (one_of_false (nat_eq w.logged_in e) (b, d) (other_number w.logged_in e (λ z. m (sym z)))))
+            ∙ idle.sends_none e)
+            (takes e);
+        link = linked_other n w.logged_in e l' m;
+      })
       j.good
       (rw t v')
       (λ h. absurd
       (true≢false (sym h
       ∙ (ap (has_moved_on same_game w.logged_in) two ∙ moved_sent same_game w.logged_in (w.log ++ first) b d))))
-      (λ o. rw (linked_same n w.logged_in l') (j.wire w.logged_in o some))
+      (λ o. rw (linked_same n w.logged_in l') ((j.each w.logged_in).wire o some))
     where
       free : (p : Option Ask) → sent w.logged_in w.log ≡ took w.logged_in w.log ++ to_list p
           → OnWay true p (w.links w.logged_in).asked
-          → Live (view w w.logged_in) w.board (waiting more (w.links w.logged_in)) p
+          → Live (log_of w w.logged_in) w.board (waiting more (w.links w.logged_in)) p
           → (sent w.logged_in w.log ≡ took w.logged_in w.log)
-          × Free (view w w.logged_in) w.board (waiting more (w.links w.logged_in))
+          × Free (log_of w w.logged_in) w.board (waiting more (w.links w.logged_in))
           × OnWay true None (w.links w.logged_in).asked
       free None o way y =
           elim y [ inl f ↦ (o ∙ append-nil _, f, way) | inr z ↦ absurd (true≢false (sym z.spent ∙ fresh)) ]

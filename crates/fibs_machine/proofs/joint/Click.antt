@@ -44,7 +44,7 @@ module _ (law : Lawful) where
                 let q1 = q.1 in
                 let le = not_older [] w (open_now w.log) j refl y.some in
                 let lt : w.logged_in < open_now w.log = omega arith in
-                let a = j.ahead (open_now w.log) lt in
-                let g : last (shown (open_now w.log) w.log) ≡ None = ap last a.seen in
+                let a = (j.each (open_now w.log)).ahead lt in
+                let g : last (shown (open_now w.log) w.log) ≡ None = ap last a.silent.seen in
                 let g' = y.is_last in cc
           ]

@@ -30,11 +30,10 @@ use Rattle.fibs_history.proofs.Moving.{moved_shown}
 use Rattle.fibs_machine.proofs.log.Due.{due_rolls}
 use Rattle.fibs_machine.proofs.joint.Asked.{joint_asked, no_entries}
 use Rattle.fibs_machine.proofs.wires.Boards.{waiting, boards, board_of, boards_split, whole_split, gained_none}
-use Rattle.fibs_machine.proofs.joint.Joint.{View, view, Calm, Free, Done, Live, Held, Current, Ahead, Joint}
+use Rattle.fibs_machine.proofs.joint.Joint.{log_of, Calm, Free, Done, Live, Held, Joint, current, same_log}
+use Rattle.fibs_machine.proofs.joint.Joint.{joint_current, joint_rewired, joint_rewired_ahead}
 use Rattle.fibs_history.proofs.Lists.{to_list}
-use Rattle.fibs_machine.proofs.joint.Joint.{same_view, linked_same, linked_other, with_link, view_linked, joint_current}
-use Rattle.fibs_machine.proofs.joint.Sending.{joint_noted, joint_ahead, joint_asks, not_older}
-use Rattle.fibs_machine.proofs.joint.Sending.{same_test, if_fact, relink}
+use Rattle.fibs_machine.proofs.joint.Sending.{joint_noted, joint_asks, not_older, same_test, if_fact}
 use Rattle.fibs_history.specs.Hearing.{line_reading}
 use Rattle.fibs_position.specs.GamePart.{same_game}
 use Rattle.fibs_position.specs.GoodBoard.{good as is_good}
@@ -47,7 +46,7 @@ module _ (law : Lawful) where
   -- one more board: what was on its way to the client is shown
   live_shown : (c : ℕ) (now b : Board) (more : List Board) (p : Option Ask) (w w' : World)
       → w'.log ≡ w.log ++ Shown c b ∷ [] → Held now p
-      → Live (view w c) now (b ∷ more) p → Live (view w' c) now more p
+      → Live (log_of w c) now (b ∷ more) p → Live (log_of w' c) now more p
   live_shown c now b more p w w' e = go p
     where
       seen' : last (shown c w'.log) ≡ Some b
@@ -92,8 +91,8 @@ module _ (law : Lawful) where
           and_both _ _ (law.likeness.like_on x v y (law.likeness.like_back v x h) (and_left _ _ k))
           (like_all v x ys h (and_right _ _ k))
 
-      done : (d : Done (view w c) now (b ∷ more)) (xs : List Board) → d.before ≡ xs
-          → Free (view w' c) now more ⊎ Done (view w' c) now more
+      done : (d : Done (log_of w c) now (b ∷ more)) (xs : List Board) → d.before ≡ xs
+          → Free (log_of w' c) now more ⊎ Done (log_of w' c) now more
       done d [] h =
           let a : b ∷ more ≡ d.next ∷ d.later = d.all ∙ ap (λ l. l ++ d.next ∷ d.later) h in
           let a0 : b ≡ d.next = cc in
@@ -124,7 +123,7 @@ module _ (law : Lawful) where
           unlike v x y h k z =
               elim z [ inl t ↦ absurd (true≢false (sym (law.likeness.like_on v x y h t) ∙ k)) | inr f ↦ f ]
 
-      go : (p : Option Ask) → Held now p → Live (view w c) now (b ∷ more) p → Live (view w' c) now more p
+      go : (p : Option Ask) → Held now p → Live (log_of w c) now (b ∷ more) p → Live (log_of w' c) now more p
       go None h y = elim y [
         | inl f ↦
             inl
@@ -152,13 +151,16 @@ module _ (law : Lawful) where
       let c : ℕ = w.logged_in in
       let w' : World = noted w (Shown w.logged_in b ∷ []) in
       let t : nat_eq (open_now w.log) w.logged_in ≡ true = same_test _ _ here in
-      let cur = j.current some in
+      let cur = current (b ∷ more) w j some in
       let es : sent w.logged_in w'.log ≡ sent w.logged_in w.log = map_no_more _ w.log (Shown w.logged_in b ∷ []) refl in
       let et : took w.logged_in w'.log ≡ took w.logged_in w.log = map_no_more _ w.log (Shown w.logged_in b ∷ []) refl in
       joint_current (b ∷ more) more w w' j some refl refl (open_append 0 w.log (Shown w.logged_in b ∷ []))
-      (λ d m. same_view w w' (Shown w.logged_in b ∷ []) d refl
-      (ap (λ l. l ++ []) (one_of_false (nat_eq w.logged_in d) b (other_number w.logged_in d (λ e. m (sym e))))) refl
-      refl refl)
+      (λ d m. record {
+        log = same_log w w' (Shown w.logged_in b ∷ []) d refl
+            (ap (λ l. l ++ []) (one_of_false (nat_eq w.logged_in d) b (other_number w.logged_in d (λ e. m (sym e)))))
+            refl refl;
+        link = refl;
+      })
       j.good
       (record {
         p = cur.p;
@@ -170,14 +172,14 @@ module _ (law : Lawful) where
       })
       (λ h. et ∙ moved cur.p cur.owed cur.held (cur.live t) (moved_shown same_game law.likeness w.logged_in w.log b h)
       ∙ sym es)
-      (λ o. j.wire w.logged_in o some)
+      (λ o. (j.each w.logged_in).wire o some)
     where
       moved : (p : Option Ask) → sent w.logged_in w.log ≡ took w.logged_in w.log ++ to_list p → Held w.board p
-          → Live (view w w.logged_in) w.board (waiting (b ∷ more) (w.links w.logged_in)) p
+          → Live (log_of w w.logged_in) w.board (waiting (b ∷ more) (w.links w.logged_in)) p
           → (has_moved_on same_game w.logged_in w.log ≡ true)
           ⊎ ((a : Ask) × (last (sent w.logged_in w.log) ≡ Some a) × (same_game a.0 b ≡ false))
           → took w.logged_in w.log ≡ sent w.logged_in w.log
-      moved p o h y (inl k) = j.moved w.logged_in k
+      moved p o h y (inl k) = (j.each w.logged_in).moved k
       moved None o h y (inr k) = sym (o ∙ append-nil _)
       moved (Some a) o h y (inr k) =
           let eb : b ≡ a.0 = (y.calm.0 (law.allowed_decides a.0 a.1 h.1)).0.0 in
@@ -296,29 +298,23 @@ module _ (law : Lawful) where
       let l : Link = w.links w.logged_in in
       let l' : Link = delivered (w.links w.logged_in) n in
       let ls : List Line = gained l.heard (take n l.coming) in
-      let w' : World = linked w w.logged_in l' in
-      let cur = j.current have in
+      let cur = current [] w j have in
       let ws : waiting (boards ls) l' ≡ waiting [] l = sym (boards_split law l.heard l.coming n) in
-      let v : Current (nat_eq (open_now w.log) w.logged_in) (with_link (view w w.logged_in) l') w.board
-      (waiting (boards ls) l') =
-      record {
+      let j' : Joint (boards ls) (linked w w.logged_in l') = joint_rewired [] (boards ls) w w.board l' j have j.good
+      (record {
         p = cur.p;
         way = cur.way;
         begun = cur.begun;
         owed = cur.owed;
         held = cur.held;
-        live =
-            λ o. relink law (view w w.logged_in) l' w.board _ cur.p
-            (subst (λ bs. Live (view w w.logged_in) w.board bs cur.p) (sym ws) (cur.live o));
-      } in
-      let v' =
-      subst (λ (u : View). Current (nat_eq (open_now w.log) w.logged_in) u w.board (waiting (boards ls) u.link))
-      (sym (view_linked w w.logged_in l')) v in
-      let j' : Joint (boards ls) w' = joint_current [] (boards ls) w w' j have refl refl refl
-      (λ d m. same_view w w' [] d (sym (append-nil _)) refl refl refl (linked_other w w.logged_in d l' m))
-      j.good v' (j.moved w.logged_in)
-      (λ o. rw (linked_same w w.logged_in l') (whole_split law l.heard l.coming n (j.wire w.logged_in o have))) in
-      record { joint = subst (λ bs. Joint bs w') (sym (append-nil _)) j'; here = here; mine = refl }
+        live = λ o. subst (λ bs. Live (log_of w w.logged_in) w.board bs cur.p) (sym ws) (cur.live o);
+      })
+      (λ o. whole_split law l.heard l.coming n ((j.each w.logged_in).wire o have)) in
+      record {
+        joint = subst (λ bs. Joint bs (linked w w.logged_in l')) (sym (append-nil _)) j';
+        here = here;
+        mine = refl;
+      }
 
   -- bytes are delivered to the open connection
   pub joint_deliver : (w : World) (c n : ℕ) → Joint [] w → open_now w.log ≡ c → 0 < c
@@ -341,28 +337,22 @@ module _ (law : Lawful) where
       at_ahead m =
           let le = not_older [] w c j h some in
           let lt : w.logged_in < c = omega arith in
-          let a = j.ahead c lt in
+          let a = (j.each c).ahead lt in
           let tn : take n (w.links c).coming ≡ [] = ap (take n) a.coming ∙ take_nil n in
           let dn : drop n (w.links c).coming ≡ [] = ap (drop n) a.coming ∙ drop_nil n in
           let l' : Link = delivered (w.links c) n in
           let none : gained (w.links c).heard (take n (w.links c).coming) ≡ [] =
           ap (gained (w.links c).heard) tn ∙ gained_none law (w.links c).heard in
-          let a' : Ahead (nat_eq (open_now w.log) c) (with_link (view w c) l') =
-          record {
-            seen = a.seen;
-            sends = a.sends;
-            takes = a.takes;
-            fresh = a.fresh;
+          let j' : Joint [] (linked w c l') = joint_rewired_ahead [] w c l' j lt
+          (record {
+            silent = a.silent;
             served = a.served;
             heard = ap (λ l. l ++ take n (w.links c).coming) a.heard ∙ tn;
             coming = dn;
             way = a.way;
             asks = a.asks;
-          } in
-          let j' : Joint [] (linked w c l') = joint_ahead [] w (linked w c l') c j lt refl refl refl refl
-          (λ d k. same_view w (linked w c l') [] d (sym (append-nil _)) refl refl refl (linked_other w c d l' k))
-          (subst (Ahead (nat_eq (open_now w.log) c)) (sym (view_linked w c l')) a')
-          (λ z. ap (λ (l : Link). l.asked) (linked_same w c l') ∙ j.unopened c z) in
+          })
+          (j.each c).unopened in
           subst (λ ls. Joint [] (hears_all c (linked w c l') ls)) (sym none) j'
         where
           take_nil : (n : ℕ) → take {A = ℕ} n [] ≡ []

@@ -183,21 +183,19 @@ module _ (law : Lawful) where
     good = g;
     low = omega arith;
     who = inl refl;
-    ahead =
-        λ c h. record {
-          seen = refl;
-          sends = refl;
-          takes = refl;
-          fresh = refl;
-          served = refl;
-          heard = refl;
-          coming = refl;
-          way = way_none law _;
-          asks = λ z. absurd (true≢false (sym z ∙ other_number 0 c (λ e. absurd (omega arith))));
-        };
-    unopened = λ c h. refl;
-    settled = λ c. record { p = None; owed = refl };
-    current = λ h. absurd (omega arith);
-    moved = λ c h. absurd (true≢false (sym h));
-    wire = λ c e h. whole_none;
+    each = λ c. record {
+      ahead = λ h. record {
+        silent = record { seen = refl; sends = refl; takes = refl; fresh = refl };
+        served = refl;
+        heard = refl;
+        coming = refl;
+        way = way_none law _;
+        asks = λ z. absurd (true≢false (sym z ∙ other_number 0 c (λ e. absurd (omega arith))));
+      };
+      unopened = λ h. refl;
+      settled = record { p = None; owed = refl };
+      current = λ some e. absurd (omega arith);
+      moved = λ h. absurd (true≢false (sym h));
+      wire = λ e h. whole_none;
+    };
   }

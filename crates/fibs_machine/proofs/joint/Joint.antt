@@ -14,30 +14,28 @@ use Rattle.fibs_history.proofs.Lists.{to_list, same_number, other_number, map_no
 use Rattle.fibs_history.proofs.Past.{spent_quiet}
 use Rattle.fibs_history.proofs.Moving.{moved_quiet}
 use Rattle.fibs_machine.proofs.wires.Ways.{OnWay}
-use Rattle.fibs_machine.proofs.wires.Boards.{Whole, waiting}
+use Rattle.fibs_machine.proofs.wires.Boards.{Whole, waiting, whole_none}
 use Rattle.fibs_history.specs.Allows.{allows}
 use Rattle.fibs_position.specs.GamePart.{same_game}
 use Rattle.fibs_position.specs.GoodBoard.{good as is_good}
 
--- what the log and the wires say of one connection
-pub record View : Type 0 where
+-- what the log says of one connection
+pub record Logged : Type 0 where
   pub seen : List Board
   pub sends : List Ask
   pub takes : List Ask
   pub spent : Bool
   pub moved : Bool
-  pub link : Link
 
--- what is said of a connection in a world
-abbrev pub view : World → ℕ → View
-view w c =
+-- what the log of a world says of a connection
+abbrev pub log_of : World → ℕ → Logged
+log_of w c =
     record {
       seen = shown c w.log;
       sends = sent c w.log;
       takes = took c w.log;
       spent = is_spent same_game c w.log;
       moved = has_moved_on same_game c w.log;
-      link = w.links c;
     }
 
 -- all boards are this one
@@ -51,12 +49,12 @@ Calm now [] = Unit {0}
 Calm now (b ∷ bs) = (user_decides b ≡ true → AllAre b bs × (now ≡ b)) × Calm now bs
 
 -- nothing was sent in this stretch
-pub record Free (v : View) (now : Board) (ws : List Board) : Type 0 where
+pub record Free (v : Logged) (now : Board) (ws : List Board) : Type 0 where
   pub fresh : v.spent ≡ false
   pub calm : Calm now (to_list (last v.seen) ++ ws)
 
 -- what was sent in this stretch took effect, and the board that shows it is on its way
-pub record Done (v : View) (now : Board) (ws : List Board) : Type 0 where
+pub record Done (v : Logged) (now : Board) (ws : List Board) : Type 0 where
   pub spent : v.spent ≡ true
   pub on : Board
   pub is_last : last v.seen ≡ Some on
@@ -69,13 +67,13 @@ pub record Done (v : View) (now : Board) (ws : List Board) : Type 0 where
   pub calm : Calm now (next ∷ later)
 
 -- what was sent in this stretch was not served
-pub record Asked (v : View) (now : Board) (ws : List Board) (a : Ask) : Type 0 where
+pub record Asked (v : Logged) (now : Board) (ws : List Board) (a : Ask) : Type 0 where
   pub spent : v.spent ≡ true
   pub is_last : last v.seen ≡ Some a.0
   pub calm : Calm now (a.0 ∷ ws)
 
 -- if nothing waits to be served, nothing was sent in this stretch, or its effect is on its way
-abbrev pub Live : View → Board → List Board → Option Ask → Type 0
+abbrev pub Live : Logged → Board → List Board → Option Ask → Type 0
 Live v now ws None = Free v now ws ⊎ Done v now ws
 Live v now ws (Some a) = Asked v now ws a
 
@@ -85,68 +83,87 @@ Held now None = Unit {0}
 Held now (Some a) = (now ≡ a.0) × (allows a.0 a.1 ≡ None)
 
 -- the connection that is logged in
-pub record Current (is_open : Bool) (v : View) (now : Board) (ws : List Board) : Type 0 where
+pub record Current (is_open : Bool) (v : Logged) (l : Link) (now : Board) (ws : List Board) : Type 0 where
   pub p : Option Ask
-  pub way : OnWay is_open p v.link.asked
-  pub begun : is_empty v.link.served ≡ false
+  pub way : OnWay is_open p l.asked
+  pub begun : is_empty l.served ≡ false
   pub owed : v.sends ≡ v.takes ++ to_list p
   pub held : Held now p
   pub live : is_open ≡ true → Live v now ws p
 
--- a connection that is newer
-pub record Ahead (is_open : Bool) (v : View) : Type 0 where
+-- the log says nothing of the connection
+pub record Silent (v : Logged) : Type 0 where
   pub seen : v.seen ≡ []
   pub sends : v.sends ≡ []
   pub takes : v.takes ≡ []
   pub fresh : v.spent ≡ false
-  pub served : v.link.served ≡ []
-  pub heard : v.link.heard ≡ []
-  pub coming : v.link.coming ≡ []
-  pub way : OnWay is_open None v.link.asked
+
+-- a connection that is newer
+pub record Ahead (is_open : Bool) (v : Logged) (l : Link) : Type 0 where
+  pub silent : Silent v
+  pub served : l.served ≡ []
+  pub heard : l.heard ≡ []
+  pub coming : l.coming ≡ []
+  pub way : OnWay is_open None l.asked
   -- while it is open its login is on its way
-  pub asks : is_open ≡ true → is_empty v.link.asked ≡ false
+  pub asks : is_open ≡ true → is_empty l.asked ≡ false
 
 -- all but at most one decision took effect
-pub record Settled (v : View) : Type 0 where
+pub record Settled (v : Logged) : Type 0 where
   pub p : Option Ask
   pub owed : v.sends ≡ v.takes ++ to_list p
 
 -- once a board that differs is shown, all that was sent took effect
-abbrev pub Moved : View → Type 0
+abbrev pub Moved : Logged → Type 0
 Moved v = v.moved ≡ true → v.takes ≡ v.sends
+
+-- What holds of one connection c, by the boards that were delivered and are not noted yet, the server's board, the
+-- connection that is logged in, how many there are, and the one that is open.
+pub record At (hearing : List Board) (now : Board) (user count here c : ℕ) (v : Logged) (l : Link) : Type 0 where
+  pub ahead : user < c → Ahead (nat_eq here c) v l
+  pub unopened : count < c → l.asked ≡ []
+  pub settled : Settled v
+  pub current : 0 < c → c ≡ user → Current (nat_eq here c) v l now (waiting hearing l)
+  pub moved : Moved v
+  pub wire : here ≡ c → 0 < c → Whole (l.heard ++ l.coming)
+
+-- the same of a connection of a world
+abbrev pub AtIn : List Board → World → ℕ → Type 0
+AtIn hearing w c = At hearing w.board w.logged_in w.count (open_now w.log) c (log_of w c) (w.links c)
 
 -- hearing: the boards of lines that were delivered and are not noted yet
 pub record Joint (hearing : List Board) (w : World) : Type 0 where
   pub good : is_good w.board ≡ true
   pub low : w.logged_in ≤ w.count
   pub who : (open_now w.log ≡ 0) ⊎ ((open_now w.log ≡ w.count) × (0 < w.count))
-  pub ahead : (c : ℕ) → w.logged_in < c → Ahead (nat_eq (open_now w.log) c) (view w c)
-  pub unopened : (c : ℕ) → w.count < c → (w.links c).asked ≡ []
-  pub settled : (c : ℕ) → Settled (view w c)
-  pub current : 0 < w.logged_in
-      → Current (nat_eq (open_now w.log) w.logged_in) (view w w.logged_in) w.board
-      (waiting hearing (w.links w.logged_in))
-  pub moved : (c : ℕ) → Moved (view w c)
-  pub wire : (c : ℕ) → open_now w.log ≡ c → 0 < c → Whole ((w.links c).heard ++ (w.links c).coming)
+  pub each : (c : ℕ) → AtIn hearing w c
 
--- equal views
-pub view_path : {a a' : List Board} {b b' c c' : List Ask} {d d' e e' : Bool} {l l' : Link} → a ≡ a' → b ≡ b' → c ≡ c'
-    → d ≡ d' → e ≡ e' → l ≡ l' →
-    ◌≡◌ {A = View} (record { seen = a; sends = b; takes = c; spent = d; moved = e; link = l })
-    (record { seen = a'; sends = b'; takes = c'; spent = d'; moved = e'; link = l' })
-view_path h1 h2 h3 h4 h5 h6 = cc
+-- what it says of the connection that is logged in
+pub current : (x : List Board) (w : World) → Joint x w → 0 < w.logged_in
+    → Current (nat_eq (open_now w.log) w.logged_in) (log_of w w.logged_in) (w.links w.logged_in) w.board
+    (waiting x (w.links w.logged_in))
+current x w j some = (j.each w.logged_in).current some refl
 
--- entries that are not of c do not change its view, and neither do changes of other wires
-pub same_view : (w : World) (w' : World) (es : List Entry) (c : ℕ) → w'.log ≡ w.log ++ es → shown c es ≡ []
-    → sent c es ≡ [] → took c es ≡ [] → w'.links c ≡ w.links c
-    → view w' c ≡ view w c
-same_view w w' es c e h k m l = view_path
+-- a connection of which the log and the wires say the same in two worlds
+pub record Same (w w' : World) (c : ℕ) : Type 0 where
+  pub log : log_of w' c ≡ log_of w c
+  pub link : w'.links c ≡ w.links c
+
+-- the log says the same of a connection if all its words are
+log_path : {a a' : List Board} {b b' c c' : List Ask} {d d' e e' : Bool} → a ≡ a' → b ≡ b' → c ≡ c' → d ≡ d' → e ≡ e' →
+    ◌≡◌ {A = Logged} (record { seen = a; sends = b; takes = c; spent = d; moved = e })
+    (record { seen = a'; sends = b'; takes = c'; spent = d'; moved = e' })
+log_path h1 h2 h3 h4 h5 = cc
+
+-- entries that are not of c do not change what the log says of it
+pub same_log : (w : World) (w' : World) (es : List Entry) (c : ℕ) → w'.log ≡ w.log ++ es → shown c es ≡ []
+    → sent c es ≡ [] → took c es ≡ [] → log_of w' c ≡ log_of w c
+same_log w w' es c e h k m = log_path
     (ap (shown c) e ∙ map_no_more (shown_by c) w.log es h)
     (ap (sent c) e ∙ map_no_more (sent_by c) w.log es k)
     (ap (took c) e ∙ map_no_more (took_by c) w.log es m)
     (ap (is_spent same_game c) e ∙ spent_quiet same_game c w.log es h k)
     (ap (has_moved_on same_game c) e ∙ moved_quiet same_game c w.log es h k)
-    l
 
 -- a wire that is set is there
 pub linked_same : (w : World) (c : ℕ) (l : Link) → (linked w c l).links c ≡ l
@@ -156,48 +173,129 @@ linked_same w c l = rw (same_number c) refl
 pub linked_other : (w : World) (c d : ℕ) (l : Link) → (d ≡ c → ⊥) → (linked w c l).links d ≡ w.links d
 linked_other w c d l h = rw (other_number d c h) refl
 
--- the view of c on other wires
-abbrev pub with_link : View → Link → View
-with_link v l = record { seen = v.seen; sends = v.sends; takes = v.takes; spent = v.spent; moved = v.moved; link = l }
+-- what holds of a connection holds of it by any other account of the same
+pub at_by : (x : List Board) (now : Board) (user count here c : ℕ) (v v' : Logged) (l l' : Link) → v' ≡ v → l' ≡ l
+    → At x now user count here c v l → At x now user count here c v' l'
+at_by x now user count here c v v' l l' e f a =
+    subst (λ k. At x now user count here c v' k) (sym f) (subst (λ u. At x now user count here c u l) (sym e) a)
 
--- the view of a connection whose wire is set
-pub view_linked : (w : World) (c : ℕ) (l : Link) → view (linked w c l) c ≡ with_link (view w c) l
-view_linked w c l = view_path refl refl refl refl refl (linked_same w c l)
+-- but for the one that is logged in it holds with other boards too
+pub at_other : (x x' : List Board) (now now' : Board) (user count here c : ℕ) (v : Logged) (l : Link)
+    → (0 < c → c ≡ user → (x' ≡ x) × (now' ≡ now)) → At x now user count here c v l → At x' now' user count here c v l
+at_other x x' now now' user count here c v l same a = record {
+  ahead = a.ahead;
+  unopened = a.unopened;
+  settled = a.settled;
+  current = λ some e. let s = same some e in
+      subst (λ y. Current (nat_eq here c) v l now' (waiting y l)) (sym s.0)
+      (subst (λ b. Current (nat_eq here c) v l b (waiting x l)) (sym s.1) (a.current some e));
+  moved = a.moved;
+  wire = a.wire;
+}
+
+-- what holds of the connection that is logged in
+pub at_current : (x : List Board) (now : Board) (user count here : ℕ) (v : Logged) (l : Link) → user ≤ count
+    → Current (nat_eq here user) v l now (waiting x l) → Moved v → (here ≡ user → Whole (l.heard ++ l.coming))
+    → At x now user count here user v l
+at_current x now user count here v l low cur moved wire = record {
+  ahead = λ h. absurd (omega arith);
+  unopened = λ h. absurd (omega arith);
+  settled = record { p = cur.p; owed = cur.owed };
+  current = λ some e. cur;
+  moved = moved;
+  wire = λ e some. wire e;
+}
+
+-- what holds of a connection that is newer
+pub at_ahead : (x : List Board) (now : Board) (user count here c : ℕ) (v : Logged) (l : Link) → user < c
+    → Ahead (nat_eq here c) v l → (count < c → l.asked ≡ []) → At x now user count here c v l
+at_ahead x now user count here c v l lt a unopened = record {
+  ahead = λ h. a;
+  unopened = unopened;
+  settled = record { p = None; owed = a.silent.sends ∙ ap (λ k. k ++ []) (sym a.silent.takes) };
+  current = λ some e. absurd (omega arith);
+  moved = λ z. a.silent.takes ∙ sym a.silent.sends;
+  wire = λ e some. rw (a.heard, a.coming) whole_none;
+}
+
+-- a fact of each connection: of one, and of the others
+pub each_of : (P : ℕ → Type 0) (c : ℕ) → P c → ((d : ℕ) → (d ≡ c → ⊥) → P d) → (d : ℕ) → P d
+each_of P c one others d = elim (eqb_tells d c) [ inl e ↦ subst P (sym e.1) one | inr n ↦ others d n.1 ]
+
+-- One connection changes: the statement is kept if it holds of that one. The boards that are heard and the server's
+-- board may become others if it is the one that is logged in.
+joint_at : (x x' : List Board) (w w' : World) (c : ℕ) → Joint x w
+    → w'.logged_in ≡ w.logged_in → w'.count ≡ w.count → open_now w'.log ≡ open_now w.log
+    → ((d : ℕ) → (d ≡ c → ⊥) → Same w w' d) → is_good w'.board ≡ true
+    → ((d : ℕ) → (d ≡ c → ⊥) → d ≡ w.logged_in → (x' ≡ x) × (w'.board ≡ w.board))
+    → At x' w'.board w.logged_in w.count (open_now w.log) c (log_of w' c) (w'.links c) → Joint x' w'
+joint_at x x' w w' c j el ec eo same good boards one = record {
+  good = good;
+  low = rw (el, ec) j.low;
+  who = rw (eo, ec) j.who;
+  each = λ d. rw (el, ec, eo) (each_of
+      (λ d. At x' w'.board w.logged_in w.count (open_now w.log) d (log_of w' d) (w'.links d)) c one
+      (λ d n. at_by x' w'.board w.logged_in w.count (open_now w.log) d _ _ _ _ (same d n).log (same d n).link
+      (at_other x x' w.board w'.board w.logged_in w.count (open_now w.log) d _ _ (λ some. boards d n) (j.each d))) d);
+}
 
 -- a change at the connection that is logged in, which is one
 pub joint_current : (x x' : List Board) (w w' : World) → Joint x w → 0 < w.logged_in
     → w'.logged_in ≡ w.logged_in → w'.count ≡ w.count → open_now w'.log ≡ open_now w.log
-    → ((c : ℕ) → (c ≡ w.logged_in → ⊥) → view w' c ≡ view w c)
+    → ((c : ℕ) → (c ≡ w.logged_in → ⊥) → Same w w' c)
     → is_good w'.board ≡ true
-    → Current (nat_eq (open_now w.log) w.logged_in) (view w' w.logged_in) w'.board (waiting x' (w'.links w.logged_in))
-    → Moved (view w' w.logged_in)
+    → Current (nat_eq (open_now w.log) w.logged_in) (log_of w' w.logged_in) (w'.links w.logged_in) w'.board
+    (waiting x' (w'.links w.logged_in))
+    → Moved (log_of w' w.logged_in)
     → (open_now w.log ≡ w.logged_in → Whole ((w'.links w.logged_in).heard ++ (w'.links w.logged_in).coming))
     → Joint x' w'
-joint_current x x' w w' j some el ec eo same good cur mov wire =
-    record {
-      good = good;
-      low = rw (el, ec) j.low;
-      who = rw (eo, ec) j.who;
-      ahead = λ c h. let h' : w.logged_in < c = rw el at h in
-          let n : c ≡ w.logged_in → ⊥ = λ e. absurd (omega arith) in
-          rw eo (subst (Ahead (nat_eq (open_now w.log) c)) (sym (same c n)) (j.ahead c h'));
-      unopened = λ c h. let h' : w.count < c = rw ec at h in
-          let lo = j.low in
-          let n : c ≡ w.logged_in → ⊥ = λ e. absurd (omega arith) in
-          ap (λ (v : View). v.link.asked) (same c n) ∙ j.unopened c h';
-      settled = λ c. elim (eqb_tells c w.logged_in) [
-        | inl e ↦
-            subst (λ d. Settled (view w' d)) (sym e.1)
-            (let s : Settled (view w' w.logged_in) = record { p = cur.p; owed = cur.owed } in s)
-        | inr n ↦ subst Settled (sym (same c n.1)) (j.settled c)
-      ];
-      current = λ h. rw (el, eo) cur;
-      moved = λ c. elim (eqb_tells c w.logged_in) [
-        | inl e ↦ subst (λ d. Moved (view w' d)) (sym e.1) mov
-        | inr n ↦ subst Moved (sym (same c n.1)) (j.moved c)
-      ];
-      wire = λ c h k. let h' : open_now w.log ≡ c = rw eo at h in elim (eqb_tells c w.logged_in) [
-        | inl e ↦ subst (λ d. Whole ((w'.links d).heard ++ (w'.links d).coming)) (sym e.1) (wire (h' ∙ e.1))
-        | inr n ↦ subst (λ (v : View). Whole (v.link.heard ++ v.link.coming)) (sym (same c n.1)) (j.wire c h' k)
-      ];
-    }
+joint_current x x' w w' j some el ec eo same good cur moved wire =
+    joint_at x x' w w' w.logged_in j el ec eo same good (λ d n e. absurd (n e))
+    (at_current x' w'.board w.logged_in w.count (open_now w.log) (log_of w' w.logged_in) (w'.links w.logged_in) j.low
+    cur moved wire)
+
+-- a change at a connection that is newer than the one logged in
+pub joint_ahead : (x : List Board) (w w' : World) (c : ℕ) → Joint x w → w.logged_in < c
+    → w'.board ≡ w.board → w'.logged_in ≡ w.logged_in → w'.count ≡ w.count → open_now w'.log ≡ open_now w.log
+    → ((d : ℕ) → (d ≡ c → ⊥) → Same w w' d)
+    → Ahead (nat_eq (open_now w.log) c) (log_of w' c) (w'.links c)
+    → (w.count < c → (w'.links c).asked ≡ [])
+    → Joint x w'
+joint_ahead x w w' c j lt eb el ec eo same a unopened =
+    joint_at x x w w' c j el ec eo same (rw eb j.good) (λ d n e. (refl, eb))
+    (at_ahead x w'.board w.logged_in w.count (open_now w.log) c (log_of w' c) (w'.links c) lt a unopened)
+
+-- the wires of the connection that is logged in become others, and the server's board b
+pub joint_rewired : (x x' : List Board) (w : World) (b : Board) (l : Link) → Joint x w → 0 < w.logged_in
+    → is_good b ≡ true
+    → Current (nat_eq (open_now w.log) w.logged_in) (log_of w w.logged_in) l b (waiting x' l)
+    → (open_now w.log ≡ w.logged_in → Whole (l.heard ++ l.coming))
+    → Joint x' (linked (record w { board = b }) w.logged_in l)
+joint_rewired x x' w b l j some good cur wire =
+    let w' : World = linked (record w { board = b }) w.logged_in l in
+    let is = sym (linked_same (record w { board = b }) w.logged_in l) in
+    joint_current x x' w w' j some refl refl refl
+    (λ d n. record { log = refl; link = linked_other (record w { board = b }) w.logged_in d l n })
+    good
+    (subst (λ k. Current (nat_eq (open_now w.log) w.logged_in) (log_of w w.logged_in) k b (waiting x' k)) is cur)
+    (j.each w.logged_in).moved
+    (λ o. subst (λ (k : Link). Whole (k.heard ++ k.coming)) is (wire o))
+
+-- those of a newer connection become others
+pub joint_rewired_ahead : (x : List Board) (w : World) (c : ℕ) (l : Link) → Joint x w → w.logged_in < c
+    → Ahead (nat_eq (open_now w.log) c) (log_of w c) l → (w.count < c → l.asked ≡ []) → Joint x (linked w c l)
+joint_rewired_ahead x w c l j lt a unopened =
+    let is = sym (linked_same w c l) in
+    joint_ahead x w (linked w c l) c j lt refl refl refl refl
+    (λ d n. record { log = refl; link = linked_other w c d l n })
+    (subst (Ahead (nat_eq (open_now w.log) c) (log_of w c)) is a)
+    (λ h. subst (λ (k : Link). k.asked ≡ []) is (unopened h))
+
+-- nothing changes that the log and the wires say
+pub joint_same : (x : List Board) (w w' : World) → Joint x w
+    → w'.board ≡ w.board → w'.logged_in ≡ w.logged_in → w'.count ≡ w.count → open_now w'.log ≡ open_now w.log
+    → ((c : ℕ) → Same w w' c) → Joint x w'
+joint_same x w w' j eb el ec eo same =
+    joint_at x x w w' 0 j el ec eo (λ d n. same d) (rw eb j.good) (λ d n e. (refl, eb))
+    (at_by x w'.board w.logged_in w.count (open_now w.log) 0 _ _ _ _ (same 0).log (same 0).link
+    (at_other x x w.board w'.board w.logged_in w.count (open_now w.log) 0 _ _ (λ some e. (refl, eb)) (j.each 0)))

@@ -15,37 +15,14 @@ use Rattle.fibs_machine.proofs.Lawful.{Lawful, AllQuiet}
 use Rattle.fibs_history.specs.Machine.{on_wire}
 use Rattle.fibs_history.proofs.Lists.{same_number, and_left, and_right}
 use Rattle.fibs_history.proofs.Past.{open_append}
-use Rattle.fibs_machine.proofs.wires.Ways.{way_more}
-use Rattle.fibs_machine.proofs.wires.Boards.{Whole, waiting, boards, boards_more, whole_more, whole_none, printed}
-use Rattle.fibs_machine.proofs.joint.Joint.{View, view, AllAre, Calm, Live, Held, Current, Ahead, Settled, Moved}
+use Rattle.fibs_machine.proofs.wires.Ways.{OnWay, way_more}
+use Rattle.fibs_machine.proofs.wires.Boards.{waiting, boards, boards_more, whole_more, printed}
+use Rattle.fibs_machine.proofs.joint.Joint.{Logged, log_of, AllAre, Calm, Live, Held, Joint, current}
 use Rattle.fibs_history.proofs.Lists.{to_list}
-use Rattle.fibs_machine.proofs.joint.Joint.{Joint, same_view, linked_same, linked_other, with_link, view_linked}
-use Rattle.fibs_machine.proofs.joint.Joint.{joint_current}
+use Rattle.fibs_machine.proofs.joint.Joint.{at_other, same_log, joint_current, joint_rewired, joint_rewired_ahead}
+use Rattle.fibs_machine.proofs.joint.Joint.{joint_same}
 use Rattle.fibs_boards.specs.Board.{spelling}
 use Rattle.fibs_position.specs.GoodBoard.{good as is_good}
-
--- nothing changes that the log and the wires say
-pub joint_same : (x : List Board) (w w' : World) → Joint x w
-    → w'.board ≡ w.board → w'.logged_in ≡ w.logged_in → w'.count ≡ w.count → open_now w'.log ≡ open_now w.log
-    → ((c : ℕ) → view w' c ≡ view w c) → Joint x w'
-joint_same x w w' j eb el ec eo same = record {
-  good = rw eb j.good;
-  low = rw (el, ec) j.low;
-  who = rw (eo, ec) j.who;
-  ahead =
-      λ c h. let h' : w.logged_in < c = rw el at h in
-      rw eo (subst (Ahead (nat_eq (open_now w.log) c)) (sym (same c)) (j.ahead c h'));
-  unopened = λ c h. let h' : w.count < c = rw ec at h in ap (λ (v : View). v.link.asked) (same c) ∙ j.unopened c h';
-  settled = λ c. subst Settled (sym (same c)) (j.settled c);
-  current = λ h. let h' : 0 < w.logged_in = rw el at h in
-      rw (el, eo, eb)
-      (subst (λ v. Current (nat_eq (open_now w.log) w.logged_in) v w.board (waiting x v.link))
-      (sym (same w.logged_in)) (j.current h'));
-  moved = λ c. subst Moved (sym (same c)) (j.moved c);
-  wire =
-      λ c h k. let h' : open_now w.log ≡ c = rw eo at h in
-      subst (λ (v : View). Whole (v.link.heard ++ v.link.coming)) (sym (same c)) (j.wire c h' k);
-}
 
 -- entries that are none of Shown, Sent and Took, and leave open what is open
 pub joint_noted : (x : List Board) (w : World) (es : List Entry) → Joint x w
@@ -53,48 +30,7 @@ pub joint_noted : (x : List Board) (w : World) (es : List Entry) → Joint x w
     → open_from (open_now w.log) es ≡ open_now w.log
     → Joint x (noted w es)
 joint_noted x w es j h k m o = joint_same x w (noted w es) j refl refl refl (open_append 0 w.log es ∙ o)
-    (λ c. same_view w (noted w es) es c refl (h c) (k c) (m c) refl)
-
--- a change at a connection that is newer than the one logged in
-pub joint_ahead : (x : List Board) (w w' : World) (c : ℕ) → Joint x w → w.logged_in < c
-    → w'.board ≡ w.board → w'.logged_in ≡ w.logged_in → w'.count ≡ w.count → open_now w'.log ≡ open_now w.log
-    → ((d : ℕ) → (d ≡ c → ⊥) → view w' d ≡ view w d)
-    → Ahead (nat_eq (open_now w.log) c) (view w' c)
-    → (w.count < c → (w'.links c).asked ≡ [])
-    → Joint x w'
-joint_ahead x w w' c j lt eb el ec eo same a un = record {
-  good = rw eb j.good;
-  low = rw (el, ec) j.low;
-  who = rw (eo, ec) j.who;
-  ahead = λ d h. let h' : w.logged_in < d = rw el at h in rw eo (elim (eqb_tells d c) [
-    | inl e ↦ subst (λ d. Ahead (nat_eq (open_now w.log) d) (view w' d)) (sym e.1) a
-    | inr n ↦ subst (Ahead (nat_eq (open_now w.log) d)) (sym (same d n.1)) (j.ahead d h')
-  ]);
-  unopened = λ d h. let h' : w.count < d = rw ec at h in elim (eqb_tells d c) [
-    | inl e ↦ subst (λ d. (w'.links d).asked ≡ []) (sym e.1) (un (subst (λ d. w.count < d) e.1 h'))
-    | inr n ↦ ap (λ (v : View). v.link.asked) (same d n.1) ∙ j.unopened d h'
-  ];
-  settled = λ d. elim (eqb_tells d c) [
-    | inl e ↦
-        subst (λ d. Settled (view w' d)) (sym e.1)
-        (let s : Settled (view w' c) = record { p = None; owed = a.sends ∙ ap (λ l. l ++ []) (sym a.takes) } in s)
-    | inr n ↦ subst Settled (sym (same d n.1)) (j.settled d)
-  ];
-  current = λ h. let h' : 0 < w.logged_in = rw el at h in
-      let n : w.logged_in ≡ c → ⊥ = λ e. absurd (omega arith) in
-      rw (el, eo, eb)
-      (subst (λ v. Current (nat_eq (open_now w.log) w.logged_in) v w.board (waiting x v.link))
-      (sym (same w.logged_in n)) (j.current h'));
-  moved = λ d. elim (eqb_tells d c) [
-    | inl e ↦ subst (λ d. Moved (view w' d)) (sym e.1) (λ z. a.takes ∙ sym a.sends)
-    | inr n ↦ subst Moved (sym (same d n.1)) (j.moved d)
-  ];
-  wire = λ d h k. let h' : open_now w.log ≡ d = rw eo at h in elim (eqb_tells d c) [
-    | inl e ↦
-        subst (λ d. Whole ((w'.links d).heard ++ (w'.links d).coming)) (sym e.1) (rw (a.heard, a.coming) whole_none)
-    | inr n ↦ subst (λ (v : View). Whole (v.link.heard ++ v.link.coming)) (sym (same d n.1)) (j.wire d h' k)
-  ];
-}
+    (λ c. record { log = same_log w (noted w es) es c refl (h c) (k c) (m c); link = refl })
 
 -- the open connection is not older than the one logged in
 pub not_older : (x : List Board) (w : World) (c : ℕ) → Joint x w → open_now w.log ≡ c → 0 < c → w.logged_in ≤ c
@@ -104,6 +40,12 @@ not_older x w c j h k =
 -- equal numbers pass the test
 pub same_test : (c d : ℕ) → c ≡ d → nat_eq c d ≡ true
 same_test c d h = rw h (same_number d)
+
+-- what was handed out is not spoken of
+pub joint_handed : (x : List Board) (w : World) (c : ℕ) (ts : List (List ℕ))
+    → Joint x (linked w c (more_asked (w.links c) (flat_map on_wire ts))) → Joint x (asks w c ts)
+joint_handed x w c ts j = joint_same x (linked w c (more_asked (w.links c) (flat_map on_wire ts))) (asks w c ts) j refl
+    refl refl refl (λ d. record { log = refl; link = refl })
 
 -- more bytes after some
 more_bytes : (xs ys : List ℕ) → is_empty xs ≡ false → is_empty (xs ++ ys) ≡ false
@@ -116,88 +58,42 @@ module _ (law : Lawful) where
       → AllQuiet ts → Joint x (asks w c ts)
   joint_asks x w c ts j h k q = elim (eqb_tells c w.logged_in) [ inl e ↦ at_current e.1 | inr n ↦ at_ahead n.1 ]
     where
-      link' : Link
-      link' =
-          record {
-            heard = (w.links c).heard;
-            coming = (w.links c).coming;
-            served = (w.links c).served;
-            asked = (w.links c).asked ++ flat_map on_wire ts;
-          }
-
       at_ahead : (c ≡ w.logged_in → ⊥) → Joint x (asks w c ts)
       at_ahead n =
           let le = not_older x w c j h k in
           let lt : w.logged_in < c = omega arith in
-          let a = subst (λ t. Ahead t (view w c)) (same_test _ _ h) (j.ahead c lt) in
-          let v : Ahead true
-          (with_link (view w c)
-          (more_asked (w.links c) (flat_map on_wire ts))) =
-          record {
-            seen = a.seen;
-            sends = a.sends;
-            takes = a.takes;
-            fresh = a.fresh;
+          let a = (j.each c).ahead lt in
+          let t : nat_eq (open_now w.log) c ≡ true = same_test _ _ h in
+          joint_handed x w c ts (joint_rewired_ahead x w c (more_asked (w.links c) (flat_map on_wire ts)) j lt
+          (record {
+            silent = a.silent;
             served = a.served;
             heard = a.heard;
             coming = a.coming;
-            way = way_more law None _ ts a.way q;
-            asks = λ z. more_bytes (w.links c).asked (flat_map on_wire ts) (a.asks refl);
-          } in
-          let v' = subst (Ahead true) (sym (view_linked w c _)) v in
-          joint_ahead x w (asks w c ts) c j lt refl refl refl refl
-          (λ d m. same_view w (asks w c ts) [] d (sym (append-nil _)) refl refl refl (linked_other w c d _ m))
-          (subst (λ t. Ahead t (view (asks w c ts) c)) (sym (same_test _ _ h)) v')
-          (λ z. let lo =
-          j.low in elim j.who [ inl e ↦ absurd (omega arith) | inr e ↦ let e0 = e.0 in absurd (omega arith) ])
+            way = subst (λ o. OnWay o None ((w.links c).asked ++ flat_map on_wire ts)) (sym t)
+                (way_more law None _ ts (subst (λ o. OnWay o None (w.links c).asked) t a.way) q);
+            asks = λ z. more_bytes (w.links c).asked (flat_map on_wire ts) (a.asks z);
+          })
+          (λ z. let lo = j.low in
+          elim j.who [ inl e ↦ absurd (omega arith) | inr e ↦ let e0 = e.0 in absurd (omega arith) ]))
 
       at_current : c ≡ w.logged_in → Joint x (asks w c ts)
       at_current e =
           let some : 0 < w.logged_in = omega arith in
           let t : nat_eq (open_now w.log) w.logged_in ≡ true = same_test _ _ (h ∙ e) in
-          let cur =
-          subst (λ o. Current o (view w w.logged_in) w.board (waiting x (w.links w.logged_in))) t
-          (j.current some) in
+          let cur = current x w j some in
           let l : Link = more_asked (w.links w.logged_in) (flat_map on_wire ts) in
-          let v : Current true (with_link (view w w.logged_in) l) w.board (waiting x l) =
-          record {
+          rw e (joint_handed x w w.logged_in ts (joint_rewired x x w w.board l j some j.good
+          (record {
             p = cur.p;
-            way = way_more law cur.p _ ts cur.way q;
+            way = subst (λ o. OnWay o cur.p ((w.links w.logged_in).asked ++ flat_map on_wire ts)) (sym t)
+                (way_more law cur.p _ ts (subst (λ o. OnWay o cur.p (w.links w.logged_in).asked) t cur.way) q);
             begun = cur.begun;
             owed = cur.owed;
             held = cur.held;
-            live = λ z. retell w.logged_in l cur.p (cur.live z);
-          } in
-          let v' =
-          subst (λ (u : View). Current true u w.board (waiting x u.link)) (sym (view_linked w w.logged_in l)) v in
-          rw e (joint_current x x w (asks w w.logged_in ts) j some refl refl refl
-          (λ d m. same_view w (asks w w.logged_in ts) [] d (sym (append-nil _)) refl refl refl
-          (linked_other w w.logged_in d _ m))
-          j.good
-          (rw t v')
-          (j.moved w.logged_in)
-          (λ o. rw (linked_same w w.logged_in l) (j.wire w.logged_in o some)))
-        where
-          retell : (c : ℕ) (l : Link) (p : Option Ask) → Live (view w c) w.board (waiting x (w.links c)) p
-              → Live (with_link (view w c) l) w.board (waiting x (w.links c)) p
-          retell c l None y = elim y [
-            | inl f ↦ inl (record { fresh = f.fresh; calm = f.calm })
-            | inr d ↦
-                inr
-                (record {
-                  spent = d.spent;
-                  on = d.on;
-                  is_last = d.is_last;
-                  before = d.before;
-                  next = d.next;
-                  later = d.later;
-                  all = d.all;
-                  alike = d.alike;
-                  unlike = d.unlike;
-                  calm = d.calm;
-                })
-          ]
-          retell c l (Some a) y = record { spent = y.spent; is_last = y.is_last; calm = y.calm }
+            live = cur.live;
+          })
+          (λ o. (j.each w.logged_in).wire o some)))
 
 -- a number that is not 0 is above it
 pub some_of : (n : ℕ) → not (nat_eq n 0) ≡ true → 0 < n
@@ -244,7 +140,7 @@ module _ (law : Lawful) where
       (λ z. let e = becomes now b a m z (h.0 z).1 in (all_more a b rest (h.0 z).0 e, e), calm_more now b rest m h.1)
 
   -- the same holds of the boards on their way to the client
-  pub live_more : (v : View) (now b : Board) (ws : List Board) (p : Option Ask) → MayBecome now b → Live v now ws p
+  pub live_more : (v : Logged) (now b : Board) (ws : List Board) (p : Option Ask) → MayBecome now b → Live v now ws p
       → Live v b (ws ++ b ∷ []) p
   live_more v now b ws None m y = elim y [
     | inl f ↦
@@ -274,32 +170,10 @@ module _ (law : Lawful) where
   held_more now b None m h = tt
   held_more now b (Some a) m h = (becomes now b a.0 m (law.allowed_decides a.0 a.1 h.1) h.0, h.1)
 
-  -- what is said of boards does not look at the wires
-  pub relink : (v : View) (l : Link) (now : Board) (ws : List Board) (p : Option Ask) → Live v now ws p
-      → Live (with_link v l) now ws p
-  relink v l now ws None y = elim y [
-    | inl f ↦ inl (record { fresh = f.fresh; calm = f.calm })
-    | inr d ↦
-        inr
-        (record {
-          spent = d.spent;
-          on = d.on;
-          is_last = d.is_last;
-          before = d.before;
-          next = d.next;
-          later = d.later;
-          all = d.all;
-          alike = d.alike;
-          unlike = d.unlike;
-          calm = d.calm;
-        })
-  ]
-  relink v l now ws (Some a) y = record { spent = y.spent; is_last = y.is_last; calm = y.calm }
-
   -- The server's board becomes b, and a line t is sent, which says the boards bs.
   joint_sends : (w : World) (b : Board) (t : List ℕ) (bs : List Board) → Joint [] w → is_good b ≡ true
       → boards (lines_of (on_wire t)) ≡ bs
-      → ((v : View) (ws : List Board) (p : Option Ask) → Live v w.board ws p → Live v b (ws ++ bs) p)
+      → ((v : Logged) (ws : List Board) (p : Option Ask) → Live v w.board ws p → Live v b (ws ++ bs) p)
       → ((p : Option Ask) → Held w.board p → Held b p)
       → Joint [] (sends (record w { board = b }) t)
   joint_sends w b t bs j good says live held =
@@ -312,12 +186,8 @@ module _ (law : Lawful) where
         good = good;
         low = j.low;
         who = j.who;
-        ahead = j.ahead;
-        unopened = j.unopened;
-        settled = j.settled;
-        current = λ h. absurd (omega arith);
-        moved = j.moved;
-        wire = j.wire;
+        each = λ c. at_other [] [] w.board b w.logged_in w.count (open_now w.log) c _ _ (λ some n. absurd (omega arith))
+            (j.each c);
       }
 
       dropped : (nat_eq w.logged_in 0 ≡ false) × (w.logged_in ≡ 0 → ⊥) → nat_eq (open_now w.log) w.logged_in ≡ false
@@ -325,8 +195,9 @@ module _ (law : Lawful) where
       dropped n f =
           let n1 = n.1 in
           let some : 0 < w.logged_in = omega arith in
-          let cur = j.current some in
-          joint_current [] [] w (record w { board = b }) j some refl refl refl (λ d m. refl) good
+          let cur = current [] w j some in
+          joint_current [] [] w (record w { board = b }) j some refl refl refl
+          (λ d m. record { log = refl; link = refl }) good
           (record {
             p = cur.p;
             way = cur.way;
@@ -335,42 +206,28 @@ module _ (law : Lawful) where
             held = held cur.p cur.held;
             live = λ o. absurd (true≢false (sym o ∙ f));
           })
-          (j.moved w.logged_in) (λ o. j.wire w.logged_in o some)
+          (j.each w.logged_in).moved (λ o. (j.each w.logged_in).wire o some)
 
       talking : nat_eq (open_now w.log) w.logged_in ≡ true → not (nat_eq w.logged_in 0) ≡ true
           → Joint [] (linked (record w { board = b }) w.logged_in (with_line (w.links w.logged_in) t))
       talking z n =
           let some : 0 < w.logged_in = some_of w.logged_in n in
           let l : Link = with_line (w.links w.logged_in) t in
-          let wire = j.wire w.logged_in (eqb-true _ _ z) some in
+          let wire = (j.each w.logged_in).wire (eqb-true _ _ z) some in
           let more : waiting [] l ≡ waiting [] (w.links w.logged_in) ++ bs =
           boards_more law (w.links w.logged_in).heard (w.links w.logged_in).coming t bs wire says in
-          let cur =
-          subst (λ o. Current o (view w w.logged_in) w.board (waiting [] (w.links w.logged_in))) z
-          (j.current some) in
-          let v : Current true (with_link (view w w.logged_in) l) b (waiting [] l) =
-          record {
+          let cur = current [] w j some in
+          joint_rewired [] [] w b l j some good
+          (record {
             p = cur.p;
             way = cur.way;
             begun = cur.begun;
             owed = cur.owed;
             held = held cur.p cur.held;
             live =
-                λ y. relink (view w w.logged_in) l b _ cur.p
-                (subst (λ ws. Live (view w w.logged_in) b ws cur.p) (sym more) (live _ _ cur.p (cur.live y)));
-          } in
-          let w' : World = linked (record w { board = b }) w.logged_in l in
-          let v' =
-          subst (λ (u : View). Current true u b (waiting [] u.link))
-          (sym (view_linked (record w { board = b }) w.logged_in l)) v in
-          joint_current [] [] w w' j some refl refl refl
-          (λ d m. same_view w w' [] d (sym (append-nil _)) refl refl refl
-          (linked_other (record w { board = b }) w.logged_in d l m))
-          good
-          (rw z v')
-          (j.moved w.logged_in)
-          (λ o. rw (linked_same (record w { board = b }) w.logged_in l)
-          (whole_more law (w.links w.logged_in).heard (w.links w.logged_in).coming t wire))
+                λ y. subst (λ ws. Live (log_of w w.logged_in) b ws cur.p) (sym more) (live _ _ cur.p (cur.live y));
+          })
+          (λ o. whole_more law (w.links w.logged_in).heard (w.links w.logged_in).coming t wire)
 
   -- the server's board becomes b, and is sent
   pub joint_board : (w : World) (b : Board) → Joint [] w → is_good b ≡ true → MayBecome w.board b

@@ -38,7 +38,7 @@ use Rattle.fibs_machine.proofs.joint.Carrying.{alike_linked, alike_asks, alike_h
 use Rattle.fibs_machine.proofs.joint.Carrying.{alike_unless}
 use Rattle.fibs_machine.proofs.joint.Carrying.{carried_is, carried_delivered, carried_lost, carried_none}
 use Rattle.fibs_machine.proofs.joint.EachEvent.{served, joint_after, joint_start, not_refused, is_open}
-use Rattle.fibs_machine.proofs.joint.Joint.{Joint, linked_same, linked_other}
+use Rattle.fibs_machine.proofs.joint.Joint.{Joint, current, linked_same, linked_other}
 use Rattle.fibs_history.proofs.Lists.{to_list}
 use Rattle.fibs_machine.proofs.joint.Sending.{same_test}
 use Rattle.fibs_machine.proofs.joint.Left.{left_on}
@@ -131,7 +131,7 @@ kept_opened acts login w j closed k =
     new c e =
         let low = j.low in
         let lt : w.logged_in < c = omega arith in
-        let a = j.ahead c lt in
+        let a = (j.each c).ahead lt in
         subst (λ l. Carried (put_by l) (nat_eq (open_now w'.log) c) (w.links c)) (sym (k.newer c lt))
         (carried_none (nat_eq (open_now w'.log) c) (w.links c) a.heard a.coming)
 
@@ -277,15 +277,15 @@ last_unserved w c acts none j serves = go (eqb_tells c 0) (eqb_tells c w.logged_
         → ((nat_eq c w.logged_in ≡ true) × (c ≡ w.logged_in)) ⊎ ((nat_eq c w.logged_in ≡ false) × (c ≡ w.logged_in → ⊥))
         → LastUnserved c acts w
     go (inl z) q = let z1 = z.1 in record {
-      unserved = (j.settled c).p;
-      all = all_but_last w c (j.settled c).p none (j.settled c).owed;
+      unserved = (j.each c).settled.p;
+      all = all_but_last w c (j.each c).settled.p none (j.each c).settled.owed;
       serves = serves;
       left = λ some low. absurd (omega arith);
     }
     go (inr n) (inl e) =
         let e1 = e.1 in
         let n1 = n.1 in
-        let cur = j.current (omega arith) in
+        let cur = current [] w j (omega arith) in
         let owed = subst (λ d. sent d w.log ≡ took d w.log ++ to_list cur.p) (sym e1) cur.owed in
         record {
           unserved = cur.p;
@@ -295,17 +295,17 @@ last_unserved w c acts none j serves = go (eqb_tells c 0) (eqb_tells c w.logged_
         }
     go (inr n) (inr m) = elim (cases_lt c w.logged_in) [
       | inl lt ↦ record {
-        unserved = (j.settled c).p;
-        all = all_but_last w c (j.settled c).p none (j.settled c).owed;
+        unserved = (j.each c).settled.p;
+        all = all_but_last w c (j.each c).settled.p none (j.each c).settled.owed;
         serves = serves;
         left = λ some low. absurd (omega arith);
       }
       | inr le ↦
           let m1 = m.1 in
-          let a = j.ahead c (omega arith) in
+          let a = (j.each c).ahead (omega arith) in
           record {
             unserved = None;
-            all = all_but_last w c None none (a.sends ∙ ap (λ l. l ++ []) (sym a.takes));
+            all = all_but_last w c None none (a.silent.sends ∙ ap (λ l. l ++ []) (sym a.silent.takes));
             serves = serves;
             left = λ some low. left_on w c None a.way tt;
           }
@@ -347,5 +347,5 @@ module _ (law : Lawful) where
         steady = λ c. steady_on (acts_from login (start b) es) w c k;
         last_unserved = λ c. last_unserved w c (acts_from login (start b) es c) both.1.undone both.0
             (let n = serves_all c login es (start b) in n.2 ∙ ap (λ l. decisions_of (S.served c l)) (sym n.1));
-        newer_unshown = λ c lt. (both.0.ahead c lt).seen;
+        newer_unshown = λ c lt. ((both.0.each c).ahead lt).silent.seen;
       }

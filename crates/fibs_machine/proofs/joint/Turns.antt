@@ -21,13 +21,13 @@ use Rattle.fibs_history.proofs.Lists.{same_number, other_number, and_both, one_o
 use Rattle.fibs_history.proofs.Lists.{map_more}
 use Rattle.fibs_history.proofs.Past.{open_append, spent_quiet}
 use Rattle.fibs_machine.proofs.wires.Ways.{OnWay, way_none, way_more, way_lost, way_lose, way_serve}
-use Rattle.fibs_machine.proofs.wires.Boards.{Whole, waiting, boards, whole_none, gained_none, boards_more, whole_more}
+use Rattle.fibs_machine.proofs.wires.Boards.{Whole, waiting, boards, gained_none, boards_more, whole_more}
 use Rattle.fibs_machine.proofs.wires.Boards.{printed}
-use Rattle.fibs_machine.proofs.joint.Joint.{View, view, AllAre, Calm, Live, Held, Current, Ahead, Settled, Moved}
+use Rattle.fibs_machine.proofs.joint.Joint.{Logged, log_of, AllAre, Calm, Live, Held, Current, Ahead, At, Joint}
+use Rattle.fibs_machine.proofs.joint.Joint.{current, same_log, linked_same, linked_other, at_by, at_current, at_ahead}
+use Rattle.fibs_machine.proofs.joint.Joint.{each_of, joint_current, joint_rewired}
 use Rattle.fibs_history.proofs.Lists.{to_list}
-use Rattle.fibs_machine.proofs.joint.Joint.{Joint, same_view, linked_same, linked_other, with_link, view_linked}
-use Rattle.fibs_machine.proofs.joint.Joint.{joint_current}
-use Rattle.fibs_machine.proofs.joint.Sending.{joint_board, same_test, if_fact, relink, not_left, with_line}
+use Rattle.fibs_machine.proofs.joint.Sending.{joint_board, same_test, if_fact, not_left, with_line}
 use Rattle.fibs_boards.specs.Board.{spelling}
 use Rattle.fibs_history.specs.Allows.{allows}
 use Rattle.fibs_position.specs.GamePart.{same_game}
@@ -47,126 +47,107 @@ not_empty [] [] = refl
 not_empty [] (x ∷ t) = refl
 not_empty (x ∷ xs) t = refl
 
+-- the world in which the open connection is lost
+abbrev lost_at : World → ℕ → ℕ → Option Ask → World
+lost_at w c k u = noted (linked w c (cut_off (w.links c) k)) (Lost c u ∷ [])
+
 module _ (law : Lawful) where
   -- what is said of a newer connection holds after its loss
-  ahead_lost : (o : Bool) (v : View) → Ahead o v → Ahead false v
-  ahead_lost o v a =
+  ahead_lost : (o : Bool) (v : Logged) (l : Link) → Ahead o v l → Ahead false v l
+  ahead_lost o v l a =
       record {
-        seen = a.seen;
-        sends = a.sends;
-        takes = a.takes;
-        fresh = a.fresh;
+        silent = a.silent;
         served = a.served;
         heard = a.heard;
         coming = a.coming;
-        way = way_lost law o None v.link.asked a.way;
+        way = way_lost law o None l.asked a.way;
         asks = λ z. absurd (true≢false (sym z));
       }
 
   -- what is said of the connection logged in holds after its loss, but for the boards on their way
-  current_lost : (o : Bool) (v : View) (now : Board) (ws ws' : List Board) → Current o v now ws
-      → Current false v now ws'
-  current_lost o v now ws ws' c =
+  current_lost : (o : Bool) (v : Logged) (l : Link) (now : Board) (ws ws' : List Board) → Current o v l now ws
+      → Current false v l now ws'
+  current_lost o v l now ws ws' c =
       record {
         p = c.p;
-        way = way_lost law o c.p v.link.asked c.way;
+        way = way_lost law o c.p l.asked c.way;
         begun = c.begun;
         owed = c.owed;
         held = c.held;
         live = λ h. absurd (true≢false (sym h));
       }
 
+  -- what holds of a connection holds of it if another one is open, or none, and more are counted
+  at_closed : (x x' : List Board) (now : Board) (user count count' here here' c : ℕ) (v : Logged) (l : Link)
+      → (0 < c → nat_eq here' c ≡ false) → count ≤ count'
+      → At x now user count here c v l → At x' now user count' here' c v l
+  at_closed x x' now user count count' here here' c v l shut more a = record {
+    ahead = λ h. rw (shut (omega arith)) (ahead_lost _ v l (a.ahead h));
+    unopened = λ h. a.unopened (omega arith);
+    settled = a.settled;
+    current = λ some e. rw (shut some) (current_lost _ v l now _ _ (a.current some e));
+    moved = a.moved;
+    wire = λ e some. absurd (true≢false (sym (same_test _ _ e) ∙ shut some));
+  }
+
+  -- the open connection is lost, and its wires are cut off
+  at_cut : (now : Board) (user count c k : ℕ) (v : Logged) (l : Link) → 0 < c → c ≤ count
+      → At [] now user count c c v l → At [] now user count 0 c v (cut_off l k)
+  at_cut now user count c k v l some known a =
+      let t : nat_eq c c ≡ true = same_number c in
+      let shut : nat_eq 0 c ≡ false = no_number c some in
+      record {
+        ahead = λ h. let b = a.ahead h in rw shut (record {
+          silent = b.silent;
+          served = b.served;
+          heard = b.heard;
+          coming = refl;
+          way = way_lose law None l.asked k (subst (λ o. OnWay o None l.asked) t b.way);
+          asks = λ z. absurd (true≢false (sym z));
+        });
+        unopened = λ h. absurd (omega arith);
+        settled = a.settled;
+        current = λ z e. let cur = a.current z e in rw shut (record {
+          p = cur.p;
+          way = way_lose law cur.p l.asked k (subst (λ o. OnWay o cur.p l.asked) t cur.way);
+          begun = cur.begun;
+          owed = cur.owed;
+          held = cur.held;
+          live = λ z. absurd (true≢false (sym z));
+        });
+        moved = a.moved;
+        wire = λ e z. absurd (omega arith);
+      }
+
   -- the open connection is lost
   pub joint_lose : (w : World) (c k : ℕ) (u : Option Ask) → Joint [] w → open_now w.log ≡ c → 0 < c
-      → Joint [] (noted (linked w c (cut_off (w.links c) k)) (Lost c u ∷ []))
-  joint_lose w c k u j h some =
-      let l' : Link = cut_off (w.links c) k in
-      let n : World = linked w c (cut_off (w.links c) k) in
-      let w' : World = noted n (Lost c u ∷ []) in
-      let o0 : open_now w'.log ≡ 0 = open_append 0 w.log (Lost c u ∷ []) in
-      record {
-        good = j.good;
-        low = j.low;
-        who = inl o0;
-        ahead = λ d lt. rw o0 (rw (no_number d (omega arith)) (elim (eqb_tells d c) [
-          | inl e ↦
-              subst (λ d. Ahead false (view w' d)) (sym e.1)
-              (subst (Ahead false) (sym here) (cut_ahead (j.ahead c (subst (λ d. w.logged_in < d) e.1 lt))))
-          | inr m ↦ subst (Ahead false) (sym (same d m.1)) (ahead_lost _ (view w d) (j.ahead d lt))
-        ]));
-        unopened = λ d lt.
-            let lo = j.low in
-            let m : d ≡ c → ⊥ =
-            λ e. elim j.who [ inl z ↦ absurd (omega arith) | inr z ↦ let z0 = z.0 in absurd (omega arith) ] in
-            ap (λ (v : View). v.link.asked) (same d m) ∙ j.unopened d lt;
-        settled = λ d. elim (eqb_tells d c) [
-          | inl e ↦
-              subst (λ d. Settled (view w' d)) (sym e.1)
-              (subst Settled (sym here) (let s = j.settled c in
-              let s' : Settled (with_link (view w c) (cut_off (w.links c) k)) = record { p = s.p; owed = s.owed } in
-              s'))
-          | inr m ↦ subst Settled (sym (same d m.1)) (j.settled d)
-        ];
-        current = λ lt. rw o0 (rw (no_number w.logged_in lt) (elim (eqb_tells w.logged_in c) [
-          | inl e ↦
-              subst (λ d. Current false (view w' d) w.board (waiting [] (w'.links d))) (sym e.1)
-              (cut_current e.1 (j.current lt))
-          | inr m ↦ subst (λ (v : View). Current false v w.board (waiting [] v.link)) (sym (same w.logged_in m.1))
-              (current_lost _ _ w.board _ _ (j.current lt))
-        ]));
-        moved = λ d. elim (eqb_tells d c) [
-          | inl e ↦ subst (λ d. Moved (view w' d)) (sym e.1) (subst Moved (sym here) (j.moved c))
-          | inr m ↦ subst Moved (sym (same d m.1)) (j.moved d)
-        ];
-        wire = λ d e lt. let z : 0 ≡ d = sym o0 ∙ e in absurd (omega arith);
-      }
+      → Joint [] (lost_at w c k u)
+  joint_lose w c k u j h some = record {
+    good = j.good;
+    low = j.low;
+    who = inl none;
+    each = λ d. subst (λ o. At [] w.board w.logged_in w.count o d (log_of w' d) (w'.links d)) (sym none)
+        (each_of (λ d. At [] w.board w.logged_in w.count 0 d (log_of w' d) (w'.links d)) c
+        (at_by [] w.board w.logged_in w.count 0 c _ _ _ _ (log c) (linked_same w c (cut_off (w.links c) k))
+        (at_cut w.board w.logged_in w.count c k _ _ some known
+        (subst (λ o. At [] w.board w.logged_in w.count o c (log_of w c) (w.links c)) h (j.each c))))
+        (λ d n. at_by [] w.board w.logged_in w.count 0 d _ _ _ _ (log d)
+        (linked_other w c d (cut_off (w.links c) k) n)
+        (at_closed [] [] w.board w.logged_in w.count w.count (open_now w.log) 0 d _ _ (no_number d) (omega arith)
+        (j.each d))) d);
+  }
     where
-      same : (d : ℕ) → (d ≡ c → ⊥) → view (noted (linked w c (cut_off (w.links c) k)) (Lost c u ∷ [])) d ≡ view w d
-      same d m =
-          same_view w (noted (linked w c (cut_off (w.links c) k)) (Lost c u ∷ [])) (Lost c u ∷ []) d refl refl refl refl
-          (linked_other w c d (cut_off (w.links c) k) m)
+      w' : World
+      w' = lost_at w c k u
 
-      here : view (noted (linked w c (cut_off (w.links c) k)) (Lost c u ∷ [])) c
-          ≡ with_link (view w c) (cut_off (w.links c) k)
-      here =
-          same_view (linked w c (cut_off (w.links c) k)) (noted (linked w c (cut_off (w.links c) k)) (Lost c u ∷ []))
-          (Lost c u ∷ []) c refl refl refl refl refl
-          ∙ view_linked w c (cut_off (w.links c) k)
+      none : open_now (lost_at w c k u).log ≡ 0
+      none = open_append 0 w.log (Lost c u ∷ [])
 
-      t : nat_eq (open_now w.log) c ≡ true
-      t = same_test _ _ h
+      log : (d : ℕ) → log_of (lost_at w c k u) d ≡ log_of w d
+      log d = same_log w (lost_at w c k u) (Lost c u ∷ []) d refl refl refl refl
 
-      cut_ahead : Ahead (nat_eq (open_now w.log) c) (view w c)
-          → Ahead false (with_link (view w c) (cut_off (w.links c) k))
-      cut_ahead a = record {
-        seen = a.seen;
-        sends = a.sends;
-        takes = a.takes;
-        fresh = a.fresh;
-        served = a.served;
-        heard = a.heard;
-        coming = refl;
-        way = way_lose law None (w.links c).asked k (subst (λ o. OnWay o None (w.links c).asked) t a.way);
-        asks = λ z. absurd (true≢false (sym z));
-      }
-
-      cut_current : w.logged_in ≡ c
-          → Current (nat_eq (open_now w.log) w.logged_in) (view w w.logged_in) w.board
-          (waiting [] (w.links w.logged_in))
-          → Current false (view (noted (linked w c (cut_off (w.links c) k)) (Lost c u ∷ [])) c) w.board
-          (waiting [] ((linked w c (cut_off (w.links c) k)).links c))
-      cut_current e cur0 =
-          let cur =
-          subst (λ d. Current (nat_eq (open_now w.log) d) (view w d) w.board (waiting [] (w.links d))) e cur0 in
-          subst (λ (v : View). Current false v w.board (waiting [] v.link)) (sym here)
-          (record {
-            p = cur.p;
-            way = way_lose law cur.p (w.links c).asked k (subst (λ o. OnWay o cur.p (w.links c).asked) t cur.way);
-            begun = cur.begun;
-            owed = cur.owed;
-            held = cur.held;
-            live = λ z. absurd (true≢false (sym z));
-          })
+      known : c ≤ w.count
+      known = elim j.who [ inl z ↦ absurd (omega arith) | inr z ↦ let z0 = z.0 in omega arith ]
 
   -- a connection is opened, and its login goes on its wire
   pub joint_open : (login : List ℕ) → IsQuiet login → (w : World) → Joint [] w → open_now w.log ≡ 0
@@ -178,63 +159,50 @@ module _ (law : Lawful) where
       let n : World = noted (record w { count = w.count + 1 }) (Opened (w.count + 1) ∷ []) in
       let l' : Link = more_asked (w.links (w.count + 1)) (flat_map on_wire (login ∷ [])) in
       let w' : World = asks n (w.count + 1) (login ∷ []) in
-      let oc : open_now w'.log ≡ w.count + 1 = open_append 0 w.log (Opened (w.count + 1) ∷ []) in
-      let same : (d : ℕ) → (d ≡ w.count + 1 → ⊥) → view w' d ≡ view w d =
-      λ d m. same_view w w' (Opened (w.count + 1) ∷ []) d refl refl refl refl (linked_other n (w.count + 1) d l' m) in
-      let here : view w' (w.count + 1) ≡ with_link (view w (w.count + 1)) l' =
-      view_linked n (w.count + 1) l'
-      ∙ ap (λ v. with_link v l')
-      (same_view w n (Opened (w.count + 1) ∷ []) (w.count + 1) refl refl refl refl refl) in
-      let a = j.ahead (w.count + 1) (omega arith) in
-      let un = j.unopened (w.count + 1) (omega arith) in
-      let wm : OnWay true None ((w.links (w.count + 1)).asked ++ flat_map on_wire (login ∷ [])) =
-      rw un (way_more law None [] (login ∷ []) (way_none law true) (quiet, tt)) in
-      let a' : Ahead true (with_link (view w (w.count + 1)) l') =
+      let here : open_now w'.log ≡ w.count + 1 = open_append 0 w.log (Opened (w.count + 1) ∷ []) in
+      let log : (d : ℕ) → log_of w' d ≡ log_of w d =
+      λ d. same_log w w' (Opened (w.count + 1) ∷ []) d refl refl refl refl in
+      let a = (j.each (w.count + 1)).ahead (omega arith) in
+      let un = (j.each (w.count + 1)).unopened (omega arith) in
+      let t : nat_eq (w.count + 1) (w.count + 1) ≡ true = same_number (w.count + 1) in
+      let first : Ahead (nat_eq (w.count + 1) (w.count + 1)) (log_of w (w.count + 1)) l' =
       record {
-        seen = a.seen;
-        sends = a.sends;
-        takes = a.takes;
-        fresh = a.fresh;
+        silent = a.silent;
         served = a.served;
         heard = a.heard;
         coming = a.coming;
-        way = wm;
+        way = rw t (rw un (way_more law None [] (login ∷ []) (way_none law true) (quiet, tt)));
         asks = λ z. rw un (ap is_empty (append-nil (on_wire login)) ∙ not_empty [] login);
       } in
-      let a'' : Ahead true (view w' (w.count + 1)) = subst (Ahead true) (sym here) a' in
       record {
         good = j.good;
         low = omega arith;
-        who = inr (oc, omega arith);
-        ahead = λ d lt. rw oc (elim (eqb_tells d (w.count + 1)) [
-          | inl e ↦
-              subst (λ d. Ahead (nat_eq (w.count + 1) d) (view w' d)) (sym e.1)
-              (subst (λ o. Ahead o (view w' (w.count + 1))) (sym (same_number (w.count + 1))) a'')
-          | inr m ↦
-              rw (other_number (w.count + 1) d (λ e. m.1 (sym e)))
-              (subst (Ahead false) (sym (same d m.1)) (ahead_lost _ (view w d) (j.ahead d lt)))
-        ]);
-        unopened = λ d lt. let m : d ≡ w.count + 1 → ⊥ = λ e. absurd (omega arith) in
-            ap (λ (v : View). v.link.asked) (same d m) ∙ j.unopened d (omega arith);
-        settled = λ d. elim (eqb_tells d (w.count + 1)) [
-          | inl e ↦
-              subst (λ d. Settled (view w' d)) (sym e.1)
-              (subst Settled (sym here) (let s = j.settled (w.count + 1) in
-              let s' : Settled (with_link (view w (w.count + 1)) l') = record { p = s.p; owed = s.owed } in s'))
-          | inr m ↦ subst Settled (sym (same d m.1)) (j.settled d)
-        ];
-        current = λ lt. let m : w.logged_in ≡ w.count + 1 → ⊥ = λ e. absurd (omega arith) in
-            rw oc (rw (other_number (w.count + 1) w.logged_in (λ e. m (sym e)))
-            (subst (λ (v : View). Current false v w.board (waiting [] v.link)) (sym (same w.logged_in m))
-            (current_lost _ _ w.board _ _ (j.current lt))));
-        moved = λ d. elim (eqb_tells d (w.count + 1)) [
-          | inl e ↦ subst (λ d. Moved (view w' d)) (sym e.1) (subst Moved (sym here) (j.moved (w.count + 1)))
-          | inr m ↦ subst Moved (sym (same d m.1)) (j.moved d)
-        ];
-        wire = λ d e lt. subst (λ d. Whole ((w'.links d).heard ++ (w'.links d).coming)) (sym oc ∙ e)
-            (subst (λ (v : View). Whole (v.link.heard ++ v.link.coming)) (sym here)
-            (rw (a.heard, a.coming) whole_none));
+        who = inr (here, omega arith);
+        each = λ d.
+            subst (λ o. At [] w.board w.logged_in (w.count + 1) o d (log_of w' d) (w'.links d)) (sym here)
+            (each_of (λ d. At [] w.board w.logged_in (w.count + 1) (w.count + 1) d (log_of w' d) (w'.links d))
+            (w.count + 1)
+            (at_by [] w.board w.logged_in (w.count + 1) (w.count + 1) (w.count + 1) _ _ _ _ (log (w.count + 1))
+            (linked_same n (w.count + 1) l')
+            (at_ahead [] w.board w.logged_in (w.count + 1) (w.count + 1) (w.count + 1) _ _ (omega arith) first
+            (λ z. absurd (omega arith))))
+            (λ d m. at_by [] w.board w.logged_in (w.count + 1) (w.count + 1) d _ _ _ _ (log d)
+            (linked_other n (w.count + 1) d l' m)
+            (at_closed [] [] w.board w.logged_in w.count (w.count + 1) (open_now w.log) (w.count + 1) d _ _
+            (λ z. other_number (w.count + 1) d (λ e. m (sym e))) (omega arith) (j.each d))) d);
       }
+
+  -- what holds of a connection that is not logged in holds if a newer one is
+  at_older : (x : List Board) (now : Board) (user user' count here c : ℕ) (v : Logged) (l : Link) → user < user'
+      → (c ≡ user' → ⊥) → At x now user count here c v l → At x now user' count here c v l
+  at_older x now user user' count here c v l lt other a = record {
+    ahead = λ h. a.ahead (omega arith);
+    unopened = a.unopened;
+    settled = a.settled;
+    current = λ some e. absurd (other e);
+    moved = a.moved;
+    wire = a.wire;
+  }
 
   -- the first line of a connection is its login
   joint_login : (w : World) (c : ℕ) (t rest : List ℕ) → Joint [] w → 0 < c → c ≤ w.count → w.logged_in < c
@@ -244,57 +212,34 @@ module _ (law : Lawful) where
       let l' : Link = taken (w.links c) (on_wire t) rest in
       let n : World = linked w c (taken (w.links c) (on_wire t) rest) in
       let w' : World = noted (record n { logged_in = c }) (LoggedIn c ∷ []) in
-      let oc : open_now w'.log ≡ open_now w.log = open_append 0 w.log (LoggedIn c ∷ []) in
-      let same : (d : ℕ) → (d ≡ c → ⊥) → view w' d ≡ view w d =
-      λ d m. same_view w w' (LoggedIn c ∷ []) d refl refl refl refl (linked_other w c d l' m) in
-      let here : view w' c ≡ with_link (view w c) l' =
-      same_view n w' (LoggedIn c ∷ []) c refl refl refl refl refl ∙ view_linked w c l' in
-      let a = j.ahead c lt in
+      let here : open_now w'.log ≡ open_now w.log = open_append 0 w.log (LoggedIn c ∷ []) in
+      let log : (d : ℕ) → log_of w' d ≡ log_of w d = λ d. same_log w w' (LoggedIn c ∷ []) d refl refl refl refl in
+      let a = (j.each c).ahead lt in
       let wy =
       only (nat_eq (open_now w.log) c)
       (way_serve law (nat_eq (open_now w.log) c) None (w.links c).asked t rest a.way next) in
       let gn : gained (w.links c).heard (w.links c).coming ≡ [] = rw a.coming (gained_none law (w.links c).heard) in
       let none : waiting [] (w.links c) ≡ [] = ap (boards) gn in
-      let cl : Calm w.board (to_list (last (shown c w.log)) ++ waiting [] l') = rw a.seen (rw none tt) in
-      let cur : Current (nat_eq (open_now w.log) c) (with_link (view w c) l') w.board (waiting [] l') = record {
+      let cl : Calm w.board (to_list (last (shown c w.log)) ++ waiting [] l') = rw a.silent.seen (rw none tt) in
+      let cur : Current (nat_eq (open_now w.log) c) (log_of w c) l' w.board (waiting [] l') = record {
         p = None;
         way = wy;
         begun = not_empty (w.links c).served t;
-        owed = a.sends ∙ ap (λ l. l ++ []) (sym a.takes);
+        owed = a.silent.sends ∙ ap (λ l. l ++ []) (sym a.silent.takes);
         held = tt;
-        live = λ o. inl (record { fresh = a.fresh; calm = cl });
+        live = λ o. inl (record { fresh = a.silent.fresh; calm = cl });
       } in
       record {
         good = j.good;
         low = few;
-        who = rw oc j.who;
-        ahead = λ d k. let m : d ≡ c → ⊥ = λ e. absurd (omega arith) in
-            rw oc (subst (Ahead (nat_eq (open_now w.log) d)) (sym (same d m)) (j.ahead d (omega arith)));
-        unopened =
-            λ d k. let m : d ≡ c → ⊥ = λ e. absurd (omega arith) in ap (λ (v : View). v.link.asked) (same d m)
-            ∙ j.unopened d k;
-        settled = λ d. elim (eqb_tells d c) [
-          | inl e ↦
-              subst (λ d. Settled (view w' d)) (sym e.1)
-              (subst Settled (sym here) (let s = j.settled c in
-              let s' : Settled (with_link (view w c) (taken (w.links c) (on_wire t) rest)) =
-              record { p = s.p; owed = s.owed } in
-              s'))
-          | inr m ↦ subst Settled (sym (same d m.1)) (j.settled d)
-        ];
-        current =
-            λ k. rw oc
-            (subst (λ (v : View). Current (nat_eq (open_now w.log) c) v w.board (waiting [] v.link)) (sym here) cur);
-        moved = λ d. elim (eqb_tells d c) [
-          | inl e ↦ subst (λ d. Moved (view w' d)) (sym e.1) (subst Moved (sym here) (j.moved c))
-          | inr m ↦ subst Moved (sym (same d m.1)) (j.moved d)
-        ];
-        wire = λ d e k. let e' : open_now w.log ≡ d = rw oc at e in elim (eqb_tells d c) [
-          | inl q ↦
-              subst (λ d. Whole ((w'.links d).heard ++ (w'.links d).coming)) (sym q.1)
-              (subst (λ (v : View). Whole (v.link.heard ++ v.link.coming)) (sym here) (j.wire c (e' ∙ q.1) some))
-          | inr m ↦ subst (λ (v : View). Whole (v.link.heard ++ v.link.coming)) (sym (same d m.1)) (j.wire d e' k)
-        ];
+        who = rw here j.who;
+        each = λ d. subst (λ o. At [] w.board c w.count o d (log_of w' d) (w'.links d)) (sym here)
+            (each_of (λ d. At [] w.board c w.count (open_now w.log) d (log_of w' d) (w'.links d)) c
+            (at_by [] w.board c w.count (open_now w.log) c _ _ _ _ (log c) (linked_same w c l')
+            (at_current [] w.board c w.count (open_now w.log) _ _ few cur (j.each c).moved
+            (λ e. (j.each c).wire e some)))
+            (λ d m. at_by [] w.board c w.count (open_now w.log) d _ _ _ _ (log d) (linked_other w c d l' m)
+            (at_older [] w.board w.logged_in c w.count (open_now w.log) d _ _ lt m (j.each d))) d);
       }
     where
       only : (o : Bool)
@@ -305,29 +250,21 @@ module _ (law : Lawful) where
 
   -- a command that is no decision is taken
   joint_taken : (w : World) (t rest : List ℕ) → Joint [] w → 0 < w.logged_in
-      → (cur : Current (nat_eq (open_now w.log) w.logged_in) (view w w.logged_in) w.board
+      → (cur : Current (nat_eq (open_now w.log) w.logged_in) (log_of w w.logged_in) (w.links w.logged_in) w.board
       (waiting [] (w.links w.logged_in)))
       → OnWay (nat_eq (open_now w.log) w.logged_in) cur.p rest
       → Joint [] (linked w w.logged_in (taken (w.links w.logged_in) (on_wire t) rest))
   joint_taken w t rest j some cur way =
-      let l' : Link = taken (w.links w.logged_in) (on_wire t) rest in
-      let w' : World = linked w w.logged_in l' in
-      let v : Current (nat_eq (open_now w.log) w.logged_in) (with_link (view w w.logged_in) l') w.board
-      (waiting [] l') = record {
+      joint_rewired [] [] w w.board (taken (w.links w.logged_in) (on_wire t) rest) j some j.good
+      (record {
         p = cur.p;
         way = way;
         begun = not_empty (w.links w.logged_in).served t;
         owed = cur.owed;
         held = cur.held;
-        live = λ o. relink law (view w w.logged_in) l' w.board _ cur.p (cur.live o);
-      } in
-      joint_current [] [] w w' j some refl refl refl
-      (λ d m. same_view w w' [] d (sym (append-nil _)) refl refl refl (linked_other w w.logged_in d l' m))
-      j.good
-      (subst (λ (u : View). Current (nat_eq (open_now w.log) w.logged_in) u w.board (waiting [] u.link))
-      (sym (view_linked w w.logged_in l')) v)
-      (j.moved w.logged_in)
-      (λ o. rw (linked_same w w.logged_in l') (j.wire w.logged_in o some))
+        live = cur.live;
+      })
+      (λ o. (j.each w.logged_in).wire o some)
 
   -- boards that are all this one are alike it
   all_alike : (b : Board) (bs : List Board) → AllAre b bs → each (same_game b) bs ≡ true
@@ -336,7 +273,7 @@ module _ (law : Lawful) where
 
   -- The decision is taken, and if the client is there the board that it leads to goes on its wire.
   joint_took : (w w' : World) (t rest : List ℕ) (a : Ask) (b : Board) → Joint [] w → 0 < w.logged_in
-      → (cur : Current (nat_eq (open_now w.log) w.logged_in) (view w w.logged_in) w.board
+      → (cur : Current (nat_eq (open_now w.log) w.logged_in) (log_of w w.logged_in) (w.links w.logged_in) w.board
       (waiting [] (w.links w.logged_in)))
       → cur.p ≡ Some a → w.board ≡ a.0 → allows a.0 a.1 ≡ None → is_good b ≡ true → same_game a.0 b ≡ false
       → OnWay (nat_eq (open_now w.log) w.logged_in) None rest
@@ -365,7 +302,7 @@ module _ (law : Lawful) where
       let owed : sent w.logged_in w.log ≡ took w.logged_in w.log ++ a ∷ [] =
       cur.owed ∙ ap (λ p. took w.logged_in w.log ++ to_list p) isp in
       let oc : open_now w'.log ≡ open_now w.log = ap open_now eg ∙ open_append 0 w.log es in
-      let v : Current (nat_eq (open_now w.log) w.logged_in) (view w' w.logged_in) w'.board
+      let v : Current (nat_eq (open_now w.log) w.logged_in) (log_of w' w.logged_in) (w'.links w.logged_in) w'.board
       (waiting [] (w'.links w.logged_in)) = record {
         p = None;
         way = rw ha way;
@@ -374,7 +311,7 @@ module _ (law : Lawful) where
         held = tt;
         live = λ o.
             let y =
-            subst (λ p. Live (view w w.logged_in) w.board (waiting [] (w.links w.logged_in)) p) isp (cur.live o) in
+            subst (λ p. Live (log_of w w.logged_in) w.board (waiting [] (w.links w.logged_in)) p) isp (cur.live o) in
             let all = y.calm.0 (law.allowed_decides a.0 a.1 al) in
             inr (record {
               spent = sp ∙ y.spent;
@@ -390,22 +327,19 @@ module _ (law : Lawful) where
             });
       } in
       joint_current [] [] w w' j some el ec oc
-      (λ d m. same_view w w' es d eg refl refl
-      (ap (λ l. l ++ [])
-      (one_of_false (nat_eq w.logged_in d) (w.board, a.1) (other_number w.logged_in d (λ e. m (sym e)))))
-      (others d m))
+      (λ d m. record {
+        log = same_log w w' es d eg refl refl (ap (λ l. l ++ [])
+            (one_of_false (nat_eq w.logged_in d) (w.board, a.1) (other_number w.logged_in d (λ e. m (sym e)))));
+        link = others d m;
+      })
       (rw eb good)
       v
       (λ h. ts ∙ sym owed ∙ sym ss)
       (λ o. wh (same_test _ _ o))
 
-  -- a wire that is set twice changes no other
-  twice_other : (w : World) (c d : ℕ) (l l' : Link) (d≠c : d ≡ c → ⊥) → (linked (linked w c l) c l').links d ≡ w.links d
-  twice_other w c d l l' m = linked_other (linked w c l) c d l' m ∙ linked_other w c d l m
-
   -- the server carries out the decision
   joint_decision : (w : World) (t rest : List ℕ) (a : Ask) (b : Board) → Joint [] w → 0 < w.logged_in
-      → (cur : Current (nat_eq (open_now w.log) w.logged_in) (view w w.logged_in) w.board
+      → (cur : Current (nat_eq (open_now w.log) w.logged_in) (log_of w w.logged_in) (w.links w.logged_in) w.board
       (waiting [] (w.links w.logged_in)))
       → cur.p ≡ Some a → w.board ≡ a.0 → allows a.0 a.1 ≡ None → is_good b ≡ true → same_game a.0 b ≡ false
       → OnWay (nat_eq (open_now w.log) w.logged_in) None rest
@@ -428,11 +362,11 @@ module _ (law : Lawful) where
       (λ z. joint_took w (linked n w.logged_in l2) t rest a b j some cur isp ise al good un way refl refl refl refl
       (λ d m. linked_other n w.logged_in d l2 m ∙ linked_other w w.logged_in d l1 m)
       (ap (λ (l : Link). l.served) k3) (ap (λ (l : Link). l.asked) k3)
-      (λ o. let wire = j.wire w.logged_in (eqb-true _ _ o) some in
+      (λ o. let wire = (j.each w.logged_in).wire (eqb-true _ _ o) some in
       ap (waiting []) k3
       ∙ boards_more law (w.links w.logged_in).heard (w.links w.logged_in).coming (spelling b) (b ∷ []) wire
       (printed law b good))
-      (λ o. let wire = j.wire w.logged_in (eqb-true _ _ o) some in
+      (λ o. let wire = (j.each w.logged_in).wire (eqb-true _ _ o) some in
       rw k3 (whole_more law (w.links w.logged_in).heard (w.links w.logged_in).coming (spelling b) wire)))
       (λ z. joint_took w n t rest a b j some cur isp ise al good un way refl refl refl refl
       (λ d m. linked_other w w.logged_in d l1 m)
@@ -461,7 +395,7 @@ module _ (law : Lawful) where
           d2)
       at_ahead m =
           let lt : w.logged_in < c = omega arith in
-          let z : is_empty (w.links c).served ≡ true = ap is_empty (j.ahead c lt).served in
+          let z : is_empty (w.links c).served ≡ true = ap is_empty ((j.each c).ahead lt).served in
           subst (λ s. Joint [] (takes_line c (linked w c (taken (w.links c) (on_wire t) rest)) s t d1 d2)) (sym z)
           (subst
           (λ s. Joint [] (does_served c (linked w c (taken (w.links c) (on_wire t) rest))
@@ -473,7 +407,7 @@ module _ (law : Lawful) where
           (takes_line w.logged_in (linked w w.logged_in (taken (w.links w.logged_in) (on_wire t) rest))
           (is_empty (w.links w.logged_in).served) t d1 d2)
       at_current have nx =
-          let cur = j.current have in
+          let cur = current [] w j have in
           subst
           (λ s. Joint []
           (takes_line w.logged_in (linked w w.logged_in (taken (w.links w.logged_in) (on_wire t) rest)) s t d1 d2))
@@ -482,7 +416,7 @@ module _ (law : Lawful) where
           (line cur (way_serve law _ cur.p (w.links w.logged_in).asked t rest cur.way nx)))
         where
           line :
-              (cur : Current (nat_eq (open_now w.log) w.logged_in) (view w w.logged_in) w.board
+              (cur : Current (nat_eq (open_now w.log) w.logged_in) (log_of w w.logged_in) (w.links w.logged_in) w.board
               (waiting [] (w.links w.logged_in)))
               → (IsQuiet t × OnWay (nat_eq (open_now w.log) w.logged_in) cur.p rest)
               ⊎ ((a : Ask) × (cur.p ≡ Some a) × (t ≡ command a.0 a.1)

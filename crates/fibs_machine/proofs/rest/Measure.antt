@@ -37,7 +37,7 @@ use Rattle.fibs_history.proofs.Past.{open_append}
 use Rattle.fibs_history.proofs.Words.{own}
 use Rattle.fibs_machine.proofs.log.Due.{due_rolls}
 use Rattle.fibs_machine.proofs.joint.Deliver.{Hearing, hears_one, note_shown}
-use Rattle.fibs_machine.proofs.joint.Joint.{view, Live, Joint, linked_same, linked_other}
+use Rattle.fibs_machine.proofs.joint.Joint.{log_of, Live, Joint, current, linked_same, linked_other}
 use Rattle.fibs_machine.proofs.joint.Left.{Texts}
 use Rattle.fibs_machine.proofs.joint.Sending.{if_fact, same_test}
 use Rattle.fibs_machine.proofs.wires.Boards.{waiting, boards, board_of}
@@ -558,7 +558,7 @@ module _ (k : ℕ) where
         let some' : 0 < w.logged_in = omega arith in
         let w1 : World = noted w (Shown w.logged_in b ∷ []) in
         let j : Joint more w1 = note_shown law w b more y.joint (y.here ∙ sym y.mine) some' in
-        let cur = j.current some' in
+        let cur = current more w1 j some' in
         let still : open_now w1.log ≡ w.logged_in =
         open_append 0 w.log (Shown w.logged_in b ∷ []) ∙ y.here ∙ sym y.mine in
         let quiet : is_spent same_game w.logged_in w1.log ≡ false =
@@ -572,7 +572,7 @@ module _ (k : ℕ) where
         go : (w1 : World) → is_spent same_game w.logged_in w1.log ≡ false → last (shown w.logged_in w1.log) ≡ Some b
             → user_decides b ≡ true → (p : Option Ask)
             → sent w.logged_in w1.log ≡ took w.logged_in w1.log ++ to_list p
-            → Live (view w1 w.logged_in) w.board (waiting more (w1.links w.logged_in)) p
+            → Live (log_of w1 w.logged_in) w.board (waiting more (w1.links w.logged_in)) p
             → sent w.logged_in w1.log ≡ sent w.logged_in w.log → took w.logged_in w1.log ≡ took w.logged_in w.log
             → Fresh c w b
         go w1 quiet is_last decides None owed (inl f) es et =

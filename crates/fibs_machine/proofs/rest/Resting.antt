@@ -37,7 +37,7 @@ use Rattle.fibs_machine.proofs.wires.Ways.{OnWay, way_served}
 use Rattle.fibs_machine.proofs.joint.Carrying.{Alike, alike_hears_all}
 use Rattle.fibs_machine.proofs.joint.Deliver.{hearing_begins}
 use Rattle.fibs_machine.proofs.joint.EachEvent.{joint_after, joint_start, served}
-use Rattle.fibs_machine.proofs.joint.Joint.{Joint, linked_same, linked_other}
+use Rattle.fibs_machine.proofs.joint.Joint.{Joint, current, linked_same, linked_other}
 use Rattle.fibs_machine.proofs.joint.Left.{queue_texts}
 use Rattle.fibs_machine.proofs.rest.Measure.{returns_in, returns_none, returns_most, returns_less, returns_lines, due}
 use Rattle.fibs_machine.proofs.rest.Measure.{due_most, Lessens}
@@ -397,7 +397,7 @@ module _ (law : Lawful) (rules : Rules) where
       let j' : Joint [] (after login w (Serve (open_now w.log) d1 d2)) =
       joint_after law login quiet w (Serve (open_now w.log) d1 d2) j may in
       let same = message_same (open_now w.log) w (after login w (Serve (open_now w.log) d1 d2))
-      (serve_comes login w (open_now w.log) d1 d2 p next) (j.wire (open_now w.log) refl some) j'.good in
+      (serve_comes login w (open_now w.log) d1 d2 p next) ((j.each (open_now w.log)).wire refl some) j'.good in
       record {
         wires = (refl, tt);
         dice = (refl, refl, tt);
@@ -457,7 +457,7 @@ module _ (law : Lawful) (rules : Rules) where
           (after login w (Deliver n))
       at_ahead m =
           let low = not_older [] w (open_now w.log) j refl some in
-          let a = j.ahead (open_now w.log) (omega arith) in
+          let a = (j.each (open_now w.log)).ahead (omega arith) in
           let l : Link = w.links (open_now w.log) in
           let none : gained l.heard (take n l.coming) ≡ [] =
           ap (λ bytes. gained l.heard (take n bytes)) a.coming ∙ ap (gained l.heard) (take_nil n)
@@ -542,7 +542,7 @@ module _ (law : Lawful) (rules : Rules) where
       at_current : open_now w.log ≡ w.logged_in → (w.links (open_now w.log)).asked ≡ []
       at_current e =
           let have : 0 < w.logged_in = omega arith in
-          let cur = j.current have in
+          let cur = current [] w j have in
           subst (λ d. (w.links d).asked ≡ []) (sym e)
           (way_served law cur.p (w.links w.logged_in).asked
           (subst (λ o. OnWay o cur.p (w.links w.logged_in).asked) (same_test _ _ e) cur.way)
@@ -551,7 +551,7 @@ module _ (law : Lawful) (rules : Rules) where
       at_ahead : (open_now w.log ≡ w.logged_in → ⊥) → ⊥
       at_ahead m =
           let low = not_older [] w (open_now w.log) j refl some in
-          let ahead = j.ahead (open_now w.log) (omega arith) in
+          let ahead = (j.each (open_now w.log)).ahead (omega arith) in
           let t : nat_eq (open_now w.log) (open_now w.log) ≡ true = same_test _ _ refl in
           let empty : (w.links (open_now w.log)).asked ≡ [] =
           way_served law None (w.links (open_now w.log)).asked
@@ -665,14 +665,14 @@ module _ (law : Lawful) (rules : Rules) where
       bytes (inl e) =
           let same = e.1 in
           let have : 0 < w.logged_in = omega arith in
-          let cur = j.current have in
+          let cur = current [] w j have in
           of_way cur.p
           (subst (λ d. OnWay true cur.p (w.links d).asked) (sym e.1)
           (subst (λ o. OnWay o cur.p (w.links w.logged_in).asked) e.0 cur.way))
       bytes (inr m) =
           let other = m.1 in
           let low = not_older [] w (open_now w.log) j refl some in
-          let ahead = j.ahead (open_now w.log) (omega arith) in
+          let ahead = (j.each (open_now w.log)).ahead (omega arith) in
           of_way None (subst (λ o. OnWay o None (w.links (open_now w.log)).asked) (same_test _ _ refl) ahead.way)
 
   -- Each line that is taken makes what is on its way and what is due less, and no delivery makes it more.

@@ -41,7 +41,7 @@ use Rattle.fibs_history.proofs.Past.{open_append}
 use Rattle.fibs_machine.proofs.joint.Acting.{only_here}
 use Rattle.fibs_machine.proofs.joint.Carrying.{alike_hears}
 use Rattle.fibs_machine.proofs.joint.EachEvent.{served, joint_after, joint_start}
-use Rattle.fibs_machine.proofs.joint.Joint.{view, Ahead, Joint, linked_same, linked_other}
+use Rattle.fibs_machine.proofs.joint.Joint.{log_of, Ahead, Joint, current, linked_same, linked_other}
 use Rattle.fibs_machine.proofs.joint.Sending.{if_fact, same_test}
 use Rattle.fibs_machine.proofs.rest.Agreeing.{is_some_number, agrees_holds}
 use Rattle.fibs_machine.proofs.rest.Measure.{asked_linked}
@@ -466,7 +466,7 @@ module _ (law : Lawful) where
       newly : (c ≡ w.logged_in → ⊥) → open_now w.log ≡ c → (w'.links c).served ≡ on_wire login
       newly n here =
           let lt : w.logged_in < c = omega arith in
-          let ahead = j.ahead c lt in
+          let ahead = (j.each c).ahead lt in
           let some' : 0 < open_now w.log = omega arith in
           let f = s.first some' in
           let whole : (w.links c).asked ≡ on_wire login ++ wire_of f.0 =
@@ -484,7 +484,7 @@ module _ (law : Lawful) where
           → boards_sent (acts w.logged_in ++ more w.logged_in) ≡ [] → ⊥
       mine e some here none =
           let begun : is_empty (w.links c).served ≡ false =
-          subst (λ d. is_empty (w.links d).served ≡ false) (sym e) (j.current some).begun in
+          subst (λ d. is_empty (w.links d).served ≡ false) (sym e) (current [] w j some).begun in
           let talks : is_talking w ≡ true =
           and_both _ _ (same_test _ _ here) (is_some_number w.logged_in some) in
           let quiet : boards_sent (more w.logged_in) ≡ [] = later (acts w.logged_in) (more w.logged_in) none in
@@ -523,7 +523,8 @@ module _ (law : Lawful) where
     all = λ z.
         subst (λ o. (w'.links o).served ++ (w'.links o).asked ≡ wire_of (w'.commands o)) (sym here)
         (ap (λ bytes. bytes ++ (w'.links c).asked) (ap (λ (x : Link). x.served) link ∙ ahead.served)
-        ∙ ap (λ (x : Link). x.asked) link ∙ ap (λ bytes. bytes ++ wire_of (login ∷ [])) (j.unopened c (omega arith))
+        ∙ ap (λ (x : Link). x.asked) link
+        ∙ ap (λ bytes. bytes ++ wire_of (login ∷ [])) ((j.each c).unopened (omega arith))
         ∙ ap wire_of (sym commands));
     first = λ z. subst (λ o. (more : List (List ℕ)) × (w'.commands o ≡ login ∷ more)) (sym here) ([], commands);
     alone = λ some e none.
@@ -540,8 +541,8 @@ module _ (law : Lawful) where
       here : open_now w'.log ≡ w.count + 1
       here = open_append 0 w.log (Opened (w.count + 1) ∷ [])
 
-      ahead : Ahead (nat_eq (open_now w.log) c) (view w c)
-      ahead = j.ahead c (let low = j.low in omega arith)
+      ahead : Ahead (nat_eq (open_now w.log) c) (log_of w c) (w.links c)
+      ahead = (j.each c).ahead (let low = j.low in omega arith)
 
       link : w'.links (w.count + 1) ≡ more_asked (w.links (w.count + 1)) (wire_of (login ∷ []))
       link = linked_same w (w.count + 1) (more_asked (w.links (w.count + 1)) (wire_of (login ∷ [])))
@@ -663,7 +664,7 @@ module _ (law : Lawful) where
   only_login : (login : List ℕ) → IsQuiet login → (acts : ℕ → List Act) (w : World) → Joint [] w → Said login acts w
       → IsAtRest w → boards_sent (acts w.logged_in) ≡ [] → w.commands w.logged_in ≡ login ∷ []
   only_login login quiet acts w j s r none =
-      let cur = j.current r.some in
+      let cur = current [] w j r.some in
       let t : nat_eq (open_now w.log) w.logged_in ≡ true = same_test _ _ r.is_open in
       let empty : (w.links w.logged_in).asked ≡ [] =
       way_served law cur.p (w.links w.logged_in).asked
