@@ -51,10 +51,6 @@ Feeds_whole old new s piece a h =
     }
 
 module _ (old new : Kept) (s piece : List ℕ) (at : ℕ) (a : AdvancesToEnd old new piece at) (h : KeptAfter old s) where
-  -- the stream up to the line end
-  before : List ℕ
-  before = s ++ take at piece
-
   -- what is kept there
   stood : KeptAfter new (s ++ take at piece)
   stood = a.advances.stands s h

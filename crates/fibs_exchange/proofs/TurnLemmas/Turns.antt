@@ -119,18 +119,6 @@ module _ {F : Type 0} {Tells : F → List SaidValue → F → Type 0} (joins : J
         (ap (λ l. read ++ l) k.cut ∙ sym (append_assoc read k.fed k.rest)) on
         g.did k.stands refl k.extent.0 k.extent.1 k.did
 
-  -- all of a portion was heard
-  pub talked_whole : (t : Talk) (c : ClientValue) (bytes : List ℕ) (a b : Outside F) → Gone Tells t c bytes a b
-      → Talked Tells t c bytes a b Whole
-  talked_whole t c bytes a b g = record {
-    fed = bytes;
-    rest = [];
-    cut = sym (append-nil bytes);
-    extent = refl;
-    stands = g.stands;
-    did = g.did;
-  }
-
   -- ---- a turn
 
   -- it goes on

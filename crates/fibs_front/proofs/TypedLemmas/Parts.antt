@@ -27,10 +27,6 @@ more_kept : (start now : Option (List ℕ)) (line run new : List ℕ) (k : Parts
 more_kept start now line run new k e =
     e ∙ ap (λ (l : List ℕ). l ++ take (4098 - length l) run) k.kept ∙ kept-more 4098 k.part run
 
--- what was to come is the part, what waited, and what the device has left
-all_of : (typed part waiting left : List ℕ) → typed ≡ part ++ (waiting ++ left) → typed ≡ (part ++ waiting) ++ left
-all_of typed part waiting left e = e ∙ sym (append_assoc part waiting left)
-
 -- what waited is taken, and more has come
 pub parts_more : (start left still : Option (List ℕ)) (line waiting new next : List ℕ)
     → Parts start (prepend_known waiting left) line → after 10 waiting ≡ None
