@@ -48,13 +48,13 @@ hears_open t r =
     open_append 0 t.log (heard_by t r).entries ∙ (lines_open_none (open_now t.log) t.log r).1 (open_now t.log)
 
 -- the open connection is the same after many lines
-all_open : (t : Talk) (ls : List ReadLine) → open_now (hears_all t ls).talk.log ≡ open_now t.log
+pub all_open : (t : Talk) (ls : List ReadLine) → open_now (hears_all t ls).talk.log ≡ open_now t.log
 unfolding hears_all
 all_open t [] = refl
 all_open t (l ∷ ls) = all_open (hears t (heard_by t (line_reading l))).talk ls ∙ hears_open t (line_reading l)
 
 -- hearing lines leaves the bytes of the connection as they are
-all_stream : (t : Talk) (ls : List ReadLine) → (hears_all t ls).talk.stream ≡ t.stream
+pub all_stream : (t : Talk) (ls : List ReadLine) → (hears_all t ls).talk.stream ≡ t.stream
 unfolding hears_all
 all_stream t [] = refl
 all_stream t (l ∷ ls) = all_stream (hears t (heard_by t (line_reading l))).talk ls
@@ -85,7 +85,7 @@ all_bytes t q (l ∷ ls) = let h = heard_by t (line_reading l) in ap (then_also 
 
 module _ (grow : LinesOnlyGrow) where
   -- the lines that two pieces give are those of the first and then those of the second
-  gained_more : (s p q : List ℕ) → gained s (p ++ q) ≡ gained s p ++ gained (s ++ p) q
+  pub gained_more : (s p q : List ℕ) → gained s (p ++ q) ≡ gained s p ++ gained (s ++ p) q
   gained_more s p q =
       let a = grow s p in
       let b = grow (s ++ p) q in

@@ -14,24 +14,10 @@ use Rattle.fibs_session.specs.History.Machine.{heard_by, with_bytes, gained}
 use Rattle.fibs_session.specs.Calls.Standing.{ClientValue, StandsAfter}
 use Rattle.fibs_session.specs.Calls.Feeding.{FeedAnswers, Gains, in_list}
 use Rattle.fibs_session.specs.Calls.SessionOf.{TakenValue}
-use Rattle.fibs_history.proofs.Joins.{hears_open}
+use Rattle.fibs_history.proofs.Joins.{all_open, all_stream, gained_more}
 use Rattle.fibs_exchange.specs.Turns.Acts.{Act}
 use Rattle.fibs_exchange.specs.Turns.Lines.{heard_act, taken_act, line_act, line_acts, piece_acts}
 use Rattle.fibs_exchange.specs.Turns.Turn.{EndsALine}
-
--- ---- no line opens or loses a connection
-
--- the open connection is the same after many lines
-all_open : (t : Talk) (ls : List ReadLine) → open_now (hears_all t ls).talk.log ≡ open_now t.log
-unfolding hears_all
-all_open t [] = refl
-all_open t (l ∷ ls) = all_open (hears t (heard_by t (line_reading l))).talk ls ∙ hears_open t (line_reading l)
-
--- hearing lines leaves the bytes of the connection as they are
-all_stream : (t : Talk) (ls : List ReadLine) → (hears_all t ls).talk.stream ≡ t.stream
-unfolding hears_all
-all_stream t [] = refl
-all_stream t (l ∷ ls) = all_stream (hears t (heard_by t (line_reading l))).talk ls
 
 -- ---- the history after a piece
 
@@ -112,19 +98,6 @@ no_acts t = go (is_online t) refl
     go false off = offline_acts t [] off
 
 module _ (grow : LinesOnlyGrow) where
-  -- the lines that two pieces give are those of the first and then those of the second
-  gained_more : (s p q : List ℕ) → gained s (p ++ q) ≡ gained s p ++ gained (s ++ p) q
-  gained_more s p q =
-      let a = grow s p in
-      let b = grow (s ++ p) q in
-      let first : gained s p ≡ a.0 = ap (drop (length (lines_of s))) a.1 ∙ drop-append_seam (lines_of s) a.0 in
-      let second : gained (s ++ p) q ≡ b.0 = ap (drop (length (lines_of (s ++ p)))) b.1
-      ∙ drop-append_seam (lines_of (s ++ p)) b.0 in
-      let whole : lines_of (s ++ (p ++ q)) ≡ lines_of s ++ (a.0 ++ b.0) =
-      ap lines_of (sym (append_assoc s p q)) ∙ b.1 ∙ ap (λ l. l ++ b.0) a.1 ∙ append_assoc (lines_of s) a.0 b.0 in
-      ap (drop (length (lines_of s))) whole ∙ drop-append_seam (lines_of s) (a.0 ++ b.0)
-      ∙ ap (λ l. l ++ b.0) (sym first) ∙ ap (λ l. gained s p ++ l) (sym second)
-
   -- bytes may come in any pieces
   pub acts_join : (t : Talk) (p q : List ℕ)
       → piece_acts t (p ++ q) ≡ piece_acts t p ++ piece_acts (step t (Piece p)).talk q
@@ -143,7 +116,7 @@ module _ (grow : LinesOnlyGrow) where
           let later : piece_acts u q ≡ line_acts (log_after t.log first) (gained (t.stream ++ p) q) =
           online_acts u q (piece_online t p ∙ on) ∙ ap (λ l. line_acts l (gained u.stream q)) log
           ∙ ap (λ s. line_acts (log_after t.log first) (gained s q)) (piece_stream t p on) in
-          online_acts t (p ++ q) on ∙ ap (line_acts t.log) (gained_more t.stream p q)
+          online_acts t (p ++ q) on ∙ ap (line_acts t.log) (gained_more grow t.stream p q)
           ∙ acts_append t.log first (gained (t.stream ++ p) q)
           ∙ ap (λ l. l ++ line_acts (log_after t.log first) (gained (t.stream ++ p) q)) (sym (online_acts t p on))
           ∙ ap (λ l. piece_acts t p ++ l) (sym later)

@@ -27,8 +27,7 @@ use Rattle.fibs_history.specs.Words.{open_now}
 use Rattle.fibs_model_server.specs.EntryOf.{roll_entries}
 use Rattle.fibs_model.specs.HearingOf.{HearsPiece, IsTalking, RoomForLine, RoomForPiece}
 use Rattle.fibs_history.proofs.Lists.{other_number}
-use Rattle.fibs_history.proofs.Past.{open_append}
-use Rattle.fibs_history.proofs.Joins.{lines_open_none}
+use Rattle.fibs_history.proofs.Joins.{all_open}
 
 -- a client with an open connection is online
 online : (t : Talk) (conn : ℕ) → 0 < conn → open_now t.log ≡ conn → is_online t ≡ true
@@ -63,21 +62,12 @@ one_line t conn p l some h e =
     ap (λ (s : Step). s.talk.log) (reads_lines t p (l ∷ []) (online t conn some h) (gains_lines t.stream p (l ∷ []) e))
     ∙ ap (λ n. t.log ++ (heard n t.log (line_reading l)).entries) h
 
--- the connection stays open
-lines_open : (t : Talk) (ls : List ReadLine) → open_now (hears_all t ls).talk.log ≡ open_now t.log
-unfolding hears_all
-lines_open t [] = refl
-lines_open t (l ∷ ls) =
-    let h = heard (open_now t.log) t.log (line_reading l) in
-    lines_open (noted t h.entries h.send) ls ∙ open_append 0 t.log h.entries
-    ∙ (lines_open_none (open_now t.log) t.log (line_reading l)).1 (open_now t.log)
-
 -- reading a piece leaves the open connection
 pub reads_open : (t : Talk) (p : List ℕ) → open_now (step t (Piece p)).talk.log ≡ open_now t.log
 reads_open t p = go (is_online t)
   where
     go : (b : Bool) → open_now (step_of t p b).talk.log ≡ open_now t.log
-    go true = lines_open (with_bytes t p) (gained t.stream p)
+    go true = all_open (with_bytes t p) (gained t.stream p)
     go false = refl
 
 -- a client with an open connection still has it after reading a piece
