@@ -49,15 +49,6 @@ gained old kind bytes one two three ms first second third =
     ∙ append_assoc old (opening kind bytes) (more ++ (125 ∷ []))
     ∙ ap (λ (l : List ℕ). old ++ l) (closed kind bytes ms)
 
--- the same without further members
-pub gained_plain : (old kind bytes one two : List ℕ) → one ≡ old ++ opening kind bytes → two ≡ one ++ (125 ∷ [])
-    → two ≡ old ++ line_object kind bytes []
-gained_plain old kind bytes one two first second =
-    second
-    ∙ ap (λ (l : List ℕ). l ++ (125 ∷ [])) first
-    ∙ append_assoc old (opening kind bytes) (125 ∷ [])
-    ∙ ap (λ (l : List ℕ). old ++ l) (closed kind bytes [])
-
 -- one member more
 pub first_member : (old one : List ℕ) (m : Member) → one ≡ old ++ more_member m → one ≡ old ++ more_members (m ∷ [])
 first_member old one m e = e ∙ ap (λ (l : List ℕ). old ++ l) (sym (append-nil (more_member m)))

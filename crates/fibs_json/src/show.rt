@@ -1,6 +1,6 @@
 //! `fibs show --json`: prints an object for each line of a stream.
 ghost use Rattle.std.specs.Prelude.{◌≡◌, ◌≤◌, ◌<◌, ◌*◌, ◌⊎◌, ◌++◌, ◌∷◌, ℕ, List, [], length, take, IfOk, OnOk, IfErr};
-ghost use Rattle.std.specs.Prelude.{IsErrOf, MatchResult};
+ghost use Rattle.std.specs.Prelude.{IsErrOf};
 ghost use Rattle.std.specs.Io.KnownBytes.{Appends, IsAtEnd};
 ghost use Rattle.fibs_json.specs.Streams.{WroteAll, WroteRead, WroteLines, WroteLinesOf, WroteFront};
 ghost use Rattle.fibs_engine.specs.Reads.{LostAtLeast, LostAtMost};

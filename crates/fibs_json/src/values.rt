@@ -1,9 +1,9 @@
 //! Members of any value, and members that are objects.
-ghost use Rattle.std.specs.Prelude.{◌≡◌, ◌++◌, ◌∷◌, ℕ, List, OnOk};
+ghost use Rattle.std.specs.Prelude.{◌≡◌, ◌++◌, ℕ, List, OnOk};
 ghost use Rattle.fibs_boards.specs.Board.{spelling};
 ghost use Rattle.fibs_boards.specs.StoredBoard.{fields_of};
 ghost use Rattle.fibs_messages.specs.Line.{board_line};
-ghost use Rattle.fibs_json.specs.Json.{key, member, more_member, more_value};
+ghost use Rattle.fibs_json.specs.Json.{member, more_member, more_value};
 ghost use Rattle.fibs_json.specs.Lines.{ReadObject};
 ghost use Rattle.fibs_json.specs.Values.{json_of};
 
