@@ -1,6 +1,6 @@
 -- Where in a picture the checkers of a place are drawn (the project's own): rows and columns are counted from 0. Six
 -- places begin at column 2, and six at column 25; each is three columns wide.
-use Rattle.std.specs.Prelude.{◌+◌, ◌-◌, ◌/◌, ◌&&◌, ℕ, nat_le, nat_lt, if◌then◌else◌}
+use Rattle.std.specs.Prelude.{◌-◌, ◌/◌, ◌&&◌, ℕ, nat_le, nat_lt, if◌then◌else◌}
 use Rattle.fibs_picture.specs.Picture.{along, left_first, right_first}
 use Rattle.fibs_picture.specs.declared.half.Half.{Half}
 use Rattle.fibs_picture.specs.declared.half.Half.TheVariants as half

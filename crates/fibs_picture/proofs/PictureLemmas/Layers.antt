@@ -137,11 +137,6 @@ right-tells c d h s t e = heights-tell (λ p. slice_index c.own p) (λ p. slice_
     (λ p. slice_index d.own p) (λ p. slice_index d.other p) (six h (right_first h)) s t
     e.first.right e.second.right e.third.right e.fourth.right e.fifth.right
 
--- a row of five parts is the same if each part is
-five : (a a' b b' c c' d d' e e' : List ℕ) → a ≡ a' → b ≡ b' → c ≡ c' → d ≡ d' → e ≡ e'
-    → a ++ (b ++ (c ++ (d ++ e))) ≡ a' ++ (b' ++ (c' ++ (d' ++ e')))
-five a a' b b' c c' d d' e e' p q r s t = cc
-
 -- ---- the edge determines the direction
 
 -- the second byte of the lower edge's first label: 2 of 12, or 3 of 13

@@ -81,10 +81,6 @@ ranges-of r b board =
 
 -- ---- the checkers of a board
 
--- the checkers of a board, as its player sees them
-abbrev checkers : BoardFields → Checkers
-checkers b = (position_of b).standing.checkers
-
 -- each place from 1 to 24 holds checkers of one side
 sided-at : FieldRanges → (b : BoardFields) → IsBoard b → (place : ℕ) → place ≤ 25
     → OneSide (stand_on b (colour b) place) (stand_on b (neg_ℤ (colour b)) place)
