@@ -1,8 +1,8 @@
 //! Where the checkers of a side are.
-ghost use Rattle.std.specs.Prelude.{◌≤◌, ◌++◌, OnOk, codes};
+ghost use Rattle.std.specs.Prelude.{◌≤◌, ◌++◌, OnOk};
 ghost use Rattle.std.specs.Io.KnownBytes.{Appends};
 ghost use Rattle.fibs_position.specs.PositionValue.{position_value};
-ghost use Rattle.fibs_words.specs.Words.{count_on, place_name, stack, stacks, off_said, side_row};
+ghost use Rattle.fibs_words.specs.Words.{count_on, stack, stacks, off_said, side_row};
 
 use crate::place::write_place;
 use crate::side::{OFF, Side};

@@ -1,9 +1,9 @@
 -- How the row of a side, and the list of held places, grow by one place.
 use Rattle.std.proofs.Common.{◌≡◌, ◌<◌, ◌≤◌, ◌+◌, ◌==◌, ◌++◌, ℕ, zero, suc, Bool, true, false, cond, subst}
-use Rattle.std.proofs.Common.{List, [], ◌∷◌, length, codes, map, refl, sym, ◌∙◌, ap, arith, append-nil, append_assoc}
+use Rattle.std.proofs.Common.{List, [], ◌∷◌, length, codes, refl, sym, ◌∙◌, ap, arith, append-nil, append_assoc}
 use Rattle.std.specs.Prelude.{Option, Result, Ok, Err, OnOk}
 use Rattle.std.specs.Io.KnownBytes.{Appends}
-use Rattle.std.specs.List.{flat_map, filter, join_by, range_with_len}
+use Rattle.std.specs.List.{flat_map, filter, range_with_len}
 use Rattle.std.proofs.KnownBytes.{Appends-nil, Appends-trans}
 use Rattle.std.proofs.lemmas.Bool.Decides.{nat_tests}
 use Rattle.std.proofs.lemmas.List.{length-append}

@@ -1,26 +1,24 @@
 -- Equal rows on the game say the same.
-use Rattle.std.proofs.Common.{◌≡◌, ◌<◌, ◌≤◌, ◌+◌, ◌-◌, ◌^◌, ◌==◌, ◌&&◌, ◌++◌, ℕ, zero, suc, Bool, true, false, not}
-use Rattle.std.proofs.Common.{cond, List, [], ◌∷◌, length, codes, refl, sym, ◌∙◌, ap, subst, arith, lit<, append_assoc}
-use Rattle.std.specs.Prelude.{ℤ, pos, slice_index_or}
+use Rattle.std.proofs.Common.{◌≡◌, ◌<◌, ◌+◌, ◌-◌, ◌==◌, ◌&&◌, ◌++◌, ℕ, zero, Bool, true, false, not}
+use Rattle.std.proofs.Common.{cond, List, [], ◌∷◌, length, codes, refl, sym, ◌∙◌, ap, arith, lit<, append_assoc}
+use Rattle.std.specs.Prelude.{ℤ, slice_index_or}
 use Rattle.std.specs.Fmt.{signed_decimal}
 use Rattle.std.specs.List.{flat_map}
-use Rattle.std.specs.Ordering.{int_eq}
 use Rattle.std.proofs.lemmas.Bool.{and_parts}
 use Rattle.std.proofs.lemmas.Bool.Decides.{nat_tests}
 use Rattle.std.proofs.lemmas.List.{append_cancel_left, append_cancel_right}
 use Rattle.fibs_boards.specs.Board.{BoardFields, field_of}
-use Rattle.fibs_fields.specs.FieldReading.{natural}
 use Rattle.fibs_position.specs.declared.direction.Direction.{Direction}
 use Rattle.fibs_position.specs.declared.direction.Direction.TheVariants.{Down, Up}
 use Rattle.fibs_position.specs.declared.phase.Phase.{Phase}
 use Rattle.fibs_position.specs.declared.phase.Phase.TheVariants as phase
 use Rattle.fibs_picture.specs.Fits.{ended}
-use Rattle.fibs_picture.specs.Picture.{cube, doublers, is_one, match_length}
+use Rattle.fibs_picture.specs.Picture.{cube, is_one, match_length}
 use Rattle.fibs_picture.specs.Told.{Whose, nobodys, the_players, the_opponents}
 use Rattle.fibs_picture.proofs.PictureLemmas.Parts.{lacks, lacks-append, ends-tell}
 use Rattle.fibs_picture.proofs.PictureLemmas.Notes.{Within, number-tells, number-lacks, match-lacks, match-tells}
 use Rattle.fibs_picture.proofs.PictureLemmas.Notes.{cube-lacks, cube-tells}
-use Rattle.fibs_words.specs.Words.{whose, turn_said, phase_said, turn_row, pair, other_dice, lone_dice, dice_row}
+use Rattle.fibs_words.specs.Words.{whose, turn_said, phase_said, turn_row, pair, dice_row}
 use Rattle.fibs_words.specs.Words.{score_row, cube_shows, cube_row, direction_row}
 
 -- ---- rows are known from each other

@@ -1,7 +1,7 @@
 -- Words determine their board: row by row, and in the rows of the sides place by place.
-use Rattle.std.proofs.Common.{◌≡◌, ◌⊎◌, ◌<◌, ◌≤◌, ◌+◌, ◌-◌, ◌^◌, ◌++◌, ℕ, zero, suc, true}
+use Rattle.std.proofs.Common.{◌≡◌, ◌≤◌, ◌+◌, ◌-◌, ◌++◌, ℕ, zero, suc, true}
 use Rattle.std.proofs.Common.{not, Bool, ◌==◌, ◌&&◌, List, [], ◌∷◌, length, codes}
-use Rattle.std.proofs.Common.{refl, sym, ◌∙◌, ap, subst, arith, lit<, append_assoc, take}
+use Rattle.std.proofs.Common.{refl, sym, ◌∙◌, ap, subst, arith, append_assoc, take}
 use Rattle.std.specs.Prelude.{ℤ, pos, negsuc, nat_lt, nat_le, slice_index, slice_index_or}
 use Rattle.std.specs.List.{flat_map, list_all}
 use Rattle.std.proofs.lemmas.Bool.{and_parts}
@@ -16,10 +16,10 @@ use Rattle.fibs_rules.specs.Checkers.{Checkers}
 use Rattle.fibs_position.specs.GoodBoard.{IsGood}
 use Rattle.fibs_position.specs.OwnView.{own_view, places, turn, colour}
 use Rattle.fibs_position.specs.Phases.{phase_in}
-use Rattle.fibs_position.specs.PositionValue.{PositionValue, position_of}
+use Rattle.fibs_position.specs.PositionValue.{position_of}
 use Rattle.fibs_position.specs.declared.direction.Direction.{Direction}
 use Rattle.fibs_picture.specs.Fits.{ended}
-use Rattle.fibs_picture.specs.Picture.{own_pips, other_pips, is_one}
+use Rattle.fibs_picture.specs.Picture.{own_pips, other_pips}
 use Rattle.fibs_picture.specs.Told.{SameToTheEye}
 use Rattle.fibs_picture.proofs.PictureLemmas.Parts.{lacks}
 use Rattle.fibs_picture.proofs.PictureLemmas.Notes.{Within, flag-tells, all-mono}
@@ -27,7 +27,6 @@ use Rattle.fibs_picture.proofs.PictureLemmas.Told.{Ranges, ranges-of, own-few, o
 use Rattle.fibs_words.specs.Told.{WordsTell}
 use Rattle.fibs_words.specs.Words.{whose, turn_row, dice_row, score_row, cube_row, direction_row, count_on, side_row}
 use Rattle.fibs_words.specs.Words.{held_row, game_rows, checkers_rows, told, words}
-use Rattle.fibs_words.specs.declared.side.Side.{Side}
 use Rattle.fibs_words.specs.declared.side.Side.TheVariants as side
 use Rattle.fibs_words.proofs.WordsLemmas.Places.{Few, side-tells}
 use Rattle.fibs_words.proofs.WordsLemmas.Rows.{Plain, rows-tell, turn_row-lacks, turn_row-tells, dice_row-lacks}
