@@ -1,6 +1,5 @@
 //! A move that the user looks at before it is sent.
 ghost use Rattle.std.specs.Prelude.{◌≡◌, IfSome, IsTrue};
-ghost use Rattle.fibs_boards.specs.StoredBoard.{fields_of};
 ghost use Rattle.fibs_commands.specs.Commands.{command_of};
 ghost use Rattle.fibs_commands.specs.TextOf.{text_of};
 ghost use Rattle.fibs_position.specs.DecisionValue.{move};

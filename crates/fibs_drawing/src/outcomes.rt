@@ -1,5 +1,4 @@
 //! How a game ended, in words.
-ghost use Rattle.std.specs.Prelude.{◌≤◌};
 
 use fibs_boards::board::Board;
 use fibs_boards::fields::{

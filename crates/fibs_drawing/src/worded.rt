@@ -1,5 +1,5 @@
 //! A board in words, as the terminal has it: its rows are broken at spaces.
-ghost use Rattle.std.specs.Prelude.{◌≡◌, ◌≤◌, ◌++◌, OnOk, List, ℕ, true};
+ghost use Rattle.std.specs.Prelude.{◌≡◌, ◌++◌, OnOk, List, ℕ, true};
 ghost use Rattle.fibs_position.specs.GameOf.{game_of};
 ghost use Rattle.fibs_drawing.specs.Drawings.{TellsBoard, is_wide};
 

@@ -1,5 +1,5 @@
 -- What a terminal has written is kept.
-use Rattle.std.proofs.Common.{◌≡◌, ◌∙◌, [], List, ℕ, Option, Result, Ok, Err, subst}
+use Rattle.std.proofs.Common.{◌≡◌, [], List, ℕ, Option, Result, Ok, Err, subst}
 use Rattle.std.specs.Prelude.{OnOk}
 use Rattle.std.specs.Io.KnownBytes.{Appends, Keeps}
 use Rattle.std.proofs.KnownBytes.{Appends-kept, Appends-nil}

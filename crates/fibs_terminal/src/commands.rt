@@ -1,5 +1,5 @@
 //! What a line that is typed at a terminal asks for.
-ghost use Rattle.std.specs.Prelude.{IfOk, List, ℕ};
+ghost use Rattle.std.specs.Prelude.{IfOk};
 ghost use Rattle.fibs_front.specs.Wishes.{wish_value};
 ghost use Rattle.fibs_terminal.specs.Asking.{AsksInBounds, KnownStays, SendsUntaken};
 

@@ -1,5 +1,4 @@
 //! What the user looks at before he decides: legal moves, and the board after a move.
-ghost use Rattle.std.specs.Prelude.{List, ℕ};
 ghost use Rattle.fibs_terminal.specs.Asking.{SendsUntaken};
 
 use crate::commands::{NO_GAME, set_line};

@@ -1,5 +1,4 @@
 //! The talk of people that a terminal remembers.
-ghost use Rattle.std.specs.Prelude.{List, ℕ};
 ghost use Rattle.fibs_terminal.specs.Asking.{SendsUntaken};
 
 use crate::commands::set_line;
