@@ -1,4 +1,4 @@
-"""How the files of the crates are laid out: lines that are too wide, files that are too long, lemmas that say nothing."""
+"""What is badly laid out in the crates: wide lines, long files, imports that nothing uses, lemmas that say nothing."""
 import re
 
 WIDTH, LENGTH = 120, 800
@@ -20,6 +20,11 @@ SIGNATURE = re.compile(r' *((?:abbrev |unfoldable |pub )*)([^\s:{(,;]+) :(?: |$)
 OTHERS = re.compile(r' *(?:abbrev |unfoldable |pub )*(?:record|data|use|open|mod) ')
 MODULE = re.compile(r' *module ')
 
+# The names that a file imports for its clauses, definitions and proofs, and what its comments are.
+IMPORT = re.compile(r'(?m)^(?:ghost |pub )?use .*$')
+GHOST = re.compile(r'(?m)^(?:ghost )?use ([\w.]+)\.\{([^}]*)\};?$')
+COMMENT = {'.rt': re.compile(r'//.*'), '.antt': re.compile(r'(?m)(?:^|(?<=\s))--.*$')}
+
 
 def files_of(top, patterns):
     """The files of these patterns, but for those that are made."""
@@ -37,6 +42,19 @@ def wide_lines(text):
     for number, line in enumerate(text.splitlines(), 1):
         if len(line) > WIDTH and not JOINED.match(line):
             yield number, 'has %d columns, and %d are the most' % (len(line), WIDTH)
+
+
+def unused_names(text, suffix):
+    """The names that a file imports for clauses, definitions and proofs and does not use, each with its line."""
+    rest = IMPORT.sub('', COMMENT[suffix].sub('', text))
+    words = {*re.split(r'[\s(){}\[\];,.]+', rest), *re.findall(r'\w+', rest)}
+    for found in GHOST.finditer(text):
+        if suffix == '.rt' and not found[0].startswith('ghost '):
+            continue
+        for name in (part.split(' as ')[-1].strip() for part in found[2].split(',')):
+            parts = [part for part in name.split('◌') if part]
+            if not (all(part in rest for part in parts) if '◌' in name or name == '[]' else name in words):
+                yield text.count('\n', 0, found.start()) + 1, 'nothing here uses `%s`' % name
 
 
 def part_after(lines, at, indent, own):
@@ -89,7 +107,7 @@ def faults(top):
     laid_out = set(files_of(top, FILES))
     for path in files_of(top, PROGRAMS):
         text = path.read_text(encoding='utf-8', errors='replace')
-        wrong = list(wide_lines(text)) if path in laid_out else []
+        wrong = [*wide_lines(text), *unused_names(text, path.suffix)] if path in laid_out else []
         if path.suffix == '.antt' and 'proofs' in path.parts and path.name not in ANSWERS:
             wrong += silent_lemmas(text)
         count = len(text.splitlines())
