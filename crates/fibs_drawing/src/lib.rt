@@ -1,5 +1,5 @@
-//! The boards of a terminal: their pictures with marks, the same in words, which of those that come are drawn whole, and
-//! how a game ended.
+//! The boards of a terminal: their pictures with marks, the same in words, which of those that come are drawn whole,
+//! and how a game ended.
 #![tactic(auto)]
 
 mod boards;
