@@ -1,7 +1,7 @@
 //! Tests of all that scripts rest on: of what a line says, the rules, positions, commands and directories; of clients, of
 //! the model server, its wires and its world. Worked lines and turns are in `tests/rows`, histories that the program or
 //! the library for C shows in `tests/worlds`. What the prover has to see, and allocations that are refused, are in
-//! `crates/fibs_replay_tests`.
+//! `crates/fibs_tests`.
 #![allow(clippy::type_complexity, clippy::needless_range_loop)]
 
 mod board_effects;

@@ -1,7 +1,7 @@
 use Rattle.std.proofs.Common.{◌≡◌, ℕ, List, ◌++◌, length}
 use Rattle.fibs_session.specs.History.Machine.{Piece}
 use Rattle.fibs_session.specs.Calls.Writing.{Writes}
-use Rattle.fibs_replay_tests.proofs.example.take.Given as goal
+use Rattle.fibs_tests.proofs.example.take.Given as goal
 
 -- some bytes are done
 abbrev pub invariant-loop-rest : goal.invariant-loop-rest

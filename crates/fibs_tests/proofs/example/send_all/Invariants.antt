@@ -1,7 +1,7 @@
 use Rattle.std.proofs.Common.{◌≡◌, ◌++◌, drop}
 use Rattle.fibs_session.specs.History.Machine.{wire_of}
 use Rattle.fibs_session.specs.Calls.SessionOf.{texts_of}
-use Rattle.fibs_replay_tests.proofs.example.send_all.Given as goal
+use Rattle.fibs_tests.proofs.example.send_all.Given as goal
 
 -- what is still to be written comes after what was written
 abbrev pub invariant-loop-command : goal.invariant-loop-command

@@ -1,6 +1,6 @@
 use Rattle.std.proofs.Common.{◌++◌, take}
 use Rattle.fibs_session.proofs.Calls.Runs.{done_and_rest, joined}
-use Rattle.fibs_replay_tests.proofs.example.take.Goals as goal
+use Rattle.fibs_tests.proofs.example.take.Goals as goal
 
 pub loop-rest-preserved : goal.loop-rest-preserved
 loop-rest-preserved c =
