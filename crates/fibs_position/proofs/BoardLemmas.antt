@@ -9,3 +9,5 @@ pub mod GoodTest
 pub mod SameGameTest
 pub mod GamePartGroups
 pub mod NumberRanges
+pub mod WatchedTest
+pub mod SeenBoards

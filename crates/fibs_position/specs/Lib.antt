@@ -3,9 +3,11 @@ pub mod First
 pub mod DirectionOf
 pub mod OwnView
 pub mod GoodBoard
+pub mod Watched
 pub mod GamePart
 pub mod PositionValue
 pub mod GameOf
+pub mod WatchedOf
 pub mod Phases
 pub mod DecisionValue
 pub mod BoardEffect

@@ -6,6 +6,7 @@ ghost use Rattle.fibs_position.specs.Laws.{PhaseIsExact, AllowedIsExact, EffectI
 ghost use Rattle.fibs_position.specs.Laws.{AllowedIsCarriedOut, EffectIsGood, GoodIsExact, SameGameIsExact};
 ghost use Rattle.fibs_position.specs.Laws.{SameGameIsALikeness, AllowedDecides, AllowedIsADecision};
 ghost use Rattle.fibs_position.specs.Laws.{DecisionsAreValid, AllowedActs, NoThreeInARow};
+ghost use Rattle.fibs_position.specs.Watched.{WatchedIsExact, WatchedIsNotGood};
 
 use crate::decision::Decision;
 use crate::direction::Direction;
@@ -114,6 +115,20 @@ pub fn no_three_in_a_row()
 /// The test `good` is true of exactly the good boards, of all values of fields.
 pub fn good_is_exact()
     ensures { GoodIsExact }
+{
+    is_board_is_exact();
+}
+
+/// The test `watched` is true of exactly the boards that are watched, of all values of fields.
+pub fn watched_is_exact()
+    ensures { WatchedIsExact }
+{
+    is_board_is_exact();
+}
+
+/// A board that is watched is no board of the user's game: nothing is decided on it.
+pub fn watched_is_not_good()
+    ensures { WatchedIsNotGood }
 {
     is_board_is_exact();
 }

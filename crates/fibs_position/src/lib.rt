@@ -15,6 +15,7 @@ mod phase;
 mod position;
 mod position_fault;
 mod stake;
+mod watched_board;
 
 pub use board_effect::{effect, is_die};
 pub use decision::Decision;
@@ -28,3 +29,4 @@ pub use phase::Phase;
 pub use position::Position;
 pub use position_fault::PositionFault;
 pub use stake::Stake;
+pub use watched_board::WatchedBoard;

@@ -1,11 +1,13 @@
 //! Positions: boards seen from their players' side.
 #![tactic(auto, unfolding(crate::specs::PositionValue::position_value))]
 
-ghost use Rattle.std.specs.Prelude.{◌≡◌, ◌≤◌, ◌↔◌, ◌&&◌, IsOk, is_ok, IfOk, IsTrue, Err, codes, map, sum, slice_index};
+ghost use Rattle.std.specs.Prelude.{◌≡◌, ◌≤◌, ◌↔◌, ◌&&◌, ◌∷◌, [], IsOk, is_ok, IfOk, IsTrue, Err, codes, map, sum};
+ghost use Rattle.std.specs.Prelude.{slice_index};
 ghost use Rattle.std.specs.Result.{result_err};
 ghost use Rattle.fibs_boards.specs.StoredBoard.{fields_of};
-ghost use Rattle.fibs_position.specs.OwnView.{own_view};
+ghost use Rattle.fibs_position.specs.OwnView.{own_view, own_placed, other_placed};
 ghost use Rattle.fibs_position.specs.GoodBoard.{IsGood};
+ghost use Rattle.fibs_position.specs.declared.position_fault.PositionFault.TheVariants.{TooManyOwn, TooManyOther};
 
 use crate::cube::MOST_DOUBLED;
 use crate::decision::Decision;
@@ -44,7 +46,7 @@ pub struct Position {
 }
 
 /// The user plays in the board's game.
-fn is_you(board: &Board) -> bool
+pub(crate) fn is_you(board: &Board) -> bool
     ensures { IsTrue result ↔ ((fields_of board.now).player ≡ codes "You") }
 {
     board.player().bytes() == b"You".as_slice()
@@ -73,6 +75,16 @@ impl Position {
         if !is_you(board) {
             return Err(PositionFault::NotYou);
         }
+        Position::seen(board)
+    }
+
+    /// The position of a board, whoever its player is, or which side has too many checkers.
+    pub(crate) fn seen(board: &Board) -> Result<Position, PositionFault>
+        ensures few { let b = fields_of board.now in IsOk result ↔ (own_placed b ≤ 15) × (other_placed b ≤ 15) }
+        ensures same { IfOk result (λ p. position_value p ≡ position_of (fields_of board.now)) }
+        ensures fault { (f : PositionFault) → (result ≡ Err f)
+            ↔ IsFirst (HasFault (fields_of board.now)) (TooManyOwn ∷ TooManyOther ∷ []) f }
+    {
         let own = own_placed(board);
         if own.total > 15 {
             return Err(PositionFault::TooManyOwn);

@@ -15,11 +15,11 @@ abbrev pub BoardTest : Type 0
 BoardTest = (b : BoardFields) → (is_board b ≡ true) ↔ IsBoard b
 
 -- what a test of two numbers decides
-le_tells : (a b : ℕ) → nat_le a b ≡ true → a ≤ b
+pub le_tells : (a b : ℕ) → nat_le a b ≡ true → a ≤ b
 le_tells a b h = grind (arith, nat_tests)
 
 -- what makes it true
-le_from : (a b : ℕ) → a ≤ b → nat_le a b ≡ true
+pub le_from : (a b : ℕ) → a ≤ b → nat_le a b ≡ true
 le_from a b h = grind (arith, nat_tests)
 
 -- the two tests of numbers of checkers
