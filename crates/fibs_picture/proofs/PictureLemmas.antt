@@ -8,3 +8,5 @@ pub mod Notes
 pub mod Layers
 pub mod Told
 pub mod Fits
+pub mod Watched
+pub mod WatchedFits

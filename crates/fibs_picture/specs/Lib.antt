@@ -2,6 +2,8 @@ pub mod Cells
 pub mod Halves
 pub mod Lines
 pub mod Picture
+pub mod Watched
 pub mod Places
 pub mod Told
 pub mod Fits
+pub mod WatchedTold

@@ -6,6 +6,7 @@ use Rattle.fibs_position.specs.PositionValue.{PositionValue}
 use Rattle.fibs_picture.specs.Cells.{own_letter, other_letter}
 use Rattle.fibs_picture.specs.Picture.{edge, layer, middle, named, score, off, pips, own_pips, other_pips, dice}
 use Rattle.fibs_picture.specs.Picture.{match_length, cube, turn_words, deed_in}
+use Rattle.fibs_picture.specs.Watched.{watched_cube, watched_turn}
 use Rattle.fibs_picture.specs.declared.half.Half.TheVariants as half
 use Rattle.fibs_picture.specs.declared.lines.Drawn.{Drawn}
 use Rattle.fibs_picture.specs.declared.lines.Drawn.TheVariants as D
@@ -35,3 +36,5 @@ written_at b p W.Length = match_length (field_of b 4)
 written_at b p W.Cube = cube b
 written_at b p W.Turn = turn_words (turn b) (colour b)
 written_at b p W.Deed = deed_in p
+written_at b p W.WatchedCube = watched_cube b
+written_at b p W.WatchedTurn = watched_turn b

@@ -1,6 +1,7 @@
 //! Laws of pictures. Each is a promise; the functions do nothing else.
 ghost use Rattle.fibs_picture.specs.Fits.{PictureFits};
 ghost use Rattle.fibs_picture.specs.Told.{PictureTells};
+ghost use Rattle.fibs_picture.specs.WatchedTold.{WatchedPictureTells, WatchedPictureFits};
 
 use fibs_boards::laws::fields_have_their_ranges;
 
@@ -14,6 +15,20 @@ pub fn picture_tells()
 /// The picture of a board that has a position is fourteen lines of plain ASCII, of at most 79 columns.
 pub fn picture_fits()
     ensures { PictureFits }
+{
+    fields_have_their_ranges();
+}
+
+/// Watched boards with the same picture look the same (`SameToTheWatcher`).
+pub fn watched_picture_tells()
+    ensures { WatchedPictureTells }
+{
+    fields_have_their_ranges();
+}
+
+/// The picture of a watched board is thirteen lines of plain ASCII, of at most 79 columns.
+pub fn watched_picture_fits()
+    ensures { WatchedPictureFits }
 {
     fields_have_their_ranges();
 }

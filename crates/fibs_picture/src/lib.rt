@@ -7,6 +7,7 @@ mod half;
 pub mod laws;
 mod layers;
 mod lines;
+mod names;
 mod picture;
 pub mod pips;
 mod places;
@@ -14,7 +15,7 @@ mod words;
 pub mod writing;
 
 pub use cells::{MOST_SEEN, OWN_LETTER};
-pub use picture::{draw, draw_board};
+pub use picture::{draw, draw_board, draw_watched};
 pub use places::{
     BOARD_COLUMNS, CUBE_ROW, DEED_ROW, DICE_ROW, PICTURE_COLUMNS, TURN_ROW, height_at, place_at,
 };

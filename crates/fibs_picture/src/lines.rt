@@ -10,6 +10,7 @@ use crate::cells::{OTHER_LETTER, OWN_LETTER};
 use crate::fields::{is_one, number};
 use crate::half::Half;
 use crate::layers::{draw_edge, draw_layer};
+use crate::names::{write_watched_cube, write_watched_turn};
 use crate::pips::{other_pips, own_pips};
 use crate::words::{deed_in, doublers, turn_words, write_dice, write_name, write_words};
 use crate::writing::{write_digits, write_number, write_text};
@@ -56,6 +57,10 @@ pub enum Written {
     Turn,
     /// What can be done.
     Deed,
+    /// The cube of a board that the user watches.
+    WatchedCube,
+    /// Whose turn it is on it.
+    WatchedTurn,
 }
 
 /// Draws the left of a line.
@@ -124,6 +129,8 @@ fn write_beside<W: Write>(
         Written::Cube => write_cube(board, out),
         Written::Turn => write_words(turn_words(number(board, TURN), number(board, COLOUR)), out),
         Written::Deed => write_words(deed_in(position), out),
+        Written::WatchedCube => write_watched_cube(board, out),
+        Written::WatchedTurn => write_watched_turn(board, out),
     }
 }
 

@@ -5,13 +5,15 @@ ghost use Rattle.std.specs.Io.KnownBytes.{Appends};
 ghost use Rattle.fibs_boards.specs.StoredBoard.{fields_of};
 ghost use Rattle.fibs_position.specs.GameOf.{game_of};
 ghost use Rattle.fibs_position.specs.PositionValue.{position_value};
-ghost use Rattle.fibs_picture.specs.Halves.{opponent_lines};
+ghost use Rattle.fibs_position.specs.WatchedOf.{watched_of};
+ghost use Rattle.fibs_picture.specs.Halves.{opponent_lines, lines_below_turn};
 ghost use Rattle.fibs_picture.specs.Picture.{line, upper_lines, player_lines, board_picture, picture};
+ghost use Rattle.fibs_picture.specs.Watched.{watched_lines, watched_picture};
 
 use crate::half::Half;
 use crate::lines::{Drawn, Written, draw_line};
 use fibs_boards::board::Board;
-use fibs_position::{GameBoard, Position};
+use fibs_position::{GameBoard, Position, WatchedBoard};
 use std::io;
 use std::io::Write;
 
@@ -53,13 +55,12 @@ fn draw_upper<W: Write>(board: &Board, position: &Position, out: &mut W) -> io::
     draw_line(board, position, Drawn::Layer(half, 5), Written::Length, out)
 }
 
-/// The lines of the player, down to the lower edge.
-fn draw_lower<W: Write>(board: &Board, position: &Position, out: &mut W) -> io::Result<()>
+/// The lines of the player below the one that says whose turn it is, down to the lower edge.
+fn draw_below_turn<W: Write>(board: &Board, position: &Position, out: &mut W) -> io::Result<()>
     ensures { OnOk result (Appends (W.contents out.old) (W.contents out.new)
-        (flat_map line (player_lines (fields_of board.now) (position_value position.now)))) }
+        (flat_map line (lines_below_turn (fields_of board.now) (position_value position.now)))) }
 {
     let half = Half::Lower;
-    draw_line(board, position, Drawn::Layer(half, 5), Written::Turn, out)?;
     draw_line(
         board,
         position,
@@ -89,6 +90,16 @@ fn draw_lower<W: Write>(board: &Board, position: &Position, out: &mut W) -> io::
         out,
     )?;
     draw_line(board, position, Drawn::Edge(half), Written::Name(half), out)
+}
+
+/// The lines of the player, down to the lower edge.
+fn draw_lower<W: Write>(board: &Board, position: &Position, out: &mut W) -> io::Result<()>
+    ensures { OnOk result (Appends (W.contents out.old) (W.contents out.new)
+        (flat_map line (player_lines (fields_of board.now) (position_value position.now)))) }
+{
+    let turn = Drawn::Layer(Half::Lower, 5);
+    draw_line(board, position, turn, Written::Turn, out)?;
+    draw_below_turn(board, position, out)
 }
 
 /// What is drawn of a board whose position is this, without what can be done.
@@ -123,4 +134,27 @@ pub fn draw<W: Write>(game: &GameBoard, out: &mut W) -> io::Result<()>
     let board = game.board();
     let position = game.position();
     draw_line(board, position, Drawn::Margin, Written::Deed, out)
+}
+
+/// What is drawn of a watched board whose position is this.
+#[tactic(auto, unfolding(crate::specs::Watched::watched_lines))]
+fn draw_watched_lines<W: Write>(board: &Board, position: &Position, out: &mut W) -> io::Result<()>
+    ensures { OnOk result (Appends (W.contents out.old) (W.contents out.new)
+        (flat_map line (watched_lines (fields_of board.now) (position_value position.now)))) }
+{
+    let turn = Drawn::Layer(Half::Lower, 5);
+    draw_upper(board, position, out)?;
+    draw_line(board, position, Drawn::Middle, Written::WatchedCube, out)?;
+    draw_line(board, position, turn, Written::WatchedTurn, out)?;
+    draw_below_turn(board, position, out)
+}
+
+/// Draws a board that the user watches: 13 lines of plain ASCII, of at most 79 columns.
+///
+/// Errors: those of the writer.
+pub fn draw_watched<W: Write>(watched: &WatchedBoard, out: &mut W) -> io::Result<()>
+    ensures { OnOk result (Appends (W.contents out.old) (W.contents out.new)
+        (watched_picture (watched_of watched.now))) }
+{
+    draw_watched_lines(watched.board(), watched.position(), out)
 }

@@ -15,6 +15,9 @@ pub const FREE_CUBE: &[u8] = b", in the middle";
 
 pub const OPPONENTS_CUBE: &[u8] = b", the opponent's";
 
+/// What is said of a cube that nobody may turn.
+pub const NO_DOUBLING: &[u8] = b", no doubling";
+
 /// What is said if the opponent has the turn.
 pub const OPPONENTS_TURN: &[u8] = b"the opponent's turn";
 
@@ -73,7 +76,7 @@ pub fn doublers(own: bool, other: bool) -> &'static [u8]
         (true, true) => FREE_CUBE,
         (true, false) => b", yours",
         (false, true) => OPPONENTS_CUBE,
-        (false, false) => b", no doubling",
+        (false, false) => NO_DOUBLING,
     }
 }
 

@@ -43,11 +43,11 @@ use Rattle.fibs_picture.proofs.PictureLemmas.Told.{ranges-of, own-few, other-few
 -- ---- printed text
 
 -- each byte is printed text
-abbrev printed : List ℕ → Bool
+abbrev pub printed : List ℕ → Bool
 printed text = list_all (is_in_range 32 126) text
 
 -- two printed texts in a row are printed
-printed-append : (xs ys : List ℕ) → printed xs ≡ true → printed ys ≡ true → printed (xs ++ ys) ≡ true
+pub printed-append : (xs ys : List ℕ) → printed xs ≡ true → printed ys ≡ true → printed (xs ++ ys) ≡ true
 printed-append xs ys h k = rw (list_all-append (is_in_range 32 126) xs ys, h, k) refl
 
 -- a choice of two printed texts is printed
@@ -62,7 +62,7 @@ printed-flat_map f h [] = refl
 printed-flat_map f h (n ∷ ns) = printed-append (f n) (flat_map f ns) (h n) (printed-flat_map f h ns)
 
 -- a front of a printed text is printed
-printed-take : (n : ℕ) (xs : List ℕ) → printed xs ≡ true → printed (take n xs) ≡ true
+pub printed-take : (n : ℕ) (xs : List ℕ) → printed xs ≡ true → printed (take n xs) ≡ true
 printed-take zero xs h = refl
 printed-take (suc n) [] h = refl
 printed-take (suc n) (x ∷ xs) h =
@@ -99,9 +99,9 @@ stack-printed own other height h k = printed-cond (own == 0) _ _
     (level-printed other_letter other height refl k) (level-printed own_letter own height refl h)
 
 -- no place holds more checkers than two digits can say
-record IsFew (c : Checkers) : Type 0 where
-  own : (k : ℕ) → slice_index c.own k < 100
-  other : (k : ℕ) → slice_index c.other k < 100
+pub record IsFew (c : Checkers) : Type 0 where
+  pub own : (k : ℕ) → slice_index c.own k < 100
+  pub other : (k : ℕ) → slice_index c.other k < 100
 
 -- what is drawn of some places at a height is printed
 stacks-printed : (c : Checkers) (height : ℕ) → IsFew c → (places : List ℕ) → printed (stacks c height places) ≡ true
@@ -169,11 +169,11 @@ edge-printed p h = numbered-printed (labels p.direction (six h (left_first h)))
 -- ---- what is said
 
 -- beside 47 bytes that are drawn there is room for 32 more
-abbrev IsBrief : List ℕ → Type 0
+abbrev pub IsBrief : List ℕ → Type 0
 IsBrief text = (length text ≤ 32) × (printed text ≡ true)
 
 -- a number is printed
-decimal-printed : (n : ℕ) → n < 2 ^ 64 → printed (decimal n) ≡ true
+pub decimal-printed : (n : ℕ) → n < 2 ^ 64 → printed (decimal n) ≡ true
 decimal-printed n h = decimal_by_steps (λ n ds. printed ds ≡ true)
     (λ n k. rw (digit-printed n k) refl)
     (λ n ds k e. printed-append ds ((48 + n % 10) ∷ []) e (rw (digit-printed (n % 10) (omega arith)) refl))
@@ -187,17 +187,17 @@ labelled-brief label n short h few =
     (omega (arith, length-append label (decimal n)), printed-append label (decimal n) h (decimal-printed n few))
 
 -- a label of nine bytes at most with a number is brief
-number-brief : (label : List ℕ) (m : ℕ) (z : ℤ) → length label ≤ 9 → printed label ≡ true → m < 2 ^ 32 → Within m z
+pub number-brief : (label : List ℕ) (m : ℕ) (z : ℤ) → length label ≤ 9 → printed label ≡ true → m < 2 ^ 32 → Within m z
     → IsBrief (label ++ signed_decimal z)
 number-brief label m (pos n) short h few within = labelled-brief label n short h (omega (arith, ints, within.1))
 number-brief label m (negsuc n) short h few within = absurd (omega (arith, ints, within.0))
 
 -- a byte of a name is printed
-name-byte-printed : (x : ℕ) → is_name_byte x ≡ true → is_in_range 32 126 x ≡ true
+pub name-byte-printed : (x : ℕ) → is_name_byte x ≡ true → is_in_range 32 126 x ≡ true
 name-byte-printed x h = grind (arith, nat_tests)
 
 -- a letter and a name are brief
-named-brief : (letter : ℕ) (name : List ℕ) → is_in_range 32 126 letter ≡ true → is_name name ≡ true
+pub named-brief : (letter : ℕ) (name : List ℕ) → is_in_range 32 126 letter ≡ true → is_name name ≡ true
     → IsBrief (named letter name)
 unfolding named
 named-brief letter name h k =
@@ -218,7 +218,7 @@ natural-few (pos n) h = omega (arith, ints, h.1)
 natural-few (negsuc n) h = lit< tt
 
 -- the dice of a board are brief
-dice-brief : (y z : ℤ) → Within 6 y → Within 6 z → IsBrief (dice y z)
+pub dice-brief : (y z : ℤ) → Within 6 y → Within 6 z → IsBrief (dice y z)
 dice-brief y z h k = two_dice-brief ((natural y == 0) && (natural z == 0)) (natural y) (natural z) (natural-few y h)
     (natural-few z k)
 
@@ -229,7 +229,7 @@ match_text-brief true z h = (lit≤ tt, refl)
 match_text-brief false z h = number-brief (codes "match to ") 9999 z (lit≤ tt) refl (lit< tt) h
 
 -- the length of a board's match is brief
-match-brief : (z : ℤ) → Within 9999 z → IsBrief (match_length z)
+pub match-brief : (z : ℤ) → Within 9999 z → IsBrief (match_length z)
 match-brief z h = match_text-brief (int_eq z (pos 9999)) z h
 
 -- who may double is told in 16 bytes at most
@@ -269,17 +269,17 @@ turn_words-brief : (t c : ℤ) → IsBrief (turn_words t c)
 turn_words-brief t c = turn_text-brief (int_eq t (pos 0)) (int_eq t c)
 
 -- a score is brief
-score-brief : (z : ℤ) → Within 99999999 z → IsBrief (score z)
+pub score-brief : (z : ℤ) → Within 99999999 z → IsBrief (score z)
 unfolding score
 score-brief z h = number-brief (codes "  score ") 99999999 z (lit≤ tt) refl (lit< tt) h
 
 -- how many checkers are off is brief
-off-brief : (z : ℤ) → Within 15 z → IsBrief (off z)
+pub off-brief : (z : ℤ) → Within 15 z → IsBrief (off z)
 unfolding off
 off-brief z h = number-brief (codes "  off   ") 15 z (lit≤ tt) refl (lit< tt) h
 
 -- how far the checkers have to go is brief
-pips-brief : (n : ℕ) → n < 2 ^ 64 → IsBrief (pips n)
+pub pips-brief : (n : ℕ) → n < 2 ^ 64 → IsBrief (pips n)
 pips-brief n h = labelled-brief (codes "  pips  ") n (lit≤ tt) refl h
 
 -- what can be done fits a line
@@ -301,21 +301,21 @@ deed_in-fits p = deed-fits (phase_in p) (may p accept) (may p double)
 -- ---- the lines
 
 -- 47 printed bytes with a brief text beside them fit a line
-beside : (a b : List ℕ) → length a ≡ 47 → printed a ≡ true → IsBrief b → Fits (a ++ b)
+pub beside : (a b : List ℕ) → length a ≡ 47 → printed a ≡ true → IsBrief b → Fits (a ++ b)
 beside a b wide h brief = (omega (arith, length-append a b, brief.0), printed-append a b h brief.1)
 
 -- an edge with a brief text beside it fits a line
-at-edge : (p : PositionValue) (h : Half) (note : List ℕ) → IsBrief note → Fits (edge p h ++ note)
+pub at-edge : (p : PositionValue) (h : Half) (note : List ℕ) → IsBrief note → Fits (edge p h ++ note)
 at-edge p h note brief = beside (edge p h) note (length-edge p h) (edge-printed p h) brief
 
 -- a height of a half with a brief text beside it fits a line
-at-layer : (p : PositionValue) (h : Half) (height : ℕ) (note : List ℕ) → IsFew p.standing.checkers → IsBrief note
+pub at-layer : (p : PositionValue) (h : Half) (height : ℕ) (note : List ℕ) → IsFew p.standing.checkers → IsBrief note
     → Fits (layer p h height ++ note)
 at-layer p h height note few brief =
     beside (layer p h height) note (length-layer p h height) (layer-printed p h height few) brief
 
 -- what is drawn and what is said, side by side
-abbrev joined : List (List ℕ × List ℕ) → List (List ℕ)
+abbrev pub joined : List (List ℕ × List ℕ) → List (List ℕ)
 joined lines = map (λ s. s.0 ++ s.1) lines
 
 -- no place of a good board has more than 15 checkers
@@ -390,7 +390,7 @@ unfolding line
 line-ended s = sym (append_assoc s.0 s.1 (10 ∷ []))
 
 -- so are all lines
-lines-ended : (lines : List (List ℕ × List ℕ)) → flat_map line lines ≡ flat_map ended (joined lines)
+pub lines-ended : (lines : List (List ℕ × List ℕ)) → flat_map line lines ≡ flat_map ended (joined lines)
 lines-ended [] = refl
 lines-ended (s ∷ lines) = rw (line-ended s, lines-ended lines) refl
 

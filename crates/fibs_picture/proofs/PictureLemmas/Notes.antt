@@ -70,7 +70,7 @@ number-lacks c m (negsuc n) low few h = absurd (omega (arith, ints, h.0))
 -- ---- words
 
 -- a byte of a name is no line end
-name-byte : (x : ℕ) → is_name_byte x ≡ true → not (x == 10) ≡ true
+pub name-byte : (x : ℕ) → is_name_byte x ≡ true → not (x == 10) ≡ true
 name-byte x h = grind (arith, nat_tests)
 
 -- what follows from a test of each element holds of each
@@ -82,7 +82,7 @@ all-mono p q f (x ∷ xs) h =
     rw (f x parts.0) (all-mono p q f xs parts.1)
 
 -- a front of a text without a line end has none
-take-lacks : (n : ℕ) (xs : List ℕ) → lacks 10 xs ≡ true → lacks 10 (take n xs) ≡ true
+pub take-lacks : (n : ℕ) (xs : List ℕ) → lacks 10 xs ≡ true → lacks 10 (take n xs) ≡ true
 take-lacks zero xs h = refl
 take-lacks (suc n) [] h = refl
 take-lacks (suc n) (x ∷ xs) h =
@@ -104,7 +104,7 @@ unfolding named
 named-tells letter a b e = cc
 
 -- whose turn it is
-abbrev whose : Bool → Bool → Whose
+abbrev pub whose : Bool → Bool → Whose
 whose none own = cond none nobodys (cond own the_players the_opponents)
 
 -- whose turn it is, in words

@@ -111,14 +111,14 @@ lower-right-sided r b board = let at = sided-at r b board in
     (at 6 (lit≤ tt), (at 5 (lit≤ tt), (at 4 (lit≤ tt), (at 3 (lit≤ tt), (at 2 (lit≤ tt), (at 1 (lit≤ tt), tt))))))
 
 -- what two boards have to agree in, for their arrangements to be one
-record SamePlaces (a b : BoardFields) : Type 0 where
-  upper_left : AllOf (Same (own_view a) (own_view b)) (six half.Upper 13)
-  upper_right : AllOf (Same (own_view a) (own_view b)) (six half.Upper 19)
-  lower_left : AllOf (Same (own_view a) (own_view b)) (six half.Lower 12)
-  lower_right : AllOf (Same (own_view a) (own_view b)) (six half.Lower 6)
+pub record SamePlaces (a b : BoardFields) : Type 0 where
+  pub upper_left : AllOf (Same (own_view a) (own_view b)) (six half.Upper 13)
+  pub upper_right : AllOf (Same (own_view a) (own_view b)) (six half.Upper 19)
+  pub lower_left : AllOf (Same (own_view a) (own_view b)) (six half.Lower 12)
+  pub lower_right : AllOf (Same (own_view a) (own_view b)) (six half.Lower 6)
 
 -- boards whose halves look the same have the same checkers on each six places
-same-places : FieldRanges → (a b : BoardFields) → IsBoard a → IsBoard b
+pub same-places : FieldRanges → (a b : BoardFields) → IsBoard a → IsBoard b
     → SameHalf (own_view a) (own_view b) half.Upper → SameHalf (own_view a) (own_view b) half.Lower → SamePlaces a b
 same-places r a b h k u l = record {
   upper_left = left-tells (own_view a) (own_view b) half.Upper (upper-left-sided r a h) (upper-left-sided r b k) u;
@@ -198,12 +198,12 @@ other-in-order a b s =
     (seconds own other (six half.Upper 13) s.upper_left) (seconds own other (six half.Upper 19) s.upper_right)
 
 -- the player's checkers are the same on each place
-own-places-same : (a b : BoardFields) → SamePlaces a b → own_on_places a ≡ own_on_places b
+pub own-places-same : (a b : BoardFields) → SamePlaces a b → own_on_places a ≡ own_on_places b
 unfolding own_view places in-order
 own-places-same a b s = own-in-order a b s
 
 -- and the opponent's
-other-places-same : (a b : BoardFields) → SamePlaces a b → other_on_places a ≡ other_on_places b
+pub other-places-same : (a b : BoardFields) → SamePlaces a b → other_on_places a ≡ other_on_places b
 unfolding own_view places in-order
 other-places-same a b s = other-in-order a b s
 
@@ -220,7 +220,7 @@ view-eq : (p p' q q' : List ℕ) (m m' n n' : ℕ) → p ≡ p' → q ≡ q' →
 view-eq p p' q q' m m' n n' a b c d = rw (a, b, c, d) refl
 
 -- so boards with the same checkers on their places and off are seen alike
-view-same : (a b : BoardFields) → own_on_places a ≡ own_on_places b → other_on_places a ≡ other_on_places b
+pub view-same : (a b : BoardFields) → own_on_places a ≡ own_on_places b → other_on_places a ≡ other_on_places b
     → own_off a ≡ own_off b → other_off a ≡ other_off b → own_view a ≡ own_view b
 unfolding own_view
 view-same a b p q r s = view-eq (own_on_places a) (own_on_places b) (other_on_places a) (other_on_places b)
@@ -292,27 +292,27 @@ other-pips-few b h =
     omega (arith, few)
 
 -- how far the checkers have to go has no line end
-pips-lacks : (n : ℕ) → n < 2 ^ 64 → lacks 10 (pips n) ≡ true
+pub pips-lacks : (n : ℕ) → n < 2 ^ 64 → lacks 10 (pips n) ≡ true
 pips-lacks n h = lacks-append 10 (codes "  pips  ") (decimal n) refl (decimal-lacks 10 n (lit< tt) h)
 
 -- a score has no line end
-score-lacks : (z : ℤ) → Within 99999999 z → lacks 10 (score z) ≡ true
+pub score-lacks : (z : ℤ) → Within 99999999 z → lacks 10 (score z) ≡ true
 unfolding score
 score-lacks z h = lacks-append 10 (codes "  score ") (signed_decimal z) refl
     (number-lacks 10 99999999 z (lit< tt) (lit< tt) h)
 
 -- how many checkers are off has no line end
-off-lacks : (z : ℤ) → Within 15 z → lacks 10 (off z) ≡ true
+pub off-lacks : (z : ℤ) → Within 15 z → lacks 10 (off z) ≡ true
 unfolding off
 off-lacks z h = lacks-append 10 (codes "  off   ") (signed_decimal z) refl (number-lacks 10 15 z (lit< tt) (lit< tt) h)
 
 -- equal words are of the same score
-score-tells : (y z : ℤ) → Within 99999999 y → Within 99999999 z → score y ≡ score z → y ≡ z
+pub score-tells : (y z : ℤ) → Within 99999999 y → Within 99999999 z → score y ≡ score z → y ≡ z
 unfolding score
 score-tells y z h k e = number-tells 99999999 y z (lit< tt) h k (append_cancel_left (codes "  score ") _ _ e)
 
 -- equal words are of as many checkers off
-off-tells : (y z : ℤ) → Within 15 y → Within 15 z → off y ≡ off z → y ≡ z
+pub off-tells : (y z : ℤ) → Within 15 y → Within 15 z → off y ≡ off z → y ≡ z
 unfolding off
 off-tells y z h k e = number-tells 15 y z (lit< tt) h k (append_cancel_left (codes "  off   ") _ _ e)
 
@@ -347,11 +347,11 @@ ended f b good = let r = ranges-of f b good.board in record {
 -- ---- equal pictures have equal lines
 
 -- heights of a half are equally wide on all boards
-layers-wide : (p q : PositionValue) (h : Half) (height : ℕ) → length (layer p h height) ≡ length (layer q h height)
+pub layers-wide : (p q : PositionValue) (h : Half) (height : ℕ) → length (layer p h height) ≡ length (layer q h height)
 layers-wide p q h height = length-layer p h height ∙ sym (length-layer q h height)
 
 -- edges are equally wide on all boards
-edges-wide : (p q : PositionValue) (h : Half) → length (edge p h) ≡ length (edge q h)
+pub edges-wide : (p q : PositionValue) (h : Half) → length (edge p h) ≡ length (edge q h)
 edges-wide p q h = length-edge p h ∙ sym (length-edge q h)
 
 -- upper lines are cut at the same columns on all boards
@@ -448,7 +448,7 @@ same-lines a b s t e =
     record { upper = u.0; lower = l.0 }
 
 -- a line of a list
-abbrev line_at : List (List ℕ × List ℕ) → ℕ → List ℕ × List ℕ
+abbrev pub line_at : List (List ℕ × List ℕ) → ℕ → List ℕ × List ℕ
 line_at lines k = slice_index_or lines k ([], [])
 
 record SameUpper (a b : BoardFields) : Type 0 where
@@ -510,11 +510,12 @@ same-lower a b e = let p = position_of a in let q = position_of b in record {
 -- ---- what a picture determines
 
 -- lists of two are the same if their parts are
-pair-same : (w x y z : ℤ) → w ≡ y → x ≡ z → w ∷ x ∷ [] ≡ y ∷ z ∷ []
+pub pair-same : (w x y z : ℤ) → w ≡ y → x ≡ z → w ∷ x ∷ [] ≡ y ∷ z ∷ []
 pair-same w x y z e f = cc
 
 -- lists of four are the same if their parts are
-four-same : (a b c d a' b' c' d' : ℤ) → a ≡ a' → b ≡ b' → c ≡ c' → d ≡ d' → a ∷ b ∷ c ∷ d ∷ [] ≡ a' ∷ b' ∷ c' ∷ d' ∷ []
+pub four-same : (a b c d a' b' c' d' : ℤ) → a ≡ a' → b ≡ b' → c ≡ c' → d ≡ d'
+    → a ∷ b ∷ c ∷ d ∷ [] ≡ a' ∷ b' ∷ c' ∷ d' ∷ []
 four-same a b c d a' b' c' d' e f g h = cc
 
 -- boards with the same parts are the same to the eye
