@@ -3,3 +3,5 @@ pub mod Growing
 pub mod Rows
 pub mod Places
 pub mod Tells
+pub mod Named
+pub mod Watched

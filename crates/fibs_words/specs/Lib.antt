@@ -1,2 +1,4 @@
 pub mod Words
 pub mod Told
+pub mod Watched
+pub mod WatchedTold

@@ -13,7 +13,7 @@ use std::io;
 use std::io::Write;
 
 /// Whether no dice are shown.
-fn is_none(first: u8, second: u8) -> bool
+pub(crate) fn is_none(first: u8, second: u8) -> bool
     ensures { result ≡ ((first == 0) && (second == 0)) }
 {
     first == 0 && second == 0
@@ -21,7 +21,7 @@ fn is_none(first: u8, second: u8) -> bool
 
 /// Writes two dice.
 #[tactic(auto, unfolding(crate::specs::Words::pair))]
-fn write_pair<W: Write>(first: u8, second: u8, out: &mut W) -> io::Result<()>
+pub(crate) fn write_pair<W: Write>(first: u8, second: u8, out: &mut W) -> io::Result<()>
     requires first { first ≤ 6 }
     requires second { second ≤ 6 }
     ensures { OnOk result (Appends (W.contents out.old) (W.contents out.new) (pair first second)) }

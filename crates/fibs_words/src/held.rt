@@ -54,7 +54,7 @@ fn write_held<W: Write>(position: &Position, out: &mut W) -> io::Result<u8>
 }
 
 /// Writes the numbers of the places that are held, or that there are none.
-fn write_numbers<W: Write>(position: &Position, out: &mut W) -> io::Result<()>
+pub(crate) fn write_numbers<W: Write>(position: &Position, out: &mut W) -> io::Result<()>
     ensures { let p = position_value position.now in OnOk result (Appends (W.contents out.old) (W.contents out.new)
         (numbers p.direction (held p.standing.checkers 24))) }
 {

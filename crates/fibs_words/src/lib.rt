@@ -5,10 +5,13 @@ mod dice;
 mod game;
 mod held;
 pub mod laws;
+mod named;
 mod place;
 mod side;
 mod stacks;
+mod watched;
 mod words;
 
 pub use side::Side;
+pub use watched::tell_watched;
 pub use words::tell;

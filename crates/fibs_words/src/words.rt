@@ -69,7 +69,7 @@ fn tell_game<W: Write>(board: &Board, position: &Position, out: &mut W) -> io::R
 }
 
 /// A side's row, with its end.
-fn tell_side<W: Write>(
+pub(crate) fn tell_side<W: Write>(
     name: &[u8],
     pips: u32,
     position: &Position,

@@ -108,7 +108,7 @@ turn_row-tells w v p q e =
 -- ---- the dice
 
 -- a digit is no line end
-digit-plain : (n : ℕ) → not ((48 + n) == 10) ≡ true
+pub digit-plain : (n : ℕ) → not ((48 + n) == 10) ≡ true
 digit-plain n = grind (arith, nat_tests)
 
 -- what is told of the dice, by whether they are shown
@@ -141,7 +141,7 @@ other_read i j text = cond (slice_index_or text 0 0 == 84) (slice_index_or text 
     (cond (slice_index_or text 0 0 == 89) (slice_index_or text j 48 - 48) 0)
 
 -- a number that is found to be 0 is 0
-is-zero : (n : ℕ) → (n == 0) ≡ true → n ≡ 0
+pub is-zero : (n : ℕ) → (n == 0) ≡ true → n ≡ 0
 is-zero n h = grind (arith, nat_tests)
 
 -- a digit's byte less that of 0 is the digit

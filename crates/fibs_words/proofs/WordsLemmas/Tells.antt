@@ -48,7 +48,7 @@ take-all p (suc n) (x ∷ xs) h =
     rw parts.0 (take-all p n xs parts.1)
 
 -- a name has no space
-name-lacks : (name : List ℕ) → is_name name ≡ true → lacks 32 (take 30 name) ≡ true
+pub name-lacks : (name : List ℕ) → is_name name ≡ true → lacks 32 (take 30 name) ≡ true
 name-lacks name h =
     let size = nat_lt 0 (length name) && nat_le (length name) 64 in
     let bytes = (and_parts size (list_all is_name_byte name) h).1 in
@@ -93,7 +93,7 @@ same-parts a b r s e =
     record { game = t.0; checkers = t.1 }
 
 -- the row at a place
-abbrev row_at : List (List ℕ) → ℕ → List ℕ
+abbrev pub row_at : List (List ℕ) → ℕ → List ℕ
 row_at rows k = slice_index_or rows k []
 
 -- the row of a board's dice
@@ -124,14 +124,14 @@ same-game a b e = record {
 -- ---- the rows on the checkers
 
 -- three rows, each with its end, in a row
-three-rows : (x y z : List ℕ)
+pub three-rows : (x y z : List ℕ)
     → flat_map ended (x ∷ y ∷ z ∷ []) ≡ x ++ (10 ∷ (y ++ (10 ∷ (ended z ++ []))))
 three-rows x y z =
     append_assoc x (10 ∷ []) (ended y ++ (ended z ++ []))
     ∙ ap (λ t. x ++ (10 ∷ t)) (append_assoc y (10 ∷ []) (ended z ++ []))
 
 -- the checkers of a board, as its player sees them
-abbrev checkers : BoardFields → Checkers
+abbrev pub checkers : BoardFields → Checkers
 checkers b = (position_of b).standing.checkers
 
 -- the row of the player's checkers
@@ -162,13 +162,13 @@ own-counts-few b good k = let few = own-few b good.own (25 - k) in omega (arith,
 other-counts-few : (b : BoardFields) → IsGood b → Few (count_on (checkers b) side.Other)
 other-counts-few b good k = let few = other-few b good.other k in omega (arith, few)
 
-record SameCheckers (a b : BoardFields) : Type 0 where
-  own : (k : ℕ) → k ≤ 25 → count_on (checkers a) side.Own k ≡ count_on (checkers b) side.Own k
-  other : (k : ℕ) → k ≤ 25 → count_on (checkers a) side.Other k ≡ count_on (checkers b) side.Other k
-  opponent : take 30 a.opponent ≡ take 30 b.opponent
+pub record SameCheckers (a b : BoardFields) : Type 0 where
+  pub own : (k : ℕ) → k ≤ 25 → count_on (checkers a) side.Own k ≡ count_on (checkers b) side.Own k
+  pub other : (k : ℕ) → k ≤ 25 → count_on (checkers a) side.Other k ≡ count_on (checkers b) side.Other k
+  pub opponent : take 30 a.opponent ≡ take 30 b.opponent
 
 -- what follows equal line ends is the same
-tail-same : (s t : List ℕ) → 10 ∷ s ≡ 10 ∷ t → s ≡ t
+pub tail-same : (s t : List ℕ) → 10 ∷ s ≡ 10 ∷ t → s ≡ t
 tail-same s t e = cc
 
 -- boards of one direction with the same rows of the checkers have the same counts
@@ -225,7 +225,7 @@ arranged-same : (p p' q q' : List ℕ) → p ≡ p' → q ≡ q' → arranged p 
 arranged-same p p' q q' e f = rw (e, f) refl
 
 -- so boards with the same counts are seen alike
-view-same : (a b : BoardFields) → SameCheckers a b → own_view a ≡ own_view b
+pub view-same : (a b : BoardFields) → SameCheckers a b → own_view a ≡ own_view b
 unfolding own_view
 view-same a b s = arranged-same (own_view a).own (own_view b).own (own_view a).other (own_view b).other
     (own-same a b s) (other-same a b s)
@@ -233,17 +233,18 @@ view-same a b s = arranged-same (own_view a).own (own_view b).own (own_view a).o
 -- ---- what words determine
 
 -- dice with the same number are the same
-natural-same : (y z : ℤ) → Within 6 y → Within 6 z → natural y ≡ natural z → y ≡ z
+pub natural-same : (y z : ℤ) → Within 6 y → Within 6 z → natural y ≡ natural z → y ≡ z
 natural-same (pos m) (pos n) h k e = ap pos e
 natural-same (negsuc m) z h k e = absurd (omega (arith, ints, h.0))
 natural-same (pos m) (negsuc n) h k e = absurd (omega (arith, ints, k.0))
 
 -- lists of two are the same if their parts are
-pair-same : (w x y z : ℤ) → w ≡ y → x ≡ z → w ∷ x ∷ [] ≡ y ∷ z ∷ []
+pub pair-same : (w x y z : ℤ) → w ≡ y → x ≡ z → w ∷ x ∷ [] ≡ y ∷ z ∷ []
 pair-same w x y z e f = cc
 
 -- lists of four are the same if their parts are
-four-same : (a b c d a' b' c' d' : ℤ) → a ≡ a' → b ≡ b' → c ≡ c' → d ≡ d' → a ∷ b ∷ c ∷ d ∷ [] ≡ a' ∷ b' ∷ c' ∷ d' ∷ []
+pub four-same : (a b c d a' b' c' d' : ℤ) → a ≡ a' → b ≡ b' → c ≡ c' → d ≡ d'
+    → a ∷ b ∷ c ∷ d ∷ [] ≡ a' ∷ b' ∷ c' ∷ d' ∷ []
 four-same a b c d a' b' c' d' e f g h = cc
 
 -- boards with the same game and the same checkers are the same to the eye
