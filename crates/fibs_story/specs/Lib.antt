@@ -1,0 +1,2 @@
+pub mod Mirrored
+pub mod Played
