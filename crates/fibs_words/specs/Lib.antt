@@ -1,4 +1,5 @@
-pub mod Words
+pub mod Titles
 pub mod Told
 pub mod Watched
 pub mod WatchedTold
+pub mod Words

@@ -9,9 +9,11 @@ mod named;
 mod place;
 mod side;
 mod stacks;
+mod title;
 mod watched;
 mod words;
 
 pub use side::Side;
+pub use title::write_title;
 pub use watched::tell_watched;
 pub use words::tell;
