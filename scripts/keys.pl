@@ -1,5 +1,6 @@
 #!/usr/bin/perl
-# A filter of rlwrap for fibs-play: Ctrl-C cancels what is typed; pressed twice if nothing is, it leaves.
+# A filter of rlwrap for fibs-play: Ctrl-C cancels what is typed; pressed twice if nothing is, it leaves. If the window
+# has another width, the program is told before the next line.
 use strict;
 use lib ($ENV{RLWRAP_FILTERDIR} or '.');
 use RlwrapFilter;
@@ -17,8 +18,24 @@ sub cancels {
     return ('Ctrl-C again leaves', '', '', @history);
 }
 
+# How wide the window is; 0 if that is not known.
+sub columns {
+    return qx(stty size < /dev/tty 2> /dev/null) =~ /^\d+ (\d+)$/ ? $1 : 0;
+}
+
+my $columns = columns();
+
+# The line that was typed, after the new width, if it is one that the program takes.
+sub with_width {
+    my $now = columns();
+    return $_[0] if $now == $columns;
+    $columns = $now;
+    return $now < 20 || $now > 999 ? $_[0] : "columns $now\n$_[0]";
+}
+
 my $filter = RlwrapFilter->new;
 $filter->help_text("Ctrl-C cancels the line, for fibs-play.\n");
+$filter->input_handler(\&with_width);
 $filter->hotkey_handler(\&cancels);
 # a line was typed
 $filter->history_handler(sub { $pressed = 0; $_ });

@@ -20,6 +20,7 @@ import game
 import hints
 import logs
 import offers
+import partners
 import play
 import refusals
 import resuming
@@ -42,7 +43,7 @@ def tried(scene):
 def main():
     words = sys.argv[2:]
     beside = (offers.SCENES + resuming.SCENES + refusals.SCENES + hints.SCENES + play.SCENES + logs.SCENES
-              + game.SCENES + company.SCENES + spoken.SCENES + babble.SCENES + whole.SCENES)
+              + game.SCENES + company.SCENES + partners.SCENES + spoken.SCENES + babble.SCENES + whole.SCENES)
     alone = escapes.SCENES + costs.SCENES
     chosen = [[scene for scene in scenes if not words or any(word in scene.__name__ for word in words)]
               for scenes in (beside, alone)]

@@ -192,8 +192,8 @@ def own_settings_are_taken_and_what_is_none_is_said():
         pathlib.Path(path).write_bytes(SETTINGS)
         server = Server()
         ann = Person(server.port, FIBS_CONFIG=path, FIBS_QUIET='')
-        ann.reads('fibs: line 7 of the settings is not one: dance with me, and with every')
-        ann.reads('fibs: line 9 of the settings is not one: gag not a name')
+        ann.reads('fibs: line 7 of %s is no setting: dance with me' % path)
+        ann.reads('fibs: line 9 of %s is no setting: gag not a name' % path)
         server.accept()
         server.line()
         server.send(WELCOME, OWN_INFO % 'ann', '13 bob a shout', '12 dirk psst', '12 eve a word', BOARD)
@@ -225,7 +225,7 @@ def settings_of_any_bytes_do_no_harm():
             seen = set(bytes(ann.seen)) - set(range(32, 127)) - {10, 13}
             same('bytes that a terminal obeys', sorted(seen), [])
             if content is None or len(content) > 1 << 16:
-                same('unread', "fibs: the settings can't be read" in ann.lines(), True)
+                same('unread', "fibs: the settings of %s can't be read" % path in ' '.join(ann.lines()), True)
             ann.close()
             server.close()
 

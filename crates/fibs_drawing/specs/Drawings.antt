@@ -1,5 +1,5 @@
 -- What a terminal draws, or tells, for a board that has a position (the project's own).
-use Rattle.std.specs.Prelude.{◌≡◌, ◌&&◌, ℕ, List, Bool, not, nat_le}
+use Rattle.std.specs.Prelude.{◌≡◌, ◌&&◌, ℕ, List, Bool, not, nat_le, is_none}
 use Rattle.fibs_boards.specs.Board.{BoardFields}
 use Rattle.fibs_position.specs.GoodBoard.{IsGood}
 use Rattle.fibs_picture.specs.Picture.{picture}
@@ -7,9 +7,11 @@ use Rattle.fibs_picture.specs.Told.{SameToTheEye}
 use Rattle.fibs_words.specs.Words.{words}
 use Rattle.fibs_environment.specs.declared.settings.Settings.{Settings}
 
--- the terminal takes the picture as it is: it shows nothing in bold, and is wide enough
+-- the terminal takes the picture as it is: it shows nothing in bold, and is wide enough; the user has asked for no other
+-- letters and no other side
 abbrev pub is_plain : Settings → Bool
-is_plain s = not s.words && (not s.colour && nat_le 79 s.columns)
+is_plain s =
+    not s.words && (not s.colour && (is_none s.letters && (not s.is_turned && nat_le 79 s.columns)))
 
 -- its picture
 abbrev pub DrawsBoard : BoardFields → List ℕ → Type 0

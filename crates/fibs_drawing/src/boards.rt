@@ -62,6 +62,14 @@ impl Boards {
         self.drawn_before = None;
     }
 
+    /// The board that came last.
+    pub fn last(&self) -> Option<&Board> {
+        match &self.heard {
+            None => None,
+            Some(heard) => Some(heard.board()),
+        }
+    }
+
     /// The phase of the board that came last.
     pub fn phase(&self) -> Option<Phase> {
         match &self.heard {

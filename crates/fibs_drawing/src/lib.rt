@@ -4,6 +4,7 @@
 
 mod boards;
 pub mod laws;
+mod layout;
 mod outcomes;
 mod picture;
 mod worded;

@@ -4,6 +4,7 @@ ghost use Rattle.std.specs.Prelude.{◌≡◌, ◌≤◌, ◌++◌, OnOk, List, 
 ghost use Rattle.fibs_position.specs.GameOf.{game_of};
 ghost use Rattle.fibs_drawing.specs.Drawings.{DrawsBoard, is_plain, TellsBoard, is_worded};
 
+use crate::layout::{append_below, is_left_out, is_narrow, most_shown, row_at, shown_byte};
 use crate::worded::append_words;
 use fibs_environment::Settings;
 use fibs_environment::pieces::{append_all, front};
@@ -103,14 +104,17 @@ fn append_row(
     settings: &Settings<'_>,
     text: &mut Vec<u8>,
 ) -> Result<(), AllocError> {
-    let shown = &bytes[..bytes.len().min(settings.columns).min(PICTURE_COLUMNS)];
+    let most = most_shown(row, settings).min(PICTURE_COLUMNS);
+    let shown = &bytes[..bytes.len().min(most)];
     for column in 0..shown.len() {
         let mark = if settings.colour {
             mark_of(shown[column], row, column, position, came)
         } else {
             Mark::None
         };
-        append_byte(shown[column], mark, text)?;
+        if !is_left_out(row, column, settings) {
+            append_byte(shown_byte(shown[column], row, column, settings), mark, text)?;
+        }
     }
     text.extend_from_slice(b"\n")
 }
@@ -128,6 +132,19 @@ fn short_row<'a>(row: &'a [u8], opponent: &'a [u8]) -> [&'a [u8]; 4] {
     }
 }
 
+/// The rows of a picture, in fewer columns.
+fn short_rows(alloc: Global, picture: &[u8], opponent: &[u8]) -> Result<Vec<Vec<u8>>, AllocError> {
+    let mut rows = Vec::new(alloc);
+    for bytes in picture.split(|byte| *byte == b'\n') {
+        if !bytes.is_empty() {
+            let mut short = Vec::new(alloc);
+            append_all(&short_row(bytes, opponent), &mut short)?;
+            rows.push(short)?;
+        }
+    }
+    Ok(rows)
+}
+
 /// Whether a row of a picture is shown: the words below the board only if the user can't move, since the hint has the
 /// others, or the row on how the game ended.
 fn is_shown(row: usize, game: &GameBoard) -> bool {
@@ -143,24 +160,43 @@ fn append_rows(
     settings: &Settings<'_>,
     text: &mut Vec<u8>,
 ) -> Result<(), AllocError> {
-    let opponent = front(game.board().opponent().bytes());
-    let mut row = 0usize;
-    for bytes in picture.split(|byte| *byte == b'\n') {
-        if !bytes.is_empty() && is_shown(row, game) {
-            let mut short = Vec::new(alloc);
-            append_all(&short_row(bytes, opponent), &mut short)?;
-            append_row(short.as_slice(), row, game.position(), came, settings, text)?;
+    let rows = short_rows(alloc, picture, front(game.board().opponent().bytes()))?;
+    for place in 0..DEED_ROW {
+        let row = row_at(place, settings);
+        if let Some(bytes) = rows.get(row) {
+            append_row(bytes.as_slice(), row, game.position(), came, settings, text)?;
         }
-        row = row.saturating_add(1);
     }
-    Ok(())
+    if is_narrow(settings) {
+        append_below(alloc, rows.as_slice(), settings, text)?;
+    }
+    if !is_shown(DEED_ROW, game) {
+        return Ok(());
+    }
+    match rows.get(DEED_ROW) {
+        Some(deed) => {
+            append_row(
+                deed.as_slice(),
+                DEED_ROW,
+                game.position(),
+                came,
+                settings,
+                text,
+            )
+        }
+        None => Ok(()),
+    }
 }
 
 /// Whether the terminal takes a picture as it is.
 fn is_plain(settings: &Settings<'_>) -> bool
     ensures { result ≡ is_plain settings.now }
 {
-    !settings.words && !settings.colour && settings.columns >= PICTURE_COLUMNS
+    !settings.words
+        && !settings.colour
+        && settings.letters.is_none()
+        && !settings.is_turned
+        && settings.columns >= PICTURE_COLUMNS
 }
 
 /// Appends the picture of a board, or the board in words.

@@ -1,6 +1,8 @@
 //! A file of the user's own settings.
 
 use fibs_fields::split::split;
+use std::alloc::AllocError;
+use std::env::VarError;
 use std::fs::{File, metadata};
 use std::io::{ErrorKind, Read};
 use std::{env, io};
@@ -28,10 +30,37 @@ pub enum Setting<'a> {
     NoColour,
     /// The bell never rings.
     NoBell,
+    /// The title of the window stays as it is.
+    NoTitle,
+    /// The standing order to roll is given on each connection.
+    OrderRoll,
+    /// The letters of the player's checkers and of the opponent's.
+    Letters([u8; 2]),
+    /// The player's home is above in a picture.
+    HomeAbove,
 }
 
-/// What a line of the file asks for: `quiet`, `gag NAME`, `words`, `no colour`, `no bell`; `server HOST PORT NAME` and
-/// `log FILE` are for who starts the program. None for any other line.
+/// What a picture has beside checkers: a letter of these could be taken for it.
+const OF_PICTURES: &[u8] = b"+-|0123456789BAR";
+
+/// Whether a byte may be the letter of checkers.
+fn is_letter(byte: u8) -> bool {
+    byte.is_ascii_graphic() && !OF_PICTURES.contains(&byte)
+}
+
+/// The letters that two words are, if they can be told from each other and from what else a picture has.
+fn letters_in(own: &[u8], other: &[u8]) -> Option<[u8; 2]> {
+    match (own, other) {
+        ([own], [other]) if own != other && is_letter(*own) && is_letter(*other) => {
+            Some([*own, *other])
+        }
+        _ => None,
+    }
+}
+
+/// What a line of the file asks for: `quiet`, `gag NAME`, `words`, `no colour`, `no bell`, `no title`, `order roll`,
+/// `letters O X`, `home above`; `server HOST PORT NAME` and `log FILE` are for who starts the program. None for any
+/// other line.
 pub fn read_setting(line: &[u8]) -> Option<Setting<'_>> {
     let line = line.trim_ascii();
     match line {
@@ -40,62 +69,70 @@ pub fn read_setting(line: &[u8]) -> Option<Setting<'_>> {
         b"words" => return Some(Setting::Words),
         b"no colour" | b"no color" => return Some(Setting::NoColour),
         b"no bell" => return Some(Setting::NoBell),
+        b"no title" => return Some(Setting::NoTitle),
+        b"order roll" => return Some(Setting::OrderRoll),
+        b"home above" => return Some(Setting::HomeAbove),
         _ => {}
     }
     match split(line, b' ') {
         (b"gag", Some(name)) => Some(Setting::Gag(name)),
+        (b"letters", Some(letters)) => {
+            let (own, other) = split(letters, b' ');
+            Some(Setting::Letters(letters_in(own, other?)?))
+        }
         (b"server" | b"log", Some(_)) => Some(Setting::Nothing),
         _ if line.starts_with(b"#") => Some(Setting::Nothing),
         _ => None,
     }
 }
 
-/// The bytes of the file: none, if there is no file.
+/// The path and the bytes of the file: none, if there is no file.
 #[derive(Drop)]
 pub struct Config {
+    path: String,
     bytes: Vec<u8>,
     is_unread: bool,
 }
 
-/// What a variable says, if it is there and is not empty.
-fn said(rt: &HostRuntime, name: &str) -> Option<String> {
+/// What a variable says; empty if it is not there.
+fn said(rt: &HostRuntime, name: &str) -> Result<String, AllocError> {
     match env::var(rt, name) {
-        Ok(value) if !value.is_empty() => Some(value),
-        _ => None,
+        Ok(value) => Ok(value),
+        Err(VarError::OutOfMemory) => Err(AllocError),
+        Err(_) => Ok(String::new(rt.alloc())),
     }
 }
 
 /// The path of the file: what `FIBS_CONFIG` says; else in the folder that `XDG_CONFIG_HOME` names; else in that of the
-/// user's home.
-fn path_of(rt: &HostRuntime) -> Result<Option<String>, io::Error> {
-    if let Some(path) = said(rt, "FIBS_CONFIG") {
-        return Ok(Some(path));
+/// user's home. Empty if there is none of them.
+fn path_of(rt: &HostRuntime) -> Result<String, AllocError> {
+    let path = said(rt, "FIBS_CONFIG")?;
+    if !path.is_empty() {
+        return Ok(path);
     }
-    if let Some(mut path) = said(rt, "XDG_CONFIG_HOME") {
-        path.push_str(IN_FOLDER)?;
-        return Ok(Some(path));
-    }
-    match said(rt, "HOME") {
-        None => Ok(None),
-        Some(mut path) => {
-            path.push_str(IN_HOME)?;
-            path.push_str(IN_FOLDER)?;
-            Ok(Some(path))
+    let mut path = said(rt, "XDG_CONFIG_HOME")?;
+    if path.is_empty() {
+        path = said(rt, "HOME")?;
+        if path.is_empty() {
+            return Ok(path);
         }
+        path.push_str(IN_HOME)?;
     }
+    path.push_str(IN_FOLDER)?;
+    Ok(path)
 }
 
-/// The bytes of the file, if it is there.
-fn file_bytes(rt: &HostRuntime) -> Result<Vec<u8>, io::Error> {
+/// The bytes of the file of a path, if it is there.
+fn file_bytes(rt: &HostRuntime, path: &str) -> Result<Vec<u8>, io::Error> {
     let mut bytes = Vec::new(rt.alloc());
-    let Some(path) = path_of(rt)? else {
+    if path.is_empty() {
         return Ok(bytes);
-    };
+    }
     // a pipe or a device might never end
-    if !metadata(rt, path.as_str())?.is_file() {
+    if !metadata(rt, path)?.is_file() {
         return Err(io::Error::from(ErrorKind::InvalidInput));
     }
-    let mut file = File::open(rt, path.as_str())?.take(MOST_BYTES as u64 + 1);
+    let mut file = File::open(rt, path)?.take(MOST_BYTES as u64 + 1);
     file.read_to_end(&mut bytes)?;
     if bytes.len() > MOST_BYTES {
         return Err(io::Error::from(ErrorKind::InvalidInput));
@@ -103,19 +140,45 @@ fn file_bytes(rt: &HostRuntime) -> Result<Vec<u8>, io::Error> {
     Ok(bytes)
 }
 
+/// Whether a file can't be opened since it is not there, or since what its path names as a folder is none.
+fn is_not_there(kind: ErrorKind) -> bool {
+    kind == ErrorKind::NotFound || kind == ErrorKind::NotADirectory
+}
+
 impl Config {
     /// Reads the file. It need not be there.
-    pub fn read(rt: &HostRuntime) -> Config {
-        match file_bytes(rt) {
-            Ok(bytes) => Config {
+    ///
+    /// Errors: if memory runs out.
+    pub fn read(rt: &HostRuntime) -> Result<Config, AllocError> {
+        let path = path_of(rt)?;
+        match file_bytes(rt, path.as_str()) {
+            Ok(bytes) => Ok(Config {
+                path,
                 bytes,
                 is_unread: false,
-            },
-            Err(error) => Config {
+            }),
+            Err(error) if error.kind() == ErrorKind::OutOfMemory => Err(AllocError),
+            Err(error) => Ok(Config {
+                path,
                 bytes: Vec::new(rt.alloc()),
-                is_unread: error.kind() != ErrorKind::NotFound,
-            },
+                is_unread: !is_not_there(error.kind()),
+            }),
         }
+    }
+
+    /// The path of the file; empty if nothing names one.
+    pub fn path(&self) -> &[u8] {
+        self.path.as_bytes()
+    }
+
+    /// Whether a line asks for the standing order to roll.
+    pub fn orders_roll(&self) -> bool {
+        for line in self.bytes.split(|byte| *byte == b'\n') {
+            if let Some(Setting::OrderRoll) = read_setting(line) {
+                return true;
+            }
+        }
+        false
     }
 
     /// The bytes of the file, line by line.

@@ -58,6 +58,19 @@ fn is_utf8(rt: &HostRuntime) -> bool {
     false
 }
 
+/// The kinds of terminals whose windows have a title that can be kept and put back: how their names begin.
+const TITLED: [&str; 4] = ["xterm", "screen", "tmux", "rxvt"];
+
+/// Whether the terminal's window has a title.
+fn has_title(rt: &HostRuntime) -> bool {
+    match env::var(rt, "TERM") {
+        Ok(kind) => TITLED
+            .iter()
+            .any(|begins| kind.as_str().starts_with(*begins)),
+        Err(_) => false,
+    }
+}
+
 /// The settings of the terminal at which a person talks with this server, by the clock of this zone.
 pub fn terminal_settings<'a>(
     rt: &HostRuntime,
@@ -70,6 +83,9 @@ pub fn terminal_settings<'a>(
         columns: number(rt, "COLUMNS", COLUMNS),
         colour: !dumb && !is_set(rt, "NO_COLOR"),
         bell: !is_set(rt, "FIBS_QUIET"),
+        title: has_title(rt) && !is_set(rt, "FIBS_QUIET"),
+        letters: None,
+        is_turned: false,
         words: is_set(rt, "FIBS_WORDS"),
         utf8: is_utf8(rt),
         zone,

@@ -2,6 +2,7 @@
 //! place shows, and the page that is written there next.
 #![tactic(auto)]
 
+pub mod broken;
 mod clock;
 mod config;
 mod environment;

@@ -1,5 +1,6 @@
 //! What is written next at a terminal.
 
+use crate::broken::break_at_spaces;
 use crate::pieces::append_all;
 use crate::settings::Settings;
 use crate::shown::append_shown;
@@ -7,6 +8,9 @@ use std::alloc::{AllocError, Global};
 
 /// The byte that rings the bell.
 const BELL: u8 = 7;
+
+/// No row of the screen's own words is wider.
+const WIDEST: usize = 79;
 
 /// What is written next, and what is known of the terminal.
 #[derive(Drop)]
@@ -28,10 +32,29 @@ impl<'a> Page<'a> {
         append_all(pieces, &mut self.text)
     }
 
-    /// Shows bytes of the server in a row.
+    /// Shows bytes of the server in a row; in more, if it is wider than the terminal.
     pub fn show_row(&mut self, bytes: &[u8]) -> Result<(), AllocError> {
+        let start = self.text.len();
         append_shown(bytes, self.settings.utf8, &mut self.text)?;
+        self.end_row(start)
+    }
+
+    /// Ends the row that begins at a place. Its words go on in another row if it is wider than the terminal.
+    pub fn end_row(&mut self, start: usize) -> Result<(), AllocError> {
+        break_at_spaces(start, self.settings.columns, &mut self.text);
         self.say(b"\n")
+    }
+
+    /// Whether a row of the screen's own words has room for so many bytes.
+    pub fn has_room(&self, bytes: usize) -> bool {
+        bytes <= self.settings.columns.min(WIDEST)
+    }
+
+    /// Says words in a row, and others behind them, or in a row of their own if there is no room.
+    pub fn say_joined(&mut self, words: &[u8], others: &[u8]) -> Result<(), AllocError> {
+        let wide = words.len().saturating_add(others.len()).saturating_add(1);
+        let between: &[u8] = if self.has_room(wide) { b" " } else { b"\n" };
+        self.say_all(&[words, between, others, b"\n"])
     }
 
     /// Rings the bell.

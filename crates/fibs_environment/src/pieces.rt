@@ -1,5 +1,5 @@
 //! What a text is made of.
-ghost use Rattle.std.specs.Prelude.{◌≡◌, take};
+ghost use Rattle.std.specs.Prelude.{◌≡◌, ◌++◌, OnOk, decimal, take};
 
 use itoa::Buffer;
 use std::alloc::AllocError;
@@ -13,7 +13,9 @@ pub fn append_all(pieces: &[&[u8]], text: &mut Vec<u8>) -> Result<(), AllocError
 }
 
 /// Appends a number.
-pub fn append_number(number: u64, text: &mut Vec<u8>) -> Result<(), AllocError> {
+pub fn append_number(number: u64, text: &mut Vec<u8>) -> Result<(), AllocError>
+    ensures { OnOk result (text.new.items ≡ text.old.items ++ decimal number) }
+{
     text.extend_from_slice(Buffer::new().format(number).as_bytes())
 }
 

@@ -11,6 +11,12 @@ pub struct Settings<'a> {
     pub colour: bool,
     /// Whether the bell may ring.
     pub bell: bool,
+    /// Whether the title of its window may say whose turn it is.
+    pub title: bool,
+    /// The letters of the player's checkers and of the opponent's, if they are not O and X.
+    pub letters: Option<[u8; 2]>,
+    /// Whether the player's home is above in a picture.
+    pub is_turned: bool,
     /// Whether a board is told in words, in place of its picture.
     pub words: bool,
     /// Whether it shows letters beyond ASCII, as UTF-8.

@@ -108,9 +108,8 @@ fn show_lines(
 ) -> Result<usize, EngineFault> {
     let settings = settings_of(rt, clocks);
     let mut front = Terminal::new(rt.alloc(), &mut streams.out, NoClock, settings);
-    let configured = front
-        .configure(&Config::read(rt))
-        .map_err(EngineFault::from);
+    let config = Config::read(rt)?;
+    let configured = front.configure(&config).map_err(EngineFault::from);
     unless_memory_ran_out(configured, &front)?;
     let shown = show_on(MOST_INPUT_READS, &mut streams.input, &mut front);
     unless_memory_ran_out(shown, &front)

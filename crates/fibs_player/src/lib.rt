@@ -3,6 +3,7 @@
 #![tactic(auto)]
 
 mod devices;
+mod ordering;
 mod playing;
 pub mod showing;
 mod streams;

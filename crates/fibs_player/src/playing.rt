@@ -1,5 +1,6 @@
 //! A person plays.
 
+use crate::ordering::{OrderedInput, OrderedServer, OrderedWatch};
 use fibs_arguments::Call;
 use fibs_connect::{answer_lines, converse_on, converse_with};
 use fibs_engine::dial::{Dial, Place, Server};
@@ -18,6 +19,7 @@ use fibs_objects::front::Objects;
 use fibs_session::{Login, PlainFault};
 use fibs_terminal::Terminal;
 use fibs_wording::reasons::append_login_fault;
+use std::cell::Cell;
 use std::io::{IsTerminal, Read, Stdout, Write};
 use std::net::{Net, TcpListener, TcpStream};
 use std::time::{Clock, Duration};
@@ -82,12 +84,22 @@ fn play_at_terminal<D: Dial, R: Read, V: Watch>(
         Ok(login) => login,
     };
     let mut front = Terminal::new(alloc, out, rt, shown);
-    let configured = front
-        .configure(&Config::read(rt))
-        .map_err(EngineFault::from);
+    let config = Config::read(rt)?;
+    let configured = front.configure(&config).map_err(EngineFault::from);
     unless_memory_ran_out(configured, &front)?;
-    let answer = answer_lines(server, alloc, login, &mut lines, input, watch, &mut front);
-    unless_memory_ran_out(answer, &front)
+    let is_due = Cell::new(false);
+    let answer = answer_lines(
+        &mut OrderedServer::new(server, config.orders_roll(), &is_due),
+        alloc,
+        login,
+        &mut lines,
+        &mut OrderedInput::new(input, &is_due),
+        &mut OrderedWatch::new(watch, &is_due),
+        &mut front,
+    );
+    let status = unless_memory_ran_out(answer, &front)?;
+    front.leave()?;
+    Ok(status)
 }
 
 /// Talks with a server, and prints the plain account. The first line is the password.

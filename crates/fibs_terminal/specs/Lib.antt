@@ -1,3 +1,4 @@
 pub mod Asking
 pub mod Grown
 pub mod Resting
+pub mod TitleWords

@@ -13,11 +13,13 @@ use fibs_drawing::append_words;
 use fibs_environment::Page;
 use fibs_environment::pieces::append_all;
 use fibs_environment::shown::append_shown;
+use fibs_fields::decimal::read_decimal;
 use fibs_fields::split::split;
 use fibs_front::typed_line::{TYPED_LIMIT, TypedLine};
 use fibs_front::wish::Wish;
 use fibs_position::Decision;
 use fibs_session::{Client, Directory, Refusal};
+use fibs_story::Story;
 use fibs_typed::taking::would_take;
 use fibs_typed::typing::{Typed, is_command, read_typed};
 use fibs_wording::help;
@@ -40,11 +42,13 @@ enum Own {
     Re,
     Try,
     Go,
+    Moves,
+    Columns,
     Send,
 }
 
 /// The words of the terminal.
-const OWN_WORDS: [(&[u8], Own); 13] = [
+const OWN_WORDS: [(&[u8], Own); 15] = [
     (b"help", Own::Help),
     (b"plays", Own::Plays),
     (b"words", Own::Words),
@@ -57,6 +61,8 @@ const OWN_WORDS: [(&[u8], Own); 13] = [
     (b"re", Own::Re),
     (b"try", Own::Try),
     (b"go", Own::Go),
+    (b"moves", Own::Moves),
+    (b"columns", Own::Columns),
     (b"send", Own::Send),
 ];
 
@@ -65,6 +71,16 @@ pub(crate) const NO_GAME: &[u8] = b"No board on which you play was shown yet: ty
 
 /// What is said of `send` without a line.
 const SEND_HELP: &[u8] = b"send LINE: LINE goes to the server as it is, unchecked.\n";
+
+/// What is said if `moves` is followed by another word.
+const WHICH_MOVES: &[u8] = b"moves, or moves all.\n";
+
+/// The widths that a terminal may have, and what is said if `columns` is not followed by one.
+const LEAST_COLUMNS: u64 = 20;
+
+const MOST_COLUMNS: u64 = 999;
+
+const WHICH_COLUMNS: &[u8] = b"columns 60: how wide the terminal is, from 20 to 999.\n";
 
 /// How many bytes of what follows a word are shown in a row: with the longest word the row fits.
 const MOST_SHOWN: usize = 19;
@@ -211,6 +227,28 @@ fn send(
     Ok(Wish::Send)
 }
 
+/// Lists the rolls and plays of the game so far.
+fn say_moves(story: &Story, rest: &[u8], page: &mut Page<'_>) -> Result<(), AllocError> {
+    let alloc = page.alloc;
+    match rest {
+        b"" => story.append_turns(alloc, false, &mut page.text),
+        b"all" => story.append_turns(alloc, true, &mut page.text),
+        _ => page.say(WHICH_MOVES),
+    }
+}
+
+/// The terminal has so many columns now.
+fn set_columns(rest: &[u8], page: &mut Page<'_>) -> Result<(), AllocError> {
+    let Some(columns) = read_decimal(rest, MOST_COLUMNS) else {
+        return page.say(WHICH_COLUMNS);
+    };
+    if columns < LEAST_COLUMNS {
+        return page.say(WHICH_COLUMNS);
+    }
+    page.settings.columns = columns as usize;
+    Ok(())
+}
+
 /// Tells in words the board that is shown.
 fn say_words(client: &Client, page: &mut Page<'_>) -> Result<(), AllocError> {
     let alloc = page.alloc;
@@ -309,13 +347,12 @@ impl<'a> Screen<'a> {
         match own {
             Own::Plays => self.memory.looking.say_plays(client, rest, page),
             Own::Words => say_words(client, page),
-            Own::Players => append_players(
-                alloc,
-                directory,
-                rest,
-                self.memory.rating,
-                &mut page.text,
-            ),
+            Own::Players => {
+                let asker = self.memory.company.asker();
+                append_players(alloc, directory, rest, &asker, &mut page.text)
+            }
+            Own::Moves => say_moves(&self.memory.story, rest, page),
+            Own::Columns => set_columns(rest, page),
             Own::Talk => self.memory.talk.say_rows(page),
             Own::Gag => people.gag(rest, page),
             Own::Ungag => people.ungag(rest, page),

@@ -3,6 +3,7 @@
 use crate::screen::Screen;
 use crate::terminal::Terminal;
 use fibs_engine::writing::write_bytes;
+use fibs_environment::pieces::append_all;
 use fibs_environment::{Config, Setting, read_setting};
 use fibs_front::fault::FrontFault;
 use itoa::Buffer;
@@ -25,29 +26,57 @@ impl<'a> Screen<'a> {
             Some(Setting::Words) => self.page.settings.words = true,
             Some(Setting::NoColour) => self.page.settings.colour = false,
             Some(Setting::NoBell) => self.page.settings.bell = false,
+            Some(Setting::NoTitle) => self.page.settings.title = false,
+            Some(Setting::Letters(letters)) => self.page.settings.letters = Some(letters),
+            Some(Setting::HomeAbove) => self.page.settings.is_turned = true,
+            // it is given as if it were typed
+            Some(Setting::OrderRoll) => {}
         }
         Ok(true)
     }
 
     /// Says that a line of the file is no setting.
-    fn say_no_setting(&mut self, number: usize, line: &[u8]) -> Result<(), AllocError> {
+    fn say_no_setting(
+        &mut self,
+        path: &[u8],
+        number: usize,
+        line: &[u8],
+    ) -> Result<(), AllocError> {
+        let alloc = self.page.alloc;
         let mut room = Buffer::new();
         let digits = room.format(number).as_bytes();
-        self.page.say_all(&[b"fibs: line ", digits, b" of the settings is not one: "])?;
         let shown = &line[..line.len().min(MOST_SHOWN)];
-        self.page.show_row(shown)
+        let mut row = Vec::new(alloc);
+        append_all(
+            &[
+                b"fibs: line ",
+                digits,
+                b" of ",
+                path,
+                b" is no setting: ",
+                shown,
+            ],
+            &mut row,
+        )?;
+        self.page.show_row(row.as_slice())
     }
 
     /// Changes what the file asks for, and says which of its lines are no setting.
     fn configure(&mut self, config: &Config) -> Result<(), AllocError> {
         if config.is_unread() {
-            return self.page.say(b"fibs: the settings can't be read\n");
+            let alloc = self.page.alloc;
+            let mut row = Vec::new(alloc);
+            append_all(
+                &[b"fibs: the settings of ", config.path(), b" can't be read"],
+                &mut row,
+            )?;
+            return self.page.show_row(row.as_slice());
         }
         let mut number = 0usize;
         for line in config.bytes().split(|byte| *byte == b'\n') {
             number = number.saturating_add(1);
             if !self.set(line)? {
-                self.say_no_setting(number, line)?;
+                self.say_no_setting(config.path(), number, line)?;
             }
         }
         Ok(())

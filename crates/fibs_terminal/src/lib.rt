@@ -3,6 +3,7 @@
 #![tactic(auto)]
 
 mod commands;
+mod company;
 mod configuring;
 mod listening;
 mod looking;
@@ -13,5 +14,6 @@ mod screen;
 mod talk;
 mod telling;
 mod terminal;
+mod title;
 
 pub use terminal::Terminal;

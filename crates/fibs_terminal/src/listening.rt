@@ -2,14 +2,19 @@
 
 use crate::screen::{Moment, Screen};
 use crate::talk::Talk;
+use fibs_advice::standing::Standing;
 use fibs_advice::told::Told;
 use fibs_environment::Page;
+use fibs_environment::broken::break_at_spaces;
 use fibs_lines::Line;
 use fibs_messages::{Fault, Message, Reading};
 use fibs_position::{GameBoard, Phase};
 use fibs_wording::messages::append_message;
 use fibs_wording::reasons::append_malformed;
 use std::alloc::AllocError;
+
+/// The row of an invitation, before the name: it was said already.
+const INVITED_ROW: &[u8] = b"You are invited: join ";
 
 /// What the server says to a player who can't move.
 const CANT_MOVE: &[u8] = b"You can't move.";
@@ -72,6 +77,7 @@ fn say_message(
     let alloc = page.alloc;
     let mut row = Vec::new(alloc);
     append_message(message, moment.time, &page.settings, &mut row)?;
+    break_at_spaces(0, page.settings.columns, &mut row);
     if let Message::Says { name, .. } = message {
         talk.hear_speaker(name.bytes())?;
     }
@@ -110,6 +116,10 @@ impl<'a> Screen<'a> {
         }
         memory.situation.hear_board(game);
         memory.looking.begin();
+        memory.story.hear_board(game)?;
+        if memory.converses {
+            memory.title.hear_board(game)?;
+        }
         let said = memory.said.as_slice();
         memory
             .boards
@@ -120,8 +130,11 @@ impl<'a> Screen<'a> {
 
     /// Hears a line without a number. What it says of the match counts even if it is not shown.
     fn hear_text(&mut self, said: &[u8]) -> Result<(), AllocError> {
-        self.note_told(said)?;
+        let told = self.note_told(said)?;
         if is_said_already(said, self.memory.boards.phase()) {
+            return Ok(());
+        }
+        if told == Some(Told::Invited) && self.memory.converses && self.say_invited(said)? {
             return Ok(());
         }
         self.memory.said.clear();
@@ -130,15 +143,49 @@ impl<'a> Screen<'a> {
     }
 
     /// Takes note of what a text says of the match, and rings the bell if the opponent offers to resign.
-    fn note_told(&mut self, said: &[u8]) -> Result<(), AllocError> {
-        match self.memory.situation.hear_text(said) {
+    fn note_told(&mut self, said: &[u8]) -> Result<Option<Told>, AllocError> {
+        let told = self.memory.situation.hear_text(said);
+        self.note_match(said, told)?;
+        match told {
             Some(Told::Begins | Told::Resumes) => self.memory.boards.begin(),
             Some(Told::NotPlaying | Told::NextGame) => self.hear_no_board(),
             Some(Told::NotInvited) => self.memory.advising.owes = true,
-            Some(Told::Resigns) => return self.page.ring(),
+            Some(Told::Resigns) => self.page.ring()?,
             _ => {}
         }
-        Ok(())
+        Ok(told)
+    }
+
+    /// Takes note of what a text says of saved matches, and of a game that begins or is no longer on the table.
+    fn note_match(&mut self, said: &[u8], told: Option<Told>) -> Result<(), AllocError> {
+        let alloc = self.page.alloc;
+        let memory = &mut self.memory;
+        match told {
+            Some(Told::Begins) => memory.story.begin(),
+            Some(Told::Saved | Told::MatchOver) => memory.title.hear_no_game()?,
+            _ => {}
+        }
+        let opponent = memory.situation.opponent.as_slice();
+        let board = memory.boards.last();
+        memory.company.note_text(alloc, said, told, opponent, board)
+    }
+
+    /// Says who invites the user. False if the text says something else.
+    fn say_invited(&mut self, said: &[u8]) -> Result<bool, AllocError> {
+        if self.memory.company.is_said(said) {
+            return Ok(true);
+        }
+        let standing = self.memory.situation.standing;
+        let is_said = self
+            .memory
+            .company
+            .say_invitation(said, standing, &mut self.page)?;
+        if is_said == Some(true) {
+            self.memory
+                .advising
+                .settle(INVITED_ROW, self.memory.situation.inviter.as_slice())?;
+        }
+        Ok(is_said.is_some())
     }
 
     /// The server has no board to show: if the user has asked for it, that is the answer.
@@ -151,27 +198,40 @@ impl<'a> Screen<'a> {
 
     /// Takes note of a message: the user was greeted or is rated, the message of the day begins or ends, or a player
     /// comes or goes.
-    fn note_message(&mut self, message: &Message<'_>) {
+    fn note_message(&mut self, message: &Message<'_>) -> Result<(), AllocError> {
+        self.memory.company.note_message(message)?;
         match message {
             Message::Welcome { .. } => {
                 self.memory.situation.hear_welcome();
                 self.memory.list.is_due = true;
             }
-            Message::OwnInfo(info) => self.memory.rating = Some(info.rating),
             Message::Login { name, .. } => self.memory.situation.hear_login(name.bytes()),
             Message::MotdBegin => self.memory.situation.hear_motd(true),
             Message::MotdEnd => self.memory.situation.hear_motd(false),
             Message::Logout { name, .. } => self.memory.situation.hear_logout(name.bytes()),
             _ => {}
         }
+        Ok(())
     }
 
     /// Hears a message.
     fn hear_message(&mut self, message: &Message<'_>, moment: Moment) -> Result<(), AllocError> {
-        self.note_message(message);
-        if self.memory.people.hides(message) {
-            return Ok(());
+        self.note_message(message)?;
+        if !self.memory.people.hides(message) {
+            self.show_message(message, moment)?;
         }
+        if let Message::Login { name, .. } = message {
+            let standing = self.memory.situation.standing;
+            return self
+                .memory
+                .company
+                .say_here(name.bytes(), standing, &mut self.page);
+        }
+        Ok(())
+    }
+
+    /// Shows a message.
+    fn show_message(&mut self, message: &Message<'_>, moment: Moment) -> Result<(), AllocError> {
         match message {
             Message::WhoInfo(info) => self.memory.list.hear_player(info),
             Message::WhoInfoEnd => {

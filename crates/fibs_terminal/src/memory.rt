@@ -1,11 +1,14 @@
 //! What a terminal remembers: only what the client does not know.
 
+use crate::company::Company;
 use crate::looking::Looking;
 use crate::people::{List, People};
 use crate::resting::Advising;
 use crate::talk::Talk;
+use crate::title::Title;
 use fibs_advice::situation::Situation;
 use fibs_drawing::Boards;
+use fibs_story::Story;
 use std::alloc::Global;
 use std::time::Duration;
 
@@ -24,8 +27,12 @@ pub struct Memory {
     pub talk: Talk,
     /// What the user looks at before he decides.
     pub looking: Looking,
-    /// The user's own rating, in hundredths, as the server said it last.
-    pub rating: Option<u32>,
+    /// With whom the user may play.
+    pub company: Company,
+    /// The game so far.
+    pub story: Story,
+    /// The title of the window.
+    pub title: Title,
     /// The list of players that is coming.
     pub list: List,
     /// Whether a connection was made: then what can be done is said below each board.
@@ -48,7 +55,9 @@ impl Memory {
             people: People::new(alloc),
             talk: Talk::new(alloc),
             looking: Looking::new(),
-            rating: None,
+            company: Company::new(alloc),
+            story: Story::new(alloc),
+            title: Title::new(alloc),
             list: List::new(alloc),
             converses: false,
             opened: Duration::from_secs(0),

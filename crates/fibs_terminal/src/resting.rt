@@ -8,7 +8,7 @@ use fibs_advice::advised::{Advice, Aside, advised};
 use fibs_advice::saying::append_advice;
 use fibs_advice::situation::Situation;
 use fibs_environment::Page;
-use fibs_environment::pieces::front;
+use fibs_environment::pieces::{append_all, front};
 use fibs_session::{Client, Directory};
 use std::alloc::{AllocError, Global};
 use std::time::Duration;
@@ -37,6 +37,12 @@ impl Advising {
             inquired: false,
             advised: Vec::new(alloc),
         }
+    }
+
+    /// A row of an advice, which ends with a name, was said in other words: it is not said again.
+    pub fn settle(&mut self, row: &[u8], name: &[u8]) -> Result<(), AllocError> {
+        self.advised.clear();
+        append_all(&[row, front(name), b"\n"], &mut self.advised)
     }
 
     /// What was advised before counts no more.

@@ -44,6 +44,15 @@ fn say_no_connection(why: ErrorKind, page: &mut Page<'_>) -> Result<(), AllocErr
 impl<'a> Screen<'a> {
     /// Hears one thing, and makes the text that is written for it.
     pub fn hear(&mut self, said: &Said<'_>, moment: Moment) -> Result<(), AllocError> {
+        self.hear_said(said, moment)?;
+        if self.page.settings.title {
+            self.memory.title.put(&mut self.page)?;
+        }
+        Ok(())
+    }
+
+    /// Hears one thing, and makes the text that is written for it, but for the title of the window.
+    fn hear_said(&mut self, said: &Said<'_>, moment: Moment) -> Result<(), AllocError> {
         match said {
             Said::Opened => self.hear_opened(moment),
             Said::NoConnection(why) => say_no_connection(*why, &mut self.page),
@@ -99,6 +108,7 @@ impl<'a> Screen<'a> {
     /// A connection was made.
     fn hear_opened(&mut self, moment: Moment) -> Result<(), AllocError> {
         self.memory.forget_boards();
+        self.memory.company.forget();
         self.memory.situation.hear_opened();
         self.memory.converses = true;
         self.memory.opened = moment.passed;
@@ -144,6 +154,7 @@ impl<'a> Screen<'a> {
     /// The connection is over.
     fn hear_lost(&mut self, waited: &Option<Outstanding>) -> Result<(), AllocError> {
         self.memory.forget_boards();
+        self.memory.title.hear_no_game()?;
         self.page.ring()?;
         if let Some(asked) = waited {
             self.page.say_all(&[

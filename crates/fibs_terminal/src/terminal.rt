@@ -41,6 +41,14 @@ impl<'a, W: Write + Drop, C: Clock + Drop> Terminal<'a, W, C> {
         }
     }
 
+    /// Puts back the title that the window had before.
+    ///
+    /// Errors: `Output` if a write fails.
+    pub fn leave(&mut self) -> Result<(), FrontFault> {
+        write_text(self.screen.memory.title.put_back(), &mut self.out)?;
+        self.out.flush().map_err(|_| FrontFault::Output)
+    }
+
     /// Whether it stopped since memory ran out. Its fault alone does not say so.
     pub fn is_out_of_memory(&self) -> bool {
         self.screen.ran_out

@@ -1,0 +1,2 @@
+pub mod Invitations
+pub mod SavedMatches

@@ -6,7 +6,7 @@ The game    roll  double  accept  reject  move 8-5 6-5  resign n|g|b
             also: r, m 8-5 6-5, 8/5 6/5, bar/20, 6/off, 8/5(2), 24/18/13
             plays: the legal moves, plays 24: those from there, plays more
             try 8-5 6-5: the board after that move; go: sends it
-            board: the board again   words: the board in words
+            board: the board again   words: in words   moves: the game so far
             order roll: rolls for you if you may not double   withdraw roll
 Matches     invite NAME POINTS   invite NAME (to resume)   join NAME   join
             toggle ready   who   players   players ready   players bo
@@ -18,7 +18,7 @@ Talk        say TEXT   tell NAME TEXT   kibitz TEXT   whisper TEXT   shout TEXT
 Server      watch NAME  unwatch  leave  whois NAME  away TEXT  back  pip
             redouble  show saved   (these go to the server as they are)
             send LINE: sends LINE as it is, unchecked (send ratings bob)
-            bye: leave   open: connect again   quit: end
+            bye: leave   open: connect again   quit: end   columns 60: width
             toggle automove, toggle greedy: turns them off, if they are on
 help WORD says more about a word.
 ";
@@ -61,10 +61,18 @@ const TRY: &[u8] = b"\
 try 8-5 6-5: shows the board after that move, and sends nothing.\n\
 go: sends the move that you tried last, if the board is still the same.\n";
 
+const MOVES: &[u8] = b"\
+moves: the rolls and plays of this game so far, as the boards show them; ? is a\n\
+play that they do not show. moves all: not only the last 20.\n";
+
+const COLUMNS: &[u8] = b"\
+columns 60: how wide the terminal is, from 20 to 999. With rlwrap fibs-play\n\
+says it by itself before the next line, if the window has another size.\n";
+
 const HELP: &[u8] = b"help (or ?): lists what you can type. help WORD: says more about a word.\n";
 
 /// What there is to say of each word: of the game, of matches, of talk, of the terminal.
-static WORDS: [(&[u8], &[u8]); 49] = [
+static WORDS: [(&[u8], &[u8]); 51] = [
     (b"roll", ROLL),
     (b"r", ROLL),
     (
@@ -140,6 +148,7 @@ For what the client can't do: send accept, send ratings bob ..\n",
         b"plays: lists the legal moves of the board, ready to be typed, 20 at most.\n\
 plays more: the next 20. plays 24, plays bar: those that play from there.\n",
     ),
+    (b"moves", MOVES),
     (b"try", TRY),
     (b"go", TRY),
     (
@@ -187,6 +196,7 @@ is told so, in place of its picture.\n",
         b"open",
         b"open: connects again. invite NAME then resumes a match that was saved.\n",
     ),
+    (b"columns", COLUMNS),
     (b"quit", b"quit: ends the program.\n"),
     (b"help", HELP),
     (b"?", HELP),

@@ -3,8 +3,10 @@
 
 pub mod dates;
 pub mod help;
+pub mod invitations;
 pub mod lists;
 pub mod messages;
 pub mod players;
 pub mod reasons;
+pub mod saved;
 pub mod server_words;

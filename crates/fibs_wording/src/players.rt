@@ -2,6 +2,7 @@
 
 use crate::lists::append_count;
 use crate::messages::append_state;
+use crate::saved::SavedMatches;
 use fibs_environment::shown::{append_shown, pad_from};
 use fibs_fields::rating::append_rating;
 use fibs_session::{Directory, Player};
@@ -18,6 +19,11 @@ const COLUMNS: &[u8] = b"player                  rating  points    idle   does\n
 const NAME_COLUMNS: usize = 22;
 
 const NAME_SHOWN: usize = 20;
+
+/// What stands behind the name of a player with whom a match is saved, and what is said of it below the list.
+const STAR: &[u8] = b" *";
+
+const STAR_WORDS: &[u8] = b"* your match with this player is saved: invite NAME resumes it.\n";
 
 /// How much is shown of the name of whom a player plays or watches: with the longest words the row fits.
 const OTHER_SHOWN: usize = 16;
@@ -124,6 +130,17 @@ fn begins_with(name: &[u8], word: &[u8]) -> bool {
     word.len() <= name.len() && name[..word.len()].eq_ignore_ascii_case(word)
 }
 
+/// What is known of the user who asks for a list.
+#[derive(Clone, Copy)]
+pub struct Asker<'a> {
+    /// The name; empty if the server has not said it.
+    pub name: &'a [u8],
+    /// The rating in hundredths, if the server has said it.
+    pub rating: Option<u32>,
+    /// The matches that are saved.
+    pub saved: &'a SavedMatches,
+}
+
 /// How far a rating is from the user's own; if that is not known, from the best there can be.
 fn distance(rating: u32, own: Option<u32>) -> u32 {
     match own {
@@ -135,17 +152,17 @@ fn distance(rating: u32, own: Option<u32>) -> u32 {
 /// How near a player is, and the place in the directory.
 type Near = (u32, usize);
 
-/// Pushes each player who is asked for.
+/// Pushes each player who is asked for, but not the one who asks.
 fn push_wanted(
     directory: &Directory,
     wanted: Wanted<'_>,
-    own: Option<u32>,
+    asker: &Asker<'_>,
     found: &mut Vec<Near>,
 ) -> Result<(), AllocError> {
     for place in 0..directory.len() {
         if let Some(player) = directory.at(place) {
-            if wanted.includes(player) {
-                found.push((distance(player.rating, own), place))?;
+            if wanted.includes(player) && player.name.as_slice() != asker.name {
+                found.push((distance(player.rating, asker.rating), place))?;
             }
         }
     }
@@ -191,10 +208,13 @@ fn first(name: &[u8], most: usize) -> &[u8] {
     &name[..name.len().min(most)]
 }
 
-/// Appends the row of a player: name, rating, points played, how long idle, and what he does.
-fn append_row(player: &Player, text: &mut Vec<u8>) -> Result<(), AllocError> {
+/// Appends the row of a player: name, whether a match is saved, rating, points played, how long idle, and what he does.
+fn append_row(player: &Player, is_saved: bool, text: &mut Vec<u8>) -> Result<(), AllocError> {
     let start = text.len();
     text.extend_from_slice(first(player.name.as_slice(), NAME_SHOWN))?;
+    if is_saved {
+        text.extend_from_slice(STAR)?;
+    }
     pad_from(start, NAME_COLUMNS, text)?;
     append_rating_right(player.rating, text)?;
     append_right(player.experience, POINTS_COLUMNS, text)?;
@@ -210,17 +230,24 @@ fn append_row(player: &Player, text: &mut Vec<u8>) -> Result<(), AllocError> {
     text.extend_from_slice(b"\n")
 }
 
-/// Appends a row for each of these players.
+/// Appends a row for each of these players, and what a star says, if there is one.
 fn append_rows(
     found: &[Near],
     directory: &Directory,
+    saved: &SavedMatches,
     text: &mut Vec<u8>,
 ) -> Result<(), AllocError> {
     text.extend_from_slice(COLUMNS)?;
+    let mut has_star = false;
     for (_, place) in found {
         if let Some(player) = directory.at(*place) {
-            append_row(player, text)?;
+            let is_saved = saved.with(player.name.as_slice()).is_some();
+            has_star |= is_saved;
+            append_row(player, is_saved, text)?;
         }
+    }
+    if has_star {
+        text.extend_from_slice(STAR_WORDS)?;
     }
     Ok(())
 }
@@ -260,8 +287,9 @@ fn append_order(own: Option<u32>, text: &mut Vec<u8>) -> Result<(), AllocError> 
     text.extend_from_slice(b" first:\n")
 }
 
-/// Appends a row for each player who is asked for, at most a screen of them unless all are, and how many there are.
-/// Those whose rating is nearest to the user's own, in hundredths, come first; if that is not known, the best.
+/// Appends a row for each player who is asked for but the user, at most a screen of them unless all are, and how many
+/// there are. Those whose rating is nearest to the user's own come first; if that is not known, the best. A star marks
+/// those with whom a match is saved.
 ///
 /// The words are `ready` (and plays with nobody), `playing`, `all`, and how names begin; without a word it is
 /// everybody.
@@ -271,22 +299,27 @@ pub fn append_players(
     alloc: Global,
     directory: &Directory,
     words: &[u8],
-    own: Option<u32>,
+    asker: &Asker<'_>,
     text: &mut Vec<u8>,
 ) -> Result<(), AllocError> {
     let wanted = Wanted::read(words);
     let mut found = Vec::new(alloc);
-    push_wanted(directory, wanted, own, &mut found)?;
+    push_wanted(directory, wanted, asker, &mut found)?;
     if found.is_empty() {
         return append_nobody(directory.len(), text);
     }
     found.sort_by_key(|near| near.0)?;
     if wanted.all || found.len() <= MOST_LISTED {
-        append_rows(found.as_slice(), directory, text)?;
+        append_rows(found.as_slice(), directory, asker.saved, text)?;
         append_count(found.len(), text)?;
         return text.extend_from_slice(b".\n");
     }
-    append_order(own, text)?;
-    append_rows(&found.as_slice()[..MOST_LISTED], directory, text)?;
+    append_order(asker.rating, text)?;
+    append_rows(
+        &found.as_slice()[..MOST_LISTED],
+        directory,
+        asker.saved,
+        text,
+    )?;
     append_more(found.len() - MOST_LISTED, words, text)
 }

@@ -15,6 +15,7 @@ mod reading;
 mod remembering;
 mod seats;
 mod spellings;
+mod story;
 mod texts;
 mod worded;
 mod wordings;

@@ -51,6 +51,9 @@ pub enum Step<'a> {
 /// The settings of a plain terminal of 80 columns.
 pub fn plain_settings() -> Settings<'static> {
     Settings {
+        title: false,
+        letters: None,
+        is_turned: false,
         columns: 80,
         colour: false,
         bell: false,

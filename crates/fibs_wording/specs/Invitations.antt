@@ -1,0 +1,35 @@
+-- Who invites the user to a match: the server's text (FIBS), and what a terminal says in its place (the project's own).
+use Rattle.std.specs.Prelude.{◌==◌, ◌++◌, ℕ, List, codes, decimal, take, Option, Some, None, if◌then◌else◌}
+use Rattle.fibs_fields.specs.Rating.{printed_rating}
+use Rattle.fibs_wording.specs.declared.invitations.Offered.{Offered}
+use Rattle.fibs_wording.specs.declared.invitations.Offered.TheVariants as O
+
+-- what the text says after the name
+abbrev pub offer_said : Offered → List ℕ
+offer_said (O.Points points) = codes "wants to play a " ++ (decimal points ++ codes " point match with you.")
+offer_said O.Unlimited = codes "wants to play an unlimited match with you."
+offer_said O.Saved = codes "wants to resume a saved match with you."
+
+-- the text of the server
+abbrev pub invitation_said : List ℕ → Offered → List ℕ
+invitation_said name offered = name ++ (codes " " ++ offer_said offered)
+
+-- how many points
+abbrev pub points_words : ℕ → List ℕ
+points_words points = if points == 1 then codes "1 point" else decimal points ++ codes " points"
+
+-- to what one is invited
+abbrev pub offer_words : Offered → List ℕ
+offer_words (O.Points points) = codes " invites you to " ++ points_words points
+offer_words O.Unlimited = codes " invites you to an unlimited match"
+offer_words O.Saved = codes " invites you to resume your saved match"
+
+-- the rating and the experience of a player, if the server has listed him
+abbrev pub rated_words : Option (ℕ × ℕ) → List ℕ
+rated_words None = codes ""
+rated_words (Some rated) =
+    codes " (" ++ (printed_rating rated.0 ++ (codes ", experience " ++ (decimal rated.1 ++ codes ")")))
+
+-- what is said: of a name the first 24 bytes
+abbrev pub invitation_words : List ℕ → Option (ℕ × ℕ) → Offered → List ℕ
+invitation_words name rated offered = take 24 name ++ (rated_words rated ++ offer_words offered)

@@ -1,0 +1,100 @@
+//! The game so far: each play of a game is told by the boards before and after it.
+
+use crate::fibs_messages::Board;
+use crate::fibs_position::{Decision, GameBoard, Play, effect};
+use crate::fibs_story::{Story, mirrored, played};
+
+/// The board with which a game begins, without dice.
+const FIRST: &[u8] = b"board:You:bob:3:0:0:0:-2:0:0:0:0:5:0:3:0:0:0:-5:5:0:0:0:-3:0:-5:0:0:0:0:2:0:1:0:0:0:0:1:1:1:0:1:-1:0:25:0:0:0:0:0:0:0:0";
+
+/// How many games are played.
+const GAMES: u64 = 40;
+
+/// The most turns of a game.
+const TURNS: usize = 400;
+
+/// Numbers that look like chance (xorshift).
+struct Chance(u64);
+
+impl Chance {
+    fn below(&mut self, limit: u64) -> u64 {
+        self.0 ^= self.0 << 13;
+        self.0 ^= self.0 >> 7;
+        self.0 ^= self.0 << 17;
+        self.0 % limit
+    }
+}
+
+fn good(board: &Board) -> GameBoard {
+    GameBoard::of(board).unwrap_or_else(|_| panic!("no position"))
+}
+
+/// The board with these dice of the player who has the turn.
+fn rolled(board: &Board, dice: [u8; 2]) -> GameBoard {
+    good(&effect(board, &Decision::Roll, dice).expect("a roll"))
+}
+
+/// A play by chance on a board that shows dice; the empty one if nothing can be played.
+fn any_play(game: &GameBoard, chance: &mut Chance) -> Play {
+    let plays = game.position().plays().expect("memory");
+    match plays.len() {
+        0 => Play::new(),
+        count => plays[chance.below(count as u64) as usize],
+    }
+}
+
+/// The checkers of a board, by the fields that have them.
+fn checkers(board: &Board) -> Vec<i32> {
+    (8..32).chain(46..48).map(|field| board.field(field)).collect()
+}
+
+#[test]
+fn each_play_of_a_game_is_told() {
+    for seed in 1..=GAMES {
+        let mut chance = Chance(seed);
+        // always as the one sees it who has the turn
+        let mut board = Board::read(FIRST).expect("a board");
+        for _ in 0..TURNS {
+            let dice = [chance.below(6) as u8 + 1, chance.below(6) as u8 + 1];
+            let before = rolled(&board, dice);
+            let play = any_play(&before, &mut chance);
+            let after = effect(before.board(), &Decision::Move(play), [0, 0]).expect("a legal play");
+            let told = played(&before, &after).expect("memory").expect("a play");
+            let again = effect(before.board(), &Decision::Move(told), [0, 0]).expect("it is legal");
+            assert_eq!(checkers(&again), checkers(&after), "game {seed}");
+            assert_eq!(mirrored(&mirrored(&after).expect("a board")).expect("a board"), after);
+            if after.field(33) == 0 {
+                break;
+            }
+            board = mirrored(&after).expect("a board");
+        }
+    }
+}
+
+/// What the rows of a story say after these boards.
+fn story_of(boards: &[Board], is_all: bool) -> String {
+    let mut story = Story::new();
+    for board in boards {
+        story.hear_board(&good(board)).expect("memory");
+    }
+    let mut text = Vec::new();
+    story.append_turns(is_all, &mut text).expect("memory");
+    String::from_utf8(text).expect("ASCII")
+}
+
+#[test]
+fn a_story_has_both_players_in_their_order() {
+    let first = Board::read(FIRST).expect("a board");
+    let before = rolled(&first, [3, 1]);
+    let play = any_play(&before, &mut Chance(7));
+    let after = effect(before.board(), &Decision::Move(play), [0, 0]).expect("a legal play");
+    // the opponent rolls, and can't be seen to play
+    let his = rolled(&mirrored(&after).expect("a board"), [6, 6]);
+    let his_seen = mirrored(his.board()).expect("a board");
+    let rows = story_of(&[first, *before.board(), *before.board(), after, his_seen, first], false);
+    let rows: Vec<&str> = rows.lines().collect();
+    assert_eq!(rows.len(), 2);
+    assert!(rows[0].starts_with("  1. You roll 3 and 1: "), "{}", rows[0]);
+    assert_eq!(rows[1], "  2. bob rolls 6 and 6: ?");
+    assert_eq!(story_of(&[first], true), "No board of this game has shown a roll and its play yet.\n");
+}
