@@ -13,3 +13,4 @@ pub mod spelling;
 pub mod standing;
 pub mod told;
 pub mod trial;
+pub mod watched;
