@@ -25,6 +25,7 @@ import play
 import refusals
 import resuming
 import spoken
+import watching
 import whole
 
 # How many scenes are played at the same time: they wait most of the time. Those that measure are played alone.
@@ -43,7 +44,8 @@ def tried(scene):
 def main():
     words = sys.argv[2:]
     beside = (offers.SCENES + resuming.SCENES + refusals.SCENES + hints.SCENES + play.SCENES + logs.SCENES
-              + game.SCENES + company.SCENES + partners.SCENES + spoken.SCENES + babble.SCENES + whole.SCENES)
+              + game.SCENES + company.SCENES + partners.SCENES + watching.SCENES + spoken.SCENES + babble.SCENES
+              + whole.SCENES)
     alone = escapes.SCENES + costs.SCENES
     chosen = [[scene for scene in scenes if not words or any(word in scene.__name__ for word in words)]
               for scenes in (beside, alone)]

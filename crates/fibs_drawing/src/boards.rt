@@ -26,7 +26,7 @@ pub struct Boards {
 }
 
 /// Whether a checker is elsewhere on another board, or the other board is of another opponent.
-fn is_moved(a: &Board, b: &Board) -> bool {
+pub(crate) fn is_moved(a: &Board, b: &Board) -> bool {
     for number in FIRST_PLACE..LAST_PLACE + 1 {
         if a.field(number) != b.field(number) {
             return true;
@@ -191,7 +191,7 @@ fn append_opponents_turn(board: &Board, row: &mut Vec<u8>) -> Result<(), AllocEr
 }
 
 /// Appends two dice.
-fn append_dice(first: u8, second: u8, row: &mut Vec<u8>) -> Result<(), AllocError> {
+pub(crate) fn append_dice(first: u8, second: u8, row: &mut Vec<u8>) -> Result<(), AllocError> {
     let mut one = Buffer::new();
     let mut other = Buffer::new();
     append_all(

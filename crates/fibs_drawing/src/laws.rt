@@ -1,5 +1,6 @@
 //! Laws of what a terminal draws and tells. Each function does nothing: its contract is the law.
 ghost use Rattle.fibs_drawing.specs.Drawings.{DrawingsTell, TellingsTell};
+ghost use Rattle.fibs_drawing.specs.WatchedDrawings.{WatchedDrawingsTell, WatchedTellingsTell};
 
 /// Boards with the same drawing, each with a position, look the same (`SameToTheEye`).
 pub fn drawings_tell()
@@ -13,4 +14,13 @@ pub fn tellings_tell()
     ensures { TellingsTell }
 {
     fibs_words::laws::words_tell();
+}
+
+/// Watched boards with the same drawing, or told in the same words, look the same (`SameToTheWatcher`).
+pub fn watched_tell()
+    ensures drawn { WatchedDrawingsTell }
+    ensures told { WatchedTellingsTell }
+{
+    fibs_picture::laws::watched_picture_tells();
+    fibs_words::laws::watched_words_tell();
 }

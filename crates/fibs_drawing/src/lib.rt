@@ -7,8 +7,12 @@ pub mod laws;
 mod layout;
 mod outcomes;
 mod picture;
+mod watched;
+mod watching;
 mod worded;
 
 pub use boards::Boards;
 pub use picture::append_picture;
+pub use watched::{append_watched, append_watched_words};
+pub use watching::Watching;
 pub use worded::append_words;

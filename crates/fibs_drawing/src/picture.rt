@@ -96,7 +96,7 @@ fn append_byte(byte: u8, mark: Mark, text: &mut Vec<u8>) -> Result<(), AllocErro
 }
 
 /// Appends a row of a picture, marked, if the terminal can do that, and no wider than it is.
-fn append_row(
+pub(crate) fn append_row(
     bytes: &[u8],
     row: usize,
     position: &Position,
@@ -120,7 +120,7 @@ fn append_row(
 }
 
 /// A row in fewer columns, in pieces: the opponent has his name, and a cube few words.
-fn short_row<'a>(row: &'a [u8], opponent: &'a [u8]) -> [&'a [u8]; 4] {
+pub(crate) fn short_row<'a>(row: &'a [u8], opponent: &'a [u8]) -> [&'a [u8]; 4] {
     if let Some(before) = row.strip_suffix(OPPONENTS_TURN) {
         [before, opponent, b"'s turn", b""]
     } else if let Some(before) = row.strip_suffix(OPPONENTS_CUBE) {
@@ -189,7 +189,7 @@ fn append_rows(
 }
 
 /// Whether the terminal takes a picture as it is.
-fn is_plain(settings: &Settings<'_>) -> bool
+pub(crate) fn is_plain(settings: &Settings<'_>) -> bool
     ensures { result ≡ is_plain settings.now }
 {
     !settings.words

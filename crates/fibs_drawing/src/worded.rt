@@ -39,7 +39,7 @@ fn append_broken(row: &[u8], columns: usize, text: &mut Vec<u8>) -> Result<(), A
 }
 
 /// Appends the rows of a board in words, each broken.
-fn append_rows(words: &[u8], columns: usize, text: &mut Vec<u8>) -> Result<(), AllocError> {
+pub(crate) fn append_rows(words: &[u8], columns: usize, text: &mut Vec<u8>) -> Result<(), AllocError> {
     for row in words.split(|byte| *byte == b'\n') {
         if !row.is_empty() {
             append_broken(row, columns, text)?;
@@ -49,7 +49,7 @@ fn append_rows(words: &[u8], columns: usize, text: &mut Vec<u8>) -> Result<(), A
 }
 
 /// Whether each row fits a terminal of these columns.
-fn is_wide(columns: usize) -> bool
+pub(crate) fn is_wide(columns: usize) -> bool
     ensures { result ≡ is_wide columns }
 {
     columns >= WIDEST

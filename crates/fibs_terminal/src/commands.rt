@@ -9,7 +9,7 @@ use bstr::ByteSlice;
 use fibs_advice::rules::append_rule;
 use fibs_advice::spelling::words::append_spelled;
 use fibs_advice::trial::Trial;
-use fibs_drawing::append_words;
+use fibs_drawing::{Watching, append_watched_words, append_words};
 use fibs_environment::Page;
 use fibs_environment::pieces::append_all;
 use fibs_environment::shown::append_shown;
@@ -249,12 +249,18 @@ fn set_columns(rest: &[u8], page: &mut Page<'_>) -> Result<(), AllocError> {
     Ok(())
 }
 
-/// Tells in words the board that is shown.
-fn say_words(client: &Client, page: &mut Page<'_>) -> Result<(), AllocError> {
+/// Tells in words the board that is shown: of the game that is watched, else of the user's own.
+fn say_words(
+    client: &Client,
+    watching: &Watching,
+    page: &mut Page<'_>,
+) -> Result<(), AllocError> {
     let alloc = page.alloc;
-    match client.game() {
-        None => page.say(NO_GAME),
-        Some(game) => append_words(alloc, game, page.settings.columns, &mut page.text),
+    let columns = page.settings.columns;
+    match (watching.board(), client.game()) {
+        (Some(watched), _) => append_watched_words(alloc, watched, columns, &mut page.text),
+        (None, Some(game)) => append_words(alloc, game, columns, &mut page.text),
+        (None, None) => page.say(NO_GAME),
     }
 }
 
@@ -346,7 +352,7 @@ impl<'a> Screen<'a> {
         let people = &mut self.memory.people;
         match own {
             Own::Plays => self.memory.looking.say_plays(client, rest, page),
-            Own::Words => say_words(client, page),
+            Own::Words => say_words(client, &self.memory.watching, page),
             Own::Players => {
                 let asker = self.memory.company.asker();
                 append_players(alloc, directory, rest, &asker, &mut page.text)
@@ -389,7 +395,8 @@ impl<'a> Screen<'a> {
     fn say_help(&mut self, word: &[u8]) -> Result<(), AllocError> {
         if word.is_empty() {
             self.memory.advising.inquired = true;
-            return self.page.say(help::SCREEN);
+            self.page.say(help::SCREEN)?;
+            return self.memory.watching.say_hint(&mut self.page);
         }
         match help::word_help(word) {
             Some(words) => self.page.say(words),

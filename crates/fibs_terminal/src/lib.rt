@@ -15,5 +15,6 @@ mod talk;
 mod telling;
 mod terminal;
 mod title;
+mod watching;
 
 pub use terminal::Terminal;

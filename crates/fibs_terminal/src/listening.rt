@@ -88,7 +88,7 @@ fn say_message(
 }
 
 impl<'a> Screen<'a> {
-    /// Hears a line of the server. A board on which the user does not play is shown as the server sent it.
+    /// Hears a line of the server, but for a board of the user's game.
     pub(crate) fn hear_line(
         &mut self,
         line: &Line<'_>,
@@ -96,7 +96,7 @@ impl<'a> Screen<'a> {
         moment: Moment,
     ) -> Result<(), AllocError> {
         match reading {
-            Reading::Board(_) => self.page.show_row(line.bytes),
+            Reading::Board(board) => self.hear_watched(line.bytes, board),
             Reading::Numbered(message) => self.hear_message(message, moment),
             Reading::Text(_) => self.hear_text(line.bytes),
             Reading::Malformed {
@@ -116,6 +116,7 @@ impl<'a> Screen<'a> {
         }
         memory.situation.hear_board(game);
         memory.looking.begin();
+        memory.watching.end();
         memory.story.hear_board(game)?;
         if memory.converses {
             memory.title.hear_board(game)?;
@@ -139,7 +140,8 @@ impl<'a> Screen<'a> {
         }
         self.memory.said.clear();
         self.memory.said.extend_from_slice(front_of(said))?;
-        self.page.show_row(said)
+        self.page.show_row(said)?;
+        self.note_watching(said)
     }
 
     /// Takes note of what a text says of the match, and rings the bell if the opponent offers to resign.
@@ -147,7 +149,10 @@ impl<'a> Screen<'a> {
         let told = self.memory.situation.hear_text(said);
         self.note_match(said, told)?;
         match told {
-            Some(Told::Begins | Told::Resumes) => self.memory.boards.begin(),
+            Some(Told::Begins | Told::Resumes) => {
+                self.memory.boards.begin();
+                self.memory.watching.end();
+            }
             Some(Told::NotPlaying | Told::NextGame) => self.hear_no_board(),
             Some(Told::NotInvited) => self.memory.advising.owes = true,
             Some(Told::Resigns) => self.page.ring()?,
@@ -189,7 +194,7 @@ impl<'a> Screen<'a> {
     }
 
     /// The server has no board to show: if the user has asked for it, that is the answer.
-    fn hear_no_board(&mut self) {
+    pub(crate) fn hear_no_board(&mut self) {
         if self.memory.situation.asks_board {
             self.memory.situation.asks_board = false;
             self.memory.advising.inquired = true;

@@ -7,7 +7,7 @@ use crate::resting::Advising;
 use crate::talk::Talk;
 use crate::title::Title;
 use fibs_advice::situation::Situation;
-use fibs_drawing::Boards;
+use fibs_drawing::{Boards, Watching};
 use fibs_story::Story;
 use std::alloc::Global;
 use std::time::Duration;
@@ -21,6 +21,8 @@ pub struct Memory {
     pub advising: Advising,
     /// The boards that have come.
     pub boards: Boards,
+    /// The game that the user watches.
+    pub watching: Watching,
     /// Whose words are hidden.
     pub people: People,
     /// What people said.
@@ -52,6 +54,7 @@ impl Memory {
             situation: Situation::new(),
             advising: Advising::new(alloc),
             boards: Boards::new(),
+            watching: Watching::new(),
             people: People::new(alloc),
             talk: Talk::new(alloc),
             looking: Looking::new(),
@@ -70,6 +73,7 @@ impl Memory {
     pub fn forget_boards(&mut self) {
         self.advising.forget();
         self.boards = Boards::new();
+        self.watching.end();
         self.list.forget();
         self.said.clear();
     }

@@ -132,6 +132,7 @@ impl<'a> Screen<'a> {
     /// Says that a line was sent as it is.
     fn say_passed(&mut self, line: &[u8]) -> Result<(), AllocError> {
         self.memory.situation.hear_passed(line);
+        self.memory.watching.hear_passed(line);
         self.memory.advising.owes = true;
         self.page.say(b"sent as it is: ")?;
         self.page.show_row(line)

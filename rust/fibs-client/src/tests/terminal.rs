@@ -17,5 +17,6 @@ mod seats;
 mod spellings;
 mod story;
 mod texts;
+mod watched;
 mod worded;
 mod wordings;

@@ -1,0 +1,44 @@
+//! What a terminal hears of a game that the user watches.
+
+use crate::screen::Screen;
+use fibs_advice::watched::{Seen, read_seen};
+use fibs_boards::board::Board;
+use fibs_position::WatchedBoard;
+use std::alloc::AllocError;
+
+/// What is said if a game is watched, and no board of it has come.
+const NO_BOARD_YET: &[u8] = b"board shows the game now, unwatch ends it.\n";
+
+impl<'a> Screen<'a> {
+    /// Hears a board on which the user does not play. If a side has too many checkers, it is shown as the server sent
+    /// it.
+    pub(crate) fn hear_watched(&mut self, line: &[u8], board: &Board) -> Result<(), AllocError> {
+        let Some(watched) = WatchedBoard::of(board) else {
+            return self.page.show_row(line);
+        };
+        let memory = &mut self.memory;
+        let asked = memory.boards.asked;
+        let said = memory.said.as_slice();
+        memory
+            .watching
+            .show(&watched, asked, said, &mut self.page)?;
+        memory.boards.asked = false;
+        memory.said.clear();
+        self.hear_no_board();
+        Ok(())
+    }
+
+    /// Takes note of what a text says of a game that the user watches.
+    pub(crate) fn note_watching(&mut self, said: &[u8]) -> Result<(), AllocError> {
+        match read_seen(said) {
+            Some(Seen::Begins) => {
+                self.memory.watching.end();
+                return self.page.say(NO_BOARD_YET);
+            }
+            Some(Seen::Ends) => self.memory.watching.end(),
+            Some(Seen::Over(name)) if self.memory.watching.is_of(name) => self.memory.watching.end(),
+            _ => {}
+        }
+        Ok(())
+    }
+}

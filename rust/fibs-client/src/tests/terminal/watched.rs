@@ -1,0 +1,216 @@
+//! Boards that the user watches: their pictures, and the same in words, which were made by hand.
+
+use crate::fibs_messages::Board;
+use crate::fibs_picture::draw_watched;
+use crate::fibs_position::{GameBoard, PositionFault, WatchedBoard};
+use crate::fibs_words::tell_watched;
+
+/// A board, the lines of its picture, and its rows in words.
+struct Watched {
+    name: &'static str,
+    board: &'static str,
+    picture: &'static str,
+    words: &'static str,
+}
+
+static WATCHED: [Watched; 5] = [
+    Watched {
+        name: "O goes down, before his move",
+        board: "board:ann:bob:3:0:1:0:-2:0:0:0:0:5:0:3:0:0:0:-5:5:0:0:0:-3:0:-5:0:0:0:0:2:0:1:6:2:0:0:1:1:1:0:1:-1:0:25:0:0:0:0:2:0:0:0",
+        picture: " +13-14-15-16-17-18-+---+19-20-21-22-23-24-+   X bob
+ | O           X    |   | X              O |     score 1
+ | O           X    |   | X              O |     off   0
+ | O           X    |   | X                |     pips  167
+ | O                |   | X                |     dice  -
+ | O                |   | X                |   match to 3
+ |                  |BAR|                  |   cube 1, in the middle
+ | X                |   | O                |   O ann's turn
+ | X                |   | O                |     dice  6 2
+ | X           O    |   | O                |     pips  167
+ | X           O    |   | O              X |     off   0
+ | X           O    |   | O              X |     score 0
+ +12-11-10--9--8--7-+---+-6--5--4--3--2--1-+   O ann
+",
+        words: "ann against bob.
+ann to move.
+ann's dice 6 and 2, bob's none.
+Score 0 to 1, match to 3.
+Cube 1, in the middle.
+ann goes down, from 24 to 1.
+ann, 167 pips: 2 on 24, 5 on 13, 3 on 8, 5 on 6, none off.
+bob, 167 pips: 2 on 1, 5 on 12, 3 on 17, 5 on 19, none off.
+Held against ann: 19, 17, 12, 1.
+",
+    },
+    Watched {
+        name: "X goes up, and is offered a double; one on the opponent's bar, who has the cube",
+        board: "board:ann:eve:9999:2:7:0:-2:0:0:0:0:6:0:3:0:0:0:-4:4:0:0:0:-3:0:-6:0:0:0:0:1:0:-1:0:0:0:0:4:0:1:1:-1:1:25:0:0:0:0:1:0:0:0:0",
+        picture: " +12-11-10--9--8--7-+---+-6--5--4--3--2--1-+   X eve
+ | O           X    |   | X              O |     score 7
+ | O           X    |   | X              O |     off   0
+ | O           X    |   | X                |     pips  161
+ | O                |   | X                |     dice  -
+ |                  |   | 6                |   unlimited match
+ |                  |BAR|                  |   cube 4, X eve's
+ |                  |   | 6                |   O ann's turn
+ | X                |   | O                |     dice  -
+ | X           O    |   | O                |     pips  160
+ | X           O    |   | O                |     off   0
+ | X           O    | X | O              X |     score 2
+ +13-14-15-16-17-18-+---+19-20-21-22-23-24-+   O ann
+",
+        words: "ann against eve.
+ann is offered a double.
+ann's dice none, eve's none.
+Score 2 to 7, unlimited match.
+Cube 4, eve's, not ann's.
+ann goes up, from 1 to 24.
+ann, 160 pips: 2 on 1, 4 on 12, 3 on 17, 6 on 19, none off.
+eve, 161 pips: 1 on the bar, 1 on 24, 4 on 13, 3 on 8, 6 on 6, none off.
+Held against ann: 6, 8, 13.
+",
+    },
+    Watched {
+        name: "X goes down, can't enter, and has the cube",
+        board: "board:ann:bob:5:1:2:0:0:0:-5:0:0:-7:0:0:0:0:0:12:0:0:0:0:0:0:2:1:0:0:0:0:0:-1:6:6:0:0:2:1:0:0:-1:-1:0:25:2:0:1:0:0:0:0:0",
+        picture: " +13-14-15-16-17-18-+---+19-20-21-22-23-24-+   X bob
+ |                  | O | X  X             |     score 2
+ |                  |   | X                |     off   0
+ |                  |   |                  |     pips  173
+ |                  |   |                  |     dice  -
+ |                  |   |                  |   match to 5
+ |                  |BAR|                  |   cube 2, O ann's
+ |12                |   | 7        O       |   O ann's turn
+ | X                |   | O        O       |     dice  6 6
+ | X                |   | O        O       |     pips  82
+ | X                |   | O        O       |     off   2
+ | X                |   | O        O       |     score 1
+ +12-11-10--9--8--7-+---+-6--5--4--3--2--1-+   O ann
+",
+        words: "ann against bob.
+ann can't move.
+ann's dice 6 and 6, bob's none.
+Score 1 to 2, match to 5.
+Cube 2, ann's.
+ann goes down, from 24 to 1.
+ann, 82 pips: 1 on the bar, 7 on 6, 5 on 3, 2 off.
+bob, 173 pips: 12 on 12, 2 on 19, 1 on 20, none off.
+Held against ann: 19, 12.
+",
+    },
+    Watched {
+        name: "the game is over; the longest names and numbers, which begin alike",
+        board: "board:abcdefghijabcdefghijabcdefghijKLMNOPQRSTKLMNOPQRSTKLMNOPQRST:abcdefghijabcdefghijabcdefghijklmnopqrstklmnopqrstklmnopqrst:9998:99999999:99999999:0:0:0:0:0:0:0:0:0:0:0:0:0:0:0:0:0:0:0:0:0:0:0:0:0:0:0:0:0:0:0:1048576:0:1:0:1:1:25:0:15:0:0:15:0:0:0:0",
+        picture: " +12-11-10--9--8--7-+---+-6--5--4--3--2--1-+   X abcdefghijabcdefghijabcdefghij
+ |                  |   |                  |     score 99999999
+ |                  |   |                  |     off   0
+ |                  |   |                  |     pips  375
+ |                  |   |                  |     dice  -
+ |                  |   |                  |   match to 9998
+ |                  |BAR|                  |   cube 1048576, X abcdefghijabcd's
+ |                  |15 |                  |   nobody's turn
+ |                  | X |                  |     dice  -
+ |                  | X |                  |     pips  0
+ |                  | X |                  |     off   15
+ |                  | X |                  |     score 99999999
+ +13-14-15-16-17-18-+---+19-20-21-22-23-24-+   O abcdefghijabcdefghijabcdefghij
+",
+        words: "abcdefghijabcdefghijabcdefghij against abcdefghijabcdefghijabcdefghij.
+The game is over.
+abcdefghijabcdefghijabcdefghij's dice none, abcdefghijabcdefghijabcdefghij's none.
+Score 99999999 to 99999999, match to 9998.
+Cube 1048576, abcdefghijabcdefghijabcdefghij's, not abcdefghijabcdefghijabcdefghij's.
+abcdefghijabcdefghijabcdefghij goes up, from 1 to 24.
+abcdefghijabcdefghijabcdefghij, 0 pips: 15 off.
+abcdefghijabcdefghijabcdefghij, 375 pips: 15 on the bar, none off.
+Held against abcdefghijabcdefghijabcdefghij: none.
+",
+    },
+    Watched {
+        name: "the opponent has the turn and dice; names that look like words of a board",
+        board: "board:nobody:in:3:0:1:0:-2:0:0:0:0:5:0:3:0:0:0:-5:5:0:0:0:-3:0:-5:0:0:0:0:2:0:-1:0:0:3:1:1:0:0:0:1:-1:0:25:0:0:0:0:2:0:0:0",
+        picture: " +13-14-15-16-17-18-+---+19-20-21-22-23-24-+   X in
+ | O           X    |   | X              O |     score 1
+ | O           X    |   | X              O |     off   0
+ | O           X    |   | X                |     pips  167
+ | O                |   | X                |     dice  3 1
+ | O                |   | X                |   match to 3
+ |                  |BAR|                  |   cube 1, no doubling
+ | X                |   | O                |   X in's turn
+ | X                |   | O                |     dice  -
+ | X           O    |   | O                |     pips  167
+ | X           O    |   | O              X |     off   0
+ | X           O    |   | O              X |     score 0
+ +12-11-10--9--8--7-+---+-6--5--4--3--2--1-+   O nobody
+",
+        words: "nobody against in.
+in's turn.
+nobody's dice none, in's 3 and 1.
+Score 0 to 1, match to 3.
+Cube 1, no doubling.
+nobody goes down, from 24 to 1.
+nobody, 167 pips: 2 on 24, 5 on 13, 3 on 8, 5 on 6, none off.
+in, 167 pips: 2 on 1, 5 on 12, 3 on 17, 5 on 19, none off.
+Held against nobody: 19, 17, 12, 1.
+",
+    },
+];
+
+/// What is drawn of a board line that is watched, and what is told of it.
+fn shown(line: &str) -> (String, String) {
+    let board = Board::read(line.as_bytes()).expect("it is a board");
+    let watched = WatchedBoard::of(&board).expect("it is watched");
+    let (mut drawn, mut told) = (Vec::new(), Vec::new());
+    draw_watched(&watched, &mut drawn).expect("there is memory");
+    tell_watched(&watched, &mut told).expect("there is memory");
+    (String::from_utf8(drawn).expect("ASCII"), String::from_utf8(told).expect("ASCII"))
+}
+
+#[test]
+fn watched_boards_are_drawn_and_told() {
+    for watched in &WATCHED {
+        let (drawn, told) = shown(watched.board);
+        assert_eq!(drawn, watched.picture, "{}", watched.name);
+        assert_eq!(told, watched.words, "{}", watched.name);
+        assert!(drawn.lines().all(|line| line.len() <= 79), "{}", watched.name);
+    }
+}
+
+/// Boards that differ in who has the turn, who has the cube, or a name alone, of players whose names are one or are
+/// words of a board.
+#[test]
+fn boards_that_differ_are_shown_otherwise() {
+    let front = "0:0:1:0:-2:0:0:0:0:5:0:3:0:0:0:-5:5:0:0:0:-3:0:-5:0:0:0:0:2:0";
+    let mut seen = Vec::new();
+    for names in ["same:same", "nobody:in", "in:nobody", "O:X", "X:O", "no:The", "The:no", "s's:s", "s:s's"] {
+        for turn in ["1", "0", "-1"] {
+            for cube in ["1:1:1", "1:0:1", "1:1:0", "1:0:0"] {
+                let line = format!("board:{names}:{front}:{turn}:0:0:0:0:{cube}:0:1:-1:0:25:0:0:0:0:2:0:0:0");
+                seen.push(shown(&line));
+            }
+        }
+    }
+    for (at, one) in seen.iter().enumerate() {
+        for other in &seen[at + 1..] {
+            assert_ne!(one.0, other.0);
+            assert_ne!(one.1, other.1);
+        }
+    }
+}
+
+/// No board is both: what is watched is not decided on.
+#[test]
+fn a_watched_board_is_no_board_of_the_users_game() {
+    let watched = WATCHED[0].board;
+    let own = watched.replace(":ann:", ":You:");
+    let many = watched.replace(":-2:0:0:0:0:5:", ":15:0:0:0:0:5:");
+    for (line, is_watched, fault) in [
+        (watched, true, Some(PositionFault::NotYou)),
+        (&own, false, None),
+        (&many, false, Some(PositionFault::NotYou)),
+    ] {
+        let board = Board::read(line.as_bytes()).expect("it is a board");
+        assert_eq!(WatchedBoard::of(&board).is_some(), is_watched, "{line}");
+        assert_eq!(GameBoard::of(&board).err(), fault, "{line}");
+    }
+}
