@@ -1,3 +1,4 @@
 pub mod ObjectLemmas
 pub mod StreamLemmas
 pub mod TellingLemmas
+pub mod ToldLemmas

@@ -5,5 +5,6 @@ pub mod Boards
 pub mod Lines
 pub mod Streams
 pub mod Plays
+pub mod Told
 -- What only private functions and proofs say.
 pub mod Gains

@@ -11,4 +11,5 @@ pub mod plays;
 pub mod show;
 mod side;
 mod strings;
+pub mod told;
 pub mod values;

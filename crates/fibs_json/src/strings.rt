@@ -5,7 +5,7 @@ ghost use Rattle.fibs_json.specs.Json.{character, digit, in_string, inside, is_e
 use std::alloc::AllocError;
 
 /// Whether a byte does not stand in a string as it is.
-fn is_escaped(byte: u8) -> bool
+pub(crate) fn is_escaped(byte: u8) -> bool
     ensures { result ≡ is_escaped byte }
 {
     byte < 32 || 126 < byte || byte == b'"' || byte == b'\\'

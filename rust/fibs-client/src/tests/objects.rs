@@ -3,6 +3,7 @@ use super::outcomes::assert_is;
 use crate::fibs_engine::fault::EngineFault;
 use crate::fibs_json::plays::plays_json;
 use crate::fibs_json::show::show_json;
+use crate::fibs_json::told::told_line;
 use crate::fibs_objects::replay::replay_json;
 use crate::fibs_test_tools::outcome::Outcome;
 use crate::fibs_test_tools::pipe::{After, FAULT, Pipe};
@@ -88,5 +89,27 @@ fn prints_no_object_of_plays_after_a_failed_write() {
         let ending = if room < wanted.len() { Err(EngineFault::Device) } else { Ok(3) };
         let outcome = Outcome::new(answer, writer.output(), b"");
         assert_is("a write fails", room, &outcome, ending, [&wanted[..room], b""]);
+    }
+}
+
+/// A word of the command line, and the line that it says.
+static SAID: [(&[u8], &[u8]); 10] = [
+    (b"", b""),
+    (b"board:You:bob", b"board:You:bob"),
+    (b"{\"kind\":\"board\",\"line\":\"board:You:bob\",\"player\":\"You\"}", b"board:You:bob"),
+    (b"{\"kind\":\"board\",\"line\":\"a}\"}", b"a}"),
+    (b"{\"kind\":\"board\",\"line\":\"\"}", b""),
+    (b"{\"kind\":\"board\",\"line\":\"a\"", b"{\"kind\":\"board\",\"line\":\"a\""),
+    (b"{\"kind\":\"board\",\"line\":\"a}", b"{\"kind\":\"board\",\"line\":\"a}"),
+    (b"{\"kind\":\"board\",\"line\":\"\\u0022\"}", b"{\"kind\":\"board\",\"line\":\"\\u0022\"}"),
+    (b"{\"kind\":\"board\",\"line\":\"\x7f\"}", b"{\"kind\":\"board\",\"line\":\"\x7f\"}"),
+    (b"{\"kind\":\"cut\",\"line\":\"a\"}", b"{\"kind\":\"cut\",\"line\":\"a\"}"),
+];
+
+#[test]
+fn the_object_of_a_board_says_its_line() {
+    for (word, line) in &SAID {
+        let said = told_line(word);
+        assert_eq!(said, *line, "{}", String::from_utf8_lossy(word));
     }
 }
