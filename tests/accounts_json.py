@@ -101,6 +101,50 @@ def other_lines_are_as_shown(program):
         same(line, list(played(program, line, 3).items()), list(shown(program, line).items()))
 
 
+def listed(program, *words):
+    """How `plays` ends for these words, and what it prints."""
+    done = subprocess.run([program, 'plays', *words], capture_output=True, timeout=60, check=False)
+    return done.returncode, done.stdout, done.stderr
+
+
+def boards_go_in_again(program):
+    """The object of a board is listed as its line is: a board with plays, without them, and without a position."""
+    given = b''.join((ROOT / 'examples' / name).read_bytes() for name in ('capture.txt', 'board.txt'))
+    given += b'\n'.join(line.encode() for line in (BEARING, ENTERING, BEARING.replace(':You:', ':ann:'))) + b'\n'
+    shown_lines = lines_of(program, ['show', '--json'], given)
+    boards = [line.decode() for line in shown_lines if json.loads(line)['kind'] == 'board']
+    same('there are some', len(boards) > 4, True)
+    statuses = set()
+    for text in boards:
+        line = json.loads(text)['line']
+        for options in [], ['--json']:
+            wanted = listed(program, *options, line)
+            with_plays = listed(program, '--json', line)[1].decode().rstrip('\n')
+            for word in text, with_plays:
+                same('%s %s' % (options, word), listed(program, *options, word), wanted)
+            statuses.add(wanted[0])
+    same('with a position, and without', statuses, {0, 3})
+
+
+def other_words_are_lines(program):
+    """What is not the object of a board as it is printed is a line, as it was before."""
+    text = json.dumps(shown(program, BEARING), separators=(',', ':'))
+    same('an object', listed(program, text)[0], 0)
+    named = BEARING.replace(':bob:', ':b"b:')
+    escaped = lines_of(program, ['plays', '--json', named], b'')[0].decode()
+    for word in (text[:-1], text + ' ', ' ' + text, text.replace('"board"', '"text"'), text.replace(':', ': ', 1),
+                 text.replace('"line"', '"lines"'), text.replace(':bob:', ':b\\u006fb:'),
+                 text.replace(':bob:', ':b\\"b:'), json.dumps(json.loads(text)), escaped, '{', '{}',
+                 '{"kind":"board","line":"', '{"kind":"board","line":"}', '{"kind":"board"}', '{"line":"%s"}' % BEARING,
+                 '{"kind":"text","line":"hello"}', '{"kind":"unfinished","bytes":7}'):
+        same(word, listed(program, word), (3, b'', b'not a board\n'))
+        same(word, played(program, word, 3), {'kind': 'text', 'line': word})
+    same('its line', listed(program, named)[0], 0)
+    for line, why in ('', b'not a board\n'), ('hello', b'not a board\n'), ('board:You', b'malformed 0 3 Missing\n'):
+        word = '{"kind":"board","line":"%s"}' % line
+        same(word, listed(program, word), (3, b'', why))
+
+
 def said_of(entry):
     """What a line of `replay` says by name, but for its board."""
     word, *rest = entry.split(' ')
@@ -238,8 +282,8 @@ def the_page_asks_jq_so(program):
             same(command, (done.stdout, done.stderr), (wanted, ''))
 
 
-CASES = [plays_are_these, plays_say_what_is_listed, other_lines_are_as_shown, scripts_are_replayed_so,
-         conversations_are_printed_so, a_login_is_refused_as_without, a_full_device_is_a_fault, the_page_asks_jq_so]
+CASES = [plays_are_these, plays_say_what_is_listed, other_lines_are_as_shown, boards_go_in_again,
+         other_words_are_lines, scripts_are_replayed_so, conversations_are_printed_so, a_login_is_refused_as_without, a_full_device_is_a_fault, the_page_asks_jq_so]
 
 
 def main():

@@ -322,7 +322,19 @@ def plays_word(rng):
         line = mutate_field(rng, line)
     if rng.random() < 0.05:
         line = mutate_bytes(rng, line)
-    return a_word(line)
+    return a_word(as_object(rng, line) if rng.random() < 0.2 else line)
+
+
+def as_object(rng, line):
+    """Mostly the object of a board of this line, or one that nearly is."""
+    word = b'{"kind":"board","line":"%s","player":"You"}' % line
+    kind = rng.randrange(8)
+    if kind == 0:
+        return mutate_bytes(rng, word)
+    if kind == 1:
+        at = rng.randrange(len(word))
+        return word[:at] + rng.choice((b'"', b'}', b'\\', b'\\u0022', b' ', b'')) + word[at + 1:]
+    return word
 
 
 def a_word(line):

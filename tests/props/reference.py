@@ -304,8 +304,16 @@ def greatest_plays(position, dice):
         greatest = larger if of_larger else greatest
     return sorted(greatest.values(), reverse=True)
 
-def plays(line):
+OBJECT = re.compile(rb'\{"kind":"board","line":"([ !#-\[\]-~]*)".*\}', re.S)
+
+def told_line(word):
+    """The line of a word: that of a board whose object it is, or the word itself."""
+    found = OBJECT.fullmatch(word)
+    return found[1] if found else word
+
+def plays(word):
     """What it prints for its word, the status, and what it says on standard error."""
+    line = told_line(word)
     if not line.startswith(b'board:'):
         return b'', 3, b'not a board\n'
     try:

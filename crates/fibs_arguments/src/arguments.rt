@@ -66,7 +66,8 @@ const PLAYS: &str = "List the plays of a board";
 const PLAYS_LONG: &str = "\
 List the plays of a board.
 
-LINE is a board line of style 3. Prints
+LINE is a board line of style 3, or the JSON object of one as
+`fibs show --json` prints it. Prints
 
   phase PHASE             what may happen next: Over, AnswerDouble,
                           OpponentActs, RollOrDouble, Move or Passing
@@ -268,7 +269,7 @@ const PORT: &str = "The server's port, 1 to 65535";
 
 const NAME: &str = "The name under which you log in";
 
-const LINE: &str = "A board line of style 3, which begins with `board:`";
+const LINE: &str = "A board line of style 3, which begins with `board:`, or its JSON object";
 
 const LOOP: &str = "Play a script over sockets of this machine";
 
@@ -307,7 +308,7 @@ pub enum Request<'a> {
     Show,
     /// To show the standard input as JSON.
     ShowJson,
-    /// To list the plays of a board line.
+    /// To list the plays of a board line, or of its object.
     Plays(&'a str),
     /// To list them as JSON.
     PlaysJson(&'a str),

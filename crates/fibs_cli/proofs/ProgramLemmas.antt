@@ -6,14 +6,15 @@ use Rattle.std.specs.Borrow.{Bor}
 use Rattle.std.specs.Io.KnownBytes.{Appends, Keeps, IsAtEnd}
 use Rattle.fibs_boards.specs.Board.{BoardFields}
 use Rattle.fibs_show.specs.Plays.{PlaysText}
-use Rattle.fibs_cli.specs.Program.{Streams, Showed, ShowedObjects, Listed, Played, RanScript}
-use Rattle.fibs_cli.specs.Program.{ListedObject, PlayedScript, RanObjects, Served}
+use Rattle.fibs_cli.specs.Program.{Streams, Showed, ShowedObjects, Listed, Played, PlayedWord, RanScript}
+use Rattle.fibs_cli.specs.Program.{ListedObject, ListedWord, PlayedScript, RanObjects, Served}
 use Rattle.fibs_engine.specs.Printing.{Printed, line_bytes}
 use Rattle.fibs_scripts.specs.Output.{LoggedInPart, Replayed, ReplayFailed, ReplayedInPart}
 use Rattle.fibs_scripts.specs.Scripts.{script_limit}
 use Rattle.fibs_engine.specs.Reads.{LostAtMost}
 use Rattle.fibs_show.specs.Show.{WroteAll, WroteRead, WroteLines, WroteFront}
 use Rattle.fibs_json.specs.Plays.{PlaysObject}
+use Rattle.fibs_json.specs.Told.{SaysLine}
 use Rattle.fibs_json.specs.Streams as objects
 use Rattle.fibs_objects.specs.Replayed.{ObjectsFailed, ObjectsInPart, ReplayedObjects}
 use Rattle.fibs_engine.specs.Writing.{GainedFront}
@@ -78,11 +79,11 @@ listed_object (Ok status) line a b done device memory = done
 listed_object (Err Device) line a b done device memory = device refl
 listed_object (Err Memory) line a b done device memory = memory refl
 
--- a request for the plays of a line as JSON is served so
-pub served_listed : (request : Request) (line : Bor (List ℕ)) (r : Result ℕ EngineFault) (a b : Streams)
-    → request ≡ PlaysJson line → ListedObject line.now r a b → Keeps a.input b.input → Keeps a.err b.err
+-- a request for the plays of a word as JSON is served so
+pub served_listed : (request : Request) (word : Bor (List ℕ)) (r : Result ℕ EngineFault) (a b : Streams)
+    → request ≡ PlaysJson word → ListedWord word.now r a b → Keeps a.input b.input → Keeps a.err b.err
     → Served request r a b
-served_listed request line r a b is listed kept silent = subst (λ q. Served q r a b) (sym is) (listed, kept, silent)
+served_listed request word r a b is listed kept silent = subst (λ q. Served q r a b) (sym is) (listed, kept, silent)
 
 -- the clauses of `replay_json` in one
 pub ran_objects : (r : Result ℕ EngineFault) (a b : Streams)
@@ -113,10 +114,20 @@ pub served_objects : (request : Request) (r : Result ℕ EngineFault) (a b : Str
     → ShowedObjects r a b → Keeps a.err b.err → Served request r a b
 served_objects request r a b is shown kept = subst (λ q. Served q r a b) (sym is) (shown, kept)
 
--- a request for the plays of a line is served so
-pub served_plays : (request : Request) (line : Bor (List ℕ)) (r : Result ℕ EngineFault) (a b : Streams)
-    → request ≡ Plays line → Played line.now r a b → Keeps a.input b.input → Served request r a b
-served_plays request line r a b is played kept = subst (λ q. Served q r a b) (sym is) (played, kept)
+-- a request for the plays of a word is served so
+pub served_plays : (request : Request) (word : Bor (List ℕ)) (r : Result ℕ EngineFault) (a b : Streams)
+    → request ≡ Plays word → PlayedWord word.now r a b → Keeps a.input b.input → Served request r a b
+served_plays request word r a b is played kept = subst (λ q. Served q r a b) (sym is) (played, kept)
+
+-- what was answered for the line that the bytes of a word say
+pub for_word : (word bytes line : List ℕ) (r : Result ℕ EngineFault) (a b : Streams) → bytes ≡ word
+    → SaysLine bytes line → Played line r a b → PlayedWord word r a b
+for_word word bytes line r a b is says played = (line, subst (λ l. SaysLine l line) is says, played)
+
+-- the same as JSON
+pub listed_word : (word bytes line : List ℕ) (r : Result ℕ EngineFault) (a b : Streams) → bytes ≡ word
+    → SaysLine bytes line → ListedObject line r a b → ListedWord word r a b
+listed_word word bytes line r a b is says listed = (line, subst (λ l. SaysLine l line) is says, listed)
 
 -- a request to play a script over sockets is served so
 pub served_loop : (request : Request) (r : Result ℕ EngineFault) (a b : Streams)

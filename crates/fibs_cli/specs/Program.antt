@@ -9,6 +9,7 @@ use Rattle.fibs_show.specs.Plays.{PlaysText, Refusal}
 use Rattle.fibs_scripts.specs.Output.{LoggedInPart, Replayed, ReplayFailed, ReplayedInPart}
 use Rattle.fibs_show.specs.Show.{WroteAll, WroteRead, WroteLines, WroteFront}
 use Rattle.fibs_json.specs.Plays.{PlaysObject}
+use Rattle.fibs_json.specs.Told.{SaysLine}
 use Rattle.fibs_json.specs.Streams as objects
 use Rattle.fibs_objects.specs.Replayed.{ObjectsFailed, ObjectsInPart, ReplayedObjects}
 use Rattle.fibs_engine.specs.Printing.{Printed, line_bytes}
@@ -62,6 +63,10 @@ Played line result a b =
     × ((reading : ReadingValue) → (why : List ℕ) → IsReading line reading → Refusal reading why →
     Printed 3 (why ++ (10 ∷ [])) result a.err b.err × Keeps a.out b.out)
 
+-- the engine `plays` answered so for the line that this word says
+abbrev pub PlayedWord : List ℕ → Result ℕ EngineFault → Streams → Streams → Type 0
+PlayedWord word result a b = (line : List ℕ) × SaysLine word line × Played line result a b
+
 -- the engine `plays --json` answered so for this line
 abbrev pub ListedObject : List ℕ → Result ℕ EngineFault → Streams → Streams → Type 0
 ListedObject line (Ok status) a b =
@@ -69,6 +74,10 @@ ListedObject line (Ok status) a b =
 ListedObject line (Err fault.Device) a b =
     (text : List ℕ) × (status : ℕ) × PlaysObject line text status × GainedFront a.out b.out (line_bytes text)
 ListedObject line (Err fault.Memory) a b = Keeps a.out b.out
+
+-- the engine `plays --json` answered so for the line that this word says
+abbrev pub ListedWord : List ℕ → Result ℕ EngineFault → Streams → Streams → Type 0
+ListedWord word result a b = (line : List ℕ) × SaysLine word line × ListedObject line result a b
 
 -- the engine `replay` answered so
 abbrev pub RanScript : Result ℕ EngineFault → Streams → Streams → Type 0
@@ -93,8 +102,8 @@ PlayedScript (Err fault.Memory) left still held now = ReplayedInPart left still 
 abbrev pub Served : Request → Result ℕ EngineFault → Streams → Streams → Type 0
 Served Show result a b = Showed result a b × Keeps a.err b.err
 Served ShowJson result a b = ShowedObjects result a b × Keeps a.err b.err
-Served (Plays line) result a b = Played line.now result a b × Keeps a.input b.input
-Served (PlaysJson line) result a b = ListedObject line.now result a b × Keeps a.input b.input × Keeps a.err b.err
+Served (Plays word) result a b = PlayedWord word.now result a b × Keeps a.input b.input
+Served (PlaysJson word) result a b = ListedWord word.now result a b × Keeps a.input b.input × Keeps a.err b.err
 Served Replay result a b = RanScript result a b × Keeps a.err b.err
 Served ReplayJson result a b = RanObjects result a b × Keeps a.err b.err
 Served Loop result a b = PlayedScript result a.input b.input a.out b.out × Keeps a.err b.err

@@ -9,6 +9,7 @@ pub use fibs_engine::dial::READ_MILLIS;
 pub use fibs_engine::fault::EngineFault;
 pub use fibs_engine::link::Link;
 pub use fibs_exchange::{Ending, ExchangeFault, exchange};
+pub use fibs_json::told::told_line;
 pub use fibs_replay::play_loop::play_loop;
 pub use fibs_replay::replay;
 pub use fibs_show::plays::plays;

@@ -10,6 +10,7 @@ use fibs_engine::status::Status;
 use fibs_engine::writing::write_bytes;
 use fibs_json::plays::plays_json;
 use fibs_json::show::show_json;
+use fibs_json::told::told_line;
 use fibs_objects::replay::replay_json;
 use fibs_replay::play_loop::play_loop;
 use fibs_replay::replay;
@@ -57,8 +58,8 @@ fn serve<N: Net<Listener = TcpListener, Stream = TcpStream>, R: Read, W: Write, 
     match request {
         Request::Show => show(alloc, input, out),
         Request::ShowJson => show_json(alloc, input, out),
-        Request::Plays(line) => plays(alloc, line.as_bytes(), out, err),
-        Request::PlaysJson(line) => plays_json(alloc, line.as_bytes(), out),
+        Request::Plays(word) => plays(alloc, told_line(word.as_bytes()), out, err),
+        Request::PlaysJson(word) => plays_json(alloc, told_line(word.as_bytes()), out),
         Request::Replay => replay(alloc, input, out),
         Request::ReplayJson => replay_json(alloc, input, out),
         Request::Loop => play_here(rt, alloc, input, out),

@@ -6,7 +6,7 @@ use crate::showing::show_on;
 use crate::streams::Streams;
 use arrayvec::ArrayVec;
 use fibs_arguments::{Answer, Asked, Call, Request};
-use fibs_cli::program;
+use fibs_cli::{program, told_line};
 use fibs_drawing::append_picture;
 use fibs_engine::dial::READ_MILLIS;
 use fibs_engine::fault::EngineFault;
@@ -71,7 +71,7 @@ fn run_here(
     if rt.stdout().is_terminal() {
         match answer {
             Answer::Engine(Request::Show) => return show(rt, streams),
-            Answer::Engine(Request::Plays(line)) => draw(rt, streams, line.as_bytes())?,
+            Answer::Engine(Request::Plays(word)) => draw(rt, streams, told_line(word.as_bytes()))?,
             _ => {}
         }
     }

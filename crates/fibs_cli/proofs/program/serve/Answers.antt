@@ -1,9 +1,9 @@
-use Rattle.std.proofs.Common.{◌++◌, ◌∷◌, [], subst}
+use Rattle.std.proofs.Common.{◌++◌, ◌∷◌, []}
 use Rattle.std.proofs.KnownBytes.{Keeps-refl}
-use Rattle.fibs_cli.specs.Program.{ListedObject, Streams, streams, Played}
+use Rattle.fibs_cli.specs.Program.{Streams, streams, Played}
 use Rattle.fibs_cli.proofs.ProgramLemmas.{showed, listed, printed, ran_script, served_replay, served_show, served_plays}
-use Rattle.fibs_cli.proofs.ProgramLemmas.{served_loop, showed_objects, served_objects, listed_object}
-use Rattle.fibs_cli.proofs.ProgramLemmas.{served_listed, ran_objects, served_ran}
+use Rattle.fibs_cli.proofs.ProgramLemmas.{served_loop, showed_objects, served_objects, listed_object, listed_word}
+use Rattle.fibs_cli.proofs.ProgramLemmas.{for_word, served_listed, ran_objects, served_ran}
 use Rattle.fibs_cli.proofs.program.serve.Goals as goal
 
 pub returns-in-Show : goal.returns-in-Show
@@ -48,7 +48,7 @@ returns-in-Plays g c =
     let err = g.E.Write.contents in
     let a : Streams = streams input (out c.args.out.now) (err c.args.err.now) in
     let b : Streams = streams input (out c.plays.new.out) (err c.plays.new.err) in
-    let played : Played c.as_bytes.result.now r a b = (
+    let played : Played c.told_line.result.now r a b = (
       λ board is good. (
         listed r board a b (told.good board is good) (told.good_device board is good)
             (λ failed. (told.memory failed).0),
@@ -59,8 +59,9 @@ returns-in-Plays g c =
         told.refused_silent reading why is refusal,
       ),
     ) in
-    served_plays c.args.request c.in-Plays.line r a b c.in-Plays.is
-    (subst (λ line. Played line r a b) c.as_bytes.ensures.value played) (Keeps-refl input)
+    served_plays c.args.request c.in-Plays.word r a b c.in-Plays.is
+    (for_word c.in-Plays.word.now c.as_bytes.result.now c.told_line.result.now r a b c.as_bytes.ensures.value
+    c.told_line.ensures played) (Keeps-refl input)
 
 pub returns-in-Loop : goal.returns-in-Loop
 returns-in-Loop g c =
@@ -81,10 +82,11 @@ returns-in-PlaysJson g c =
     let err = g.E.Write.contents c.args.err.now in
     let a : Streams = streams input (out c.args.out.now) err in
     let b : Streams = streams input (out c.plays_json.new.out) err in
-    served_listed c.args.request c.in-PlaysJson.line r a b c.in-PlaysJson.is
-    (subst (λ line. ListedObject line r a b) c.as_bytes-in-PlaysJson.ensures.value
-    (listed_object r c.as_bytes-in-PlaysJson.result.now a b told.done told.device told.memory)) (Keeps-refl input)
-    (Keeps-refl err)
+    let line = c.told_line-in-PlaysJson.result.now in
+    served_listed c.args.request c.in-PlaysJson.word r a b c.in-PlaysJson.is
+    (listed_word c.in-PlaysJson.word.now c.as_bytes-in-PlaysJson.result.now line r a b
+    c.as_bytes-in-PlaysJson.ensures.value c.told_line-in-PlaysJson.ensures
+    (listed_object r line a b told.done told.device told.memory)) (Keeps-refl input) (Keeps-refl err)
 
 pub returns-in-ReplayJson : goal.returns-in-ReplayJson
 returns-in-ReplayJson g c =
