@@ -81,7 +81,7 @@ def names_of_the_page_are_in_the_package(counts):
 
 
 def the_types_hold(counts):
-    """Of the package strictly; of the programs as far as they have types."""
+    """Of the package and of the page's own program strictly; of the programs as far as they have types."""
     mypy = shutil.which('mypy')
     if not mypy:
         counts.leave_out('there is no mypy')
@@ -91,6 +91,9 @@ def the_types_hold(counts):
         told = subprocess.run([mypy, '--cache-dir', '/dev/null', *words], capture_output=True, text=True,
                               cwd=ROOT / folder, env={**os.environ, 'MYPYPATH': str(ROOT / 'python')})
         counts.check(told.returncode == 0, told.stdout + told.stderr)
+    told = subprocess.run([mypy, '--cache-dir', '/dev/null', '--strict', '-c', '\n'.join(blocks('python'))],
+                          capture_output=True, text=True, cwd=ROOT, env={**os.environ, 'MYPYPATH': str(ROOT / 'python')})
+    counts.check(told.returncode == 0, told.stdout + told.stderr)
 
 
 TESTS = [the_sessions_of_the_page_are_as_they_run, the_example_of_asyncio_plays_a_game,

@@ -269,7 +269,7 @@ const PORT: &str = "The server's port, 1 to 65535";
 
 const NAME: &str = "The name under which you log in";
 
-const LINE: &str = "A board line of style 3, which begins with `board:`, or its JSON object";
+const LINE: &str = "A board line of style 3, `board:...`, or its JSON object";
 
 const LOOP: &str = "Play a script over sockets of this machine";
 
