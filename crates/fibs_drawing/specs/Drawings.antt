@@ -7,8 +7,8 @@ use Rattle.fibs_picture.specs.Told.{SameToTheEye}
 use Rattle.fibs_words.specs.Words.{words}
 use Rattle.fibs_environment.specs.declared.settings.Settings.{Settings}
 
--- the terminal takes the picture as it is: it shows nothing in bold, and is wide enough; the user has asked for no other
--- letters and no other side
+-- the terminal takes the picture as it is: it shows nothing in bold, and is wide enough; the user has asked for no
+-- other letters and no other side
 abbrev pub is_plain : Settings → Bool
 is_plain s =
     not s.words && (not s.colour && (is_none s.letters && (not s.is_turned && nat_le 79 s.columns)))

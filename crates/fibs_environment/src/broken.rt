@@ -1,5 +1,5 @@
 //! Rows that are no wider than a terminal.
-ghost use Rattle.std.specs.Prelude.{◌≡◌, ◌++◌, map};
+ghost use Rattle.std.specs.Prelude.{◌≡◌, map};
 ghost use Rattle.fibs_environment.specs.Broken.{spaced};
 
 /// Whether a byte is one of a character of UTF-8 after its first: it takes no column of its own.

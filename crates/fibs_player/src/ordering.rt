@@ -1,4 +1,5 @@
-//! The standing order that the user's own settings ask for: it goes as if it were typed as soon as there is a connection.
+//! The standing order that the user's own settings ask for: it goes as if it were typed as soon as there is a
+//! connection.
 
 use fibs_engine::dial::Dial;
 use fibs_front::watch::{First, Watch};

@@ -61,7 +61,8 @@ fn roller_of(game: &GameBoard) -> Option<Roller> {
     }
 }
 
-/// Whether a board is of another game than the one before it. The score may be that of the game's end on its last board.
+/// Whether a board is of another game than the one before it. On the last board of a game the score may be that of its
+/// end.
 fn begins_anew(before: &GameBoard, game: &GameBoard) -> bool {
     let (a, b) = (before.board(), game.board());
     if a.opponent().bytes() != b.opponent().bytes()

@@ -1,4 +1,4 @@
--- What puts a title into a terminal's window (xterm's control sequences: OSC 2, and CSI 22 and 23 for the stack of titles).
+-- What puts a title into a terminal's window (xterm's control sequences: OSC 2, and CSI 22 for the stack of titles).
 use Rattle.std.specs.Prelude.{◌≡◌, ◌++◌, ◌⊎◌, ℕ, List, [], ◌∷◌, codes}
 
 -- keeps the title that the window has

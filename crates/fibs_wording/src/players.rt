@@ -20,7 +20,7 @@ const NAME_COLUMNS: usize = 22;
 
 const NAME_SHOWN: usize = 20;
 
-/// What stands behind the name of a player with whom a match is saved, and what is said of it below the list.
+/// What follows the name of a player with whom a match is saved, and what is said of it below the list.
 const STAR: &[u8] = b" *";
 
 const STAR_WORDS: &[u8] = b"* your match with this player is saved: invite NAME resumes it.\n";

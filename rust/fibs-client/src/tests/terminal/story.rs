@@ -34,7 +34,7 @@ fn rolled(board: &Board, dice: [u8; 2]) -> GameBoard {
     good(&effect(board, &Decision::Roll, dice).expect("a roll"))
 }
 
-/// A play by chance on a board that shows dice; the empty one if nothing can be played.
+/// Any play on a board that shows dice; the empty one if nothing can be played.
 fn any_play(game: &GameBoard, chance: &mut Chance) -> Play {
     let plays = game.position().plays().expect("memory");
     match plays.len() {
