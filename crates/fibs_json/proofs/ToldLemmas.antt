@@ -131,6 +131,7 @@ one_object word j k one two =
     (openings_tell (codes "board") (codes "board") j k (one.1.0 ++ (125 ∷ [])) (two.1.0 ++ (125 ∷ []))
     (sym one.1.1 ∙ two.1.1)).1
 
+-- no word says two lines
 pub words_say_one : WordsSayOneLine
 words_say_one word j k one two = elim one [
   | inl a ↦ elim two [
@@ -157,6 +158,7 @@ board_object b line text h shown = elim shown [
   | inr plays ↦ (h, (_, plays.4))
 ]
 
+-- what is printed for a board's line says that line alone
 pub go_in_again : BoardsGoInAgain
 go_in_again b line text said h shown =
     let is = board_object b line text h shown in (
@@ -173,6 +175,7 @@ begins_so word line h = ap begins_object h.1.1
 no_object : (word : List ℕ) → begins_object word ≡ false → IsNoObject word
 no_object word h line is = let both : true ≡ false = sym (begins_so word line is) ∙ h in absurd (cc)
 
+-- a word that does not begin as an object says itself alone
 pub others_are_lines : OtherWordsAreLines
 others_are_lines word line h =
     let none = no_object word h in (

@@ -1,5 +1,5 @@
 //! Whose turn it is, the dice, the cube, and which way the player goes, by the names of the players.
-ghost use Rattle.std.specs.Prelude.{◌≡◌, ◌≤◌, ◌==◌, ◌&&◌, ◌++◌, OnOk, codes};
+ghost use Rattle.std.specs.Prelude.{◌≡◌, ◌≤◌, ◌==◌, ◌++◌, OnOk, codes};
 ghost use Rattle.std.specs.Fmt.{signed_decimal};
 ghost use Rattle.std.specs.Io.KnownBytes.{Appends};
 ghost use Rattle.fibs_boards.specs.Board.{field_of};
@@ -10,7 +10,6 @@ ghost use Rattle.fibs_position.specs.Phases.{phase_in};
 ghost use Rattle.fibs_picture.specs.Picture.{is_one};
 ghost use Rattle.fibs_words.specs.Watched.{against_row, is_others, offered_said, turn_named, dice_said, dice_named};
 ghost use Rattle.fibs_words.specs.Watched.{owner_said, cube_named, way_said, held_named};
-ghost use Rattle.fibs_words.specs.Words.{pair};
 
 use crate::dice::{is_none, write_pair};
 use crate::held::write_numbers;

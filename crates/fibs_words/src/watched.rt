@@ -1,5 +1,5 @@
 //! A board that the user watches, in words.
-ghost use Rattle.std.specs.Prelude.{◌∷◌, ◌++◌, [], OnOk, take};
+ghost use Rattle.std.specs.Prelude.{◌∷◌, ◌++◌, [], OnOk};
 ghost use Rattle.std.specs.List.{flat_map};
 ghost use Rattle.std.specs.Io.KnownBytes.{Appends};
 ghost use Rattle.fibs_boards.specs.Board.{field_of};

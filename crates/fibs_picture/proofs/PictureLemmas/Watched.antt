@@ -1,9 +1,9 @@
 -- The picture of a watched board determines it, with both names.
-use Rattle.std.proofs.Common.{◌≡◌, ◌⊎◌, ◌<◌, ◌≤◌, ◌==◌, ◌&&◌, ◌++◌, ℕ, Bool, true, false, not, cond, List, [], ◌∷◌}
+use Rattle.std.proofs.Common.{◌≡◌, ◌<◌, ◌==◌, ◌&&◌, ◌++◌, ℕ, Bool, true, false, not, cond, List, [], ◌∷◌}
 use Rattle.std.proofs.Common.{length, take, codes, refl, sym, ◌∙◌, ap, append-nil, lit<, nat_lt, nat_le}
 use Rattle.std.specs.Prelude.{ℤ, pos, slice_index_or}
 use Rattle.std.specs.Fmt.{signed_decimal}
-use Rattle.std.specs.List.{flat_map, list_all}
+use Rattle.std.specs.List.{list_all}
 use Rattle.std.specs.Ordering.{int_eq}
 use Rattle.std.proofs.lemmas.Bool.{and_parts}
 use Rattle.std.proofs.lemmas.List.{append_cancel_left}
@@ -15,10 +15,10 @@ use Rattle.fibs_position.specs.OwnView.{own_view, turn, colour}
 use Rattle.fibs_position.specs.PositionValue.{position_of}
 use Rattle.fibs_position.specs.Watched.{IsWatched}
 use Rattle.fibs_picture.specs.Cells.{own_letter, other_letter}
-use Rattle.fibs_picture.specs.Picture.{line, edge, named, score, off, pips, own_pips, other_pips, dice}
+use Rattle.fibs_picture.specs.Picture.{edge, named, score, off, pips, own_pips, other_pips, dice}
 use Rattle.fibs_picture.specs.Picture.{match_length, is_one}
 use Rattle.fibs_picture.specs.Told.{Whose, nobodys, the_players, the_opponents}
-use Rattle.fibs_picture.specs.Watched.{possessive, turn_of, watched_turn, doublers_of, watched_cube, watched_lines}
+use Rattle.fibs_picture.specs.Watched.{possessive, watched_turn, doublers_of, watched_cube, watched_lines}
 use Rattle.fibs_picture.specs.Watched.{watched_picture}
 use Rattle.fibs_picture.specs.WatchedTold.{SameToTheWatcher, WatchedPictureTells}
 use Rattle.fibs_picture.specs.declared.half.Half.TheVariants as half
@@ -54,6 +54,7 @@ abbrev turn_text : Bool → Bool → List ℕ → List ℕ → List ℕ
 turn_text none own player opponent = cond none (codes "nobody's turn")
     (cond own (possessive own_letter player ++ codes " turn") (possessive other_letter opponent ++ codes " turn"))
 
+-- the words on the turn, by two tests, have no line end
 turn_text-lacks : (none own : Bool) (player opponent : List ℕ) → lacks 10 player ≡ true → lacks 10 opponent ≡ true
     → lacks 10 (turn_text none own player opponent) ≡ true
 turn_text-lacks true own player opponent h k = refl
@@ -73,6 +74,7 @@ abbrev whose_read : List ℕ → Whose
 whose_read text = cond (slice_index_or text 0 0 == 110) nobodys (cond
     (slice_index_or text 0 0 == 79) the_players the_opponents)
 
+-- whose turn it is, is read in them
 turn-read : (none own : Bool) (player opponent : List ℕ)
     → whose_read (turn_text none own player opponent) ≡ whose none own
 turn-read true own player opponent = refl
@@ -98,6 +100,7 @@ owners true false player opponent = 32 ∷ possessive own_letter player
 owners false true player opponent = 32 ∷ possessive other_letter opponent
 owners false false player opponent = codes " no doubling"
 
+-- what is said of who may double begins with a comma
 doublers-comma : (a b : Bool) (player opponent : List ℕ)
     → doublers_of a b player opponent ≡ 44 ∷ owners a b player opponent
 unfolding doublers_of
@@ -106,6 +109,7 @@ doublers-comma true false player opponent = refl
 doublers-comma false true player opponent = refl
 doublers-comma false false player opponent = refl
 
+-- what is said of who may double has no line end
 doublers_of-lacks : (a b : Bool) (player opponent : List ℕ) → lacks 10 player ≡ true → lacks 10 opponent ≡ true
     → lacks 10 (doublers_of a b player opponent) ≡ true
 unfolding doublers_of
@@ -121,12 +125,14 @@ own_read text = cond (slice_index_or text 1 0 == 105) true (slice_index_or text 
 abbrev other_read : List ℕ → Bool
 other_read text = cond (slice_index_or text 1 0 == 105) true (slice_index_or text 1 0 == 88)
 
+-- who may double is read in the words behind the comma
 owners-read : (a b : Bool) (p o : List ℕ) → (own_read (owners a b p o) ≡ a) × (other_read (owners a b p o) ≡ b)
 owners-read true true p o = (refl, refl)
 owners-read true false p o = (refl, refl)
 owners-read false true p o = (refl, refl)
 owners-read false false p o = (refl, refl)
 
+-- equal words are of the same side, or sides, that may double
 owners-tell : (a b c d : Bool) (p o p' o' : List ℕ) → owners a b p o ≡ owners c d p' o' → (a ≡ c) × (b ≡ d)
 owners-tell a b c d p o p' o' e = let x = owners-read a b p o in let y = owners-read c d p' o' in
     (sym x.0 ∙ ap own_read e ∙ y.0, sym x.1 ∙ ap other_read e ∙ y.1)
@@ -134,6 +140,7 @@ owners-tell a b c d p o p' o' e = let x = owners-read a b p o in let y = owners-
 abbrev cube_text : ℤ → Bool → Bool → List ℕ → List ℕ → List ℕ
 cube_text z a b p o = codes "cube " ++ (signed_decimal z ++ doublers_of a b p o)
 
+-- equal texts are of the same cube, and of the same sides that may double
 cube_text-tells : (y z : ℤ) (a b c d : Bool) (p o p' o' : List ℕ) → Within 1048576 y → Within 1048576 z
     → cube_text y a b p o ≡ cube_text z c d p' o' → (y ≡ z) × (a ≡ c) × (b ≡ d)
 cube_text-tells y z a b c d p o p' o' h k e =
@@ -183,6 +190,7 @@ record Ended (b : BoardFields) : Type 0 where
   own_score : lacks 10 (score (field_of b 5)) ≡ true
   player : lacks 10 (named 79 b.player) ≡ true
 
+-- no text beside the picture of a watched board has a line end
 ended : FieldRanges → (b : BoardFields) → IsWatched b → Ended b
 ended f b w = let r = ranges-of f b w.board in record {
   opponent = named-lacks 88 b.opponent refl w.board.1;
@@ -289,6 +297,7 @@ record SameParts (a b : BoardFields) : Type 0 where
   upper : SameHalf (own_view a) (own_view b) half.Upper
   lower : SameHalf (own_view a) (own_view b) half.Lower
 
+-- equal pictures have the same parts
 same-parts : (a b : BoardFields) → watched_lines a (position_of a) ≡ watched_lines b (position_of b) → SameParts a b
 unfolding watched_lines
 same-parts a b e = let p = position_of a in let q = position_of b in record {
@@ -320,6 +329,7 @@ same-parts a b e = let p = position_of a in let q = position_of b in record {
   };
 }
 
+-- watched boards with the same parts are the same to who watches
 told : FieldRanges → (a b : BoardFields) → IsWatched a → IsWatched b → SameParts a b → SameToTheWatcher a b
 told f a b wa wb m =
     let r = ranges-of f a wa.board in

@@ -1,10 +1,10 @@
 -- The picture of a watched board is thirteen lines that fit a terminal.
-use Rattle.std.proofs.Common.{◌≡◌, ◌≤◌, ◌<◌, ◌+◌, ◌^◌, ◌&&◌, ◌++◌, ℕ, Bool, true, false, cond, List, [], ◌∷◌, length}
-use Rattle.std.proofs.Common.{take, codes, refl, sym, ◌∙◌, arith, lit<, lit≤, nat_lt, nat_le}
-use Rattle.std.specs.Prelude.{ℤ, pos, negsuc, decimal, slice_index}
+use Rattle.std.proofs.Common.{◌≡◌, ◌≤◌, ◌<◌, ◌+◌, ◌^◌, ◌&&◌, ◌++◌, ℕ, Bool, true, false, cond, List, length}
+use Rattle.std.proofs.Common.{take, codes, refl, arith, lit<, lit≤, nat_lt, nat_le}
+use Rattle.std.specs.Prelude.{ℤ, pos, negsuc, decimal}
 use Rattle.std.specs.Fmt.{signed_decimal}
 use Rattle.std.specs.Int.{is_in_range}
-use Rattle.std.specs.List.{flat_map, list_all, AllByRecursion}
+use Rattle.std.specs.List.{list_all, AllByRecursion}
 use Rattle.std.specs.Ordering.{int_eq}
 use Rattle.std.proofs.lemmas.Bool.{and_parts}
 use Rattle.std.proofs.lemmas.Fmt.{length-decimal-le}
@@ -18,7 +18,7 @@ use Rattle.fibs_position.specs.PositionValue.{position_of}
 use Rattle.fibs_position.specs.Watched.{IsWatched}
 use Rattle.fibs_picture.specs.Cells.{own_letter, other_letter}
 use Rattle.fibs_picture.specs.Fits.{Fits, ended}
-use Rattle.fibs_picture.specs.Picture.{line, middle, own_pips, other_pips, is_one}
+use Rattle.fibs_picture.specs.Picture.{middle, own_pips, other_pips, is_one}
 use Rattle.fibs_picture.specs.Watched.{possessive, watched_turn, doublers_of, watched_cube, watched_lines}
 use Rattle.fibs_picture.specs.WatchedTold.{WatchedPictureFits}
 use Rattle.fibs_picture.specs.declared.half.Half.TheVariants as half
@@ -107,6 +107,7 @@ watched_cube-brief b w h = cube_text-brief (field_of b 38)
 
 -- ---- the lines
 
+-- no place of a watched board has more than 15 checkers
 few-checkers : (b : BoardFields) → IsWatched b → IsFew (own_view b)
 few-checkers b w = record {
   own = λ k. let few = own-few b w.own k in omega (arith, few);

@@ -1,15 +1,15 @@
 -- What a position that is found, whoever plays, says of a board on which the user plays, and of one that he watches.
-use Rattle.std.proofs.Common.{◌≡◌, ◌⊎◌, ◌≤◌, List, [], ◌∷◌, codes, inl, inr, sym, true, false, refl}
+use Rattle.std.proofs.Common.{◌≡◌, ◌≤◌, [], ◌∷◌, codes, inl, inr, sym, true, false, refl}
 use Rattle.std.specs.Prelude.{◌↔◌, ◌≢◌, Result, Ok, Err, IsOk, is_ok}
 use Rattle.std.proofs.lemmas.Bool.{false≢true}
 use Rattle.fibs_boards.specs.Board.{BoardFields, IsBoard}
 use Rattle.fibs_position.specs.First.{IsFirst}
 use Rattle.fibs_position.specs.GoodBoard.{IsGood, HasFault, faults, good}
 use Rattle.fibs_position.specs.OwnView.{own_placed, other_placed}
-use Rattle.fibs_position.specs.Watched.{IsWatched, watched}
+use Rattle.fibs_position.specs.Watched.{watched}
 use Rattle.fibs_position.specs.declared.position.Position.{Position}
 use Rattle.fibs_position.specs.declared.position_fault.PositionFault.{PositionFault}
-use Rattle.fibs_position.specs.declared.position_fault.PositionFault.TheVariants.{NotYou, TooManyOwn, TooManyOther}
+use Rattle.fibs_position.specs.declared.position_fault.PositionFault.TheVariants.{TooManyOwn, TooManyOther}
 use Rattle.fibs_position.proofs.BoardLemmas.GoodTest.{BoardTest, good_from, good_fails}
 use Rattle.fibs_position.proofs.BoardLemmas.WatchedTest.{watched_from, watched_fails}
 

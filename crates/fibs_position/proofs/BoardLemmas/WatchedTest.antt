@@ -1,14 +1,13 @@
 -- The test `watched` is exact, and no board that passes it is good.
-use Rattle.std.proofs.Common.{◌≡◌, ◌≤◌, ◌&&◌, not, true, false, Bool, ℕ, inl, inr, arith, codes, nat_le, refl}
-use Rattle.std.specs.Prelude.{◌≢◌, ◌↔◌}
+use Rattle.std.proofs.Common.{◌≡◌, ◌&&◌, not, true, false, Bool, inl, inr, codes, nat_le, refl}
+use Rattle.std.specs.Prelude.{◌≢◌}
 use Rattle.std.specs.Str.{bytes_eq}
 use Rattle.std.proofs.lemmas.Bool.{and_parts, and_from, cases_Bool, false≢true}
 use Rattle.std.proofs.lemmas.Slice.Eq.{bytes_eq-Decides}
-use Rattle.fibs_boards.specs.Board.{BoardFields, IsBoard, is_board}
+use Rattle.fibs_boards.specs.Board.{BoardFields, is_board}
 use Rattle.fibs_position.specs.OwnView.{own_placed, other_placed}
-use Rattle.fibs_position.specs.GoodBoard.{IsGood, good}
 use Rattle.fibs_position.specs.Watched.{IsWatched, watched, WatchedIsExact, WatchedIsNotGood}
-use Rattle.fibs_position.proofs.BoardLemmas.GoodTest.{BoardTest, le_tells, le_from, good_tells, good_fails}
+use Rattle.fibs_position.proofs.BoardLemmas.GoodTest.{BoardTest, le_tells, le_from, good_fails}
 
 -- a test fails if it is not true
 not_true : (b : Bool) → ¬ (b ≡ true) → not b ≡ true

@@ -1,5 +1,5 @@
 -- Equal rows with names say the same.
-use Rattle.std.proofs.Common.{◌≡◌, ◌<◌, ◌≤◌, ◌+◌, ◌-◌, ◌^◌, ◌==◌, ◌&&◌, ◌++◌, ℕ, Bool, true, false, not, cond}
+use Rattle.std.proofs.Common.{◌≡◌, ◌<◌, ◌+◌, ◌-◌, ◌==◌, ◌&&◌, ◌++◌, ℕ, Bool, true, false, not, cond}
 use Rattle.std.proofs.Common.{List, [], ◌∷◌, codes, refl, sym, ◌∙◌, ap, arith, lit<, append_assoc}
 use Rattle.std.specs.Prelude.{ℤ, slice_index_or}
 use Rattle.std.specs.Fmt.{signed_decimal}
@@ -21,6 +21,7 @@ use Rattle.fibs_words.proofs.WordsLemmas.Rows.{digit-plain, is-zero}
 
 -- ---- who plays
 
+-- the row of who plays whom has no line end
 pub against_row-lacks : (p o : List ℕ) → lacks 10 p ≡ true → lacks 10 o ≡ true → lacks 10 (against_row p o) ≡ true
 unfolding against_row
 against_row-lacks p o h k = lacks-append 10 p (codes " against " ++ (o ++ codes ".")) h
@@ -28,6 +29,7 @@ against_row-lacks p o h k = lacks-append 10 p (codes " against " ++ (o ++ codes 
 
 -- ---- whose turn it is, and what the player is to do
 
+-- what is said of a double that is offered has no line end
 offered-lacks : (others : Bool) (p o : List ℕ) → lacks 10 p ≡ true → lacks 10 o ≡ true
     → lacks 10 (offered_said others p o) ≡ true
 unfolding offered_said
@@ -36,6 +38,7 @@ offered-lacks true p o h k = lacks-append 10 o (codes "'s turn, and " ++ (p ++ c
     (lacks-append 10 (codes "'s turn, and ") (p ++ codes " is offered a double.") refl
     (lacks-append 10 p (codes " is offered a double.") h refl))
 
+-- whose turn it is, by name, has no line end
 pub turn_named-lacks : (others : Bool) (ph : Phase) (p o : List ℕ) → lacks 10 p ≡ true → lacks 10 o ≡ true
     → lacks 10 (turn_named others ph p o) ≡ true
 unfolding turn_named
@@ -108,6 +111,7 @@ offered_to others phase.RollOrDouble = false
 offered_to others phase.Move = false
 offered_to others phase.Passing = false
 
+-- the phase, and whether a double is offered, are read in the words behind the name
 phase-read : (others : Bool) (ph : Phase) (p : List ℕ)
     → (phase_read (other_words others ph p) ≡ ph) × (offer_read (other_words others ph p) ≡ offered_to others ph)
 phase-read others phase.Over p = (refl, refl)
@@ -136,15 +140,18 @@ turn_named-tells x y ph qh p o p' o' h k h' k' e =
 abbrev dice_text : Bool → ℕ → ℕ → List ℕ
 dice_text none m n = cond none (codes "none") (pair m n)
 
+-- two dice, or none, have no line end
 dice_text-lacks : (none : Bool) (m n : ℕ) → lacks 10 (dice_text none m n) ≡ true
 unfolding pair
 dice_text-lacks true m n = refl
 dice_text-lacks false m n = rw (digit-plain m, digit-plain n) refl
 
+-- the dice of a side have no line end
 pub dice_said-lacks : (m n : ℕ) → lacks 10 (dice_said m n) ≡ true
 unfolding dice_said
 dice_said-lacks m n = dice_text-lacks ((m == 0) && (n == 0)) m n
 
+-- the row of both sides' dice has no line end
 pub dice_named-lacks : (p own o other : List ℕ) → lacks 10 p ≡ true → lacks 10 own ≡ true → lacks 10 o ≡ true
     → lacks 10 other ≡ true → lacks 10 (dice_named p own o other) ≡ true
 unfolding dice_named
@@ -161,11 +168,13 @@ dice_named-lacks p own o other h i j k =
 digit-other : (n : ℕ) → not ((48 + n) == 44) ≡ true
 digit-other n = grind (arith, nat_tests)
 
+-- two dice, or none, have no comma
 comma_text-lacks : (none : Bool) (m n : ℕ) → lacks 44 (dice_text none m n) ≡ true
 unfolding pair
 comma_text-lacks true m n = refl
 comma_text-lacks false m n = rw (digit-other m, digit-other n) refl
 
+-- the dice of a side have no comma
 pub comma-lacks : (m n : ℕ) → lacks 44 (dice_said m n) ≡ true
 unfolding dice_said
 comma-lacks m n = comma_text-lacks ((m == 0) && (n == 0)) m n
@@ -214,6 +223,7 @@ dice_named-tells p own o other p' own' o' other' h k h' k' i i' e =
 
 -- ---- the cube
 
+-- who may double, by name, has no line end
 owner-lacks : (a b : Bool) (p o : List ℕ) → lacks 10 p ≡ true → lacks 10 o ≡ true
     → lacks 10 (owner_said a b p o) ≡ true
 unfolding owner_said
@@ -223,6 +233,7 @@ owner-lacks false true p o h k = lacks-append 10 o (codes "'s, not " ++ (p ++ co
     (lacks-append 10 (codes "'s, not ") (p ++ codes "'s.") refl (lacks-append 10 p (codes "'s.") h refl))
 owner-lacks false false p o h k = refl
 
+-- the row of the cube has no line end
 pub cube_named-lacks : (b : BoardFields) (p o : List ℕ) → Within 1048576 (field_of b 38) → lacks 10 p ≡ true
     → lacks 10 o ≡ true → lacks 10 (cube_named b p o) ≡ true
 unfolding cube_named
@@ -239,6 +250,7 @@ owner_word true false p o = p ++ codes "'s."
 owner_word false true p o = o ++ codes "'s,"
 owner_word false false p o = codes "no"
 
+-- the words behind the first, and a space
 abbrev owner_words : Bool → Bool → List ℕ → List ℕ
 owner_words true true p = codes "the middle. "
 owner_words true false p = []
@@ -258,6 +270,7 @@ owner-in-words false true p o = ap (λ t. 44 ∷ 32 ∷ t)
     ∙ sym (append_assoc o (codes "'s,") (32 ∷ (codes "not " ++ (p ++ codes "'s. ")))))
 owner-in-words false false p o = refl
 
+-- the first word has no space if no name has one
 owner_word-lacks : (a b : Bool) (p o : List ℕ) → lacks 32 p ≡ true → lacks 32 o ≡ true
     → lacks 32 (owner_word a b p o) ≡ true
 owner_word-lacks true true p o h k = refl
@@ -272,12 +285,14 @@ own_read text = cond (slice_index_or text 0 0 == 0) true (slice_index_or text 0 
 abbrev other_read : List ℕ → Bool
 other_read text = cond (slice_index_or text 0 0 == 110) true (slice_index_or text 0 0 == 116)
 
+-- who may double is read in the words behind the first
 owner-read : (a b : Bool) (p : List ℕ) → (own_read (owner_words a b p) ≡ a) × (other_read (owner_words a b p) ≡ b)
 owner-read true true p = (refl, refl)
 owner-read true false p = (refl, refl)
 owner-read false true p = (refl, refl)
 owner-read false false p = (refl, refl)
 
+-- equal words are of the same side, or sides, that may double
 owner-tells : (a b c d : Bool) (p o p' o' : List ℕ)
     → lacks 32 p ≡ true → lacks 32 o ≡ true → lacks 32 p' ≡ true → lacks 32 o' ≡ true
     → owner_said a b p o ++ codes " " ≡ owner_said c d p' o' ++ codes " " → (a ≡ c) × (b ≡ d)
@@ -297,6 +312,7 @@ after_comma true false p o = 32 ∷ (p ++ codes "'s.")
 after_comma false true p o = 32 ∷ (o ++ (codes "'s, not " ++ (p ++ codes "'s.")))
 after_comma false false p o = codes " no doubling."
 
+-- what is said of who may double begins with a comma
 owner-comma : (a b : Bool) (p o : List ℕ) → owner_said a b p o ≡ 44 ∷ after_comma a b p o
 unfolding owner_said
 owner-comma true true p o = refl
@@ -307,6 +323,7 @@ owner-comma false false p o = refl
 abbrev cube_text : ℤ → Bool → Bool → List ℕ → List ℕ → List ℕ
 cube_text z a b p o = codes "Cube " ++ (signed_decimal z ++ owner_said a b p o)
 
+-- equal rows are of the same cube, and of the same sides that may double
 cube_text-tells : (y z : ℤ) (a b c d : Bool) (p o p' o' : List ℕ)
     → lacks 32 p ≡ true → lacks 32 o ≡ true → lacks 32 p' ≡ true → lacks 32 o' ≡ true
     → Within 1048576 y → Within 1048576 z
@@ -334,10 +351,12 @@ cube_named-tells a b p o p' o' h k h' k' w w' e =
 
 -- ---- the direction
 
+-- the direction in words has no line end
 way-lacks : (d : Direction) → lacks 10 (way_said d) ≡ true
 way-lacks Down = refl
 way-lacks Up = refl
 
+-- the row of the direction has no line end
 pub way_row-lacks : (p : List ℕ) (d : Direction) → lacks 10 p ≡ true → lacks 10 (p ++ way_said d) ≡ true
 way_row-lacks p d h = lacks-append 10 p (way_said d) h (way-lacks d)
 
@@ -346,6 +365,7 @@ abbrev way_words : Direction → List ℕ
 way_words Down = codes "goes down, from 24 to 1."
 way_words Up = codes "goes up, from 1 to 24."
 
+-- the direction in words begins with a space
 way-space : (d : Direction) → way_said d ≡ 32 ∷ way_words d
 way-space Down = refl
 way-space Up = refl
@@ -354,6 +374,7 @@ way-space Up = refl
 abbrev way_read : List ℕ → Direction
 way_read text = cond (slice_index_or text 5 0 == 100) Down Up
 
+-- the direction is read in the words behind that space
 way-read : (d : Direction) → way_read (way_words d) ≡ d
 way-read Down = refl
 way-read Up = refl

@@ -1,22 +1,22 @@
 -- The words of a watched board determine it, with both names.
-use Rattle.std.proofs.Common.{◌≡◌, ◌⊎◌, ◌<◌, ◌≤◌, ◌+◌, ◌-◌, ◌^◌, ◌==◌, ◌&&◌, ◌++◌, ℕ, Bool, true, false, not, cond}
-use Rattle.std.proofs.Common.{List, [], ◌∷◌, length, codes, take, refl, sym, ◌∙◌, ap, arith}
-use Rattle.std.specs.Prelude.{ℤ, pos, Option, Some, None, unwrap_or}
+use Rattle.std.proofs.Common.{◌≡◌, ◌+◌, ◌-◌, ◌==◌, ◌&&◌, ◌++◌, ℕ, Bool, true, false, not, cond}
+use Rattle.std.proofs.Common.{List, [], ◌∷◌, length, take, refl, sym, ◌∙◌, ap, arith}
+use Rattle.std.specs.Prelude.{pos, Some, unwrap_or}
 use Rattle.std.specs.List.{flat_map}
 use Rattle.std.specs.Ordering.{int_eq}
 use Rattle.fibs_boards.specs.Board.{BoardFields, IsBoard, field_of}
 use Rattle.fibs_boards.specs.FieldRanges.{FieldRanges}
 use Rattle.fibs_fields.specs.FieldReading.{natural}
 use Rattle.fibs_rules.specs.Runs.{can_move}
-use Rattle.fibs_position.specs.OwnView.{own_view, turn, colour}
+use Rattle.fibs_position.specs.OwnView.{turn, colour}
 use Rattle.fibs_position.specs.Phases.{phase_in}
-use Rattle.fibs_position.specs.PositionValue.{PositionValue, position_of}
+use Rattle.fibs_position.specs.PositionValue.{position_of}
 use Rattle.fibs_position.specs.Watched.{IsWatched}
 use Rattle.fibs_position.specs.declared.direction.Direction.{Direction}
 use Rattle.fibs_position.specs.declared.phase.Phase.{Phase}
 use Rattle.fibs_position.specs.declared.phase.Phase.TheVariants as phase
 use Rattle.fibs_picture.specs.Fits.{ended}
-use Rattle.fibs_picture.specs.Picture.{own_pips, other_pips, is_one}
+use Rattle.fibs_picture.specs.Picture.{own_pips, other_pips}
 use Rattle.fibs_picture.specs.Told.{Whose, nobodys, the_players, the_opponents, whose_turn}
 use Rattle.fibs_picture.specs.WatchedTold.{SameToTheWatcher}
 use Rattle.fibs_picture.proofs.PictureLemmas.Parts.{lacks}
@@ -148,6 +148,7 @@ record SameGame (a b : BoardFields) : Type 0 where
   cube_is : cube_named a (player_of a) (opponent_of a) ≡ cube_named b (player_of b) (opponent_of b)
   way_is : player_of a ++ way_said (position_of a).direction ≡ player_of b ++ way_said (position_of b).direction
 
+-- boards with the same rows on the game have the same game
 same-game : (a b : BoardFields) → game_rows a ≡ game_rows b → SameGame a b
 unfolding named_game_rows
 same-game a b e = record {
@@ -170,6 +171,7 @@ other_row b d = side_row (opponent_of b) (other_pips (checkers b)) d side.Other 
 abbrev after_own : BoardFields → Direction → List ℕ
 after_own b d = 10 ∷ (other_row b d ++ (10 ∷ (ended (held_named d (checkers b) (player_of b)) ++ [])))
 
+-- the rows on the checkers are the player's row, and what follows it
 checkers-parts : (b : BoardFields)
     → checkers_text b ≡ own_row b (position_of b).direction ++ after_own b (position_of b).direction
 unfolding named_checkers_rows
@@ -206,6 +208,7 @@ same-sides a b wa wb way e =
 
 -- ---- what words determine
 
+-- boards with the same game and the same sides are the same to who watches, and of the same phase
 told-same : (a b : BoardFields) → IsWatched a → IsWatched b → Ranges a → Ranges b → SameGame a b → SameSides a b
     → SameToTheWatcher a b × (phase_in (position_of a) ≡ phase_in (position_of b))
 told-same a b wa wb r s g c =

@@ -1,4 +1,4 @@
-use Rattle.std.proofs.Common.{sym, ◌∙◌}
+use Rattle.std.proofs.Common.{sym}
 use Rattle.fibs_boards.specs.StoredBoard.{fields_of}
 use Rattle.fibs_position.proofs.BoardLemmas.GoodTest.{good_fails}
 use Rattle.fibs_position.proofs.BoardLemmas.SeenBoards.{good-if-few, test-if-few, fault-if-yours}
