@@ -57,7 +57,14 @@ fn append_marked_watched(
             let mut short = Vec::new(alloc);
             append_all(&short_row(bytes, opponent), &mut short)?;
             let position = watched.position();
-            append_row(short.as_slice(), row, position, &NOTHING_CAME, settings, text)?;
+            append_row(
+                short.as_slice(),
+                row,
+                position,
+                &NOTHING_CAME,
+                settings,
+                text,
+            )?;
         }
         row = row.saturating_add(1);
     }

@@ -39,7 +39,11 @@ fn append_broken(row: &[u8], columns: usize, text: &mut Vec<u8>) -> Result<(), A
 }
 
 /// Appends the rows of a board in words, each broken.
-pub(crate) fn append_rows(words: &[u8], columns: usize, text: &mut Vec<u8>) -> Result<(), AllocError> {
+pub(crate) fn append_rows(
+    words: &[u8],
+    columns: usize,
+    text: &mut Vec<u8>,
+) -> Result<(), AllocError> {
     for row in words.split(|byte| *byte == b'\n') {
         if !row.is_empty() {
             append_broken(row, columns, text)?;

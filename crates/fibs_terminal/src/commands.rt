@@ -250,11 +250,7 @@ fn set_columns(rest: &[u8], page: &mut Page<'_>) -> Result<(), AllocError> {
 }
 
 /// Tells in words the board that is shown: of the game that is watched, else of the user's own.
-fn say_words(
-    client: &Client,
-    watching: &Watching,
-    page: &mut Page<'_>,
-) -> Result<(), AllocError> {
+fn say_words(client: &Client, watching: &Watching, page: &mut Page<'_>) -> Result<(), AllocError> {
     let alloc = page.alloc;
     let columns = page.settings.columns;
     match (watching.board(), client.game()) {

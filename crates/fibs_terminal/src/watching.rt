@@ -19,9 +19,7 @@ impl<'a> Screen<'a> {
         let memory = &mut self.memory;
         let asked = memory.boards.asked;
         let said = memory.said.as_slice();
-        memory
-            .watching
-            .show(&watched, asked, said, &mut self.page)?;
+        memory.watching.show(&watched, asked, said, &mut self.page)?;
         memory.boards.asked = false;
         memory.said.clear();
         self.hear_no_board();
@@ -36,7 +34,10 @@ impl<'a> Screen<'a> {
                 return self.page.say(NO_BOARD_YET);
             }
             Some(Seen::Ends) => self.memory.watching.end(),
-            Some(Seen::Over(name)) if self.memory.watching.is_of(name) => self.memory.watching.end(),
+            Some(Seen::Over(name)) if self.memory.watching.is_of(name) => self
+                .memory
+                .watching
+                .end(),
             _ => {}
         }
         Ok(())

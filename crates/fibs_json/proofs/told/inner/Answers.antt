@@ -18,6 +18,7 @@ pub returns-in-None : goal.returns-in-None
 returns-in-None c = λ rest.
     let word = c.args.word.now in
     let cut = strip_suffix_is Decides-eqb word (125 ∷ []) c.strip_suffix.result c.strip_suffix.ensures.cases in
-    let none = subst (λ r. MatchOption r ((rest : List ℕ) → word ≢ rest ++ (125 ∷ [])) (λ x. word ≡ x.now ++ (125 ∷ [])))
+    let none = subst
+    (λ r. MatchOption r ((rest : List ℕ) → word ≢ rest ++ (125 ∷ [])) (λ x. word ≡ x.now ++ (125 ∷ [])))
     c.in-None.is cut in
     none (front ++ rest)
