@@ -235,23 +235,13 @@ pub(crate) fn append_marked(
         return append_words(alloc, game, settings.columns, text);
     }
     if !is_plain(settings) {
-        return append_coloured(alloc, game, came, settings, text);
+        // it has marks, or is narrow
+        let mut picture = Vec::new(alloc);
+        draw(game, &mut picture).map_err(|_| AllocError)?;
+        return append_rows(alloc, picture.as_slice(), game, came, settings, text);
     }
     if is_above && !is_shown(DEED_ROW, game) {
         return draw_board(game, text).map_err(|_| AllocError);
     }
     draw(game, text).map_err(|_| AllocError)
-}
-
-/// Appends a picture that has marks, or is narrow.
-fn append_coloured(
-    alloc: Global,
-    game: &GameBoard,
-    came: &Came,
-    settings: &Settings<'_>,
-    text: &mut Vec<u8>,
-) -> Result<(), AllocError> {
-    let mut picture = Vec::new(alloc);
-    draw(game, &mut picture).map_err(|_| AllocError)?;
-    append_rows(alloc, picture.as_slice(), game, came, settings, text)
 }

@@ -153,6 +153,24 @@ fn note_rule(client: &Client, line: &[u8], rule: &mut Vec<u8>) -> Result<(), All
     }
 }
 
+/// The decision that is spelled by what follows `try`, if it is one. Keeps which rule it breaks.
+fn read_move(
+    alloc: Global,
+    client: &Client,
+    rest: &[u8],
+    rule: &mut Vec<u8>,
+) -> Result<Option<Decision>, AllocError> {
+    let mut typed = Vec::new(alloc);
+    append_all(&[b"move ", rest], &mut typed)?;
+    let mut spelled = Vec::new(alloc);
+    append_spelled(alloc, client, typed.as_slice(), &mut spelled)?;
+    note_rule(client, spelled.as_slice(), rule)?;
+    match read_typed(client, spelled.as_slice()) {
+        Typed::Decision(decision) => Ok(Some(decision)),
+        _ => Ok(None),
+    }
+}
+
 /// Says how a command of the server is sent that the client does not have. If much follows its word, that is left out.
 fn say_foreign(word: &[u8], rest: Option<&[u8]>, page: &mut Page<'_>) -> Result<(), AllocError> {
     page.say_all(&[b"not a word of this client: send ", word])?;
@@ -338,29 +356,24 @@ impl<'a> Screen<'a> {
         own: Own,
         rest: &[u8],
     ) -> Result<(), AllocError> {
-        match own {
-            Own::Help => return self.say_help(rest),
-            Own::Try => return self.try_move(client, rest),
-            _ => {}
-        }
         let alloc = self.page.alloc;
-        let page = &mut self.page;
-        let people = &mut self.memory.people;
         match own {
-            Own::Plays => self.memory.looking.say_plays(client, rest, page),
-            Own::Words => say_words(client, &self.memory.watching, page),
+            Own::Help => self.say_help(rest),
+            Own::Try => self.try_move(client, rest),
+            Own::Plays => self.memory.looking.say_plays(client, rest, &mut self.page),
+            Own::Words => say_words(client, &self.memory.watching, &mut self.page),
             Own::Players => {
                 let asker = self.memory.company.asker();
-                append_players(alloc, directory, rest, &asker, &mut page.text)
+                append_players(alloc, directory, rest, &asker, &mut self.page.text)
             }
-            Own::Moves => say_moves(&self.memory.story, rest, page),
-            Own::Columns => set_columns(rest, page),
-            Own::Talk => self.memory.talk.say_rows(page),
-            Own::Gag => people.gag(rest, page),
-            Own::Ungag => people.ungag(rest, page),
-            Own::Quiet => people.set_quiet(true, page),
-            Own::Loud => people.set_quiet(false, page),
-            Own::Help | Own::Try | Own::Re | Own::Go | Own::Send => page.say(SEND_HELP),
+            Own::Moves => say_moves(&self.memory.story, rest, &mut self.page),
+            Own::Columns => set_columns(rest, &mut self.page),
+            Own::Talk => self.memory.talk.say_rows(&mut self.page),
+            Own::Gag => self.memory.people.gag(rest, &mut self.page),
+            Own::Ungag => self.memory.people.ungag(rest, &mut self.page),
+            Own::Quiet => self.memory.people.set_quiet(true, &mut self.page),
+            Own::Loud => self.memory.people.set_quiet(false, &mut self.page),
+            Own::Re | Own::Go | Own::Send => self.page.say(SEND_HELP),
         }
     }
 
@@ -369,14 +382,9 @@ impl<'a> Screen<'a> {
     fn try_move(&mut self, client: &Client, rest: &[u8]) -> Result<(), AllocError> {
         let alloc = self.page.alloc;
         self.memory.looking.forget_trial();
-        let mut typed = Vec::new(alloc);
-        append_all(&[b"move ", rest], &mut typed)?;
-        let mut spelled = Vec::new(alloc);
-        append_spelled(alloc, client, typed.as_slice(), &mut spelled)?;
-        let Typed::Decision(decision) = read_typed(client, spelled.as_slice()) else {
+        let Some(decision) = read_move(alloc, client, rest, &mut self.memory.rule)? else {
             return self.page.say(TRY_WHAT);
         };
-        note_rule(client, spelled.as_slice(), &mut self.memory.rule)?;
         if let Some(why) = client.refusal(&decision) {
             return self.say_refused(why);
         }
@@ -391,7 +399,7 @@ impl<'a> Screen<'a> {
     fn say_help(&mut self, word: &[u8]) -> Result<(), AllocError> {
         if word.is_empty() {
             self.memory.advising.inquired = true;
-            self.page.say(help::SCREEN)?;
+            self.page.say(help::screen())?;
             return self.memory.watching.say_hint(&mut self.page);
         }
         match help::word_help(word) {

@@ -2,6 +2,7 @@
 
 use crate::screen::{Moment, Screen};
 use crate::talk::Talk;
+use fibs_advice::plays::Listing;
 use fibs_advice::standing::Standing;
 use fibs_advice::told::Told;
 use fibs_environment::Page;
@@ -71,16 +72,18 @@ fn say_message(
     talk: &mut Talk,
     page: &mut Page<'_>,
 ) -> Result<(), AllocError> {
-    if let Message::Says { .. } | Message::MessageReceived { .. } = message {
-        page.ring()?;
+    match message {
+        Message::Says { name, .. } => {
+            page.ring()?;
+            talk.hear_speaker(name.bytes())?;
+        }
+        Message::MessageReceived { .. } => page.ring()?,
+        _ => {}
     }
     let alloc = page.alloc;
     let mut row = Vec::new(alloc);
     append_message(message, moment.time, &page.settings, &mut row)?;
     break_at_spaces(0, page.settings.columns, &mut row);
-    if let Message::Says { name, .. } = message {
-        talk.hear_speaker(name.bytes())?;
-    }
     if is_talk(message) {
         talk.keep(alloc, row.as_slice())?;
     }
@@ -115,7 +118,8 @@ impl<'a> Screen<'a> {
             memory.advising.inquired = true;
         }
         memory.situation.hear_board(game);
-        memory.looking.begin();
+        // its moves are listed from the first on
+        memory.looking.plays = Listing::of_all();
         memory.watching.end();
         memory.story.hear_board(game)?;
         if memory.converses {

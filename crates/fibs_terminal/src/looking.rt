@@ -27,7 +27,7 @@ const NOTHING_TRIED: &[u8] =
 #[derive(Drop)]
 pub struct Looking {
     /// Which legal moves `plays more` lists.
-    plays: Listing,
+    pub plays: Listing,
     /// The move that was tried last, and is not sent.
     trial: Option<Trial>,
 }
@@ -39,11 +39,6 @@ impl Looking {
             plays: Listing::of_all(),
             trial: None,
         }
-    }
-
-    /// A board has come: its moves are listed from the first on.
-    pub fn begin(&mut self) {
-        self.plays = Listing::of_all();
     }
 
     /// Lists legal moves of the board that is shown: all, those from a place, or those that follow what was listed.

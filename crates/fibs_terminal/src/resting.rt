@@ -92,9 +92,10 @@ impl Advising {
 /// What is known beside the conversation, so long after the connection was made: whether the opponent is here, of which
 /// nothing is known if no player is listed, and whether the server had time to answer the login.
 fn aside_of(situation: &Situation, directory: &Directory, passed: Duration) -> Aside {
-    let opponent = situation.opponent.as_slice();
     Aside {
-        is_listed: situation.has_come || directory.is_empty() || directory.get(opponent).is_some(),
+        is_listed: situation.has_come
+            || directory.is_empty()
+            || directory.get(situation.opponent.as_slice()).is_some(),
         had_time: passed.as_secs() >= LOGIN_SECONDS,
     }
 }

@@ -3,6 +3,7 @@ ghost use Rattle.fibs_terminal.specs.Asking.{SendsUntaken};
 
 use crate::commands::set_line;
 use fibs_environment::Page;
+use fibs_environment::pieces::append_all;
 use fibs_front::typed_line::{TYPED_LIMIT, TypedLine};
 use fibs_front::wish::Wish;
 use fibs_session::Client;
@@ -35,8 +36,7 @@ impl Talk {
             return page.say(b"Nobody has talked yet.\n");
         }
         for row in &self.rows {
-            page.say(row.as_slice())?;
-            page.say(b"\n")?;
+            page.say_all(&[row.as_slice(), b"\n"])?;
         }
         Ok(())
     }
@@ -57,10 +57,7 @@ impl Talk {
         }
         let alloc = page.alloc;
         let mut told = Vec::new(alloc);
-        told.extend_from_slice(b"tell ")?;
-        told.extend_from_slice(self.speaker.as_slice())?;
-        told.extend_from_slice(b" ")?;
-        told.extend_from_slice(text)?;
+        append_all(&[b"tell ", self.speaker.as_slice(), b" ", text], &mut told)?;
         if told.len() > TYPED_LIMIT {
             return Ok(Wish::TooLong);
         }

@@ -6,39 +6,48 @@ use fibs_environment::pieces::append_all;
 use fibs_front::said::Said;
 use fibs_session::{CommandText, Outstanding, PlainRefusal, Refusal};
 use fibs_wording::lists::append_row;
-use fibs_wording::reasons::{append_not_sent, append_reason, append_refusal, append_unnoted};
+use fibs_wording::reasons::{append_not_sent, append_reason, append_unnoted, refusal_words};
 use itoa::Buffer;
 use std::alloc::AllocError;
 use std::io::ErrorKind;
 
-/// What is said of an order, of its end, and of a line that is unknown.
-fn fixed_words(said: &Said<'_>) -> &'static [u8] {
-    match said {
-        Said::Ordered => b"ordered: the client rolls if you may not double\n",
-        Said::Withdrawn => b"withdrawn: you roll yourself\n",
-        _ => b"unknown: help lists the words\n",
-    }
-}
+// What is said of an order, of its end, and of a line that is unknown.
 
-/// Shows the address of the server, and what follows it.
-fn say_place(end: &[u8], page: &mut Page<'_>) -> Result<(), AllocError> {
+const ORDERED: &[u8] = b"ordered: the client rolls if you may not double\n";
+
+const WITHDRAWN: &[u8] = b"withdrawn: you roll yourself\n";
+
+const UNKNOWN: &[u8] = b"unknown: help lists the words\n";
+
+/// Shows the address of the server between these words.
+fn say_place(before: &[u8], after: &[u8], page: &mut Page<'_>) -> Result<(), AllocError> {
+    page.say(before)?;
     let mut buffer = Buffer::new();
     let port = buffer.format(page.settings.port).as_bytes();
-    append_all(&[page.settings.host, b":", port, end], &mut page.text)
+    append_all(&[page.settings.host, b":", port, after], &mut page.text)
 }
 
 /// Says that no connection can be made, and why.
 fn say_no_connection(why: ErrorKind, page: &mut Page<'_>) -> Result<(), AllocError> {
-    page.say(b"no connection to ")?;
-    say_place(b": ", page)?;
+    say_place(b"no connection to ", b": ", page)?;
     if why == ErrorKind::NotFound {
-        page.say(b"no address is known")?;
-    } else {
-        let alloc = page.alloc;
-        let reason = why.to_string(alloc)?;
-        page.say(reason.as_bytes())?;
+        return page.say(b"no address is known; open tries again\n");
     }
-    page.say(b"; open tries again\n")
+    let alloc = page.alloc;
+    let reason = why.to_string(alloc)?;
+    page.say_all(&[reason.as_bytes(), b"; open tries again\n"])
+}
+
+/// What is said of a refusal: of a move against the rules which rule it is, and of a decision for which a text of the
+/// server has called, that no board has.
+fn words_of(why: Refusal, rule: &[u8], is_told: bool) -> &[u8] {
+    if why == Refusal::IllegalPlay && !rule.is_empty() {
+        rule
+    } else if why == Refusal::NotYours && is_told {
+        b"No board shows it yet."
+    } else {
+        refusal_words(why)
+    }
 }
 
 impl<'a> Screen<'a> {
@@ -70,20 +79,6 @@ impl<'a> Screen<'a> {
                 self.page.say(b"\n")
             }
             Said::Player(player) => append_row(player, &mut self.page.text),
-            Said::Sent(_)
-            | Said::Passed(_)
-            | Said::Refused(_)
-            | Said::NotSent(_)
-            | Said::Rolled
-            | Said::Ordered
-            | Said::Withdrawn
-            | Said::Unknown => self.hear_answer(said),
-        }
-    }
-
-    /// Hears what became of a line that was typed, or of an order.
-    fn hear_answer(&mut self, said: &Said<'_>) -> Result<(), AllocError> {
-        match said {
             Said::Sent(command) => self.hear_sent(command),
             Said::Passed(line) => self.say_passed(line),
             Said::Refused(why) => self.say_refused(*why),
@@ -92,7 +87,9 @@ impl<'a> Screen<'a> {
                 let _decides = self.memory.situation.hear_sent(b"roll");
                 self.page.say(b"sent roll, as ordered\n")
             }
-            _ => self.page.say(fixed_words(said)),
+            Said::Ordered => self.page.say(ORDERED),
+            Said::Withdrawn => self.page.say(WITHDRAWN),
+            Said::Unknown => self.page.say(UNKNOWN),
         }
     }
 
@@ -112,8 +109,7 @@ impl<'a> Screen<'a> {
         self.memory.situation.hear_opened();
         self.memory.converses = true;
         self.memory.opened = moment.passed;
-        self.page.say(b"connected to ")?;
-        say_place(b"\n", &mut self.page)
+        say_place(b"connected to ", b"\n", &mut self.page)
     }
 
     /// A command was sent: it is shown in full.
@@ -141,14 +137,9 @@ impl<'a> Screen<'a> {
     /// Says why a decision was refused: of a move against the rules which rule it is. What is advised follows.
     pub(crate) fn say_refused(&mut self, why: Refusal) -> Result<(), AllocError> {
         self.memory.advising.inquired = why != Refusal::NotReady;
-        let text = &mut self.page.text;
-        if why == Refusal::IllegalPlay && !self.memory.rule.is_empty() {
-            append_reason(self.memory.rule.as_slice(), why.number(), why, text)?;
-        } else if why == Refusal::NotYours && self.memory.situation.standing.is_told_by_text() {
-            append_reason(b"No board shows it yet.", why.number(), why, text)?;
-        } else {
-            append_refusal(why, text)?;
-        }
+        let is_told = self.memory.situation.standing.is_told_by_text();
+        let words = words_of(why, self.memory.rule.as_slice(), is_told);
+        append_reason(words, why.number(), why, &mut self.page.text)?;
         self.page.say(b"\n")
     }
 

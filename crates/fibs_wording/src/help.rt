@@ -1,7 +1,7 @@
 //! The help of a terminal.
 
-/// One screen of help. What is advised now follows.
-pub const SCREEN: &[u8] = b"\
+/// One screen of help.
+const SCREEN: &[u8] = b"\
 The game    roll  double  accept  reject  move 8-5 6-5  resign n|g|b
             also: r, m 8-5 6-5, 8/5 6/5, bar/20, 6/off, 8/5(2), 24/18/13
             plays: the legal moves, plays 24: those from there, plays more
@@ -205,6 +205,11 @@ is told so, in place of its picture.\n",
 /// The words, each with what there is to say of it.
 fn words() -> &'static [(&'static [u8], &'static [u8])] {
     &WORDS
+}
+
+/// One screen of help. What is advised now follows.
+pub fn screen() -> &'static [u8] {
+    SCREEN
 }
 
 /// What there is to say of a word, if anything.

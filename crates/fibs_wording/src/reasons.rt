@@ -70,11 +70,6 @@ pub fn append_reason<T: Display + Drop>(
     text.extend_from_slice(b"]")
 }
 
-/// Appends why a decision was refused.
-pub fn append_refusal(why: Refusal, text: &mut Vec<u8>) -> Result<(), AllocError> {
-    append_reason(refusal_words(why), why.number(), why, text)
-}
-
 /// Appends why a plain command was not sent.
 pub fn append_not_sent(why: PlainRefusal, text: &mut Vec<u8>) -> Result<(), AllocError> {
     append_reason(plain_words(why), why.number(), why, text)
