@@ -1,7 +1,8 @@
 //! Who invites the user to a match, and to which.
 ghost use Rattle.std.specs.Prelude.{◌≡◌, ◌++◌, IfOk, IfSome, OnOk};
 ghost use Rattle.fibs_fields.specs.Bytes.{name_bytes};
-ghost use Rattle.fibs_wording.specs.Invitations.{invitation_said, invitation_words, offer_said, offer_words};
+ghost use Rattle.fibs_wording.specs.Invitations.{invitation_said, offer_said, said_after, said_before, said_points};
+ghost use Rattle.fibs_wording.specs.Invitations.{experience_words, invitation_words, known_words, offer_words};
 ghost use Rattle.fibs_wording.specs.Invitations.{points_words, rated_words};
 
 use fibs_environment::pieces::{append_number, front};
@@ -57,19 +58,44 @@ fn guess(text: &[u8]) -> Option<Invitation<'_>> {
     Some(Invitation { name, offered })
 }
 
+/// What the server says of an offer before its points.
+fn said_before(offered: Offered) -> &'static [u8]
+    ensures { result.now ≡ said_before offered }
+{
+    match offered {
+        Offered::Points(_) => b"wants to play a ",
+        Offered::Unlimited => b"wants to play an unlimited match with you.",
+        Offered::Saved => b"wants to resume a saved match with you.",
+    }
+}
+
+/// Appends the points of an offer, if it has some.
+fn append_said_points(offered: Offered, text: &mut Vec<u8>) -> Result<(), AllocError>
+    ensures { OnOk result (text.new.items ≡ text.old.items ++ said_points offered) }
+{
+    match offered {
+        Offered::Points(points) => append_number(points, text),
+        Offered::Unlimited | Offered::Saved => Ok(()),
+    }
+}
+
+/// What the server says of an offer after its points.
+fn said_after(offered: Offered) -> &'static [u8]
+    ensures { result.now ≡ said_after offered }
+{
+    match offered {
+        Offered::Points(_) => b" point match with you.",
+        Offered::Unlimited | Offered::Saved => b"",
+    }
+}
+
 /// Appends what the server says of an offer.
 fn append_offer_said(offered: Offered, text: &mut Vec<u8>) -> Result<(), AllocError>
     ensures { OnOk result (text.new.items ≡ text.old.items ++ offer_said offered) }
 {
-    match offered {
-        Offered::Points(points) => {
-            text.extend_from_slice(b"wants to play a ")?;
-            append_number(points, text)?;
-            text.extend_from_slice(b" point match with you.")
-        }
-        Offered::Unlimited => text.extend_from_slice(b"wants to play an unlimited match with you."),
-        Offered::Saved => text.extend_from_slice(b"wants to resume a saved match with you."),
-    }
+    text.extend_from_slice(said_before(offered))?;
+    append_said_points(offered, text)?;
+    text.extend_from_slice(said_after(offered))
 }
 
 /// Appends what the server says of an invitation.
@@ -127,18 +153,34 @@ fn append_offer(offered: Offered, text: &mut Vec<u8>) -> Result<(), AllocError>
     }
 }
 
-/// Appends the rating, in hundredths, and the experience of a player, if they are known.
-fn append_rated(rated: Option<(u32, u64)>, text: &mut Vec<u8>) -> Result<(), AllocError>
-    ensures { OnOk result (text.new.items ≡ text.old.items ++ rated_words rated) }
+/// Appends the experience of a player.
+#[tactic(auto, unfolding(crate::specs::Invitations::experience_words))]
+fn append_experience(experience: u64, text: &mut Vec<u8>) -> Result<(), AllocError>
+    ensures { OnOk result (text.new.items ≡ text.old.items ++ experience_words experience) }
 {
-    let Some((rating, experience)) = rated else {
-        return text.extend_from_slice(b"");
-    };
-    text.extend_from_slice(b" (")?;
-    append_rating(text, rating)?;
     text.extend_from_slice(b", experience ")?;
     append_number(experience, text)?;
     text.extend_from_slice(b")")
+}
+
+/// Appends the rating, in hundredths, and the experience of a player.
+#[tactic(auto, unfolding(crate::specs::Invitations::known_words))]
+fn append_known(rating: u32, experience: u64, text: &mut Vec<u8>) -> Result<(), AllocError>
+    ensures { OnOk result (text.new.items ≡ text.old.items ++ known_words rating experience) }
+{
+    text.extend_from_slice(b" (")?;
+    append_rating(text, rating)?;
+    append_experience(experience, text)
+}
+
+/// Appends both, if they are known.
+fn append_rated(rated: Option<(u32, u64)>, text: &mut Vec<u8>) -> Result<(), AllocError>
+    ensures { OnOk result (text.new.items ≡ text.old.items ++ rated_words rated) }
+{
+    match rated {
+        None => Ok(()),
+        Some(known) => append_known(known.0, known.1, text),
+    }
 }
 
 /// Appends who invites the user and to what: with his rating, in hundredths, and his experience, if they are known.

@@ -1,6 +1,6 @@
 //! The user's matches that the server has saved, as far as it has said so.
 ghost use Rattle.std.specs.Prelude.{◌≡◌, ◌++◌, OnOk};
-ghost use Rattle.fibs_wording.specs.SavedMatches.{here_words, length_words, score_words};
+ghost use Rattle.fibs_wording.specs.SavedMatches.{here_words, length_words, match_words, score_words};
 
 use fibs_environment::pieces::{append_number, front};
 use fibs_fields::decimal::read_decimal;
@@ -200,6 +200,7 @@ fn append_length(length: Option<u64>, text: &mut Vec<u8>) -> Result<(), AllocErr
 }
 
 /// Appends the score of a match.
+#[tactic(auto, unfolding(crate::specs::SavedMatches::score_words))]
 fn append_score(
     own: u64,
     other: u64,
@@ -214,6 +215,21 @@ fn append_score(
     append_length(length, text)
 }
 
+/// Appends what is said of a match.
+#[tactic(auto, unfolding(crate::specs::SavedMatches::match_words))]
+fn append_match(
+    own: u64,
+    other: u64,
+    length: Option<u64>,
+    text: &mut Vec<u8>,
+) -> Result<(), AllocError>
+    ensures { OnOk result (text.new.items ≡ text.old.items ++ match_words own other length) }
+{
+    text.extend_from_slice(b" is here: your match (")?;
+    append_score(own, other, length, text)?;
+    text.extend_from_slice(b") is saved")
+}
+
 /// Appends that a player is here with whom a match was saved, and its score.
 ///
 /// Errors: if memory runs out.
@@ -222,7 +238,5 @@ pub fn append_here(saved: &SavedMatch, text: &mut Vec<u8>) -> Result<(), AllocEr
         ++ here_words saved.now.name.items saved.now.own saved.now.other saved.now.length) }
 {
     text.extend_from_slice(front(saved.name.as_slice()))?;
-    text.extend_from_slice(b" is here: your match (")?;
-    append_score(saved.own, saved.other, saved.length, text)?;
-    text.extend_from_slice(b") is saved")
+    append_match(saved.own, saved.other, saved.length, text)
 }
