@@ -170,10 +170,14 @@ def watched_boards_are_told_in_40_columns(server):
 
 @scene
 @with_server
-def a_narrow_terminal_cuts_a_watched_picture(server):
-    """40 columns: the board as far as it goes."""
+def a_narrow_terminal_has_the_words_of_a_watched_picture_below(server):
+    """40 columns: every place, and then the words of both players."""
     ann = watched(server, columns=40, COLUMNS='40')
-    same('the board', rows_to(ann, server, board())[:13], [row[:40] for row in PICTURE])
+    rows = rows_to(ann, server, board())
+    same('every row fits', [row for row in rows if len(row) > 40], [])
+    same('the edge', rows[0], '13-14-15-16-17-18-+---19-20-21-22-23-24-')
+    same('below', rows[13:], ['X eve, score 1, off 0, pips 167, dice -', "match to 3, cube 1, free, O bob's turn",
+                              'O bob, score 0, off 0, pips 167, dice -', HINT])
     ann.close()
 
 

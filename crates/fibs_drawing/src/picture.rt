@@ -120,7 +120,7 @@ pub(crate) fn append_row(
 }
 
 /// A row in fewer columns, in pieces: the opponent has his name, and a cube few words.
-pub(crate) fn short_row<'a>(row: &'a [u8], opponent: &'a [u8]) -> [&'a [u8]; 4] {
+fn short_row<'a>(row: &'a [u8], opponent: &'a [u8]) -> [&'a [u8]; 4] {
     if let Some(before) = row.strip_suffix(OPPONENTS_TURN) {
         [before, opponent, b"'s turn", b""]
     } else if let Some(before) = row.strip_suffix(OPPONENTS_CUBE) {
@@ -133,7 +133,11 @@ pub(crate) fn short_row<'a>(row: &'a [u8], opponent: &'a [u8]) -> [&'a [u8]; 4] 
 }
 
 /// The rows of a picture, in fewer columns.
-fn short_rows(alloc: Global, picture: &[u8], opponent: &[u8]) -> Result<Vec<Vec<u8>>, AllocError> {
+pub(crate) fn short_rows(
+    alloc: Global,
+    picture: &[u8],
+    opponent: &[u8],
+) -> Result<Vec<Vec<u8>>, AllocError> {
     let mut rows = Vec::new(alloc);
     for bytes in picture.split(|byte| *byte == b'\n') {
         if !bytes.is_empty() {

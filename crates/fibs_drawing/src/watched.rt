@@ -4,11 +4,12 @@ ghost use Rattle.fibs_position.specs.WatchedOf.{watched_of};
 ghost use Rattle.fibs_drawing.specs.Drawings.{is_plain, is_wide, is_worded};
 ghost use Rattle.fibs_drawing.specs.WatchedDrawings.{DrawsWatched, TellsWatched};
 
-use crate::picture::{NOTHING_CAME, append_row, is_plain, short_row};
+use crate::layout::{append_below, is_narrow, row_at};
+use crate::picture::{NOTHING_CAME, append_row, is_plain, short_rows};
 use crate::worded::{append_rows, is_wide};
 use fibs_environment::Settings;
-use fibs_environment::pieces::{append_all, front};
-use fibs_picture::draw_watched;
+use fibs_environment::pieces::front;
+use fibs_picture::{DEED_ROW, draw_watched};
 use fibs_position::WatchedBoard;
 use fibs_words::tell_watched;
 use std::alloc::{AllocError, Global};
@@ -41,7 +42,7 @@ pub fn append_watched_words(
     append_rows(words.as_slice(), columns, text)
 }
 
-/// Appends a picture whose letters are marked, or that is cut to the columns.
+/// Appends a picture that has marks or other letters, or is narrow.
 fn append_marked_watched(
     alloc: Global,
     watched: &WatchedBoard,
@@ -51,14 +52,13 @@ fn append_marked_watched(
     let mut picture = Vec::new(alloc);
     draw_watched(watched, &mut picture).map_err(|_| AllocError)?;
     let opponent = front(watched.board().opponent().bytes());
-    let mut row = 0usize;
-    for bytes in picture.as_slice().split(|byte| *byte == b'\n') {
-        if !bytes.is_empty() {
-            let mut short = Vec::new(alloc);
-            append_all(&short_row(bytes, opponent), &mut short)?;
+    let rows = short_rows(alloc, picture.as_slice(), opponent)?;
+    for place in 0..DEED_ROW {
+        let row = row_at(place, settings);
+        if let Some(bytes) = rows.get(row) {
             let position = watched.position();
             append_row(
-                short.as_slice(),
+                bytes.as_slice(),
                 row,
                 position,
                 &NOTHING_CAME,
@@ -66,7 +66,9 @@ fn append_marked_watched(
                 text,
             )?;
         }
-        row = row.saturating_add(1);
+    }
+    if is_narrow(settings) {
+        append_below(alloc, rows.as_slice(), settings, text)?;
     }
     Ok(())
 }
