@@ -231,6 +231,20 @@ def settings_of_any_bytes_do_no_harm():
 
 
 @scene
+def a_home_that_is_no_folder_has_no_settings():
+    """What the path of the settings names as a folder is a device: she plays, and no row speaks of settings."""
+    server = Server()
+    ann = Person(server.port, HOME='/dev/null', FIBS_CONFIG=None, XDG_CONFIG_HOME=None)
+    server.accept()
+    server.line()
+    server.send(WELCOME, OWN_INFO % 'ann', '12 eve a word')
+    ann.reads('eve says: a word')
+    same('rows of settings', [row for row in ann.lines() if 'settings' in row], [])
+    ann.close()
+    server.close()
+
+
+@scene
 @with_server
 def moves_are_listed_twenty_at_a_time(server):
     """`plays more` goes on where the list ended, to the last move: none twice, none left out; a board begins anew."""
