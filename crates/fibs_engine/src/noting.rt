@@ -111,20 +111,12 @@ pub fn write_trouble<W: Write>(
     write_bytes(line.as_slice(), err)
 }
 
-/// Why a call failed, if it did.
-fn trouble_of(answer: &io::Result<usize>) -> Option<Trouble> {
-    match answer {
-        Ok(_) => None,
-        Err(error) => Some(Trouble::of(error)),
-    }
-}
-
 impl<R: Read + Drop> Read for Noted<R> {
     ghost remaining = { λ noted. R.remaining noted.stream };
 
     fn read(&mut self, buf: &mut [u8]) -> io::Result<usize> {
         let answer = self.stream.read(buf);
-        self.trouble = trouble_of(&answer);
+        self.trouble = answer.as_ref().err().map(Trouble::of);
         answer
     }
 }
@@ -134,7 +126,7 @@ impl<W: Write + Drop> Write for Noted<W> {
 
     fn write(&mut self, buf: &[u8]) -> io::Result<usize> {
         let answer = self.stream.write(buf);
-        self.trouble = trouble_of(&answer);
+        self.trouble = answer.as_ref().err().map(Trouble::of);
         answer
     }
 

@@ -59,11 +59,8 @@ impl<S: Link + Drop> Paced<S> {
         }
     }
 
-    /// Hears what has come: whether the user is greeted, and whether the server asks for the login.
+    /// Hears what has come before the greeting: whether the user is greeted, and whether the server asks for the login.
     fn hear(&mut self, bytes: &[u8]) {
-        if self.greeted {
-            return;
-        }
         let mut rest = bytes;
         while !rest.is_empty() {
             let fed = self.lines.feed(rest);
@@ -128,21 +125,6 @@ impl<S: Link + Drop> Paced<S> {
         self.asked = false;
         Err(io::Error::from(ErrorKind::WouldBlock))
     }
-
-    /// Reads what was kept, else what comes; if the server asks for the login, the answer to it.
-    fn receive_patiently(&mut self, buf: &mut [u8]) -> io::Result<usize>
-        ensures { ReadsAtMost result buf.new }
-    {
-        if !self.kept.is_empty() {
-            return Ok(self.give_kept(buf));
-        }
-        if self.asked {
-            return self.receive_answer(buf);
-        }
-        let count = self.stream.receive(buf)?;
-        self.hear(&buf[..count]);
-        Ok(count)
-    }
 }
 
 impl<S: Link + Drop> Read for Paced<S> {
@@ -168,13 +150,21 @@ impl<S: Link + Drop> Link for Paced<S> {
             return Err(io::Error::from(ErrorKind::WouldBlock));
         }
         self.reads += 1;
-        match self.receive_patiently(buf) {
-            Ok(count) => Ok(count),
-            Err(error) => {
-                self.reads = 0;
-                Err(error)
-            }
+        if !self.kept.is_empty() {
+            return Ok(self.give_kept(buf));
         }
+        let was_asked = self.asked;
+        let answer = if was_asked {
+            self.receive_answer(buf)
+        } else {
+            self.stream.receive(buf)
+        };
+        match &answer {
+            Ok(count) if !was_asked && !self.greeted => self.hear(&buf[..*count]),
+            Ok(_) => {}
+            Err(_) => self.reads = 0,
+        }
+        answer
     }
 
     fn transmit(&mut self, buf: &[u8]) -> io::Result<usize> {
