@@ -33,5 +33,5 @@ pub fn break_row(start: usize, place: usize, text: &mut Vec<u8>) {
 pub fn front(name: &[u8]) -> &[u8]
     ensures { result.now ≡ take 24 name.now }
 {
-    if name.len() > 24 { &name[..24] } else { name }
+    &name[..name.len().min(24)]
 }
