@@ -8,7 +8,7 @@ ghost use Rattle.fibs_advice.specs.Offers.{OffersNow, is_taken, may_decide, firs
 ghost use Rattle.fibs_advice.specs.Offers.{hint_words, hint_text};
 
 use fibs_commands::decision_text;
-use fibs_position::{Decision, Direction, Play};
+use fibs_position::{Decision, Direction, GameBoard, Play};
 use fibs_session::Client;
 use std::alloc::{AllocError, Global};
 
@@ -73,10 +73,7 @@ fn example(alloc: Global, client: &Client) -> Result<Option<Play>, AllocError>
 
 /// Which way the player of the board that is shown goes.
 pub fn direction(client: &Client) -> Direction {
-    match client.game() {
-        Some(game) => game.direction(),
-        None => Direction::Down,
-    }
+    client.game().map_or(Direction::Down, GameBoard::direction)
 }
 
 /// What may be decided now: what the client takes.

@@ -83,15 +83,6 @@ fn decision_in(line: &[u8]) -> Option<Waiting> {
     }
 }
 
-/// What a server says of the user's turn in a phase.
-fn turn_of(phase: Phase) -> Option<Told> {
-    match phase {
-        Phase::RollOrDouble => Some(Told::ToRoll),
-        Phase::Move => Some(Told::ToMove),
-        Phase::Over | Phase::AnswerDouble | Phase::OpponentActs | Phase::Passing => None,
-    }
-}
-
 /// Whether a line is an answer to an offer.
 fn is_answer(line: &[u8]) -> bool {
     line == b"accept".as_slice() || line == b"reject".as_slice()
@@ -336,7 +327,12 @@ impl Situation {
         let shown = self.shown_by(game);
         self.standing = self.standing.after_board(shown, self.asks_board);
         self.asks_board = false;
-        self.turn = turn_of(game.phase());
+        // what the server says of it, if it is the user's
+        self.turn = match game.phase() {
+            Phase::RollOrDouble => Some(Told::ToRoll),
+            Phase::Move => Some(Told::ToMove),
+            Phase::Over | Phase::AnswerDouble | Phase::OpponentActs | Phase::Passing => None,
+        };
         self.note_due();
         self.note_given_turn();
         self.note_left(game.phase());

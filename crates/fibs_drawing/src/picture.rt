@@ -1,6 +1,6 @@
 //! The picture of a board, as the terminal has it: the player's checkers and dice are bold, the opponent's last move is
 //! marked, and it is cut to the columns.
-ghost use Rattle.std.specs.Prelude.{◌≡◌, ◌≤◌, ◌++◌, OnOk, List, ℕ, true, false};
+ghost use Rattle.std.specs.Prelude.{◌≡◌, ◌++◌, OnOk, List, ℕ, true, false};
 ghost use Rattle.fibs_position.specs.GameOf.{game_of};
 ghost use Rattle.fibs_drawing.specs.Drawings.{DrawsBoard, is_plain, TellsBoard, is_worded};
 
@@ -47,18 +47,6 @@ pub(crate) fn came_since(before: &GameBoard, game: &GameBoard) -> Came {
     if all > MOST_MOVED { NOTHING_CAME } else { came }
 }
 
-/// Whether the checker that is drawn at a height of a place has come there by the opponent's last move: those that have
-/// come are the innermost ones.
-fn has_come(place: u8, row: usize, position: &Position, came: &Came) -> bool
-    requires low { 1 ≤ place }
-    requires high { place ≤ 24 }
-{
-    let seen = usize::from(position.other(place).min(MOST_SEEN));
-    let count = usize::from(came[usize::from(place)]);
-    let height = height_at(row);
-    count > 0 && height <= seen && height.saturating_add(count) > seen
-}
-
 /// What a byte of a picture is marked by.
 #[derive(Clone, Copy)]
 enum Mark {
@@ -70,7 +58,8 @@ enum Mark {
     None,
 }
 
-/// The mark of a byte: a checker of the player on a place, a die of the player, or a checker that has come.
+/// The mark of a byte: a checker of the player on a place, a die of the player, or a checker that has come by the
+/// opponent's last move. Those that have come to a place are the innermost ones there.
 fn mark_of(byte: u8, row: usize, column: usize, position: &Position, came: &Came) -> Mark {
     let own = (byte == OWN_LETTER && column < BOARD_COLUMNS)
         || (row == DICE_ROW && column > BOARD_COLUMNS && byte >= b'1' && byte <= b'6');
@@ -78,7 +67,13 @@ fn mark_of(byte: u8, row: usize, column: usize, position: &Position, came: &Came
         return Mark::Own;
     }
     let place = place_at(row, column);
-    if byte != b' ' && place > 0 && has_come(place, row, position, came) {
+    if byte == b' ' || place == 0 {
+        return Mark::None;
+    }
+    let seen = usize::from(position.other(place).min(MOST_SEEN));
+    let count = usize::from(came[usize::from(place)]);
+    let height = height_at(row);
+    if count > 0 && height <= seen && height.saturating_add(count) > seen {
         return Mark::Came;
     }
     Mark::None
