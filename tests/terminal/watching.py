@@ -1,4 +1,6 @@
-"""Scenes of one who watches: a board of others is drawn with both names or told in words, and nothing is decided on it."""
+"""Scenes of one who watches: a board of others is drawn with both names, or told in words; nothing is decided on it."""
+
+import tempfile
 
 from escapes import greeted, with_server
 from people import Client, Table, same
@@ -122,7 +124,8 @@ def watching_ends(server):
     for what, line in (('stopped', 'You stop watching bob.'), ('nobody', "** You're not watching."),
                        ('won', 'eve wins the 3 point match 3-1 .'), ('left', '** Player bob has left the game.'),
                        ('lost', 'bob drops connection. The game was saved.'),
-                       ('her own', board(('You', 'eve'))), ('begun', '** Player eve has joined you for a 3 point match.')):
+                       ('her own', board(('You', 'eve'))),
+                       ('begun', '** Player eve has joined you for a 3 point match.')):
         same('before ' + what, HINT in rows_to(ann, server, board()), True)
         same('it is said before ' + what, HINT in typed(ann, server, 'help'), True)
         rows_to(ann, server, line)
@@ -179,6 +182,20 @@ def a_narrow_terminal_has_the_words_of_a_watched_picture_below(server):
     same('below', rows[13:], ['X eve, score 1, off 0, pips 167, dice -', "match to 3, cube 1, free, O bob's turn",
                               'O bob, score 0, off 0, pips 167, dice -', HINT])
     ann.close()
+
+
+@scene
+@with_server
+def a_watched_picture_has_the_letters_of_ones_own(server):
+    """Those of the checkers, and those before the names of the players, of the turn and of the cube."""
+    with tempfile.NamedTemporaryFile('w') as settings:
+        settings.write('letters @ o\n')
+        settings.flush()
+        ann = watched(server, FIBS_CONFIG=settings.name)
+        rows = rows_to(ann, server, board().replace(':1:1:1:0:1:', ':2:0:1:0:1:'))
+        same('letters', (rows[0][47:], rows[6][47:], rows[7][47:], rows[12][47:], rows[1][:20]),
+             ('o eve', "cube 2, o eve's", "@ bob's turn", '@ bob', ' | @           o    '))
+        ann.close()
 
 
 def marked(server, **more):

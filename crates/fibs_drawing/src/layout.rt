@@ -9,7 +9,7 @@ use std::alloc::{AllocError, Global};
 const OTHER_LETTER: u8 = b'X';
 
 /// The column of the letter beside a name, in the first row of a picture and the last one of its board.
-const NAME_COLUMN: usize = 47;
+pub(crate) const NAME_COLUMN: usize = 47;
 
 /// On a terminal of fewer columns the words stand below the board.
 const LEAST_BESIDE: usize = 60;

@@ -4,12 +4,13 @@ ghost use Rattle.fibs_position.specs.WatchedOf.{watched_of};
 ghost use Rattle.fibs_drawing.specs.Drawings.{is_plain, is_wide, is_worded};
 ghost use Rattle.fibs_drawing.specs.WatchedDrawings.{DrawsWatched, TellsWatched};
 
-use crate::layout::{append_below, is_narrow, row_at};
+use crate::layout::{NAME_COLUMN, append_below, is_narrow, row_at, shown_byte};
 use crate::picture::{NOTHING_CAME, append_row, is_plain, short_rows};
 use crate::worded::{append_rows, is_wide};
 use fibs_environment::Settings;
 use fibs_environment::pieces::front;
-use fibs_picture::{DEED_ROW, draw_watched};
+use fibs_fields::split::split;
+use fibs_picture::{CUBE_ROW, DEED_ROW, TURN_ROW, draw_watched};
 use fibs_position::WatchedBoard;
 use fibs_words::tell_watched;
 use std::alloc::{AllocError, Global};
@@ -42,6 +43,53 @@ pub fn append_watched_words(
     append_rows(words.as_slice(), columns, text)
 }
 
+/// Where a row of the cube or of the turn has the letter before a name, if a space follows.
+fn letter_at(bytes: &[u8], row: usize) -> usize {
+    if row == TURN_ROW {
+        NAME_COLUMN
+    } else {
+        split(bytes, b',').0.len().saturating_add(2)
+    }
+}
+
+/// Appends a row in which the letter before a name is that which the user has for its checkers.
+fn append_lettered(
+    bytes: &[u8],
+    row: usize,
+    settings: &Settings<'_>,
+    text: &mut Vec<u8>,
+) -> Result<(), AllocError> {
+    if row != TURN_ROW && row != CUBE_ROW {
+        return text.extend_from_slice(bytes);
+    }
+    let at = letter_at(bytes, row);
+    for column in 0..bytes.len() {
+        let is_letter = column == at && bytes.get(at.saturating_add(1)) == Some(&b' ');
+        let byte = if is_letter {
+            shown_byte(bytes[column], 0, NAME_COLUMN, settings)
+        } else {
+            bytes[column]
+        };
+        text.extend_from_slice(&[byte])?;
+    }
+    Ok(())
+}
+
+/// The rows of a picture, with the letters that the user has.
+fn lettered_rows(
+    alloc: Global,
+    short: &[Vec<u8>],
+    settings: &Settings<'_>,
+) -> Result<Vec<Vec<u8>>, AllocError> {
+    let mut rows = Vec::new(alloc);
+    for row in 0..short.len() {
+        let mut bytes = Vec::new(alloc);
+        append_lettered(short[row].as_slice(), row, settings, &mut bytes)?;
+        rows.push(bytes)?;
+    }
+    Ok(rows)
+}
+
 /// Appends a picture that has marks or other letters, or is narrow.
 fn append_marked_watched(
     alloc: Global,
@@ -52,7 +100,8 @@ fn append_marked_watched(
     let mut picture = Vec::new(alloc);
     draw_watched(watched, &mut picture).map_err(|_| AllocError)?;
     let opponent = front(watched.board().opponent().bytes());
-    let rows = short_rows(alloc, picture.as_slice(), opponent)?;
+    let short = short_rows(alloc, picture.as_slice(), opponent)?;
+    let rows = lettered_rows(alloc, short.as_slice(), settings)?;
     for place in 0..DEED_ROW {
         let row = row_at(place, settings);
         if let Some(bytes) = rows.get(row) {
