@@ -60,11 +60,17 @@ impl Timestamp {
         Civil { inner: utc.checked_add_signed(Duration::seconds(ahead.into())).unwrap_or(utc) }
     }
 
-    /// How far the place of the system is ahead.
+    /// How far the place of the system is ahead, or 0 if the system does not say.
     #[cfg(not(unix))]
     fn local_ahead(self) -> i32 {
-        use chrono::Offset;
-        chrono::Local.offset_from_utc_datetime(&self.inner.naive_utc()).fix().local_minus_utc()
+        // SAFETY: the fields are numbers, of which 0 is one.
+        let mut tm: libc::tm = unsafe { std::mem::zeroed() };
+        // SAFETY: the system reads the second, and writes the fields.
+        let why = unsafe { libc::localtime_s(&mut tm, &self.second()) };
+        let [hour, minute, second] = [tm.tm_hour, tm.tm_min, tm.tm_sec].map(i32::unsigned_abs);
+        let date = chrono::NaiveDate::from_ymd_opt(tm.tm_year + 1900, tm.tm_mon as u32 + 1, tm.tm_mday as u32);
+        let shown = date.and_then(|date| date.and_hms_opt(hour, minute, second)).filter(|_| why == 0);
+        shown.map_or(0, |shown| (shown - self.inner.naive_utc()).num_seconds() as i32)
     }
 }
 
