@@ -32,6 +32,11 @@ impl<'a> Page<'a> {
         append_all(pieces, &mut self.text)
     }
 
+    /// How many columns a row of the server's words may have: the last one of the terminal stays free.
+    pub fn columns(&self) -> usize {
+        self.settings.columns.saturating_sub(1)
+    }
+
     /// Shows bytes of the server in a row; in more, if it is wider than the terminal.
     pub fn show_row(&mut self, bytes: &[u8]) -> Result<(), AllocError> {
         let start = self.text.len();
@@ -41,7 +46,7 @@ impl<'a> Page<'a> {
 
     /// Ends the row that begins at a place. Its words go on in another row if it is wider than the terminal.
     pub fn end_row(&mut self, start: usize) -> Result<(), AllocError> {
-        break_at_spaces(start, self.settings.columns, &mut self.text);
+        break_at_spaces(start, self.columns(), &mut self.text);
         self.say(b"\n")
     }
 

@@ -83,7 +83,7 @@ fn say_message(
     let alloc = page.alloc;
     let mut row = Vec::new(alloc);
     append_message(message, moment.time, &page.settings, &mut row)?;
-    break_at_spaces(0, page.settings.columns, &mut row);
+    break_at_spaces(0, page.columns(), &mut row);
     if is_talk(message) {
         talk.keep(alloc, row.as_slice())?;
     }
