@@ -30,6 +30,8 @@ pub const FORMS: &[(&str, &[&str], Rule)] = &[
 pub const WRITTEN: &[(&str, &str)] = &[
     ("fn fmt<W: fmt::Write>(&self, f: &mut fmt::Formatter<W>)", "fn fmt(&self, f: &mut fmt::Formatter<'_>)"),
     ("fn main(", "pub fn main("),
+    // rustc would leave it a call, at each line
+    ("pub(crate) fn limited(", "#[inline(always)] pub(crate) fn limited("),
     ("fn reserve(", "fn may_reserve("),
     ("Box::new(", "crate::rattle::may::may_box("),
     ("Vec::from_elem(", "crate::rattle::may::may_from_elem("),
