@@ -89,12 +89,12 @@ fn play_at_terminal<D: Dial, R: Read, V: Watch>(
     unless_memory_ran_out(configured, &front)?;
     let is_due = Cell::new(false);
     let answer = answer_lines(
-        &mut OrderedServer::new(server, config.orders_roll(), &is_due),
+        &mut OrderedServer::new(&mut *server, config.orders_roll(), &is_due),
         alloc,
         login,
         &mut lines,
-        &mut OrderedInput::new(input, &is_due),
-        &mut OrderedWatch::new(watch, &is_due),
+        &mut OrderedInput::new(&mut *input, &is_due),
+        &mut OrderedWatch::new(&mut *watch, &is_due),
         &mut front,
     );
     let status = unless_memory_ran_out(answer, &front)?;
