@@ -174,8 +174,7 @@ def the_bell():
     try:
         for quiet in None, '1':
             ann = Person(server.port, FIBS_QUIET=quiet)
-            ann.reads("Type 'join eve' to accept.")
-            ann.type('join eve')
+            ann.types_what('invited', 'join eve')
             ann.hint()
             ann.type('tell eve hi')
             ann.reads('eve says: hello')
@@ -196,8 +195,7 @@ def help_lists_the_words():
     server = Served('--bot', 'eve:invites=1', '--dice', '13')
     try:
         ann = Person(server.port)
-        ann.reads("Type 'join eve' to accept.")
-        ann.type('join eve')
+        ann.types_what('invited', 'join eve')
         hint = ann.hint()
         ann.type('help')
         ann.reads('help')

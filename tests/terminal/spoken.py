@@ -112,7 +112,7 @@ class Listener:
             self.hears_board(self.rows[-len(ROWS):])
         elif found := ROLLED.fullmatch(row):
             self.moves((int(found[1]), int(found[2])))
-        elif row.endswith("Type 'join eve' to accept."):
+        elif row.endswith(': join eve'):
             self.types('join eve')
         elif row.startswith("Type 'join' if you want to play the next game"):
             self.types('join')
