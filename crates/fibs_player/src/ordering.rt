@@ -12,15 +12,19 @@ const ORDER: &[u8] = b"order roll\n";
 
 /// A server: whenever a connection to it is made the order is due, if it is asked for.
 #[derive(Drop)]
-pub struct OrderedServer<'a, D: Dial> {
+pub struct OrderedServer<'a, 'b, D: Dial> {
     server: &'a mut D,
     is_asked: bool,
-    is_due: &'a Cell<bool>,
+    is_due: &'b Cell<bool>,
 }
 
-impl<'a, D: Dial> OrderedServer<'a, D> {
+impl<'a, 'b, D: Dial> OrderedServer<'a, 'b, D> {
     /// The same server.
-    pub fn new(server: &'a mut D, is_asked: bool, is_due: &'a Cell<bool>) -> OrderedServer<'a, D> {
+    pub fn new(
+        server: &'a mut D,
+        is_asked: bool,
+        is_due: &'b Cell<bool>,
+    ) -> OrderedServer<'a, 'b, D> {
         OrderedServer {
             server,
             is_asked,
@@ -29,7 +33,7 @@ impl<'a, D: Dial> OrderedServer<'a, D> {
     }
 }
 
-impl<D: Dial> Dial for OrderedServer<'_, D> {
+impl<D: Dial> Dial for OrderedServer<'_, '_, D> {
     type Stream = D::Stream;
 
     fn dial(&mut self) -> Result<D::Stream, ErrorKind> {
@@ -41,16 +45,16 @@ impl<D: Dial> Dial for OrderedServer<'_, D> {
 
 /// What is typed, and before the next line of it the order, if that is due.
 #[derive(Drop)]
-pub struct OrderedInput<'a, R: Read> {
+pub struct OrderedInput<'a, 'b, R: Read> {
     typed: &'a mut R,
-    is_due: &'a Cell<bool>,
+    is_due: &'b Cell<bool>,
     /// Whether what was read last ended a line.
     is_between_lines: bool,
 }
 
-impl<'a, R: Read> OrderedInput<'a, R> {
+impl<'a, 'b, R: Read> OrderedInput<'a, 'b, R> {
     /// What is typed, of which no line is begun.
-    pub fn new(typed: &'a mut R, is_due: &'a Cell<bool>) -> OrderedInput<'a, R> {
+    pub fn new(typed: &'a mut R, is_due: &'b Cell<bool>) -> OrderedInput<'a, 'b, R> {
         OrderedInput {
             typed,
             is_due,
@@ -59,7 +63,7 @@ impl<'a, R: Read> OrderedInput<'a, R> {
     }
 }
 
-impl<R: Read> Read for OrderedInput<'_, R> {
+impl<R: Read> Read for OrderedInput<'_, '_, R> {
     fn read(&mut self, buf: &mut [u8]) -> io::Result<usize> {
         if self.is_due.get() && self.is_between_lines && buf.len() >= ORDER.len() {
             self.is_due.set(false);
@@ -74,19 +78,19 @@ impl<R: Read> Read for OrderedInput<'_, R> {
 
 /// What tells which comes first: an order that is due is as something typed.
 #[derive(Drop)]
-pub struct OrderedWatch<'a, V: Watch> {
+pub struct OrderedWatch<'a, 'b, V: Watch> {
     watch: &'a mut V,
-    is_due: &'a Cell<bool>,
+    is_due: &'b Cell<bool>,
 }
 
-impl<'a, V: Watch> OrderedWatch<'a, V> {
+impl<'a, 'b, V: Watch> OrderedWatch<'a, 'b, V> {
     /// The same watch.
-    pub fn new(watch: &'a mut V, is_due: &'a Cell<bool>) -> OrderedWatch<'a, V> {
+    pub fn new(watch: &'a mut V, is_due: &'b Cell<bool>) -> OrderedWatch<'a, 'b, V> {
         OrderedWatch { watch, is_due }
     }
 }
 
-impl<V: Watch> Watch for OrderedWatch<'_, V> {
+impl<V: Watch> Watch for OrderedWatch<'_, '_, V> {
     fn first(&mut self) -> First {
         if self.is_due.get() {
             return First::Typed;

@@ -19,6 +19,7 @@ use fibs_objects::front::Objects;
 use fibs_session::{Login, PlainFault};
 use fibs_terminal::Terminal;
 use fibs_wording::reasons::append_login_fault;
+use std::alloc::Global;
 use std::cell::Cell;
 use std::io::{IsTerminal, Read, Stdout, Write};
 use std::net::{Net, TcpListener, TcpStream};
@@ -64,6 +65,36 @@ fn say_login_fault(rt: &HostRuntime, why: PlainFault) -> Result<u8, EngineFault>
     Ok(Status::Refused.code())
 }
 
+/// Answers typed lines at a terminal, and gives the standing order if the user's own settings ask for it. At the end the
+/// window has the title that it had before.
+fn answer_at_terminal<D: Dial, R: Read, V: Watch, W: Write + Drop, C: Clock + Drop>(
+    server: &mut D,
+    alloc: Global,
+    login: Login,
+    lines: &mut TypedLines,
+    input: &mut R,
+    watch: &mut V,
+    front: &mut Terminal<'_, W, C>,
+    orders_roll: bool,
+) -> Result<u8, EngineFault> {
+    let is_due = Cell::new(false);
+    let mut server = OrderedServer::new(server, orders_roll, &is_due);
+    let mut input = OrderedInput::new(input, &is_due);
+    let mut watch = OrderedWatch::new(watch, &is_due);
+    let answer = answer_lines(
+        &mut server,
+        alloc,
+        login,
+        lines,
+        &mut input,
+        &mut watch,
+        front,
+    );
+    let status = unless_memory_ran_out(answer, front)?;
+    front.leave()?;
+    Ok(status)
+}
+
 /// Talks with a server at a terminal. The first line is the password.
 fn play_at_terminal<D: Dial, R: Read, V: Watch>(
     rt: &HostRuntime,
@@ -74,6 +105,7 @@ fn play_at_terminal<D: Dial, R: Read, V: Watch>(
     out: &mut Noted<Stdout>,
 ) -> Result<u8, EngineFault> {
     let alloc = rt.alloc();
+    let config = Config::read(rt)?;
     let clocks = Clocks::read(rt);
     let shown = terminal_settings(rt, clocks.zone(), call.host, call.port);
     let mut lines = TypedLines::new(MOST_INPUT_READS);
@@ -84,22 +116,18 @@ fn play_at_terminal<D: Dial, R: Read, V: Watch>(
         Ok(login) => login,
     };
     let mut front = Terminal::new(alloc, out, rt, shown);
-    let config = Config::read(rt)?;
     let configured = front.configure(&config).map_err(EngineFault::from);
     unless_memory_ran_out(configured, &front)?;
-    let is_due = Cell::new(false);
-    let answer = answer_lines(
-        &mut OrderedServer::new(&mut *server, config.orders_roll(), &is_due),
+    answer_at_terminal(
+        server,
         alloc,
         login,
         &mut lines,
-        &mut OrderedInput::new(&mut *input, &is_due),
-        &mut OrderedWatch::new(&mut *watch, &is_due),
+        input,
+        watch,
         &mut front,
-    );
-    let status = unless_memory_ran_out(answer, &front)?;
-    front.leave()?;
-    Ok(status)
+        config.orders_roll(),
+    )
 }
 
 /// Talks with a server, and prints the plain account. The first line is the password.
