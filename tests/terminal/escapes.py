@@ -360,7 +360,7 @@ def what_show_says_at_a_terminal():
         (b'12 bob hi\nhalf', ['bob says: hi\n', 'unfinished 4\n'], [' bob says'], 0),
         (b'text\n16 bob hi\n', ['text\nYou say to bob: hi\n'], [], 0),
         (b'12 bob hi\n', ['bob says: hi\n'], ['unfinished'], 0),
-        (b'12 bob ' + b'a' * 16384 + b'\n', ['12 bob aaa'], ['says'], 0),
+        (b'12 bob ' + b'a' * 16384 + b'\n', ['12 bob\naaa'], ['says'], 0),
         (None, ['fibs: device\nfibs: standard input: it is a directory\n'], [], 4),
     ]
     for given, wanted, never, status in rows:

@@ -171,7 +171,7 @@ class Seat:
             self.judge(kind, row, lines)
             self.takes_note(kind, lines, row)
         if found := INVITED.fullmatch(row):
-            self.inviting = found[1] or found[2]
+            self.inviting = found[1]
         elif ENDED.fullmatch(row):
             self.is_over = True
 

@@ -62,7 +62,7 @@ REFUSED = re.compile(r'.*\[\d+ [A-Z][A-Za-z]+\]|(?:refused|fault) \d+ \w+|unknow
 SENT = re.compile(r'sent as it is: (.*)|sent (.*?)(?:, as ordered)?')
 
 # What the server says, that one goes by too.
-INVITED = re.compile(r"Type '(join \S+)' to accept\.|\S+ (?:\(.*\) )?invites you to .*: (join \S+)")
+INVITED = re.compile(r"(?:Type '|\S+ (?:\(.*\) )?invites you to .*: |You are invited: )(join [^\s']+)(?:' to accept\.)?")
 ENDED = re.compile(r'(?:You win|\S+ wins) the \d+ point match .*')
 
 

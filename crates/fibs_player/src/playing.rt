@@ -65,8 +65,8 @@ fn say_login_fault(rt: &HostRuntime, why: PlainFault) -> Result<u8, EngineFault>
     Ok(Status::Refused.code())
 }
 
-/// Answers typed lines at a terminal, and gives the standing order if the user's own settings ask for it. At the end the
-/// window has the title that it had before.
+/// Answers typed lines at a terminal, and gives the standing order if the user's own settings ask for it. At the end
+/// the window has the title that it had before.
 fn answer_at_terminal<D: Dial, R: Read, V: Watch, W: Write + Drop, C: Clock + Drop>(
     server: &mut D,
     alloc: Global,

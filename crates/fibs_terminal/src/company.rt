@@ -204,7 +204,9 @@ impl Company {
             page.say_all(&[who.as_slice(), how.as_slice(), b"\n"])?;
             return Ok(Some(true));
         }
-        page.say_all(&[who.as_slice(), b".\n"])?;
+        let start = page.text.len();
+        page.say_all(&[who.as_slice(), b"."])?;
+        page.end_row(start)?;
         Ok(Some(false))
     }
 
