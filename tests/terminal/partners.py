@@ -359,3 +359,31 @@ def letters_and_side_are_ones_own(server):
         same('the next row', rows[at + 1], ' | o           @    |   | @              o |     score 0')
         same('the last row', rows[at + 12], ' +13-14-15-16-17-18-+---+19-20-21-22-23-24-+   o bob')
         ann.close()
+
+
+# Screens that are not of 80 columns, 24 rows and letters in bold.
+KINDS = [{'columns': 60, 'rows': 15, 'COLUMNS': '60'}, {'columns': 40, 'COLUMNS': '40'}, {'TERM': 'dumb'},
+         {'TERM': 'xterm', 'NO_COLOR': '1'}, {'FIBS_WORDS': '1'}]
+
+
+@scene
+@with_server
+def each_kind_of_screen_leads_on(server):
+    """At 60 by 15, at 40 columns, with TERM=dumb, NO_COLOR and FIBS_WORDS: whose match is saved, who invites, the game."""
+    for kind in KINDS:
+        ann = greeted(server, **kind)
+        listed(server, [BOB, ('carl', '-', 1500, 7, 0, 1)])
+        ann.reads('2 players: type players')
+        server.send(*SAVED, 'and that is all', '7 bob bob logs in.')
+        same('whose match is saved, %r' % kind, ann.advised('gone', 'invite bob'), ['invite bob'])
+        server.send('bob wants to play a 5 point match with you.', "Type 'join bob' to accept.")
+        same('how one joins, %r' % kind, ann.advised('invited', 'join bob'), ['join bob'])
+        server.send(board_of(1, own=(3, 1)), board_of(-1, changes=[(8, -1), (6, -1), (5, 2)]), '12 x y')
+        ann.reads('x says: y')
+        same('the game so far, %r' % kind, rows_after(ann, 'moves', '6-5'), ['  1. You roll 3 and 1: 8-5 6-5'])
+        marks = ann.screen().count('\x1b[')
+        same('marks, %r' % kind, marks == 0 or kind.get('columns') is not None, True)
+        drawn = [row for row in ann.lines() if row.startswith((' +', ' |'))]
+        same('rows that are drawn, %r' % kind, [row for row in drawn if len(row) > kind.get('columns', 79)], [])
+        same('a picture, %r' % kind, bool(drawn), kind.get('columns') != 40 and 'FIBS_WORDS' not in kind)
+        ann.close()
