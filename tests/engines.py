@@ -73,7 +73,7 @@ class Engines:
     def plays(self, boards):
         count = 0
         for done in range(0, boards, AT_ONCE):
-            words = [fuzz.plays_word(self.rng).rstrip(b'\r') for _ in range(min(AT_ONCE, boards - done))]
+            words = [fuzz.a_word(fuzz.plays_line(self.rng)).rstrip(b'\r') for _ in range(min(AT_ONCE, boards - done))]
             wanted = [run([self.program, 'plays', '--', word]) for word in words]
             self.same_of_many('plays', words, wanted)
             count += sum(out.count(b'move') for _, out, _ in wanted)

@@ -305,8 +305,8 @@ def batch(rng):
 # ---- Words for `plays` -----------------------------------------------------------------------------------------------
 
 
-def plays_word(rng):
-    """One word of a command line: mostly a board in which a play is to be chosen."""
+def plays_line(rng):
+    """A line: mostly a board in which a play is to be chosen."""
     kind = rng.random()
     if kind < 0.5:
         line = good_board(rng, 'move' if rng.random() < 0.8 else None)
@@ -322,6 +322,12 @@ def plays_word(rng):
         line = mutate_field(rng, line)
     if rng.random() < 0.05:
         line = mutate_bytes(rng, line)
+    return line
+
+
+def plays_word(rng):
+    """A word of the command line: a line, or the object of a board."""
+    line = plays_line(rng)
     return a_word(as_object(rng, line) if rng.random() < 0.2 else line)
 
 

@@ -106,10 +106,7 @@ static OFFERS: [Scene; 13] = [
         "The cube shows 2.\nIt may be your turn: board shows the game.\n",
     ),
     (
-        &[
-            Step::Hears(b"bob accepts the double. The cube shows 2.\r\n"),
-            Step::Rests,
-        ],
+        &[Step::Hears(b"bob accepts the double. The cube shows 2.\r\n"), Step::Rests],
         "The cube shows 2.\nYour turn: roll; your double is accepted.\n",
     ),
     (

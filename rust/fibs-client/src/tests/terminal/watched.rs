@@ -204,11 +204,9 @@ fn a_watched_board_is_no_board_of_the_users_game() {
     let watched = WATCHED[0].board;
     let own = watched.replace(":ann:", ":You:");
     let many = watched.replace(":-2:0:0:0:0:5:", ":15:0:0:0:0:5:");
-    for (line, is_watched, fault) in [
-        (watched, true, Some(PositionFault::NotYou)),
-        (&own, false, None),
-        (&many, false, Some(PositionFault::NotYou)),
-    ] {
+    for (line, is_watched, fault) in
+        [(watched, true, Some(PositionFault::NotYou)), (&own, false, None), (&many, false, Some(PositionFault::NotYou))]
+    {
         let board = Board::read(line.as_bytes()).expect("it is a board");
         assert_eq!(WatchedBoard::of(&board).is_some(), is_watched, "{line}");
         assert_eq!(GameBoard::of(&board).err(), fault, "{line}");
