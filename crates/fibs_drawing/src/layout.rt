@@ -38,15 +38,6 @@ pub(crate) fn row_at(place: usize, settings: &Settings<'_>) -> usize {
     }
 }
 
-/// How many bytes of a row are shown.
-pub(crate) fn most_shown(row: usize, settings: &Settings<'_>) -> usize {
-    if is_narrow(settings) && row < DEED_ROW {
-        BOARD_COLUMNS + 1
-    } else {
-        settings.columns
-    }
-}
-
 /// Whether a column of a board is left out.
 pub(crate) fn is_left_out(row: usize, column: usize, settings: &Settings<'_>) -> bool {
     row < DEED_ROW && settings.columns <= BOARD_COLUMNS && LEFT_OUT.contains(&column)

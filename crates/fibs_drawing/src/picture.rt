@@ -4,7 +4,7 @@ ghost use Rattle.std.specs.Prelude.{◌≡◌, ◌++◌, OnOk, List, ℕ, true, 
 ghost use Rattle.fibs_position.specs.GameOf.{game_of};
 ghost use Rattle.fibs_drawing.specs.Drawings.{DrawsBoard, is_plain, TellsBoard, is_worded};
 
-use crate::layout::{append_below, is_left_out, is_narrow, most_shown, row_at, shown_byte};
+use crate::layout::{append_below, is_left_out, is_narrow, row_at, shown_byte};
 use crate::worded::append_words;
 use fibs_environment::Settings;
 use fibs_environment::pieces::{append_all, front};
@@ -15,12 +15,17 @@ use fibs_picture::{
 use fibs_position::{GameBoard, Phase, Position};
 use std::alloc::{AllocError, Global};
 
-/// What makes letters bold, what marks those of the opponent's last move, and what ends that.
-const BOLD: &[u8] = b"\x1b[1m";
+/// What is written before a byte that is marked, and what after it.
+type Mark = [&'static [u8]; 2];
 
-const CAME: &[u8] = b"\x1b[35m";
+/// The mark of what is the player's.
+const OWN: Mark = [b"\x1b[1m", b"\x1b[0m"];
 
-const PLAIN: &[u8] = b"\x1b[0m";
+/// The mark of a checker that has come by the opponent's last move.
+const CAME: Mark = [b"\x1b[35m", b"\x1b[0m"];
+
+/// The mark of all else.
+const UNMARKED: Mark = [b"", b""];
 
 /// How many checkers of the opponent have come to each place, by the player's own numbering.
 pub(crate) type Came = [u8; 25];
@@ -47,47 +52,25 @@ pub(crate) fn came_since(before: &GameBoard, game: &GameBoard) -> Came {
     if all > MOST_MOVED { NOTHING_CAME } else { came }
 }
 
-/// What a byte of a picture is marked by.
-#[derive(Clone, Copy)]
-enum Mark {
-    /// It is the player's.
-    Own,
-    /// It is the opponent's, and has come by his last move.
-    Came,
-    /// It is not marked.
-    None,
-}
-
 /// The mark of a byte: a checker of the player on a place, a die of the player, or a checker that has come by the
 /// opponent's last move. Those that have come to a place are the innermost ones there.
 fn mark_of(byte: u8, row: usize, column: usize, position: &Position, came: &Came) -> Mark {
     let own = (byte == OWN_LETTER && column < BOARD_COLUMNS)
         || (row == DICE_ROW && column > BOARD_COLUMNS && byte >= b'1' && byte <= b'6');
     if own {
-        return Mark::Own;
+        return OWN;
     }
     let place = place_at(row, column);
     if byte == b' ' || place == 0 {
-        return Mark::None;
+        return UNMARKED;
     }
     let seen = usize::from(position.other(place).min(MOST_SEEN));
     let count = usize::from(came[usize::from(place)]);
     let height = height_at(row);
     if count > 0 && height <= seen && height.saturating_add(count) > seen {
-        return Mark::Came;
+        return CAME;
     }
-    Mark::None
-}
-
-/// Appends a byte with its mark.
-fn append_byte(byte: u8, mark: Mark, text: &mut Vec<u8>) -> Result<(), AllocError> {
-    match mark {
-        Mark::None => return text.extend_from_slice(&[byte]),
-        Mark::Own => text.extend_from_slice(BOLD)?,
-        Mark::Came => text.extend_from_slice(CAME)?,
-    }
-    text.extend_from_slice(&[byte])?;
-    text.extend_from_slice(PLAIN)
+    UNMARKED
 }
 
 /// Appends a row of a picture, marked, if the terminal can do that, and no wider than it is.
@@ -99,16 +82,21 @@ pub(crate) fn append_row(
     settings: &Settings<'_>,
     text: &mut Vec<u8>,
 ) -> Result<(), AllocError> {
-    let most = most_shown(row, settings).min(PICTURE_COLUMNS);
+    let most = if is_narrow(settings) && row < DEED_ROW {
+        BOARD_COLUMNS + 1
+    } else {
+        settings.columns.min(PICTURE_COLUMNS)
+    };
     let shown = &bytes[..bytes.len().min(most)];
     for column in 0..shown.len() {
-        let mark = if settings.colour {
+        let [before, after] = if settings.colour {
             mark_of(shown[column], row, column, position, came)
         } else {
-            Mark::None
+            UNMARKED
         };
         if !is_left_out(row, column, settings) {
-            append_byte(shown_byte(shown[column], row, column, settings), mark, text)?;
+            let byte = shown_byte(shown[column], row, column, settings);
+            append_all(&[before, &[byte], after], text)?;
         }
     }
     text.extend_from_slice(b"\n")

@@ -44,13 +44,6 @@ impl Watching {
         }
     }
 
-    /// Nothing is watched any more.
-    pub fn end(&mut self) {
-        self.heard = None;
-        self.drawn = None;
-        self.is_ending = false;
-    }
-
     /// The board that came last.
     pub fn board(&self) -> Option<&WatchedBoard> {
         self.heard.as_ref()

@@ -2,14 +2,13 @@
 
 use crate::screen::{Moment, Screen};
 use crate::talk::Talk;
-use fibs_advice::plays::Listing;
-use fibs_advice::standing::Standing;
 use fibs_advice::told::Told;
+use fibs_drawing::Watching;
 use fibs_environment::Page;
 use fibs_environment::broken::break_at_spaces;
 use fibs_lines::Line;
 use fibs_messages::{Fault, Message, Reading};
-use fibs_position::{GameBoard, Phase};
+use fibs_position::Phase;
 use fibs_wording::messages::append_message;
 use fibs_wording::reasons::append_malformed;
 use std::alloc::AllocError;
@@ -110,29 +109,6 @@ impl<'a> Screen<'a> {
         }
     }
 
-    /// Hears a board of the user's game.
-    pub(crate) fn hear_game(&mut self, game: &GameBoard) -> Result<(), AllocError> {
-        let memory = &mut self.memory;
-        memory.advising.owes = true;
-        if memory.situation.asks_board {
-            memory.advising.inquired = true;
-        }
-        memory.situation.hear_board(game);
-        // its moves are listed from the first on
-        memory.looking.plays = Listing::of_all();
-        memory.watching.end();
-        memory.story.hear_board(game)?;
-        if memory.converses {
-            memory.title.hear_board(game)?;
-        }
-        let said = memory.said.as_slice();
-        memory
-            .boards
-            .show(game, memory.converses, said, &mut self.page)?;
-        memory.said.clear();
-        Ok(())
-    }
-
     /// Hears a line without a number. What it says of the match counts even if it is not shown.
     fn hear_text(&mut self, said: &[u8]) -> Result<(), AllocError> {
         let told = self.note_told(said)?;
@@ -155,7 +131,7 @@ impl<'a> Screen<'a> {
         match told {
             Some(Told::Begins | Told::Resumes) => {
                 self.memory.boards.begin();
-                self.memory.watching.end();
+                self.memory.watching = Watching::new();
             }
             Some(Told::NotPlaying | Told::NextGame) => self.hear_no_board(),
             Some(Told::NotInvited) => self.memory.advising.owes = true,

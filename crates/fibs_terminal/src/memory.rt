@@ -73,7 +73,7 @@ impl Memory {
     pub fn forget_boards(&mut self) {
         self.advising.forget();
         self.boards = Boards::new();
-        self.watching.end();
+        self.watching = Watching::new();
         self.list.forget();
         self.said.clear();
     }

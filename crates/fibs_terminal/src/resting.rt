@@ -79,13 +79,8 @@ impl Advising {
     fn says(&self, advice: &Advice, row: &[u8]) -> bool
         ensures { self.now.owes ≡ true → is_asked_for advice.now.row ≡ false → result ≡ true }
     {
-        if self.inquired {
-            return true;
-        }
-        if advice.row.is_asked_for() {
-            return false;
-        }
-        self.owes || self.advised.as_slice() != row
+        self.inquired
+            || (!advice.row.is_asked_for() && (self.owes || self.advised.as_slice() != row))
     }
 }
 

@@ -1,9 +1,12 @@
 //! What a terminal shows of what is reported to it.
 
 use crate::screen::{Moment, Screen};
+use fibs_advice::plays::Listing;
+use fibs_drawing::Watching;
 use fibs_environment::Page;
 use fibs_environment::pieces::append_all;
 use fibs_front::said::Said;
+use fibs_position::GameBoard;
 use fibs_session::{CommandText, Outstanding, PlainRefusal, Refusal};
 use fibs_wording::lists::append_row;
 use fibs_wording::reasons::{append_not_sent, append_reason, append_unnoted, refusal_words};
@@ -53,44 +56,56 @@ fn words_of(why: Refusal, rule: &[u8], is_told: bool) -> &[u8] {
 impl<'a> Screen<'a> {
     /// Hears one thing, and makes the text that is written for it.
     pub fn hear(&mut self, said: &Said<'_>, moment: Moment) -> Result<(), AllocError> {
-        self.hear_said(said, moment)?;
-        if self.page.settings.title {
-            self.memory.title.put(&mut self.page)?;
-        }
-        Ok(())
-    }
-
-    /// Hears one thing, and makes the text that is written for it, but for the title of the window.
-    fn hear_said(&mut self, said: &Said<'_>, moment: Moment) -> Result<(), AllocError> {
         match said {
-            Said::Opened => self.hear_opened(moment),
-            Said::NoConnection(why) => say_no_connection(*why, &mut self.page),
+            Said::Opened => self.hear_opened(moment)?,
+            Said::NoConnection(why) => say_no_connection(*why, &mut self.page)?,
             // its board is reported next
-            Said::Heard(_, _, Some(_)) => Ok(()),
-            Said::Heard(line, reading, None) => self.hear_line(line, reading, moment),
-            Said::Game(game) => self.hear_game(game),
-            Said::Confirmed(_) => {
-                self.memory.situation.hear_confirmed();
-                Ok(())
-            }
-            Said::Lost(waited) => self.hear_lost(waited),
+            Said::Heard(_, _, Some(_)) => {}
+            Said::Heard(line, reading, None) => self.hear_line(line, reading, moment)?,
+            Said::Game(game) => self.hear_game(game)?,
+            Said::Confirmed(_) => self.memory.situation.hear_confirmed(),
+            Said::Lost(waited) => self.hear_lost(waited)?,
             Said::Unnoted(why) => {
                 append_unnoted(*why, &mut self.page.text)?;
-                self.page.say(b"\n")
+                self.page.say(b"\n")?;
             }
-            Said::Player(player) => append_row(player, &mut self.page.text),
-            Said::Sent(command) => self.hear_sent(command),
-            Said::Passed(line) => self.say_passed(line),
-            Said::Refused(why) => self.say_refused(*why),
-            Said::NotSent(why) => self.say_not_sent(*why),
+            Said::Player(player) => append_row(player, &mut self.page.text)?,
+            Said::Sent(command) => self.hear_sent(command)?,
+            Said::Passed(line) => self.say_passed(line)?,
+            Said::Refused(why) => self.say_refused(*why)?,
+            Said::NotSent(why) => self.say_not_sent(*why)?,
             Said::Rolled => {
                 let _decides = self.memory.situation.hear_sent(b"roll");
-                self.page.say(b"sent roll, as ordered\n")
+                self.page.say(b"sent roll, as ordered\n")?;
             }
-            Said::Ordered => self.page.say(ORDERED),
-            Said::Withdrawn => self.page.say(WITHDRAWN),
-            Said::Unknown => self.page.say(UNKNOWN),
+            Said::Ordered => self.page.say(ORDERED)?,
+            Said::Withdrawn => self.page.say(WITHDRAWN)?,
+            Said::Unknown => self.page.say(UNKNOWN)?,
         }
+        self.memory.title.put(&mut self.page)
+    }
+
+    /// Hears a board of the user's game.
+    fn hear_game(&mut self, game: &GameBoard) -> Result<(), AllocError> {
+        let memory = &mut self.memory;
+        memory.advising.owes = true;
+        if memory.situation.asks_board {
+            memory.advising.inquired = true;
+        }
+        memory.situation.hear_board(game);
+        // its moves are listed from the first on
+        memory.looking.plays = Listing::of_all();
+        memory.watching = Watching::new();
+        memory.story.hear_board(game)?;
+        if memory.converses {
+            memory.title.hear_board(game)?;
+        }
+        let said = memory.said.as_slice();
+        memory
+            .boards
+            .show(game, memory.converses, said, &mut self.page)?;
+        memory.said.clear();
+        Ok(())
     }
 
     /// Says why a plain command was not sent.

@@ -57,15 +57,10 @@ impl<'a, W: Write + Drop, C: Clock + Drop> Terminal<'a, W, C> {
 
 /// What a clock says now.
 fn moment_of<C: Clock>(clock: &C) -> Moment {
-    let time = match clock.since_1970() {
-        Ok(time) => Some(time.as_secs()),
-        Err(_) => None,
-    };
-    let passed = match clock.monotonic() {
-        Ok(passed) => passed,
-        Err(_) => Duration::from_secs(0),
-    };
-    Moment { time, passed }
+    Moment {
+        time: clock.since_1970().ok().map(|time| time.as_secs()),
+        passed: clock.monotonic().unwrap_or(Duration::from_secs(0)),
+    }
 }
 
 /// Writes a text.

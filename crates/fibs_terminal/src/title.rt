@@ -58,11 +58,15 @@ impl Title {
         self.wanted.extend_from_slice(NO_GAME)
     }
 
-    /// Puts a new title before what is written next, if anything is: so it never stands in a row of its own.
+    /// Puts a new title before what is written next, if anything is: so it never stands in a row of its own. Nothing if
+    /// the window has no title.
     pub fn put(&mut self, page: &mut Page<'_>) -> Result<(), AllocError>
         ensures { OnOk result (PutsTitle self.old.wanted.items page.old.text.items page.new.text.items) }
     {
-        if page.text.is_empty() || self.wanted.as_slice() == self.shown.as_slice() {
+        if !page.settings.title
+            || page.text.is_empty()
+            || self.wanted.as_slice() == self.shown.as_slice()
+        {
             return Ok(());
         }
         let alloc = page.alloc;

@@ -3,6 +3,7 @@
 use crate::screen::Screen;
 use fibs_advice::watched::{Seen, read_seen};
 use fibs_boards::board::Board;
+use fibs_drawing::Watching;
 use fibs_position::WatchedBoard;
 use std::alloc::AllocError;
 
@@ -30,14 +31,13 @@ impl<'a> Screen<'a> {
     pub(crate) fn note_watching(&mut self, said: &[u8]) -> Result<(), AllocError> {
         match read_seen(said) {
             Some(Seen::Begins) => {
-                self.memory.watching.end();
+                self.memory.watching = Watching::new();
                 return self.page.say(NO_BOARD_YET);
             }
-            Some(Seen::Ends) => self.memory.watching.end(),
-            Some(Seen::Over(name)) if self.memory.watching.is_of(name) => self
-                .memory
-                .watching
-                .end(),
+            Some(Seen::Ends) => self.memory.watching = Watching::new(),
+            Some(Seen::Over(name)) if self.memory.watching.is_of(name) => {
+                self.memory.watching = Watching::new();
+            }
             _ => {}
         }
         Ok(())
