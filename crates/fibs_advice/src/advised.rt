@@ -69,21 +69,20 @@ fn is_another(client: &Client, decision: &Decision) -> bool
     }
 }
 
+/// Whether a decision may go as it is.
+fn may_send(client: &Client, standing: Standing, decision: &Decision) -> bool
+    ensures { IsTrue result → (t : Talk) → StandsAfter client.now t → MaySend t standing (decision_of decision.now) }
+{
+    !is_taken(client, decision)
+        && is_allowed(client, decision)
+        && (standing.repeats() || is_another(client, decision))
+}
+
 /// A decision, if it may go as it is.
 fn sendable(client: &Client, standing: Standing, decision: Option<Decision>) -> Option<Decision>
     ensures { IfSome result (λ d. (t : Talk) → StandsAfter client.now t → MaySend t standing (decision_of d)) }
 {
-    let Some(decision) = decision else {
-        return None;
-    };
-    if is_taken(client, &decision) || !is_allowed(client, &decision) {
-        return None;
-    }
-    if standing.repeats() || is_another(client, &decision) {
-        Some(decision)
-    } else {
-        None
-    }
+    decision.filter(|decision| may_send(client, standing, decision))
 }
 
 /// Whether the client takes a line now.
@@ -99,10 +98,8 @@ fn is_row_taken(client: &Client, row: Row) -> bool
     ensures { IsTrue result → (t : Talk) → StandsAfter client.now t →
         IfSome (plain_in row) (λ p. plain_refusal t p ≡ None) }
 {
-    match row.plain() {
-        Some(plain) => is_plain_taken(client, &plain),
-        None => true,
-    }
+    row.plain()
+        .is_none_or(|plain| is_plain_taken(client, &plain))
 }
 
 /// Whether an offer of which texts alone tell is answered as it is.
