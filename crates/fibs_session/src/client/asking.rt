@@ -15,19 +15,13 @@ impl Client {
     pub fn refusal(&self, decision: &Decision) -> Option<Refusal>
         ensures { (t : Talk) → StandsAfter self.now t → result ≡ answer_now t (decision_of decision.now) }
     {
-        match self.session.board_for(decision) {
-            Ok(_board) => None,
-            Err(why) => Some(why),
-        }
+        self.session.board_for(decision).err()
     }
 
     /// Why `plain` would refuse the command now. None if it would take it.
     pub fn plain_refusal(&self, plain: &Plain<'_>) -> Option<PlainRefusal>
         ensures { (t : Talk) → StandsAfter self.now t → result ≡ plain_refusal t (plain_value plain.now) }
     {
-        match self.session.text_for(plain) {
-            Ok(_text) => None,
-            Err(why) => Some(why),
-        }
+        self.session.text_for(plain).err()
     }
 }
