@@ -32,7 +32,7 @@ class Terminal:
         environment = {**os.environ, 'TERM': 'dumb', **more}
         environment = {name: value for name, value in environment.items() if value is not None}
         self.fd, tty = os.openpty()
-        fcntl.ioctl(self.fd, termios.TIOCSWINSZ, struct.pack('HHHH', rows, columns, 0, 0))
+        self.resizes(columns, rows)
         orders, self.orders = os.pipe()
         self.reports, reports = os.pipe()
         self.shell = subprocess.Popen(
@@ -46,6 +46,10 @@ class Terminal:
         self.reader = threading.Thread(target=self.read, daemon=True)
         self.reader.start()
         self.job, self.is_over = int(self.report()[0]), False
+
+    def resizes(self, columns, rows=24):
+        """The window gets another size."""
+        fcntl.ioctl(self.fd, termios.TIOCSWINSZ, struct.pack('HHHH', rows, columns, 0, 0))
 
     def read(self):
         """Keeps what is shown, until it is told to stop."""

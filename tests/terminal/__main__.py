@@ -23,6 +23,7 @@ import offers
 import partners
 import play
 import refusals
+import resized
 import resuming
 import spoken
 import watching
@@ -45,7 +46,7 @@ def main():
     words = sys.argv[2:]
     beside = (offers.SCENES + resuming.SCENES + refusals.SCENES + hints.SCENES + play.SCENES + logs.SCENES
               + game.SCENES + company.SCENES + partners.SCENES + watching.SCENES + spoken.SCENES + babble.SCENES
-              + whole.SCENES)
+              + resized.SCENES + whole.SCENES)
     alone = escapes.SCENES + costs.SCENES
     chosen = [[scene for scene in scenes if not words or any(word in scene.__name__ for word in words)]
               for scenes in (beside, alone)]

@@ -1,0 +1,128 @@
+"""fibs-play where lines are edited: a window that gets another width, and a title that is put back."""
+
+import os
+import re
+import shutil
+import signal
+import tempfile
+
+from escapes import BOARD, WELCOME
+from partners import NARROW, board_of
+from people import PASSWORD, PROGRAM, ROOT, Terminal, same
+from props.server import OWN_INFO, Server
+
+SCENES = []
+
+PLAY = str(ROOT / 'scripts' / 'fibs-play')
+
+# What rlwrap draws around a line that is edited.
+EDITED = re.compile(r'\x1b\[[0-9;?]*[a-zA-Z]|\x1b[=>]|\r')
+
+# The picture of the board with the dice 4 and 3, on a window that has room for it.
+EDGE = ' +13-14-15-16-17-18-+---+19-20-21-22-23-24-+   X bob'
+DICE = ' | X                |   | O                |     dice  4 3'
+
+
+def scene(does):
+    """A decorator: the scene is one of those that are played."""
+    SCENES.append(does)
+    return does
+
+
+def plays(server, columns=80, **more):
+    """Ann, who has logged in by fibs-play, and was greeted."""
+    words = [PLAY, '127.0.0.1', str(server.port), 'ann']
+    more = {'FIBS': PROGRAM, 'TERM': 'xterm', 'NO_COLOR': '1', 'FIBS_QUIET': '1', 'LC_ALL': 'C', **more}
+    ann = Terminal(words, columns, **more)
+    ann.sees('password: ')
+    ann.type(PASSWORD)
+    server.accept()
+    same('the login', server.line(), 'login fibs_client 1008 ann ' + PASSWORD)
+    server.send(WELCOME, OWN_INFO % 'ann')
+    ann.sees('You are ann')
+    same('the first commands', [server.line(), server.line()], ['set boardstyle 3', 'board'])
+    return ann
+
+
+def shown_of(ann, server, board):
+    """The rows of the board that ann asks for, and of what is said behind it."""
+    ann.type('board')
+    same('what was sent', server.line(), 'board')
+    server.send(board, '12 x seen')
+    begun = ann.at
+    ann.sees('x says: seen')
+    return EDITED.sub('', bytes(ann.seen[begun:ann.at]).decode('latin-1')).split('\n')
+
+
+@scene
+def a_window_of_another_width_is_told_before_the_next_line():
+    """40 columns keep each place and the dice; then the picture is as it was; what can be no width is not told."""
+    if not shutil.which('rlwrap'):
+        return
+    board = board_of(1, own=(4, 3))
+    server = Server()
+    with tempfile.TemporaryDirectory() as home:
+        ann = plays(server, HOME=home, RLWRAP_HOME=home)
+        for columns in 80, 40, 60, 10, 100:
+            ann.resizes(columns)
+            rows = shown_of(ann, server, board)
+            if columns == 40:
+                at = rows.index(NARROW[0])
+                same('the picture', rows[at:at + len(NARROW)], NARROW)
+            else:
+                at = next(at for at, row in enumerate(rows) if '13-14-15-16' in row)
+                same('the dice at %d' % columns, rows[at + 8][:59 if columns == 60 else 99], DICE)
+                same('the edge at %d' % columns, rows[at], EDGE)
+        ann.type('quit')
+        ann.ends(0)
+        same('nothing else was sent', server.line(), None)
+        ann.close()
+    server.close()
+
+
+# How the program ends: what is typed or sent, and the status.
+ENDINGS = [(b'quit\n', 0), (b'\x04', 0), (b'\x03', 130), (b'\x1c', 131), (signal.SIGINT, 130), (signal.SIGTERM, 143),
+           (signal.SIGHUP, 129)]
+
+# The title before.
+OLD = b'of the shell'
+
+
+def title_left(seen):
+    """The title of a window that was sent these bytes: it keeps titles on a stack."""
+    title, stack = OLD, []
+    for kept, back, words in re.findall(rb'(\x1b\[22;0t)|(\x1b\[23;0t)|\x1b\]2;([^\x1b]*)\x1b\\', seen):
+        if kept:
+            stack.append(title)
+        elif back:
+            title = stack.pop() if stack else title
+        else:
+            title = words
+    return title
+
+
+@scene
+def the_title_comes_back_however_the_program_ends():
+    """With rlwrap and without it, as on a terminal that tells no width: by a typed word, by a key, or by a signal."""
+    for columns in [80] * bool(shutil.which('rlwrap')) + [0]:
+        for given, status in ENDINGS:
+            if columns and given in (b'\x03', signal.SIGINT, signal.SIGHUP):
+                # there a line is cancelled, and the last shows rlwrap that the terminal is gone
+                continue
+            server = Server()
+            with tempfile.TemporaryDirectory() as home:
+                ann = plays(server, columns, HOME=home, RLWRAP_HOME=home, FIBS_QUIET='')
+                server.send(BOARD)
+                ann.sees('Your turn: roll, or double.')
+                same('the title', title_left(bytes(ann.seen)), b'fibs: your turn, 0-0 of 3')
+                if isinstance(given, bytes):
+                    ann.type_bytes(given)
+                else:
+                    os.kill(ann.job, given)
+                kind, ended = ann.report()
+                what = '%r at %d columns' % (given, columns)
+                same('the ending by ' + what, (kind, columns or int(ended)), ('ended', columns or status))
+                same('the title after ' + what, title_left(bytes(ann.seen)), OLD)
+                same('echo after ' + what, ann.echoes(), True)
+                ann.close()
+            server.close()
