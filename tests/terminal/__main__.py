@@ -12,6 +12,7 @@ import subprocess
 import sys
 
 import people
+import anything
 import babble
 import company
 import costs
@@ -46,7 +47,7 @@ def main():
     words = sys.argv[2:]
     beside = (offers.SCENES + resuming.SCENES + refusals.SCENES + hints.SCENES + play.SCENES + logs.SCENES
               + game.SCENES + company.SCENES + partners.SCENES + watching.SCENES + spoken.SCENES + babble.SCENES
-              + resized.SCENES + whole.SCENES)
+              + anything.SCENES + resized.SCENES + whole.SCENES)
     alone = escapes.SCENES + costs.SCENES
     chosen = [[scene for scene in scenes if not words or any(word in scene.__name__ for word in words)]
               for scenes in (beside, alone)]
