@@ -1,4 +1,4 @@
-"""What may hold anything: files of settings, names, long lists. It is shown, and nothing acts on it."""
+"""What may hold anything: files of settings, names, long lists, saved matches. It is shown, and nothing acts on it."""
 
 import os
 import pathlib
@@ -138,3 +138,40 @@ def opponents_may_have_any_names(server):
     ann.type('quit')
     ann.ends(0)
     same('what was sent', server.line(), None)
+
+
+# How FIBS answers `show saved`: the first row, with and without spaces before it, and rows of a match.
+HEAD = '  opponent          matchlength   score (your points first)'
+KNOWN_HEADS = [HEAD, HEAD.lstrip(), 'opponent matchlength score (your points first)']
+KNOWN_ROWS = [('  bob                     3          2 -  0', '2-0 of 3'),
+              ('**bob                     3          2 -  0', '2-0 of 3'),
+              (' *bob                    15         12 - 14', '12-14 of 15'), ('bob unlimited 10 - 7', '10-7'),
+              ('  bob                  9999          0 -  0', '0-0')]
+# What it never sent: below such a first row the numbers may say something else, and such a row is none of a match.
+OTHER_HEADS = ['  opponent   score (your points first)   matchlength', '  opponent   pips   score (your points first)',
+               '  opponent          matchlength   score (points of the opponent first)', 'opponent matchlength score',
+               '  player            matchlength   score (your points first)', 'Your saved matches:', 'opponent ',
+               '  opponent  games  matchlength   score (your points first)', HEAD + ' *']
+OTHER_ROWS = ['  bob   3   2-0', '  bob   2 - 0   3', '  bob   3   2 -  0   crawford', '  bob   three   2 -  0',
+              '  bob   3   2 :  0', '  bob', '  bob   3   -2 -  0', '  bob   3   02 -  0', '  bob vs. eve   3   2 - 0',
+              '  bob   3   2 - 99999999999', '  bob\t3\t2 - 0', 'opponent bob 3 2 - 0', '  3   2 - 0']
+
+
+@scene
+@with_server
+def what_is_no_list_of_saved_matches_says_nothing(server):
+    """Each form of the server's answer is read; of any other one each row is shown, and nothing is said of a match."""
+    ann = greeted(server)
+    cases = [(head, row, wanted) for head in KNOWN_HEADS for row, wanted in KNOWN_ROWS]
+    cases += [(head, row, None) for head in OTHER_HEADS for row, _ in KNOWN_ROWS]
+    cases += [(head, row, None) for head in KNOWN_HEADS for row in OTHER_ROWS]
+    for head, row, wanted in cases:
+        server.send('no saved games.', head, row, '7 bob bob logs in.', '12 x that is all')
+        rows = []
+        while not rows or not rows[-1].endswith('x says: that is all'):
+            rows.append(ann.next_line())
+        said = ['bob is here: your match (%s) is saved: invite bob.' % wanted] if wanted else []
+        same('what is said of %r, %r' % (head, row), [each for each in rows if 'is here' in each], said)
+        missing = [each for each in (head, row.replace('\t', '\\x09')) if each not in rows]
+        same('rows that are not shown', missing, [])
+    ann.close()

@@ -11,8 +11,15 @@ use std::alloc::{AllocError, Global};
 /// How many are kept: who has more has to ask the server.
 const MOST_KEPT: usize = 100;
 
-/// How the answer to `show saved` begins: a row for each match follows.
-const LIST_HEAD: &[u8] = b"opponent ";
+/// The words with which the answer to `show saved` begins: a row for each match follows.
+static LIST_HEAD: [&[u8]; 6] = [
+    b"opponent",
+    b"matchlength",
+    b"score",
+    b"(your",
+    b"points",
+    b"first)",
+];
 
 /// What the server answers if there is none.
 const NONE: &[u8] = b"no saved games.";
@@ -65,6 +72,25 @@ fn first_word(text: &[u8]) -> (&[u8], &[u8]) {
         None => (word, b""),
         Some(rest) => (word, rest),
     }
+}
+
+/// The words with which the answer to `show saved` begins.
+fn head_words() -> &'static [&'static [u8]] {
+    &LIST_HEAD
+}
+
+/// Whether a text is how that answer begins, with any spaces between its words. Below other words the numbers of a row
+/// may say something else.
+fn is_head(text: &[u8]) -> bool {
+    let mut rest = text;
+    for head in head_words() {
+        let (word, after) = first_word(rest);
+        if word != *head {
+            return false;
+        }
+        rest = after;
+    }
+    after_spaces(rest).is_empty()
 }
 
 /// A name without the stars in front of it: they say that its player is logged in, and ready.
@@ -165,7 +191,7 @@ impl SavedMatches {
     /// Errors: if memory runs out; then its match is not kept.
     pub fn hear_text(&mut self, alloc: Global, text: &[u8]) -> Result<(), AllocError> {
         let trimmed = after_spaces(text);
-        if trimmed.starts_with(LIST_HEAD) && trimmed.ends_with(b"(your points first)") {
+        if is_head(trimmed) {
             self.matches.clear();
             self.lists = true;
             return Ok(());
