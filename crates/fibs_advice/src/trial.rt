@@ -1,8 +1,8 @@
 //! A move that the user looks at before it is sent.
-ghost use Rattle.std.specs.Prelude.{◌≡◌, IfSome, IsTrue};
+ghost use Rattle.std.specs.Prelude.{◌≡◌, ◌↔◌, IfSome, IsTrue};
 ghost use Rattle.fibs_commands.specs.Commands.{command_of};
 ghost use Rattle.fibs_commands.specs.TextOf.{text_of};
-ghost use Rattle.fibs_position.specs.DecisionValue.{move};
+ghost use Rattle.fibs_position.specs.DecisionValue.{IsDecision, move};
 ghost use Rattle.fibs_position.specs.DirectionOf.{direction_of};
 ghost use Rattle.fibs_position.specs.GameOf.{game_of};
 ghost use Rattle.fibs_rules.specs.PlayValue.{hops_of};
@@ -10,6 +10,7 @@ ghost use Rattle.fibs_advice.specs.Leads.{LeadsTo};
 
 use fibs_boards::laws::fields_tell_boards;
 use fibs_commands::{CommandText, decision_text};
+use fibs_position::laws::decisions_are_valid;
 use fibs_position::{Decision, GameBoard, Play, effect};
 
 /// What stands in place of dice for a decision that takes none.
@@ -53,14 +54,16 @@ impl Trial {
 
     /// The command of the move.
     pub fn command(&self) -> CommandText
-        ensures { text_of result ≡ command_of (direction_of (tried_on self.now)) (tried self.now) }
+        ensures text { text_of result ≡ command_of (direction_of (tried_on self.now)) (tried self.now) }
+        ensures valid { IsDecision (tried self.now) }
     {
+        decisions_are_valid();
         decision_text(&Decision::Move(self.play), self.before.direction())
     }
 
     /// Whether a board is the one on which the move was tried.
     pub fn is_on(&self, game: &GameBoard) -> bool
-        ensures { IsTrue result → tried_on self.now ≡ game_of game.now }
+        ensures { IsTrue result ↔ (tried_on self.now ≡ game_of game.now) }
     {
         fields_tell_boards(self.before.board(), game.board())
     }
