@@ -2,3 +2,4 @@ pub mod Asking
 pub mod Grown
 pub mod Resting
 pub mod TitleWords
+pub mod Trying

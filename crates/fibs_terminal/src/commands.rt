@@ -1,14 +1,14 @@
 //! What a line that is typed at a terminal asks for.
-ghost use Rattle.std.specs.Prelude.{IfOk};
+ghost use Rattle.std.specs.Prelude.{◌≡◌, ◌≤◌, length, IfOk, OnOk};
 ghost use Rattle.fibs_front.specs.Wishes.{wish_value};
 ghost use Rattle.fibs_terminal.specs.Asking.{AsksInBounds, KnownStays, SendsUntaken};
+ghost use Rattle.fibs_terminal.specs.Trying.{Tries, TriesOrKeeps};
 
-use crate::looking::TRY_WHAT;
+use crate::looking::{TRY_WHAT, trial_of};
 use crate::screen::Screen;
 use bstr::ByteSlice;
 use fibs_advice::rules::append_rule;
 use fibs_advice::spelling::words::append_spelled;
-use fibs_advice::trial::Trial;
 use fibs_drawing::{Watching, append_watched_words, append_words};
 use fibs_environment::Page;
 use fibs_environment::pieces::append_all;
@@ -117,7 +117,9 @@ fn after_word(line: &[u8]) -> &[u8] {
 }
 
 /// Makes a line of bytes for which there is room.
-pub(crate) fn set_line(line: &mut TypedLine, bytes: &[u8]) {
+pub(crate) fn set_line(line: &mut TypedLine, bytes: &[u8])
+    ensures { length bytes.now ≤ 4098 → line.new.items ≡ bytes.now }
+{
     line.clear();
     let _fits = line.try_extend_from_slice(bytes);
 }
@@ -289,6 +291,8 @@ impl<'a> Screen<'a> {
         ensures asks { IfOk result (λ wish. AsksInBounds line.old.items (wish_value wish line.new.items)) }
         ensures known { KnownStays client.now line.old.items line.new.items result }
         ensures sent { SendsUntaken client.now line.new.items result }
+        ensures tried { OnOk result (TriesOrKeeps client.now self.old.page.settings self.old.memory.looking.trial
+            self.new.memory.looking.trial self.old.page.text.items self.new.page.text.items) }
     {
         if line.is_empty() {
             return Ok(Wish::Listen);
@@ -310,7 +314,9 @@ impl<'a> Screen<'a> {
         directory: &Directory,
         line: &mut TypedLine,
     ) -> Result<Wish, AllocError>
-        ensures { SendsUntaken client.now line.new.items result }
+        ensures sent { SendsUntaken client.now line.new.items result }
+        ensures tried { OnOk result (TriesOrKeeps client.now self.old.page.settings self.old.memory.looking.trial
+            self.new.memory.looking.trial self.old.page.text.items self.new.page.text.items) }
     {
         let alloc = self.page.alloc;
         spell(alloc, client, line)?;
@@ -333,7 +339,9 @@ impl<'a> Screen<'a> {
         typed: &[u8],
         line: &mut TypedLine,
     ) -> Result<Wish, AllocError>
-        ensures { SendsUntaken client.now line.new.items result }
+        ensures sent { SendsUntaken client.now line.new.items result }
+        ensures tried { OnOk result (TriesOrKeeps client.now self.old.page.settings self.old.memory.looking.trial
+            self.new.memory.looking.trial self.old.page.text.items self.new.page.text.items) }
     {
         let rest = after_word(typed);
         match own_word(split(typed, b' ').0) {
@@ -341,6 +349,10 @@ impl<'a> Screen<'a> {
             Some(Own::Send) => send(client, rest, line, &mut self.page),
             Some(Own::Re) => self.memory.talk.answer(client, rest, line, &mut self.page),
             Some(Own::Go) => self.memory.looking.send_tried(client, line, &mut self.page),
+            Some(Own::Try) => {
+                self.try_move(client, rest)?;
+                Ok(Wish::Answered)
+            }
             Some(own) => {
                 self.answer_own(client, directory, own, rest)?;
                 Ok(Wish::Answered)
@@ -355,11 +367,12 @@ impl<'a> Screen<'a> {
         directory: &Directory,
         own: Own,
         rest: &[u8],
-    ) -> Result<(), AllocError> {
+    ) -> Result<(), AllocError>
+        ensures { self.new.memory.looking.trial ≡ self.old.memory.looking.trial }
+    {
         let alloc = self.page.alloc;
         match own {
             Own::Help => self.say_help(rest),
-            Own::Try => self.try_move(client, rest),
             Own::Plays => self.memory.looking.say_plays(client, rest, &mut self.page),
             Own::Words => say_words(client, &self.memory.watching, &mut self.page),
             Own::Players => {
@@ -373,13 +386,16 @@ impl<'a> Screen<'a> {
             Own::Ungag => self.memory.people.ungag(rest, &mut self.page),
             Own::Quiet => self.memory.people.set_quiet(true, &mut self.page),
             Own::Loud => self.memory.people.set_quiet(false, &mut self.page),
-            Own::Re | Own::Go | Own::Send => self.page.say(SEND_HELP),
+            Own::Re | Own::Try | Own::Go | Own::Send => self.page.say(SEND_HELP),
         }
     }
 
     /// Shows the board to which a move would lead, and sends nothing. A move that the client would not take now is
     /// refused as if it were typed.
-    fn try_move(&mut self, client: &Client, rest: &[u8]) -> Result<(), AllocError> {
+    fn try_move(&mut self, client: &Client, rest: &[u8]) -> Result<(), AllocError>
+        ensures { OnOk result (Tries client.now self.old.page.settings self.new.memory.looking.trial
+            self.old.page.text.items self.new.page.text.items) }
+    {
         let alloc = self.page.alloc;
         self.memory.looking.forget_trial();
         let Some(decision) = read_move(alloc, client, rest, &mut self.memory.rule)? else {
@@ -388,15 +404,16 @@ impl<'a> Screen<'a> {
         if let Some(why) = client.refusal(&decision) {
             return self.say_refused(why);
         }
-        let trial = match (client.game(), decision) {
-            (Some(game), Decision::Move(play)) => Trial::of(game, &play),
-            _ => None,
-        };
-        self.memory.looking.show_trial(trial, &mut self.page)
+        match trial_of(client, &decision) {
+            None => self.page.say(TRY_WHAT),
+            Some(trial) => self.memory.looking.show_trial(trial, &mut self.page),
+        }
     }
 
     /// Says what may be typed. What is advised now follows.
-    fn say_help(&mut self, word: &[u8]) -> Result<(), AllocError> {
+    fn say_help(&mut self, word: &[u8]) -> Result<(), AllocError>
+        ensures { self.new.memory.looking ≡ self.old.memory.looking }
+    {
         if word.is_empty() {
             self.memory.advising.inquired = true;
             self.page.say(help::screen())?;

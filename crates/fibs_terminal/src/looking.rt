@@ -1,14 +1,22 @@
 //! What the user looks at before he decides: legal moves, and the board after a move.
+ghost use Rattle.std.specs.Prelude.{◌≡◌, ◌↔◌, ◌++◌, None, Some, OnOk, IfOk, IfSome};
+ghost use Rattle.fibs_position.specs.DecisionValue.{decision_of};
+ghost use Rattle.fibs_session.specs.History.Machine.{Talk, shown_now};
+ghost use Rattle.fibs_session.specs.Calls.Standing.{StandsAfter};
+ghost use Rattle.fibs_advice.specs.Trials.{tried, tried_on};
+ghost use Rattle.fibs_advice.specs.declared.trial.Trial.{Trial as AnyTrial};
 ghost use Rattle.fibs_terminal.specs.Asking.{SendsUntaken};
+ghost use Rattle.fibs_terminal.specs.Trying.{IsTriedNow, SendsTried, ShowsTrial, go_row, tried_command};
 
 use crate::commands::{NO_GAME, set_line};
 use fibs_advice::plays::{Listing, append_plays};
 use fibs_advice::trial::Trial;
+use fibs_commands::laws::read_command_is_exact;
 use fibs_drawing::append_picture;
 use fibs_environment::Page;
 use fibs_front::typed_line::TypedLine;
 use fibs_front::wish::Wish;
-use fibs_position::GameBoard;
+use fibs_position::Decision;
 use fibs_session::Client;
 use std::alloc::AllocError;
 
@@ -23,13 +31,37 @@ pub(crate) const TRY_WHAT: &[u8] =
 const NOTHING_TRIED: &[u8] =
     b"go sends the move that you tried on this board: try 8-5 6-5 shows it first.\n";
 
+/// The move that a decision is, and the board to which it leads from the one that is shown, if there is one.
+pub(crate) fn trial_of(client: &Client, decision: &Decision) -> Option<Trial>
+    ensures shown { (t : Talk) → StandsAfter client.now t
+        → IfSome result (λ trial. shown_now t ≡ Some (tried_on trial)) }
+    ensures tried { IfSome result (λ trial. tried trial ≡ decision_of decision.now) }
+{
+    let game = client.game()?;
+    match decision {
+        Decision::Move(play) => Trial::of(game, play),
+        _ => None,
+    }
+}
+
+/// Appends how a move that is tried is sent.
+#[tactic(auto, unfolding(crate::specs::Trying::go_row))]
+fn append_command(trial: &Trial, text: &mut Vec<u8>) -> Result<(), AllocError>
+    ensures { OnOk result (text.new.items ≡ text.old.items ++ go_row (tried_command trial.now)) }
+{
+    let command = trial.command();
+    text.extend_from_slice(b"Not sent yet: go sends ")?;
+    text.extend_from_slice(command.as_str().as_bytes())?;
+    text.extend_from_slice(b"\n")
+}
+
 /// What the user looks at.
 #[derive(Drop)]
 pub struct Looking {
     /// Which legal moves `plays more` lists.
     pub plays: Listing,
     /// The move that was tried last, and is not sent.
-    trial: Option<Trial>,
+    pub(crate) trial: Option<Trial>,
 }
 
 impl Looking {
@@ -47,7 +79,9 @@ impl Looking {
         client: &Client,
         rest: &[u8],
         page: &mut Page<'_>,
-    ) -> Result<(), AllocError> {
+    ) -> Result<(), AllocError>
+        ensures { self.new.trial ≡ self.old.trial }
+    {
         let Some(game) = client.game() else {
             return page.say(NO_GAME);
         };
@@ -65,24 +99,32 @@ impl Looking {
     }
 
     /// Nothing is tried any more.
-    pub fn forget_trial(&mut self) {
+    pub fn forget_trial(&mut self)
+        ensures { self.new.trial ≡ None }
+    {
         self.trial = None;
     }
 
-    /// Shows the board after a move that is tried, and how it is sent.
-    pub fn show_trial(
-        &mut self,
-        trial: Option<Trial>,
-        page: &mut Page<'_>,
-    ) -> Result<(), AllocError> {
-        let Some(trial) = trial else {
-            return page.say(TRY_WHAT);
-        };
+    /// Shows the board after a move that is tried, and how it is sent. The move is kept then.
+    pub fn show_trial(&mut self, trial: Trial, page: &mut Page<'_>) -> Result<(), AllocError>
+        ensures kept { OnOk result (self.new.trial ≡ Some trial) }
+        ensures shown { OnOk result (ShowsTrial page.old.settings trial page.old.text.items page.new.text.items) }
+    {
         let alloc = page.alloc;
         append_picture(alloc, trial.after(), &page.settings, &mut page.text)?;
+        append_command(&trial, &mut page.text)?;
         self.trial = Some(trial);
-        let command = trial.command();
-        page.say_all(&[b"Not sent yet: go sends ", command.as_bytes(), b"\n"])
+        Ok(())
+    }
+
+    /// The move that was tried, if it was tried on the board that is shown.
+    fn tried_now(&self, client: &Client) -> Option<Trial>
+        ensures { (t : Talk) → StandsAfter client.now t
+            → (x : AnyTrial) → (result ≡ Some x) ↔ IsTriedNow t self.now.trial x }
+    {
+        let trial = self.trial?;
+        let game = client.game()?;
+        if trial.is_on(game) { Some(trial) } else { None }
     }
 
     /// Asks to send the move that was tried, if it was tried on the board that is shown.
@@ -92,14 +134,17 @@ impl Looking {
         line: &mut TypedLine,
         page: &mut Page<'_>,
     ) -> Result<Wish, AllocError>
-        ensures { SendsUntaken client.now line.new.items result }
+        ensures untaken { SendsUntaken client.now line.new.items result }
+        ensures tried { IfOk result (λ wish. (t : Talk) → StandsAfter client.now t
+            → SendsTried t self.now.trial wish line.new.items) }
     {
-        match (&self.trial, client.game()) {
-            (Some(trial), Some(game)) if trial.is_on(game) => {
-                set_line(line, trial.command().as_bytes());
+        match self.tried_now(client) {
+            Some(trial) => {
+                read_command_is_exact();
+                set_line(line, trial.command().as_str().as_bytes());
                 Ok(Wish::Say)
             }
-            _ => {
+            None => {
                 page.say(NOTHING_TRIED)?;
                 Ok(Wish::Answered)
             }

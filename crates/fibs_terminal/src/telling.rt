@@ -1,4 +1,5 @@
 //! What a terminal shows of what is reported to it.
+ghost use Rattle.std.specs.Prelude.{◌≡◌};
 
 use crate::screen::{Moment, Screen};
 use fibs_advice::plays::Listing;
@@ -150,7 +151,9 @@ impl<'a> Screen<'a> {
     }
 
     /// Says why a decision was refused: of a move against the rules which rule it is. What is advised follows.
-    pub(crate) fn say_refused(&mut self, why: Refusal) -> Result<(), AllocError> {
+    pub(crate) fn say_refused(&mut self, why: Refusal) -> Result<(), AllocError>
+        ensures { self.new.memory.looking ≡ self.old.memory.looking }
+    {
         self.memory.advising.inquired = why != Refusal::NotReady;
         let is_told = self.memory.situation.standing.is_told_by_text();
         let words = words_of(why, self.memory.rule.as_slice(), is_told);

@@ -6,6 +6,7 @@ ghost use Rattle.fibs_front.specs.Wishes.{wish_value};
 ghost use Rattle.fibs_terminal.specs.Asking.{AsksInBounds, KnownStays, SendsUntaken};
 ghost use Rattle.fibs_terminal.specs.Grown.{Grown};
 ghost use Rattle.fibs_terminal.specs.Resting.{ShowsAdvice};
+ghost use Rattle.fibs_terminal.specs.Trying.{ShowsTried};
 
 use crate::screen::{Moment, Screen};
 use fibs_engine::writing::write_bytes;
@@ -132,6 +133,10 @@ impl<W: Write + Drop, C: Clock + Drop> Words for Terminal<'_, W, C> {
         ensures known { KnownStays client.now line.old.items line.new.items result }
         // What goes to the server as it is, the client would not take.
         ensures sent { SendsUntaken client.now line.new.items result }
+        // A move that is tried from now on is one that the client would take, and its board is shown.
+        ensures tried { OnOk result (ShowsTried client.now self.old.screen.page.settings
+            self.old.screen.memory.looking.trial self.new.screen.memory.looking.trial
+            (W.contents self.old.out) (W.contents self.new.out)) }
     {
         self.screen.page.text.clear();
         match self.screen.wish(client, directory, line) {

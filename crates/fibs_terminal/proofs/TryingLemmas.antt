@@ -1,0 +1,66 @@
+-- The move that `go` sends is the one that `try` showed.
+use Rattle.std.proofs.Common.{◌≡◌, ◌≤◌, ◌++◌, ℕ, List, Option, Some, true, length, append_assoc}
+use Rattle.std.proofs.Common.{refl, ap, ◌∙◌, inl, arith}
+use Rattle.fibs_boards.specs.Board.{BoardFields}
+use Rattle.fibs_position.specs.DecisionValue.{IsDecision}
+use Rattle.fibs_position.specs.DirectionOf.{direction_of}
+use Rattle.fibs_commands.specs.CommandLaws.{ReadCommandIsExact}
+use Rattle.fibs_commands.specs.CommandReading.{read_command}
+use Rattle.fibs_commands.specs.PlainReading.{read_plain}
+use Rattle.fibs_session.specs.History.Machine.{Talk, shown_now}
+use Rattle.fibs_typed.specs.Typing.{typed_as, order_in, shown_direction}
+use Rattle.fibs_environment.specs.declared.settings.Settings.{Settings}
+use Rattle.fibs_drawing.specs.Drawings.{DrawsBoard, TellsBoard, is_plain, is_worded}
+use Rattle.fibs_front.specs.declared.wish.Wish.TheVariants.{Say}
+use Rattle.fibs_advice.specs.Leads.{LeadsTo}
+use Rattle.fibs_advice.specs.Trials.{tried, tried_on}
+use Rattle.fibs_advice.specs.declared.trial.Trial.{Trial}
+use Rattle.fibs_terminal.specs.Trying.{AddsTrial, IsCommandOf, IsTriedNow, SendsTried, ShowsTrial}
+use Rattle.fibs_terminal.specs.Trying.{go_row, tried_command}
+
+-- what is appended in two parts is appended whole
+joined : (before mid after part row : List ℕ) → mid ≡ before ++ part → after ≡ mid ++ row
+    → after ≡ before ++ (part ++ row)
+joined before mid after part row first second =
+    second ∙ ap (λ m. m ++ row) first ∙ append_assoc before part row
+
+-- the board to which a move leads is shown, and then how it is sent
+adds : (Shows : BoardFields → List ℕ → Type 0) (x : Trial) (b : BoardFields) (before mid after : List ℕ)
+    → LeadsTo (tried_on x) (tried x) b → (t : List ℕ) × Shows b t × (mid ≡ before ++ t)
+    → after ≡ mid ++ go_row (tried_command x) → AddsTrial Shows x before after
+adds Shows x b before mid after leads drawn row =
+    (b, leads, (drawn.0, drawn.1, joined before mid after drawn.0 (go_row (tried_command x)) drawn.2 row))
+
+-- the same as a picture, or in words
+pub trial_shown : (s : Settings) (x : Trial) (b : BoardFields) (before mid after : List ℕ)
+    → LeadsTo (tried_on x) (tried x) b
+    → (is_plain s ≡ true → (t : List ℕ) × DrawsBoard b t × (mid ≡ before ++ t))
+    → (is_worded s ≡ true → (t : List ℕ) × TellsBoard b t × (mid ≡ before ++ t))
+    → after ≡ mid ++ go_row (tried_command x) → ShowsTrial s x before after
+trial_shown s x b before mid after leads plain worded row = record {
+  drawn = λ is. adds DrawsBoard x b before mid after leads (plain is) row;
+  told = λ is. adds TellsBoard x b before mid after leads (worded is) row;
+}
+
+-- a command has room in a line
+pub short : (a b : List ℕ) → a ≡ b → length b ≤ 512 → length a ≤ 4098
+short a b same fits = omega (arith, ap length same, fits)
+
+-- its command is read as that very move
+pub command_of_it : (t : Talk) (x : Trial) (line : List ℕ) → ReadCommandIsExact → IsDecision (tried x)
+    → shown_now t ≡ Some (tried_on x) → line ≡ tried_command x → IsCommandOf t x line
+command_of_it t x line exact valid on same = record {
+  text_is = same;
+  is_read = ap (λ s. typed_as (read_command (shown_direction s) line) (read_plain line) (order_in line)) on
+      ∙ ap (λ d. typed_as d (read_plain line) (order_in line))
+      ((exact (direction_of (tried_on x)) line (tried x)).1 (record { valid = valid; text_is = same }));
+}
+
+-- it is sent
+pub sends_it : (t : Talk) (kept : Option Trial) (x : Trial) (line : List ℕ) → IsTriedNow t kept x → IsCommandOf t x line
+    → SendsTried t kept Say line
+sends_it t kept x line now is = record {
+  either = inl refl;
+  says = λ e. (x, now, is);
+  sends = λ y here. refl;
+}

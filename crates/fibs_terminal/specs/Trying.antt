@@ -1,0 +1,70 @@
+-- A move that the user looks at before it is sent: what `try` shows of it, what `go` sends (the project's own).
+use Rattle.std.specs.Prelude.{◌≡◌, ◌⊎◌, ◌++◌, ℕ, List, [], codes, true, Option, Some, None, IfSome}
+use Rattle.std.specs.Io.KnownBytes.{Appends}
+use Rattle.fibs_boards.specs.Board.{BoardFields}
+use Rattle.fibs_position.specs.DirectionOf.{direction_of}
+use Rattle.fibs_commands.specs.Commands.{command_of}
+use Rattle.fibs_session.specs.History.Machine.{Talk, shown_now, answer_now}
+use Rattle.fibs_session.specs.Calls.Standing.{ClientValue, StandsAfter}
+use Rattle.fibs_typed.specs.Typing.{typed_now, typed_decision}
+use Rattle.fibs_environment.specs.declared.settings.Settings.{Settings}
+use Rattle.fibs_drawing.specs.Drawings.{DrawsBoard, TellsBoard, is_plain, is_worded}
+use Rattle.fibs_front.specs.declared.wish.Wish.{Wish}
+use Rattle.fibs_front.specs.declared.wish.Wish.TheVariants.{Say, Answered}
+use Rattle.fibs_advice.specs.Leads.{LeadsTo}
+use Rattle.fibs_advice.specs.Trials.{tried, tried_on}
+use Rattle.fibs_advice.specs.declared.trial.Trial.{Trial}
+
+-- the command of the move, in the numbers of the board on which it was tried
+abbrev pub tried_command : Trial → List ℕ
+tried_command x = command_of (direction_of (tried_on x)) (tried x)
+
+-- how it is sent
+unfoldable pub go_row : List ℕ → List ℕ
+go_row command = codes "Not sent yet: go sends " ++ (command ++ codes "\n")
+
+-- what is written: the board to which the move leads, and how it is sent
+abbrev pub AddsTrial : (BoardFields → List ℕ → Type 0) → Trial → List ℕ → List ℕ → Type 0
+AddsTrial Shows x before after = (b : BoardFields) × LeadsTo (tried_on x) (tried x) b × ((picture : List ℕ)
+    × Shows b picture × (after ≡ before ++ (picture ++ go_row (tried_command x))))
+
+-- the board is drawn if the terminal takes a picture as it is, and told if it takes the words as they are
+pub record ShowsTrial (s : Settings) (x : Trial) (before : List ℕ) (after : List ℕ) : Type 0 where
+  pub drawn : is_plain s ≡ true → AddsTrial DrawsBoard x before after
+  pub told : is_worded s ≡ true → AddsTrial TellsBoard x before after
+
+-- the move was tried on the board that is shown, and the client would take it
+pub record MayBeSent (t : Talk) (x : Trial) : Type 0 where
+  pub shown : shown_now t ≡ Some (tried_on x)
+  pub taken : answer_now t (tried x) ≡ None
+
+-- `try`: no move is kept, or one that may be sent, and was shown
+abbrev pub Tries : ClientValue → Settings → Option Trial → List ℕ → List ℕ → Type 0
+Tries client s kept before after = IfSome kept (λ x. ((t : Talk) → StandsAfter client t → MayBeSent t x)
+    × ShowsTrial s x before after)
+
+-- any other word leaves the move that is kept
+abbrev pub TriesOrKeeps : ClientValue → Settings → Option Trial → Option Trial → List ℕ → List ℕ → Type 0
+TriesOrKeeps client s old kept before after = (kept ≡ old) ⊎ Tries client s kept before after
+
+-- the same for a writer
+abbrev pub ShowsTried : ClientValue → Settings → Option Trial → Option Trial → Option (List ℕ) → Option (List ℕ)
+    → Type 0
+ShowsTried client s old kept held now = (text : List ℕ) × TriesOrKeeps client s old kept [] text
+    × Appends held now text
+
+-- the move that is kept was tried on the board that is shown
+abbrev pub IsTriedNow : Talk → Option Trial → Trial → Type 0
+IsTriedNow t kept x = (kept ≡ Some x) × (shown_now t ≡ Some (tried_on x))
+
+-- the line is its command, which the client reads as that very move
+pub record IsCommandOf (t : Talk) (x : Trial) (line : List ℕ) : Type 0 where
+  pub text_is : line ≡ tried_command x
+  pub is_read : typed_now t line ≡ typed_decision (tried x)
+
+-- `go`: the client is asked to answer that line if, and only if, the move that is kept was tried on the board that is
+-- shown; else nothing is asked for
+pub record SendsTried (t : Talk) (kept : Option Trial) (wish : Wish) (line : List ℕ) : Type 0 where
+  pub either : (wish ≡ Say) ⊎ (wish ≡ Answered)
+  pub says : wish ≡ Say → (x : Trial) × IsTriedNow t kept x × IsCommandOf t x line
+  pub sends : (x : Trial) → IsTriedNow t kept x → wish ≡ Say
