@@ -1,14 +1,15 @@
 -- The move that `go` sends is the one that `try` showed.
-use Rattle.std.proofs.Common.{◌≡◌, ◌≤◌, ◌++◌, ℕ, List, Option, Some, true, length, append_assoc}
-use Rattle.std.proofs.Common.{refl, ap, ◌∙◌, inl, arith}
+use Rattle.std.proofs.Common.{◌≡◌, ◌≤◌, ◌++◌, ℕ, List, Option, Some, true, false, length, append_assoc}
+use Rattle.std.proofs.Common.{codes, refl, sym, ap, ◌∙◌, inl, arith}
+use Rattle.std.proofs.lemmas.Bool.{false≢true}
 use Rattle.fibs_boards.specs.Board.{BoardFields}
 use Rattle.fibs_position.specs.DecisionValue.{IsDecision}
 use Rattle.fibs_position.specs.DirectionOf.{direction_of}
 use Rattle.fibs_commands.specs.CommandLaws.{ReadCommandIsExact}
-use Rattle.fibs_commands.specs.CommandReading.{read_command}
-use Rattle.fibs_commands.specs.PlainReading.{read_plain}
+use Rattle.fibs_commands.specs.CommandReading.{read_command, decision_in, turn_in}
+use Rattle.fibs_commands.specs.PlainReading.{read_plain, plain_in, alone_in, saying_in, letter_in}
 use Rattle.fibs_session.specs.History.Machine.{Talk, shown_now}
-use Rattle.fibs_typed.specs.Typing.{typed_as, order_in, shown_direction}
+use Rattle.fibs_typed.specs.Typing.{typed_as, typed_now, is_command, order_in, shown_direction}
 use Rattle.fibs_environment.specs.declared.settings.Settings.{Settings}
 use Rattle.fibs_drawing.specs.Drawings.{DrawsBoard, TellsBoard, is_plain, is_worded}
 use Rattle.fibs_front.specs.declared.wish.Wish.TheVariants.{Say}
@@ -64,3 +65,13 @@ sends_it t kept x line now is = record {
   says = λ e. (x, now, is);
   sends = λ y here. refl;
 }
+
+-- `go` is no command of the client
+go_is_none : (t : Talk) → is_command (typed_now t (codes "go")) ≡ false
+unfolding read_command decision_in turn_in read_plain plain_in alone_in saying_in letter_in
+go_is_none t = refl
+
+-- a line that is a command is not `go`
+pub never_go : (t : Talk) (line : List ℕ) → line ≡ codes "go" → true ≡ is_command (typed_now t line) → ⊥
+never_go t line same known =
+    false≢true (sym (known ∙ ap (λ text. is_command (typed_now t text)) same ∙ go_is_none t))

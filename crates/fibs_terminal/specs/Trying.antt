@@ -1,5 +1,5 @@
 -- A move that the user looks at before it is sent: what `try` shows of it, what `go` sends (the project's own).
-use Rattle.std.specs.Prelude.{◌≡◌, ◌⊎◌, ◌++◌, ℕ, List, [], codes, true, Option, Some, None, IfSome}
+use Rattle.std.specs.Prelude.{◌≡◌, ◌⊎◌, ◌++◌, ℕ, List, [], codes, true, Option, Some, None, IfSome, Result, IfOk}
 use Rattle.std.specs.Io.KnownBytes.{Appends}
 use Rattle.fibs_boards.specs.Board.{BoardFields}
 use Rattle.fibs_position.specs.DirectionOf.{direction_of}
@@ -68,3 +68,8 @@ pub record SendsTried (t : Talk) (kept : Option Trial) (wish : Wish) (line : Lis
   pub either : (wish ≡ Say) ⊎ (wish ≡ Answered)
   pub says : wish ≡ Say → (x : Trial) × IsTriedNow t kept x × IsCommandOf t x line
   pub sends : (x : Trial) → IsTriedNow t kept x → wish ≡ Say
+
+-- after the word `go` that is what the line asks for
+abbrev pub GoesOn : {E : Type 0} → ClientValue → Option Trial → List ℕ → List ℕ → Result Wish E → Type 0
+GoesOn client kept before after result = before ≡ codes "go" → IfOk result (λ wish. (t : Talk) → StandsAfter client t
+    → SendsTried t kept wish after)

@@ -1,8 +1,9 @@
 //! What a line that is typed at a terminal asks for.
-ghost use Rattle.std.specs.Prelude.{◌≡◌, ◌≤◌, length, IfOk, OnOk};
+ghost use Rattle.std.specs.Prelude.{◌≡◌, ◌≤◌, length, codes, true, Some, IfOk, OnOk};
 ghost use Rattle.fibs_front.specs.Wishes.{wish_value};
 ghost use Rattle.fibs_terminal.specs.Asking.{AsksInBounds, KnownStays, SendsUntaken};
-ghost use Rattle.fibs_terminal.specs.Trying.{Tries, TriesOrKeeps};
+ghost use Rattle.fibs_terminal.specs.Trying.{GoesOn, Tries, TriesOrKeeps};
+ghost use Rattle.fibs_terminal.specs.declared.commands.Own.TheVariants.{Go};
 
 use crate::looking::{TRY_WHAT, trial_of};
 use crate::screen::Screen;
@@ -47,25 +48,6 @@ enum Own {
     Send,
 }
 
-/// The words of the terminal.
-const OWN_WORDS: [(&[u8], Own); 15] = [
-    (b"help", Own::Help),
-    (b"plays", Own::Plays),
-    (b"words", Own::Words),
-    (b"players", Own::Players),
-    (b"gag", Own::Gag),
-    (b"ungag", Own::Ungag),
-    (b"quiet", Own::Quiet),
-    (b"loud", Own::Loud),
-    (b"talk", Own::Talk),
-    (b"re", Own::Re),
-    (b"try", Own::Try),
-    (b"go", Own::Go),
-    (b"moves", Own::Moves),
-    (b"columns", Own::Columns),
-    (b"send", Own::Send),
-];
-
 /// What is said if a word asks for a board, and there is none.
 pub(crate) const NO_GAME: &[u8] = b"No board on which you play was shown yet: type board.\n";
 
@@ -88,23 +70,34 @@ const MOST_SHOWN: usize = 19;
 /// The words of the conversation.
 const TALK_WORDS: [&[u8]; 2] = [b"open", b"quit"];
 
-/// The words of the terminal, each with its bytes.
-fn own_words() -> &'static [(&'static [u8], Own)] {
-    &OWN_WORDS
-}
-
 /// The word of the terminal that a word is, if it is one.
-fn own_word(word: &[u8]) -> Option<Own> {
-    for (name, own) in own_words() {
-        if *name == word {
-            return Some(*own);
-        }
+fn own_word(word: &[u8]) -> Option<Own>
+    ensures { word.now ≡ codes "go" → result ≡ Some Go }
+{
+    match word {
+        b"help" => Some(Own::Help),
+        b"plays" => Some(Own::Plays),
+        b"words" => Some(Own::Words),
+        b"players" => Some(Own::Players),
+        b"gag" => Some(Own::Gag),
+        b"ungag" => Some(Own::Ungag),
+        b"quiet" => Some(Own::Quiet),
+        b"loud" => Some(Own::Loud),
+        b"talk" => Some(Own::Talk),
+        b"re" => Some(Own::Re),
+        b"try" => Some(Own::Try),
+        b"go" => Some(Own::Go),
+        b"moves" => Some(Own::Moves),
+        b"columns" => Some(Own::Columns),
+        b"send" => Some(Own::Send),
+        _ => None,
     }
-    None
 }
 
 /// Whether a line is a word of the conversation, or begins with a word of the terminal.
-fn is_own(line: &[u8]) -> bool {
+fn is_own(line: &[u8]) -> bool
+    ensures { line.now ≡ codes "go" → result ≡ true }
+{
     TALK_WORDS.contains(&line) || own_word(split(line, b' ').0).is_some()
 }
 
@@ -125,7 +118,9 @@ pub(crate) fn set_line(line: &mut TypedLine, bytes: &[u8])
 }
 
 /// Respells a line, if the client then knows it, or if it then begins with a word of the terminal.
-fn spell(alloc: Global, client: &Client, line: &mut TypedLine) -> Result<(), AllocError> {
+fn spell(alloc: Global, client: &Client, line: &mut TypedLine) -> Result<(), AllocError>
+    ensures { line.old.items ≡ codes "go" → line.new.items ≡ line.old.items }
+{
     if is_own(line.as_slice()) {
         return Ok(());
     }
@@ -293,6 +288,7 @@ impl<'a> Screen<'a> {
         ensures sent { SendsUntaken client.now line.new.items result }
         ensures tried { OnOk result (TriesOrKeeps client.now self.old.page.settings self.old.memory.looking.trial
             self.new.memory.looking.trial self.old.page.text.items self.new.page.text.items) }
+        ensures went { GoesOn client.now self.old.memory.looking.trial line.old.items line.new.items result }
     {
         if line.is_empty() {
             return Ok(Wish::Listen);
@@ -317,6 +313,7 @@ impl<'a> Screen<'a> {
         ensures sent { SendsUntaken client.now line.new.items result }
         ensures tried { OnOk result (TriesOrKeeps client.now self.old.page.settings self.old.memory.looking.trial
             self.new.memory.looking.trial self.old.page.text.items self.new.page.text.items) }
+        ensures went { GoesOn client.now self.old.memory.looking.trial line.old.items line.new.items result }
     {
         let alloc = self.page.alloc;
         spell(alloc, client, line)?;
@@ -342,6 +339,7 @@ impl<'a> Screen<'a> {
         ensures sent { SendsUntaken client.now line.new.items result }
         ensures tried { OnOk result (TriesOrKeeps client.now self.old.page.settings self.old.memory.looking.trial
             self.new.memory.looking.trial self.old.page.text.items self.new.page.text.items) }
+        ensures went { GoesOn client.now self.old.memory.looking.trial typed.now line.new.items result }
     {
         let rest = after_word(typed);
         match own_word(split(typed, b' ').0) {

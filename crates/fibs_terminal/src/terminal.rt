@@ -6,7 +6,7 @@ ghost use Rattle.fibs_front.specs.Wishes.{wish_value};
 ghost use Rattle.fibs_terminal.specs.Asking.{AsksInBounds, KnownStays, SendsUntaken};
 ghost use Rattle.fibs_terminal.specs.Grown.{Grown};
 ghost use Rattle.fibs_terminal.specs.Resting.{ShowsAdvice};
-ghost use Rattle.fibs_terminal.specs.Trying.{ShowsTried};
+ghost use Rattle.fibs_terminal.specs.Trying.{GoesOn, ShowsTried};
 
 use crate::screen::{Moment, Screen};
 use fibs_engine::writing::write_bytes;
@@ -137,6 +137,8 @@ impl<W: Write + Drop, C: Clock + Drop> Words for Terminal<'_, W, C> {
         ensures tried { OnOk result (ShowsTried client.now self.old.screen.page.settings
             self.old.screen.memory.looking.trial self.new.screen.memory.looking.trial
             (W.contents self.old.out) (W.contents self.new.out)) }
+        // After `go` the client answers the command of the move that was tried, if that was on the board that is shown.
+        ensures went { GoesOn client.now self.old.screen.memory.looking.trial line.old.items line.new.items result }
     {
         self.screen.page.text.clear();
         match self.screen.wish(client, directory, line) {
