@@ -387,3 +387,23 @@ def each_kind_of_screen_leads_on(server):
         same('rows that are drawn, %r' % kind, [row for row in drawn if len(row) > kind.get('columns', 79)], [])
         same('a picture, %r' % kind, bool(drawn), kind.get('columns') != 40 and 'FIBS_WORDS' not in kind)
         ann.close()
+
+
+@scene
+@with_server
+def a_move_is_tried_on_each_kind_of_screen(server):
+    """At 60 by 15, at 40 columns, with TERM=dumb, NO_COLOR and FIBS_WORDS: what was tried is what goes out."""
+    for kind in KINDS:
+        ann = greeted(server, **kind)
+        server.send(board_of(1, own=(3, 1)), '12 x y')
+        ann.reads('x says: y')
+        same('talk, %r' % kind, rows_after(ann, 'talk', 'x says: y')[-1][6:], 'x says: y')
+        moves = rows_after(ann, 'plays 24', 'from there.')
+        same('moves from 24, %r' % kind, all(' 24-' in row for row in moves[:-1]), True)
+        rows = rows_after(ann, 'try 8/5 6/5', 'go sends move 8-5 6-5')
+        same('rows of a picture, %r' % kind, any('13-14-15' in row for row in rows), 'FIBS_WORDS' not in kind)
+        same('the board told, %r' % kind, 'You, 163 pips:' in ' '.join(rows), 'FIBS_WORDS' in kind)
+        ann.type('go')
+        ann.reads('sent move 8-5 6-5')
+        same('what went out, %r' % kind, server.line(), 'move 8-5 6-5')
+        ann.close()
