@@ -126,3 +126,25 @@ def the_title_comes_back_however_the_program_ends():
                 same('echo after ' + what, ann.echoes(), True)
                 ann.close()
             server.close()
+
+
+@scene
+def a_shell_above_the_program_stops_with_it():
+    """Without rlwrap, on a terminal with a title: Ctrl-Z and fg, and at last the terminal goes: nothing is left."""
+    server = Server()
+    with tempfile.TemporaryDirectory() as home:
+        ann = plays(server, 0, HOME=home, FIBS_QUIET='')
+        for number in range(2):
+            ann.type_bytes(b'\x1a')
+            ann.is_stopped()
+            same('echo', ann.echoes(), True)
+            server.send('12 bob while you were away %d' % number)
+            ann.to_the_foreground()
+            ann.sees('while you were away %d' % number)
+        ann.type('say back')
+        same('what was sent', server.line(), 'say back')
+        ann.hangs_up()
+        same('the ending', ann.report(), ['ended', '129'])
+        same('the end of the connection', server.line(), None)
+        ann.close()
+    server.close()
