@@ -1,6 +1,6 @@
 #!/usr/bin/perl
 # A filter of rlwrap for fibs-play: Ctrl-C cancels what is typed; pressed twice if nothing is, it leaves. If the window
-# has another width, the program is told before the next line.
+# has another width, the program is told before the next line. Tab knows each player whom the server listed.
 use strict;
 use lib ($ENV{RLWRAP_FILTERDIR} or '.');
 use RlwrapFilter;
@@ -33,10 +33,37 @@ sub with_width {
     return $now < 20 || $now > 999 ? $_[0] : "columns $now\n$_[0]";
 }
 
+# The log of this conversation, and what was read of a line that has not ended.
+my ($log, $begun) = (undef, '');
+seek $log, 0, 2 if defined $ENV{FIBS_PLAY_LOG} && open $log, '<', $ENV{FIBS_PLAY_LOG};
+
+# The players who are logged in, by what the log has had so far: message 5 lists one, 7 and 8 say who comes and goes.
+my %players;
+
+sub hear_log {
+    return unless $log;
+    seek $log, 0, 1;
+    my @lines = split /\n/, $begun . join('', <$log>), -1;
+    $begun = pop @lines // '';
+    for (@lines) {
+        next unless /^(?:> )*([578]) ([!-9;-~]{1,64}) /;
+        $1 == 8 ? delete $players{$2} : ($players{$2} = 1);
+    }
+}
+
+# What may follow what was typed: what rlwrap has read on the screen, and players.
+sub completes {
+    my ($line, $typed, @read) = @_;
+    hear_log();
+    my %all = map { $_ => 1 } @read, grep { index($_, $typed) == 0 } keys %players;
+    return sort keys %all;
+}
+
 my $filter = RlwrapFilter->new;
 $filter->help_text("Ctrl-C cancels the line, for fibs-play.\n");
 $filter->input_handler(\&with_width);
 $filter->hotkey_handler(\&cancels);
+$filter->completion_handler(\&completes);
 # a line was typed
 $filter->history_handler(sub { $pressed = 0; $_ });
 $filter->run;

@@ -1,4 +1,4 @@
-"""fibs-play where lines are edited: a window that gets another width, and a title that is put back."""
+"""fibs-play where lines are edited: a window of another width, a title that is put back, names that Tab knows."""
 
 import os
 import re
@@ -29,9 +29,9 @@ def scene(does):
     return does
 
 
-def plays(server, columns=80, **more):
+def plays(server, columns=80, options=(), **more):
     """Ann, who has logged in by fibs-play, and was greeted."""
-    words = [PLAY, '127.0.0.1', str(server.port), 'ann']
+    words = [PLAY, *options, '127.0.0.1', str(server.port), 'ann']
     more = {'FIBS': PROGRAM, 'TERM': 'xterm', 'NO_COLOR': '1', 'FIBS_QUIET': '1', 'LC_ALL': 'C', **more}
     ann = Terminal(words, columns, **more)
     ann.sees('password: ')
@@ -148,3 +148,29 @@ def a_shell_above_the_program_stops_with_it():
         same('the end of the connection', server.line(), None)
         ann.close()
     server.close()
+
+
+@scene
+def tab_knows_each_player_who_was_listed():
+    """Also one who was on no screen; and not one who has gone since; with a log that is wanted, and without."""
+    if not shutil.which('rlwrap'):
+        return
+    for logs in False, True:
+        server = Server()
+        with tempfile.TemporaryDirectory() as home:
+            ann = plays(server, options=['--log', home + '/log'] if logs else [], HOME=home, RLWRAP_HOME=home)
+            ann.type('quiet')
+            ann.sees('not who comes and goes')
+            names = ['player%03d' % at for at in range(300)] + ['walter', 'zebedee']
+            server.send(*('5 %s - - 1 0 1500.00 1 0 1041253132 localhost - -' % name for name in names), '6')
+            server.send('8 walter walter drops connection.', '12 x listed')
+            ann.sees('x says: listed')
+            ann.type_bytes(b'tell zeb\t hello\n')
+            same('a name that is known', server.line(), 'tell zebedee hello')
+            ann.type_bytes(b'tell wal\tlace hello\n')
+            same('a name that is not', server.line(), 'tell wallace hello')
+            ann.type('quit')
+            ann.ends(0)
+            same('a log that is left', os.path.exists(home + '/log'), logs)
+            ann.close()
+        server.close()
