@@ -32,6 +32,10 @@ pub const WRITTEN: &[(&str, &str)] = &[
     ("fn main(", "pub fn main("),
     // rustc would leave it a call, at each line
     ("pub(crate) fn limited(", "#[inline(always)] pub(crate) fn limited("),
+    // it would compare these bytes one by one
+    ("[b'b', b'o', b'a', b'r', b'd', b':', ..]", "_ if line.starts_with(b\"board:\")"),
+    // the crate finds out at each call what the processor has
+    ("memchr2(b'\\n', 255, window)", "crate::rattle::simd::first_of(b'\\n', 255, window)"),
     ("fn reserve(", "fn may_reserve("),
     ("Box::new(", "crate::rattle::may::may_box("),
     ("Vec::from_elem(", "crate::rattle::may::may_from_elem("),

@@ -271,6 +271,14 @@ pub mod simd {
         }
     }
 
+    /// The place of the first of two bytes in a window: what `memchr2` of the crate `memchr` gives.
+    #[inline(always)]
+    pub fn first_of(one: u8, other: u8, window: &[u8; 32]) -> Option<usize> {
+        let lanes = Simd(*window);
+        let found = (lanes.simd_eq(u8x32::splat(one)) | lanes.simd_eq(u8x32::splat(other))).to_bitmask();
+        (found != 0).then(|| found.trailing_zeros() as usize)
+    }
+
     impl<const N: usize> BitOr for Mask<N> {
         type Output = Self;
 
@@ -330,6 +338,16 @@ pub mod simd {
                 assert_eq!(window.simd_gt(u8x32::splat(7)).to_bitmask(), 1 << lane);
                 assert_eq!(window.simd_lt(u8x32::splat(8)).to_bitmask(), 0xffff_ffff ^ (1 << lane));
                 assert_eq!(window.simd_eq(u8x32::splat(200)).to_bitmask(), 1 << lane);
+            }
+        }
+
+        #[test]
+        fn the_first_of_two_bytes_is_found() {
+            let mut window = [7; 32];
+            assert_eq!(first_of(10, 255, &window), None);
+            for lane in (0..32).rev() {
+                window[lane] = [10, 255][lane % 2];
+                assert_eq!(first_of(10, 255, &window), Some(lane));
             }
         }
     }

@@ -29,12 +29,13 @@ pub fn changed(crates: &Path, erased: &Path, names: &[&str], by_hand: &[(&str, &
                 new.lines().map(|line| line.trim_end().into()).filter(|line: &String| !line.is_empty()).collect();
             let lines: Vec<String> = differing(&old, &new);
             if !lines.is_empty() {
-                told += &format!("{}:\n{}\n", path.strip_prefix(crates).unwrap().display(), lines.join("\n"));
+                let file = path.strip_prefix(crates).unwrap().display().to_string().replace('\\', "/");
+                told += &format!("{file}:\n{}\n", lines.join("\n"));
                 count += lines.iter().filter(|line| line.starts_with("  + ")).count();
             }
         }
     }
-    (told.replace('\\', "/"), count)
+    (told, count)
 }
 
 fn sources(folder: &Path) -> Vec<PathBuf> {
