@@ -1,11 +1,12 @@
 //! Which play leads from one board to another.
 
-ghost use Rattle.std.specs.Prelude.{◌≡◌, ◌≤◌, ℕ, IfOk, IfSome, IsTrue};
+ghost use Rattle.std.specs.Prelude.{◌≡◌, ◌↔◌, ◌≤◌, ℕ, [], IfOk, IfSome, IfNone, IsTrue};
+ghost use Rattle.std.specs.List.{All};
 ghost use Rattle.fibs_boards.specs.Board.{field_of};
 ghost use Rattle.fibs_boards.specs.StoredBoard.{fields_of};
 ghost use Rattle.fibs_position.specs.GameOf.{game_of};
 ghost use Rattle.fibs_rules.specs.PlayValue.{hops_of};
-ghost use Rattle.fibs_story.specs.Played.{IsPlayed, SameCheckers};
+ghost use Rattle.fibs_story.specs.Played.{IsPlayed, NoneIsPlayed, SameCheckers};
 
 use fibs_boards::board::Board;
 use fibs_boards::fields::{FIRST_PLACE, LAST_PLACE, OTHER_OFF, OWN_OFF};
@@ -17,7 +18,8 @@ const NO_DICE: [u8; 2] = [0, 0];
 
 /// Whether two boards have the same checkers on places 1 to 24.
 fn has_same_places(a: &Board, b: &Board) -> bool
-    ensures { IsTrue result → (n : ℕ) → 8 ≤ n → n ≤ 31 → field_of (fields_of a.now) n ≡ field_of (fields_of b.now) n }
+    ensures { IsTrue result
+        ↔ ((n : ℕ) → 8 ≤ n → n ≤ 31 → field_of (fields_of a.now) n ≡ field_of (fields_of b.now) n) }
 {
     for n in FIRST_PLACE + 1..LAST_PLACE {
         if a.field(n) != b.field(n) {
@@ -29,8 +31,8 @@ fn has_same_places(a: &Board, b: &Board) -> bool
 
 /// Whether two boards have the same checkers borne off.
 fn has_same_off(a: &Board, b: &Board) -> bool
-    ensures own { IsTrue result → field_of (fields_of a.now) 46 ≡ field_of (fields_of b.now) 46 }
-    ensures other { IsTrue result → field_of (fields_of a.now) 47 ≡ field_of (fields_of b.now) 47 }
+    ensures { IsTrue result ↔ ((field_of (fields_of a.now) 46 ≡ field_of (fields_of b.now) 46)
+        × (field_of (fields_of a.now) 47 ≡ field_of (fields_of b.now) 47)) }
 {
     if a.field(OWN_OFF) != b.field(OWN_OFF) {
         return false;
@@ -43,7 +45,7 @@ fn has_same_off(a: &Board, b: &Board) -> bool
 
 /// Whether two boards have the same checkers.
 fn has_same_checkers(a: &Board, b: &Board) -> bool
-    ensures { IsTrue result → SameCheckers (fields_of a.now) (fields_of b.now) }
+    ensures { IsTrue result ↔ SameCheckers (fields_of a.now) (fields_of b.now) }
 {
     if !has_same_off(a, b) {
         return false;
@@ -53,11 +55,38 @@ fn has_same_checkers(a: &Board, b: &Board) -> bool
 
 /// Whether a play leads from a board to another.
 fn leads(before: &GameBoard, play: &Play, after: &Board) -> bool
-    ensures { IsTrue result → IsPlayed (game_of before.now) (hops_of play.now) (fields_of after.now) }
+    ensures { IsTrue result ↔ IsPlayed (game_of before.now) (hops_of play.now) (fields_of after.now) }
 {
     match effect(before.board(), &Decision::Move(*play), NO_DICE) {
         None => false,
         Some(led) => has_same_checkers(&led, after),
+    }
+}
+
+/// The first of these plays that leads from a board to another.
+fn first_played(plays: &[Play], before: &GameBoard, after: &Board) -> Option<Play>
+    ensures some { IfSome result (λ play. IsPlayed (game_of before.now) (hops_of play) (fields_of after.now)) }
+    ensures none { IfNone result (All (λ play. ¬ IsPlayed (game_of before.now) (hops_of play) (fields_of after.now))
+        plays.now) }
+{
+    for play in plays {
+        if leads(before, play, after) {
+            return Some(*play);
+        }
+    }
+    None
+}
+
+/// The play of no step, if it leads from a board to another.
+fn no_step(before: &GameBoard, after: &Board) -> Option<Play>
+    ensures some { IfSome result (λ play. IsPlayed (game_of before.now) (hops_of play) (fields_of after.now)) }
+    ensures none { IfNone result (¬ IsPlayed (game_of before.now) [] (fields_of after.now)) }
+{
+    let none = Play::new();
+    if leads(before, &none, after) {
+        Some(none)
+    } else {
+        None
     }
 }
 
@@ -66,22 +95,13 @@ fn leads(before: &GameBoard, play: &Play, after: &Board) -> bool
 ///
 /// Errors: if memory runs out.
 pub fn played(alloc: Global, before: &GameBoard, after: &Board) -> Result<Option<Play>, AllocError>
-    ensures { IfOk result (λ told. IfSome told (λ play.
+    ensures play { IfOk result (λ told. IfSome told (λ play.
         IsPlayed (game_of before.now) (hops_of play) (fields_of after.now))) }
+    ensures none { IfOk result (λ told. IfNone told (NoneIsPlayed (game_of before.now) (fields_of after.now))) }
 {
     if before.phase() == Phase::Passing {
-        let none = Play::new();
-        return Ok(if leads(before, &none, after) {
-            Some(none)
-        } else {
-            None
-        });
+        return Ok(no_step(before, after));
     }
     let plays = before.position().plays(alloc)?;
-    for play in &plays {
-        if leads(before, play, after) {
-            return Ok(Some(*play));
-        }
-    }
-    Ok(None)
+    Ok(first_played(&plays, before, after))
 }

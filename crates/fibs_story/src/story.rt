@@ -85,8 +85,8 @@ fn turn_of(before: &GameBoard, after: &GameBoard) -> Option<Turn> {
         }),
         Roller::Other => Some(Turn {
             roller: Roller::Other,
-            before: GameBoard::of(&mirrored(before.board())?).ok()?,
-            after: mirrored(after.board())?,
+            before: GameBoard::of(&mirrored(before.board())).ok()?,
+            after: mirrored(after.board()),
         }),
     }
 }

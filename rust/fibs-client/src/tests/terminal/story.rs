@@ -62,11 +62,11 @@ fn each_play_of_a_game_is_told() {
             let told = played(&before, &after).expect("memory").expect("a play");
             let again = effect(before.board(), &Decision::Move(told), [0, 0]).expect("it is legal");
             assert_eq!(checkers(&again), checkers(&after), "game {seed}");
-            assert_eq!(mirrored(&mirrored(&after).expect("a board")).expect("a board"), after);
+            assert_eq!(mirrored(&mirrored(&after)), after);
             if after.field(33) == 0 {
                 break;
             }
-            board = mirrored(&after).expect("a board");
+            board = mirrored(&after);
         }
     }
 }
@@ -89,8 +89,8 @@ fn a_story_has_both_players_in_their_order() {
     let play = any_play(&before, &mut Chance(7));
     let after = effect(before.board(), &Decision::Move(play), [0, 0]).expect("a legal play");
     // the opponent rolls, and can't be seen to play
-    let his = rolled(&mirrored(&after).expect("a board"), [6, 6]);
-    let his_seen = mirrored(his.board()).expect("a board");
+    let his = rolled(&mirrored(&after), [6, 6]);
+    let his_seen = mirrored(his.board());
     let rows = story_of(&[first, *before.board(), *before.board(), after, his_seen, first], false);
     let rows: Vec<&str> = rows.lines().collect();
     assert_eq!(rows.len(), 2);

@@ -1,0 +1,13 @@
+use Rattle.std.proofs.Common.{lit≤, arith}
+use Rattle.std.proofs.lemmas.Int.{ints}
+use Rattle.fibs_story.proofs.mirror.with_other_dice.Goals as goal
+
+pub set-first-requires : goal.set-first-requires
+set-first-requires c =
+    let range = c.field.ensures.dice (lit≤ tt) (lit≤ tt) in
+    (c.fields_have_their_ranges.ensures.dice 36 _ (lit≤ tt) (lit≤ tt)).1 (omega (arith, ints), omega (arith, ints))
+
+pub set-requires : goal.set-requires
+set-requires c =
+    let range = c.field-2.ensures.dice (lit≤ tt) (lit≤ tt) in
+    (c.fields_have_their_ranges.ensures.dice 37 _ (lit≤ tt) (lit≤ tt)).1 (omega (arith, ints), omega (arith, ints))
