@@ -1,5 +1,5 @@
 //! The behaviour of `fibs show` in plain Rust over std alone, without proofs. `bench/show` compares `fibs show` with
-//! it.
+//! it; `bench/assurance` shows lines by it, and reads those of scripts.
 //! Built by `rustc -O`; it reads standard input and writes standard output, and its output is that of `fibs show`.
 
 use std::fmt::Write as _;
@@ -42,7 +42,7 @@ enum Telnet {
 /// The unfinished line of a stream: its first bytes, one more than `LINE_LIMIT` if there are more, how many it has in
 /// all, and whether the last is a CR.
 #[derive(Default)]
-struct Lines {
+pub struct Lines {
     telnet: Telnet,
     kept: Vec<u8>,
     length: usize,
@@ -51,7 +51,7 @@ struct Lines {
 
 impl Lines {
     /// Takes a piece of the stream, and gives each line that ends in it, with whether it was cut.
-    fn feed(&mut self, piece: &[u8], mut line: impl FnMut(&[u8], bool)) {
+    pub fn feed(&mut self, piece: &[u8], mut line: impl FnMut(&[u8], bool)) {
         let mut rest = piece;
         while let Some(&byte) = rest.first() {
             match (self.telnet, byte) {
@@ -95,7 +95,7 @@ impl Lines {
 }
 
 /// The first wrong field of a line, and what is wrong with it.
-struct Wrong(usize, &'static str);
+pub struct Wrong(usize, &'static str);
 
 fn show_line(line: &[u8], cut: bool, text: &mut Vec<u8>) {
     if cut {
@@ -146,19 +146,19 @@ fn escape(bytes: &[u8], text: &mut Vec<u8>) {
     }
 }
 
-fn without_trailing_spaces(mut line: &[u8]) -> &[u8] {
+pub fn without_trailing_spaces(mut line: &[u8]) -> &[u8] {
     while let [front @ .., b' '] = line {
         line = front;
     }
     line
 }
 
-fn is_name(field: &[u8]) -> bool {
+pub fn is_name(field: &[u8]) -> bool {
     (1..=64).contains(&field.len()) && field.iter().all(|byte| byte.is_ascii_graphic() && *byte != b':')
 }
 
 /// The value of a canonical decimal: `0`, or an optional `-` and digits without leading zero.
-fn decimal(field: &[u8], least: i128, most: i128) -> Result<i128, &'static str> {
+pub fn decimal(field: &[u8], least: i128, most: i128) -> Result<i128, &'static str> {
     let digits = field.strip_prefix(b"-").unwrap_or(field);
     let canonical = field == b"0" || matches!(digits, [b'1'..=b'9', rest @ ..] if rest.iter().all(u8::is_ascii_digit));
     if !canonical {
@@ -169,7 +169,7 @@ fn decimal(field: &[u8], least: i128, most: i128) -> Result<i128, &'static str> 
     if (least..=most).contains(&value) { Ok(value) } else { Err("OutOfRange") }
 }
 
-fn check_board(line: &[u8]) -> Result<(), Wrong> {
+pub fn check_board(line: &[u8]) -> Result<(), Wrong> {
     let mut count = 0;
     for (at, field) in line.split(|byte| *byte == b':').enumerate() {
         count = at + 1;
@@ -201,7 +201,7 @@ fn check_board_field(at: usize, field: &[u8]) -> Result<(), &'static str> {
 }
 
 /// The number of a numbered line, and what follows it and one space.
-fn numbered(line: &[u8]) -> Option<(u8, Option<&[u8]>)> {
+pub fn numbered(line: &[u8]) -> Option<(u8, Option<&[u8]>)> {
     let (number, rest) = match line {
         [b'1', ones @ b'0'..=b'9', rest @ ..] => (10 + ones - b'0', rest),
         [ones @ b'1'..=b'9', rest @ ..] => (ones - b'0', rest),
@@ -230,7 +230,7 @@ fn kinds(number: u8) -> &'static str {
 }
 
 /// Appends the canonical fields of a message, each after a space.
-fn check_message(number: u8, fields: Option<&[u8]>, canonical: &mut Vec<u8>) -> Result<(), Wrong> {
+pub fn check_message(number: u8, fields: Option<&[u8]>, canonical: &mut Vec<u8>) -> Result<(), Wrong> {
     let mut rest = fields;
     if matches!(number, 1..=6 | 10 | 11) {
         rest = rest.map(without_trailing_spaces).filter(|fields| !fields.is_empty());

@@ -1,9 +1,11 @@
 #!/usr/bin/env python3
 """Lists of events through `fibs replay` or `fibs loop`, beside a slow reference: lists.py PROGRAM replay|loop LISTS
 
-Each list is a script of tests/fuzz.py, which follows the model, so that most of its events do something. What PROGRAM
-prints of it has to be what tests/props/reference.py prints, byte for byte, with the same status; that is written from
-the pages alone. A part is a hundred lists of one seed.
+Each list is a script that follows the model, so that most of its events do something. What PROGRAM prints of it has to
+be what `plain_replay.rs` prints, byte for byte, with the same status. That program, which rustc builds, makes the lists
+by their seed, plays them itself, and runs PROGRAM on each: so a list takes little more than the run of PROGRAM. A part
+is a thousand lists of one seed. Ten of them, and ten more that tests/fuzz.py makes, are given to
+tests/props/reference.py too, a slow program that was written from the pages alone: all three have to print the same.
 
 Counted is what is in the logs: each entry, each refusal of a click and of an event, decisions that a loss left open.
 The status is 1 if something differs, or if one of them came less than LEAST times.
@@ -14,18 +16,18 @@ It was seen to find: a client that says yes to a second click.
 import argparse
 import collections
 import concurrent.futures
-import functools
 import random
 import subprocess
 import sys
+import tempfile
 import time
 
-from common import Run, be_nice, common_options, parts
+from common import TOP, Run, be_nice, common_options, parts
 
 import fuzz
 from props import reference
 
-PART = 100
+PART, SLOW = 1000, 10
 CLICKS = 'ok', 'Offline', 'NotReady', 'ServerPlays', 'NoBoard', 'Waiting', 'NotYours', 'WrongKind', 'IllegalPlay'
 REFUSALS = ('2 AlreadyOpen', '3 NotOpen', '4 NoSuchConnection', '5 NothingToServe', '6 UserDecides', '7 BoardAsText',
             '8 BadBoard', '9 BadDice')
@@ -34,34 +36,42 @@ WANTED = ['opened', 'loggedin', 'welcomed', 'informed', 'shown', 'sent', 'sent b
           *('refused ' + why for why in REFUSALS)]
 
 
-def note(seen, out):
-    """Counts what is in a log."""
-    before = b''
-    for line in out.splitlines():
-        words = line.decode().split(' ')
-        kind = words[0]
-        if kind in ('clicked', 'refused'):
-            kind = ' '.join([kind, *words[2:]])
-        elif kind == 'lost' and len(words) > 2:
-            seen['lost with a decision'] += 1
-        elif kind == 'sent' and before.startswith(b'shown '):
-            seen['sent by an order'] += 1
-        seen[kind] += 1
-        before = line
+class Lists:
+    """What is run."""
 
+    def __init__(self, options, folder):
+        self.options, self.tool = options, '%s/plain_replay' % folder
+        source = TOP / 'bench' / 'assurance' / 'plain_replay.rs'
+        subprocess.run(['rustc', '-O', '-o', self.tool, str(source)], check=True)
 
-def part(program, mode, seed):
-    """A part: its seed, how many lists, how long it took, what was seen, and what differs."""
-    began, chance, seen = time.monotonic(), random.Random(seed), collections.Counter()
-    for at in range(PART):
-        script = fuzz.script(chance)
-        out, status = reference.replay(script)[:2]
-        done = subprocess.run([program, mode], input=script, capture_output=True)
-        if (done.stdout, done.returncode) != (out, status):
-            why = 'list %d: status %s and %s, script %r' % (at, done.returncode, status, script[:4000])
-            return seed, at, time.monotonic() - began, seen, why
-        note(seen, out)
-    return seed, PART, time.monotonic() - began, seen, None
+    def run(self, *words, given=b''):
+        done = subprocess.run([str(word) for word in words], input=given, capture_output=True)
+        return done.stdout, done.returncode
+
+    def difference(self, script):
+        """What the three say otherwise of a script, or None."""
+        wanted = reference.replay(script)[:2]
+        for who, found in ('PROGRAM', self.run(self.options.program, self.options.mode, given=script)), (
+                'plain_replay', self.run(self.tool, 'play', given=script)):
+            if found != wanted:
+                return '%s: status %s and %s, script %r' % (who, found[1], wanted[1], script[:4000])
+        return None
+
+    def part(self, seed):
+        """A part: its seed, how many lists, how long it took, what was seen, and what differs."""
+        began, chance, seen = time.monotonic(), random.Random(seed), collections.Counter()
+        out, status = self.run(self.tool, 'compare', self.options.program, self.options.mode, seed, PART)
+        if status:
+            return seed, 0, time.monotonic() - began, seen, out.decode() or 'plain_replay: status %d' % status
+        for line in out.decode().splitlines():
+            count, _, kind = line.partition(' ')
+            seen[kind] += int(count)
+        slow = [self.run(self.tool, 'make', seed, at)[0] for at in chance.sample(range(PART), SLOW)]
+        for script in slow + [fuzz.script(chance) for _ in range(SLOW)]:
+            why = self.difference(script)
+            if why:
+                return seed, PART, time.monotonic() - began, seen, why
+        return seed, PART + SLOW, time.monotonic() - began, seen, None
 
 
 def main():
@@ -73,9 +83,11 @@ def main():
     options = line.parse_args()
     be_nice()
     run = Run(options.mode, options)
-    with concurrent.futures.ProcessPoolExecutor(options.jobs) as pool:
-        for done in parts(pool, options, options.lists // PART, functools.partial(part, options.program, options.mode)):
-            run.part(*done)
+    with tempfile.TemporaryDirectory() as folder:
+        lists = Lists(options, folder)
+        with concurrent.futures.ThreadPoolExecutor(options.jobs) as pool:
+            for done in parts(pool, options, -(-options.lists // PART), lists.part):
+                run.part(*done)
     return run.end(WANTED)
 
 
