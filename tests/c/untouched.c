@@ -376,6 +376,11 @@ static void check_client(void) {
               fibs_client_feed(&client, T("a"), out.text, sizeof out.text, &out.heard, &out.wire), HEARD);
         sends("no piece", S(DONE),
               fibs_client_feed(&client, NULL, 0, out.text, sizeof out.text, &out.heard, &out.wire), HEARD);
+        fibs_client_feed(&client, NULL, 0, out.text, sizeof out.text, &out.heard, &out.wire);
+        check(out.heard.used == 0 && out.heard.len == 0 && out.heard.ended == 0 && out.heard.cut == 0
+              && out.heard.kind.kind == FIBS_KIND_TEXT && out.heard.confirmed.kind == FIBS_DECISION_NONE
+              && out.heard.rolled == 0, "nothing is told of half a line");
+        fill();
         fibs_client_feed(&client, T("b\n"), out.text, sizeof out.text, &out.heard, &out.wire);
         check(out.heard.used == 2 && out.heard.len == 2 && out.heard.ended == 1 && out.heard.cut == 0
               && out.heard.kind.kind == FIBS_KIND_TEXT && out.heard.confirmed.kind == FIBS_DECISION_NONE

@@ -1,7 +1,7 @@
 //! A few boards that are known completely: their positions, and their later boards.
 
 use crate::fibs_messages::Board;
-use crate::fibs_position::{Decision, Direction, Disallowed, Phase, Position, Stake, effect};
+use crate::fibs_position::{Decision, Direction, Disallowed, Phase, Position, Stake, WatchedBoard, effect};
 use crate::tests::boards::{AS_SENT, DOUBLED, PASSING, TO_ANSWER, TO_BEAR_OFF, TO_HIT, TO_MOVE, TO_ROLL};
 use crate::tests::cases::{Case, check};
 use crate::tests::choices::Choice;
@@ -150,4 +150,17 @@ fn a_hit_checker_goes_to_the_bar() {
     let after = hit(&before).expect("it is carried out");
     let is_hit = counts_of(&after) == Some([1, 1, 0]);
     assert!(is_hit && after.field(32) == before.field(32), "the counts and field 32");
+}
+
+/// Whether the board of a line is one that is watched.
+fn is_watched(line: &[u8]) -> Option<bool> {
+    Some(WatchedBoard::of(&Board::read(line).ok()?).is_some())
+}
+
+#[test]
+fn the_users_own_game_is_not_watched() {
+    for line in [AS_SENT, TO_ROLL, TO_MOVE, TO_ANSWER, PASSING] {
+        let others = [b"board:carl", &line[b"board:You".len()..]].concat();
+        assert_eq!((is_watched(line), is_watched(&others)), (Some(false), Some(true)), "{line:?}");
+    }
 }

@@ -2,7 +2,7 @@
 
 use crate::fibs_copied_lines::canonical_line;
 use crate::fibs_messages::laws::{canonical_lines_read_back, messages_are_well_formed};
-use crate::fibs_messages::{Reading, Tail, Word, print_message, read};
+use crate::fibs_messages::{Reading, Tail, Word, message_number, print_message, read};
 use crate::rattle::alloc::AllocError;
 use crate::rattle::may::*;
 
@@ -193,4 +193,24 @@ fn is_read_back(line: &[u8]) -> bool {
 #[test]
 fn a_printed_message_is_read_back() {
     assert!(is_read_back(WHO_INFO.0));
+}
+
+/// Lines, and the number with which each begins.
+static NUMBERS: [(&[u8], Option<u8>); 9] = [
+    (b"12 bob hello", Some(12)),
+    (b"123 bob hello", None),
+    (b"19", Some(19)),
+    (b"190", None),
+    (b"1 bob 5 host", Some(1)),
+    (b"20 x", None),
+    (b"05 x", None),
+    (b"1", Some(1)),
+    (b"", None),
+];
+
+#[test]
+fn a_number_ends_at_a_space_or_with_its_line() {
+    for (line, number) in &NUMBERS {
+        assert_eq!(message_number(line), *number, "{line:?}");
+    }
 }
