@@ -21,7 +21,7 @@ pub const FORMS: &[(&str, &[&str], Rule)] = &[
     ("an allocator is no parameter, field, argument or variable",
         &["alloc", "_alloc", "$", "self", "rt", "let"], |e| e.alloc()),
     ("a slice that C gives is a pointer and a length", &["extern", ":", "{"], |e| e.of_c()),
-    ("a test takes nothing, and the runtime is a type without a field", &["HostRuntime"], |e| e.runtime()),
+    ("the runtime is a type without a field", &["HostRuntime"], |e| e.runtime()),
     ("paths begin with this crate, or its layer by hand", &[], |e| e.path()),
     ("a call that takes memory, and may fail, is named `may_`", &[], |e| e.may()),
 ];
@@ -38,17 +38,10 @@ pub const WRITTEN: &[(&str, &str)] = &[
     ("memchr2(b'\\n', 255, window)", "crate::rattle::simd::first_of(b'\\n', 255, window)"),
     ("fn reserve(", "fn may_reserve("),
     ("Box::new(", "crate::rattle::may::may_box("),
-    ("Vec::from_elem(", "crate::rattle::may::may_from_elem("),
     ("Simd::from_slice(&text[at..])", "Simd::from_place(text, at)"),
-    ("format!(in alloc; ", "crate::rattle::may_format!("),
     (".write_fmt($)", ".write_fmt(format_args!(\"{$}\"))"),
     ("<Global>", ""),
     ("AllocGlobal", "crate::rattle::alloc::AllocGlobal"),
-    ("assert!(rt; ", "assert!("),
-    ("assert_eq!(rt; ", "assert_eq!("),
-    ("assert_ne!(rt; ", "assert_ne!("),
-    (".expect(rt, ", ".expect("),
-    (".expect(&rt, ", ".expect("),
 ];
 
 /// Methods that take memory and may fail, if the result is tested at once (else they are others); then those that
@@ -65,7 +58,7 @@ pub const RATTLE: &[&str] = &["std", "itoa", "mio", "jiff", "clap", "libc"];
 pub const SAME: &[&str] = &["arrayvec", "bstr", "indexmap", "memchr", "thiserror", "unicode_width"];
 
 /// The attributes that Rust has too.
-pub const ATTRIBUTES: &[&str] = &["cfg", "derive", "error", "inline", "repr", "test", "unsafe"];
+pub const ATTRIBUTES: &[&str] = &["cfg", "derive", "error", "inline", "repr", "unsafe"];
 
 /// Words of Rattle, which mean nothing to Rust, or something else.
 pub const WORDS: &[&str] = &["Drop", "Global", "Model", "alloc", "ensures", "ghost", "prove", "requires", "tactic"];
@@ -205,9 +198,8 @@ pub struct Eraser<'a> {
     function: usize,
     /// The trait that was met last, and where it ends.
     in_trait: (String, usize),
-    /// Whether a function for C, or a test, was met whose body is still to come, and with what that begins.
+    /// Whether a function for C was met whose body is still to come, and with what that begins.
     is_of_c: bool,
-    is_test: bool,
     first: String,
     uses: BTreeSet<&'static str>,
     required: Vec<String>,
@@ -331,10 +323,7 @@ impl Eraser<'_> {
                 self.pop(false);
                 self.emit("", end + 1)
             }
-            word if ATTRIBUTES.contains(&word) && open == self.at + 1 => {
-                self.is_test |= word == "test";
-                Ok(false)
-            }
+            word if ATTRIBUTES.contains(&word) && open == self.at + 1 => Ok(false),
             word => Err(format!("the attribute `{word}` is not known")),
         }
     }
@@ -393,7 +382,7 @@ impl Eraser<'_> {
         if self.text(self.at) == "extern" {
             self.is_of_c = self.follows("extern \"C\" fn").is_some();
         } else if self.text(self.at) == "{" {
-            (self.is_of_c, self.is_test) = (false, false);
+            self.is_of_c = false;
             let first = std::mem::take(&mut self.first);
             return Ok(!first.is_empty() && self.emit(&format!("{{{first}"), self.at + 1)?);
         } else if let Some(item) = shared.or(single).filter(|_| self.is_of_c) {
@@ -409,12 +398,6 @@ impl Eraser<'_> {
     }
 
     fn runtime(&mut self) -> Result<bool, String> {
-        if self.is_test && self.last() == ":" {
-            let open = self.out.iter().rposition(|token| token.text == "(").ok_or("a test has no parameters")?;
-            self.out.truncate(open + 1);
-            self.first = "\n    let rt = crate::rattle::HostRuntime;".into();
-            return self.emit("", self.at + 1);
-        }
         self.uses.insert("use crate::rattle::HostRuntime;\n");
         Ok(false)
     }
