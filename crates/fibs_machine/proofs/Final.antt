@@ -45,7 +45,7 @@ use Rattle.fibs_machine.proofs.joint.EachEvent.{served, joint_after, joint_start
 use Rattle.fibs_machine.proofs.log.Moved.{all_moved_on}
 use Rattle.fibs_machine.proofs.log.Called.{own_of, clicks_sent_of, orders_sent_of}
 use Rattle.fibs_machine.proofs.log.Due.{due_rolls}
-use Rattle.fibs_machine.proofs.joint.Carrying.{alike_hears}
+use Rattle.fibs_machine.proofs.ClientActs.{does_hears}
 use Rattle.fibs_machine.proofs.log.Fitting.{answered, on_shown, shown_here}
 use Rattle.fibs_machine.proofs.Numbered.{all_numbers}
 use Rattle.fibs_machine.proofs.Projection.{talk_is_projected}
@@ -98,7 +98,7 @@ module _ (law : Lawful) where
   told_hears_all : (c : ℕ) (w : World) (ls : List Line) → open_now w.log ≡ c → Told w.log → Told (hears_all c w ls).log
   told_hears_all c w [] here h = h
   told_hears_all c w (l ∷ ls) here h =
-      told_hears_all c (hears c w (line_reading l)) ls ((alike_hears c w (line_reading l)).here ∙ here)
+      told_hears_all c (hears c w (line_reading l)) ls ((does_hears w c (line_reading l) here).here ∙ here)
       (told_hears c w (line_reading l) here h)
 
   -- a click adds its answer, and after a yes what is sent

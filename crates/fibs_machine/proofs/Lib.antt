@@ -1,5 +1,7 @@
 pub mod Lawful
 pub mod Answering
+pub mod ClientActs
+pub mod ServerActs
 pub mod log
 pub mod wires
 pub mod joint

@@ -100,7 +100,7 @@ no_two three now end (a ∷ b ∷ c ∷ bs) (is, d, dice, next, leads, differs, 
     absurd (three now next rest.3 more.3 d rest.1 more.1 dice rest.2 more.2 leads rest.4 more.4)
 
 -- events after events
-all_append : (login : List ℕ) (w : World) (xs ys : List Event)
+pub all_append : (login : List ℕ) (w : World) (xs ys : List Event)
     → after_all login w (xs ++ ys) ≡ after_all login (after_all login w xs) ys
 all_append login w [] ys = refl
 all_append login w (e ∷ xs) ys = all_append login (after login w e) xs ys

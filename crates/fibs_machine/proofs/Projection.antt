@@ -2,10 +2,9 @@
 use Rattle.std.proofs.Common.{◌≡◌, ℕ, ◌+◌, ◌<◌, Bool, true, false, not, List, [], ◌∷◌, ◌++◌, Option, Some, None, nat_eq}
 use Rattle.std.proofs.Common.{flat_map, take, length, refl, sym, ◌∙◌, suc, ap, subst, inl, inr, append-nil}
 use Rattle.std.proofs.Common.{append_assoc, length-append, arith, if◌then◌else◌}
-use Rattle.std.proofs.lemmas.Bool.Decides.{eqb_tells}
 use Rattle.std.proofs.lemmas.List.Concat.{flat_map-append}
 use Rattle.fibs_lines.specs.Lines.{ReadLine}
-use Rattle.fibs_boards.specs.Board.{spelling}
+use Rattle.fibs_boards.specs.Board.{BoardFields as Board, spelling}
 use Rattle.fibs_position.specs.DecisionValue.{DecisionValue}
 use Rattle.fibs_position.specs.GamePart.{same_game}
 use Rattle.fibs_commands.specs.PlainCommands.{PlainValue, plain_of}
@@ -22,22 +21,22 @@ use Rattle.fibs_history.specs.Allows.{allows}
 use Rattle.fibs_history.specs.Machine.{sends_plain as talk_sends_plain, plain_refusal}
 use Rattle.fibs_history.specs.Machine.{gained, on_wire, wire_of, notes_if, order_refusal, withdraw_refusal}
 use Rattle.fibs_history.specs.Machine as M
-use Rattle.fibs_history.specs.MachineLaws.{IsServers, logs_in, takes, undoes}
 use Rattle.fibs_machine.specs.Wires.{Link, delivered, more_asked, taken, cut_off, next_line}
-use Rattle.fibs_machine.specs.Server.{Served, Stale, LoggedIn, Took, Undone, Answered, command}
+use Rattle.fibs_machine.specs.Server.{command}
 use Rattle.fibs_machine.specs.Events.{Event, Open, Click, Plain, Deliver, Lose, Serve}
 use Rattle.fibs_machine.specs.Events.{Own, Repeat, Text, Order, Withdraw}
-use Rattle.fibs_machine.specs.World.{World, noted, linked, asks, is_talking, sends, does_heard, hears_all, sends_out}
-use Rattle.fibs_machine.specs.World.{clicks, sends_plain, notes_unless, does_served, serves, after, talk_of}
+use Rattle.fibs_machine.specs.World.{World, noted, linked, asks, sends, does_heard, hears_all, sends_out}
+use Rattle.fibs_machine.specs.World.{clicks, sends_plain, notes_unless, serves, after, talk_of}
 use Rattle.fibs_machine.specs.declared.refusal.WorldRefusal.TheVariants.{AlreadyOpen, NotOpen}
 use Rattle.fibs_machine.specs.Refusals.{refusal}
-use Rattle.fibs_machine.specs.Talks.{IsWorld, AllServers, Steps, Silence, Follows, input_of, TalkIsProjected}
+use Rattle.fibs_machine.specs.Talks.{IsWorld, Steps, Silence, Follows, input_of, TalkIsProjected}
 use Rattle.fibs_machine.proofs.Answering.{answered_at as answered}
 use Rattle.fibs_history.proofs.Lists.{same_number, other_number, map_no_more}
 use Rattle.fibs_history.proofs.Past.{open_append}
 use Rattle.fibs_history.proofs.Joins.{lines_open_none}
-use Rattle.fibs_machine.proofs.joint.Joint.{linked_same, linked_other}
-use Rattle.fibs_machine.proofs.joint.Sending.{if_fact}
+use Rattle.fibs_machine.proofs.ClientActs.{noted_nothing}
+use Rattle.fibs_machine.proofs.ServerActs.{Answers, answers_keep, answers_line, answers_served, servers_aside}
+use Rattle.fibs_machine.proofs.joint.Joint.{linked_same, linked_other, linked_keeps}
 use Rattle.fibs_history.proofs.Words.{yes}
 use Rattle.fibs_machine.proofs.joint.EachEvent.{said, is_open}
 
@@ -46,38 +45,6 @@ pub talk_path : (login : List ℕ) (l l' : List Entry) (s s' : List ℕ) (c c' :
     ◌≡◌ {A = Talk} (record { login = login; log = l; stream = s; commands = c })
     (record { login = login; log = l'; stream = s'; commands = c' })
 talk_path login l l' s s' c c' h k m = cc
-
--- nothing of the client's side changes but the log
-
-record Silent (w w' : World) (es : List Entry) : Type 0 where
-  log : w'.log ≡ w.log ++ es
-  count : w'.count ≡ w.count
-  heard : (d : ℕ) → (w'.links d).heard ≡ (w.links d).heard
-  commands : (d : ℕ) → w'.commands d ≡ w.commands d
-
--- wires that were heard as before leave what was heard of each connection
-heard_linked : (w : World) (c : ℕ) (l : Link) (d : ℕ) → l.heard ≡ (w.links c).heard
-    → ((linked w c l).links d).heard ≡ (w.links d).heard
-heard_linked w c l d h = elim (eqb_tells d c) [
-  | inl e ↦ ap (λ (x : Link). x.heard) (subst (λ x. (linked w c l).links x ≡ l) (sym e.1) (linked_same w c l)) ∙ h
-      ∙ ap (λ x. (w.links x).heard) (sym e.1)
-  | inr m ↦ ap (λ (x : Link). x.heard) (linked_other w c d l m.1)
-]
-
--- so the client's side does not change with them
-silent_linked : (w w' : World) (es : List Entry) (c : ℕ) (l : Link) → l.heard ≡ (w'.links c).heard → Silent w w' es
-    → Silent w (linked w' c l) es
-silent_linked w w' es c l h s =
-    record { log = s.log; count = s.count; heard = λ d. heard_linked w' c l d h ∙ s.heard d; commands = s.commands }
-
--- a line that is sent changes nothing of the client's side
-silent_sends : (w w' : World) (es : List Entry) (t : List ℕ) → Silent w w' es → Silent w (sends w' t) es
-silent_sends w w' es t s = if_fact (λ x. Silent w x es) (is_talking w') _ _
-    (λ z. silent_linked w w' es w'.logged_in _ refl s) (λ z. s)
-
--- nothing changes if nothing happens
-silent_itself : (w : World) → Silent w w []
-silent_itself w = record { log = sym (append-nil w.log); count = refl; heard = λ d. refl; commands = λ d. refl }
 
 -- the log grows, and the open connection stays
 
@@ -95,50 +62,32 @@ stays_world w w' es i el ec none same hs cs =
       unsaid = λ d lt. let lt' : w.count < d = rw ec at lt in cs d lt' ∙ i.unsaid d lt';
     }
 
--- entries of the server open and end no connection
-servers_open : (es : List Entry) (o : ℕ) → AllServers es → (flat_map opened_by es ≡ []) × (open_from o es ≡ o)
-servers_open [] o h = (refl, refl)
-servers_open (e ∷ es) o h = one e h.0 (servers_open es o h.1)
-  where
-    one : (e : Entry) → IsServers e → (flat_map opened_by es ≡ []) × (open_from o es ≡ o)
-        → (flat_map opened_by (e ∷ es) ≡ []) × (open_from o (e ∷ es) ≡ o)
-    one e (logs_in c) k = k
-    one e (takes c b d) k = k
-    one e (undoes c b d) k = k
-
--- after entries of the server alone the client's machine has them noted, and nothing else
-silence : (login : List ℕ) (w w' : World) (es : List Entry) → IsWorld w → AllServers es → Silent w w' es
-    → IsWorld w' × Silence login w w'
-silence login w w' es i are s =
-    let o = servers_open es (open_now w.log) are in (
-      stays_world w w' es i s.log s.count o.0 o.1 (λ d lt. s.heard d) (λ d lt. s.commands d),
+-- after the server's answer the client's machine has its entries noted, and nothing else
+silence : (login : List ℕ) (w v : World) (c : ℕ) (t : List ℕ) (w' : World) → IsWorld w → v.log ≡ w.log
+    → v.count ≡ w.count → ((d : ℕ) → (v.links d).heard ≡ (w.links d).heard)
+    → ((d : ℕ) → v.commands d ≡ w.commands d) → Answers c t v w' → IsWorld w' × Silence login w w'
+silence login w v c t w' i log count heard said a =
+    let aside = servers_aside a.more a.servers in
+    let hears : (d : ℕ) → (w'.links d).heard ≡ (w.links d).heard = λ d.
+    answers_keep (λ (x : Link). x.heard) (λ x bytes. refl) c t v w' a d ∙ heard d in
+    let says : (d : ℕ) → w'.commands d ≡ w.commands d = λ d. a.said d ∙ said d in
+    let counts : w'.count ≡ w.count = a.count ∙ count in
+    let grown : w'.log ≡ w.log ++ a.more = a.log ∙ ap (λ l. l ++ a.more) log in (
+      stays_world w w' a.more i grown counts aside.opens (aside.stays (open_now w.log)) (λ d lt. hears d)
+          (λ d lt. says d),
       record {
-        entries = es;
-        are_servers = are;
-        talk = talk_path login _ _ _ _ _ _ s.log (ap (λ d. (w'.links d).heard) s.count ∙ s.heard w.count)
-            (ap w'.commands s.count ∙ s.commands w.count ∙ sym (append-nil _));
+        entries = a.more;
+        are_servers = a.servers;
+        talk = talk_path login _ _ _ _ _ _ grown (ap (λ d. (w'.links d).heard) counts ∙ hears w.count)
+            (ap w'.commands counts ∙ says w.count ∙ sym (append-nil _));
       },
     )
 
--- the server's answer to a line notes entries of the server alone
-serve_silence : (login : List ℕ) (w w1 : World) (c : ℕ) (s : Served) → IsWorld w → Silent w w1 [] → w1.log ≡ w.log
-    → IsWorld (does_served c w1 s) × Silence login w (does_served c w1 s)
-serve_silence login w w1 c s i h e = go s
-  where
-    one : (x : Entry) → Silent w (noted w1 (x ∷ [])) (x ∷ [])
-    one x = record { log = ap (λ l. l ++ x ∷ []) e; count = h.count; heard = h.heard; commands = h.commands }
-
-    go : (s : Served) → IsWorld (does_served c w1 s) × Silence login w (does_served c w1 s)
-    go Stale = silence login w w1 [] i tt h
-    go LoggedIn = silence login w _ (L.LoggedIn c ∷ []) i (logs_in c, tt)
-        (let o = one (L.LoggedIn c) in record { log = o.log; count = o.count; heard = o.heard; commands = o.commands })
-    go (Took d b) = silence login w _ (L.Took c w1.board d ∷ []) i (takes c w1.board d, tt)
-        (silent_sends w (noted (record w1 { board = b }) (L.Took c w1.board d ∷ [])) _ (spelling b)
-        (let o = one (L.Took c w1.board d) in
-        record { log = o.log; count = o.count; heard = o.heard; commands = o.commands }))
-    go (Undone d) = silence login w _ (L.Undone c w1.board d ∷ []) i (undoes c w1.board d, tt)
-        (silent_sends w (noted w1 (L.Undone c w1.board d ∷ [])) _ (spelling w1.board) (one (L.Undone c w1.board d)))
-    go Answered = silence login w _ [] i tt (silent_sends w w1 [] (spelling w1.board) h)
+-- so after a line that it sends by itself
+sends_silence : (login : List ℕ) (w : World) (b : Board) (t : List ℕ) → IsWorld w
+    → IsWorld (sends (record w { board = b }) t) × Silence login w (sends (record w { board = b }) t)
+sends_silence login w b t i =
+    silence login w w 0 t _ i refl refl (λ d. refl) (λ d. refl) (answers_line 0 w b t)
 
 -- the client hands out commands on the newest connection
 
@@ -147,7 +96,7 @@ asks_talk : (login : List ℕ) (w : World) (es : List Entry) (c : ℕ) (ts : Lis
     → talk_of login (asks (noted w es) c ts) ≡ talk_noted (talk_of login w) es ts
 asks_talk login w es c ts e = subst (λ c. talk_of login (asks (noted w es) c ts) ≡ talk_noted (talk_of login w) es ts)
     (sym e)
-    (talk_path login _ _ _ _ _ _ refl (heard_linked (noted w es) w.count _ w.count refl) same)
+    (talk_path login _ _ _ _ _ _ refl (linked_keeps (λ (x : Link). x.heard) (noted w es) w.count _ refl w.count) same)
   where
     same : (if nat_eq w.count w.count then w.commands w.count ++ ts else w.commands w.count) ≡ w.commands w.count ++ ts
     same = rw (same_number w.count) refl
@@ -164,7 +113,7 @@ asks_world : (w : World) (es : List Entry) (c : ℕ) (ts : List (List ℕ)) → 
     → flat_map opened_by es ≡ [] → open_from (open_now w.log) es ≡ open_now w.log
     → IsWorld (asks (noted w es) c ts)
 asks_world w es c ts i e none same = stays_world w (asks (noted w es) c ts) es i refl refl none same
-    (λ d lt. heard_linked (noted w es) c _ d refl)
+    (λ d lt. linked_keeps (λ (x : Link). x.heard) (noted w es) c _ refl d)
     (λ d lt. let m : d ≡ c → ⊥ = λ k. absurd (omega arith) in rw (other_number d c m) refl)
 
 -- a line that is heard
@@ -270,13 +219,6 @@ click login w d i = let f = go (answer same_game allows w.log d) refl in
         (fits_asks login w (L.Clicked (open_now w.log) d None ∷ L.Sent (open_now w.log) y.on d ∷ []) (open_now w.log)
         (command y.on d ∷ []) i (here w i y.some) refl refl)
 
--- noting no entry changes nothing
-noted_nothing : (w : World) → noted w [] ≡ w
-noted_nothing w = ap (λ l. with_log l) (append-nil w.log)
-  where
-    with_log : List Entry → World
-    with_log l = record w { log = l }
-
 -- the client's machine goes along with a plain command
 plain : (login : List ℕ) (w : World) (p : PlainValue) → IsWorld w → Both login w (Plain p)
 plain login w p i = let f = go (plain_refusal (talk_of login w) p) refl in
@@ -316,7 +258,8 @@ opening login w i z =
     let world : IsWorld w' = record {
       counted = more;
       newest = inr (open_append 0 w.log es);
-      unheard = λ d lt. heard_linked (noted n es) (w.count + 1) _ d refl ∙ i.unheard d (omega arith);
+      unheard = λ d lt.
+          linked_keeps (λ (x : Link). x.heard) (noted n es) (w.count + 1) _ refl d ∙ i.unheard d (omega arith);
       unsaid = λ d lt. let m : d ≡ w.count + 1 → ⊥ =
           λ k. absurd (omega arith) in rw (other_number d (w.count + 1) m) (i.unsaid d (omega arith));
     } in
@@ -394,7 +337,7 @@ lose login w k i some =
     let w' : World = noted (linked w c l') es in
     let o : c ≡ w.count = here w i some in
     let t : loses (talk_of login w) ≡ does (talk_of login w) es [] = ap (λ b. step_if (not b)) (online w some) in
-    let hs : (d : ℕ) → (w'.links d).heard ≡ (w.links d).heard = λ d. heard_linked w c l' d refl in
+    let hs : (d : ℕ) → (w'.links d).heard ≡ (w.links d).heard = linked_keeps (λ (x : Link). x.heard) w c l' refl in
     let tk : talk_of login w' ≡ talk_noted (talk_of login w) es [] =
     talk_path login _ _ _ _ _ _ refl (hs w.count) (sym (append-nil _)) in
     let on_wire_now : (w'.links w.count).asked ≡ take k (w.links w.count).asked =
@@ -420,11 +363,19 @@ lose login w k i some =
 -- the client's machine stays silent while the server takes a line
 serve : (login : List ℕ) (w : World) (c d1 d2 : ℕ) (o : Option (List ℕ × List ℕ)) → IsWorld w
     → IsWorld (serves c w d1 d2 o) × Silence login w (serves c w d1 d2 o)
-serve login w c d1 d2 None i = silence login w w [] i tt (silent_itself w)
+serve login w c d1 d2 None i = (
+  i,
+  record {
+    entries = [];
+    are_servers = tt;
+    talk = talk_path login _ _ _ _ _ _ (sym (append-nil w.log)) refl (sym (append-nil _));
+  },
+)
 serve login w c d1 d2 (Some p) i =
     let l : Link = taken (w.links c) (on_wire p.0) p.1 in
-    serve_silence login w (linked w c l) c (answered w.board w.logged_in c (is_empty (w.links c).served) p.0 d1 d2) i
-    (silent_linked w w [] c l refl (silent_itself w)) refl
+    let s = answered w.board w.logged_in c (is_empty (w.links c).served) p.0 d1 d2 in
+    silence login w (linked w c l) c _ _ i refl refl (linked_keeps (λ (x : Link). x.heard) w c l refl) (λ d. refl)
+    (answers_served c (linked w c l) s)
 
 -- an order is noted or not
 unless : (login : List ℕ) (w : World) (e : Entry) (o : Option Refusal) → IsWorld w → flat_map opened_by (e ∷ []) ≡ []
@@ -441,11 +392,9 @@ both login w (Plain p) i h = plain login w p i
 both login w (Deliver n) i h = deliver login w n i (is_open NotOpen _ h)
 both login w (Lose k) i h = lose login w k i (is_open NotOpen _ h)
 both login w (Serve c d1 d2) i h = serve login w c d1 d2 (next_line (w.links c).asked) i
-both login w (Own b) i h = silence login w _ [] i tt
-    (silent_sends w (record w { board = b }) [] (spelling b)
-    (record { log = sym (append-nil w.log); count = refl; heard = λ d. refl; commands = λ d. refl }))
-both login w Repeat i h = silence login w _ [] i tt (silent_sends w w [] (spelling w.board) (silent_itself w))
-both login w (Text t) i h = silence login w _ [] i tt (silent_sends w w [] t (silent_itself w))
+both login w (Own b) i h = sends_silence login w b (spelling b) i
+both login w Repeat i h = sends_silence login w w.board (spelling w.board) i
+both login w (Text t) i h = sends_silence login w w.board t i
 both login w Order i h =
     let f = unless login w (L.Ordered (open_now w.log)) (order_refusal w.log) i refl refl in
     (f.world, record { talk = f.talk; asked = f.asked })

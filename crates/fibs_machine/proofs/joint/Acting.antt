@@ -17,9 +17,10 @@ use Rattle.fibs_machine.specs.World.{World, noted, linked, sends, is_talking}
 use Rattle.fibs_history.proofs.Lists.{same_number, other_number, and_left}
 use Rattle.fibs_history.proofs.Past.{open_append}
 use Rattle.fibs_machine.proofs.joint.Joint.{linked_same, linked_other}
-use Rattle.fibs_machine.proofs.joint.Sending.{if_fact, with_line}
+use Rattle.fibs_machine.proofs.joint.Sending.{with_line}
 use Rattle.fibs_machine.proofs.joint.Steady.{SteadyTo, steady_rest, steady_serves}
-use Rattle.fibs_machine.proofs.joint.Carrying.{Alike, carried_is, carried_sent}
+use Rattle.fibs_machine.proofs.ClientActs.{Does, there_none}
+use Rattle.fibs_machine.proofs.joint.Carrying.{carried_is, carried_sent}
 
 -- the server's acts on each connection, and the world after them
 pub record Kept (acts : ℕ → List Act) (w : World) : Type 0 where
@@ -42,7 +43,7 @@ only_other c n acts h = ap (λ z. if z then acts else []) (other_number c n h)
 
 -- no acts
 pub only_none : (c n : ℕ) → only c n [] ≡ []
-only_none c n = if_fact (λ l. l ≡ []) (nat_eq c n) _ _ (λ z. refl) (λ z. refl)
+only_none c n = there_none {A = Act} (nat_eq c n)
 
 -- other words for the same acts
 pub kept_is : (acts acts' : ℕ → List Act) (w : World) → ((c : ℕ) → acts' c ≡ acts c) → Kept acts w → Kept acts' w
@@ -65,11 +66,12 @@ kept_quiet acts w w' b l carried k = record {
   newer = λ c high. let high' : w.logged_in < c = rw l at high in k.newer c high';
 }
 
--- worlds that are alike for the acts
-pub kept_alike : (acts : ℕ → List Act) (w w' : World) → Alike w w' → Kept acts w → Kept acts w'
-kept_alike acts w w' a k =
+-- what the client does
+pub kept_does : (acts : ℕ → List Act) (bs : List Board) (w w' : World) → Does bs w w' → Kept acts w → Kept acts w'
+kept_does acts bs w w' a k =
     kept_quiet acts w w' a.board a.logged_in
-    (λ c some. carried_is _ _ _ _ _ _ refl (ap (λ n. nat_eq n c) a.here) (a.heard c) (a.coming c) (k.carried c some)) k
+    (λ c some. carried_is _ _ _ _ _ _ refl (ap (λ n. nat_eq n c) a.here) (ap (λ (x : Link). x.heard) (a.link c))
+    (ap (λ (x : Link). x.coming) (a.link c)) (k.carried c some)) k
 
 -- more acts on the connection that is logged in, if other wires to clients stay as they are
 pub kept_more : (acts : ℕ → List Act) (more : List Act) (w w' : World) → w'.logged_in ≡ w.logged_in

@@ -1,6 +1,5 @@
 -- The joint statement is kept if the user clicks.
-use Rattle.std.proofs.Common.{◌≡◌, ℕ, ◌<◌, false, [], ◌∷◌, Option, Some, None, refl, ap, subst, inl, inr, arith}
-use Rattle.std.proofs.lemmas.Bool.Decides.{eqb_tells}
+use Rattle.std.proofs.Common.{◌≡◌, ℕ, ◌<◌, false, [], ◌∷◌, Option, Some, None, refl, ap, subst, inl, inr}
 use Rattle.fibs_position.specs.DecisionValue.{DecisionValue as Decision}
 use Rattle.fibs_position.specs.GamePart.{same_game}
 use Rattle.fibs_history.specs.declared.refusal.Refusal.{Refusal}
@@ -12,7 +11,7 @@ use Rattle.fibs_machine.proofs.Lawful.{Lawful}
 use Rattle.fibs_history.proofs.Words.{Yes, yes}
 use Rattle.fibs_machine.proofs.joint.Asked.{ChangesNothing, joint_asked}
 use Rattle.fibs_machine.proofs.joint.Joint.{Joint}
-use Rattle.fibs_machine.proofs.joint.Sending.{joint_noted, not_older}
+use Rattle.fibs_machine.proofs.joint.Sending.{joint_noted, which}
 
 -- a click says nothing of the wires and the boards
 click_alone : (c : ℕ) (d : Decision) → ChangesNothing (Clicked c d None ∷ [])
@@ -38,12 +37,9 @@ module _ (law : Lawful) where
           (click_alone w.logged_in d) j k z.0 z.1 z.2 y.allowed))
         where
           here : Yes same_game allows w.log d → open_now w.log ≡ w.logged_in
-          here y = elim (eqb_tells (open_now w.log) w.logged_in) [
-            | inl q ↦ q.1
-            | inr q ↦
-                let q1 = q.1 in
-                let le = not_older [] w (open_now w.log) j refl y.some in
-                let lt : w.logged_in < open_now w.log = omega arith in
+          here y = elim (which [] w (open_now w.log) j refl y.some) [
+            | inl q ↦ q
+            | inr lt ↦
                 let a = (j.each (open_now w.log)).ahead lt in
                 let g : last (shown (open_now w.log) w.log) ≡ None = ap last a.silent.seen in
                 let g' = y.is_last in cc

@@ -1,9 +1,10 @@
 -- The joint statement is kept if the client hears lines.
 use Rattle.std.proofs.Common.{◌≡◌, ℕ, ◌<◌, Bool, true, false, ◌&&◌, List, [], ◌∷◌, ◌++◌, Option, Some, None, nat_eq}
 use Rattle.std.proofs.Common.{take}
-use Rattle.std.proofs.Common.{drop, refl, sym, ◌∙◌, zero, suc, ap, subst, inl, inr, ◌⊎◌, append-nil, append_assoc}
+use Rattle.std.proofs.Common.{drop, refl, sym, ◌∙◌, ap, subst, inl, inr, ◌⊎◌, append-nil, append_assoc}
 use Rattle.std.proofs.Common.{true≢false, arith}
-use Rattle.std.proofs.lemmas.Bool.Decides.{eqb_tells}
+use Rattle.std.proofs.Math.Seq.{take-nil, drop-nil}
+use Rattle.std.proofs.lemmas.Option.{same_Some}
 use Rattle.std.proofs.lemmas.Bool.{cases_Bool}
 use Rattle.fibs_boards.specs.Board.{BoardFields as Board}
 use Rattle.fibs_position.specs.DecisionValue.{roll}
@@ -30,17 +31,13 @@ use Rattle.fibs_history.proofs.Moving.{moved_shown}
 use Rattle.fibs_machine.proofs.log.Due.{due_rolls}
 use Rattle.fibs_machine.proofs.joint.Asked.{joint_asked, no_entries}
 use Rattle.fibs_machine.proofs.wires.Boards.{waiting, boards, board_of, boards_split, whole_split, gained_none}
-use Rattle.fibs_machine.proofs.joint.Joint.{log_of, Calm, Free, Done, Live, Held, Joint, current, same_log}
-use Rattle.fibs_machine.proofs.joint.Joint.{joint_current, joint_rewired, joint_rewired_ahead}
+use Rattle.fibs_machine.proofs.joint.Joint.{log_of, Calm, Free, Done, Live, Held, Joint, current, current_with}
+use Rattle.fibs_machine.proofs.joint.Joint.{ahead_with, same_log, joint_current, joint_rewired, joint_rewired_ahead}
 use Rattle.fibs_history.proofs.Lists.{to_list}
-use Rattle.fibs_machine.proofs.joint.Sending.{joint_noted, joint_asks, not_older, same_test, if_fact}
+use Rattle.fibs_machine.proofs.joint.Sending.{joint_noted, joint_asks, which, same_test, if_fact}
 use Rattle.fibs_history.specs.Hearing.{line_reading}
 use Rattle.fibs_position.specs.GamePart.{same_game}
 use Rattle.fibs_position.specs.GoodBoard.{good as is_good}
-
--- one thing that is there is one thing
-pub some_ask : (x y : Ask) → Some x ≡ Some y → x ≡ y
-some_ask x y h = cc
 
 module _ (law : Lawful) where
   -- one more board: what was on its way to the client is shown
@@ -184,7 +181,7 @@ module _ (law : Lawful) where
       moved (Some a) o h y (inr k) =
           let eb : b ≡ a.0 = (y.calm.0 (law.allowed_decides a.0 a.1 h.1)).0.0 in
           let la : last (sent w.logged_in w.log) ≡ Some a = ap last o ∙ last_snoc (took w.logged_in w.log) a in
-          let ea : k.0 ≡ a = some_ask _ _ (sym k.1 ∙ la) in
+          let ea : k.0 ≡ a = same_Some _ _ (sym k.1 ∙ la) in
           let e0 : k.0.0 ≡ a.0 = ap (λ (q : Ask). q.0) ea in
           let lk : same_game k.0.0 b ≡ true = rw (e0, eb) (law.likeness.like_itself a.0) in
           absurd (true≢false (sym lk ∙ k.2))
@@ -301,14 +298,8 @@ module _ (law : Lawful) where
       let cur = current [] w j have in
       let ws : waiting (boards ls) l' ≡ waiting [] l = sym (boards_split law l.heard l.coming n) in
       let j' : Joint (boards ls) (linked w w.logged_in l') = joint_rewired [] (boards ls) w w.board l' j have j.good
-      (record {
-        p = cur.p;
-        way = cur.way;
-        begun = cur.begun;
-        owed = cur.owed;
-        held = cur.held;
-        live = λ o. subst (λ bs. Live (log_of w w.logged_in) w.board bs cur.p) (sym ws) (cur.live o);
-      })
+      (current_with cur cur.way cur.begun cur.held
+      (λ o. subst (λ bs. Live (log_of w w.logged_in) w.board bs cur.p) (sym ws) (cur.live o)))
       (λ o. whole_split law l.heard l.coming n ((j.each w.logged_in).wire o have)) in
       record {
         joint = subst (λ bs. Joint bs (linked w w.logged_in l')) (sym (append-nil _)) j';
@@ -320,7 +311,7 @@ module _ (law : Lawful) where
   pub joint_deliver : (w : World) (c n : ℕ) → Joint [] w → open_now w.log ≡ c → 0 < c
       → Joint []
       (hears_all c (linked w c (delivered (w.links c) n)) (gained (w.links c).heard (take n (w.links c).coming)))
-  joint_deliver w c n j h some = elim (eqb_tells c w.logged_in) [ inl e ↦ at_current e.1 | inr m ↦ at_ahead m.1 ]
+  joint_deliver w c n j h some = elim (which [] w c j h some) [ inl e ↦ at_current e | inr lt ↦ at_ahead lt ]
     where
       at_current : c ≡ w.logged_in
           → Joint []
@@ -331,34 +322,17 @@ module _ (law : Lawful) where
           rw e (hears_lines w.logged_in ls [] (linked w w.logged_in (delivered (w.links w.logged_in) n)) have
           (hearing_begins w n j (h ∙ e) have)).joint
 
-      at_ahead : (c ≡ w.logged_in → ⊥)
+      at_ahead : w.logged_in < c
           → Joint []
           (hears_all c (linked w c (delivered (w.links c) n)) (gained (w.links c).heard (take n (w.links c).coming)))
-      at_ahead m =
-          let le = not_older [] w c j h some in
-          let lt : w.logged_in < c = omega arith in
+      at_ahead lt =
           let a = (j.each c).ahead lt in
-          let tn : take n (w.links c).coming ≡ [] = ap (take n) a.coming ∙ take_nil n in
-          let dn : drop n (w.links c).coming ≡ [] = ap (drop n) a.coming ∙ drop_nil n in
+          let tn : take n (w.links c).coming ≡ [] = ap (take n) a.coming ∙ take-nil n in
+          let dn : drop n (w.links c).coming ≡ [] = ap (drop n) a.coming ∙ drop-nil n in
           let l' : Link = delivered (w.links c) n in
           let none : gained (w.links c).heard (take n (w.links c).coming) ≡ [] =
           ap (gained (w.links c).heard) tn ∙ gained_none law (w.links c).heard in
           let j' : Joint [] (linked w c l') = joint_rewired_ahead [] w c l' j lt
-          (record {
-            silent = a.silent;
-            served = a.served;
-            heard = ap (λ l. l ++ take n (w.links c).coming) a.heard ∙ tn;
-            coming = dn;
-            way = a.way;
-            asks = a.asks;
-          })
+          (ahead_with a refl (ap (λ l. l ++ take n (w.links c).coming) a.heard ∙ tn) dn a.way a.asks)
           (j.each c).unopened in
           subst (λ ls. Joint [] (hears_all c (linked w c l') ls)) (sym none) j'
-        where
-          take_nil : (n : ℕ) → take {A = ℕ} n [] ≡ []
-          take_nil zero = refl
-          take_nil (suc n) = refl
-
-          drop_nil : (n : ℕ) → drop {A = ℕ} n [] ≡ []
-          drop_nil zero = refl
-          drop_nil (suc n) = refl

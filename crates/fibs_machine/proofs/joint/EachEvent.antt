@@ -1,9 +1,8 @@
 -- Each event keeps the joint statement.
-use Rattle.std.proofs.Common.{◌≡◌, ℕ, ◌<◌, ◌≤◌, Bool, true, false, not, ◌&&◌, ◌||◌, List, [], ◌∷◌, Option, Some, None}
+use Rattle.std.proofs.Common.{◌≡◌, ℕ, ◌<◌, ◌≤◌, Bool, true, false, not, ◌&&◌, ◌||◌, List, [], ◌∷◌, ◌++◌, Option, Some}
 use Rattle.std.proofs.Common.{nat_eq, nat_lt, refl, sym, zero, suc, subst, inl, inr, true≢false, arith, if◌then◌else◌}
-use Rattle.std.proofs.Common.{is_some, ◌∙◌}
-use Rattle.std.proofs.lemmas.Bool.Decides.{nat_tests}
-use Rattle.std.proofs.lemmas.Bool.{eqb-true}
+use Rattle.std.proofs.Common.{None, is_some, ◌∙◌, append-nil, append_assoc}
+use Rattle.std.proofs.lemmas.Bool.{eqb-true, ltb-false, not-false, or_parts}
 use Rattle.fibs_boards.specs.Board.{BoardFields as Board}
 use Rattle.fibs_history.specs.Words.{open_now}
 use Rattle.fibs_commands.specs.PlainCommands.{PlainValue, plain_fault_of}
@@ -14,6 +13,8 @@ use Rattle.fibs_history.specs.declared.refusal.PlainRefusal.TheVariants as P
 use Rattle.fibs_history.specs.declared.refusal.Refusal.{Refusal}
 use Rattle.fibs_history.specs.Log.{Entry, Ordered, Withdrawn}
 use Rattle.fibs_history.specs.Machine.{plain_refusal, may_send, order_refusal, withdraw_refusal}
+use Rattle.fibs_machine.specs.Acts.{Act, acts_on, acts_from}
+use Rattle.fibs_machine.specs.Runs.{AllAccepted, after_all}
 use Rattle.fibs_machine.specs.Wires.{next_line}
 use Rattle.fibs_position.specs.BoardEffect.{is_die}
 use Rattle.fibs_machine.specs.Server.{user_decides}
@@ -44,28 +45,14 @@ pub not_refused : (z : Bool) (x : WorldRefusal) (o : Option WorldRefusal) → (i
 not_refused true x o h = cc
 not_refused false x o h = (refl, h)
 
--- if neither of two holds, each of them fails
-pub or_false : (a b : Bool) → (a || b) ≡ false → (a ≡ false) × (b ≡ false)
-or_false true b h = absurd (true≢false h)
-or_false false b h = (refl, h)
-
 -- a number that is not 0
 pub number_of : (n : ℕ) → nat_eq n 0 ≡ false → 0 < n
 number_of zero h = absurd (true≢false h)
 number_of (suc n) h = omega arith
 
--- a number that is not less than another
-pub not_less : (a b : ℕ) → nat_lt a b ≡ false → b ≤ a
-not_less a b h = grind (arith, nat_tests)
-
 -- if no connection is missing, one is open
 pub is_open : (x : WorldRefusal) (n : ℕ) → (if nat_eq n 0 then Some x else None) ≡ None → 0 < n
 is_open x n h = number_of n (not_refused (nat_eq n 0) x None h).0
-
--- what is not false is true
-pub not_false : (a : Bool) → not a ≡ false → a ≡ true
-not_false true h = refl
-not_false false h = absurd (true≢false h)
 
 -- what a Serve that is not refused says
 pub record Served (w : World) (c d1 d2 : ℕ) : Type 0 where
@@ -83,16 +70,16 @@ served w c d1 d2 h =
     let s1 = not_refused (nat_eq c 0 || nat_lt w.count c) _ _ h in
     let s2 = not_refused (not (is_die d1 && is_die d2)) _ _ s1.1 in
     let s3 = not_refused (nat_lt c w.logged_in || not (is_some (next_line (w.links c).asked))) _ _ s2.1 in
-    let t1 = or_false _ _ s1.0 in
-    let t2 = not_false _ s2.0 in
-    let t3 = or_false _ _ s3.0 in
-    let l = line_of (next_line (w.links c).asked) (not_false _ t3.1) in
+    let t1 = or_parts _ _ s1.0 in
+    let t2 = not-false _ s2.0 in
+    let t3 = or_parts _ _ s3.0 in
+    let l = line_of (next_line (w.links c).asked) (not-false _ t3.1) in
     record {
       some = number_of c t1.0;
-      known = not_less _ _ t1.1;
+      known = ltb-false _ _ t1.1;
       die1 = and_left _ _ t2;
       die2 = and_right _ _ t2;
-      recent = not_less _ _ t3.0;
+      recent = ltb-false _ _ t3.0;
       line = l.0;
       next = l.1;
     }
@@ -167,7 +154,7 @@ module _ (law : Lawful) where
   joint_after login quiet w (Own b) j h =
       let s1 = not_refused (not (is_good b)) _ _ h in
       let s2 = not_refused (user_decides w.board) _ _ s1.1 in
-      joint_board law w b j (not_false _ s1.0) (inr s2.0)
+      joint_board law w b j (not-false _ s1.0) (inr s2.0)
   joint_after login quiet w Repeat j h = joint_board law w w.board j j.good (inl refl)
   joint_after login quiet w (Text t) j h =
       joint_text law w t j
@@ -176,6 +163,24 @@ module _ (law : Lawful) where
       joint_unless w (Ordered (open_now w.log)) (order_refusal w.log) (order_alone (open_now w.log)) j
   joint_after login quiet w Withdraw j h =
       joint_unless w (Withdrawn (open_now w.log)) (withdraw_refusal w.log) (withdrawal_alone (open_now w.log)) j
+
+  -- What each event keeps of the server's acts on each connection holds after every list of events. It is to be the
+  -- same in other words for the acts.
+  pub over_events : (P : (ℕ → List Act) → World → Type 0)
+      → ((acts acts' : ℕ → List Act) (w : World) → ((c : ℕ) → acts' c ≡ acts c) → P acts w → P acts' w)
+      → (login : List ℕ) → IsQuiet login
+      → ((acts : ℕ → List Act) (w : World) (e : Event) → Joint [] w → refusal w e ≡ None → P acts w
+      → P (λ c. acts c ++ acts_on w e c) (after login w e))
+      → (acts : ℕ → List Act) (es : List Event) (w : World) → AllAccepted login w es → Joint [] w → P acts w
+      → P (λ c. acts c ++ acts_from login w es c) (after_all login w es)
+  over_events P same login quiet one acts [] w ok j p = same acts (λ c. acts c ++ []) w (λ c. append-nil (acts c)) p
+  over_events P same login quiet one acts (e ∷ es) w ok j p =
+      let w' : World = after login w e in
+      let first : ℕ → List Act = λ c. acts c ++ acts_on w e c in
+      same (λ c. first c ++ acts_from login w' es c) (λ c. acts c ++ acts_from login w (e ∷ es) c)
+      (after_all login w' es) (λ c. sym (append_assoc (acts c) (acts_on w e c) (acts_from login w' es c)))
+      (over_events P same login quiet one first es w' ok.1 (joint_after login quiet w e j ok.0)
+      (one acts w e j ok.0 p))
 
   -- it holds of the world at first, which has a good board
   pub joint_start : (b : Board) → is_good b ≡ true → Joint [] (start b)

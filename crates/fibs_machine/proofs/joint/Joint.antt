@@ -144,6 +144,25 @@ pub current : (x : List Board) (w : World) → Joint x w → 0 < w.logged_in
     (waiting x (w.links w.logged_in))
 current x w j some = (j.each w.logged_in).current some refl
 
+-- The same with other wires, another board of the server's, or after its loss, as long as what the log says stays.
+pub current_with : {o o' : Bool} {v : Logged} {l l' : Link} {now now' : Board} {ws ws' : List Board}
+    → (cur : Current o v l now ws) → OnWay o' cur.p l'.asked → is_empty l'.served ≡ false → Held now' cur.p
+    → (o' ≡ true → Live v now' ws' cur.p) → Current o' v l' now' ws'
+current_with cur way begun held live =
+    record { p = cur.p; way = way; begun = begun; owed = cur.owed; held = held; live = live }
+
+-- What is said of a newer connection, with other wires or after its loss, as long as the server took nothing.
+pub ahead_with : {o o' : Bool} {v : Logged} {l l' : Link} → Ahead o v l → l'.served ≡ l.served → l'.heard ≡ []
+    → l'.coming ≡ [] → OnWay o' None l'.asked → (o' ≡ true → is_empty l'.asked ≡ false) → Ahead o' v l'
+ahead_with a served heard coming way asks = record {
+  silent = a.silent;
+  served = served ∙ a.served;
+  heard = heard;
+  coming = coming;
+  way = way;
+  asks = asks;
+}
+
 -- a connection of which the log and the wires say the same in two worlds
 pub record Same (w w' : World) (c : ℕ) : Type 0 where
   pub log : log_of w' c ≡ log_of w c
@@ -172,6 +191,19 @@ linked_same w c l = rw (same_number c) refl
 -- and no other is changed
 pub linked_other : (w : World) (c d : ℕ) (l : Link) → (d ≡ c → ⊥) → (linked w c l).links d ≡ w.links d
 linked_other w c d l h = rw (other_number d c h) refl
+
+-- what holds of the wires that are set, and of the others as they were, holds of all
+pub linked_each : (P : ℕ → Link → Type 0) (w : World) (c : ℕ) (l : Link) → P c l
+    → ((d : ℕ) → (d ≡ c → ⊥) → P d (w.links d)) → (d : ℕ) → P d ((linked w c l).links d)
+linked_each P w c l here others d = elim (eqb_tells d c) [
+  | inl e ↦ rw e.0 (subst (λ x. P x l) (sym e.1) here)
+  | inr n ↦ rw n.0 (others d n.1)
+]
+
+-- what is the same on the wires that are set is the same on all
+pub linked_keeps : {A : Type 0} (f : Link → A) (w : World) (c : ℕ) (l : Link) → f l ≡ f (w.links c) → (d : ℕ)
+    → f ((linked w c l).links d) ≡ f (w.links d)
+linked_keeps f w c l h = linked_each (λ d x. f x ≡ f (w.links d)) w c l h (λ d n. refl)
 
 -- what holds of a connection holds of it by any other account of the same
 pub at_by : (x : List Board) (now : Board) (user count here c : ℕ) (v v' : Logged) (l l' : Link) → v' ≡ v → l' ≡ l

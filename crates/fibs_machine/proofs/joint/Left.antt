@@ -1,6 +1,7 @@
 -- What is left on a wire to the server: lines. At most one of them is a decision, the one that is not served.
-use Rattle.std.proofs.Common.{◌≡◌, ◌⊎◌, inl, inr, ℕ, Bool, true, false, List, [], ◌∷◌, ◌++◌, Option, Some, None, nat_eq}
+use Rattle.std.proofs.Common.{◌≡◌, ◌⊎◌, inl, inr, ℕ, Bool, List, [], ◌∷◌, ◌++◌, Option, Some, None, nat_eq}
 use Rattle.std.proofs.Common.{flat_map, refl, sym, ◌∙◌, ap, subst, append_assoc}
+use Rattle.std.proofs.lemmas.Bool.{false_from_ne_true}
 use Rattle.fibs_boards.specs.Board.{BoardFields as Board}
 use Rattle.fibs_history.specs.Machine.{on_wire}
 use Rattle.fibs_history.specs.Words.{Ask, open_now}
@@ -8,29 +9,19 @@ use Rattle.fibs_machine.specs.Joint.{AreLines, NoDecision, OneDecision, AtMostTh
 use Rattle.fibs_machine.specs.Server.{command}
 use Rattle.fibs_machine.specs.Wires.{next_line}
 use Rattle.fibs_machine.specs.World.{World}
-use Rattle.fibs_machine.proofs.Lawful.{NoReturn, AllQuiet}
+use Rattle.fibs_machine.proofs.Lawful.{AllQuiet}
 use Rattle.fibs_machine.proofs.joint.Joint.{Held}
 use Rattle.fibs_machine.proofs.wires.Cuts.{line_whole}
-use Rattle.fibs_machine.proofs.wires.Ways.{Queue, OnWay}
+use Rattle.fibs_machine.proofs.wires.Ways.{Queue, OnWay, Texts, texts_of}
 
--- the texts hold no CR
-abbrev pub Texts : List (List ℕ) → Type 0
-Texts [] = Unit {0}
-Texts (t ∷ ts) = NoReturn t × Texts ts
+-- of texts without CR the first have none
+texts_front : (ts gone : List (List ℕ)) → Texts (ts ++ gone) → Texts ts
+texts_front [] gone h = tt
+texts_front (t ∷ ts) gone h = (h.0, texts_front ts gone h.1)
 
--- nor do commands that are no decisions
-quiet_texts : (ts gone : List (List ℕ)) → AllQuiet (ts ++ gone) → Texts ts
-quiet_texts [] gone h = tt
-quiet_texts (t ∷ ts) gone h = (h.0.text, quiet_texts ts gone h.1)
-
--- nor all commands on their way
-pub queue_texts : (p : Option Ask) (ts gone : List (List ℕ)) → Queue p (ts ++ gone) → Texts ts
-queue_texts None ts gone q = quiet_texts ts gone q
-queue_texts (Some a) [] gone q = tt
-queue_texts (Some a) (t ∷ ts) gone q = elim q [
-  | inl k ↦ (k.0.text, queue_texts (Some a) ts gone k.1)
-  | inr k ↦ (k.1, quiet_texts ts gone k.2)
-]
+-- nor have the whole commands on a wire
+pub way_texts : (o : Bool) (p : Option Ask) (asked : List ℕ) (way : OnWay o p asked) → Texts way.ts
+way_texts o p asked way = texts_front way.ts way.gone (texts_of p (way.ts ++ way.gone) way.queue)
 
 -- whole commands and a part of one are these lines
 lines_are : (ts : List (List ℕ)) (part bytes : List ℕ) → bytes ≡ flat_map on_wire ts ++ part → next_line part ≡ None
@@ -77,11 +68,6 @@ queue_one now a is (t ∷ ts) gone q = elim q [
   })
 ]
 
--- what cannot be true is false
-not_true : (o : Bool) → (o ≡ true → ⊥) → o ≡ false
-not_true true h = absurd (h refl)
-not_true false h = refl
-
 -- at most the decision that is not served is on the wire
 few : (o : Bool) (now : Board) (p : Option Ask) (asked : List ℕ) (way : OnWay o p asked) → Held now p
     → AtMostThis o now p way.ts
@@ -91,7 +77,7 @@ few o now (Some a) asked way held = (
   elim (queue_one now a (sym held.0) way.ts way.gone way.queue) [
     | inl one ↦ inl one
     | inr n ↦
-        inr (not_true o (λ e. subst (Queue (Some a)) (way.exact e).1 n.1), n.0)
+        inr (false_from_ne_true o (λ e. subst (Queue (Some a)) (way.exact e).1 n.1), n.0)
   ],
 )
 
@@ -101,6 +87,6 @@ pub left_on : (w : World) (c : ℕ) (p : Option Ask) → OnWay (nat_eq (open_now
 left_on w c p way held = record {
   lines = way.ts;
   are_lines =
-      lines_are way.ts way.part (w.links c).asked way.bytes way.no_more (queue_texts p way.ts way.gone way.queue);
+      lines_are way.ts way.part (w.links c).asked way.bytes way.no_more (way_texts _ p (w.links c).asked way);
   at_most_this = few (nat_eq (open_now w.log) c) w.board p (w.links c).asked way held;
 }

@@ -17,10 +17,10 @@ use Rattle.fibs_history.proofs.Lists.{same_number, and_left, and_right}
 use Rattle.fibs_history.proofs.Past.{open_append}
 use Rattle.fibs_machine.proofs.wires.Ways.{OnWay, way_more}
 use Rattle.fibs_machine.proofs.wires.Boards.{waiting, boards, boards_more, whole_more, printed}
-use Rattle.fibs_machine.proofs.joint.Joint.{Logged, log_of, AllAre, Calm, Live, Held, Joint, current}
+use Rattle.fibs_machine.proofs.joint.Joint.{Logged, log_of, AllAre, Calm, Live, Held, Joint, current, current_with}
 use Rattle.fibs_history.proofs.Lists.{to_list}
 use Rattle.fibs_machine.proofs.joint.Joint.{at_other, same_log, joint_current, joint_rewired, joint_rewired_ahead}
-use Rattle.fibs_machine.proofs.joint.Joint.{joint_same}
+use Rattle.fibs_machine.proofs.joint.Joint.{ahead_with, joint_same}
 use Rattle.fibs_boards.specs.Board.{spelling}
 use Rattle.fibs_position.specs.GoodBoard.{good as is_good}
 
@@ -41,6 +41,30 @@ not_older x w c j h k =
 pub same_test : (c d : ℕ) → c ≡ d → nat_eq c d ≡ true
 same_test c d h = rw h (same_number d)
 
+-- the open connection is the one logged in, or newer
+pub which : (x : List Board) (w : World) (c : ℕ) → Joint x w → open_now w.log ≡ c → 0 < c
+    → (c ≡ w.logged_in) ⊎ (w.logged_in < c)
+which x w c j h some =
+    let le = not_older x w c j h some in
+    elim (eqb_tells c w.logged_in) [ inl e ↦ inl e.1 | inr n ↦ inr (let m = n.1 in omega arith) ]
+
+-- what is on the wire of the open connection to the server
+pub open_way : (x : List Board) (w : World) → Joint x w → 0 < open_now w.log
+    → (p : Option Ask) × OnWay true p (w.links (open_now w.log)).asked
+open_way x w j some = elim (which x w (open_now w.log) j refl some) [
+  | inl e ↦
+      let cur = current x w j (omega arith) in (
+        cur.p,
+        subst (λ c. OnWay true cur.p (w.links c).asked) (sym e)
+            (subst (λ o. OnWay o cur.p (w.links w.logged_in).asked) (same_test _ _ e) cur.way),
+      )
+  | inr lt ↦ (
+    None,
+    subst (λ o. OnWay o None (w.links (open_now w.log)).asked) (same_number (open_now w.log))
+        ((j.each (open_now w.log)).ahead lt).way,
+  )
+]
+
 -- what was handed out is not spoken of
 pub joint_handed : (x : List Board) (w : World) (c : ℕ) (ts : List (List ℕ))
     → Joint x (linked w c (more_asked (w.links c) (flat_map on_wire ts))) → Joint x (asks w c ts)
@@ -56,24 +80,17 @@ module _ (law : Lawful) where
   -- the client of the open connection hands out commands that are no decisions
   pub joint_asks : (x : List Board) (w : World) (c : ℕ) (ts : List (List ℕ)) → Joint x w → open_now w.log ≡ c → 0 < c
       → AllQuiet ts → Joint x (asks w c ts)
-  joint_asks x w c ts j h k q = elim (eqb_tells c w.logged_in) [ inl e ↦ at_current e.1 | inr n ↦ at_ahead n.1 ]
+  joint_asks x w c ts j h k q = elim (which x w c j h k) [ inl e ↦ at_current e | inr lt ↦ at_ahead lt ]
     where
-      at_ahead : (c ≡ w.logged_in → ⊥) → Joint x (asks w c ts)
-      at_ahead n =
-          let le = not_older x w c j h k in
-          let lt : w.logged_in < c = omega arith in
+      at_ahead : w.logged_in < c → Joint x (asks w c ts)
+      at_ahead lt =
           let a = (j.each c).ahead lt in
           let t : nat_eq (open_now w.log) c ≡ true = same_test _ _ h in
           joint_handed x w c ts (joint_rewired_ahead x w c (more_asked (w.links c) (flat_map on_wire ts)) j lt
-          (record {
-            silent = a.silent;
-            served = a.served;
-            heard = a.heard;
-            coming = a.coming;
-            way = subst (λ o. OnWay o None ((w.links c).asked ++ flat_map on_wire ts)) (sym t)
-                (way_more law None _ ts (subst (λ o. OnWay o None (w.links c).asked) t a.way) q);
-            asks = λ z. more_bytes (w.links c).asked (flat_map on_wire ts) (a.asks z);
-          })
+          (ahead_with a refl a.heard a.coming
+          (subst (λ o. OnWay o None ((w.links c).asked ++ flat_map on_wire ts)) (sym t)
+          (way_more law None _ ts (subst (λ o. OnWay o None (w.links c).asked) t a.way) q))
+          (λ z. more_bytes (w.links c).asked (flat_map on_wire ts) (a.asks z)))
           (λ z. let lo = j.low in
           elim j.who [ inl e ↦ absurd (omega arith) | inr e ↦ let e0 = e.0 in absurd (omega arith) ]))
 
@@ -84,15 +101,10 @@ module _ (law : Lawful) where
           let cur = current x w j some in
           let l : Link = more_asked (w.links w.logged_in) (flat_map on_wire ts) in
           rw e (joint_handed x w w.logged_in ts (joint_rewired x x w w.board l j some j.good
-          (record {
-            p = cur.p;
-            way = subst (λ o. OnWay o cur.p ((w.links w.logged_in).asked ++ flat_map on_wire ts)) (sym t)
-                (way_more law cur.p _ ts (subst (λ o. OnWay o cur.p (w.links w.logged_in).asked) t cur.way) q);
-            begun = cur.begun;
-            owed = cur.owed;
-            held = cur.held;
-            live = cur.live;
-          })
+          (current_with cur
+          (subst (λ o. OnWay o cur.p ((w.links w.logged_in).asked ++ flat_map on_wire ts)) (sym t)
+          (way_more law cur.p _ ts (subst (λ o. OnWay o cur.p (w.links w.logged_in).asked) t cur.way) q))
+          cur.begun cur.held cur.live)
           (λ o. (j.each w.logged_in).wire o some)))
 
 -- a number that is not 0 is above it
@@ -198,14 +210,7 @@ module _ (law : Lawful) where
           let cur = current [] w j some in
           joint_current [] [] w (record w { board = b }) j some refl refl refl
           (λ d m. record { log = refl; link = refl }) good
-          (record {
-            p = cur.p;
-            way = cur.way;
-            begun = cur.begun;
-            owed = cur.owed;
-            held = held cur.p cur.held;
-            live = λ o. absurd (true≢false (sym o ∙ f));
-          })
+          (current_with cur cur.way cur.begun (held cur.p cur.held) (λ o. absurd (true≢false (sym o ∙ f))))
           (j.each w.logged_in).moved (λ o. (j.each w.logged_in).wire o some)
 
       talking : nat_eq (open_now w.log) w.logged_in ≡ true → not (nat_eq w.logged_in 0) ≡ true
@@ -218,15 +223,8 @@ module _ (law : Lawful) where
           boards_more law (w.links w.logged_in).heard (w.links w.logged_in).coming t bs wire says in
           let cur = current [] w j some in
           joint_rewired [] [] w b l j some good
-          (record {
-            p = cur.p;
-            way = cur.way;
-            begun = cur.begun;
-            owed = cur.owed;
-            held = held cur.p cur.held;
-            live =
-                λ y. subst (λ ws. Live (log_of w w.logged_in) b ws cur.p) (sym more) (live _ _ cur.p (cur.live y));
-          })
+          (current_with cur cur.way cur.begun (held cur.p cur.held)
+          (λ y. subst (λ ws. Live (log_of w w.logged_in) b ws cur.p) (sym more) (live _ _ cur.p (cur.live y))))
           (λ o. whole_more law (w.links w.logged_in).heard (w.links w.logged_in).coming t wire)
 
   -- the server's board becomes b, and is sent

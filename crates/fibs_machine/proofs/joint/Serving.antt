@@ -11,8 +11,8 @@ use Rattle.fibs_history.specs.Log as L
 use Rattle.fibs_history.specs.Machine.{on_wire}
 use Rattle.fibs_history.specs.Words.{Ask, one_if, is_empty}
 use Rattle.fibs_machine.specs.Acts.{Act, Shows, Says, Serves, sending, acts_of, acts_at_line, acts_on, acts_from}
-use Rattle.fibs_machine.specs.Events.{Event, Open, Click, Plain, Deliver, Lose, Serve}
-use Rattle.fibs_machine.specs.Events.{Own, Repeat, Text, Order, Withdraw}
+use Rattle.fibs_machine.specs.Events.{Event, Serve}
+use Rattle.fibs_machine.specs.Events.{Own, Repeat, Text}
 use Rattle.fibs_machine.specs.Joint.{served_by, served_at, decisions_of}
 use Rattle.fibs_machine.specs.Joint as S
 use Rattle.fibs_machine.specs.Runs.{after_all}
@@ -21,7 +21,9 @@ use Rattle.fibs_machine.specs.Server as V
 use Rattle.fibs_machine.specs.Wires.{Link, taken, next_line}
 use Rattle.fibs_machine.specs.World.{World, after, noted, linked, is_talking, does_served, serves}
 use Rattle.fibs_machine.proofs.Answering.{answered_at as answered}
-use Rattle.fibs_machine.proofs.Steps.{NoAnswers, Adds, Fits, fits, sends_log, adds}
+use Rattle.fibs_machine.proofs.ClientActs.{NoAnswers}
+use Rattle.fibs_machine.proofs.ServerActs.{sends_log}
+use Rattle.fibs_machine.proofs.Steps.{Adds, Fits, fits, adds}
 use Rattle.fibs_machine.proofs.joint.Sending.{if_fact}
 use Rattle.fibs_history.proofs.Lists.{same_number, other_number}
 
@@ -112,11 +114,6 @@ notes_line c w conn d1 d2 (Some p) =
 
 -- at each event
 notes : (c : ℕ) (login : List ℕ) (w : World) (e : Event) → Notes c w (after login w e) (acts_on w e c)
-notes c login w Open = notes_none c w _ [] (adds login w Open tt) refl
-notes c login w (Click d) = notes_none c w _ [] (adds login w (Click d) tt) refl
-notes c login w (Plain p) = notes_none c w _ [] (adds login w (Plain p) tt) refl
-notes c login w (Deliver n) = notes_none c w _ [] (adds login w (Deliver n) tt) refl
-notes c login w (Lose k) = notes_none c w _ [] (adds login w (Lose k) tt) refl
 notes c login w (Serve conn d1 d2) = notes_line c w conn d1 d2 (next_line (w.links conn).asked)
 notes c login w (Own b) = (
   [],
@@ -126,8 +123,7 @@ notes c login w (Own b) = (
 notes c login w Repeat =
     notes_none c w _ (sending w (Shows w.board)) (adds login w Repeat tt) (no_shows w w.board)
 notes c login w (Text t) = notes_none c w _ (sending w (Says t)) (adds login w (Text t) tt) (no_says w t)
-notes c login w Order = notes_none c w _ [] (adds login w Order tt) refl
-notes c login w Withdraw = notes_none c w _ [] (adds login w Withdraw tt) refl
+notes c login w e = notes_none c w _ [] (adds login w e tt) refl
 
 -- over a list of events
 pub serves_all : (c : ℕ) (login : List ℕ) (es : List Event) (w : World)

@@ -6,18 +6,16 @@ use Rattle.std.proofs.lemmas.Bool.{cases_lt, eqb-true}
 use Rattle.std.proofs.lemmas.Bool.Decides.{eqb_tells}
 use Rattle.fibs_boards.specs.Board.{BoardFields as Board, spelling}
 use Rattle.fibs_position.specs.DecisionValue.{DecisionValue as Decision}
-use Rattle.fibs_position.specs.GamePart.{same_game}
 use Rattle.fibs_position.specs.GoodBoard.{good as is_good}
 use Rattle.fibs_history.specs.Log.{Entry, Took, Undone, Lost}
 use Rattle.fibs_history.specs.Log as L
-use Rattle.fibs_history.specs.Allows.{allows}
-use Rattle.fibs_history.specs.Machine.{gained, on_wire, plain_refusal, order_refusal, withdraw_refusal}
-use Rattle.fibs_history.specs.Words.{Ask, is_empty, one_if, open_now, answer, sent, took}
+use Rattle.fibs_history.specs.Machine.{on_wire}
+use Rattle.fibs_history.specs.Words.{Ask, is_empty, one_if, open_now, sent, took}
 use Rattle.fibs_machine.specs.Acts.{Act, Shows, Says, Serves, put_by, sending}
 use Rattle.fibs_machine.specs.Acts.{acts_of, acts_at_line, acts_on, acts_from}
 use Rattle.fibs_machine.specs.declared.refusal.WorldRefusal.TheVariants.{AlreadyOpen, NotOpen}
-use Rattle.fibs_machine.specs.Events.{Event, Open, Click, Plain, Deliver, Lose, Serve}
-use Rattle.fibs_machine.specs.Events.{Own, Repeat, Text, Order, Withdraw}
+use Rattle.fibs_machine.specs.Events.{Event, Open, Deliver, Lose, Serve}
+use Rattle.fibs_machine.specs.Events.{Own, Repeat, Text}
 use Rattle.fibs_machine.specs.Headline.{NoneUndone}
 use Rattle.fibs_machine.specs.Joint.{Carried, Steady, served_at, decisions_of, at_most_one, Left, LastUnserved}
 use Rattle.fibs_machine.specs.Joint as S
@@ -26,32 +24,23 @@ use Rattle.fibs_machine.specs.Runs.{AllAccepted, after_all}
 use Rattle.fibs_machine.specs.Server.{Served, Stale, LoggedIn, user_decides}
 use Rattle.fibs_machine.specs.Server as V
 use Rattle.fibs_machine.specs.Wires.{Link, taken}
-use Rattle.fibs_machine.specs.World.{World, start, after, noted, linked, sends, does_served, serves, talk_of}
+use Rattle.fibs_machine.specs.World.{World, start, after, noted, linked, sends, does_served, serves}
 use Rattle.fibs_machine.proofs.Answering.{answered_at as answered}
+use Rattle.fibs_machine.proofs.ClientActs.{does, does_hands, given, there_both}
 use Rattle.fibs_machine.proofs.Lawful.{Lawful, IsQuiet}
 use Rattle.fibs_machine.proofs.Final.{kept, told_start}
 use Rattle.fibs_history.proofs.Lists.{other_number}
 use Rattle.fibs_history.proofs.Past.{open_append}
-use Rattle.fibs_machine.proofs.joint.Acting.{Kept, only, only_none, kept_is, kept_quiet, kept_alike, kept_sends}
+use Rattle.fibs_machine.proofs.joint.Acting.{Kept, only, only_none, kept_is, kept_quiet, kept_does, kept_sends}
 use Rattle.fibs_machine.proofs.joint.Acting.{kept_serves, kept_login}
-use Rattle.fibs_machine.proofs.joint.Carrying.{alike_linked, alike_asks, alike_hears_all, alike_clicks, alike_plain}
-use Rattle.fibs_machine.proofs.joint.Carrying.{alike_unless}
 use Rattle.fibs_machine.proofs.joint.Carrying.{carried_is, carried_delivered, carried_lost, carried_none}
-use Rattle.fibs_machine.proofs.joint.EachEvent.{served, joint_after, joint_start, not_refused, is_open}
-use Rattle.fibs_machine.proofs.joint.Joint.{Joint, current, linked_same, linked_other}
+use Rattle.fibs_machine.proofs.joint.EachEvent.{served, over_events, joint_start, not_refused, is_open}
+use Rattle.fibs_machine.proofs.joint.Joint.{Joint, current, linked_each, linked_keeps}
 use Rattle.fibs_history.proofs.Lists.{to_list}
 use Rattle.fibs_machine.proofs.joint.Sending.{same_test}
 use Rattle.fibs_machine.proofs.joint.Left.{left_on}
 use Rattle.fibs_machine.proofs.joint.Serving.{serves_all}
 use Rattle.fibs_machine.proofs.joint.Steady.{steady_rest, steady_becomes, steady_shows, steady_says}
-
--- two parts of the acts on a connection
-only_both : (c n : ℕ) (xs ys : List Act) → only c n (xs ++ ys) ≡ only c n xs ++ only c n ys
-only_both c n xs ys = go (nat_eq c n)
-  where
-    go : (z : Bool) → (if z then xs ++ ys else []) ≡ (if z then xs else []) ++ (if z then ys else [])
-    go true = refl
-    go false = refl
 
 -- an act is sent alike in worlds that have the same connection open
 sending_alike : (w w' : World) (a : Act) → w'.logged_in ≡ w.logged_in → open_now w'.log ≡ open_now w.log
@@ -79,7 +68,7 @@ kept_decision acts w b d e o k =
     (λ c. acts c ++ only c w.logged_in (Serves d ∷ sending w (Shows b))) (sends w' (spelling b))
     (λ c.
     ap (λ l. acts c ++ only c w.logged_in (Serves d ∷ l)) (sym (sending_alike w w' (Shows b) refl o))
-    ∙ ap (λ l. acts c ++ l) (only_both c w.logged_in (Serves d ∷ []) (sending w' (Shows b)))
+    ∙ ap (λ l. acts c ++ l) (there_both (nat_eq c w.logged_in) (Serves d ∷ []) (sending w' (Shows b)))
     ∙ sym (append_assoc (acts c) (only c w.logged_in (Serves d ∷ [])) (only c w.logged_in (sending w' (Shows b)))))
     (kept_sends first w' b (Shows b) (spelling b) refl k.now (steady_shows b (first w.logged_in) k.now) k)
 
@@ -104,18 +93,17 @@ kept_served acts c w V.Answered low k =
     (steady_shows w.board (acts w.logged_in) k.now) k
 
 -- a connection that isn't the one that was open, nor the one that is
-other_connection : (put : List ℕ) (n m c : ℕ) (l l' : Link) → (c ≡ n → ⊥) → (c ≡ m → ⊥) → l' ≡ l
-    → Carried put (nat_eq n c) l → Carried put (nat_eq m c) l'
-other_connection put n m c l l' h k e =
-    carried_is put put (nat_eq n c) (nat_eq m c) l l' refl
-    (other_number m c (λ e. k (sym e)) ∙ sym (other_number n c (λ e. h (sym e))))
-    (ap (λ (x : Link). x.heard) e) (ap (λ (x : Link). x.coming) e)
+other_connection : (put : List ℕ) (n m c : ℕ) (l : Link) → (c ≡ n → ⊥) → (c ≡ m → ⊥)
+    → Carried put (nat_eq n c) l → Carried put (nat_eq m c) l
+other_connection put n m c l h k =
+    carried_is put put (nat_eq n c) (nat_eq m c) l l refl
+    (other_number m c (λ e. k (sym e)) ∙ sym (other_number n c (λ e. h (sym e)))) refl refl
 
 -- a connection is opened
 kept_opened : (acts : ℕ → List Act) (login : List ℕ) (w : World) → Joint [] w → open_now w.log ≡ 0 → Kept acts w
     → Kept acts (after login w Open)
 kept_opened acts login w j closed k =
-    kept_alike acts w' (after login w Open) (alike_asks w' (w.count + 1) (login ∷ []))
+    kept_does acts [] w' (after login w Open) (does_hands w' (w.count + 1) (login ∷ []) here)
     (kept_quiet acts w w' refl refl (λ c some. elim (eqb_tells c (w.count + 1)) [
       | inl e ↦ new c e.1
       | inr n ↦ old c some n.1
@@ -137,35 +125,32 @@ kept_opened acts login w j closed k =
 
     old : (c : ℕ) → 0 < c → (c ≡ w.count + 1 → ⊥) → Carried (put_by (acts c)) (nat_eq (open_now w'.log) c) (w.links c)
     old c some n =
-        other_connection (put_by (acts c)) (open_now w.log) (open_now w'.log) c (w.links c) (w.links c)
-        (λ e. absurd (omega arith)) (λ e. n (e ∙ here)) refl (k.carried c some)
+        other_connection (put_by (acts c)) (open_now w.log) (open_now w'.log) c (w.links c)
+        (λ e. absurd (omega arith)) (λ e. n (e ∙ here)) (k.carried c some)
 
 -- bytes are delivered
 kept_delivered : (acts : ℕ → List Act) (w : World) (n : ℕ) (l : Link) → 0 < open_now w.log
     → l.heard ≡ (w.links (open_now w.log)).heard ++ take n (w.links (open_now w.log)).coming
     → l.coming ≡ drop n (w.links (open_now w.log)).coming → Kept acts w → Kept acts (linked w (open_now w.log) l)
-kept_delivered acts w n l some heard coming k = kept_quiet acts w w' refl refl carried k
-  where
-    o : ℕ
-    o = open_now w.log
-
-    w' : World
-    w' = linked w o l
-
-    carried : (c : ℕ) → 0 < c → Carried (put_by (acts c)) (nat_eq o c) (w'.links c)
-    carried c some = elim (eqb_tells c o) [
-      | inl e ↦ subst (λ d. Carried (put_by (acts d)) (nat_eq o d) (w'.links d)) (sym e.1)
-          (subst (Carried (put_by (acts o)) (nat_eq o o)) (sym (linked_same w o l))
-          (carried_delivered (put_by (acts o)) (nat_eq o o) (w.links o) l n (same_test o o refl) heard coming
-          (k.carried o (subst (λ d. 0 < d) e.1 some))))
-      | inr m ↦ subst (Carried (put_by (acts c)) (nat_eq o c)) (sym (linked_other w o c l m.1)) (k.carried c some)
-    ]
+kept_delivered acts w n l some heard coming k =
+    let o : ℕ = open_now w.log in
+    kept_quiet acts w (linked w o l) refl refl
+    (linked_each (λ c x. 0 < c → Carried (put_by (acts c)) (nat_eq o c) x) w o l
+    (λ s. carried_delivered (put_by (acts o)) (nat_eq o o) (w.links o) l n (same_test o o refl) heard coming
+    (k.carried o s)) (λ c m s. k.carried c s)) k
 
 -- the connection is lost
 kept_lost : (acts : ℕ → List Act) (w : World) (l : Link) (e : Option Ask) → 0 < open_now w.log
     → l.heard ≡ (w.links (open_now w.log)).heard → l.coming ≡ [] → Kept acts w
     → Kept acts (noted (linked w (open_now w.log) l) (Lost (open_now w.log) e ∷ []))
-kept_lost acts w l e some h none k = kept_quiet acts w w' refl refl carried k
+kept_lost acts w l e some h none k =
+    kept_quiet acts w w' refl refl
+    (linked_each (λ c x. 0 < c → Carried (put_by (acts c)) (nat_eq (open_now w'.log) c) x) w o l
+    (λ s. carried_is (put_by (acts o)) (put_by (acts o)) false (nat_eq (open_now w'.log) o) l l refl
+    (other_number (open_now w'.log) o (λ e. let zero_is : 0 ≡ o = sym closed ∙ e in absurd (omega arith))) refl refl
+    (carried_lost (put_by (acts o)) (nat_eq o o) (w.links o) l (same_test o o refl) h none (k.carried o s)))
+    (λ c m s. other_connection (put_by (acts c)) o (open_now w'.log) c (w.links c) m
+    (λ e. let zero_is : c ≡ 0 = e ∙ closed in absurd (omega arith)) (k.carried c s))) k
   where
     o : ℕ
     o = open_now w.log
@@ -176,19 +161,6 @@ kept_lost acts w l e some h none k = kept_quiet acts w w' refl refl carried k
     closed : open_now w'.log ≡ 0
     closed = open_append 0 w.log (Lost o e ∷ [])
 
-    carried : (c : ℕ) → 0 < c → Carried (put_by (acts c)) (nat_eq (open_now w'.log) c) (w'.links c)
-    carried c some = elim (eqb_tells c o) [
-      | inl is ↦ subst (λ d. Carried (put_by (acts d)) (nat_eq (open_now w'.log) d) (w'.links d)) (sym is.1)
-          (let here : w'.links o ≡ l = linked_same w o l in
-          let some' : 0 < o = subst (λ d. 0 < d) is.1 some in
-          carried_is (put_by (acts o)) (put_by (acts o)) false (nat_eq (open_now w'.log) o) l (w'.links o) refl
-          (other_number (open_now w'.log) o (λ e. let zero_is : 0 ≡ o = sym closed ∙ e in absurd (omega arith)))
-          (ap (λ (x : Link). x.heard) here) (ap (λ (x : Link). x.coming) here)
-          (carried_lost (put_by (acts o)) (nat_eq o o) (w.links o) l (same_test o o refl) h none (k.carried o some')))
-      | inr m ↦ other_connection (put_by (acts c)) o (open_now w'.log) c (w.links c) (w'.links c) m.1
-          (λ e. let zero_is : c ≡ 0 = e ∙ closed in absurd (omega arith)) (linked_other w o c l m.1) (k.carried c some)
-    ]
-
 -- the server takes a line
 kept_line : (acts : ℕ → List Act) (w : World) (c d1 d2 : ℕ) (line : List ℕ × List ℕ) → w.logged_in ≤ c → Kept acts w
     → Kept (λ d. acts d ++ only d w.logged_in
@@ -197,7 +169,9 @@ kept_line : (acts : ℕ → List Act) (w : World) (c d1 d2 : ℕ) (line : List �
 kept_line acts w c d1 d2 line low k =
     let l : Link = taken (w.links c) (on_wire line.0) line.1 in
     kept_served acts c (linked w c l) (answered w.board w.logged_in c (is_empty (w.links c).served) line.0 d1 d2) low
-    (kept_alike acts w (linked w c l) (alike_linked w c l refl refl) k)
+    (kept_quiet acts w (linked w c l) refl refl
+    (λ d some. carried_is _ _ _ _ _ _ refl refl (linked_keeps (λ (x : Link). x.heard) w c l refl d)
+    (linked_keeps (λ (x : Link). x.coming) w c l refl d) (k.carried d some)) k)
 
 -- each event keeps what is said of the server's acts
 kept_after : (acts : ℕ → List Act) (login : List ℕ) (w : World) (e : Event) → Joint [] w → refusal w e ≡ None
@@ -209,14 +183,9 @@ kept_after acts login w Open j h k =
     closed : (z : Bool) → (if z then None else Some AlreadyOpen) ≡ None → z ≡ true
     closed true h = refl
     closed false h = cc
-kept_after acts login w (Click d) j h k =
-    kept_no_acts acts w _ (kept_alike acts w _ (alike_clicks (open_now w.log) w d (answer same_game allows w.log d)) k)
-kept_after acts login w (Plain p) j h k =
-    kept_no_acts acts w _ (kept_alike acts w _ (alike_plain w p (plain_refusal (talk_of login w) p)) k)
 kept_after acts login w (Deliver n) j h k =
-    let l : Link = w.links (open_now w.log) in
     kept_no_acts acts w _
-    (kept_alike acts _ _ (alike_hears_all (open_now w.log) _ (gained l.heard (take n l.coming)))
+    (kept_does acts _ (given w (Deliver n)) _ (does login w (Deliver n) tt)
     (kept_delivered acts w n _ (is_open NotOpen _ h) refl refl k))
 kept_after acts login w (Lose n) j h k =
     kept_no_acts acts w _ (kept_lost acts w _ _ (is_open NotOpen _ h) refl refl k)
@@ -234,12 +203,7 @@ kept_after acts login w Repeat j h k =
     (steady_shows w.board (acts w.logged_in) k.now) k
 kept_after acts login w (Text t) j h k =
     kept_sends acts w w.board (Says t) t refl k.now (steady_says w.board t (acts w.logged_in) k.now) k
-kept_after acts login w Order j h k =
-    kept_no_acts acts w _
-    (kept_alike acts w _ (alike_unless w (L.Ordered (open_now w.log)) (order_refusal w.log) refl) k)
-kept_after acts login w Withdraw j h k =
-    kept_no_acts acts w _
-    (kept_alike acts w _ (alike_unless w (L.Withdrawn (open_now w.log)) (withdraw_refusal w.log) refl) k)
+kept_after acts login w e j h k = kept_no_acts acts w _ (kept_does acts [] w _ (does login w e tt) k)
 
 -- at first nothing was done
 kept_start : (b : Board) → Kept (λ c. []) (start b)
@@ -322,26 +286,14 @@ steady_on acts w c k = elim (eqb_tells c w.logged_in) [
 ]
 
 module _ (law : Lawful) where
-  -- over a list of events
-  kept_all : (acts : ℕ → List Act) (login : List ℕ) → IsQuiet login → (es : List Event) (w : World)
-      → AllAccepted login w es
-      → Joint [] w → Kept acts w → Kept (λ c. acts c ++ acts_from login w es c) (after_all login w es)
-  kept_all acts login quiet [] w a j k = kept_is acts (λ c. acts c ++ []) w (λ c. append-nil (acts c)) k
-  kept_all acts login quiet (e ∷ es) w a j k =
-      let w' : World = after login w e in
-      let first : ℕ → List Act = λ c. acts c ++ acts_on w e c in
-      kept_is (λ c. first c ++ acts_from login w' es c) (λ c. acts c ++ acts_from login w (e ∷ es) c)
-      (after_all login w' es)
-      (λ c. sym (append_assoc (acts c) (acts_on w e c) (acts_from login w' es c)))
-      (kept_all first login quiet es w' a.1 (joint_after law login quiet w e j a.0) (kept_after acts login w e j a.0 k))
-
   -- the joint statement, after every list of events
   pub joint_holds : (login : List ℕ) → IsQuiet login → (b : Board) (es : List Event) → is_good b ≡ true
       → AllAccepted login (start b) es → S.Joint (acts_from login (start b) es) (after_all login (start b) es)
   joint_holds login quiet b es good a =
       let w : World = after_all login (start b) es in
       let both = kept law login quiet es (start b) a (joint_start law b good) (told_start law b) in
-      let k = kept_all (λ c. []) login quiet es (start b) a (joint_start law b good) (kept_start b) in
+      let k = over_events law Kept kept_is login quiet (λ acts w e j h k. kept_after acts login w e j h k) (λ c. []) es
+      (start b) a (joint_start law b good) (kept_start b) in
       record {
         carried = k.carried;
         steady = λ c. steady_on (acts_from login (start b) es) w c k;

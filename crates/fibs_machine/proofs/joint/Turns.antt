@@ -2,8 +2,8 @@
 use Rattle.std.proofs.Common.{◌≡◌, ℕ, ◌+◌, ◌<◌, ◌≤◌, Bool, true, false, not, ◌&&◌, List, [], ◌∷◌, ◌++◌, Option, Some}
 use Rattle.std.proofs.Common.{None, nat_eq, flat_map, refl, sym, ◌∙◌, ap, subst, inl, inr, ◌⊎◌, append-nil}
 use Rattle.std.proofs.Common.{true≢false, arith}
-use Rattle.std.proofs.lemmas.Bool.Decides.{eqb_tells, nat_tests}
-use Rattle.std.proofs.lemmas.Bool.{eqb-true}
+use Rattle.std.proofs.lemmas.Bool.Decides.{eqb_tells}
+use Rattle.std.proofs.lemmas.Bool.{eqb-true, le-ltb}
 use Rattle.fibs_boards.specs.Board.{BoardFields as Board}
 use Rattle.fibs_history.specs.Log.{Entry}
 use Rattle.fibs_history.specs.Log.{Opened, LoggedIn, Took, Lost}
@@ -16,7 +16,7 @@ use Rattle.fibs_machine.specs.World.{World, noted, linked, asks, sends, is_talki
 use Rattle.fibs_machine.proofs.Answering.{takes_line, obeys, carries_out}
 use Rattle.fibs_machine.proofs.Lawful.{Lawful, IsQuiet}
 use Rattle.fibs_history.specs.Machine.{on_wire, gained}
-use Rattle.std.specs.Prelude.{nat_lt, if◌then◌else◌}
+use Rattle.std.specs.Prelude.{if◌then◌else◌}
 use Rattle.fibs_history.proofs.Lists.{same_number, other_number, and_both, one_of_false, one_of_true, map_no_more}
 use Rattle.fibs_history.proofs.Lists.{map_more}
 use Rattle.fibs_history.proofs.Past.{open_append, spent_quiet}
@@ -24,8 +24,8 @@ use Rattle.fibs_machine.proofs.wires.Ways.{OnWay, way_none, way_more, way_lost, 
 use Rattle.fibs_machine.proofs.wires.Boards.{Whole, waiting, boards, gained_none, boards_more, whole_more}
 use Rattle.fibs_machine.proofs.wires.Boards.{printed}
 use Rattle.fibs_machine.proofs.joint.Joint.{Logged, log_of, AllAre, Calm, Live, Held, Current, Ahead, At, Joint}
-use Rattle.fibs_machine.proofs.joint.Joint.{current, same_log, linked_same, linked_other, at_by, at_current, at_ahead}
-use Rattle.fibs_machine.proofs.joint.Joint.{each_of, joint_current, joint_rewired}
+use Rattle.fibs_machine.proofs.joint.Joint.{current, current_with, same_log, linked_same, linked_other, at_by}
+use Rattle.fibs_machine.proofs.joint.Joint.{ahead_with, at_ahead, at_current, each_of, joint_current, joint_rewired}
 use Rattle.fibs_history.proofs.Lists.{to_list}
 use Rattle.fibs_machine.proofs.joint.Sending.{joint_board, same_test, if_fact, not_left, with_line}
 use Rattle.fibs_boards.specs.Board.{spelling}
@@ -36,10 +36,6 @@ use Rattle.fibs_position.specs.GoodBoard.{good as is_good}
 -- a connection is not 0
 no_number : (d : ℕ) → 0 < d → nat_eq 0 d ≡ false
 no_number d h = other_number 0 d (λ e. absurd (omega arith))
-
--- a greater number is not less
-not_below : (c d : ℕ) → d < c → nat_lt c d ≡ false
-not_below c d h = grind (arith, nat_tests)
 
 -- bytes that a line was added to
 not_empty : (xs t : List ℕ) → is_empty (xs ++ on_wire t) ≡ false
@@ -55,27 +51,13 @@ module _ (law : Lawful) where
   -- what is said of a newer connection holds after its loss
   ahead_lost : (o : Bool) (v : Logged) (l : Link) → Ahead o v l → Ahead false v l
   ahead_lost o v l a =
-      record {
-        silent = a.silent;
-        served = a.served;
-        heard = a.heard;
-        coming = a.coming;
-        way = way_lost law o None l.asked a.way;
-        asks = λ z. absurd (true≢false (sym z));
-      }
+      ahead_with a refl a.heard a.coming (way_lost law o None l.asked a.way) (λ z. absurd (true≢false (sym z)))
 
   -- what is said of the connection logged in holds after its loss, but for the boards on their way
   current_lost : (o : Bool) (v : Logged) (l : Link) (now : Board) (ws ws' : List Board) → Current o v l now ws
       → Current false v l now ws'
   current_lost o v l now ws ws' c =
-      record {
-        p = c.p;
-        way = way_lost law o c.p l.asked c.way;
-        begun = c.begun;
-        owed = c.owed;
-        held = c.held;
-        live = λ h. absurd (true≢false (sym h));
-      }
+      current_with c (way_lost law o c.p l.asked c.way) c.begun c.held (λ h. absurd (true≢false (sym h)))
 
   -- what holds of a connection holds of it if another one is open, or none, and more are counted
   at_closed : (x x' : List Board) (now : Board) (user count count' here here' c : ℕ) (v : Logged) (l : Link)
@@ -97,24 +79,15 @@ module _ (law : Lawful) where
       let t : nat_eq c c ≡ true = same_number c in
       let shut : nat_eq 0 c ≡ false = no_number c some in
       record {
-        ahead = λ h. let b = a.ahead h in rw shut (record {
-          silent = b.silent;
-          served = b.served;
-          heard = b.heard;
-          coming = refl;
-          way = way_lose law None l.asked k (subst (λ o. OnWay o None l.asked) t b.way);
-          asks = λ z. absurd (true≢false (sym z));
-        });
+        ahead = λ h. let b = a.ahead h in
+            rw shut (ahead_with b refl b.heard refl
+            (way_lose law None l.asked k (subst (λ o. OnWay o None l.asked) t b.way))
+            (λ z. absurd (true≢false (sym z))));
         unopened = λ h. absurd (omega arith);
         settled = a.settled;
-        current = λ z e. let cur = a.current z e in rw shut (record {
-          p = cur.p;
-          way = way_lose law cur.p l.asked k (subst (λ o. OnWay o cur.p l.asked) t cur.way);
-          begun = cur.begun;
-          owed = cur.owed;
-          held = cur.held;
-          live = λ z. absurd (true≢false (sym z));
-        });
+        current = λ z e. let cur = a.current z e in
+            rw shut (current_with cur (way_lose law cur.p l.asked k (subst (λ o. OnWay o cur.p l.asked) t cur.way))
+            cur.begun cur.held (λ z. absurd (true≢false (sym z))));
         moved = a.moved;
         wire = λ e z. absurd (omega arith);
       }
@@ -166,14 +139,9 @@ module _ (law : Lawful) where
       let un = (j.each (w.count + 1)).unopened (omega arith) in
       let t : nat_eq (w.count + 1) (w.count + 1) ≡ true = same_number (w.count + 1) in
       let first : Ahead (nat_eq (w.count + 1) (w.count + 1)) (log_of w (w.count + 1)) l' =
-      record {
-        silent = a.silent;
-        served = a.served;
-        heard = a.heard;
-        coming = a.coming;
-        way = rw t (rw un (way_more law None [] (login ∷ []) (way_none law true) (quiet, tt)));
-        asks = λ z. rw un (ap is_empty (append-nil (on_wire login)) ∙ not_empty [] login);
-      } in
+      ahead_with a refl a.heard a.coming
+      (rw t (rw un (way_more law None [] (login ∷ []) (way_none law true) (quiet, tt))))
+      (λ z. rw un (ap is_empty (append-nil (on_wire login)) ∙ not_empty [] login)) in
       record {
         good = j.good;
         low = omega arith;
@@ -256,14 +224,7 @@ module _ (law : Lawful) where
       → Joint [] (linked w w.logged_in (taken (w.links w.logged_in) (on_wire t) rest))
   joint_taken w t rest j some cur way =
       joint_rewired [] [] w w.board (taken (w.links w.logged_in) (on_wire t) rest) j some j.good
-      (record {
-        p = cur.p;
-        way = way;
-        begun = not_empty (w.links w.logged_in).served t;
-        owed = cur.owed;
-        held = cur.held;
-        live = cur.live;
-      })
+      (current_with cur way (not_empty (w.links w.logged_in).served t) cur.held cur.live)
       (λ o. (j.each w.logged_in).wire o some)
 
   -- boards that are all this one are alike it
@@ -400,7 +361,7 @@ module _ (law : Lawful) where
           (subst
           (λ s. Joint [] (does_served c (linked w c (taken (w.links c) (on_wire t) rest))
           (if s then Stale else LoggedInNow)))
-          (sym (not_below c w.logged_in lt)) (joint_login w c t rest j some few lt next))
+          (sym (le-ltb c w.logged_in (omega arith))) (joint_login w c t rest j some few lt next))
 
       at_current : 0 < w.logged_in → next_line (w.links w.logged_in).asked ≡ Some (t, rest)
           → Joint []

@@ -1,6 +1,7 @@
 -- Each decision sent comes directly after what calls for it, and what calls for one is directly followed by it.
 use Rattle.std.proofs.Common.{◌≡◌, ℕ, Bool, true, false, List, [], ◌∷◌, ◌++◌, Option, Some, None, nat_eq, refl}
 use Rattle.std.proofs.Common.{sym, ◌∙◌, ap, subst, append-nil, append_assoc}
+use Rattle.std.proofs.lemmas.Option.{same_Some}
 use Rattle.fibs_boards.specs.Board.{BoardFields as Board}
 use Rattle.fibs_position.specs.DecisionValue.{DecisionValue as Decision, roll}
 use Rattle.fibs_history.specs.Log.{Entry, Shown, Clicked, Sent}
@@ -58,15 +59,11 @@ called_last : (before : List Entry) (e : Entry) (owed : Option Call) → calls_f
 called_last before e None h = tt
 called_last before e (Some call) h = (before, e, refl, h)
 
--- one call that is there is one call
-one_call : (x y : Call) → Some x ≡ Some y → x ≡ y
-one_call x y h = cc
-
 -- a board that calls for a decision is one at which an order is due, and calls for a roll
 order_calls : (c c' : ℕ) (d : Decision) (due : Bool) → roll_if c' due ≡ Some (c, d)
     → (due ≡ true) × (c' ≡ c) × (roll ≡ d)
 order_calls c c' d true h =
-    let same = one_call (c', roll) (c, d) h in (refl, ap (λ (x : Call). x.0) same, ap (λ (x : Call). x.1) same)
+    let same = same_Some (c', roll) (c, d) h in (refl, ap (λ (x : Call). x.0) same, ap (λ (x : Call). x.1) same)
 order_calls c c' d false h = absurd cc
 
 -- if the board of an entry is the last one shown on its connection, and is shown on the open one
@@ -78,7 +75,7 @@ IsShown c b before e = Unit {0}
 answers : (c : ℕ) (b : Board) (d : Decision) (before : List Entry) (e : Entry) → calls_for before e ≡ Some (c, d)
     → IsShown c b before e → Answers c b (before ++ e ∷ []) d
 answers c b d before (Clicked c' d' None) h is =
-    subst (λ (x : Call). Answers c b (before ++ Clicked x.0 x.1 None ∷ []) d) (sym (one_call (c', d') (c, d) h))
+    subst (λ (x : Call). Answers c b (before ++ Clicked x.0 x.1 None ∷ []) d) (sym (same_Some (c', d') (c, d) h))
     (its_click before d)
 answers c b d before (Shown c' b') h is =
     let due = order_calls c c' d (is_due c' (before ++ Shown c' b' ∷ []) b') h in
@@ -96,7 +93,7 @@ answers c b d before e h is = absurd cc
 -- the entry sends this decision
 sends : (c : ℕ) (d : Decision) (e : Entry) (later : List Entry) → sent_in e ≡ Some (c, d) → SentNext c d (e ∷ later)
 sends c d (Sent c' b d') later h =
-    (b, later, ap (λ (x : Call). Sent x.0 b x.1 ∷ later) (one_call (c', d') (c, d) h))
+    (b, later, ap (λ (x : Call). Sent x.0 b x.1 ∷ later) (same_Some (c', d') (c, d) h))
 sends c d e later h = absurd cc
 
 -- what is owed is sent next
@@ -104,10 +101,6 @@ next_sends : (c : ℕ) (d : Decision) (before later : List Entry) → Called (So
     → SentNext c d later
 next_sends c d before [] h = absurd cc
 next_sends c d before (e ∷ later) h = sends c d e later h.0
-
--- one board is one
-one_board : (x y : Board) → Some x ≡ Some y → x ≡ y
-one_board x y h = cc
 
 -- each board is shown on the open connection
 abbrev pub AllShownHere : List Entry → Type 0
@@ -122,7 +115,7 @@ own_of log h here on before later c b d is = go None [] before refl tt (subst (C
     is_shown first (Shown c' b') p = (
       here first (Sent c b d ∷ later) c' b'
           (is ∙ ap (λ l. l ++ Sent c b d ∷ later) p ∙ append_assoc first (Shown c' b' ∷ []) (Sent c b d ∷ later)),
-      λ q. one_board b' b
+      λ q. same_Some b' b
           (sym (ap last (map_more (shown_by c) first (Shown c' b' ∷ []) (b' ∷ [])
           (ap (λ l. l ++ []) (one_of_true (nat_eq c' c) b' (subst (λ x. nat_eq c' x ≡ true) q (same_number c')))))
           ∙ last_snoc (shown c first) b')

@@ -1,5 +1,6 @@
 -- What is so if a standing order is due at a board just shown.
 use Rattle.std.proofs.Common.{◌≡◌, ℕ, true, false, List, [], ◌∷◌, ◌++◌, Some, None, sym, ◌∙◌, ap, subst}
+use Rattle.std.proofs.lemmas.Option.{same_Some}
 use Rattle.fibs_boards.specs.Board.{BoardFields as Board}
 use Rattle.fibs_position.specs.DecisionValue.{roll}
 use Rattle.fibs_position.specs.GamePart.{same_game}
@@ -19,10 +20,6 @@ pub record Rolls (c : ℕ) (log : List Entry) (b : Board) : Type 0 where
   pub is_last : last (shown c (log ++ Shown c b ∷ [])) ≡ Some b
   pub allowed : allows b roll ≡ None
 
--- one board is one
-one_board : (x y : Board) → Some x ≡ Some y → x ≡ y
-one_board x y h = cc
-
 -- at a board at which an order is due nothing was sent in its stretch, and it allows a roll
 pub due_rolls : Lawful → (c : ℕ) (log : List Entry) (b : Board) → open_now log ≡ c
     → is_due c (log ++ Shown c b ∷ []) b ≡ true → Rolls c log b
@@ -33,7 +30,7 @@ due_rolls law c log b here due =
     ap last (shown_more same_game law.likeness c log b) ∙ last_snoc (shown c log) b in
     let said = yes same_game allows log' roll (law.due_yes c log' b due) in
     let on : said.on ≡ b =
-    one_board said.on b (sym said.is_last ∙ ap (λ e. last (shown e log')) still ∙ is_last) in
+    same_Some said.on b (sym said.is_last ∙ ap (λ e. last (shown e log')) still ∙ is_last) in
     record {
       still = still;
       fresh = subst (λ e. is_spent same_game e log' ≡ false) still said.fresh;

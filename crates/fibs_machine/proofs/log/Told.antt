@@ -10,8 +10,7 @@ use Rattle.fibs_boards.specs.Board.{BoardFields as Board}
 use Rattle.fibs_position.specs.DecisionValue.{DecisionValue as Decision, roll}
 use Rattle.fibs_history.specs.declared.refusal.Refusal.{Refusal}
 use Rattle.fibs_history.specs.Log.{Entry}
-use Rattle.fibs_history.specs.Log.{Opened, LoggedIn, Welcomed, Informed, Shown, Clicked, Sent, Took, Undone}
-use Rattle.fibs_history.specs.Log.{Lost, Ordered, Withdrawn}
+use Rattle.fibs_history.specs.Log.{Shown, Clicked, Sent, Took, Undone}
 use Rattle.fibs_history.specs.Orders.{is_due}
 use Rattle.fibs_history.specs.Words.{Ask, one_if, last, shown, shown_by, open_now, sent, took, sent_by, took_by}
 use Rattle.fibs_history.specs.Words.{answer}
@@ -204,18 +203,12 @@ one_good b false h = tt
 plain_told : (log : List Entry) (e : Entry) → IsPlain e
     → Called None log (e ∷ []) × NoneUndone (e ∷ []) × AllFit log (e ∷ [])
     × ((c : ℕ) → (sent c (e ∷ []) ≡ []) × (took c (e ∷ []) ≡ []) × AllPass (shown c (e ∷ [])))
-plain_told log (Opened c) h = ((refl, refl), tt, (tt, tt), λ c. (refl, refl, tt))
-plain_told log (LoggedIn c) h = ((refl, refl), tt, (tt, tt), λ c. (refl, refl, tt))
-plain_told log (Welcomed c) h = ((refl, refl), tt, (tt, tt), λ c. (refl, refl, tt))
-plain_told log (Informed c f) h = ((refl, refl), tt, (tt, tt), λ c. (refl, refl, tt))
-plain_told log (Lost c u) h = ((refl, refl), tt, (tt, tt), λ c. (refl, refl, tt))
-plain_told log (Ordered c) h = ((refl, refl), tt, (tt, tt), λ c. (refl, refl, tt))
-plain_told log (Withdrawn c) h = ((refl, refl), tt, (tt, tt), λ c. (refl, refl, tt))
 plain_told log (Shown c b) h = absurd h
 plain_told log (Clicked c d a) h = absurd h
 plain_told log (Sent c b d) h = absurd h
 plain_told log (Took c b d) h = absurd h
 plain_told log (Undone c b d) h = absurd h
+plain_told log e h = ((refl, refl), tt, (tt, tt), λ c. (refl, refl, tt))
 
 -- what holds of a log and of more entries holds of both
 grown : (log es : List Entry) → Told log → Called None log es → NoneUndone es → AllFit log es

@@ -1,51 +1,43 @@
 -- The boards shown on a connection are the first of those sent there; at rest the last of them is the server's board.
-use Rattle.std.proofs.Common.{◌≡◌, ◌⊎◌, ℕ, ◌+◌, ◌<◌, ◌≤◌, Bool, true, false, not, List, [], ◌∷◌, ◌++◌, Option, Some}
+use Rattle.std.proofs.Common.{◌≡◌, ◌⊎◌, ℕ, ◌+◌, ◌<◌, ◌≤◌, true, false, not, List, [], ◌∷◌, ◌++◌, Option, Some}
 use Rattle.std.proofs.Common.{None, nat_eq, take, refl, sym, ◌∙◌, ap, subst, inl, inr, append-nil}
-use Rattle.std.proofs.Common.{append_assoc, true≢false, arith, if◌then◌else◌}
+use Rattle.std.proofs.Common.{true≢false, arith, if◌then◌else◌}
 use Rattle.std.proofs.lemmas.Bool.Decides.{eqb_tells}
 use Rattle.std.proofs.lemmas.List.Concat.{flat_map-append}
+use Rattle.std.proofs.lemmas.Option.{same_Some}
 use Rattle.fibs_lines.specs.Lines.{ReadLine as Line, lines_of}
 use Rattle.fibs_boards.specs.Board.{BoardFields as Board, spelling}
-use Rattle.fibs_messages.specs.Line.{ReadingValue, numbered_line, board_line, text_line, malformed_line}
-use Rattle.fibs_commands.specs.PlainCommands.{PlainValue, plain_of}
-use Rattle.fibs_position.specs.DecisionValue.{DecisionValue as Decision}
 use Rattle.fibs_position.specs.GamePart.{same_game}
 use Rattle.fibs_position.specs.GoodBoard.{good as is_good}
-use Rattle.fibs_history.specs.declared.refusal.Refusal.{Refusal}
-use Rattle.fibs_history.specs.declared.refusal.PlainRefusal.{PlainRefusal}
-use Rattle.fibs_history.specs.Allows.{allows}
-use Rattle.fibs_history.specs.Hearing.{nothing_heard, flags_of, line_reading, shown_entries, shows_board}
-use Rattle.fibs_history.specs.Log.{Entry, Opened, Welcomed, Informed, Shown, Clicked, Sent, Took, Undone, Lost}
-use Rattle.fibs_history.specs.Log.{Ordered, Withdrawn}
+use Rattle.fibs_history.specs.Hearing.{line_reading}
+use Rattle.fibs_history.specs.Log.{Entry, Opened, Took, Undone, Lost}
 use Rattle.fibs_history.specs.Log as L
-use Rattle.fibs_history.specs.Machine.{gained, on_wire, plain_refusal, order_refusal, withdraw_refusal, wire_of}
-use Rattle.fibs_history.specs.Orders.{is_due}
-use Rattle.fibs_history.specs.Words.{is_empty, last, one_if, open_now, shown, shown_by, unconfirmed, answer}
+use Rattle.fibs_history.specs.Machine.{gained, on_wire, wire_of}
+use Rattle.fibs_history.specs.Words.{is_empty, last, open_now, shown, shown_by, unconfirmed}
 use Rattle.fibs_machine.specs.Acts.{Act, Shows, Says, Serves, put_by, sending, acts_of, acts_at_line, acts_at, acts_on}
 use Rattle.fibs_machine.specs.Acts.{acts_from}
 use Rattle.fibs_machine.specs.Agrees.{BoardsAgree, board_sent, boards_sent}
-use Rattle.fibs_machine.specs.Events.{Event, Open, Click, Plain, Deliver, Lose, Serve, Own, Repeat, Text, Order}
-use Rattle.fibs_machine.specs.Events.{Withdraw}
+use Rattle.fibs_machine.specs.Events.{Event, Open, Deliver, Lose, Serve, Own, Repeat, Text}
 use Rattle.fibs_machine.specs.Headline.{IsAtRest}
 use Rattle.fibs_machine.specs.Joint as S
 use Rattle.fibs_machine.specs.Refusals.{refusal, is_board_text}
 use Rattle.fibs_machine.specs.Runs.{AllAccepted, after_all}
 use Rattle.fibs_machine.specs.Server.{Served}
 use Rattle.fibs_machine.specs.Server as V
-use Rattle.fibs_machine.specs.Wires.{Link, delivered, taken, cut_off, more_asked, more_coming, next_line}
-use Rattle.fibs_machine.specs.World.{World, start, after, noted, linked, sends, is_talking, does_heard, hears}
-use Rattle.fibs_machine.specs.World.{hears_all}
-use Rattle.fibs_machine.specs.World.{asks, sends_out, clicks, sends_plain, notes_unless, does_served, serves, talk_of}
+use Rattle.fibs_machine.specs.Wires.{Link, delivered, taken, cut_off, more_asked, next_line}
+use Rattle.fibs_machine.specs.World.{World, start, after, noted, linked, is_talking, hears}
+use Rattle.fibs_machine.specs.World.{does_served, serves}
 use Rattle.fibs_machine.proofs.Answering.{answered_at as answered}
 use Rattle.fibs_machine.proofs.Lawful.{Lawful, IsQuiet}
-use Rattle.fibs_machine.proofs.Steps.{adds, sends_board, sends_log}
-use Rattle.fibs_history.proofs.Lists.{other_number, and_both, last_snoc, map_more, map_no_more}
+use Rattle.fibs_machine.proofs.ClientActs.{Does, does, given, there_none}
+use Rattle.fibs_machine.proofs.ServerActs.{Answers, answers_keep, answers_line, answers_served, servers_aside}
+use Rattle.fibs_machine.proofs.ServerActs.{sends_board}
+use Rattle.fibs_machine.proofs.Steps.{adds}
+use Rattle.fibs_history.proofs.Lists.{same_number, other_number, and_both, last_snoc, map_more, map_no_more}
 use Rattle.fibs_history.proofs.Past.{open_append}
-use Rattle.fibs_history.proofs.Words.{own, other}
 use Rattle.fibs_machine.proofs.joint.Acting.{only_here, only_other}
-use Rattle.fibs_machine.proofs.joint.Carrying.{Alike, alike_hears_all, alike_clicks, alike_plain, alike_unless}
-use Rattle.fibs_machine.proofs.joint.EachEvent.{served, joint_after, joint_start, not_refused}
-use Rattle.fibs_machine.proofs.joint.Joint.{Joint, linked_same, linked_other}
+use Rattle.fibs_machine.proofs.joint.EachEvent.{served, joint_after, joint_start, not_refused, over_events}
+use Rattle.fibs_machine.proofs.joint.Joint.{Joint, linked_same, linked_other, linked_keeps}
 use Rattle.fibs_machine.proofs.joint.Sending.{if_fact, same_test}
 use Rattle.fibs_machine.proofs.joint.Stated.{joint_holds}
 use Rattle.fibs_machine.proofs.wires.Boards.{board_of, boards, lines_gained, printed, text_boards}
@@ -105,187 +97,48 @@ one_line c d1 d2 w (Some p) =
 
 -- so at each event at most one board goes out, the one after it
 one_at : (login : List ℕ) (w : World) (e : Event) → OneBoard w (after login w e) (acts_at w e)
-one_at login w Open = inl (refl, λ z. (adds login w Open tt).board)
-one_at login w (Click d) = inl (refl, λ z. (adds login w (Click d) tt).board)
-one_at login w (Plain p) = inl (refl, λ z. (adds login w (Plain p) tt).board)
-one_at login w (Deliver n) = inl (refl, λ z. (adds login w (Deliver n) tt).board)
-one_at login w (Lose k) = inl (refl, λ z. (adds login w (Lose k) tt).board)
 one_at login w (Serve c d1 d2) = one_line c d1 d2 w (next_line (w.links c).asked)
 one_at login w (Own b) = one_shows w (after login w (Own b)) b (sends_board (record w { board = b }) (spelling b))
 one_at login w Repeat = one_shows w (after login w Repeat) w.board (sends_board w (spelling w.board))
 one_at login w (Text t) =
     inl (if_fact (λ a. boards_sent a ≡ []) (is_talking w) _ _ (λ z. refl) (λ z. refl), λ z. sends_board w t)
-one_at login w Order = inl (refl, λ z. (adds login w Order tt).board)
-one_at login w Withdraw = inl (refl, λ z. (adds login w Withdraw tt).board)
+one_at login w e = inl (refl, λ z. (adds login w e tt).board)
 
 -- ---- what is shown beside what was delivered
-
--- no board is shown, and nothing is delivered
-record Mute (w w' : World) : Type 0 where
-  more : List Entry
-  log : w'.log ≡ w.log ++ more
-  none : (c : ℕ) → shown c more ≡ []
-  heard : (c : ℕ) → (w'.links c).heard ≡ (w.links c).heard
-
--- if nothing is delivered on the wires that are set, nothing is delivered on any
-heard_linked : (w : World) (c : ℕ) (l : Link) → l.heard ≡ (w.links c).heard → (d : ℕ)
-    → ((linked w c l).links d).heard ≡ (w.links d).heard
-heard_linked w c l h d = elim (eqb_tells d c) [
-  | inl e ↦ subst (λ d. ((linked w c l).links d).heard ≡ (w.links d).heard) (sym e.1)
-      (ap (λ (x : Link). x.heard) (linked_same w c l) ∙ h)
-  | inr n ↦ ap (λ (x : Link). x.heard) (linked_other w c d l n.1)
-]
-
--- if nothing is noted and nothing delivered, no board is shown
-mute_same : (w w' : World) → w'.log ≡ w.log → ((c : ℕ) → (w'.links c).heard ≡ (w.links c).heard) → Mute w w'
-mute_same w w' e h = record { more = []; log = e ∙ sym (append-nil w.log); none = λ c. refl; heard = h }
-
--- a line that is sent after entries without a board shows none
-mute_sends : (w : World) (b : Board) (c : ℕ) (l : Link) (es : List Entry) (t : List ℕ)
-    → l.heard ≡ (w.links c).heard → ((d : ℕ) → shown d es ≡ [])
-    → Mute w (sends (noted (record (linked w c l) { board = b }) es) t)
-mute_sends w b c l es t h none =
-    let n : World = noted (record (linked w c l) { board = b }) es in
-    record {
-      more = es;
-      log = sends_log n t;
-      none = none;
-      heard = λ d.
-          if_fact (λ (x : World). (x.links d).heard ≡ (w.links d).heard) (is_talking n) _ _
-          (λ z. heard_linked n n.logged_in (more_coming (n.links n.logged_in) (on_wire t)) refl d
-          ∙ heard_linked w c l h d)
-          (λ z. heard_linked w c l h d);
-    }
-
--- a line that is sent shows no board
-mute_line : (w : World) (b : Board) (t : List ℕ) → Mute w (sends (record w { board = b }) t)
-mute_line w b t =
-    let n : World = record w { board = b } in
-    mute_same w (sends n t) (sends_log n t)
-    (λ d. if_fact (λ (x : World). (x.links d).heard ≡ (w.links d).heard) (is_talking n) _ _
-    (λ z. heard_linked n n.logged_in (more_coming (n.links n.logged_in) (on_wire t)) refl d) (λ z. refl))
-
--- the server's answer to a line shows no board yet
-mute_served : (c : ℕ) (w : World) (l : Link) (s : Served) → l.heard ≡ (w.links c).heard
-    → Mute w (does_served c (linked w c l) s)
-mute_served c w l V.Stale h = mute_same w (linked w c l) refl (heard_linked w c l h)
-mute_served c w l V.LoggedIn h =
-    record { more = L.LoggedIn c ∷ []; log = refl; none = λ d. refl; heard = heard_linked w c l h }
-mute_served c w l (V.Took d b) h = mute_sends w b c l (Took c w.board d ∷ []) (spelling b) h (λ d. refl)
-mute_served c w l (V.Undone d) h =
-    mute_sends w w.board c l (Undone c w.board d ∷ []) (spelling w.board) h (λ d. refl)
-mute_served c w l V.Answered h =
-    let a = mute_line (linked w c l) w.board (spelling w.board) in
-    record { more = a.more; log = a.log; none = a.none; heard = λ d. a.heard d ∙ heard_linked w c l h d }
-
--- the server takes the next line of a connection, if there is one: no board is shown
-mute_serves : (c d1 d2 : ℕ) (w : World) (o : Option (List ℕ × List ℕ)) → Mute w (serves c w d1 d2 o)
-mute_serves c d1 d2 w None = mute_same w w refl (λ d. refl)
-mute_serves c d1 d2 w (Some p) =
-    mute_served c w (taken (w.links c) (on_wire p.0) p.1)
-    (answered w.board w.logged_in c (is_empty (w.links c).served) p.0 d1 d2) refl
-
--- commands that the client hands out, after entries without a board, show none
-mute_asks : (w : World) (c : ℕ) (es : List Entry) (ts : List (List ℕ)) → ((d : ℕ) → shown d es ≡ [])
-    → Mute w (asks (noted w es) c ts)
-mute_asks w c es ts none = record {
-  more = es;
-  log = refl;
-  none = none;
-  heard = heard_linked w c (more_asked (w.links c) (wire_of ts)) refl;
-}
-
--- a click shows no board
-mute_clicks : (c : ℕ) (w : World) (d : Decision) (a : Option Refusal) → Mute w (clicks c w d a)
-mute_clicks c w d (Some x) =
-    record { more = Clicked c d (Some x) ∷ []; log = refl; none = λ e. refl; heard = λ e. refl }
-mute_clicks c w d None = out (last (shown c w.log))
-  where
-    out : (o : Option Board) → Mute w (sends_out c w d o)
-    out None = mute_same w w refl (λ e. refl)
-    out (Some b) = mute_asks w c (Clicked c d None ∷ Sent c b d ∷ []) _ (λ e. refl)
-
--- nor does a plain command
-mute_plain : (w : World) (p : PlainValue) (o : Option PlainRefusal) → Mute w (sends_plain w p o)
-mute_plain w p (Some why) = mute_same w w refl (λ e. refl)
-mute_plain w p None =
-    mute_same w (sends_plain w p None) refl
-    (heard_linked w (open_now w.log) (more_asked (w.links (open_now w.log)) (wire_of (plain_of p ∷ []))) refl)
-
--- nor does an order that is given or withdrawn
-mute_unless : (w : World) (e : Entry) (o : Option Refusal) → ((c : ℕ) → shown c (e ∷ []) ≡ [])
-    → Mute w (notes_unless w e o)
-mute_unless w e (Some why) h = mute_same w w refl (λ e. refl)
-mute_unless w e None h = record { more = e ∷ []; log = refl; none = h; heard = λ e. refl }
 
 -- the boards shown on each connection are those of the lines that were delivered there
 abbrev Hears : World → Type 0
 Hears w = (c : ℕ) → shown c w.log ≡ boards (lines_of (w.links c).heard)
 
 -- this stays so if no board is shown and nothing delivered
-hears_mute : (w w' : World) → Mute w w' → Hears w → Hears w'
-hears_mute w w' m h c =
-    ap (shown c) m.log ∙ map_no_more (shown_by c) w.log m.more (m.none c) ∙ h c
-    ∙ ap (λ bytes. boards (lines_of bytes)) (sym (m.heard c))
+hears_mute : (w w' : World) (more : List Entry) → w'.log ≡ w.log ++ more → ((c : ℕ) → shown c more ≡ [])
+    → ((c : ℕ) → (w'.links c).heard ≡ (w.links c).heard) → Hears w → Hears w'
+hears_mute w w' more log none heard h c =
+    ap (shown c) log ∙ map_no_more (shown_by c) w.log more (none c) ∙ h c
+    ∙ ap (λ bytes. boards (lines_of bytes)) (sym (heard c))
 
--- a line that is heard shows its good board
-shows_one : (c : ℕ) (w : World) (x : ReadingValue) → shown c (hears c w x).log ≡ shown c w.log ++ board_of x
-shows_one c w (board_line b) = go (is_good b)
-  where
-    both : (rolls : Bool) → shown c (shown_entries c b rolls) ≡ b ∷ []
-    both true = own c b
-    both false = own c b
+-- so if the client hears nothing
+hears_does : (w w' : World) → Does [] w w' → Hears w → Hears w'
+hears_does w w' a h =
+    hears_mute w w' a.more a.log
+    (λ c. a.clients.shows c ∙ there_none {A = Board} (nat_eq (open_now w.log) c))
+    (λ c. ap (λ (x : Link). x.heard) (a.link c)) h
 
-    go : (z : Bool)
-        → shown c
-        (does_heard c w
-        (if z then shows_board c w.log b (is_due c (w.log ++ Shown c b ∷ []) b) else nothing_heard)).log
-        ≡ shown c w.log ++ one_if z b
-    go true = map_more (shown_by c) w.log (shown_entries c b (is_due c (w.log ++ Shown c b ∷ []) b)) (b ∷ [])
-        (both (is_due c (w.log ++ Shown c b ∷ []) b))
-    go false = map_more (shown_by c) w.log [] [] refl
-shows_one c w (numbered_line m) =
-    if_fact (λ h. shown c (does_heard c w h).log ≡ shown c w.log ++ []) (nat_eq m.number 1) _ _
-    (λ z. map_more (shown_by c) w.log (Welcomed c ∷ []) [] refl)
-    (λ z. if_fact (λ h. shown c (does_heard c w h).log ≡ shown c w.log ++ []) (nat_eq m.number 2) _ _
-    (λ z. map_more (shown_by c) w.log (Informed c (flags_of m) ∷ []) [] refl)
-    (λ z. map_more (shown_by c) w.log [] [] refl))
-shows_one c w (text_line t) = map_more (shown_by c) w.log [] [] refl
-shows_one c w (malformed_line n k f) = map_more (shown_by c) w.log [] [] refl
+-- and whatever the server answers
+hears_answers : (c : ℕ) (t : List ℕ) (w w' : World) → Answers c t w w' → Hears w → Hears w'
+hears_answers c t w w' a h =
+    hears_mute w w' a.more a.log (servers_aside a.more a.servers).shows
+    (answers_keep (λ (x : Link). x.heard) (λ l bytes. refl) c t w w' a) h
 
--- and nothing on another connection
-shows_other : (c d : ℕ) (w : World) (x : ReadingValue) → (c ≡ d → ⊥) → shown d (hears c w x).log ≡ shown d w.log
-shows_other c d w (board_line b) n =
-    if_fact (λ h. shown d (does_heard c w h).log ≡ shown d w.log) (is_good b) _ _
-    (λ z. map_no_more (shown_by d) w.log (shown_entries c b (is_due c (w.log ++ Shown c b ∷ []) b))
-    (both (is_due c (w.log ++ Shown c b ∷ []) b)))
-    (λ z. map_no_more (shown_by d) w.log [] refl)
-  where
-    both : (rolls : Bool) → shown d (shown_entries c b rolls) ≡ []
-    both true = other c d b n
-    both false = other c d b n
-shows_other c d w (numbered_line m) n =
-    if_fact (λ h. shown d (does_heard c w h).log ≡ shown d w.log) (nat_eq m.number 1) _ _
-    (λ z. map_no_more (shown_by d) w.log (Welcomed c ∷ []) refl)
-    (λ z. if_fact (λ h. shown d (does_heard c w h).log ≡ shown d w.log) (nat_eq m.number 2) _ _
-    (λ z. map_no_more (shown_by d) w.log (Informed c (flags_of m) ∷ []) refl)
-    (λ z. map_no_more (shown_by d) w.log [] refl))
-shows_other c d w (text_line t) n = map_no_more (shown_by d) w.log [] refl
-shows_other c d w (malformed_line m k f) n = map_no_more (shown_by d) w.log [] refl
-
--- so do lines, one after another
-shows_all : (c : ℕ) (w : World) (ls : List Line) → shown c (hears_all c w ls).log ≡ shown c w.log ++ boards ls
-shows_all c w [] = sym (append-nil (shown c w.log))
-shows_all c w (l ∷ ls) =
-    shows_all c (hears c w (line_reading l)) ls
-    ∙ ap (λ bs. bs ++ boards ls) (shows_one c w (line_reading l))
-    ∙ append_assoc (shown c w.log) (board_of (line_reading l)) (boards ls)
-
--- and lines that are heard show none on another connection
-shows_others : (c d : ℕ) (w : World) (ls : List Line) → (c ≡ d → ⊥) → shown d (hears_all c w ls).log ≡ shown d w.log
-shows_others c d w [] n = refl
-shows_others c d w (l ∷ ls) n =
-    shows_others c d (hears c w (line_reading l)) ls n ∙ shows_other c d w (line_reading l) n
+-- the server takes the next line of a connection, if there is one
+hears_serves : (c d1 d2 : ℕ) (w : World) (o : Option (List ℕ × List ℕ)) → Hears w → Hears (serves c w d1 d2 o)
+hears_serves c d1 d2 w None h = h
+hears_serves c d1 d2 w (Some p) h =
+    let l : Link = taken (w.links c) (on_wire p.0) p.1 in
+    let s : Served = answered w.board w.logged_in c (is_empty (w.links c).served) p.0 d1 d2 in
+    hears_answers c (spelling (does_served c (linked w c l) s).board) (linked w c l) (does_served c (linked w c l) s)
+    (answers_served c (linked w c l) s)
+    (λ d. h d ∙ ap (λ bytes. boards (lines_of bytes)) (sym (linked_keeps (λ (x : Link). x.heard) w c l refl d)))
 
 -- ---- who is logged in
 
@@ -300,29 +153,15 @@ Stands w w' =
 stands_alike : (w w' : World) → w'.logged_in ≡ w.logged_in → open_now w'.log ≡ open_now w.log → Stands w w'
 stands_alike w w' e o = inr (e, λ some h. sym o ∙ h)
 
--- what is sent logs nobody in
-sends_logged : (w : World) (t : List ℕ) → (sends w t).logged_in ≡ w.logged_in
-sends_logged w t = if_fact (λ (x : World). x.logged_in ≡ w.logged_in) (is_talking w) _ _ (λ z. refl) (λ z. refl)
-
--- the server answers a line
-stands_served : (c : ℕ) (w : World) (l : Link) (s : Served) → w.logged_in ≤ c
-    → Stands w (does_served c (linked w c l) s)
-stands_served c w l V.Stale low = stands_alike w (linked w c l) refl refl
-stands_served c w l V.LoggedIn low = elim (eqb_tells c w.logged_in) [
-  | inl e ↦ stands_alike w (does_served c (linked w c l) V.LoggedIn) e.1 (open_append 0 w.log (L.LoggedIn c ∷ []))
-  | inr n ↦ let m = n.1 in inl (omega arith)
+-- the server answers a line of c, or sends one by itself
+stands_answers : (c : ℕ) (t : List ℕ) (w w' : World) → w.logged_in ≤ c → Answers c t w w' → Stands w w'
+stands_answers c t w w' low a = elim a.who [
+  | inl e ↦ stands_alike w w' e a.here
+  | inr e ↦ elim (eqb_tells c w.logged_in) [
+    | inl s ↦ stands_alike w w' (e ∙ s.1) a.here
+    | inr n ↦ let m = n.1 in inl (omega arith)
+  ]
 ]
-stands_served c w l (V.Took d b) low =
-    let n : World = noted (record (linked w c l) { board = b }) (Took c w.board d ∷ []) in
-    stands_alike w (sends n (spelling b)) (sends_logged n (spelling b))
-    (ap open_now (sends_log n (spelling b)) ∙ open_append 0 w.log (Took c w.board d ∷ []))
-stands_served c w l (V.Undone d) low =
-    let n : World = noted (linked w c l) (Undone c w.board d ∷ []) in
-    stands_alike w (sends n (spelling w.board)) (sends_logged n (spelling w.board))
-    (ap open_now (sends_log n (spelling w.board)) ∙ open_append 0 w.log (Undone c w.board d ∷ []))
-stands_served c w l V.Answered low =
-    stands_alike w (sends (linked w c l) (spelling w.board)) (sends_logged (linked w c l) (spelling w.board))
-    (ap open_now (sends_log (linked w c l) (spelling w.board)))
 
 -- at each event
 stands_after : (login : List ℕ) (w : World) (e : Event) → Joint [] w → refusal w e ≡ None → Stands w (after login w e)
@@ -334,17 +173,6 @@ stands_after login w Open j h =
           let low = j.low in
           absurd (omega arith),
     )
-stands_after login w (Click d) j h =
-    let a = alike_clicks (open_now w.log) w d (answer same_game allows w.log d) in
-    stands_alike w (after login w (Click d)) a.logged_in a.here
-stands_after login w (Plain p) j h =
-    let a = alike_plain w p (plain_refusal (talk_of login w) p) in
-    stands_alike w (after login w (Plain p)) a.logged_in a.here
-stands_after login w (Deliver n) j h =
-    let l : Link = w.links (open_now w.log) in
-    let a =
-    alike_hears_all (open_now w.log) (linked w (open_now w.log) (delivered l n)) (gained l.heard (take n l.coming)) in
-    stands_alike w (after login w (Deliver n)) a.logged_in a.here
 stands_after login w (Lose k) j h =
     inr (
       refl,
@@ -355,33 +183,27 @@ stands_after login w (Lose k) j h =
     )
 stands_after login w (Serve c d1 d2) j h =
     let s = served w c d1 d2 h in
-    subst (λ o. Stands w (serves c w d1 d2 o)) (sym s.next)
-    (stands_served c w (taken (w.links c) (on_wire s.line.0) s.line.1)
-    (answered w.board w.logged_in c (is_empty (w.links c).served) s.line.0 d1 d2) s.recent)
+    let l : Link = taken (w.links c) (on_wire s.line.0) s.line.1 in
+    let a = answers_served c (linked w c l)
+    (answered w.board w.logged_in c (is_empty (w.links c).served) s.line.0 d1 d2) in
+    let stands = stands_answers c _ (linked w c l) (serves c w d1 d2 (Some s.line)) s.recent a in
+    subst (λ o. Stands w (serves c w d1 d2 o)) (sym s.next) stands
 stands_after login w (Own b) j h =
-    let n : World = record w { board = b } in
-    stands_alike w (sends n (spelling b)) (sends_logged n (spelling b)) (ap open_now (sends_log n (spelling b)))
+    stands_answers w.logged_in (spelling b) w (after login w (Own b)) (omega arith)
+    (answers_line w.logged_in w b (spelling b))
 stands_after login w Repeat j h =
-    stands_alike w (sends w (spelling w.board)) (sends_logged w (spelling w.board))
-    (ap open_now (sends_log w (spelling w.board)))
+    stands_answers w.logged_in (spelling w.board) w (after login w Repeat) (omega arith)
+    (answers_line w.logged_in w w.board (spelling w.board))
 stands_after login w (Text t) j h =
-    stands_alike w (sends w t) (sends_logged w t) (ap open_now (sends_log w t))
-stands_after login w Order j h =
-    let a = alike_unless w (Ordered (open_now w.log)) (order_refusal w.log) refl in
-    stands_alike w (after login w Order) a.logged_in a.here
-stands_after login w Withdraw j h =
-    let a = alike_unless w (Withdrawn (open_now w.log)) (withdraw_refusal w.log) refl in
-    stands_alike w (after login w Withdraw) a.logged_in a.here
+    stands_answers w.logged_in t w (after login w (Text t)) (omega arith) (answers_line w.logged_in w w.board t)
+stands_after login w e j h =
+    let a = does login w e tt in stands_alike w (after login w e) a.logged_in a.here
 
 -- ---- the invariant
 
 -- if there are boards, the last is this one
 abbrev Ends : Board → List Board → Type 0
 Ends now bs = (b : Board) → last bs ≡ Some b → b ≡ now
-
--- a board that is there is that board
-one_board : (x y : Board) → Some x ≡ Some y → x ≡ y
-one_board x y h = cc
 
 -- the server's acts on each connection, and the world after them
 record Agreed (acts : ℕ → List Act) (w : World) : Type 0 where
@@ -420,7 +242,7 @@ newest_after login acts w e a stands some here = go stands
         let one : boards_sent (acts w.logged_in ++ acts_at w e) ≡ boards_sent (acts w.logged_in) ++ w'.board ∷ [] =
         flat_map-append board_sent (acts w.logged_in) (acts_at w e)
         ∙ ap (λ bs. boards_sent (acts w.logged_in) ++ bs) q in
-        one_board b w'.board (sym h ∙ ap last one ∙ last_snoc (boards_sent (acts w.logged_in)) w'.board)
+        same_Some b w'.board (sym h ∙ ap last one ∙ last_snoc (boards_sent (acts w.logged_in)) w'.board)
 
     go : Stands w (after login w e)
         → Ends w'.board (boards_sent (acts w'.logged_in ++ acts_on w e w'.logged_in))
@@ -436,6 +258,15 @@ newest_after login acts w e a stands some here = go stands
         subst (λ n. Ends w'.board (boards_sent (acts n ++ acts_on w e n))) (sym q.0)
         (subst (λ l. Ends w'.board (boards_sent (acts w.logged_in ++ l))) (sym (only_here w.logged_in (acts_at w e)))
         (at (one_at login w e) (q.1 some' (here ∙ q.0)) some')) b h
+
+-- other words for the same acts
+agreed_is : (acts acts' : ℕ → List Act) (w : World) → ((c : ℕ) → acts' c ≡ acts c) → Agreed acts w → Agreed acts' w
+agreed_is acts acts' w h a = record {
+  readable = λ c. subst Readable (sym (h c)) (a.readable c);
+  hears = a.hears;
+  newest = λ some o. subst (λ l. Ends w.board (boards_sent l)) (sym (h w.logged_in)) (a.newest some o);
+  newer = λ c high. h c ∙ a.newer c high;
+}
 
 module _ (law : Lawful) where
   -- what acts put on the wire says just the boards that they send
@@ -476,11 +307,6 @@ module _ (law : Lawful) where
   -- what it does at each event can be read
   readable_at : (login : List ℕ) (w : World) (e : Event) → refusal w e ≡ None → is_good w.board ≡ true
       → is_good (after login w e).board ≡ true → Readable (acts_at w e)
-  readable_at login w Open h g g' = tt
-  readable_at login w (Click d) h g g' = tt
-  readable_at login w (Plain p) h g g' = tt
-  readable_at login w (Deliver n) h g g' = tt
-  readable_at login w (Lose k) h g g' = tt
   readable_at login w (Serve c d1 d2) h g g' = readable_line c d1 d2 w (next_line (w.links c).asked) g g'
   readable_at login w (Own b) h g g' =
       readable_shows w b (subst (λ x. is_good x ≡ true) (sends_board (record w { board = b }) (spelling b)) g')
@@ -489,20 +315,16 @@ module _ (law : Lawful) where
       if_fact Readable (is_talking w) _ _
       (λ z. (text_boards law (lines_of (on_wire t)) (not_refused (is_board_text (lines_of (on_wire t))) _ _ h).0, tt))
       (λ z. tt)
-  readable_at login w Order h g g' = tt
-  readable_at login w Withdraw h g g' = tt
+  readable_at login w e h g g' = tt
 
   -- bytes are delivered: their boards are shown
-  hears_delivered : (w : World) (n : ℕ) → Hears w
-      → Hears
-      (hears_all (open_now w.log) (linked w (open_now w.log) (delivered (w.links (open_now w.log)) n))
-      (gained (w.links (open_now w.log)).heard (take n (w.links (open_now w.log)).coming)))
-  hears_delivered w n h d = elim (eqb_tells d o) [
+  hears_delivered : (login : List ℕ) (w : World) (n : ℕ) → Hears w → Hears (after login w (Deliver n))
+  hears_delivered login w n h d = elim (eqb_tells d o) [
     | inl e ↦ subst (λ d. shown d w'.log ≡ boards (lines_of (w'.links d).heard)) (sym e.1) here
     | inr m ↦
-        shows_others o d w1 ls (λ e. m.1 (sym e)) ∙ h d
+        shows d ∙ rw (other_number o d (λ e. m.1 (sym e))) (append-nil (shown d w.log)) ∙ h d
         ∙ ap (λ bytes. boards (lines_of bytes))
-        (sym (a.heard d ∙ ap (λ (x : Link). x.heard) (linked_other w o d (delivered l n) m.1)))
+        (sym (heard d ∙ ap (λ (x : Link). x.heard) (linked_other w o d (delivered l n) m.1)))
   ]
     where
       o : ℕ
@@ -514,57 +336,44 @@ module _ (law : Lawful) where
       ls : List Line
       ls = gained l.heard (take n l.coming)
 
-      w1 : World
-      w1 = linked w o (delivered l n)
-
       w' : World
-      w' = hears_all o w1 ls
+      w' = after login w (Deliver n)
 
-      a : Alike w1 w'
-      a = alike_hears_all o w1 ls
+      a : Does (boards ls) (given w (Deliver n)) w'
+      a = does login w (Deliver n) tt
+
+      heard : (d : ℕ) → (w'.links d).heard ≡ ((given w (Deliver n)).links d).heard
+      heard d = ap (λ (x : Link). x.heard) (a.link d)
+
+      shows : (d : ℕ) → shown d w'.log ≡ shown d w.log ++ (if nat_eq o d then boards ls else [])
+      shows d = ap (shown d) a.log ∙ map_more (shown_by d) w.log a.more _ (a.clients.shows d)
 
       here : shown o w'.log ≡ boards (lines_of (w'.links o).heard)
       here =
-          shows_all o w1 ls ∙ ap (λ bs. bs ++ boards ls) (h o)
+          shows o ∙ rw (same_number o) (ap (λ bs. bs ++ boards ls) (h o))
           ∙ sym (flat_map-append (λ l. board_of (line_reading l)) (lines_of l.heard) ls)
           ∙ ap boards (sym (lines_gained law l.heard (take n l.coming)))
           ∙ ap (λ bytes. boards (lines_of bytes))
-          (sym (a.heard o ∙ ap (λ (x : Link). x.heard) (linked_same w o (delivered l n))))
+          (sym (heard o ∙ ap (λ (x : Link). x.heard) (linked_same w o (delivered l n))))
 
   -- each event keeps that the boards shown are those delivered
   hears_after : (login : List ℕ) (w : World) (e : Event) → Hears w → Hears (after login w e)
   hears_after login w Open h =
-      hears_mute w (after login w Open)
-      (record {
-        more = Opened (w.count + 1) ∷ [];
-        log = refl;
-        none = λ c. refl;
-        heard = heard_linked w (w.count + 1) (more_asked (w.links (w.count + 1)) (wire_of (login ∷ []))) refl;
-      }) h
-  hears_after login w (Click d) h =
-      hears_mute w (after login w (Click d)) (mute_clicks (open_now w.log) w d (answer same_game allows w.log d)) h
-  hears_after login w (Plain p) h =
-      hears_mute w (after login w (Plain p)) (mute_plain w p (plain_refusal (talk_of login w) p)) h
-  hears_after login w (Deliver n) h = hears_delivered w n h
+      hears_mute w (after login w Open) (Opened (w.count + 1) ∷ []) refl (λ c. refl)
+      (linked_keeps (λ (x : Link). x.heard) w (w.count + 1)
+      (more_asked (w.links (w.count + 1)) (wire_of (login ∷ []))) refl) h
+  hears_after login w (Deliver n) h = hears_delivered login w n h
   hears_after login w (Lose k) h =
       hears_mute w (after login w (Lose k))
-      (record {
-        more = Lost (open_now w.log) (unconfirmed same_game (open_now w.log) w.log) ∷ [];
-        log = refl;
-        none = λ c. refl;
-        heard = heard_linked w (open_now w.log) (cut_off (w.links (open_now w.log)) k) refl;
-      }) h
-  hears_after login w (Serve c d1 d2) h =
-      hears_mute w (after login w (Serve c d1 d2)) (mute_serves c d1 d2 w (next_line (w.links c).asked)) h
-  hears_after login w (Own b) h = hears_mute w (after login w (Own b)) (mute_line w b (spelling b)) h
-  hears_after login w Repeat h = hears_mute w (after login w Repeat) (mute_line w w.board (spelling w.board)) h
-  hears_after login w (Text t) h = hears_mute w (after login w (Text t)) (mute_line w w.board t) h
-  hears_after login w Order h =
-      hears_mute w (after login w Order)
-      (mute_unless w (Ordered (open_now w.log)) (order_refusal w.log) (λ c. refl)) h
-  hears_after login w Withdraw h =
-      hears_mute w (after login w Withdraw)
-      (mute_unless w (Withdrawn (open_now w.log)) (withdraw_refusal w.log) (λ c. refl)) h
+      (Lost (open_now w.log) (unconfirmed same_game (open_now w.log) w.log) ∷ []) refl (λ c. refl)
+      (linked_keeps (λ (x : Link). x.heard) w (open_now w.log) (cut_off (w.links (open_now w.log)) k) refl) h
+  hears_after login w (Serve c d1 d2) h = hears_serves c d1 d2 w (next_line (w.links c).asked) h
+  hears_after login w (Own b) h =
+      hears_answers 0 (spelling b) w (after login w (Own b)) (answers_line 0 w b (spelling b)) h
+  hears_after login w Repeat h =
+      hears_answers 0 (spelling w.board) w (after login w Repeat) (answers_line 0 w w.board (spelling w.board)) h
+  hears_after login w (Text t) h = hears_answers 0 t w (after login w (Text t)) (answers_line 0 w w.board t) h
+  hears_after login w e h = hears_does w (after login w e) (does login w e tt) h
 
   -- each event keeps the invariant
   agreed_after : (acts : ℕ → List Act) (login : List ℕ) (w : World) (e : Event) → Joint [] w → refusal w e ≡ None
@@ -586,36 +395,6 @@ module _ (law : Lawful) where
       below : Stands w (after login w e) → (c : ℕ) → (after login w e).logged_in < c → w.logged_in < c
       below (inl lt) c high = omega arith
       below (inr q) c high = let e = q.0 in omega arith
-
-  -- over a list of events
-  agreed_all : (acts : ℕ → List Act) (login : List ℕ) → IsQuiet login → (es : List Event) (w : World)
-      → AllAccepted login w es → Joint [] w → Agreed acts w
-      → Agreed (λ c. acts c ++ acts_from login w es c) (after_all login w es)
-  agreed_all acts login quiet [] w ok j a = agreed_is acts (λ c. acts c ++ []) w (λ c. append-nil (acts c)) a
-    where
-      agreed_is : (acts acts' : ℕ → List Act) (w : World) → ((c : ℕ) → acts' c ≡ acts c) → Agreed acts w
-          → Agreed acts' w
-      agreed_is acts acts' w h a = record {
-        readable = λ c. subst Readable (sym (h c)) (a.readable c);
-        hears = a.hears;
-        newest = λ some o. subst (λ l. Ends w.board (boards_sent l)) (sym (h w.logged_in)) (a.newest some o);
-        newer = λ c high. h c ∙ a.newer c high;
-      }
-  agreed_all acts login quiet (e ∷ es) w ok j a =
-      let w' : World = after login w e in
-      let first : ℕ → List Act = λ c. acts c ++ acts_on w e c in
-      let j' : Joint [] w' = joint_after law login quiet w e j ok.0 in
-      let later = agreed_all first login quiet es w' ok.1 j' (agreed_after acts login w e j ok.0 j'.good a) in
-      let same : (c : ℕ) → acts c ++ acts_from login w (e ∷ es) c ≡ first c ++ acts_from login w' es c =
-      λ c. sym (append_assoc (acts c) (acts_on w e c) (acts_from login w' es c)) in
-      record {
-        readable = λ c. subst Readable (sym (same c)) (later.readable c);
-        hears = later.hears;
-        newest = λ some o.
-            subst (λ l. Ends (after_all login w' es).board (boards_sent l))
-            (sym (same (after_all login w' es).logged_in)) (later.newest some o);
-        newer = λ c high. same c ∙ later.newer c high;
-      }
 
   -- client and server agree, after every list of events
   pub agrees_holds : (login : List ℕ) → IsQuiet login → (b : Board) (es : List Event) → is_good b ≡ true
@@ -647,7 +426,9 @@ module _ (law : Lawful) where
       s = joint_holds law login quiet b es good ok
 
       a : Agreed acts w
-      a = agreed_all (λ c. []) login quiet es (start b) ok (joint_start law b good)
+      a = over_events law Agreed agreed_is login quiet
+          (λ acts w e j h a. agreed_after acts login w e j h (joint_after law login quiet w e j h).good a) (λ c. []) es
+          (start b) ok (joint_start law b good)
           (record {
             readable = λ c. tt;
             hears = λ c. ap boards (sym law.empty.0);

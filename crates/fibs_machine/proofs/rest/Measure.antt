@@ -4,7 +4,8 @@ use Rattle.std.proofs.Common.{◌≡◌, ◌⊎◌, ℕ, ◌+◌, ◌<◌, ◌�
 use Rattle.std.proofs.Common.{Some}
 use Rattle.std.proofs.Common.{None, nat_eq, flat_map, length, refl, sym, ◌∙◌, ap, subst, inl, inr, append-nil}
 use Rattle.std.proofs.Common.{append_assoc, true≢false, arith, if◌then◌else◌, length-append}
-use Rattle.std.proofs.lemmas.Bool.Decides.{eqb_tells}
+use Rattle.std.proofs.lemmas.Bool.{or_left, or_right}
+use Rattle.std.proofs.lemmas.Option.{some_pair_parts}
 use Rattle.fibs_lines.specs.Lines.{ReadLine as Line}
 use Rattle.fibs_boards.specs.Board.{BoardFields as Board, spelling}
 use Rattle.fibs_messages.specs.Flags.{autoboard, moreboards}
@@ -27,21 +28,21 @@ use Rattle.fibs_history.specs.Words.{welcomed, welcomed_by, informed, informed_b
 use Rattle.fibs_machine.specs.Joint.{AreLines}
 use Rattle.fibs_machine.specs.Server.{Served, user_decides}
 use Rattle.fibs_machine.specs.Server as V
-use Rattle.fibs_machine.specs.Wires.{Link, more_asked, more_coming, next_line, put}
-use Rattle.fibs_machine.specs.World.{World, noted, linked, sends, is_talking, does_heard, hears, hears_all}
+use Rattle.fibs_machine.specs.Wires.{Link, more_asked, next_line}
+use Rattle.fibs_machine.specs.World.{World, noted, linked, sends, does_heard, hears, hears_all}
 use Rattle.fibs_machine.specs.World.{does_served}
-use Rattle.fibs_machine.proofs.Lawful.{Lawful, NoReturn, AllQuiet}
-use Rattle.fibs_machine.proofs.Steps.{sends_board, sends_log}
+use Rattle.fibs_machine.proofs.Lawful.{Lawful, NoReturn}
+use Rattle.fibs_machine.proofs.ServerActs.{sends_board, sends_log, answers_keep, answers_served}
 use Rattle.fibs_history.proofs.Lists.{same_number, other_number, and_left, and_right, map_more, map_no_more, to_list}
 use Rattle.fibs_history.proofs.Past.{open_append}
 use Rattle.fibs_history.proofs.Words.{own}
 use Rattle.fibs_machine.proofs.log.Due.{due_rolls}
 use Rattle.fibs_machine.proofs.joint.Deliver.{Hearing, hears_one, note_shown}
-use Rattle.fibs_machine.proofs.joint.Joint.{log_of, Live, Joint, current, linked_same, linked_other}
-use Rattle.fibs_machine.proofs.joint.Left.{Texts}
+use Rattle.fibs_machine.proofs.joint.Joint.{log_of, Live, Joint, current, linked_same}
+use Rattle.fibs_machine.proofs.wires.Ways.{Texts, quiet_texts}
 use Rattle.fibs_machine.proofs.joint.Sending.{if_fact, same_test}
 use Rattle.fibs_machine.proofs.wires.Boards.{waiting, boards, board_of}
-use Rattle.fibs_machine.proofs.wires.Cuts.{line_whole}
+use Rattle.fibs_machine.proofs.wires.Cuts.{line_whole, line_is}
 
 -- ---- how many lines are on their way to the server
 
@@ -94,46 +95,13 @@ returns_commands (t ∷ ts) h =
     let r = returns_wire t h.0 in
     let s = returns_commands ts h.1 in omega arith
 
--- commands that are no decisions are texts
-pub quiet_are_texts : (ts : List (List ℕ)) → AllQuiet ts → Texts ts
-quiet_are_texts [] h = tt
-quiet_are_texts (t ∷ ts) h = (h.0.text, quiet_are_texts ts h.1)
-
--- a pair that is there is that pair
-some_pair : (x y : List ℕ × List ℕ) → Some x ≡ Some y → x ≡ y
-some_pair x y h = cc
-
 -- what is left after a line was taken has fewer
 pub returns_less : (bytes t rest : List ℕ) → next_line bytes ≡ Some (t, rest) → returns_in rest < returns_in bytes
-unfolding next_line returns_in
-returns_less [] t rest h = absurd cc
-returns_less (b ∷ []) t rest h = absurd cc
-returns_less (b ∷ c ∷ bytes) t rest h =
-    go (nat_eq b 13) (nat_eq c 10) refl h (λ u e. returns_less (c ∷ bytes) u rest e)
-  where
-    behind : (o : Option (List ℕ × List ℕ)) → put b o ≡ Some (t, rest)
-        → ((u : List ℕ) → o ≡ Some (u, rest) → returns_in rest < returns_in (c ∷ bytes))
-        → returns_in rest < returns_in (c ∷ bytes)
-    behind None e f = absurd cc
-    behind (Some p) e f =
-        let s = some_pair (b ∷ p.0, p.1) (t, rest) e in
-        let r : p.1 ≡ rest = ap (λ (q : List ℕ × List ℕ). q.1) s in
-        f p.0 (ap (λ x. Some (p.0, x)) r)
-
-    more : returns_in rest < returns_in (c ∷ bytes)
-        → returns_in rest < (if nat_eq b 13 then 1 else 0) + returns_in (c ∷ bytes)
-    more lt = omega arith
-
-    go : (x y : Bool) → nat_eq b 13 ≡ x
-        → (if x && y then Some ([], bytes) else put b (next_line (c ∷ bytes))) ≡ Some (t, rest)
-        → ((u : List ℕ) → next_line (c ∷ bytes) ≡ Some (u, rest) → returns_in rest < returns_in (c ∷ bytes))
-        → returns_in rest < (if nat_eq b 13 then 1 else 0) + returns_in (c ∷ bytes)
-    go true true is e f =
-        let s = some_pair ([], bytes) (t, rest) e in
-        let r : bytes ≡ rest = ap (λ (q : List ℕ × List ℕ). q.1) s in
-        rw is (rw (← r) (omega arith))
-    go true false is e f = more (behind (next_line (c ∷ bytes)) e f)
-    go false y is e f = more (behind (next_line (c ∷ bytes)) e f)
+returns_less bytes t rest h =
+    let all = ap returns_in (line_is bytes t rest h) in
+    let parts = returns_append (on_wire t) rest in
+    let line = returns_append t (13 ∷ 10 ∷ []) in
+    let one = returns_end in omega arith
 
 -- whole commands have at most as many as there are lines
 pub returns_lines : (ts lines : List (List ℕ)) (bytes : List ℕ) → bytes ≡ flat_map on_wire ts → Texts ts
@@ -145,8 +113,7 @@ returns_lines (t ∷ ts) [] bytes e h a =
 returns_lines (t ∷ ts) (l ∷ lines) bytes e h a =
     let n : next_line bytes ≡ Some (t, flat_map on_wire ts) =
     ap next_line e ∙ line_whole t (flat_map on_wire ts) h.0 in
-    let s = some_pair (l, a.0) (t, flat_map on_wire ts) (sym a.1 ∙ n) in
-    let r : a.0 ≡ flat_map on_wire ts = ap (λ (q : List ℕ × List ℕ). q.1) s in
+    let r : a.0 ≡ flat_map on_wire ts = (some_pair_parts l t a.0 (flat_map on_wire ts) (sym a.1 ∙ n)).1 in
     let later = returns_lines ts lines a.0 r h.1 a.2 in
     let c : returns_in bytes ≡ returns_in (on_wire t) + returns_in (flat_map on_wire ts) =
     ap returns_in e ∙ returns_append (on_wire t) (flat_map on_wire ts) in
@@ -154,21 +121,6 @@ returns_lines (t ∷ ts) (l ∷ lines) bytes e h a =
     let same = ap returns_in r in omega arith
 
 -- ---- what is on the wires to the server
-
--- if what is asked stays on the wires that are set, it stays on all
-pub asked_linked : (w : World) (c : ℕ) (l : Link) → l.asked ≡ (w.links c).asked → (d : ℕ)
-    → ((linked w c l).links d).asked ≡ (w.links d).asked
-asked_linked w c l h d = elim (eqb_tells d c) [
-  | inl e ↦ subst (λ d. ((linked w c l).links d).asked ≡ (w.links d).asked) (sym e.1)
-      (ap (λ (x : Link). x.asked) (linked_same w c l) ∙ h)
-  | inr n ↦ ap (λ (x : Link). x.asked) (linked_other w c d l n.1)
-]
-
--- what is sent to a client is on no wire to the server
-asked_sends : (w : World) (t : List ℕ) (d : ℕ) → ((sends w t).links d).asked ≡ (w.links d).asked
-asked_sends w t d =
-    if_fact (λ (x : World). (x.links d).asked ≡ (w.links d).asked) (is_talking w) _ _
-    (λ z. asked_linked w w.logged_in (more_coming (w.links w.logged_in) (on_wire t)) refl d) (λ z. refl)
 
 -- what is on the wire after commands
 asked_heard : (c : ℕ) (w : World) (h : Heard) → ((does_heard c w h).links c).asked ≡ (w.links c).asked ++ wire_of h.send
@@ -201,15 +153,6 @@ abbrev pub has_message : List Line → Bool
 has_message [] = false
 has_message (l ∷ ls) = is_message (line_reading l) || has_message ls
 
--- one of two holds if the first does
-either_left : (y z : Bool) → y ≡ true → (y || z) ≡ true
-either_left y z h = rw h refl
-
--- or if the second does
-either_right : (y z : Bool) → z ≡ true → (y || z) ≡ true
-either_right true z h = refl
-either_right false z h = h
-
 -- lines without a message after others add none
 pub message_append : (xs ys : List Line) → has_message ys ≡ false → has_message (xs ++ ys) ≡ has_message xs
 message_append [] ys h = h
@@ -217,24 +160,38 @@ message_append (x ∷ xs) ys h = ap (λ z. is_message (line_reading x) || z) (me
 
 -- ---- which answers a connection may still call forth: k more are counted for a roll
 
+-- so many answers are due at the first of these, while there was none
+first_due : {A : Type 0} → ℕ → List A → ℕ
+first_due n [] = n
+first_due n (x ∷ xs) = 0
+
+-- they are at most that many
+first_most : {A : Type 0} (n : ℕ) (xs : List A) → first_due n xs ≤ n
+unfolding first_due
+first_most n [] = omega arith
+first_most n (x ∷ xs) = omega arith
+
+-- none after one of them
+first_gone : {A : Type 0} (n : ℕ) (xs : List A) (x : A) → first_due n (xs ++ x ∷ []) ≡ 0
+unfolding first_due
+first_gone n [] x = refl
+first_gone n (y ∷ xs) x = refl
+
+-- and all before
+first_all : {A : Type 0} (n : ℕ) (xs : List A) → is_empty xs ≡ true → first_due n xs ≡ n
+unfolding first_due
+first_all n [] h = refl
+first_all n (x ∷ xs) h = absurd (true≢false (sym h))
+
 module _ (k : ℕ) where
-  -- the first message 1, if there was none, is answered by one command
-  welcome_due : List ℕ → ℕ
-  welcome_due [] = 1
-  welcome_due (x ∷ xs) = 0
-
-  -- the first message 2, if there was none, is answered by at most three
-  inform_due : List Flags → ℕ
-  inform_due [] = 3
-  inform_due (x ∷ xs) = 0
-
   -- a standing order may roll once, if the player is to roll and all that was sent took effect
   roll_due : Bool → ℕ → ℕ → ℕ
   roll_due rolls sends takes = if rolls && nat_eq sends takes then 1 + k else 0
 
-  -- all of these, by what the log says of the connection
+  -- all of these, by what the log says of the connection: the first message 1 is answered by one command, the first
+  -- message 2 by at most three
   due_of : List ℕ → List Flags → Bool → List Ask → List Ask → ℕ
-  due_of ws is rolls sends takes = welcome_due ws + inform_due is + roll_due rolls (length sends) (length takes)
+  due_of ws is rolls sends takes = first_due 1 ws + first_due 3 is + roll_due rolls (length sends) (length takes)
 
   -- what a connection may still call forth in a world
   pub due : ℕ → World → ℕ
@@ -262,24 +219,12 @@ module _ (k : ℕ) where
   roll_spent true n m h = rw (other_number n m h) refl
   roll_spent false n m h = refl
 
-  -- for the answer to a message 1 at most one is counted
-  welcome_most : (ws : List ℕ) → welcome_due ws ≤ 1
-  unfolding welcome_due
-  welcome_most [] = omega arith
-  welcome_most (x ∷ xs) = omega arith
-
-  -- for those to a message 2 at most three
-  inform_most : (is : List Flags) → inform_due is ≤ 3
-  unfolding inform_due
-  inform_most [] = omega arith
-  inform_most (x ∷ xs) = omega arith
-
   -- it is at most 5 + k
   pub due_most : (c : ℕ) (w : World) → due c w ≤ 5 + k
   unfolding due due_of
   due_most c w =
-      let a = welcome_most (welcomed c w.log) in
-      let b = inform_most (informed c w.log) in
+      let a = first_most 1 (welcomed c w.log) in
+      let b = first_most 3 (informed c w.log) in
       let r = roll_most (is_to_roll (phase_of w.board)) (length (sent c w.log)) (length (took c w.log)) in omega arith
 
   -- it depends on the log and the board alone
@@ -314,18 +259,6 @@ module _ (k : ℕ) where
     pub due : due c w' ≤ due c w
     pub here : open_now w'.log ≡ open_now w.log
 
-  -- entries of another kind leave what is due
-  lessens_same : (c : ℕ) (w : World) (l : Link) (es : List Entry) (w' : World) → w'.log ≡ w.log ++ es
-      → w'.board ≡ w.board → (w'.links c).asked ≡ l.asked
-      → welcomed c es ≡ [] → informed c es ≡ [] → sent c es ≡ [] → took c es ≡ []
-      → open_now (w.log ++ es) ≡ open_now w.log → Lessens c w w' l.asked
-  lessens_same c w l es w' e b h h1 h2 h3 h4 o =
-      record {
-        asked = h;
-        due = let same = due_same c w w' es e b h1 h2 h3 h4 in omega arith;
-        here = ap open_now e ∙ o;
-      }
-
   -- a decision that is carried out, after which the player is not to roll, leaves no more due
   took_less : (c : ℕ) (w w' : World) (es : List Entry) (b : Board) → w'.log ≡ w.log ++ es → w'.board ≡ b
       → welcomed c es ≡ [] → informed c es ≡ [] → is_to_roll (phase_of b) ≡ false → due c w' ≤ due c w
@@ -339,101 +272,119 @@ module _ (k : ℕ) where
       ap (welcomed c) e ∙ map_no_more (welcomed_by c) w.log es h1 in
       let is : informed c w'.log ≡ informed c w.log =
       ap (informed c) e ∙ map_no_more (informed_by c) w.log es h2 in
-      let a = ap welcome_due ws in
-      let i = ap inform_due is in omega arith
+      let a = ap (first_due 1) ws in
+      let i = ap (first_due 3) is in omega arith
 
-  -- whatever the server answers to a line, no more is due after it
+  -- no more is due after the server's answer to a line
+  due_served : (c : ℕ) (w : World) (l : Link) (s : Served) → NoRoll s
+      → due c (does_served c (linked w c l) s) ≤ due c w
+  due_served c w l V.Stale h = let e = due_relinked c w l in omega arith
+  due_served c w l V.LoggedIn h =
+      let w' : World = does_served c (linked w c l) V.LoggedIn in
+      let e = due_same c w w' (L.LoggedIn c ∷ []) refl refl refl refl refl refl in omega arith
+  due_served c w l (V.Undone d) h =
+      let n : World = noted (linked w c l) (Undone c w.board d ∷ []) in
+      let e = due_same c w (sends n (spelling w.board)) (Undone c w.board d ∷ []) (sends_log n (spelling w.board))
+      (sends_board n (spelling w.board)) refl refl refl refl in omega arith
+  due_served c w l V.Answered h =
+      let n : World = linked w c l in
+      let e = due_same c w (sends n (spelling w.board)) []
+      (sends_log n (spelling w.board) ∙ sym (append-nil w.log))
+      (sends_board n (spelling w.board)) refl refl refl refl in omega arith
+  due_served c w l (V.Took d b) h =
+      let n : World = noted (record (linked w c l) { board = b }) (Took c w.board d ∷ []) in
+      took_less c w (sends n (spelling b)) (Took c w.board d ∷ []) b (sends_log n (spelling b))
+      (sends_board n (spelling b)) refl refl h
+
+  -- whatever the server answers to a line, it takes that off the wire, and no more is due after it
   pub lessens_served : (c : ℕ) (w : World) (l : Link) (s : Served) → NoRoll s
       → Lessens c w (does_served c (linked w c l) s) l.asked
-  lessens_served c w l V.Stale h =
-      lessens_same c w l [] (linked w c l) (sym (append-nil w.log)) refl
-      (ap (λ (x : Link). x.asked) (linked_same w c l)) refl refl refl refl (ap open_now (append-nil w.log))
-  lessens_served c w l V.LoggedIn h =
-      lessens_same c w l (L.LoggedIn c ∷ []) (does_served c (linked w c l) V.LoggedIn) refl refl
-      (ap (λ (x : Link). x.asked) (linked_same w c l)) refl refl refl refl (open_append 0 w.log (L.LoggedIn c ∷ []))
-  lessens_served c w l (V.Undone d) h =
-      let n : World = noted (linked w c l) (Undone c w.board d ∷ []) in
-      lessens_same c w l (Undone c w.board d ∷ []) (sends n (spelling w.board)) (sends_log n (spelling w.board))
-      (sends_board n (spelling w.board))
-      (asked_sends n (spelling w.board) c ∙ ap (λ (x : Link). x.asked) (linked_same w c l)) refl refl refl refl
-      (open_append 0 w.log (Undone c w.board d ∷ []))
-  lessens_served c w l V.Answered h =
-      let n : World = linked w c l in
-      lessens_same c w l [] (sends n (spelling w.board)) (sends_log n (spelling w.board) ∙ sym (append-nil w.log))
-      (sends_board n (spelling w.board))
-      (asked_sends n (spelling w.board) c ∙ ap (λ (x : Link). x.asked) (linked_same w c l)) refl refl refl refl
-      (ap open_now (append-nil w.log))
-  lessens_served c w l (V.Took d b) h =
-      let es : List Entry = Took c w.board d ∷ [] in
-      let n : World = noted (record (linked w c l) { board = b }) es in
-      let w' : World = sends n (spelling b) in
+  lessens_served c w l s h =
+      let a = answers_served c (linked w c l) s in
       record {
-        asked = asked_sends n (spelling b) c ∙ ap (λ (x : Link). x.asked) (linked_same w c l);
-        due = took_less c w w' es b (sends_log n (spelling b)) (sends_board n (spelling b)) refl refl h;
-        here = ap open_now (sends_log n (spelling b)) ∙ open_append 0 w.log es;
+        asked =
+            answers_keep (λ (x : Link). x.asked) (λ x bytes. refl) c _ (linked w c l) _ a c
+            ∙ ap (λ (x : Link). x.asked) (linked_same w c l);
+        due = due_served c w l s h;
+        here = a.here;
       }
 
   -- ---- lines are heard
 
-  -- Nothing is handed out and no more is due; or a roll is handed out, and is due no longer; or answers to a message
-  -- are handed out that were due. z: whether there is a message among the lines.
-  abbrev pub Lighter : ℕ → Bool → World → World → Type 0
-  Lighter c z w w' =
-      (((w'.links c).asked ≡ (w.links c).asked) × (due c w' ≤ due c w))
-      ⊎ (returns_in (w'.links c).asked + due c w' + k ≤ returns_in (w.links c).asked + due c w)
-      ⊎ ((z ≡ true) × (returns_in (w'.links c).asked + due c w' ≤ returns_in (w.links c).asked + due c w))
+  -- No more is on its way and due together. Nothing is handed out, or a roll, which is due no longer, or answers to a
+  -- message. z: whether there is a message among the lines.
+  pub record Lighter (c : ℕ) (z : Bool) (w w' : World) : Type 0 where
+    pub less : returns_in (w'.links c).asked + due c w' ≤ returns_in (w.links c).asked + due c w
+    pub how : ((w'.links c).asked ≡ (w.links c).asked)
+        ⊎ (returns_in (w'.links c).asked + due c w' + k ≤ returns_in (w.links c).asked + due c w) ⊎ (z ≡ true)
 
-  -- from a world that is alike
-  pub lighter_from : (c : ℕ) (z : Bool) (u v w : World) → (v.links c).asked ≡ (u.links c).asked → due c v ≡ due c u
-      → Lighter c z v w → Lighter c z u w
-  lighter_from c z u v w e d (inl a) = inl (a.0 ∙ e, let x = a.1 in omega arith)
-  lighter_from c z u v w e d (inr (inl a)) = inr (inl (let r = ap returns_in e in omega arith))
-  lighter_from c z u v w e d (inr (inr a)) = inr (inr (a.0, let r = ap returns_in e in let x = a.1 in omega arith))
+  -- nothing is handed out, and no more is due
+  pub lighter_same : (c : ℕ) (z : Bool) (w w' : World) → (w'.links c).asked ≡ (w.links c).asked → due c w' ≤ due c w
+      → Lighter c z w w'
+  lighter_same c z w w' e d = record { less = let r = ap returns_in e in omega arith; how = inl e }
 
   -- one after the other
   lighter_then : (c : ℕ) (y z : Bool) (u v w : World) → Lighter c y u v → Lighter c z v w → Lighter c (y || z) u w
-  lighter_then c y z u v w (inl a) (inl b) = inl (b.0 ∙ a.0, let x = a.1 in let y = b.1 in omega arith)
-  lighter_then c y z u v w (inl a) (inr (inl b)) =
-      inr (inl (let e = ap returns_in a.0 in let x = a.1 in omega arith))
-  lighter_then c y z u v w (inl a) (inr (inr b)) =
-      inr (inr (either_right y z b.0, let e = ap returns_in a.0 in let x = a.1 in let n = b.1 in omega arith))
-  lighter_then c y z u v w (inr (inl a)) (inl b) =
-      inr (inl (let e = ap returns_in b.0 in let x = b.1 in omega arith))
-  lighter_then c y z u v w (inr (inl a)) (inr (inl b)) = inr (inl (omega arith))
-  lighter_then c y z u v w (inr (inl a)) (inr (inr b)) = inr (inl (let n = b.1 in omega arith))
-  lighter_then c y z u v w (inr (inr a)) (inl b) =
-      inr (inr (either_left y z a.0, let e = ap returns_in b.0 in let x = b.1 in let n = a.1 in omega arith))
-  lighter_then c y z u v w (inr (inr a)) (inr (inl b)) = inr (inl (let n = a.1 in omega arith))
-  lighter_then c y z u v w (inr (inr a)) (inr (inr b)) =
-      inr (inr (either_left y z a.0, let n = a.1 in let m = b.1 in omega arith))
+  lighter_then c y z u v w a b =
+      record { less = let m = a.less in let n = b.less in omega arith; how = go a.how b.how }
+    where
+      go : ((v.links c).asked ≡ (u.links c).asked)
+          ⊎ (returns_in (v.links c).asked + due c v + k ≤ returns_in (u.links c).asked + due c u) ⊎ (y ≡ true)
+          → ((w.links c).asked ≡ (v.links c).asked)
+          ⊎ (returns_in (w.links c).asked + due c w + k ≤ returns_in (v.links c).asked + due c v) ⊎ (z ≡ true)
+          → ((w.links c).asked ≡ (u.links c).asked)
+          ⊎ (returns_in (w.links c).asked + due c w + k ≤ returns_in (u.links c).asked + due c u) ⊎ ((y || z) ≡ true)
+      go (inl e) (inl f) = inl (f ∙ e)
+      go (inr (inl m)) f = inr (inl (let n = b.less in omega arith))
+      go e (inr (inl n)) = inr (inl (let m = a.less in omega arith))
+      go (inr (inr e)) f = inr (inr (or_left y z e))
+      go e (inr (inr f)) = inr (inr (or_right y z f))
 
-  -- nothing is handed out
-  lighter_quiet : (c : ℕ) (w : World) (h : Heard) → h.send ≡ [] → welcomed c h.entries ≡ [] → informed c h.entries ≡ []
-      → sent c h.entries ≡ [] → took c h.entries ≡ [] → Lighter c false w (does_heard c w h)
-  lighter_quiet c w h none h1 h2 h3 h4 =
-      inl (
-        asked_heard c w h ∙ ap (λ ts. (w.links c).asked ++ wire_of ts) none ∙ append-nil (w.links c).asked,
-        (let e = due_same c w (does_heard c w h) h.entries refl refl h1 h2 h3 h4 in omega arith),
-      )
+  -- nothing is handed out at a line
+  lighter_quiet : (c : ℕ) (z : Bool) (w : World) (h : Heard) → h.send ≡ [] → welcomed c h.entries ≡ []
+      → informed c h.entries ≡ [] → sent c h.entries ≡ [] → took c h.entries ≡ [] → Lighter c z w (does_heard c w h)
+  lighter_quiet c z w h none h1 h2 h3 h4 =
+      lighter_same c z w (does_heard c w h)
+      (asked_heard c w h ∙ ap (λ ts. (w.links c).asked ++ wire_of ts) none ∙ append-nil (w.links c).asked)
+      (let e = due_same c w (does_heard c w h) h.entries refl refl h1 h2 h3 h4 in omega arith)
 
-  -- commands are handed out that are due no longer: a roll, or the answers to a message
-  lighter_some : (c : ℕ) (w : World) (h : Heard) → Texts h.send
-      → length h.send + due c (does_heard c w h) + k ≤ due c w → Lighter c false w (does_heard c w h)
-  lighter_some c w h texts less =
-      inr (inl (let a = ap returns_in (asked_heard c w h) ∙ returns_append (w.links c).asked (wire_of h.send) in
-      let r = returns_commands h.send texts in omega arith))
-
-  -- answers to a message are handed out that are due no longer
-  lighter_message : (c : ℕ) (w : World) (h : Heard) → Texts h.send
-      → length h.send + due c (does_heard c w h) ≤ due c w → Lighter c true w (does_heard c w h)
-  lighter_message c w h texts less =
-      inr (inr (
-        refl,
-        let a = ap returns_in (asked_heard c w h) ∙ returns_append (w.links c).asked (wire_of h.send) in
-            let r = returns_commands h.send texts in omega arith,
-      ))
+  -- how many lines are on their way after commands that were handed out
+  returns_heard : (c : ℕ) (w : World) (h : Heard) → Texts h.send
+      → returns_in ((does_heard c w h).links c).asked ≡ returns_in (w.links c).asked + length h.send
+  returns_heard c w h texts =
+      let a = ap returns_in (asked_heard c w h) ∙ returns_append (w.links c).asked (wire_of h.send) in
+      let r = returns_commands h.send texts in omega arith
 
   module _ (law : Lawful) where
+    -- a message that is heard is answered or not: if it is, the answer was due and is no longer
+    lighter_answer : (c : ℕ) (w : World) (z : Bool) (e : Entry) (ts : List (List ℕ)) (n : ℕ) → Texts ts → length ts ≤ n
+        → (z ≡ true → due c (noted w (e ∷ [])) + n ≡ due c w) → due c (noted w (e ∷ [])) ≤ due c w
+        → Lighter c true w
+        (does_heard c w
+        (record { entries = e ∷ []; send = if z then ts else []; confirmed = None; rolled = false }))
+    unfolding due
+    lighter_answer c w true e ts n texts few less still =
+        let l = less refl in
+        let r = returns_heard c w (record { entries = e ∷ []; send = ts; confirmed = None; rolled = false }) texts in
+        record { less = omega arith; how = inr (inr refl) }
+    lighter_answer c w false e ts n texts few less still =
+        lighter_same c true w _
+        (asked_heard c w (record { entries = e ∷ []; send = []; confirmed = None; rolled = false })
+        ∙ append-nil (w.links c).asked) still
+
+    -- what is due before and after a message that is noted
+    due_message : (c : ℕ) (w : World) (e : Entry) (n m : ℕ) → sent c (e ∷ []) ≡ [] → took c (e ∷ []) ≡ []
+        → first_due 1 (welcomed c (w.log ++ e ∷ [])) + n ≡ first_due 1 (welcomed c w.log)
+        → first_due 3 (informed c (w.log ++ e ∷ [])) + m ≡ first_due 3 (informed c w.log)
+        → due c (noted w (e ∷ [])) + n + m ≡ due c w
+    unfolding due due_of
+    due_message c w e n m s t ws is =
+        let ss : sent c (w.log ++ e ∷ []) ≡ sent c w.log = map_no_more (sent_by c) w.log (e ∷ []) s in
+        let ts : took c (w.log ++ e ∷ []) ≡ took c w.log = map_no_more (took_by c) w.log (e ∷ []) t in
+        let rolls : Bool = is_to_roll (phase_of w.board) in
+        let r : roll_due rolls (length (sent c (w.log ++ e ∷ []))) (length (took c (w.log ++ e ∷ [])))
+        ≡ roll_due rolls (length (sent c w.log)) (length (took c w.log)) = rw (ss, ts) refl in omega arith
+
     -- a message 1 that is heard: its answer was due
     lighter_welcome : (c : ℕ) (w : World) → Lighter c true w
         (does_heard c w (record {
@@ -442,51 +393,16 @@ module _ (k : ℕ) where
           confirmed = None;
           rolled = false;
         }))
-    unfolding due due_of welcome_due
-    lighter_welcome c w = go (welcomed c w.log) refl
-      where
-        heard : Bool → Heard
-        heard z = record {
-          entries = Welcomed c ∷ [];
-          send = if z then style_text ∷ [] else [];
-          confirmed = None;
-          rolled = false;
-        }
-
-        more : (z : Bool) → welcomed c (does_heard c w (heard z)).log ≡ welcomed c w.log ++ c ∷ []
-        more z = map_more (welcomed_by c) w.log (Welcomed c ∷ []) (c ∷ []) (own c c)
-
-        rest : (z : Bool) → (informed c (does_heard c w (heard z)).log ≡ informed c w.log)
-            × (sent c (does_heard c w (heard z)).log ≡ sent c w.log)
-            × (took c (does_heard c w (heard z)).log ≡ took c w.log)
-        rest z = (
-          map_no_more (informed_by c) w.log (Welcomed c ∷ []) refl,
-          map_no_more (sent_by c) w.log (Welcomed c ∷ []) refl,
-          map_no_more (took_by c) w.log (Welcomed c ∷ []) refl,
-        )
-
-        after : (z : Bool) (ws : List ℕ) → welcomed c w.log ≡ ws
-            → due c (does_heard c w (heard z))
-            ≡ due_of (ws ++ c ∷ []) (informed c w.log) (is_to_roll (phase_of w.board)) (sent c w.log) (took c w.log)
-        after z ws e =
-            let r = rest z in
-            let m = more z ∙ ap (λ l. l ++ c ∷ []) e in
-            rw (m, r.0, r.1, r.2) refl
-
-        go : (ws : List ℕ) → welcomed c w.log ≡ ws
-            → Lighter c true w (does_heard c w (heard (is_empty (welcomed c w.log))))
-        go [] e =
-            subst (λ l. Lighter c true w (does_heard c w (heard (is_empty l)))) (sym e)
-            (lighter_message c w (heard true) (law.style_quiet.text, tt)
-            (let a = after true [] e in
-            let b = ap welcome_due e in omega arith))
-        go (x ∷ xs) e =
-            subst (λ l. Lighter c true w (does_heard c w (heard (is_empty l)))) (sym e)
-            (inl (
-              asked_heard c w (heard false) ∙ append-nil (w.links c).asked,
-              (let a = after false (x ∷ xs) e in
-                  let b = ap welcome_due e in omega arith),
-            ))
+    lighter_welcome c w =
+        let es : List Entry = Welcomed c ∷ [] in
+        let gone : first_due 1 (welcomed c (w.log ++ es)) ≡ 0 =
+        ap (first_due 1) (map_more (welcomed_by c) w.log es (c ∷ []) (own c c)) ∙ first_gone 1 (welcomed c w.log) c in
+        let same : first_due 3 (informed c (w.log ++ es)) ≡ first_due 3 (informed c w.log) =
+        ap (first_due 3) (map_no_more (informed_by c) w.log es refl) in
+        let n : ℕ = first_due 1 (welcomed c w.log) in
+        let all = due_message c w (Welcomed c) n 0 refl refl (omega arith) (omega arith) in
+        lighter_answer c w (is_empty (welcomed c w.log)) (Welcomed c) (style_text ∷ []) 1 (law.style_quiet.text, tt)
+        (omega arith) (λ z. let f = first_all 1 (welcomed c w.log) z in omega arith) (omega arith)
 
     -- a message 2 that is heard: its answers were due
     lighter_inform : (c : ℕ) (w : World) (m : MessageValue) → Lighter c true w
@@ -496,53 +412,18 @@ module _ (k : ℕ) where
           confirmed = None;
           rolled = false;
         }))
-    unfolding due due_of inform_due
-    lighter_inform c w m = go (informed c w.log) refl
-      where
-        heard : Bool → Heard
-        heard z = record {
-          entries = Informed c (flags_of m) ∷ [];
-          send = if z then initial_commands m else [];
-          confirmed = None;
-          rolled = false;
-        }
-
-        more : (z : Bool) → informed c (does_heard c w (heard z)).log ≡ informed c w.log ++ flags_of m ∷ []
-        more z = map_more (informed_by c) w.log (Informed c (flags_of m) ∷ []) (flags_of m ∷ []) (own c (flags_of m))
-
-        rest : (z : Bool) → (welcomed c (does_heard c w (heard z)).log ≡ welcomed c w.log)
-            × (sent c (does_heard c w (heard z)).log ≡ sent c w.log)
-            × (took c (does_heard c w (heard z)).log ≡ took c w.log)
-        rest z = (
-          map_no_more (welcomed_by c) w.log (Informed c (flags_of m) ∷ []) refl,
-          map_no_more (sent_by c) w.log (Informed c (flags_of m) ∷ []) refl,
-          map_no_more (took_by c) w.log (Informed c (flags_of m) ∷ []) refl,
-        )
-
-        after : (z : Bool) (is : List Flags) → informed c w.log ≡ is
-            → due c (does_heard c w (heard z))
-            ≡ due_of (welcomed c w.log) (is ++ flags_of m ∷ []) (is_to_roll (phase_of w.board)) (sent c w.log)
-            (took c w.log)
-        after z is e =
-            let r = rest z in
-            let i = more z ∙ ap (λ l. l ++ flags_of m ∷ []) e in
-            rw (i, r.0, r.1, r.2) refl
-
-        go : (is : List Flags) → informed c w.log ≡ is
-            → Lighter c true w (does_heard c w (heard (is_empty (informed c w.log))))
-        go [] e =
-            subst (λ l. Lighter c true w (does_heard c w (heard (is_empty l)))) (sym e)
-            (lighter_message c w (heard true) (quiet_are_texts (initial_commands m) (law.info_quiet m))
-            (let a = after true [] e in
-            let b = ap inform_due e in
-            let f = few_initial (autoboard m) (moreboards m) in omega arith))
-        go (x ∷ xs) e =
-            subst (λ l. Lighter c true w (does_heard c w (heard (is_empty l)))) (sym e)
-            (inl (
-              asked_heard c w (heard false) ∙ append-nil (w.links c).asked,
-              (let a = after false (x ∷ xs) e in
-                  let b = ap inform_due e in omega arith),
-            ))
+    lighter_inform c w m =
+        let f : Flags = flags_of m in
+        let es : List Entry = Informed c f ∷ [] in
+        let same : first_due 1 (welcomed c (w.log ++ es)) ≡ first_due 1 (welcomed c w.log) =
+        ap (first_due 1) (map_no_more (welcomed_by c) w.log es refl) in
+        let gone : first_due 3 (informed c (w.log ++ es)) ≡ 0 =
+        ap (first_due 3) (map_more (informed_by c) w.log es (f ∷ []) (own c f)) ∙ first_gone 3 (informed c w.log) f in
+        let n : ℕ = first_due 3 (informed c w.log) in
+        let all = due_message c w (Informed c f) 0 n refl refl (omega arith) (omega arith) in
+        lighter_answer c w (is_empty (informed c w.log)) (Informed c f) (initial_commands m) 3
+        (quiet_texts (initial_commands m) (law.info_quiet m)) (few_initial (autoboard m) (moreboards m))
+        (λ z. let i = first_all 3 (informed c w.log) z in omega arith) (omega arith)
 
     -- a standing order is due at a board that is heard: nothing waits, and the board is the server's
     record Fresh (c : ℕ) (w : World) (b : Board) : Type 0 where
@@ -597,12 +478,13 @@ module _ (k : ℕ) where
         → Lighter c false w (does_heard c w (shows_board c w.log b rolls))
     unfolding due due_of
     lighter_shows c more w b some good y false h =
-        lighter_quiet c w (shows_board c w.log b false) refl refl refl refl refl
+        lighter_quiet c false w (shows_board c w.log b false) refl refl refl refl refl
     lighter_shows c more w b some good y true h =
         let f = fresh c more w b some y h in
         let r = due_rolls law c w.log b y.here h in
-        lighter_some c w (shows_board c w.log b true) (law.decision_text b roll good r.allowed, tt)
-        (spends f (due_to_roll c (w.log ++ Shown c b ∷ []) b h))
+        let s = spends f (due_to_roll c (w.log ++ Shown c b ∷ []) b h) in
+        let n = returns_heard c w (shows_board c w.log b true) (law.decision_text b roll good r.allowed, tt) in
+        record { less = omega arith; how = inr (inl (omega arith)) }
       where
         spends : Fresh c w b → is_to_roll (phase_of b) ≡ true
             → 1 + due c (does_heard c w (shows_board c w.log b true)) + k ≤ due c w
@@ -622,8 +504,8 @@ module _ (k : ℕ) where
             roll_yes _ _ _ (ap (λ x. is_to_roll (phase_of x)) f.is ∙ to) e in
             let later : roll_due (is_to_roll (phase_of w.board)) (length (sent c (w.log ++ es)))
             (length (took c (w.log ++ es))) ≡ 0 = roll_spent _ _ _ (λ z. absurd (omega arith)) in
-            let a = ap welcome_due ws in
-            let i = ap inform_due is in omega arith
+            let a = ap (first_due 1) ws in
+            let i = ap (first_due 3) is in omega arith
 
     -- each line that is heard: what it calls forth was due
     lighter_one : (c : ℕ) (more : List Board) (w : World) (x : ReadingValue) → 0 < c
@@ -633,21 +515,18 @@ module _ (k : ℕ) where
         (λ z. lighter_shows c more w b some z
         (record { joint = subst (λ t. Joint (one_if t b ++ more) w) z y.joint; here = y.here; mine = y.mine })
         (is_due c (w.log ++ Shown c b ∷ []) b) refl)
-        (λ z. lighter_quiet c w nothing_heard refl refl refl refl refl)
+        (λ z. lighter_quiet c false w nothing_heard refl refl refl refl refl)
     lighter_one c more w (numbered_line m) some y =
         if_fact (λ h. Lighter c true w (does_heard c w h)) (nat_eq m.number 1) _ _ (λ z. lighter_welcome c w)
         (λ z. if_fact (λ h. Lighter c true w (does_heard c w h)) (nat_eq m.number 2) _ _ (λ z. lighter_inform c w m)
-        (λ z. inl (
-          asked_heard c w nothing_heard ∙ append-nil (w.links c).asked,
-          (let e = due_same c w (does_heard c w nothing_heard) [] refl refl refl refl refl refl in omega arith),
-        )))
-    lighter_one c more w (text_line t) some y = lighter_quiet c w nothing_heard refl refl refl refl refl
-    lighter_one c more w (malformed_line n at f) some y = lighter_quiet c w nothing_heard refl refl refl refl refl
+        (λ z. lighter_quiet c true w nothing_heard refl refl refl refl refl))
+    lighter_one c more w (text_line t) some y = lighter_quiet c false w nothing_heard refl refl refl refl refl
+    lighter_one c more w (malformed_line n at f) some y = lighter_quiet c false w nothing_heard refl refl refl refl refl
 
     -- so with lines, one after another
     pub lighter_all : (c : ℕ) (ls : List Line) (more : List Board) (w : World) → 0 < c
         → Hearing law c (boards ls ++ more) w → Lighter c (has_message ls) w (hears_all c w ls)
-    lighter_all c [] more w some y = inl (refl, omega arith)
+    lighter_all c [] more w some y = lighter_same c false w w refl (omega arith)
     lighter_all c (l ∷ ls) more w some y =
         let x : ReadingValue = line_reading l in
         let y' = subst (λ bs. Hearing law c bs w) (append_assoc (board_of x) (boards ls) more) y in

@@ -2,18 +2,19 @@
 use Rattle.std.proofs.Common.{◌≡◌, ◌⊎◌, ℕ, zero, suc, ◌+◌, ◌<◌, ◌≤◌, Bool, true, false, not, ◌&&◌, ◌||◌, List, [], ◌∷◌}
 use Rattle.std.proofs.Common.{◌++◌, Option, Some, None, nat_eq, nat_lt, nat_le, take, flat_map, length, refl, sym}
 use Rattle.std.proofs.Common.{◌∙◌, ap, subst, inl, inr, append-nil, true≢false, arith, if◌then◌else◌, is_some}
-use Rattle.std.proofs.Math.Seq.{drop-length, take-length}
-use Rattle.std.proofs.lemmas.Bool.Decides.{eqb_tells, nat_tests}
-use Rattle.fibs_lines.specs.Lines.{ReadLine as Line, lines_of}
+use Rattle.std.proofs.Math.Seq.{drop-length, take-length, take-nil}
+use Rattle.std.proofs.lemmas.Bool.{le-ltb, or_from}
+use Rattle.std.proofs.lemmas.Bool.Decides.{nat_tests}
+use Rattle.std.proofs.lemmas.Option.{same_Some, none-some}
+use Rattle.fibs_lines.specs.Lines.{lines_of}
 use Rattle.fibs_boards.specs.Board.{BoardFields as Board, spelling}
 use Rattle.fibs_position.specs.BoardEffect.{IsDie, is_die}
 use Rattle.fibs_position.specs.GoodBoard.{good as is_good}
-use Rattle.fibs_history.specs.Machine.{gained, on_wire}
+use Rattle.fibs_history.specs.Machine.{gained, on_wire, wire_of}
 use Rattle.fibs_history.specs.Log.{Took, Undone}
-use Rattle.fibs_history.specs.Words.{Ask, is_empty, open_now}
+use Rattle.fibs_history.specs.Words.{is_empty, open_now}
 use Rattle.fibs_machine.specs.CanRest.{CanRest, LeadsToRest, OnlyWires, WithDice, EachNext, next_to_rest, lines_served}
-use Rattle.fibs_machine.specs.Events.{Event, Open, Click, Plain, Deliver, Lose, Serve, Own, Repeat, Text, Order}
-use Rattle.fibs_machine.specs.Events.{Withdraw}
+use Rattle.fibs_machine.specs.Events.{Event, Deliver, Serve}
 use Rattle.fibs_machine.specs.Headline.{IsAtRest}
 use Rattle.fibs_machine.specs.Joint.{AreLines}
 use Rattle.fibs_machine.specs.Refusals.{refusal}
@@ -23,27 +24,29 @@ use Rattle.fibs_machine.specs.declared.refusal.WorldRefusal.TheVariants.{NotOpen
 use Rattle.fibs_machine.specs.Runs.{AllAccepted, MayBe, after_all, world_after}
 use Rattle.fibs_machine.specs.Server.{Served}
 use Rattle.fibs_machine.specs.Server as V
-use Rattle.fibs_machine.specs.Wires.{Link, delivered, taken, more_coming, next_line}
-use Rattle.fibs_machine.specs.World.{World, start, after, noted, linked, sends, is_talking, does_served, hears_all}
+use Rattle.fibs_machine.specs.Wires.{Link, delivered, taken, more_asked, more_coming, next_line}
+use Rattle.fibs_machine.specs.World.{World, start, after, linked, does_served, hears_all}
 use Rattle.fibs_machine.specs.World.{serves}
 use Rattle.fibs_machine.proofs.Answering.{answered_at as answered}
 use Rattle.fibs_machine.proofs.Lawful.{Lawful, IsQuiet}
 use Rattle.fibs_machine.proofs.rest.BeforeRolls.{Rules, effect_no_roll}
 use Rattle.fibs_machine.proofs.Final.{kept, told_start}
+use Rattle.fibs_machine.proofs.OnceLemmas.{all_append}
 use Rattle.fibs_machine.proofs.Steps.{Fits, fits}
 use Rattle.fibs_history.proofs.Lists.{other_number, and_both}
-use Rattle.fibs_machine.proofs.wires.Boards.{Whole, gained_none, gained_more}
-use Rattle.fibs_machine.proofs.wires.Ways.{OnWay, way_served}
-use Rattle.fibs_machine.proofs.joint.Carrying.{Alike, alike_hears_all}
+use Rattle.fibs_machine.proofs.wires.Boards.{Whole, boards, gained_none, gained_more}
+use Rattle.fibs_machine.proofs.wires.Ways.{way_served}
+use Rattle.fibs_machine.proofs.ClientActs.{Does, does, given, lines_at}
+use Rattle.fibs_machine.proofs.ServerActs.{answers_served}
 use Rattle.fibs_machine.proofs.joint.Deliver.{hearing_begins}
 use Rattle.fibs_machine.proofs.joint.EachEvent.{joint_after, joint_start, served}
-use Rattle.fibs_machine.proofs.joint.Joint.{Joint, current, linked_same, linked_other}
-use Rattle.fibs_machine.proofs.joint.Left.{queue_texts}
+use Rattle.fibs_machine.proofs.joint.Joint.{Joint, linked_same, linked_keeps}
+use Rattle.fibs_machine.proofs.joint.Left.{way_texts}
 use Rattle.fibs_machine.proofs.rest.Measure.{returns_in, returns_none, returns_most, returns_less, returns_lines, due}
 use Rattle.fibs_machine.proofs.rest.Measure.{due_most, Lessens}
-use Rattle.fibs_machine.proofs.rest.Measure.{NoRoll, lessens_served, Lighter, lighter_from, lighter_all, due_relinked}
-use Rattle.fibs_machine.proofs.rest.Measure.{asked_linked, is_message, has_message, message_append}
-use Rattle.fibs_machine.proofs.joint.Sending.{if_fact, not_older, same_test}
+use Rattle.fibs_machine.proofs.rest.Measure.{NoRoll, lessens_served, Lighter, lighter_same, lighter_all, due_relinked}
+use Rattle.fibs_machine.proofs.rest.Measure.{is_message, has_message, message_append}
+use Rattle.fibs_machine.proofs.joint.Sending.{not_older, open_way, same_test, which}
 
 -- one, if any byte is on its way
 pending : List ℕ → List ℕ → ℕ
@@ -121,69 +124,28 @@ Comes c w w' =
     × (((w'.links c).coming ≡ (w.links c).coming)
     ⊎ ((w'.links c).coming ≡ (w.links c).coming ++ on_wire (spelling w'.board)))
 
--- if the server's board is sent, that is what comes
-comes_sends : (n : World) (c : ℕ) → Comes c n (sends n (spelling n.board))
-comes_sends n c =
-    if_fact (Comes c n) (is_talking n) _ _
-    (λ z. elim (eqb_tells c n.logged_in) [
-      | inl e ↦ subst (λ d. Comes d n (linked n n.logged_in l)) (sym e.1) (
-        ap (λ (x : Link). x.heard) (linked_same n n.logged_in l),
-        inr (ap (λ (x : Link). x.coming) (linked_same n n.logged_in l)),
-      )
-      | inr m ↦
-          let same = linked_other n n.logged_in c l m.1 in
-          (ap (λ (x : Link). x.heard) same, inl (ap (λ (x : Link). x.coming) same))
-    ])
-    (λ z. (refl, inl refl))
-  where
-    l : Link
-    l = more_coming (n.links n.logged_in) (on_wire (spelling n.board))
-
--- a change of the wire to the server alone brings nothing to the client
-comes_after : (c : ℕ) (w n w' : World) → (n.links c).heard ≡ (w.links c).heard → (n.links c).coming ≡ (w.links c).coming
-    → Comes c n w' → Comes c w w'
-comes_after c w n w' h k a = (
-  a.0 ∙ h,
-  elim a.1 [
-    | inl e ↦ inl (e ∙ k)
-    | inr e ↦ inr (e ∙ ap (λ bytes. bytes ++ on_wire (spelling w'.board)) k)
-  ],
-)
-
 -- whatever the server answers to a line, at most its board comes
 comes_served : (c : ℕ) (w : World) (l : Link) (s : Served) → l.heard ≡ (w.links c).heard → l.coming ≡ (w.links c).coming
     → Comes c w (does_served c (linked w c l) s)
-comes_served c w l s h k = go s
-  where
-    here : (linked w c l).links c ≡ l
-    here = linked_same w c l
-
-    heard : ((linked w c l).links c).heard ≡ (w.links c).heard
-    heard = ap (λ (x : Link). x.heard) here ∙ h
-
-    coming : ((linked w c l).links c).coming ≡ (w.links c).coming
-    coming = ap (λ (x : Link). x.coming) here ∙ k
-
-    go : (s : Served) → Comes c w (does_served c (linked w c l) s)
-    go V.Stale = (heard, inl coming)
-    go V.LoggedIn = (heard, inl coming)
-    go (V.Took d b) =
-        let n : World = noted (record (linked w c l) { board = b }) (Took c w.board d ∷ []) in
-        comes_after c w n (sends n (spelling b)) heard coming (comes_sends n c)
-    go (V.Undone d) =
-        let n : World = noted (linked w c l) (Undone c w.board d ∷ []) in
-        comes_after c w n (sends n (spelling w.board)) heard coming (comes_sends n c)
-    go V.Answered = comes_after c w (linked w c l) (sends (linked w c l) (spelling w.board)) heard coming
-        (comes_sends (linked w c l) c)
+comes_served c w l s h k =
+    let w' : World = does_served c (linked w c l) s in
+    let here : (linked w c l).links c ≡ l = linked_same w c l in
+    elim ((answers_served c (linked w c l) s).link c) [
+      | inl e ↦
+          let e' : w'.links c ≡ l = e ∙ here in
+          (ap (λ (x : Link). x.heard) e' ∙ h, inl (ap (λ (x : Link). x.coming) e' ∙ k))
+      | inr e ↦
+          let e' : w'.links c ≡ more_coming l (on_wire (spelling w'.board)) =
+          e ∙ ap (λ x. more_coming x (on_wire (spelling w'.board))) here in (
+            ap (λ (x : Link). x.heard) e' ∙ h,
+            inr (ap (λ (x : Link). x.coming) e' ∙ ap (λ bytes. bytes ++ on_wire (spelling w'.board)) k),
+          )
+    ]
 
 -- none of three tests holds
 none_of : (x y z : Bool) (a b d : WorldRefusal) → x ≡ false → y ≡ false → z ≡ false
     → (if x then Some a else (if y then Some b else (if z then Some d else None))) ≡ None
 none_of x y z a b d h k m = rw (h, k, m) refl
-
--- a number that is not below another
-not_less_of : (a b : ℕ) → b ≤ a → nat_lt a b ≡ false
-not_less_of a b h = grind (arith, nat_tests)
 
 -- the test of dice is true of a die
 die_test : (n : ℕ) → IsDie n → is_die n ≡ true
@@ -192,19 +154,15 @@ die_test n h =
     let b = h.1 in
     and_both (nat_lt 0 n) (nat_le n 6) (grind (arith, nat_tests)) (grind (arith, nat_tests))
 
--- neither of two
-neither : (a b : Bool) → a ≡ false → b ≡ false → (a || b) ≡ false
-neither a b h k = rw (h, k) refl
-
 -- a line that can be served is accepted
 serve_accepted : (w : World) (c d1 d2 : ℕ) (p : List ℕ × List ℕ) → 0 < c → c ≤ w.count → w.logged_in ≤ c
     → is_die d1 ≡ true → is_die d2 ≡ true → next_line (w.links c).asked ≡ Some p → refusal w (Serve c d1 d2) ≡ None
 serve_accepted w c d1 d2 p some known recent i1 i2 next =
     none_of (nat_eq c 0 || nat_lt w.count c) (not (is_die d1 && is_die d2))
     (nat_lt c w.logged_in || not (is_some (next_line (w.links c).asked))) NoSuchConnection BadDice NothingToServe
-    (neither _ _ (other_number c 0 (λ e. absurd (omega arith))) (not_less_of w.count c known))
+    (or_from _ _ (other_number c 0 (λ e. absurd (omega arith))) (le-ltb w.count c known))
     (ap not (and_both _ _ i1 i2))
-    (neither _ _ (not_less_of c w.logged_in recent) (ap (λ o. not (is_some o)) next))
+    (or_from _ _ (le-ltb c w.logged_in recent) (ap (λ o. not (is_some o)) next))
 
 -- an event on the wires of the open connection, which makes the measure smaller
 record Goes (login : List ℕ) (d1 d2 : ℕ) (w : World) (e : Event) : Type 0 where
@@ -243,35 +201,13 @@ record Leads (login : List ℕ) (d1 d2 : ℕ) (w : World) (events : List Event) 
 wires_cons : (c : ℕ) (e : Event) (es : List Event) → OnlyWires c (e ∷ []) → OnlyWires c es → OnlyWires c (e ∷ es)
 wires_cons c (Serve conn die other) es h k = (h.0, k)
 wires_cons c (Deliver n) es h k = k
-wires_cons c Open es h k = absurd h
-wires_cons c (Click d) es h k = absurd h
-wires_cons c (Plain p) es h k = absurd h
-wires_cons c (Lose m) es h k = absurd h
-wires_cons c (Own b) es h k = absurd h
-wires_cons c Repeat es h k = absurd h
-wires_cons c (Text t) es h k = absurd h
-wires_cons c Order es h k = absurd h
-wires_cons c Withdraw es h k = absurd h
+wires_cons c e es h k = absurd h
 
 -- one more event with these dice
 dice_cons : (d1 d2 : ℕ) (e : Event) (es : List Event) → WithDice d1 d2 (e ∷ []) → WithDice d1 d2 es
     → WithDice d1 d2 (e ∷ es)
 dice_cons d1 d2 (Serve conn die other) es h k = (h.0, h.1, k)
-dice_cons d1 d2 (Deliver n) es h k = k
-dice_cons d1 d2 Open es h k = k
-dice_cons d1 d2 (Click d) es h k = k
-dice_cons d1 d2 (Plain p) es h k = k
-dice_cons d1 d2 (Lose m) es h k = k
-dice_cons d1 d2 (Own b) es h k = k
-dice_cons d1 d2 Repeat es h k = k
-dice_cons d1 d2 (Text t) es h k = k
-dice_cons d1 d2 Order es h k = k
-dice_cons d1 d2 Withdraw es h k = k
-
--- of no bytes none are taken
-take_nil : (n : ℕ) → take {A = ℕ} n [] ≡ []
-take_nil zero = refl
-take_nil (suc n) = refl
+dice_cons d1 d2 e es h k = k
 
 -- events that are accepted after others that are
 accepted_append : (login : List ℕ) (xs ys : List Event) (w : World) → AllAccepted login w xs
@@ -284,12 +220,6 @@ accepted_later : (login : List ℕ) (xs ys : List Event) (w : World) → AllAcce
     → AllAccepted login (after_all login w xs) ys
 accepted_later login [] ys w h = h
 accepted_later login (x ∷ xs) ys w h = accepted_later login xs ys (after login w x) h.1
-
--- the world after two lists of events
-after_append : (login : List ℕ) (xs ys : List Event) (w : World)
-    → after_all login w (xs ++ ys) ≡ after_all login (after_all login w xs) ys
-after_append login [] ys w = refl
-after_append login (x ∷ xs) ys w = after_append login xs ys (after login w x)
 
 -- no bytes, or some
 some_or_none : (xs : List ℕ) → (xs ≡ []) ⊎ (is_empty xs ≡ false)
@@ -313,14 +243,6 @@ answer_no_roll rules now logged_in c first text d1 d2 =
     go (V.Took d b) h = effect_no_roll rules now d d1 d2 b h.1
     go (V.Undone d) h = tt
     go V.Answered h = tt
-
--- an event is there, or not
-is_none_some : (o : Option Event) (e : Event) → o ≡ None → o ≡ Some e → ⊥
-is_none_some o e h k = cc
-
--- an event that is there is that event
-same_event : (x y : Event) → Some x ≡ Some y → x ≡ y
-same_event x y h = cc
 
 -- if there is a line, it is served next
 serve_next : (d1 d2 : ℕ) (w : World) (p : List ℕ × List ℕ) → next_line (w.links (open_now w.log)).asked ≡ Some p
@@ -422,49 +344,57 @@ module _ (law : Lawful) (rules : Rules) where
 
   -- what the client hands out if bytes are delivered was due
   deliver_lightens : (k : ℕ) (login : List ℕ) (w : World) (n : ℕ) → Joint [] w → 0 < open_now w.log
-      → Lighter k (open_now w.log)
-      (has_message (gained (w.links (open_now w.log)).heard (take n (w.links (open_now w.log)).coming))) w
-      (after login w (Deliver n))
-  deliver_lightens k login w n j some = elim (eqb_tells (open_now w.log) w.logged_in) [
+      → Lighter k (open_now w.log) (has_message (lines_at w (Deliver n))) w (after login w (Deliver n))
+  deliver_lightens k login w n j some = relit (elim (which [] w (open_now w.log) j refl some) [
     | inl e ↦ subst
-        (λ c. Lighter k c (has_message (gained (w.links c).heard (take n (w.links c).coming))) w
+        (λ c. Lighter k c (has_message (gained (w.links c).heard (take n (w.links c).coming)))
+        (linked w c (delivered (w.links c) n))
         (hears_all c (linked w c (delivered (w.links c) n)) (gained (w.links c).heard (take n (w.links c).coming))))
-        (sym e.1) (at_current e.1)
-    | inr m ↦ at_ahead m.1
-  ]
+        (sym e) (at_current e)
+    | inr lt ↦ at_ahead lt
+  ])
     where
-      relit : (c : ℕ) (z : Bool) (w' : World) → Lighter k c z (linked w c (delivered (w.links c) n)) w'
-          → Lighter k c z w w'
-      relit c z w' h =
-          lighter_from k c z w (linked w c (delivered (w.links c) n)) w'
-          (asked_linked w c (delivered (w.links c) n) refl c)
-          (due_relinked k c w (delivered (w.links c) n)) h
+      relit : Lighter k (open_now w.log) (has_message (lines_at w (Deliver n))) (given w (Deliver n))
+          (after login w (Deliver n))
+          → Lighter k (open_now w.log) (has_message (lines_at w (Deliver n))) w (after login w (Deliver n))
+      relit h =
+          let l : Link = delivered (w.links (open_now w.log)) n in
+          let e = linked_keeps (λ (x : Link). x.asked) w (open_now w.log) l refl (open_now w.log) in
+          let d = due_relinked k (open_now w.log) w l in
+          let r = ap returns_in e in
+          let less = h.less in
+          record {
+            less = omega arith;
+            how = elim h.how [
+              | inl a ↦ inl (a ∙ e)
+              | inr a ↦ elim a [ inl x ↦ inr (inl (omega arith)) | inr x ↦ inr (inr x) ]
+            ];
+          }
 
       at_current : open_now w.log ≡ w.logged_in
           → Lighter k w.logged_in
-          (has_message (gained (w.links w.logged_in).heard (take n (w.links w.logged_in).coming))) w
+          (has_message (gained (w.links w.logged_in).heard (take n (w.links w.logged_in).coming)))
+          (linked w w.logged_in (delivered (w.links w.logged_in) n))
           (hears_all w.logged_in (linked w w.logged_in (delivered (w.links w.logged_in) n))
           (gained (w.links w.logged_in).heard (take n (w.links w.logged_in).coming)))
       at_current e =
           let have : 0 < w.logged_in = omega arith in
-          let ls : List Line = gained (w.links w.logged_in).heard (take n (w.links w.logged_in).coming) in
-          let w1 : World = linked w w.logged_in (delivered (w.links w.logged_in) n) in
-          relit w.logged_in (has_message ls) (hears_all w.logged_in w1 ls)
-          (lighter_all k law w.logged_in ls [] w1 have (hearing_begins law w n j e have))
+          let l : Link = w.links w.logged_in in
+          lighter_all k law w.logged_in (gained l.heard (take n l.coming)) [] (linked w w.logged_in (delivered l n))
+          have (hearing_begins law w n j e have)
 
-      at_ahead : (open_now w.log ≡ w.logged_in → ⊥) → Lighter k (open_now w.log)
-          (has_message (gained (w.links (open_now w.log)).heard (take n (w.links (open_now w.log)).coming))) w
+      at_ahead : w.logged_in < open_now w.log
+          → Lighter k (open_now w.log) (has_message (lines_at w (Deliver n))) (given w (Deliver n))
           (after login w (Deliver n))
-      at_ahead m =
-          let low = not_older [] w (open_now w.log) j refl some in
-          let a = (j.each (open_now w.log)).ahead (omega arith) in
+      at_ahead lt =
+          let a = (j.each (open_now w.log)).ahead lt in
           let l : Link = w.links (open_now w.log) in
+          let w1 : World = given w (Deliver n) in
           let none : gained l.heard (take n l.coming) ≡ [] =
-          ap (λ bytes. gained l.heard (take n bytes)) a.coming ∙ ap (gained l.heard) (take_nil n)
+          ap (λ bytes. gained l.heard (take n bytes)) a.coming ∙ ap (gained l.heard) (take-nil n)
           ∙ gained_none law l.heard in
-          let w1 : World = linked w (open_now w.log) (delivered l n) in
-          subst (λ ls. Lighter k (open_now w.log) (has_message ls) w (hears_all (open_now w.log) w1 ls)) (sym none)
-          (relit (open_now w.log) false w1 (inl (refl, omega arith)))
+          subst (λ ls. Lighter k (open_now w.log) (has_message ls) w1 (hears_all (open_now w.log) w1 ls)) (sym none)
+          (lighter_same k (open_now w.log) false w1 w1 refl (omega arith))
 
   -- if there is no line, a delivery of all bytes makes the measure smaller
   goes_deliver : (login : List ℕ) (d1 d2 : ℕ) (w : World) → Joint [] w → 0 < open_now w.log
@@ -489,12 +419,14 @@ module _ (law : Lawful) (rules : Rules) where
       n : ℕ
       n = length (w.links (open_now w.log)).coming
 
-      a : Alike (linked w c (delivered l n)) (after login w (Deliver n))
-      a = alike_hears_all c (linked w c (delivered l n)) (gained l.heard (take n l.coming))
+      a : Does (boards (lines_at w (Deliver n))) (given w (Deliver n)) (after login w (Deliver n))
+      a = does login w (Deliver n) tt
 
       gone : ((after login w (Deliver n)).links c).coming ≡ []
       gone =
-          a.coming c ∙ ap (λ (x : Link). x.coming) (linked_same w c (delivered l n)) ∙ drop-length l.coming
+          ap (λ (x : Link). x.coming)
+          (a.link c ∙ ap (λ x. more_asked x (wire_of (a.texts c))) (linked_same w c (delivered l n)))
+          ∙ drop-length l.coming
 
       -- no message is on its way then
       silent : message_coming c (after login w (Deliver n)) ≡ false
@@ -504,59 +436,39 @@ module _ (law : Lawful) (rules : Rules) where
 
       smaller : (w' : World) → (w'.links c).coming ≡ [] → message_coming c w' ≡ false
           → Lighter 1 c (has_message (gained l.heard (take n l.coming))) w w' → measure c w' < measure c w
-      smaller w' gone silent (inl q) =
-          let m = measure_is c w in
-          let m' = measure_is c w' in
-          let t = counted_not (message_coming c w') silent in
-          let empty : (w'.links c).asked ≡ [] = q.0 ∙ none in
-          let p : pending (w'.links c).asked (w'.links c).coming ≡ 0 =
-          ap (λ xs. pending xs (w'.links c).coming) empty ∙ ap (pending []) gone ∙ pending_none in
-          let r : returns_in (w'.links c).asked ≡ 0 = ap returns_in empty ∙ returns_none in
-          let d = q.1 in
-          let one = pending_coming (w.links c).asked (w.links c).coming coming in omega arith
-      smaller w' gone silent (inr (inl q)) =
+      smaller w' gone silent a =
           let m = measure_is c w in
           let m' = measure_is c w' in
           let t = counted_not (message_coming c w') silent in
           let one = pending_coming (w.links c).asked (w.links c).coming coming in
-          let most = pending_most (w'.links c).asked (w'.links c).coming in omega arith
-      smaller w' gone silent (inr (inr q)) =
-          let m = measure_is c w in
-          let m' = measure_is c w' in
-          let t = counted_not (message_coming c w') silent in
-          let full : take n l.coming ≡ l.coming = take-length l.coming in
-          let b : message_coming c w ≡ true = ap (λ bytes. has_message (gained l.heard bytes)) (sym full) ∙ q.0 in
-          let u = counted_is (message_coming c w) b in
-          let d = q.1 in
-          let one = pending_coming (w.links c).asked (w.links c).coming coming in
-          let most = pending_most (w'.links c).asked (w'.links c).coming in omega arith
+          let most = pending_most (w'.links c).asked (w'.links c).coming in
+          let less = a.less in
+          elim a.how [
+            | inl e ↦
+                let empty : (w'.links c).asked ≡ [] = e ∙ none in
+                let p : pending (w'.links c).asked (w'.links c).coming ≡ 0 =
+                ap (λ xs. pending xs (w'.links c).coming) empty ∙ ap (pending []) gone ∙ pending_none in omega arith
+            | inr q ↦ elim q [
+              | inl x ↦ omega arith
+              | inr z ↦
+                  let b : message_coming c w ≡ true =
+                  ap (λ bytes. has_message (gained l.heard bytes)) (sym (take-length l.coming)) ∙ z in
+                  let u = counted_is (message_coming c w) b in omega arith
+            ]
+          ]
 
   -- if no line of the open connection is left, it is the one logged in, and no byte is on its way to the server
   served_all : (w : World) → Joint [] w → 0 < open_now w.log → next_line (w.links (open_now w.log)).asked ≡ None
       → (open_now w.log ≡ w.logged_in) × ((w.links (open_now w.log)).asked ≡ [])
-  served_all w j some none = elim (eqb_tells (open_now w.log) w.logged_in) [
-    | inl e ↦ (e.1, at_current e.1)
-    | inr m ↦ absurd (at_ahead m.1)
+  served_all w j some none = elim (which [] w (open_now w.log) j refl some) [
+    | inl e ↦ (e, empty)
+    | inr lt ↦
+        let ahead = (j.each (open_now w.log)).ahead lt in
+        absurd (true≢false (sym (ap is_empty empty) ∙ ahead.asks (same_test _ _ refl)))
   ]
     where
-      at_current : open_now w.log ≡ w.logged_in → (w.links (open_now w.log)).asked ≡ []
-      at_current e =
-          let have : 0 < w.logged_in = omega arith in
-          let cur = current [] w j have in
-          subst (λ d. (w.links d).asked ≡ []) (sym e)
-          (way_served law cur.p (w.links w.logged_in).asked
-          (subst (λ o. OnWay o cur.p (w.links w.logged_in).asked) (same_test _ _ e) cur.way)
-          (subst (λ d. next_line (w.links d).asked ≡ None) e none))
-
-      at_ahead : (open_now w.log ≡ w.logged_in → ⊥) → ⊥
-      at_ahead m =
-          let low = not_older [] w (open_now w.log) j refl some in
-          let ahead = (j.each (open_now w.log)).ahead (omega arith) in
-          let t : nat_eq (open_now w.log) (open_now w.log) ≡ true = same_test _ _ refl in
-          let empty : (w.links (open_now w.log)).asked ≡ [] =
-          way_served law None (w.links (open_now w.log)).asked
-          (subst (λ o. OnWay o None (w.links (open_now w.log)).asked) t ahead.way) none in
-          true≢false (sym (ap is_empty empty) ∙ ahead.asks t)
+      empty : (w.links (open_now w.log)).asked ≡ []
+      empty = let way = open_way [] w j some in way_served law way.0 (w.links (open_now w.log)).asked way.1 none
 
   -- a world is at rest, or what comes next makes the measure smaller
   comes_next : (login : List ℕ) → IsQuiet login → (d1 d2 : ℕ) → is_die d1 ≡ true → is_die d2 ≡ true → (w : World)
@@ -605,13 +517,13 @@ module _ (law : Lawful) (rules : Rules) where
     few = omega arith;
     rests = λ none. elim (comes_next login quiet d1 d2 i1 i2 w j some) [
       | inl r ↦ r.rests
-      | inr x ↦ absurd (is_none_some _ x.event none x.is)
+      | inr x ↦ absurd (none-some x.event (sym none ∙ x.is))
     ];
   }
   leads login quiet d1 d2 i1 i2 (e ∷ es) w j some h = elim (comes_next login quiet d1 d2 i1 i2 w j some) [
-    | inl r ↦ absurd (is_none_some _ e r.none h.0)
+    | inl r ↦ absurd (none-some e (sym r.none ∙ h.0))
     | inr x ↦
-        let g = subst (Goes login d1 d2 w) (same_event x.event e (sym x.is ∙ h.0)) x.goes in
+        let g = subst (Goes login d1 d2 w) (same_Some x.event e (sym x.is ∙ h.0)) x.goes in
         let w' : World = after login w e in
         let less : measure (open_now w'.log) w' < measure (open_now w.log) w =
         subst (λ c. measure c w' < measure (open_now w.log) w) (sym g.here) g.less in
@@ -649,31 +561,14 @@ module _ (law : Lawful) (rules : Rules) where
   -- there are no more CR than lines on their way
   returns_few : (w : World) → Joint [] w → 0 < open_now w.log → (lines : List (List ℕ))
       → AreLines (w.links (open_now w.log)).asked lines → returns_in (w.links (open_now w.log)).asked ≤ length lines
-  returns_few w j some lines are = bytes (eqb_tells (open_now w.log) w.logged_in)
-    where
-      of_way : (p : Option Ask) → OnWay true p (w.links (open_now w.log)).asked
-          → returns_in (w.links (open_now w.log)).asked ≤ length lines
-      of_way p way =
-          returns_lines way.ts lines (w.links (open_now w.log)).asked
-          (way.bytes ∙ ap (λ part. flat_map on_wire way.ts ++ part) (way.exact refl).0
-          ∙ append-nil (flat_map on_wire way.ts))
-          (queue_texts p way.ts way.gone way.queue) are
-
-      bytes : ((nat_eq (open_now w.log) w.logged_in ≡ true) × (open_now w.log ≡ w.logged_in))
-          ⊎ ((nat_eq (open_now w.log) w.logged_in ≡ false) × (open_now w.log ≡ w.logged_in → ⊥))
-          → returns_in (w.links (open_now w.log)).asked ≤ length lines
-      bytes (inl e) =
-          let same = e.1 in
-          let have : 0 < w.logged_in = omega arith in
-          let cur = current [] w j have in
-          of_way cur.p
-          (subst (λ d. OnWay true cur.p (w.links d).asked) (sym e.1)
-          (subst (λ o. OnWay o cur.p (w.links w.logged_in).asked) e.0 cur.way))
-      bytes (inr m) =
-          let other = m.1 in
-          let low = not_older [] w (open_now w.log) j refl some in
-          let ahead = (j.each (open_now w.log)).ahead (omega arith) in
-          of_way None (subst (λ o. OnWay o None (w.links (open_now w.log)).asked) (same_test _ _ refl) ahead.way)
+  returns_few w j some lines are =
+      let asked : List ℕ = (w.links (open_now w.log)).asked in
+      let p = open_way [] w j some in
+      let way = p.1 in
+      returns_lines way.ts lines asked
+      (way.bytes ∙ ap (λ part. flat_map on_wire way.ts ++ part) (way.exact refl).0
+      ∙ append-nil (flat_map on_wire way.ts))
+      (way_texts true p.0 asked way) are
 
   -- Each line that is taken makes what is on its way and what is due less, and no delivery makes it more.
   few_served : (login : List ℕ) → IsQuiet login → (es : List Event) (w : World) → Joint [] w → 0 < open_now w.log
@@ -698,32 +593,13 @@ module _ (law : Lawful) (rules : Rules) where
       subst (λ c. lines_served es ≤ returns_in (w'.links c).asked + due 0 c w') a.here later in omega arith
   few_served login quiet (Deliver n ∷ es) w j some only ok =
       let w' : World = after login w (Deliver n) in
-      let a = alike_hears_all (open_now w.log)
-      (linked w (open_now w.log) (delivered (w.links (open_now w.log)) n))
-      (gained (w.links (open_now w.log)).heard (take n (w.links (open_now w.log)).coming)) in
-      let here : open_now w'.log ≡ open_now w.log = a.here in
+      let here : open_now w'.log ≡ open_now w.log = (does login w (Deliver n) tt).here in
       let later = few_served login quiet es w' (joint_after law login quiet w (Deliver n) j ok.0)
       (subst (λ c. 0 < c) (sym here) some) (subst (λ c. OnlyWires c es) (sym here) only) ok.1 in
       let later' : lines_served es ≤ returns_in (w'.links (open_now w.log)).asked + due 0 (open_now w.log) w' =
       subst (λ c. lines_served es ≤ returns_in (w'.links c).asked + due 0 c w') here later in
-      let less = no_more (open_now w.log)
-      (has_message (gained (w.links (open_now w.log)).heard (take n (w.links (open_now w.log)).coming))) w w'
-      (deliver_lightens 0 login w n j some) in omega arith
-    where
-      no_more : (c : ℕ) (z : Bool) (w w' : World) → Lighter 0 c z w w'
-          → returns_in (w'.links c).asked + due 0 c w' ≤ returns_in (w.links c).asked + due 0 c w
-      no_more c z w w' (inl q) = let e = ap returns_in q.0 in let d = q.1 in omega arith
-      no_more c z w w' (inr (inl q)) = omega arith
-      no_more c z w w' (inr (inr q)) = let d = q.1 in omega arith
-  few_served login quiet (Open ∷ es) w j some only ok = absurd only
-  few_served login quiet (Click d ∷ es) w j some only ok = absurd only
-  few_served login quiet (Plain p ∷ es) w j some only ok = absurd only
-  few_served login quiet (Lose m ∷ es) w j some only ok = absurd only
-  few_served login quiet (Own b ∷ es) w j some only ok = absurd only
-  few_served login quiet (Repeat ∷ es) w j some only ok = absurd only
-  few_served login quiet (Text t ∷ es) w j some only ok = absurd only
-  few_served login quiet (Order ∷ es) w j some only ok = absurd only
-  few_served login quiet (Withdraw ∷ es) w j some only ok = absurd only
+      let less = (deliver_lightens 0 login w n j some).less in omega arith
+  few_served login quiet (e ∷ es) w j some only ok = absurd only
 
   -- the measure is at most eight more than there are CR on their way to the server
   measure_most : (c : ℕ) (w : World) → measure c w ≤ returns_in (w.links c).asked + 8
@@ -751,7 +627,7 @@ module _ (law : Lawful) (rules : Rules) where
         may_be = accepted_append login before events (start b) ok l.accepted;
         rests =
             subst (λ end. next_to_rest d1 d2 end ≡ None → IsAtRest end)
-            (sym (after_append login before events (start b))) l.rests;
+            (sym (all_append login (start b) before events)) l.rests;
         few = λ lines are. let r = returns_few w j some lines are in omega arith;
         few_by_bytes = let r = returns_most (w.links (open_now w.log)).asked in omega arith;
       }
@@ -775,7 +651,7 @@ module _ (law : Lawful) (rules : Rules) where
               may_be = l.may_be;
               rests =
                   l.rests (subst (λ end. next_to_rest d1 d2 end ≡ None)
-                  (sym (after_append login before way.events (start b))) way.last);
+                  (sym (all_append login (start b) before way.events)) way.last);
               few = l.few;
             };
         ends = λ events only more lines are.

@@ -1,6 +1,8 @@
 -- Lines to the server.
-use Rattle.std.proofs.Common.{◌≡◌, ℕ, zero, suc, ◌<◌, false, List, [], ◌∷◌, ◌++◌, Some, None, nat_eq, take, length}
-use Rattle.std.proofs.Common.{refl, ◌∙◌, ap, arith}
+use Rattle.std.proofs.Common.{◌≡◌, ℕ, zero, suc, ◌<◌, Bool, true, false, ◌&&◌, List, [], ◌∷◌, ◌++◌, Option, Some, None}
+use Rattle.std.proofs.Common.{nat_eq, take, length, refl, ◌∙◌, ap, arith, if◌then◌else◌}
+use Rattle.std.proofs.lemmas.Bool.{eqb-true}
+use Rattle.std.proofs.lemmas.Option.{some_pair_parts}
 use Rattle.fibs_machine.specs.Wires.{next_line, put}
 use Rattle.fibs_machine.proofs.Lawful.{NoReturn}
 use Rattle.fibs_history.specs.Machine.{on_wire}
@@ -35,3 +37,28 @@ line_cut (b ∷ t) (suc k) h lt = step (take k (on_wire t)) (line_cut t k h.1 (o
 pub no_line : next_line [] ≡ None
 unfolding next_line
 no_line = refl
+
+-- the bytes from which a line was taken are that line and what is left
+pub line_is : (bytes t rest : List ℕ) → next_line bytes ≡ Some (t, rest) → bytes ≡ on_wire t ++ rest
+unfolding next_line
+line_is [] t rest h = absurd cc
+line_is (b ∷ []) t rest h = absurd cc
+line_is (b ∷ c ∷ bytes) t rest h =
+    go (nat_eq b 13) (nat_eq c 10) refl refl h (λ u e. line_is (c ∷ bytes) u rest e)
+  where
+    behind : (o : Option (List ℕ × List ℕ)) → put b o ≡ Some (t, rest)
+        → ((u : List ℕ) → o ≡ Some (u, rest) → c ∷ bytes ≡ on_wire u ++ rest) → b ∷ c ∷ bytes ≡ on_wire t ++ rest
+    behind None e f = absurd cc
+    behind (Some p) e f =
+        let s = some_pair_parts (b ∷ p.0) t p.1 rest e in
+        ap (λ l. b ∷ l) (f p.0 (ap (λ x. Some (p.0, x)) s.1)) ∙ ap (λ l. on_wire l ++ rest) s.0
+
+    go : (x y : Bool) → nat_eq b 13 ≡ x → nat_eq c 10 ≡ y
+        → (if x && y then Some ([], bytes) else put b (next_line (c ∷ bytes))) ≡ Some (t, rest)
+        → ((u : List ℕ) → next_line (c ∷ bytes) ≡ Some (u, rest) → c ∷ bytes ≡ on_wire u ++ rest)
+        → b ∷ c ∷ bytes ≡ on_wire t ++ rest
+    go true true i k e f =
+        let s = some_pair_parts [] t bytes rest e in
+        rw (eqb-true b 13 i, eqb-true c 10 k, s.1, ← s.0) refl
+    go true false i k e f = behind (next_line (c ∷ bytes)) e f
+    go false y i k e f = behind (next_line (c ∷ bytes)) e f

@@ -5,6 +5,8 @@ use Rattle.std.proofs.Common.{append_assoc, true≢false, arith}
 use Rattle.std.proofs.lemmas.List.{take-append-le}
 use Rattle.std.proofs.lemmas.List.Concat.{flat_map-append}
 use Rattle.std.proofs.lemmas.Bool.{cases_lt}
+use Rattle.std.proofs.Math.Seq.{take-nil}
+use Rattle.std.proofs.lemmas.Option.{some_pair_parts}
 use Rattle.fibs_history.specs.Words.{Ask}
 use Rattle.fibs_history.specs.Machine.{on_wire}
 use Rattle.fibs_machine.specs.Wires.{next_line}
@@ -47,9 +49,22 @@ queue_decision : (a : Ask) (ts : List (List ℕ)) → NoReturn (command a.0 a.1)
 queue_decision a [] n h = inr (refl, n, tt)
 queue_decision a (t ∷ ts) n h = inl (h.0, queue_decision a ts n h.1)
 
--- one pair that is there is one pair
-some_pair : (x y : List ℕ × List ℕ) → Some x ≡ Some y → x ≡ y
-some_pair x y h = cc
+-- the texts hold no CR
+abbrev pub Texts : List (List ℕ) → Type 0
+Texts [] = Unit {0}
+Texts (t ∷ ts) = NoReturn t × Texts ts
+
+-- commands that are no decisions hold none
+pub quiet_texts : (ts : List (List ℕ)) → AllQuiet ts → Texts ts
+quiet_texts [] h = tt
+quiet_texts (t ∷ ts) h = (h.0.text, quiet_texts ts h.1)
+
+-- nor do all commands on their way
+pub texts_of : (p : Option Ask) (ts : List (List ℕ)) → Queue p ts → Texts ts
+texts_of None ts q = quiet_texts ts q
+texts_of (Some a) [] q = tt
+texts_of (Some a) (t ∷ ts) q =
+    elim q [ inl h ↦ (h.0.text, texts_of (Some a) ts h.1) | inr h ↦ (h.1, quiet_texts ts h.2) ]
 
 module _ (law : Lawful) where
   -- nothing is on its way
@@ -119,33 +134,11 @@ module _ (law : Lawful) where
       go [] x = x.1
       go (t ∷ ts) x = nothing t _ x.0
 
-  -- each command on its way holds no CR
-  text_of : (p : Option Ask) (t : List ℕ) (ts : List (List ℕ)) → Queue p (t ∷ ts) → NoReturn t
-  text_of None t ts q = q.0.text
-  text_of (Some a) t ts q = elim q [ inl h ↦ h.0.text | inr h ↦ h.1 ]
-
-  -- texts without a CR
-  abbrev AllText : List (List ℕ) → Type 0
-  AllText [] = Unit {0}
-  AllText (t ∷ ts) = NoReturn t × AllText ts
-
-  -- commands that are no decisions hold none
-  quiet_texts : (ts : List (List ℕ)) → AllQuiet ts → AllText ts
-  quiet_texts [] h = tt
-  quiet_texts (t ∷ ts) h = (h.0.text, quiet_texts ts h.1)
-
-  -- commands on their way hold none
-  texts_of : (p : Option Ask) (ts : List (List ℕ)) → Queue p ts → AllText ts
-  texts_of None ts q = quiet_texts ts q
-  texts_of (Some a) [] q = tt
-  texts_of (Some a) (t ∷ ts) q =
-      elim q [ inl h ↦ (h.0.text, texts_of (Some a) ts h.1) | inr h ↦ (h.1, quiet_texts ts h.2) ]
-
   -- while the connection is open, if no line is left to serve, nothing is on its way
   pub way_served : (p : Option Ask) (asked : List ℕ) → OnWay true p asked → next_line asked ≡ None → asked ≡ []
   way_served p asked w h = let x = whole p asked w in go w.ts x.0 (texts_of p w.ts x.1)
     where
-      go : (ts : List (List ℕ)) → asked ≡ flat_map on_wire ts → AllText ts → asked ≡ []
+      go : (ts : List (List ℕ)) → asked ≡ flat_map on_wire ts → Texts ts → asked ≡ []
       go [] e a = e
       go (t ∷ ts) e a =
           let n : next_line asked ≡ Some (t, flat_map on_wire ts) = ap next_line e
@@ -167,14 +160,9 @@ module _ (law : Lawful) where
   take_past (suc k) (x ∷ xs) ys h =
       ap (λ l. x ∷ l) (take_past k xs ys (omega arith) ∙ ap (λ n. xs ++ take n ys) (omega arith))
 
-  -- of no bytes none are taken
-  take_none : (k : ℕ) → take {A = ℕ} k [] ≡ []
-  take_none zero = refl
-  take_none (suc k) = refl
-
   -- the first bytes of whole commands are whole commands and a part of one
-  front : (ts : List (List ℕ)) (k : ℕ) → AllText ts → Front (take k (flat_map on_wire ts)) ts
-  front [] k h = record { kept = []; gone = []; part = []; is = take_none k; no_more = no_line; all = refl }
+  front : (ts : List (List ℕ)) (k : ℕ) → Texts ts → Front (take k (flat_map on_wire ts)) ts
+  front [] k h = record { kept = []; gone = []; part = []; is = take-nil k; no_more = no_line; all = refl }
   front (t ∷ ts) k h =
       elim (cases_lt k (length (on_wire t))) [
         | inl lt ↦ short lt
@@ -248,10 +236,8 @@ module _ (law : Lawful) where
           → (IsQuiet t × OnWay o p rest) ⊎ ((a : Ask) × (p ≡ Some a) × (t ≡ command a.0 a.1) × OnWay o None rest)
       go [] e q = let n : next_line asked ≡ None = ap next_line e ∙ w.no_more in cc
       go (t0 ∷ ts) e q =
-          let d = line_whole t0 (flat_map on_wire ts ++ w.part) (text_of p t0 (ts ++ w.gone) q) in
+          let d = line_whole t0 (flat_map on_wire ts ++ w.part) (texts_of p (t0 ∷ ts ++ w.gone) q).0 in
           let e' : asked ≡ on_wire t0 ++ (flat_map on_wire ts ++ w.part) =
           e ∙ append_assoc (on_wire t0) (flat_map on_wire ts) w.part in
-          let s = some_pair (t, rest) (t0, flat_map on_wire ts ++ w.part) (sym h ∙ ap next_line e' ∙ d) in
-          let s0 : t ≡ t0 = ap (λ (q : List ℕ × List ℕ). q.0) s in
-          let s1 : rest ≡ flat_map on_wire ts ++ w.part = ap (λ (q : List ℕ × List ℕ). q.1) s in
-          first p t0 ts refl s0 s1 q
+          let s = some_pair_parts t t0 rest (flat_map on_wire ts ++ w.part) (sym h ∙ ap next_line e' ∙ d) in
+          first p t0 ts refl s.0 s.1 q
