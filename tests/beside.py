@@ -105,12 +105,14 @@ class Ending:
             self.heard[-1].append(line)
             count = sum(map(len, self.heard))
             if line.startswith('login '):
-                self.server.send('1 ann 1041253132 localhost', '2 ann 1 0 0 0 0 0 1 1 10 0 1 0 1 1500.00 0 0 0 0 0 UTC')
+                said = ['1 ann 1041253132 localhost', '2 ann 1 0 0 0 0 0 1 1 10 0 1 0 1 1500.00 0 0 0 0 0 UTC']
             elif line.startswith(('set ', 'toggle ')):
-                self.server.send('** Done.')
+                said = ['** Done.']
             else:
-                self.server.send(*game.answer(line.split(' ')))
-            self.server.send_bytes(self.session.chatter(count))
+                said = game.answer(line.split(' '))
+            # at once, since a log tells what was heard before an answer went
+            ended = ''.join(one + '\r\n' for one in said).encode('latin-1')
+            self.server.send_bytes(ended + self.session.chatter(count))
             if line == 'bye' or self.session.loses and count % 7 == 6:
                 return
 
