@@ -1,6 +1,6 @@
 //! Boards of FIBS board style 3.
 
-ghost use Rattle.std.specs.Prelude.{◌≡◌, ◌≢◌, ◌≤◌, IfSome, IsSome, ◌↔◌, ◌≤ℤ◌, ◌⊎◌, pos, negsuc, ◌++◌, ◌+◌, ℕ, true};
+ghost use Rattle.std.specs.Prelude.{◌≡◌, ◌≢◌, ◌≤◌, IfSome, IsSome, ◌↔◌, ◌++◌, ◌+◌, ℕ, true};
 ghost use Rattle.std.specs.Prelude.{IfOk, IfErr, OnOk, OnErr, drop, option_map, Ok, Err};
 ghost use Rattle.fibs_boards.specs.StoredParts.{parts};
 ghost use Rattle.fibs_fields.specs.Bytes.{name_bytes};
@@ -131,15 +131,8 @@ impl Board {
         requires low { 4 ≤ n }
         requires high { n ≤ 53 }
         ensures value { result ≡ field_of (fields_of self.now) n }
-        // It is one that the table of the fields allows; group by group:
+        // It is one that the field may have; `fields_have_their_ranges` says which those are.
         ensures allowed { can_have n result ≡ true }
-        ensures place { 7 ≤ n → n ≤ 32 → (negsuc 14 ≤ℤ result) × (result ≤ℤ pos 15) }
-        ensures turn { n ≡ 33 → (negsuc 0 ≤ℤ result) × (result ≤ℤ pos 1) }
-        ensures dice { 34 ≤ n → n ≤ 37 → (pos 0 ≤ℤ result) × (result ≤ℤ pos 6) }
-        ensures cube { n ≡ 38 → (pos 1 ≤ℤ result) × (result ≤ℤ pos 1048576) }
-        ensures flags { 39 ≤ n → n ≤ 41 → (result ≡ pos 0) ⊎ (result ≡ pos 1) }
-        ensures side { 42 ≤ n → n ≤ 43 → (result ≡ negsuc 0) ⊎ (result ≡ pos 1) }
-        ensures off { 46 ≤ n → n ≤ 47 → (pos 0 ≤ℤ result) × (result ≤ℤ pos 15) }
     {
         self.numbers[n - 4]
     }
@@ -163,15 +156,8 @@ impl Board {
             field_of (fields_of b) m ≡ field_of (fields_of self.now) m) }
         ensures names { IfSome result (λ b. ((fields_of b).player ≡ (fields_of self.now).player)
             × ((fields_of b).opponent ≡ (fields_of self.now).opponent)) }
-        // It is Some exactly if the table of the fields allows the number; group by group:
+        // It is Some exactly if the field may have the number.
         ensures exact { IsSome result ↔ ((4 ≤ n) × (n ≤ 53) × (can_have n value ≡ true)) }
-        ensures places { 7 ≤ n → n ≤ 32 → (IsSome result ↔ ((negsuc 14 ≤ℤ value) × (value ≤ℤ pos 15))) }
-        ensures turn { n ≡ 33 → (IsSome result ↔ ((negsuc 0 ≤ℤ value) × (value ≤ℤ pos 1))) }
-        ensures dice { 34 ≤ n → n ≤ 37 → (IsSome result ↔ ((pos 0 ≤ℤ value) × (value ≤ℤ pos 6))) }
-        ensures cube { n ≡ 38 → (IsSome result ↔ ((pos 1 ≤ℤ value) × (value ≤ℤ pos 1048576))) }
-        ensures flags { 39 ≤ n → n ≤ 41 → (IsSome result ↔ ((value ≡ pos 0) ⊎ (value ≡ pos 1))) }
-        ensures side { 42 ≤ n → n ≤ 43 → (IsSome result ↔ ((value ≡ negsuc 0) ⊎ (value ≡ pos 1))) }
-        ensures off { 46 ≤ n → n ≤ 47 → (IsSome result ↔ ((pos 0 ≤ℤ value) × (value ≤ℤ pos 15))) }
     {
         self.changed(n, value)
     }

@@ -1,12 +1,14 @@
 //! The lines of boards that C has as records, and of boards with the sides exchanged.
 
-ghost use Rattle.std.specs.Prelude.{◌≡◌, ◌+◌, ◌<◌, ◌≤◌, ◌++◌, ℕ, pos, length, slice_index_or};
+ghost use Rattle.std.specs.Prelude.{◌≡◌, ◌⊎◌, ◌+◌, ◌<◌, ◌≤◌, ◌++◌, ℕ, pos, negsuc, length, slice_index_or};
+ghost use Rattle.fibs_boards.specs.Board.{field_of};
 ghost use Rattle.fibs_boards.specs.StoredBoard.{fields_of};
 ghost use Rattle.fibs_c.specs.BoardDoor.{IsPrintedBoard};
 ghost use Rattle.fibs_c.specs.BoardLineDoor.{IsBoardLine, IsTurned, board_text, numbers_text};
 ghost use Rattle.fibs_c.specs.BoardLineDoor.{other_field, turned_field};
 
 use arrayvec::ArrayVec;
+use fibs_boards::laws::fields_have_their_ranges;
 use fibs_messages::{Board, Fault};
 use fibs_records::boards::BoardRecord;
 use fibs_records::status::field_fault_status;
@@ -103,6 +105,17 @@ fn other_field(n: usize) -> usize
     }
 }
 
+/// The player's colour, or his direction, by the number of the field.
+fn side(board: &Board, n: usize) -> i32
+    requires low { 42 ≤ n }
+    requires high { n ≤ 43 }
+    ensures value { result ≡ field_of (fields_of board.now) n }
+    ensures range { (result ≡ negsuc 0) ⊎ (result ≡ pos 1) }
+{
+    fields_have_their_ranges();
+    board.field(n)
+}
+
 /// The number of a field with the sides exchanged.
 fn turned_field(board: &Board, n: usize) -> i32
     requires low { 4 ≤ n }
@@ -111,8 +124,8 @@ fn turned_field(board: &Board, n: usize) -> i32
 {
     match n {
         41 => 0,
-        42 => -board.field(42),
-        43 => -board.field(43),
+        42 => -side(board, 42),
+        43 => -side(board, 43),
         50 => 0,
         51 => 0,
         _ => board.field(other_field(n)),

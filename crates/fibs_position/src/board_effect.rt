@@ -96,13 +96,22 @@ fn turn_given(board: Board) -> Board
     set(board, TURN, -colour(&board))
 }
 
+/// What the cube shows.
+fn cube_of(board: &Board) -> i32
+    ensures value { result ≡ field_of (fields_of board.now) 38 }
+    ensures range { (pos 1 ≤ℤ result) × (result ≤ℤ pos 1048576) }
+{
+    fields_have_their_ranges();
+    board.field(CUBE)
+}
+
 /// The cube shows twice as much, the player alone may double next, and the opponent goes on.
 fn accepted(board: Board) -> Board
     requires { field_of (fields_of board) 38 ≤ℤ pos 524288 }
     ensures { fields_of result ≡ accepted (fields_of board) }
 {
     fields_have_their_ranges();
-    let cube = board.field(CUBE);
+    let cube = cube_of(&board);
     let turn = -colour(&board);
     let board = set(board, WAS_DOUBLED, 0);
     let board = set(board, CUBE, cube + cube);

@@ -1,6 +1,8 @@
 //! A board as its player sees it.
 
-ghost use Rattle.std.specs.Prelude.{◌≡◌, ◌⊎◌, ◌+◌, ◌-◌, ◌≤◌, ◌∷◌, ◌++◌, [], pos, negsuc, sum};
+ghost use Rattle.std.specs.Prelude.{◌≡◌, ◌⊎◌, ◌+◌, ◌-◌, ◌≤◌, ◌≤ℤ◌, ◌∷◌, ◌++◌, [], pos, negsuc, sum};
+ghost use Rattle.fibs_fields.specs.FieldReading.{natural};
+ghost use Rattle.fibs_boards.specs.Board.{field_of};
 ghost use Rattle.fibs_boards.specs.StoredBoard.{fields_of};
 ghost use Rattle.fibs_position.specs.OwnView.{colour, place_field, stand_on, on_places, own_on_places, other_on_places};
 ghost use Rattle.fibs_position.specs.OwnView.{own_off, other_off, own_placed, other_placed, own_view};
@@ -9,6 +11,7 @@ ghost use Rattle.fibs_position.specs.OwnView.{first_die, second_die, no_dice};
 use crate::direction::Direction;
 use fibs_boards::board::Board;
 use fibs_boards::fields::{COLOUR, FIRST_DIE, FIRST_PLACE, OTHER_OFF, OWN_OFF, SECOND_DIE};
+use fibs_boards::laws::fields_have_their_ranges;
 use fibs_rules::{Arrangement, total};
 
 /// The player's colour: 1 for O, -1 for X.
@@ -16,6 +19,7 @@ pub fn colour(board: &Board) -> i32
     ensures value { result ≡ colour (fields_of board.now) }
     ensures side { (result ≡ negsuc 0) ⊎ (result ≡ pos 1) }
 {
+    fields_have_their_ranges();
     board.field(COLOUR)
 }
 
@@ -30,6 +34,17 @@ pub fn place_field(board: &Board, place: u8) -> usize
     FIRST_PLACE + usize::from(Direction::of(board).line_place(place))
 }
 
+/// What the line has for a place.
+fn value_at(board: &Board, place: u8) -> i32
+    requires low { 1 ≤ place }
+    requires high { place ≤ 24 }
+    ensures value { let b = fields_of board.now in result ≡ field_of b (place_field b place) }
+    ensures few { (negsuc 14 ≤ℤ result) × (result ≤ℤ pos 15) }
+{
+    fields_have_their_ranges();
+    board.field(place_field(board, place))
+}
+
 /// The checkers of a colour on a place.
 fn stand_on(board: &Board, side: i32, place: u8) -> u8
     requires low { 1 ≤ place }
@@ -37,7 +52,7 @@ fn stand_on(board: &Board, side: i32, place: u8) -> u8
     ensures value { result ≡ stand_on (fields_of board.now) side place }
     ensures few { result ≤ 15 }
 {
-    let value = board.field(place_field(board, place));
+    let value = value_at(board, place);
     let count = if side == 1 { value } else { -value };
     if count > 0 { count as u8 } else { 0 }
 }
@@ -53,12 +68,23 @@ fn on_places(board: &Board, side: i32) -> [u8; 24]
     counts
 }
 
+/// The checkers of a side that are borne off, by the number of their field.
+fn borne_off(board: &Board, field: usize) -> u8
+    requires low { 46 ≤ field }
+    requires high { field ≤ 47 }
+    ensures value { result ≡ natural (field_of (fields_of board.now) field) }
+    ensures few { result ≤ 15 }
+{
+    fields_have_their_ranges();
+    board.field(field) as u8
+}
+
 /// The player's checkers that are borne off.
 fn own_off(board: &Board) -> u8
     ensures value { result ≡ own_off (fields_of board.now) }
     ensures few { result ≤ 15 }
 {
-    board.field(OWN_OFF) as u8
+    borne_off(board, OWN_OFF)
 }
 
 /// The opponent's checkers that are borne off.
@@ -66,7 +92,7 @@ fn other_off(board: &Board) -> u8
     ensures value { result ≡ other_off (fields_of board.now) }
     ensures few { result ≤ 15 }
 {
-    board.field(OTHER_OFF) as u8
+    borne_off(board, OTHER_OFF)
 }
 
 /// The player's first die, 0 for none.
@@ -74,7 +100,7 @@ pub fn first_die(board: &Board) -> u8
     ensures value { result ≡ first_die (fields_of board.now) }
     ensures high { result ≤ 6 }
 {
-    board.field(FIRST_DIE) as u8
+    board.die(FIRST_DIE)
 }
 
 /// The player's second die, 0 for none.
@@ -82,7 +108,7 @@ pub fn second_die(board: &Board) -> u8
     ensures value { result ≡ second_die (fields_of board.now) }
     ensures high { result ≤ 6 }
 {
-    board.field(SECOND_DIE) as u8
+    board.die(SECOND_DIE)
 }
 
 /// The player's dice are not shown.

@@ -1,11 +1,10 @@
 -- The ranges of the fields, and that each board keeps to them.
-use Rattle.std.proofs.Common.{◌≡◌, ℕ, ◌≤◌, ◌-◌, true, arith, ◌∙◌, nat_le}
-use Rattle.std.specs.Prelude.{ℤ, pos, slice_get, slice_set}
+use Rattle.std.proofs.Common.{◌≡◌, ℕ, ◌≤◌, ◌-◌, true, arith, refl, ◌∙◌, nat_le, drop}
+use Rattle.std.specs.Prelude.{ℤ, pos, negsuc, slice_get, slice_set}
 use Rattle.std.proofs.lemmas.Bool.{and_parts}
 use Rattle.fibs_boards.specs.Board.{BoardFields, IsBoard, allowed_by, can_have, field_of, field_values}
 use Rattle.fibs_boards.specs.FieldRanges.{FieldRanges}
-use Rattle.fibs_boards.proofs.BoardLemmas.FieldGroups.{can_have_by, place_exact, turn_exact, dice_exact, cube_exact}
-use Rattle.fibs_boards.proofs.BoardLemmas.FieldGroups.{flag_exact, side_exact, off_exact}
+use Rattle.fibs_boards.proofs.BoardLemmas.FieldGroups.{can_have_by, in_pair, in_range}
 use Rattle.fibs_boards.proofs.BoardLemmas.OneNumberMore.{fit_at, fit_long, fit_set}
 use Rattle.fibs_boards.proofs.BoardLemmas.FieldTable.{table_long}
 
@@ -26,14 +25,15 @@ field_set b n z board may = (
 
 -- the ranges, and what they mean for all boards
 pub field_ranges : FieldRanges
+unfolding field_values
 field_ranges = record {
-  place = place_exact;
-  turn = turn_exact;
-  dice = dice_exact;
-  cube = cube_exact;
-  flag = flag_exact;
-  side = side_exact;
-  off = off_exact;
+  place = λ n z low high. in_range 3 26 (negsuc 14) (pos 15) (drop 29 field_values) refl n z low (omega arith);
+  turn = λ n z is. in_range 29 1 (negsuc 0) (pos 1) (drop 30 field_values) refl n z (omega arith) (omega arith);
+  dice = λ n z low high. in_range 30 4 (pos 0) (pos 6) (drop 34 field_values) refl n z low (omega arith);
+  cube = λ n z is. in_range 34 1 (pos 1) (pos 1048576) (drop 35 field_values) refl n z (omega arith) (omega arith);
+  flag = λ n z low high. in_pair 35 3 (pos 0) (pos 1) (drop 38 field_values) refl n z low (omega arith);
+  side = λ n z low high. in_pair 38 2 (negsuc 0) (pos 1) (drop 40 field_values) refl n z low (omega arith);
+  off = λ n z low high. in_range 42 2 (pos 0) (pos 15) (drop 44 field_values) refl n z low (omega arith);
   held = field_held;
   fifty = λ b board. fit_long field_values b.numbers board.2 ∙ table_long;
   set = field_set;

@@ -14,8 +14,8 @@ set-board-requires c = refl
 
 pub set-board-requires-2 : goal.set-board-requires-2
 set-board-requires-2 c =
-    let cube = c.field-cube.ensures.cube refl in
-    let is = c.field-cube.ensures.value in
+    let cube = c.cube_of-cube.ensures.range in
+    let is = c.cube_of-cube.ensures.value in
     may_cube c.fields_have_their_ranges.ensures _ (omega (arith, ints)) (omega (arith, ints))
 
 pub set-board-requires-3 : goal.set-board-requires-3
@@ -33,10 +33,10 @@ set-requires c =
 
 pub returns : goal.returns
 returns c =
-    let cube = c.field-cube.result in
+    let cube = c.cube_of-cube.result in
     let side = c.colour-turn.result in
-    let range = c.field-cube.ensures.cube refl in
-    let is = c.field-cube.ensures.value in
+    let range = c.cube_of-cube.ensures.range in
+    let is = c.cube_of-cube.ensures.value in
     let either = c.colour-turn.ensures.side in
     let twice : cast_signed w32
     (cast_unsigned w32 (cast_signed w32 (cast_unsigned w32 cube) +ℤ cast_signed w32 (cast_unsigned w32 cube)))

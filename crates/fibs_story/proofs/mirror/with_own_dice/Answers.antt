@@ -4,10 +4,12 @@ use Rattle.fibs_story.proofs.mirror.with_own_dice.Goals as goal
 
 pub set-first-requires : goal.set-first-requires
 set-first-requires c =
-    let range = c.field.ensures.dice (lit≤ tt) (lit≤ tt) in
+    let range =
+    (c.fields_have_their_ranges.ensures.dice 36 c.field.result (lit≤ tt) (lit≤ tt)).0 c.field.ensures.allowed in
     (c.fields_have_their_ranges.ensures.dice 34 _ (lit≤ tt) (lit≤ tt)).1 (omega (arith, ints), omega (arith, ints))
 
 pub set-requires : goal.set-requires
 set-requires c =
-    let range = c.field-2.ensures.dice (lit≤ tt) (lit≤ tt) in
+    let range =
+    (c.fields_have_their_ranges.ensures.dice 37 c.field-2.result (lit≤ tt) (lit≤ tt)).0 c.field-2.ensures.allowed in
     (c.fields_have_their_ranges.ensures.dice 35 _ (lit≤ tt) (lit≤ tt)).1 (omega (arith, ints), omega (arith, ints))
