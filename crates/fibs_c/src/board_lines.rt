@@ -8,8 +8,9 @@ ghost use Rattle.fibs_c.specs.BoardLineDoor.{IsBoardLine, IsTurned, board_text, 
 ghost use Rattle.fibs_c.specs.BoardLineDoor.{other_field, turned_field};
 
 use arrayvec::ArrayVec;
+use fibs_boards::Board;
 use fibs_boards::laws::fields_have_their_ranges;
-use fibs_messages::{Board, Fault};
+use fibs_messages::Fault;
 use fibs_records::boards::BoardRecord;
 use fibs_records::status::field_fault_status;
 use fibs_records::text::hand_out;

@@ -5,7 +5,7 @@ ghost use Rattle.fibs_boards.specs.StoredBoard.{fields_of};
 ghost use Rattle.fibs_c.specs.BoardDoor.{IsBoardRead, IsPrintedBoard, IsOverTold, IsDifferenceTold, ends_match};
 ghost use Rattle.fibs_c.specs.BoardDoor.{is_won};
 
-use fibs_messages::Board;
+use fibs_boards::Board;
 use fibs_position::differs;
 use fibs_records::boards::{BoardRecord, put_board};
 use fibs_records::status::{DONE, field_fault_status};

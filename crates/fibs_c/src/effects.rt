@@ -8,7 +8,7 @@ ghost use Rattle.fibs_records.specs.Decisions.{decision_in};
 ghost use Rattle.fibs_c.specs.EffectDoor.{IsGoodIn, IsAfter, IsEffectTold};
 ghost use Rattle.fibs_c.specs.PositionDoor.{IsNoPosition};
 
-use fibs_messages::Board;
+use fibs_boards::Board;
 use fibs_position::{Decision, Position, effect};
 use fibs_records::decisions::{DecisionRecord, decision_of};
 use fibs_records::status::{NO_DECISION, NO_EFFECT, field_fault_status, position_fault_status};

@@ -10,8 +10,8 @@ ghost use Rattle.fibs_c.specs.PositionDoor.{IsPositionIn, IsNoPosition, IsPhaseT
 ghost use Rattle.fibs_c.specs.PositionDoor.{ArePlaysTold, HandsOutPlays, direction_in, IsTextTold};
 ghost use Rattle.fibs_c.specs.PositionDoor.{IsDecisionRead, IsDecisionReadIn};
 
+use fibs_boards::Board;
 use fibs_commands::{decision_text, read_command};
-use fibs_messages::Board;
 use fibs_position::{Decision, Direction, Phase, Play, Position};
 use fibs_records::decisions::{DecisionRecord, decision_of, decision_record, play_record};
 use fibs_records::status::{

@@ -1,7 +1,7 @@
 //! The boards of a terminal, and what it shows of one that comes.
 use crate::outcomes::append_outcome;
 use crate::picture::{NOTHING_CAME, append_marked, came_since};
-use fibs_boards::board::Board;
+use fibs_boards::Board;
 use fibs_boards::fields::{
     FIRST_DIE, FIRST_PLACE, LAST_PLACE, OTHER_FIRST_DIE, OTHER_OFF, OTHER_SECOND_DIE, OWN_OFF,
     SECOND_DIE,

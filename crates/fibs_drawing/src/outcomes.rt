@@ -1,6 +1,6 @@
 //! How a game ended, in words.
 
-use fibs_boards::board::Board;
+use fibs_boards::Board;
 use fibs_boards::fields::{
     CUBE, MATCH_LENGTH, OTHER_OFF, OTHER_SCORE, OWN_OFF, OWN_SCORE, UNLIMITED,
 };

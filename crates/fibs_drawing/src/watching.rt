@@ -2,7 +2,7 @@
 
 use crate::boards::{append_dice, is_moved};
 use crate::watched::append_watched;
-use fibs_boards::board::Board;
+use fibs_boards::Board;
 use fibs_boards::fields::{
     COLOUR, FIRST_DIE, OTHER_FIRST_DIE, OTHER_SECOND_DIE, SECOND_DIE, TURN, WAS_DOUBLED,
 };

@@ -17,7 +17,7 @@ use crate::members::{
 };
 use crate::side::Side;
 use arrayvec::ArrayVec;
-use fibs_messages::Board;
+use fibs_boards::Board;
 use fibs_position::{Phase, Position, PositionFault};
 use std::alloc::AllocError;
 

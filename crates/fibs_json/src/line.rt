@@ -13,8 +13,9 @@ use crate::boards::append_board;
 use crate::fields::append_message;
 use crate::members::{append_string, append_whole};
 use crate::strings::append_quoted;
+use fibs_boards::Board;
 use fibs_lines::Line;
-use fibs_messages::{Board, Fault, Message, Reading, read};
+use fibs_messages::{Fault, Message, Reading, read};
 use std::alloc::AllocError;
 
 /// Appends the front of an object: the kind of a line, and its bytes.

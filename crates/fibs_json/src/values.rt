@@ -11,7 +11,7 @@ use crate::line::append_board_line;
 use crate::members::{
     append_hundredths, append_key, append_null, append_string, append_truth, append_whole,
 };
-use fibs_messages::Board;
+use fibs_boards::Board;
 use std::alloc::AllocError;
 
 /// A value of a member.

@@ -10,7 +10,7 @@ pub mod number;
 mod print;
 mod reader;
 
-pub use fibs_boards::board::Board;
+pub use fibs_boards::Board;
 pub use fibs_fields::decimal::read_decimal;
 pub use fibs_fields::fault::{Fault, FieldFault};
 pub use fibs_fields::name::Name;

@@ -12,7 +12,7 @@ ghost use Rattle.fibs_fields.specs.Split.{before};
 use crate::message::Message;
 use crate::number::{number_of, rest_of};
 use crate::reader::read_message;
-use fibs_boards::board::Board;
+use fibs_boards::Board;
 use fibs_fields::fault::{Fault, FieldFault};
 
 /// What a line of the server is.

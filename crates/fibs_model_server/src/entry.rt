@@ -6,7 +6,8 @@ ghost use Rattle.fibs_messages.specs.Message.{message_of};
 ghost use Rattle.fibs_history.specs.Hearing.{heard, heard_message};
 ghost use Rattle.fibs_history.specs.Log as L;
 
-use fibs_messages::{Board, Message, Reading};
+use fibs_boards::Board;
+use fibs_messages::{Message, Reading};
 use fibs_position::{Decision, is_good};
 use fibs_session::{Outstanding, Refusal};
 

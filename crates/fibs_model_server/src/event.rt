@@ -1,6 +1,6 @@
 //! What may happen in the world.
 
-use fibs_messages::Board;
+use fibs_boards::Board;
 use fibs_position::Decision;
 use fibs_session::Plain;
 

@@ -13,8 +13,8 @@ ghost use Rattle.fibs_position.specs.GameOf.{game_of};
 ghost use Rattle.fibs_machine.specs.Server.{answered, obeyed, own_refusal, user_decides};
 
 use crate::entry::Entry;
+use fibs_boards::Board;
 use fibs_machine::WorldRefusal;
-use fibs_messages::Board;
 use fibs_position::{Decision, Direction, GameBoard, Phase, PositionFault, effect};
 use fibs_session::read_command;
 use std::marker::Model;

@@ -13,9 +13,9 @@ ghost use Rattle.fibs_objects.specs.Entries.{AskMembers, BoardMember, EntryMembe
 ghost use Rattle.fibs_objects.specs.Entries.{answer_json, entry_connection, entry_kind};
 
 use crate::parts::{append_end, without_end};
+use fibs_boards::Board;
 use fibs_json::line::append_front;
 use fibs_json::values::{Value, append_board_member, append_member};
-use fibs_messages::Board;
 use fibs_model_server::Entry;
 use fibs_scripts::log_lines::{Portion, append_entry};
 use fibs_session::{Outstanding, Refusal};

@@ -4,7 +4,7 @@ ghost use Rattle.fibs_boards.specs.Board.{field_of};
 ghost use Rattle.fibs_boards.specs.StoredBoard.{fields_of};
 ghost use Rattle.fibs_picture.specs.Picture.{is_one};
 
-use fibs_boards::board::Board;
+use fibs_boards::Board;
 
 /// The number of a field.
 pub fn number(board: &Board, field: usize) -> i32

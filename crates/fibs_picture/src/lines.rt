@@ -14,7 +14,7 @@ use crate::names::{write_watched_cube, write_watched_turn};
 use crate::pips::{other_pips, own_pips};
 use crate::words::{deed_in, doublers, turn_words, write_dice, write_name, write_words};
 use crate::writing::{write_digits, write_number, write_text};
-use fibs_boards::board::Board;
+use fibs_boards::Board;
 use fibs_boards::fields::{
     COLOUR, CUBE, FIRST_DIE, MATCH_LENGTH, MAY_DOUBLE, OTHER_FIRST_DIE, OTHER_MAY_DOUBLE,
     OTHER_OFF, OTHER_SCORE, OTHER_SECOND_DIE, OWN_OFF, OWN_SCORE, SECOND_DIE, TURN, UNLIMITED,

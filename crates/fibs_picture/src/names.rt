@@ -11,7 +11,7 @@ use crate::cells::{OTHER_LETTER, OWN_LETTER};
 use crate::fields::{is_one, number};
 use crate::words::{FREE_CUBE, NO_DOUBLING};
 use crate::writing::{write_digits, write_text};
-use fibs_boards::board::Board;
+use fibs_boards::Board;
 use fibs_boards::fields::{COLOUR, CUBE, MAY_DOUBLE, OTHER_MAY_DOUBLE, TURN};
 use std::io;
 use std::io::Write;

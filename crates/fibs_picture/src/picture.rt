@@ -12,7 +12,7 @@ ghost use Rattle.fibs_picture.specs.Watched.{watched_lines, watched_picture};
 
 use crate::half::Half;
 use crate::lines::{Drawn, Written, draw_line};
-use fibs_boards::board::Board;
+use fibs_boards::Board;
 use fibs_position::{GameBoard, Position, WatchedBoard};
 use std::io;
 use std::io::Write;

@@ -16,7 +16,7 @@ use crate::cube::MOST_DOUBLED;
 use crate::decision::Decision;
 use crate::good_board::is_good;
 use crate::own_view::{arrangement_of, colour, no_dice, place_field};
-use fibs_boards::board::Board;
+use fibs_boards::Board;
 use fibs_boards::fields::{
     COLOUR, CUBE, FIRST_DIE, MAY_DOUBLE, OTHER_FIRST_DIE, OTHER_MAY_DOUBLE, OTHER_SECOND_DIE,
     OWN_OFF, SECOND_DIE, TURN, WAS_DOUBLED,

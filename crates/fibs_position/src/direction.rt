@@ -3,7 +3,7 @@
 ghost use Rattle.std.specs.Prelude.{◌≡◌, ◌≤◌};
 ghost use Rattle.fibs_boards.specs.StoredBoard.{fields_of};
 
-use fibs_boards::board::Board;
+use fibs_boards::Board;
 use fibs_boards::fields::DIRECTION;
 
 /// Which way a player's checkers go by the numbers of the board line.

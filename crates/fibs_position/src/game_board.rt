@@ -12,7 +12,7 @@ use crate::direction::Direction;
 use crate::phase::Phase;
 use crate::position::Position;
 use crate::position_fault::PositionFault;
-use fibs_boards::board::Board;
+use fibs_boards::Board;
 
 /// A board of a game in which the user plays. Its position is made once, with it.
 #[derive(Clone, Copy, Debug)]

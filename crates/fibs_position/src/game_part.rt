@@ -4,7 +4,7 @@ ghost use Rattle.std.specs.Prelude.{◌≡◌, ◌≤◌, ◌↔◌, ◌-◌, �
 ghost use Rattle.fibs_boards.specs.StoredBoard.{fields_of};
 ghost use Rattle.fibs_position.specs.GamePart.{Differ, Agree, game_part, same_game};
 
-use fibs_boards::board::Board;
+use fibs_boards::Board;
 
 /// Two boards have the same numbers from a first to a last field.
 fn agree(a: &Board, b: &Board, first: usize, last: usize) -> bool

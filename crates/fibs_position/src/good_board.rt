@@ -7,7 +7,7 @@ ghost use Rattle.fibs_position.specs.Phases.{phase_of};
 
 use crate::phase::Phase;
 use crate::position::Position;
-use fibs_boards::board::Board;
+use fibs_boards::Board;
 
 /// The board has a position.
 pub fn is_good(board: &Board) -> bool

@@ -9,7 +9,7 @@ ghost use Rattle.fibs_position.specs.OwnView.{own_off, other_off, own_placed, ot
 ghost use Rattle.fibs_position.specs.OwnView.{first_die, second_die, no_dice};
 
 use crate::direction::Direction;
-use fibs_boards::board::Board;
+use fibs_boards::Board;
 use fibs_boards::fields::{COLOUR, FIRST_DIE, FIRST_PLACE, OTHER_OFF, OWN_OFF, SECOND_DIE};
 use fibs_boards::laws::fields_have_their_ranges;
 use fibs_rules::{Arrangement, total};

@@ -16,7 +16,7 @@ use crate::disallowed::Disallowed;
 use crate::own_view::{arranged, first_die, other_placed, own_placed, second_die};
 use crate::phase::Phase;
 use crate::position_fault::PositionFault;
-use fibs_boards::board::Board;
+use fibs_boards::Board;
 use fibs_boards::fields::{COLOUR, CUBE, MAY_DOUBLE, TURN, WAS_DOUBLED};
 use fibs_boards::laws::is_board_is_exact;
 use fibs_rules::{Arrangement, Play, Turn};

@@ -6,7 +6,7 @@ ghost use Rattle.fibs_position.specs.PositionValue.{position_of, position_value}
 ghost use Rattle.fibs_position.specs.Watched.{IsWatched, watched};
 
 use crate::position::{Position, is_you};
-use fibs_boards::board::Board;
+use fibs_boards::Board;
 use fibs_boards::laws::is_board_is_exact;
 
 /// A board on which the user does not play, with its position as the player sees it who is watched. Nothing is decided

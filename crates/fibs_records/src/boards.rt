@@ -8,7 +8,8 @@ ghost use Rattle.fibs_fields.specs.Name.{is_name};
 ghost use Rattle.fibs_records.specs.BoardOf.{IsBoardAs, IsNameAs};
 
 use crate::text::put;
-use fibs_messages::{Board, Name};
+use fibs_boards::Board;
+use fibs_messages::Name;
 
 /// The 53 fields of a board: two names, and the numbers of fields 4 to 53.
 #[repr(C)]

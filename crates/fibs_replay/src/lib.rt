@@ -18,10 +18,10 @@ pub mod play_loop;
 pub mod run;
 
 use bstr::Lines;
+use fibs_boards::Board;
 use fibs_engine::fault::EngineFault;
 use fibs_engine::status::Status;
 use fibs_engine::writing::write_bytes;
-use fibs_messages::Board;
 use fibs_model::{Carrier, InMemory, World};
 use fibs_scripts::events::read_board;
 use fibs_scripts::input::read_lines;

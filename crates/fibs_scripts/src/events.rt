@@ -16,7 +16,8 @@ ghost use Rattle.fibs_scripts.specs.EventReading.{serving_in};
 ghost use Rattle.fibs_scripts.specs.Scripts.{IsNoBoard, IsNoEvent};
 
 use crate::laws::events_are_exact;
-use fibs_messages::{Board, read_decimal, split};
+use fibs_boards::Board;
+use fibs_messages::{read_decimal, split};
 use fibs_model_server::Event;
 use fibs_position::Direction;
 use fibs_session::{read_command, read_plain};

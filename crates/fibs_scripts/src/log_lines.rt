@@ -15,8 +15,8 @@ ghost use Rattle.fibs_scripts.specs.Limits.{answer_len, said_len};
 
 use crate::limits::WRITE_LEN;
 use arrayvec::ArrayVec;
+use fibs_boards::Board;
 use fibs_engine::fixed::append;
-use fibs_messages::Board;
 use fibs_model_server::Entry;
 use fibs_session::{Outstanding, Refusal};
 use itoa::Buffer;

@@ -27,10 +27,10 @@ mod run;
 
 use crate::session::Session;
 use crate::taken::{Outstanding, Taken};
+use fibs_boards::Board;
 use fibs_commands::{CommandText, Login, Plain};
 use fibs_history::{PlainRefusal, Refusal};
 use fibs_lines::Lines;
-use fibs_messages::Board;
 use fibs_position::{Decision, GameBoard};
 pub use got::Got;
 use heard_line::Answer;

@@ -12,9 +12,9 @@ ghost use Rattle.fibs_commands.specs.PlainOf.{plain_value};
 
 use crate::session::Session;
 use crate::taken::Outstanding;
+use fibs_boards::Board;
 use fibs_commands::{CommandText, Plain, plain_text};
 use fibs_history::{PlainRefusal, Refusal};
-use fibs_messages::Board;
 use fibs_position::{Decision, Disallowed};
 
 /// The refusal of a decision that the board does not allow.

@@ -20,11 +20,12 @@ ghost use Rattle.fibs_commands.specs.TextOf.{text_of};
 use crate::session::{ServerFlags, Session};
 use crate::taken::Outstanding;
 use arrayvec::ArrayVec;
+use fibs_boards::Board;
 use fibs_commands::{
     AnswerText, autoboard_text, board_text, moreboards_text, roll_text, style_text,
 };
 use fibs_lines::Line;
-use fibs_messages::{Board, Message, OwnInfo, Reading, is_board_line, message_number, read};
+use fibs_messages::{Message, OwnInfo, Reading, is_board_line, message_number, read};
 use fibs_position::{Decision, GameBoard, differs};
 
 /// What a session says to a line: the commands that are to be sent, the decision that is confirmed, and whether the

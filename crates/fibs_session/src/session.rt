@@ -19,10 +19,10 @@ ghost use Rattle.fibs_commands.specs.PlainOf.{plain_value};
 
 use crate::hearing::{Reply, read_line};
 use crate::taken::{Outstanding, Taken};
+use fibs_boards::Board;
 use fibs_commands::{CommandText, Login, Plain};
 use fibs_history::{PlainRefusal, Refusal};
 use fibs_lines::Line;
-use fibs_messages::Board;
 use fibs_position::{Decision, GameBoard, laws};
 
 /// What the server does by itself, as a message 2 says.

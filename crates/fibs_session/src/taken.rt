@@ -4,9 +4,10 @@ ghost use Rattle.std.specs.Prelude.{◌≡◌};
 ghost use Rattle.fibs_commands.specs.TextOf.{text_of};
 
 use arrayvec::ArrayVec;
+use fibs_boards::Board;
 use fibs_commands::{AnswerText, CommandText, decision_text};
 use fibs_lines::Line;
-use fibs_messages::{Board, Reading};
+use fibs_messages::Reading;
 use fibs_position::{Decision, Direction};
 
 /// A decision that was sent, and the board on which it was made.

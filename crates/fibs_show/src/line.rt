@@ -12,14 +12,13 @@ ghost use Rattle.fibs_engine.specs.Escape.{escaped};
 ghost use Rattle.fibs_engine.specs.Readings.{reading_text};
 ghost use Rattle.fibs_show.specs.Show.{ShownLine};
 
+use fibs_boards::Board;
 use fibs_copied_lines::canonical_line;
 use fibs_copied_lines::check::check_board;
 use fibs_engine::escape::{append_escaped, escape_from};
 use fibs_engine::malformed::malformed_text;
 use fibs_lines::Line;
-use fibs_messages::{
-    Board, Fault, Message, Reading, is_board_line, message_number, print_message, read,
-};
+use fibs_messages::{Fault, Message, Reading, is_board_line, message_number, print_message, read};
 use itoa::{Buffer, Integer};
 use std::alloc::{AllocError, Global};
 

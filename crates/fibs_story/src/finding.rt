@@ -8,7 +8,7 @@ ghost use Rattle.fibs_position.specs.GameOf.{game_of};
 ghost use Rattle.fibs_rules.specs.PlayValue.{hops_of};
 ghost use Rattle.fibs_story.specs.Played.{IsPlayed, NoneIsPlayed, SameCheckers};
 
-use fibs_boards::board::Board;
+use fibs_boards::Board;
 use fibs_boards::fields::{FIRST_PLACE, LAST_PLACE, OTHER_OFF, OWN_OFF};
 use fibs_position::{Decision, GameBoard, Phase, Play, effect};
 use std::alloc::{AllocError, Global};

@@ -6,7 +6,7 @@ ghost use Rattle.fibs_boards.specs.StoredBoard.{fields_of};
 ghost use Rattle.fibs_position.specs.BoardEffect.{set_field};
 ghost use Rattle.fibs_story.specs.Mirrored.{borne_off, mirrored, opposite, other_dice, own_dice, turned};
 
-use fibs_boards::board::Board;
+use fibs_boards::Board;
 use fibs_boards::fields::{
     COLOUR, DIRECTION, FIRST_DIE, OTHER_FIRST_DIE, OTHER_OFF, OTHER_SECOND_DIE, OWN_OFF, SECOND_DIE,
 };

@@ -2,7 +2,7 @@
 
 use crate::finding::played;
 use crate::mirror::mirrored;
-use fibs_boards::board::Board;
+use fibs_boards::Board;
 use fibs_boards::fields::{
     FIRST_DIE, MATCH_LENGTH, OTHER_FIRST_DIE, OTHER_SCORE, OWN_SCORE, SECOND_DIE,
 };

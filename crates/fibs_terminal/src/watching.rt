@@ -2,7 +2,7 @@
 
 use crate::screen::Screen;
 use fibs_advice::watched::{Seen, read_seen};
-use fibs_boards::board::Board;
+use fibs_boards::Board;
 use fibs_drawing::Watching;
 use fibs_position::WatchedBoard;
 use std::alloc::AllocError;

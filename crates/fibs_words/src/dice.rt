@@ -6,7 +6,7 @@ ghost use Rattle.fibs_boards.specs.StoredBoard.{fields_of};
 ghost use Rattle.fibs_fields.specs.FieldReading.{natural};
 ghost use Rattle.fibs_words.specs.Words.{pair, lone_dice, other_dice, dice_row};
 
-use fibs_boards::board::Board;
+use fibs_boards::Board;
 use fibs_boards::fields::{FIRST_DIE, OTHER_FIRST_DIE, OTHER_SECOND_DIE, SECOND_DIE};
 use fibs_picture::writing::write_text;
 use std::io;

@@ -11,7 +11,7 @@ ghost use Rattle.fibs_picture.specs.Picture.{match_length, doublers, is_one};
 ghost use Rattle.fibs_words.specs.Words.{whose, turn_said, phase_said, turn_row, score_row, cube_row, cube_shows};
 ghost use Rattle.fibs_words.specs.Words.{direction_row};
 
-use fibs_boards::board::Board;
+use fibs_boards::Board;
 use fibs_boards::fields::{
     COLOUR, CUBE, MATCH_LENGTH, MAY_DOUBLE, OTHER_MAY_DOUBLE, OTHER_SCORE, OWN_SCORE, TURN,
     UNLIMITED,

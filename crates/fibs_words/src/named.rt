@@ -13,7 +13,7 @@ ghost use Rattle.fibs_words.specs.Watched.{owner_said, cube_named, way_said, hel
 
 use crate::dice::{is_none, write_pair};
 use crate::held::write_numbers;
-use fibs_boards::board::Board;
+use fibs_boards::Board;
 use fibs_boards::fields::{
     COLOUR, CUBE, FIRST_DIE, MAY_DOUBLE, OTHER_FIRST_DIE, OTHER_MAY_DOUBLE, OTHER_SECOND_DIE,
     SECOND_DIE, TURN,

@@ -21,7 +21,7 @@ use crate::named::{
 };
 use crate::side::Side;
 use crate::words::tell_side;
-use fibs_boards::board::Board;
+use fibs_boards::Board;
 use fibs_picture::front;
 use fibs_picture::pips::{other_pips, own_pips};
 use fibs_picture::writing::write_text;

@@ -19,7 +19,7 @@ use crate::game::{write_cube, write_direction, write_score, write_turn};
 use crate::held::write_held_row;
 use crate::side::Side;
 use crate::stacks::write_side;
-use fibs_boards::board::Board;
+use fibs_boards::Board;
 use fibs_picture::front;
 use fibs_picture::pips::{other_pips, own_pips};
 use fibs_picture::writing::write_text;

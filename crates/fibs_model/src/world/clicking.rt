@@ -12,7 +12,7 @@ ghost use Rattle.fibs_model.specs.WorldOf.{Goes};
 
 use super::World;
 use super::links::{COMMAND, hand_out, make_room};
-use fibs_messages::Board;
+use fibs_boards::Board;
 use fibs_model_server::Entry;
 use fibs_position::Decision;
 use fibs_session::{CommandText, Plain, Refusal};

@@ -7,7 +7,7 @@ ghost use Rattle.fibs_model.specs.WorldOf.{May, Goes};
 
 use super::World;
 use super::links::{BOARD, make_room, send_line};
-use fibs_messages::Board;
+use fibs_boards::Board;
 use std::alloc::AllocError;
 
 impl World {

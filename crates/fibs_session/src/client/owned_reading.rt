@@ -7,8 +7,9 @@ ghost use Rattle.fibs_messages.specs.Line.{reading_of};
 ghost use Rattle.fibs_history.specs.Hearing.{line_reading};
 
 use crate::hearing::read_line;
+use fibs_boards::Board;
 use fibs_lines::Line;
-use fibs_messages::{Board, Fault, Reading, laws};
+use fibs_messages::{Fault, Reading, laws};
 
 /// A reading that borrows nothing. A message borrows from its line: it is read when the line is lent, most messages
 /// only there.

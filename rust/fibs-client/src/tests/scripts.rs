@@ -1,6 +1,6 @@
 //! Scripts: which lines are which events, the first line that is unreadable, and the lines of the log.
 
-use crate::fibs_messages::Board;
+use crate::fibs_boards::Board;
 use crate::fibs_model::{Entry, Event};
 use crate::fibs_position::{Decision, Play, Stake, Step};
 use crate::fibs_scripts::events::{read_board, read_event};

@@ -1,6 +1,6 @@
 //! The game so far: each play of a game is told by the boards before and after it.
 
-use crate::fibs_messages::Board;
+use crate::fibs_boards::Board;
 use crate::fibs_position::{Decision, GameBoard, Play, effect};
 use crate::fibs_story::{Story, mirrored, played};
 

@@ -1,6 +1,6 @@
 //! Boards that the user watches: their pictures, and the same in words, which were made by hand.
 
-use crate::fibs_messages::Board;
+use crate::fibs_boards::Board;
 use crate::fibs_picture::draw_watched;
 use crate::fibs_position::{GameBoard, PositionFault, WatchedBoard};
 use crate::fibs_words::tell_watched;
