@@ -199,7 +199,7 @@ pub mod may {
 #[allow(non_camel_case_types, clippy::needless_range_loop)]
 pub mod simd {
     pub mod prelude {
-        pub use super::{Simd, u8x16, u8x32};
+        pub use super::{Simd, u8x16, u8x32, u8x64};
     }
 
     use std::ops::BitOr;
@@ -209,6 +209,7 @@ pub mod simd {
 
     pub type u8x16 = Simd<u8, 16>;
     pub type u8x32 = Simd<u8, 32>;
+    pub type u8x64 = Simd<u8, 64>;
 
     /// 255 or 0 for each lane.
     #[derive(Clone, Copy)]

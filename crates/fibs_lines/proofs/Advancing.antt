@@ -1,10 +1,10 @@
 -- What is kept, while a stream goes on.
-use Rattle.std.proofs.Common.{◌≡◌, ◌≢◌, ℕ, zero, suc, ◌+◌, ◌-◌, ◌<◌, Bool, true, false, List, [], ◌∷◌, ◌++◌, length}
+use Rattle.std.proofs.Common.{◌≡◌, ◌≢◌, ℕ, zero, suc, ◌+◌, ◌-◌, ◌<◌, ◌≤◌, Bool, true, false, List, [], ◌∷◌, ◌++◌}
 use Rattle.std.proofs.Common.{take, drop, get_or, refl, sym, ap, subst, ◌∙◌, arith, length-append, append_assoc}
-use Rattle.std.proofs.Common.{zero-le}
+use Rattle.std.proofs.Common.{length, zero-le}
 use Rattle.std.specs.Prelude.{◌||◌, nat_lt}
 use Rattle.std.proofs.Math.Seq.{take-add}
-use Rattle.std.proofs.lemmas.List.{length-take, append-nil, take_all, take_more}
+use Rattle.std.proofs.lemmas.List.{length-take, append-nil, take_all, take_more, take_rest}
 use Rattle.fibs_lines.specs.Lines.{plain, kept_limit, rest_of, lines_of}
 use Rattle.fibs_lines.specs.Progress.{IsRun, Kept, KeptAfter, Advances}
 use Rattle.fibs_lines.proofs.Parts.{has_end}
@@ -86,6 +86,31 @@ Advances-run old new q run was is front over =
       front = rw gives front;
       over = rw gives over;
     })
+
+-- what fits is not too much
+not_over : (b : Bool) (room n : ℕ) → n ≤ room → b ≡ (b || nat_lt room n)
+not_over true room n h = refl
+not_over false room n h = grind arith
+
+-- data that nothing interrupts and that fits
+pub Advances-fitting : (old new : Kept) (bytes : List ℕ) (n : ℕ) → IsRun (take n bytes) → old.telnet ≡ Data
+    → new.telnet ≡ Data → length old.front + n ≤ 16385 → new.front ≡ old.front ++ take n bytes → new.over ≡ old.over
+    → Advances old new (take n bytes)
+Advances-fitting old new bytes n run was is fits front over =
+    let room = kept_limit + 1 - length old.front in
+    let short : length (take n bytes) ≤ room = omega (arith, length-take n bytes, fits) in
+    Advances-run old new (take n bytes) run was is
+    (front ∙ ap (λ l. old.front ++ l) (sym (take_all room (take n bytes) short)))
+    (over ∙ not_over old.over room (length (take n bytes)) short)
+
+-- an advance over a front, and one over a part of what follows it
+pub Advances-parts : (u v w : Kept) (bytes : List ℕ) (n run : ℕ) → Advances u v (take n bytes)
+    → Advances v w (take run (take (length bytes - n) (drop n bytes))) → Advances u w (take (n + run) bytes)
+Advances-parts u v w bytes n run a b =
+    let rest = take (length bytes - n) (drop n bytes) in
+    let same : take n bytes ++ take run rest ≡ take (n + run) bytes =
+    ap (λ l. take n bytes ++ take run l) (take_rest bytes n) ∙ sym (take-add n run bytes) in
+    subst (Advances u w) same (Advances-then u v w (take n bytes) (take run rest) a b)
 
 -- the byte 255 ends no line
 unended_255 : has_end (255 ∷ []) ≡ false

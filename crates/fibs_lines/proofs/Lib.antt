@@ -12,3 +12,4 @@ pub mod WholeLemmas
 pub mod SentLemmas
 pub mod EndsCounted
 pub mod LineEnds
+pub mod WindowLemmas

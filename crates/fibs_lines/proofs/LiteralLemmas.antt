@@ -68,6 +68,13 @@ module _ (bytes : List ℕ) (at found : ℕ) (h : IsLiteralTo bytes at) (room : 
         each = both bytes at (at + stop) h (run_in_chunk_fails is_other bytes at 32 stop 0 room counted);
       }
 
+-- of fewer bytes it holds too
+pub literal_back : (bytes : List ℕ) (at fewer : ℕ) → IsLiteralTo bytes at → fewer ≤ at → IsLiteralTo bytes fewer
+literal_back bytes at fewer h less = record {
+  in_range = omega (arith, h.in_range, less);
+  each = λ k l. h.each k (omega (arith, l, less));
+}
+
 -- one literal byte more
 pub literal_next : (bytes : List ℕ) (at : ℕ) → IsLiteralTo bytes at → at < length bytes
     → is_literal (get_or bytes at 0) ≡ true → IsLiteralTo bytes (at + 1)

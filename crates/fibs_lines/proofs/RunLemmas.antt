@@ -1,6 +1,6 @@
 -- Data that nothing interrupts.
 use Rattle.std.proofs.Common.{◌≡◌, ℕ, zero, suc, ◌<◌, Bool, true, false, ◌+◌, List, [], ◌∷◌, ◌++◌, ◌-◌, ◌≤◌, length}
-use Rattle.std.proofs.Common.{take, drop, get_or, refl, sym, ap, ◌∙◌, subst, arith}
+use Rattle.std.proofs.Common.{take, drop, get_or, refl, sym, ap, ◌∙◌, subst, arith, true≢false}
 use Rattle.std.proofs.lemmas.List.{length-take, take-take, take_rest, get_or-take, get_or-drop}
 use Rattle.std.proofs.Math.Seq.{take-add}
 use Rattle.fibs_lines.specs.Progress.{IsRun, ends_run}
@@ -67,6 +67,13 @@ IsRun-window bytes window at wide more h same within none =
     let front : take more window ≡ take more (drop at bytes) =
     ap (take more) same ∙ take-take more wide rest narrow ∙ ap (take more) (take_rest bytes at) in
     IsRun-further bytes at more h (subst IsRun front (IsRun_take more window none))
+
+-- a run at a front, and bytes after it none of which ends it
+pub run_by_bytes : (bytes : List ℕ) (at more : ℕ) → IsRun (take at bytes)
+    → ((k : ℕ) → at ≤ k → k < at + more → ends_run (get_or bytes k 0) ≡ false) → IsRun (take (at + more) bytes)
+run_by_bytes bytes at more run none =
+    IsRun-further bytes at more run (IsRun_take more (drop at bytes) (λ j l e.
+    true≢false (sym e ∙ ap ends_run (get_or-drop at bytes j 0) ∙ none (at + j) (omega arith) (omega (arith, l)))))
 
 -- a run at a front, and one byte more that ends none
 IsRun_suc : (at : ℕ) (bytes : List ℕ) → at < length bytes → IsRun (take at bytes)

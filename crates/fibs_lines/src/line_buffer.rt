@@ -71,7 +71,16 @@ impl LineBuffer {
         self.len = 0;
     }
 
+    /// Forgets the bytes after the first `len`.
+    pub(crate) fn truncate(&mut self, len: usize)
+        requires { len ≤ length self.old }
+        ensures { self.new ≡ take len self.old }
+    {
+        self.len = len;
+    }
+
     /// Appends bytes.
+    #[inline(always)]
     pub(crate) fn append(&mut self, more: &[u8])
         requires { length self.old + length more.now ≤ ROOM }
         ensures { self.new ≡ self.old ++ more.now }

@@ -1,6 +1,6 @@
 //! Bytes that can be printed as they are, searched in windows.
 
-ghost use Rattle.std.specs.Prelude.{◌≡◌, not, map};
+ghost use Rattle.std.specs.Prelude.{◌≡◌, ◌<◌, ◌+◌, not, map, length};
 ghost use Rattle.std.specs.Simd.Lanes.{mask_l};
 ghost use Rattle.fibs_lines.specs.Literal.{is_literal};
 ghost use Rattle.fibs_lines.specs.Progress.{IsLiteralTo};
@@ -28,6 +28,7 @@ fn others(window: u8x32) -> u64
 }
 
 /// How many bytes of `bytes` come before the first that is not literal; the first `start` are literal.
+#[inline(never)]
 fn literal_from(bytes: &[u8], start: usize) -> usize
     requires { IsLiteralTo bytes.now start }
     ensures { IsLiteralTo bytes.now result }
@@ -36,6 +37,24 @@ fn literal_from(bytes: &[u8], start: usize) -> usize
         if !is_literal(bytes[at]) {
             return at;
         }
+    }
+    bytes.len()
+}
+
+/// The same where less than a window follows: the last one, which begins within those before, is tested again.
+#[inline(always)]
+fn literal_to_end(bytes: &[u8], start: usize) -> usize
+    requires literal { IsLiteralTo bytes.now start }
+    requires short { length bytes.now < start + WINDOW }
+    ensures { IsLiteralTo bytes.now result }
+{
+    if bytes.len() < WINDOW {
+        return literal_from(bytes, start);
+    }
+    let last = bytes.len() - WINDOW;
+    let found = others(u8x32::from_slice(&bytes[last..]));
+    if found != 0 {
+        return last + found.trailing_zeros() as usize;
     }
     bytes.len()
 }
@@ -52,5 +71,5 @@ pub(crate) fn literal_len(bytes: &[u8]) -> usize
         }
         at += WINDOW;
     }
-    literal_from(bytes, at)
+    literal_to_end(bytes, at)
 }

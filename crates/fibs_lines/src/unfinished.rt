@@ -1,13 +1,15 @@
 //! What is kept of a stream between two pieces: the line that is not finished.
 
 ghost use Rattle.std.specs.Prelude.{true, false, IfNone, IfSome, ◌≡◌, ◌+◌, ◌-◌, ◌<◌, ◌≤◌, ◌||◌, nat_lt, length, take};
-ghost use Rattle.std.specs.Prelude.{◌++◌, ◌∷◌, [], slice_index, ◌≢◌};
+ghost use Rattle.std.specs.Prelude.{◌++◌, ◌∷◌, [], slice_index, ◌≢◌, map};
+ghost use Rattle.std.specs.Simd.Lanes.{mask_l};
 ghost use Rattle.fibs_lines.specs.Progress.{IsRun, ends_run};
 
 use crate::line::Line;
 use crate::line_buffer::{LineBuffer, ROOM};
 use crate::telnet::Telnet;
 use memchr::memchr2;
+use std::simd::prelude::*;
 
 /// What is kept of the stream since its last line end.
 ///
@@ -65,6 +67,44 @@ pub(crate) fn run_len(bytes: &[u8]) -> usize
     }
 }
 
+/// How many bytes are taken at once: nearly all lines are shorter.
+const TAKEN: usize = 64;
+
+/// The bytes of a window that end a run: bit k is set if byte k does.
+#[inline(always)]
+fn ends(window: u8x64) -> u64
+    ensures { result ≡ mask_l (map ends_run window) }
+{
+    (window.simd_eq(u8x64::splat(b'\n')) | window.simd_eq(u8x64::splat(255))).to_bitmask()
+}
+
+/// Takes the windows at the front of `bytes`, each before it is searched, as long as there is room for another, up to a
+/// byte that ends the run. It answers how many bytes were taken, and whether such a byte follows them.
+#[inline(always)]
+fn take_windows(front: &mut LineBuffer, bytes: &[u8]) -> (usize, bool)
+    ensures taken { front.new ≡ front.old ++ take result.0 bytes.now }
+    ensures in_range { result.0 ≤ length bytes.now }
+    ensures fits { length front.old + result.0 ≤ ROOM }
+    ensures run { IsRun (take result.0 bytes.now) }
+    ensures ends { result.1 ≡ true → (result.0 < length bytes.now)
+        × (ends_run (slice_index bytes.now result.0) ≡ true) }
+{
+    let room = front.room();
+    let mut at = 0;
+    while bytes.len() - at >= TAKEN && room - at >= TAKEN {
+        let start = front.len();
+        front.append(&bytes[at..at + TAKEN]);
+        let found = ends(u8x64::from_slice(&bytes[at..]));
+        if found != 0 {
+            let run = found.trailing_zeros() as usize;
+            front.truncate(start + run);
+            return (at + run, true);
+        }
+        at += TAKEN;
+    }
+    (at, false)
+}
+
 impl Unfinished {
     ghost use Rattle.fibs_lines.specs.Lines.{value_of};
     ghost use Rattle.fibs_lines.specs.LinesValue.{kept_line};
@@ -120,6 +160,7 @@ impl Unfinished {
     }
 
     /// Takes the run at the front of `bytes`, and answers its length.
+    #[inline(always)]
     fn take_run(&mut self, bytes: &[u8]) -> usize
         requires { self.old.telnet ≡ Telnet.Data }
         ensures telnet { self.new.telnet ≡ Telnet.Data }
@@ -127,9 +168,14 @@ impl Unfinished {
         ensures stops { result < length bytes.now → ends_run (slice_index bytes.now result) ≡ true }
         ensures advances { Advances (kept self.old) (kept self.new) (take result bytes.now) }
     {
-        let run = run_len(bytes);
-        self.keep(&bytes[..run]);
-        run
+        let (front, ends) = take_windows(&mut self.front, bytes);
+        if ends {
+            return front;
+        }
+        let rest = &bytes[front..];
+        let run = run_len(rest);
+        self.keep(&rest[..run]);
+        front + run
     }
 
     /// Takes a byte of a command.
