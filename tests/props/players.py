@@ -1,39 +1,24 @@
 """Players who type: through a pipe, at a terminal, with fibs-play. The program is the test's first argument."""
 
 import os
-import pathlib
 import select
-import shutil
 import subprocess
 import sys
 import tempfile
 import time
 
 from props.checks import PATIENCE, Failed, same
-from props.server import OWN_INFO
-from props.terminals import Terminal
+from props.server import OWN_INFO, WELCOME
+from props.terminals import PASSWORD, PLAY, RLWRAP, SHELLS, Terminal
 
 PROGRAM = os.path.realpath(sys.argv[1])
-
-ROOT = pathlib.Path(__file__).resolve().parent.parent.parent
-
-PLAY = str(ROOT / 'scripts' / 'fibs-play')
-
-# No other process knows it.
-PASSWORD = 'hunter' + os.urandom(4).hex()
 
 LOGIN = 'login fibs_client 1008 ann ' + PASSWORD
 
 STYLE = 'set boardstyle 3'
 
-WELCOME = '1 ann 1041253132 localhost'
-
-RLWRAP = shutil.which('rlwrap')
-
 # Terminals on which fibs-play edits no lines, and, if rlwrap is installed, one on which it does.
 KINDS = ['dumb'] + (['xterm'] if RLWRAP else [])
-
-SHELLS = [words for words in ([], ['dash'], ['bash', '--posix'], ['bash']) if not words or shutil.which(words[0])]
 
 HOME = tempfile.TemporaryDirectory()
 

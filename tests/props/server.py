@@ -1,23 +1,19 @@
-#!/usr/bin/env python3
-"""A small model of a backgammon server: a prop of the tests, and a server to try the program on. It is no product.
+"""A small model of a backgammon server: a prop of the tests.
 
-    server.py [PORT [DICE..]]
-
-It listens on 127.0.0.1, on a free port if none is named, prints the port, and plays a short ending against each
-player who logs in. DICE are pairs like 62, used in turn for both players; then it rolls. It ends with an interrupt.
-
-The game outlives its connections, as at the real server: who comes back finds the board as it is.
+It listens on 127.0.0.1, and plays a short ending against a player who logs in. The game outlives its connections, as at
+the real server: who comes back finds the board as it is.
 """
 
 import random
 import socket
 import struct
-import sys
 
 # How many seconds a test waits for a player.
 WAIT = 60
 
 HEAD = ['board', 'You', 'bob', '1', '0', '0']
+
+WELCOME = '1 ann 1041253132 localhost'
 
 OWN_INFO = '2 %s 1 1 0 0 0 0 1 1 10 0 1 0 1 1500.00 0 0 0 0 0 UTC'
 
@@ -186,27 +182,3 @@ class Server:
             else:
                 self.send(*game.answer(line.split(' ')))
             lines = lines and lines - 1
-
-
-def main():
-    """Serves one player after another."""
-    dice = [[int(digit) for digit in pair] for pair in sys.argv[2:]]
-    server = Server(int(sys.argv[1]) if len(sys.argv) > 1 else 0, None)
-    game = Game([5, 3], [22, 23], dice)
-    print(server.port, flush=True)
-    try:
-        while True:
-            server.accept()
-            try:
-                if server.log_in():
-                    server.serve(game)
-            except OSError:
-                pass
-            if game.turn == 0:
-                game = Game([5, 3], [22, 23], dice)
-    except KeyboardInterrupt:
-        pass
-
-
-if __name__ == '__main__':
-    main()

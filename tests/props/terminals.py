@@ -3,6 +3,7 @@
 import fcntl
 import os
 import select
+import shutil
 import signal
 import struct
 import subprocess
@@ -16,6 +17,16 @@ from props.shell import END, signal_job
 
 # The shell is a program.
 SHELL = os.path.join(os.path.dirname(os.path.abspath(__file__)), 'shell.py')
+
+# What lets a player type lines, and edits them, if it is installed.
+PLAY = os.path.abspath(os.path.join(os.path.dirname(SHELL), '..', '..', 'scripts', 'fibs-play'))
+RLWRAP = shutil.which('rlwrap')
+
+# Shells that may run it.
+SHELLS = [words for words in ([], ['dash'], ['bash', '--posix'], ['bash']) if not words or shutil.which(words[0])]
+
+# No other process knows it.
+PASSWORD = 'hunter' + os.urandom(4).hex()
 
 # What the processor's time is counted in.
 TICKS = os.sysconf('SC_CLK_TCK')

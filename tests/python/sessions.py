@@ -6,6 +6,7 @@ import sys
 
 import matchfiles
 from props.package import ROOT
+from props.server import WELCOME
 
 START = {6: 5, 8: 3, 13: 5, 24: 2}
 
@@ -41,8 +42,6 @@ OWN1 = after(START, (24, 21), (21, 15))
 OTHER1 = after(START, (13, 8), (24, 22))
 OWN2 = after(OWN1, (24, 18), (15, 9), (13, 7), (13, 7))
 OTHER2 = after(OTHER1, (6, 5), (8, 5))
-
-WELCOME = '1 ann 1041253132 localhost'
 
 
 def session(**how):

@@ -12,9 +12,8 @@ import zoneinfo
 
 import people  # noqa: F401
 from people import Failed, PATIENCE, PROGRAM, Person, Terminal, same
-from props.server import OWN_INFO, Server
+from props.server import OWN_INFO, WELCOME, Server
 
-WELCOME = '1 ann 1041253132 localhost'
 # What a terminal does not obey.
 HARMLESS = {chr(code) for code in [10, *range(32, 127)]}
 MILLION = 1000000

@@ -16,13 +16,10 @@ sys.path[:0] = [str(ROOT / 'tests'), str(ROOT / 'tests' / 'server')]
 
 from clients import Client, Served
 from props.checks import PATIENCE, Failed, same
-from props.terminals import Terminal
+from props.terminals import PASSWORD, Terminal
 from words import REFUSED, read
 
 PROGRAM = os.path.realpath(sys.argv[1]) if len(sys.argv) > 1 else ''
-
-# No other process knows it.
-PASSWORD = 'hunter' + os.urandom(4).hex()
 
 ROOM = tempfile.TemporaryDirectory()
 PASSWORD_FILE = os.path.join(ROOM.name, 'password')

@@ -9,12 +9,10 @@ import tempfile
 import time
 
 from people import BOLD, PASSWORD, PATIENCE, PROGRAM, ROOM, ROOT, Client, Failed, Served, Terminal, same
+from props.terminals import PLAY, RLWRAP, SHELLS
 
-PLAY = str(ROOT / 'scripts' / 'fibs-play')
-RLWRAP = shutil.which('rlwrap')
 # What rlwrap draws is its own: this is all that is no text.
 DRAWN = re.compile(r'\x1b\[[0-9;?]*[a-zA-Z@]|\r|\x07')
-SHELLS = [words for words in ([], ['dash'], ['bash', '--posix'], ['bash']) if not words or shutil.which(words[0])]
 REFUSED = 2
 
 

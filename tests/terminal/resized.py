@@ -2,7 +2,6 @@
 
 import os
 import re
-import shutil
 import signal
 import tempfile
 
@@ -10,10 +9,9 @@ from escapes import BOARD, WELCOME
 from partners import NARROW, board_of
 from people import PASSWORD, PROGRAM, ROOT, Terminal, same
 from props.server import OWN_INFO, Server
+from props.terminals import PLAY, RLWRAP
 
 SCENES = []
-
-PLAY = str(ROOT / 'scripts' / 'fibs-play')
 
 # What rlwrap draws around a line that is edited.
 EDITED = re.compile(r'\x1b\[[0-9;?]*[a-zA-Z]|\x1b[=>]|\r')
@@ -57,7 +55,7 @@ def shown_of(ann, server, board):
 @scene
 def a_window_of_another_width_is_told_before_the_next_line():
     """40 columns keep each place and the dice; then the picture is as it was; what can be no width is not told."""
-    if not shutil.which('rlwrap'):
+    if not RLWRAP:
         return
     board = board_of(1, own=(4, 3))
     server = Server()
@@ -104,7 +102,7 @@ def title_left(seen):
 @scene
 def the_title_comes_back_however_the_program_ends():
     """With rlwrap and without it, as on a terminal that tells no width: by a typed word, by a key, or by a signal."""
-    for columns in [80] * bool(shutil.which('rlwrap')) + [0]:
+    for columns in [80] * bool(RLWRAP) + [0]:
         for given, status in ENDINGS:
             if columns and given in (b'\x03', signal.SIGINT, signal.SIGHUP):
                 # there a line is cancelled, and the last shows rlwrap that the terminal is gone
@@ -153,7 +151,7 @@ def a_shell_above_the_program_stops_with_it():
 @scene
 def tab_knows_each_player_who_was_listed():
     """Also one who was on no screen; and not one who has gone since; with a log that is wanted, and without."""
-    if not shutil.which('rlwrap'):
+    if not RLWRAP:
         return
     for logs in False, True:
         server = Server()
