@@ -8,7 +8,7 @@ import subprocess
 import tempfile
 import time
 
-from people import BOLD, PASSWORD, PATIENCE, PROGRAM, ROOM, ROOT, Client, Failed, Served, Terminal, same
+from people import PASSWORD, PATIENCE, PROGRAM, ROOM, Client, Failed, Served, Terminal, same
 from props.terminals import PLAY, RLWRAP, SHELLS
 
 # What rlwrap draws is its own: this is all that is no text.

@@ -7,7 +7,7 @@ import tempfile
 
 from escapes import BOARD, WELCOME
 from partners import NARROW, board_of
-from people import PASSWORD, PROGRAM, ROOT, Terminal, same
+from people import PASSWORD, PROGRAM, Terminal, same
 from props.server import OWN_INFO, Server
 from props.terminals import PLAY, RLWRAP
 
