@@ -23,10 +23,8 @@ fn main() -> io::Result<()> {
         output.write_all(&text)?;
         text.clear();
     }
-    let held = lines.kept.len().min(LINE_LIMIT);
-    if held > 0 {
-        writeln!(output, "unfinished {held}")?;
-    }
+    lines.show_unfinished(&mut text);
+    output.write_all(&text)?;
     output.flush()
 }
 
@@ -92,12 +90,20 @@ impl Lines {
         self.length = 0;
         self.ends_in_cr = false;
     }
+
+    /// What is shown of bytes after the last line.
+    pub fn show_unfinished(&self, text: &mut Vec<u8>) {
+        let held = self.kept.len().min(LINE_LIMIT);
+        if held > 0 {
+            text.extend_from_slice(format!("unfinished {held}\n").as_bytes());
+        }
+    }
 }
 
 /// The first wrong field of a line, and what is wrong with it.
 pub struct Wrong(usize, &'static str);
 
-fn show_line(line: &[u8], cut: bool, text: &mut Vec<u8>) {
+pub fn show_line(line: &[u8], cut: bool, text: &mut Vec<u8>) {
     if cut {
         text.extend_from_slice(b"cut ");
         escape(line, text);

@@ -2,6 +2,7 @@
 
 import collections
 import concurrent.futures
+import hashlib
 import json
 import os
 import pathlib
@@ -13,35 +14,44 @@ sys.path.insert(0, str(TOP / 'tests'))
 
 
 class Run:
-    """A run of a script: what it has done so far, and its log, to which each part is added as a line of JSON."""
+    """A run of a script: what it has done so far. Its log gets a line of JSON for each part that differs, and at the
+    end one for the whole run."""
 
-    def __init__(self, name, options):
+    def __init__(self, name, options, built):
         self.name, self.options = name, options
-        self.done, self.failed, self.began = 0, 0, time.monotonic()
+        self.built = hashlib.sha256(pathlib.Path(built).read_bytes()).hexdigest()
+        self.parts, self.done, self.failed, self.began = 0, 0, 0, time.monotonic()
         self.seen = collections.Counter()
-        self.log = open(options.log, 'a', encoding='utf-8') if options.log else None
 
     def part(self, seed, done, seconds, seen, why=None):
-        """A part was done: how many inputs, of which seed, what was in them, and what was wrong."""
+        """A part was done: of which seed, how many inputs, how long it took, what was in them, and what was wrong."""
+        self.parts += 1
         self.done += done
         self.seen.update(seen)
         self.failed += why is not None
-        row = {'script': self.name, 'seed': seed, 'inputs': done, 'seconds': round(seconds, 1), 'differs': why}
-        if self.log:
-            print(json.dumps({**row, 'seen': dict(seen)}), file=self.log, flush=True)
         if why is not None:
             print('seed %s: %s' % (seed, why), flush=True)
+            self.log({'seed': seed, 'seconds': round(seconds, 1), 'differs': why})
+
+    def log(self, row):
+        if self.options.log:
+            with open(self.options.log, 'a', encoding='utf-8') as it:
+                print(json.dumps({'script': self.name, **row}), file=it)
 
     def end(self, wanted=()):
         """Prints what was done and seen. The status: 1 if something differed, or if one of the wanted kinds was seen
         less than LEAST times."""
-        print('%s: %d inputs in %.0f s, %d parts differ' % (self.name, self.done, time.monotonic() - self.began,
-                                                            self.failed))
+        seconds = time.monotonic() - self.began
+        print('%s: %d inputs in %.0f s, %d parts differ' % (self.name, self.done, seconds, self.failed))
         for kind, count in sorted(self.seen.items()):
             print('%12d  %s' % (count, kind))
         rare = [kind for kind in wanted if self.seen[kind] < self.options.least]
         if rare:
             print('seen less than %d times: %s' % (self.options.least, ', '.join(rare)))
+        self.log({'seeds': [self.options.seed, self.options.seed + self.parts - 1], 'inputs': self.done,
+                  'seconds': round(seconds), 'jobs': self.options.jobs, 'differ': self.failed, 'sha256': self.built,
+                  'ended': time.strftime('%Y-%m-%d %H:%M', time.gmtime()), 'rare': rare,
+                  'seen': dict(sorted(self.seen.items()))})
         print('%d passed, %d failed' % (self.done, self.failed))
         return 1 if self.failed or rare else 0
 
@@ -51,7 +61,7 @@ def common_options(line, least):
     line.add_argument('--seed', type=int, default=1, help='the first seed; each part has the next one')
     line.add_argument('--jobs', type=int, default=1, help='how many parts are done beside each other')
     line.add_argument('--minutes', type=float, default=float('inf'), help='no part begins after so many')
-    line.add_argument('--log', help='a file to which each part is added as a line of JSON')
+    line.add_argument('--log', help='a file to which the run is added as a line of JSON')
     line.add_argument('--least', type=int, default=least, help='how often each kind has to be seen')
 
 

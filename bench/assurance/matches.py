@@ -17,6 +17,7 @@ import argparse
 import asyncio
 import collections
 import concurrent.futures
+import os
 import random
 import re
 import sys
@@ -209,7 +210,7 @@ def main():
     common_options(line, 10)
     options = line.parse_args()
     be_nice()
-    run = Run('matches', options)
+    run = Run('matches', options, os.environ['FIBS_LIBRARY'])
     with concurrent.futures.ProcessPoolExecutor(options.jobs) as pool:
         for done in parts(pool, options, options.matches, play):
             run.part(*done)

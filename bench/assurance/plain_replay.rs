@@ -3,8 +3,9 @@
 //!
 //! It was written from docs/FORMATS.md, docs/PLAYING.md and tests/props/reference.py; lines are read by
 //! bench/plain_show.rs.
-//! `plain_replay compare PROGRAM replay|loop SEED COUNT` makes COUNT scripts, and gives each to PROGRAM; it prints how
-//! often each kind of line is in the logs, or, with status 1, the first script of which PROGRAM prints something else.
+//! `plain_replay compare PROGRAM replay|loop|many SEED COUNT FOLDER` makes COUNT scripts, and gives each to PROGRAM; it
+//! prints how often each kind of line is in the logs, or, with status 1, the first script of which PROGRAM prints
+//! something else. With `many` PROGRAM gets all of them in one process. Files are written in FOLDER.
 //! `plain_replay make SEED AT` prints the script of this place, `plain_replay play < SCRIPT` what is printed for it.
 //! Built by `rustc -O`.
 
@@ -16,12 +17,14 @@ mod plain_scripts;
 #[allow(dead_code)]
 mod plain_show;
 
-use plain_rules::{command, read_decision, renumbered, Board, Decision, Phase};
+use plain_rules::{command, push_number, read_decision, renumbered, Board, Decision, Phase};
 use plain_show::{check_message, decimal, is_name, numbered, Lines};
 use std::collections::BTreeMap;
 use std::env;
-use std::io::{self, Read, Write};
-use std::process::{exit, Command, Stdio};
+use std::fs::{self, File};
+use std::io::{self, Read, Seek, Write};
+use std::os::unix::fs::FileExt;
+use std::process::{exit, Command};
 
 const LARGEST_SCRIPT: usize = 1_048_576;
 
@@ -168,7 +171,9 @@ impl Model {
     }
 
     fn note(&mut self, what: &str, conn: usize, more: &[&[u8]]) {
-        self.log.extend_from_slice(format!("{what} {conn}").as_bytes());
+        self.log.extend_from_slice(what.as_bytes());
+        self.log.push(b' ');
+        push_number(&mut self.log, conn as i32);
         for part in more {
             self.log.push(b' ');
             self.log.extend_from_slice(part);
@@ -444,53 +449,130 @@ fn play(script: &[u8]) -> (Vec<u8>, i32) {
     (model.log, 0)
 }
 
-/// Counts what is in a log.
-fn tally(log: &[u8], seen: &mut BTreeMap<String, u64>) {
-    let mut before = String::new();
-    for line in log.split(|byte| *byte == b'\n').filter(|line| !line.is_empty()) {
-        let line = String::from_utf8_lossy(line);
-        let words: Vec<&str> = line.split(' ').collect();
-        let mut kinds = vec![match words[0] {
-            kind @ ("clicked" | "refused") => [&[kind], &words[2..]].concat().join(" "),
-            kind => kind.to_string(),
-        }];
-        if words[0] == "lost" && words.len() > 2 {
-            kinds.push("lost with a decision".to_string());
+/// How often each kind of line was in the logs.
+#[derive(Default)]
+struct Seen {
+    counts: BTreeMap<Vec<u8>, u64>,
+    kind: Vec<u8>,
+}
+
+impl Seen {
+    fn add(&mut self, kind: &[&[u8]]) {
+        self.kind.clear();
+        for part in kind {
+            self.kind.extend_from_slice(part);
         }
-        if words[0] == "sent" && before == "shown" {
-            kinds.push("sent by an order".to_string());
+        match self.counts.get_mut(&self.kind) {
+            Some(count) => *count += 1,
+            None => drop(self.counts.insert(self.kind.clone(), 1)),
         }
-        for kind in kinds {
-            *seen.entry(kind).or_default() += 1;
+    }
+
+    /// Counts the lines of a log by their first words, clicks and refusals by why they were refused.
+    fn add_log(&mut self, log: &[u8]) {
+        let mut before: &[u8] = b"";
+        for line in log.split(|byte| *byte == b'\n').filter(|line| !line.is_empty()) {
+            let mut words = line.splitn(3, |byte| *byte == b' ');
+            let first = words.next().unwrap_or_default();
+            let last = words.nth(1);
+            match last {
+                Some(why) if first == b"clicked" || first == b"refused" => self.add(&[first, b" ", why]),
+                _ => self.add(&[first]),
+            }
+            if first == b"lost" && last.is_some() {
+                self.add(&[b"lost with a decision"]);
+            }
+            if first == b"sent" && before == b"shown" {
+                self.add(&[b"sent by an order"]);
+            }
+            before = first;
         }
-        before = words[0].to_string();
+    }
+
+    fn print(&self) {
+        for (kind, count) in &self.counts {
+            println!("{count} {}", String::from_utf8_lossy(kind));
+        }
     }
 }
 
-/// What the program prints for a script, and its status.
-fn run(program: &str, mode: &str, script: &[u8]) -> io::Result<(Vec<u8>, Option<i32>)> {
-    let mut child = Command::new(program).arg(mode).stdin(Stdio::piped()).stdout(Stdio::piped()).spawn()?;
-    // it reads all before it prints
-    let given = child.stdin.take().map_or(Ok(()), |mut stdin| stdin.write_all(script));
-    let done = child.wait_with_output()?;
-    given.map(|()| (done.stdout, done.status.code()))
+/// A program that is given one script after another, each in a process of its own: from a file and to a file, which
+/// takes less time than pipes.
+struct Runs<'a> {
+    words: &'a [&'a str],
+    given: File,
+    printed: File,
+    log: Vec<u8>,
 }
 
-fn compare(program: &str, mode: &str, seed: u64, count: u64) -> io::Result<()> {
-    let mut seen = BTreeMap::new();
+impl<'a> Runs<'a> {
+    fn new(words: &'a [&'a str], folder: &str, seed: u64) -> io::Result<Runs<'a>> {
+        let open = |kind| {
+            let path = format!("{folder}/{seed}.{kind}");
+            let file = File::options().read(true).write(true).create(true).truncate(true).open(&path)?;
+            fs::remove_file(path).map(|()| file)
+        };
+        Ok(Runs { words, given: open("in")?, printed: open("out")?, log: Vec::new() })
+    }
+
+    /// What it prints for a script, and its status.
+    fn run(&mut self, script: &[u8]) -> io::Result<(&[u8], Option<i32>)> {
+        self.given.write_all_at(script, 0)?;
+        self.given.set_len(script.len() as u64)?;
+        self.printed.set_len(0)?;
+        for file in [&mut self.given, &mut self.printed] {
+            file.rewind()?;
+        }
+        let (stdin, stdout) = (self.given.try_clone()?, self.printed.try_clone()?);
+        let status = Command::new(self.words[0]).args(&self.words[1..]).stdin(stdin).stdout(stdout).status()?;
+        self.log.resize(self.printed.metadata()?.len() as usize, 0);
+        self.printed.read_exact_at(&mut self.log, 0)?;
+        Ok((&self.log, status.code()))
+    }
+}
+
+/// Ends if what was printed differs.
+fn judge(at: u64, wanted: (&[u8], Option<i32>), found: (&[u8], Option<i32>)) {
+    if wanted != found {
+        println!("list {at}: status {:?} and {:?}", found.1, wanted.1);
+        exit(1);
+    }
+}
+
+fn compare(words: &[&str], (seed, count): (u64, u64), folder: &str) -> io::Result<()> {
+    let (mut runs, mut seen) = (Runs::new(words, folder, seed)?, Seen::default());
     for at in 0..count {
         let script = plain_scripts::script(seed, at);
         let (log, status) = play(&script);
-        let (printed, ended) = run(program, mode, &script)?;
-        if printed != log || ended != Some(status) {
-            println!("list {at}: status {ended:?} and {status}");
-            exit(1);
-        }
-        tally(&log, &mut seen);
+        judge(at, (&log, Some(status)), runs.run(&script)?);
+        seen.add_log(&log);
     }
-    for (kind, count) in seen {
-        println!("{count} {kind}");
+    seen.print();
+    Ok(())
+}
+
+/// The same with a program that takes many scripts in one process, as rust/tests/engines does.
+fn compare_many(program: &str, (seed, count): (u64, u64), folder: &str) -> io::Result<()> {
+    let (mut given, mut wanted, mut seen) = (Vec::new(), Vec::new(), Seen::default());
+    for at in 0..count {
+        let script = plain_scripts::script(seed, at);
+        let (log, status) = play(&script);
+        given.extend_from_slice(format!("{}\n", script.len()).as_bytes());
+        given.extend_from_slice(&script);
+        seen.add_log(&log);
+        wanted.push((log, status));
     }
+    let words = [program, "many", "replay"];
+    let mut runs = Runs::new(&words, folder, seed)?;
+    let (mut answers, status) = runs.run(&given)?;
+    judge(0, (b"", Some(0)), (b"", status));
+    for (at, (log, status)) in wanted.iter().enumerate() {
+        let whole = [format!("{status} {} 0\n", log.len()).as_bytes(), log].concat();
+        let (answer, rest) = answers.split_at(answers.len().min(whole.len()));
+        judge(at as u64, (&whole, None), (answer, None));
+        answers = rest;
+    }
+    seen.print();
     Ok(())
 }
 
@@ -499,7 +581,12 @@ fn main() -> io::Result<()> {
     let words: Vec<&str> = words.iter().map(String::as_str).collect();
     let number = |word: &str| word.parse().unwrap_or_default();
     match words[..] {
-        ["compare", program, mode, seed, count] => compare(program, mode, number(seed), number(count)),
+        ["compare", program, "many", seed, count, folder] => {
+            compare_many(program, (number(seed), number(count)), folder)
+        }
+        ["compare", program, mode, seed, count, folder] => {
+            compare(&[program, mode], (number(seed), number(count)), folder)
+        }
         ["make", seed, at] => io::stdout().write_all(&plain_scripts::script(number(seed), number(at))),
         ["play"] => {
             let mut script = Vec::new();

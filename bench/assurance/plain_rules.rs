@@ -27,6 +27,20 @@ impl Play {
     }
 }
 
+/// Prints a number behind a line.
+pub fn push_number(line: &mut Vec<u8>, number: i32) {
+    if number < 0 {
+        line.push(b'-');
+    }
+    let (mut digits, mut at, mut rest) = ([0; 10], 10, number.unsigned_abs());
+    while rest > 0 || at == 10 {
+        at -= 1;
+        digits[at] = b'0' + (rest % 10) as u8;
+        rest /= 10;
+    }
+    line.extend_from_slice(&digits[at..]);
+}
+
 #[derive(Clone, Copy, PartialEq, Eq)]
 pub enum Decision {
     Roll,
@@ -164,9 +178,13 @@ impl Board {
     }
 
     pub fn printed(&self) -> Vec<u8> {
-        let mut line = [b"board", self.player.as_slice(), self.opponent.as_slice()].join(&b':');
+        let mut line = Vec::with_capacity(160);
+        for text in [b"board:", self.player.as_slice(), b":", self.opponent.as_slice()] {
+            line.extend_from_slice(text);
+        }
         for field in &self.fields[4..] {
-            line.extend_from_slice(format!(":{field}").as_bytes());
+            line.push(b':');
+            push_number(&mut line, *field);
         }
         line
     }

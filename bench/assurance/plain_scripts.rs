@@ -1,9 +1,12 @@
 //! Scripts of events that follow the model of `plain_replay.rs`, so that most of their events do something.
 //!
-//! They are made as those of tests/fuzz.py are; the same seed and place make the same script.
+//! They are made as those of tests/fuzz.py are; the same seed and place make the same script. Two in three begin with the
+//! seven events after which a client can click. As many come then as one of COUNTS says, and 200 in one of forty.
 
-use super::plain_rules::{command, Decision, Phase, BAR};
+use super::plain_rules::{command, push_number, Decision, Phase, BAR};
 use super::{read_event, read_script, Model};
+
+const COUNTS: [usize; 8] = [2, 5, 8, 12, 16, 24, 40, 80];
 
 const LOTS: &str = "4294967295";
 const FIRST: &str = "1 ann 1041253132 localhost";
@@ -289,8 +292,15 @@ fn good_board(chance: &mut Chance, must_roll: bool) -> String {
         &ends,
         &[&off_bar[..], &last].concat(),
     ];
-    let name = chance.one(&["bob", "someplayer", "-", "a\\b"]);
-    parts.concat().iter().fold(format!("board:You:{name}"), |line, value| format!("{line}:{value}"))
+    let opponent = chance.one(&["bob", "someplayer", "-", "a\\b"]);
+    let mut line = Vec::with_capacity(160);
+    line.extend_from_slice(b"board:You:");
+    line.extend_from_slice(opponent.as_bytes());
+    for value in parts.iter().copied().flatten() {
+        line.push(b':');
+        push_number(&mut line, *value);
+    }
+    String::from_utf8(line).unwrap_or_default()
 }
 
 /// The line with a byte or a piece changed.
@@ -327,14 +337,11 @@ fn told(chance: &mut Chance) -> Vec<u8> {
         3 => changed(chance, FIRST.as_bytes().to_vec()),
         4 if chance.happens(100) => {
             let board = good_board(chance, false);
-            let mut line = chance.one(&[board.as_str(), FIRST, ""]).as_bytes().to_vec();
+            let line = chance.one(&[board.as_str(), FIRST, ""]).as_bytes().to_vec();
             let pad = chance.one::<&[u8]>(&[b" ", b"a", b"> ", b"login: ", b"0"]);
-            let length = chance.one(&[4096, 16_383, 16_384, 16_385, 16_390, 20_000]);
-            while line.len() < length {
-                let at = if pad.len() > 1 { 0 } else { line.len() };
-                drop(line.splice(at..at, pad.iter().copied()));
-            }
-            line
+            let length: usize = chance.one(&[4096, 16_383, 16_384, 16_385, 16_390, 20_000]);
+            let more = pad.repeat(length.saturating_sub(line.len()).div_ceil(pad.len()));
+            if pad.len() > 1 { [more, line].concat() } else { [line, more].concat() }
         }
         _ => chance.one(&TOLD).as_bytes().to_vec(),
     };
@@ -464,9 +471,9 @@ fn refused_event(chance: &mut Chance) -> Vec<u8> {
     chance.one(&REFUSED).replace("GOOD", &good).replace("BAD", &bad).into_bytes()
 }
 
-/// Joins lines; one script in ten gets a line that is odd or unreadable, some have CRs, or no end of their last line.
+/// Joins lines; one script in 25 gets a line that is odd or unreadable, some have CRs, or no end of their last line.
 fn spoiled(chance: &mut Chance, mut lines: Vec<Vec<u8>>) -> Vec<u8> {
-    if chance.happens(100) {
+    if chance.happens(40) {
         let some = lines[chance.below(lines.len())].clone();
         let odd = match chance.below(3) {
             0 => chance.one(&ODD).as_bytes().to_vec(),
@@ -477,12 +484,42 @@ fn spoiled(chance: &mut Chance, mut lines: Vec<Vec<u8>>) -> Vec<u8> {
     }
     let end = chance.one::<&[u8]>(&[b"\n", b"\n", b"\n", b"\r\n"]);
     let mut text = lines.join(end);
-    if chance.happens(30) {
+    if chance.happens(15) {
         text = changed(chance, text);
     }
     let last = chance.one::<&[u8]>(&[b"", b"\r\n", b"\r", b"\n\n"]);
     text.extend_from_slice(if chance.happens(800) { end } else { last });
     text
+}
+
+/// What a client hears before it can click.
+fn first_events(chance: &mut Chance) -> [Vec<u8>; 7] {
+    let mut serve = || format!("serve 1 {} {}", chance.of(1, 6), chance.of(1, 6));
+    let (login, style, deliver) = (serve(), serve(), format!("deliver {LOTS}"));
+    let told = [format!("text {FIRST}"), format!("text {}", settings(chance))];
+    let [first, settings] = told;
+    ["open".to_string(), login, first, settings, deliver.clone(), style, deliver].map(String::into_bytes)
+}
+
+/// The events of a script, each an event of the model; the last one may be refused.
+fn events(chance: &mut Chance, model: &mut Model) -> Vec<Vec<u8>> {
+    let mut lines = Vec::new();
+    if chance.happens(667) {
+        lines.extend(first_events(chance));
+        for line in &lines {
+            let _ = read_event(line).map(|event| model.act(&event));
+        }
+    }
+    let count = if chance.happens(25) { 200 } else { chance.one(&COUNTS) };
+    for _ in 0..count {
+        let line = if chance.happens(4) { refused_event(chance) } else { event(chance, model) };
+        let is_done = read_event(&line).is_some_and(|event| model.act(&event).is_ok());
+        lines.push(line);
+        if !is_done {
+            break;
+        }
+    }
+    lines
 }
 
 /// The script of this seed and place.
@@ -492,19 +529,9 @@ pub fn script(seed: u64, at: u64) -> Vec<u8> {
     if chance.happens(30) {
         first = changed(chance, first);
     }
-    let mut lines = vec![first];
-    let begun = read_script(&lines[0]).ok().map(|(board, _)| board).filter(|board| board.is_good());
-    if let Some(board) = begun {
-        let mut model = Model::new(board);
-        for _ in 0..chance.one(&[5, 40, 100, 200]) {
-            let line = if chance.happens(4) { refused_event(chance) } else { event(chance, &model) };
-            let is_done = read_event(&line).is_some_and(|event| model.act(&event).is_ok());
-            lines.push(line);
-            if !is_done {
-                break;
-            }
-        }
-    }
+    let begun = read_script(&first).ok().map(|(board, _)| board).filter(|board| board.is_good());
+    let more = begun.map(|board| events(chance, &mut Model::new(board))).unwrap_or_default();
+    let mut lines = [vec![first], more].concat();
     if chance.happens(100) {
         lines.push(chance.one(&["open", "x", "repeat"]).as_bytes().to_vec());
     }
