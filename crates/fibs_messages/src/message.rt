@@ -1,10 +1,12 @@
 //! The numbered messages of the server (FIBS CLIP specification 1008).
 
+use crate::field::{Field, own_info_fields};
 use fibs_fields::name::Name;
 use fibs_fields::word::{Tail, Word};
+use std::fmt;
 
 /// The contents of message 2: the settings of the user who logged in.
-#[derive(Clone, Copy, Debug, PartialEq, Eq)]
+#[derive(Clone, Copy, PartialEq, Eq)]
 pub struct OwnInfo<'a> {
     /// The user's name.
     pub name: Name<'a>,
@@ -48,6 +50,54 @@ pub struct OwnInfo<'a> {
     pub silent: bool,
     /// The user's time zone.
     pub timezone: Word<'a>,
+}
+
+/// The names of its fields.
+const OWN_INFO_NAMES: [&str; 21] = [
+    "name",
+    "allowpip",
+    "autoboard",
+    "autodouble",
+    "automove",
+    "away",
+    "bell",
+    "crawford",
+    "double",
+    "experience",
+    "greedy",
+    "moreboards",
+    "moves",
+    "notify",
+    "rating",
+    "ratings",
+    "ready",
+    "redoubles",
+    "report",
+    "silent",
+    "timezone",
+];
+
+/// As a derived one prints it, whose proof would take three times as long.
+impl fmt::Debug for OwnInfo<'_> {
+    fn fmt<W: fmt::Write>(&self, f: &mut fmt::Formatter<W>) -> fmt::Result {
+        let fields = own_info_fields(self);
+        let mut told = f.debug_struct("OwnInfo");
+        let mut at = 0;
+        while at < OWN_INFO_NAMES.len() {
+            let name = OWN_INFO_NAMES[at];
+            match &fields[at] {
+                Field::Name(it) => told.field(name, it),
+                Field::Word(it) => told.field(name, it),
+                Field::Tail(it) => told.field(name, it),
+                Field::Flag(it) => told.field(name, it),
+                Field::Number(it) => told.field(name, it),
+                Field::Rating(it) => told.field(name, it),
+                Field::Text(it) => told.field(name, it),
+            };
+            at += 1;
+        }
+        told.finish()
+    }
 }
 
 /// The contents of message 5: what the server says of a player.

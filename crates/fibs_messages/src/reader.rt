@@ -2,14 +2,15 @@
 #![tactic(auto, unfolding(crate::specs::Message::table))]
 
 ghost use Rattle.std.specs.Prelude.{◌≡◌, ◌≤◌, [], ◌∷◌, IfOk};
-ghost use Rattle.fibs_fields.specs.Field.{NameField, TextField, a_name, a_text};
+ghost use Rattle.fibs_fields.specs.Field.{NameField, TailField, TextField, WordField};
+ghost use Rattle.fibs_fields.specs.Field.{a_name, a_tail, a_text, a_word};
 ghost use Rattle.fibs_fields.specs.FieldReading.{Gives, fields_at, left, left_of};
 ghost use Rattle.fibs_fields.specs.Split.{seen};
 ghost use Rattle.fibs_messages.specs.Message.{IsNumber, kinds_of, message_of};
 ghost use Rattle.fibs_messages.specs.Rated.{rated_info_fields, rated_info_kinds};
 ghost use Rattle.fibs_messages.specs.Settings.{last_settings_fields, last_settings_kinds};
 ghost use Rattle.fibs_messages.specs.Settings.{later_settings_fields, later_settings_kinds};
-ghost use Rattle.fibs_fields.specs.Bytes.{name_bytes};
+ghost use Rattle.fibs_fields.specs.Bytes.{name_bytes, tail_bytes, word_bytes};
 
 use crate::message::{Message, OwnInfo, WhoInfo};
 use fibs_fields::fault::FieldFault;
@@ -25,12 +26,10 @@ fn welcome(rest: Option<&[u8]>) -> Result<Message<'_>, FieldFault>
     let mut fields = Fields::new(rest, b' ');
     let name = fields.name(1)?;
     let last_login = fields.number(2)?;
-    let last_host = fields.word(3)?;
-    fields.end(4)?;
     Ok(Message::Welcome {
         name,
         last_login,
-        last_host,
+        last_host: last_word(fields, 3)?,
     })
 }
 
@@ -57,20 +56,29 @@ struct LaterSettings<'a> {
     last: LastSettings<'a>,
 }
 
+/// A word that is the last field.
+fn last_word(mut fields: Fields<'_>, field: usize) -> Result<Word<'_>, FieldFault>
+    requires { field ≤ 21 }
+    ensures { Gives (λ word. WordField (word_bytes word) ∷ []) result
+        (fields_at (a_word ∷ []) field (left_of fields.entry)) }
+{
+    let word = fields.word(field)?;
+    fields.end(field + 1)?;
+    Ok(word)
+}
+
 #[inline(never)]
 fn last_settings(mut fields: Fields<'_>) -> Result<LastSettings<'_>, FieldFault>
     ensures { Gives last_settings_fields result (fields_at last_settings_kinds 16 (left_of fields.entry)) }
 {
-    let settings = LastSettings {
+    Ok(LastSettings {
         ratings: fields.flag(16)?,
         ready: fields.flag(17)?,
         redoubles: fields.word(18)?,
         report: fields.flag(19)?,
         silent: fields.flag(20)?,
-        timezone: fields.word(21)?,
-    };
-    fields.end(22)?;
-    Ok(settings)
+        timezone: last_word(fields, 21)?,
+    })
 }
 
 #[inline(never)]
@@ -141,20 +149,28 @@ struct RatedInfo<'a> {
     email: Tail<'a>,
 }
 
+/// The tail that ends message 5.
+fn last_tail(mut fields: Fields<'_>) -> Result<Tail<'_>, FieldFault>
+    ensures { Gives (λ tail. TailField (tail_bytes tail) ∷ []) result
+        (fields_at (a_tail ∷ []) 12 (left_of fields.entry)) }
+{
+    let tail = fields.tail(12)?;
+    fields.end(13)?;
+    Ok(tail)
+}
+
 fn rated_info(mut fields: Fields<'_>) -> Result<RatedInfo<'_>, FieldFault>
     ensures { Gives rated_info_fields result (fields_at rated_info_kinds 6 (left_of fields.entry)) }
 {
-    let info = RatedInfo {
+    Ok(RatedInfo {
         rating: fields.rating(6)?,
         experience: fields.number(7)?,
         idle: fields.number(8)?,
         login: fields.number(9)?,
         hostname: fields.word(10)?,
         client: fields.word(11)?,
-        email: fields.tail(12)?,
-    };
-    fields.end(13)?;
-    Ok(info)
+        email: last_tail(fields)?,
+    })
 }
 
 #[inline(never)]

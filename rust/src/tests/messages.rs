@@ -2,7 +2,7 @@
 
 use crate::fibs_copied_lines::canonical_line;
 use crate::fibs_messages::laws::{canonical_lines_read_back, messages_are_well_formed};
-use crate::fibs_messages::{Reading, Tail, Word, message_number, print_message, read};
+use crate::fibs_messages::{Message, Reading, Tail, Word, message_number, print_message, read};
 use crate::rattle::alloc::AllocError;
 use crate::rattle::may::*;
 
@@ -213,4 +213,20 @@ fn a_number_ends_at_a_space_or_with_its_line() {
     for (line, number) in &NUMBERS {
         assert_eq!(message_number(line), *number, "{line:?}");
     }
+}
+
+/// The settings of message 2, each by the name of its field, as a derived form has them.
+#[test]
+fn own_info_is_debugged_by_the_names_of_its_fields() {
+    let Reading::Numbered(Message::OwnInfo(info)) = read(OWN_INFO.0) else {
+        panic!("{OWN_INFO:?}");
+    };
+    let wanted = format!(
+        "OwnInfo {{ name: {:?}, allowpip: true, autoboard: true, autodouble: false, automove: false, away: false, \
+         bell: false, crawford: true, double: true, experience: 2396, greedy: false, moreboards: true, moves: false, \
+         notify: true, rating: 345785, ratings: false, ready: false, redoubles: {:?}, report: false, silent: false, \
+         timezone: {:?} }}",
+        info.name, info.redoubles, info.timezone
+    );
+    assert_eq!(format!("{info:?}"), wanted);
 }
