@@ -40,12 +40,12 @@ pub enum Setting<'a> {
     HomeAbove,
 }
 
-/// What a picture has beside checkers: a letter of these could be taken for it.
-const OF_PICTURES: &[u8] = b"+-|0123456789BAR";
-
-/// Whether a byte may be the letter of checkers.
+/// Whether a byte may be the letter of checkers. It must not be one that a picture has for something else.
 fn is_letter(byte: u8) -> bool {
-    byte.is_ascii_graphic() && !OF_PICTURES.contains(&byte)
+    match byte {
+        b'+' | b'-' | b'|' | b'0'..=b'9' | b'B' | b'A' | b'R' => false,
+        _ => byte.is_ascii_graphic(),
+    }
 }
 
 /// The letters that two words are, if they can be told from each other and from what else a picture has.
