@@ -1,10 +1,14 @@
 //! Streams of two directions.
+ghost use Rattle.std.specs.Prelude.{◌≡◌, ◌↔◌, ◌⊎◌, IsTrue};
+ghost use Rattle.std.specs.IoError.{error_kind};
 ghost use Rattle.std.specs.Io.{ReadsAtMost, WritesAtMost};
 ghost use Rattle.std.specs.Io.KnownBytes.{Keeps, ReadConsumes, WriteAppends};
+ghost use Rattle.fibs_engine.specs.Writing.{Wrote, progress_of};
 
 use crate::retrying::{read_retrying, write_retrying};
+use crate::writing::Broken;
 use std::io;
-use std::io::{Read, Write};
+use std::io::{ErrorKind, Read, Write};
 use std::net::TcpStream;
 
 /// A stream whose two directions are apart: a read leaves what was written as it is, and a write what is left to read.
@@ -33,4 +37,29 @@ impl Link for TcpStream {
     fn transmit(&mut self, buf: &[u8]) -> io::Result<usize> {
         write_retrying(self, buf)
     }
+}
+
+/// Whether a read gave nothing because nothing has come yet. Each other error of a read ends a connection.
+pub fn is_quiet(error: &io::Error) -> bool
+    ensures { IsTrue result
+        ↔ ((error_kind error.now ≡ ErrorKind.WouldBlock) ⊎ (error_kind error.now ≡ ErrorKind.TimedOut)) }
+{
+    matches!(error.kind(), ErrorKind::WouldBlock | ErrorKind::TimedOut)
+}
+
+/// Writes the bytes in order, as `write_bytes` does on a writer. What is left to read stays, which `write` alone does
+/// not say.
+pub fn send_bytes<S: Link>(bytes: &[u8], stream: &mut S) -> Result<(), Broken>
+    ensures wrote { Wrote (progress_of result) (S.contents stream.old) (S.contents stream.new) bytes.now }
+    ensures apart { Keeps (S.remaining stream.old) (S.remaining stream.new) }
+{
+    let mut rest = bytes;
+    while !rest.is_empty() {
+        match stream.transmit(rest) {
+            Ok(0) => return Err(Broken),
+            Ok(count) => rest = &rest[count..],
+            Err(_) => return Err(Broken),
+        }
+    }
+    Ok(())
 }

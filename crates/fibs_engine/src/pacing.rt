@@ -5,9 +5,9 @@ ghost use Rattle.std.specs.Io.{ReadsAtMost};
 
 use crate::dial::{Dial, Server};
 use crate::limits::READ_PORTION;
-use crate::link::Link;
+use crate::link::{Link, is_quiet};
 use arrayvec::ArrayVec;
-use fibs_lines::Lines;
+use fibs_lines::{LOGIN_PROMPT, Lines};
 use std::io;
 use std::io::{ErrorKind, Read, Write};
 use std::net::{Net, TcpStream};
@@ -17,9 +17,6 @@ const READS_AT_ONCE: u32 = 64;
 
 /// How many milliseconds to wait for a server that asks for the login: it was sent, and the answer is on its way.
 const LOGIN_MILLIS: u64 = 2000;
-
-/// What a server prints when it waits for a login.
-const LOGIN_PROMPT: &[u8] = b"login: ";
 
 /// With what the line begins in which a server greets the user.
 const GREETING: &[u8] = b"1 ";
@@ -94,7 +91,7 @@ impl<S: Link + Drop> Paced<S> {
             return Some(Ok(self.give_kept(buf)));
         }
         match self.stream.receive(&mut buf[..room]) {
-            Err(error) if is_quiet(error.kind()) => None,
+            Err(error) if is_quiet(&error) => None,
             Ok(count) if count > 0 => {
                 self.hear(&buf[..count]);
                 let _fits = self.kept.try_extend_from_slice(&buf[..count]);
@@ -170,11 +167,6 @@ impl<S: Link + Drop> Link for Paced<S> {
     fn transmit(&mut self, buf: &[u8]) -> io::Result<usize> {
         self.stream.transmit(buf)
     }
-}
-
-/// Whether a read gave nothing.
-fn is_quiet(kind: ErrorKind) -> bool {
-    kind == ErrorKind::WouldBlock || kind == ErrorKind::TimedOut
 }
 
 /// A server whose connections are paced.
